@@ -1,0 +1,14 @@
+//! The base of every crate here: want of memory as an error, plain lists, and texts.
+//!
+//! Contracts see an [`Items`] as the list of its items and a [`Text`] as the list of its bytes, so no
+//! definition above speaks of vectors. Every call that may allocate answers [`NoMemory`] and nothing
+//! else for want of memory, and leaves what it was given through `&mut` as it was.
+#![tactic(auto)]
+
+pub mod items;
+pub mod memory;
+pub mod text;
+
+pub use items::Items;
+pub use memory::NoMemory;
+pub use text::Text;
