@@ -1,5 +1,5 @@
 ghost use Rattle.std.specs.Prelude.{◌≡◌, ◌≤◌, ◌↔◌, [], ◌∷◌, ◌++◌, true, IsTrue, OnOk, OnErr, Contains};
-ghost use Rattle.std.specs.Option.{option_map};
+ghost use Rattle.std.specs.Option.{option_map, option_copied};
 ghost use Rattle.std.specs.FinMap as map;
 ghost use Rattle.nwq_outside.specs.Outside.{Rose, ReadsContent, IsFileSize, Leaves, Takes};
 
@@ -9,6 +9,28 @@ use nwq_value::{Items, NoMemory};
 use std::alloc::Global;
 use std::collections::BTreeMap;
 use std::marker::Model;
+
+ghost use Rattle.nwq_outside.specs.Memory.{contents_of};
+
+/// What a name holds.
+#[tactic(auto, using(crate::proofs::MemoryLemmas::get_held))]
+fn content_of<'a>(held: &'a BTreeMap<String, Items<u8>>, name: &str) -> Option<&'a Items<u8>>
+    ensures { option_copied result ≡ map.get (contents_of held.now) name.now }
+{
+    held.get(name)
+}
+
+/// Puts a copy of these bytes under the name.
+#[tactic(auto, using(crate::proofs::MemoryLemmas::insert_held))]
+fn hold(held: &mut BTreeMap<String, Items<u8>>, alloc: Global, name: &str, bytes: &[u8]) -> Result<(), NoMemory>
+    ensures ok { OnOk result (contents_of held.new ≡ map.insert (contents_of held.old) name.now bytes.now) }
+    ensures err { OnErr result (contents_of held.new ≡ contents_of held.old) }
+{
+    let key = String::from_str(alloc, name)?;
+    let copy = Items::of_slice(alloc, bytes)?;
+    held.insert(key, copy)?;
+    Ok(())
+}
 
 /// Files that are held in memory, with a list of the calls that are to fail.
 #[derive(Drop)]
@@ -62,17 +84,14 @@ impl MemFiles {
         ensures ok { OnOk result (self.new ≡ record self.old { contents = map.insert self.old.contents name.now bytes.now }) }
         ensures err { OnErr result (self.new ≡ self.old) }
     {
-        let key = String::from_str(self.alloc, name)?;
-        let copy = Items::of_slice(self.alloc, bytes)?;
-        self.held.insert(key, copy)?;
-        Ok(())
+        hold(&mut self.held, self.alloc, name, bytes)
     }
 
     /// What is under the name, and `None` exactly where nothing is. This is no call.
     pub fn get(&self, name: &str) -> Option<&[u8]>
         ensures { option_map (λ bytes. bytes.now) result ≡ map.get self.now.contents name.now }
     {
-        match self.held.get(name) {
+        match content_of(&self.held, name) {
             None => None,
             Some(bytes) => Some(bytes.as_slice()),
         }
@@ -122,7 +141,7 @@ impl Files for MemFiles {
         if self.begins_call() {
             return Read::Failed;
         }
-        match self.held.get(name) {
+        match content_of(&self.held, name) {
             None => {
                 self.absences = raised(self.absences);
                 Read::Missing
