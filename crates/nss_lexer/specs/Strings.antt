@@ -1,0 +1,66 @@
+-- How a string is written, and the bytes that it stands for.
+use Rattle.std.specs.Prelude.{◌≡◌, ℕ, ◌+◌, ◌*◌, Bool, not, ◌||◌, ◌==◌, IsTrue, List, [], ◌∷◌, ◌++◌, if◌then◌else◌}
+use Rattle.std.specs.Char.{digit_value}
+use Rattle.nss_lexer.specs.Bytes.{newline, is_hexadecimal}
+
+abbrev pub quote : ℕ
+quote = 34
+
+abbrev pub backslash : ℕ
+backslash = 92
+
+abbrev pub small_n : ℕ
+small_n = 110
+
+abbrev pub small_x : ℕ
+small_x = 120
+
+-- a byte that stands for itself: no quote, no `\` and no line end
+abbrev pub is_plain : ℕ → Bool
+is_plain b = not (b == quote || b == backslash || b == newline)
+
+-- a byte that stands for itself after `\`: not `n`, not `x` and no line end
+abbrev pub is_escaped : ℕ → Bool
+is_escaped b = not (b == small_n || b == small_x || b == newline)
+
+-- one byte of a string, as it is written, and the byte that it stands for
+pub data Spelling : List ℕ → ℕ → Type 0 where
+  plain : (b : ℕ) → IsTrue (is_plain b) → Spelling (b ∷ []) b
+  escaped : (b : ℕ) → IsTrue (is_escaped b) → Spelling (backslash ∷ b ∷ []) b
+  line_end : Spelling (backslash ∷ small_n ∷ []) newline
+  hexadecimal : (high low : ℕ) → IsTrue (is_hexadecimal high) → IsTrue (is_hexadecimal low)
+      → Spelling (backslash ∷ small_x ∷ high ∷ low ∷ []) (16 * digit_value high + digit_value low)
+
+-- what follows an opening quote, up to its closing quote, and the bytes that stand between the two
+pub data Inside : List ℕ → List ℕ → Type 0 where
+  closed : Inside (quote ∷ []) []
+  more : (b : ℕ) (one text bytes : List ℕ) → Spelling one b → Inside text bytes → Inside (one ++ text) (b ∷ bytes)
+
+-- a string stands for these bytes
+pub data StandsFor : List ℕ → List ℕ → Type 0 where
+  quoted : (text bytes : List ℕ) → Inside text bytes → StandsFor (quote ∷ text) bytes
+
+abbrev pub IsString : List ℕ → Type 0
+IsString text = (bytes : List ℕ) × StandsFor text bytes
+
+-- How far into an escape the bytes before have led.
+pub data Escape : Type 0 where
+  Outside : Escape
+  AfterBackslash : Escape
+  AfterX : Escape
+  AfterDigit : ℕ → Escape
+
+-- the bytes that the rest of a string stands for
+abbrev pub value_of_rest : Escape → List ℕ → List ℕ
+value_of_rest state [] = []
+value_of_rest Outside (b ∷ text) =
+    if b == quote then [] else (if b == backslash then value_of_rest AfterBackslash text else b ∷ value_of_rest Outside text)
+value_of_rest AfterBackslash (b ∷ text) =
+    if b == small_x then value_of_rest AfterX text else (if b == small_n then newline else b) ∷ value_of_rest Outside text
+value_of_rest AfterX (b ∷ text) = value_of_rest (AfterDigit (digit_value b)) text
+value_of_rest (AfterDigit high) (b ∷ text) = (16 * high + digit_value b) ∷ value_of_rest Outside text
+
+-- The bytes that a string stands for, as a function: by law those that `StandsFor` relates to it.
+unfoldable pub string_value : List ℕ → List ℕ
+string_value [] = []
+string_value (q ∷ text) = value_of_rest Outside text
