@@ -1,1 +1,4 @@
--- Proofs.
+pub mod Scanning
+pub mod StringLaws
+pub mod GapLaws
+pub mod FormLaws

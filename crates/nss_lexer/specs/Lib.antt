@@ -3,3 +3,4 @@ pub mod Bytes
 pub mod Lexemes
 pub mod Strings
 pub mod Splitting
+pub mod Reading

@@ -6,8 +6,12 @@
 //! laws in `laws.rt` say that a file is split in one way only.
 #![tactic(auto)]
 
+mod bytes;
+mod gap;
 pub mod laws;
 pub mod lexer;
+mod scan;
+mod string;
 pub mod token;
 
 pub use lexer::{literal, next};
