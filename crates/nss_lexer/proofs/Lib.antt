@@ -1,0 +1,4 @@
+pub mod Scanning
+pub mod StringLaws
+pub mod GapLaws
+pub mod FormLaws
