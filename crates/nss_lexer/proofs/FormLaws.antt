@@ -248,7 +248,7 @@ unfolding falling
 signs_fall = refl
 
 -- what one text of a table has, each has
-any_passes : (test : List ℕ → Bool) (text : List ℕ) (table : List (List ℕ)) → list_any (λ entry. bytes_eq entry text) table ≡ true
+pub any_passes : (test : List ℕ → Bool) (text : List ℕ) (table : List (List ℕ)) → list_any (λ entry. bytes_eq entry text) table ≡ true
     → list_all test table ≡ true → test text ≡ true
 any_passes test text [] found all = absurd (false≢true found)
 any_passes test text (entry ∷ table) found all =
