@@ -1,20 +1,20 @@
 -- From reading to the definitions: which token begins a list of bytes, where nothing begins, and that what stands first from
 -- a place on is one thing.
-use Rattle.std.specs.Prelude.{Option, Some, None, option_map, option_and_then, ◌==◌, if◌then◌else◌, ◌||◌, ◌&&◌, not, nat_lt, nat_le, slice_index, bytes_eq}
-use Rattle.std.specs.List.{list_any, list_all}
-use Rattle.std.proofs.Common.{◌≡◌, ◌≢◌, ℕ, zero, suc, ◌+◌, ◌-◌, ◌^◌, ◌<◌, ◌≤◌, Bool, true, false, cond, List, [], ◌∷◌, ◌++◌, length, take, drop, refl, ap, sym, ◌∙◌, subst, arith, inl, inr, ◌⊎◌, ⊎_elim}
+use Rattle.std.specs.Prelude.{Option, Some, None, MatchOption, option_map, option_and_then, ◌==◌, ◌||◌, ◌&&◌, not, nat_lt, nat_le, slice_index}
+use Rattle.std.specs.List.{list_all}
+use Rattle.std.proofs.Common.{◌≡◌, ℕ, zero, suc, ◌+◌, ◌^◌, ◌<◌, ◌≤◌, Bool, true, false, List, [], ◌∷◌, length, take, drop, refl, ap, sym, ◌∙◌, subst, arith, inl, inr, ◌⊎◌, ⊎_elim}
 use Rattle.std.proofs.lemmas.List.{take-append-drop, length-drop, drop-drop}
-use Rattle.std.proofs.lemmas.Bool.{cases_Bool, and_parts, and_cases, and_from, or_parts, or_from, false≢true, true≢false, cond-true, cond-false, leb-true, le-leb, ltb-true, lt-ltb, not-true}
+use Rattle.std.proofs.lemmas.Bool.{cases_Bool, and_cases, or_parts, false≢true, cond-true, cond-false, leb-true, le-leb, ltb-true, lt-ltb, not-true}
 use Rattle.nss_lexer.specs.declared.token.Kind.{Kind}
 use Rattle.nss_lexer.specs.declared.token.Kind.TheVariants.{Name, Word, Int, Float, Text, Sign}
 use Rattle.nss_lexer.specs.declared.scan.Front.{Front}
 use Rattle.nss_lexer.specs.Bytes.{is_blank, is_letter, is_decimal}
-use Rattle.nss_lexer.specs.Lexemes.{HasForm, IsWithin, IsLexeme, signs}
+use Rattle.nss_lexer.specs.Lexemes.{HasForm, IsWithin, signs}
 use Rattle.nss_lexer.specs.Splitting.{Skips, Gap, nothing, more, begins_comment, Begins, IsStuck, Lexeme, First, Found, AtEnd, BadAt, IsFirst, IsFirstToken, IsFirstBad, Splits, whole, broken, token}
-use Rattle.nss_lexer.specs.Reading.{front, small, limited, within, form, lexeme, comment, pass, sign_form, first_front}
+use Rattle.nss_lexer.specs.Reading.{front, limited, within, form, lexeme, comment, pass, first_front}
 use Rattle.nss_lexer.proofs.FormLaws.{AtLeast, reads, any_passes, form_sign}
 use Rattle.nss_lexer.proofs.FoundLaws.{IsFound, IsFoundIf, form_found, length_taken, first_found, signs_some}
-use Rattle.nss_lexer.proofs.GapLaws.{Passed, skips_passed, pass_skips}
+use Rattle.nss_lexer.proofs.GapLaws.{skips_passed, pass_skips}
 
 none_some : {A : Type 0} (x : A) → None ≡ Some x → ⊥
 none_some x e = cc
@@ -45,16 +45,16 @@ within_limited : (kind : Kind) (text : List ℕ) (n : ℕ) (f : Front) → lengt
 within_limited Name text n f size h =
     ⊎_elim
     (λ fits. record {
-        is = some_same (front Name n) f (sym (cond-true (nat_le n 255) (Some (front Name n)) None fits) ∙ h);
-        fits = omega (arith, size, leb-true n 255 fits);
+      is = some_same (front Name n) f (sym (cond-true (nat_le n 255) (Some (front Name n)) None fits) ∙ h);
+      fits = omega (arith, size, leb-true n 255 fits);
     })
     (λ over. absurd (none_some f (sym (cond-false (nat_le n 255) (Some (front Name n)) None over) ∙ h)))
     (cases_Bool (nat_le n 255))
 within_limited (Int v) text n f size h =
     ⊎_elim
     (λ fits. record {
-        is = some_same (front (Int v) n) f (sym (ap (option_map (λ w. front (Int w) n)) (cond-true (nat_lt v (2 ^ 32)) (Some v) None fits)) ∙ h);
-        fits = ltb-true v (2 ^ 32) fits;
+      is = some_same (front (Int v) n) f (sym (ap (option_map (λ w. front (Int w) n)) (cond-true (nat_lt v (2 ^ 32)) (Some v) None fits)) ∙ h);
+      fits = ltb-true v (2 ^ 32) fits;
     })
     (λ over. absurd (none_some f (sym (ap (option_map (λ w. front (Int w) n)) (cond-false (nat_lt v (2 ^ 32)) (Some v) None over)) ∙ h)))
     (cases_Bool (nat_lt v (2 ^ 32)))
@@ -130,10 +130,10 @@ and_no false y h = refl
 no_comment_at : (b c : ℕ) (text : List ℕ) → ((b == 47) && (c == 47 || c == 42)) ≡ false → comment (b ∷ c ∷ text) ≡ None
 no_comment_at b c text h =
     let each : (((b == 47) && (c == 47)) ≡ false) × (((b == 47) && (c == 42)) ≡ false) =
-        ⊎_elim
-        (λ first. (ap (λ x. x && (c == 47)) first, ap (λ x. x && (c == 42)) first))
-        (λ second. let both = or_parts (c == 47) (c == 42) second in (and_no (b == 47) (c == 47) both.0, and_no (b == 47) (c == 42) both.1))
-        (and_cases (b == 47) (c == 47 || c == 42) h) in
+    ⊎_elim
+    (λ first. (ap (λ x. x && (c == 47)) first, ap (λ x. x && (c == 42)) first))
+    (λ second. let both = or_parts (c == 47) (c == 42) second in (and_no (b == 47) (c == 47) both.0, and_no (b == 47) (c == 42) both.1))
+    (and_cases (b == 47) (c == 47 || c == 42) h) in
     cond-false ((b == 47) && (c == 47)) _ _ each.0 ∙ cond-false ((b == 47) && (c == 42)) _ _ each.1
 
 no_comment : (bytes : List ℕ) → begins_comment bytes ≡ false → comment bytes ≡ None
@@ -239,12 +239,12 @@ one_token bytes file at t u h k =
     let rests : drop t.start bytes ≡ drop u.start bytes = one_stop bytes at _ _ (token_stop bytes file at t h) (token_stop bytes file at u k) in
     let starts : t.start ≡ u.start = same_place bytes t.start u.start (omega (arith, h.last, h.within)) (omega (arith, k.last, k.within)) rests in
     let fronts = same_front t.kind u.kind (length t.text) (length u.text)
-        (sym (begins_lexeme (drop t.start bytes) t.kind (length t.text) h.begins) ∙ ap lexeme rests
-            ∙ begins_lexeme (drop u.start bytes) u.kind (length u.text) k.begins) in
+    (sym (begins_lexeme (drop t.start bytes) t.kind (length t.text) h.begins) ∙ ap lexeme rests
+    ∙ begins_lexeme (drop u.start bytes) u.kind (length u.text) k.begins) in
     let texts : t.text ≡ u.text =
-        h.text ∙ ap (λ n. take n (drop t.start bytes)) fronts.1 ∙ ap (λ r. take (length u.text) r) rests ∙ sym k.text in
+    h.text ∙ ap (λ n. take n (drop t.start bytes)) fronts.1 ∙ ap (λ r. take (length u.text) r) rests ∙ sym k.text in
     same_lexeme t.kind u.kind t.text u.text t.file u.file t.start u.start t.end u.end
-        fronts.0 texts (h.file ∙ sym k.file) starts (h.last ∙ ap (λ n. n + length t.text) starts ∙ ap (λ n. u.start + n) fronts.1 ∙ sym k.last)
+    fronts.0 texts (h.file ∙ sym k.file) starts (h.last ∙ ap (λ n. n + length t.text) starts ∙ ap (λ n. u.start + n) fronts.1 ∙ sym k.last)
 
 lexeme_nil : lexeme [] ≡ None
 unfolding form
@@ -312,3 +312,18 @@ one_split bytes file at ts us e f (token a t ws c h r) (token b u vs d k s) =
     let same : t ≡ u = found_same t u (one_first bytes file at (Found t) (Found u) h k) in
     let rest = one_split bytes file t.end ws vs c d r (subst (λ (v : Lexeme). Splits bytes file v.end vs d) (sym same) s) in
     (ap (λ v. v ∷ ws) same ∙ ap (λ vs. u ∷ vs) rest.0, rest.1)
+
+-- a gap goes on by what is passed over after it
+pub gap_further : (bytes : List ℕ) (at place n : ℕ) → Gap (drop at bytes) (drop place bytes) → pass (drop place bytes) ≡ Some n
+    → Gap (drop at bytes) (drop (place + n) bytes)
+gap_further bytes at place n gap is =
+    subst (Gap (drop at bytes)) (drop-drop n place bytes)
+    (gap_snoc (drop at bytes) (drop place bytes) (drop n (drop place bytes)) gap (pass_skips (drop place bytes) n is))
+
+pub front_stuck : (bytes : List ℕ) → 0 < length bytes → pass bytes ≡ None → begins_comment bytes ≡ true → IsStuck bytes
+front_stuck bytes some stops is = stuck_from bytes some stops (inl is)
+
+pub front_found : (bytes : List ℕ) (o : Option Front) → 0 < length bytes → pass bytes ≡ None → begins_comment bytes ≡ false → o ≡ lexeme bytes
+    → MatchOption o (IsStuck bytes) (λ f. Begins bytes f.kind f.length)
+front_found bytes None some stops plain is = stuck_from bytes some stops (inr (sym is))
+front_found bytes (Some f) some stops plain is = lexeme_begins bytes f plain (sym is)

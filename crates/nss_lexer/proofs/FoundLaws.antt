@@ -1,15 +1,15 @@
 -- What is read as a token has the form of that token.
-use Rattle.std.specs.Prelude.{Option, Some, None, option_map, ◌==◌, if◌then◌else◌, IsTrue, ◌||◌, ◌&&◌, not, nat_lt, slice_index, bytes_eq}
+use Rattle.std.specs.Prelude.{Option, Some, None, option_map, ◌==◌, if◌then◌else◌, ◌||◌, ◌&&◌, nat_lt, slice_index, bytes_eq}
 use Rattle.std.specs.List.{prefix_len, AllByRecursion, list_any, list_all}
 use Rattle.std.specs.Char.{digit_value, is_digit}
 use Rattle.std.specs.Str.Parse.{IsNumeral, AllDigits, digits_value}
-use Rattle.std.proofs.Common.{◌≡◌, ℕ, zero, suc, ◌+◌, ◌<◌, ◌≤◌, Bool, true, false, cond, List, [], ◌∷◌, ◌++◌, length, take, drop, refl, ap, sym, ◌∙◌, subst, arith, inl, inr, ◌⊎◌, ⊎_elim, length-append, min}
-use Rattle.std.proofs.lemmas.List.{take-append-drop, append-nil, get_or_past, length-take, length-drop, take_more}
+use Rattle.std.proofs.Common.{◌≡◌, ℕ, suc, ◌+◌, ◌<◌, ◌≤◌, Bool, true, false, List, [], ◌∷◌, ◌++◌, length, take, drop, refl, ap, sym, ◌∙◌, subst, arith, ⊎_elim}
+use Rattle.std.proofs.lemmas.List.{append-nil, get_or_past, length-take, length-drop, take_more}
 use Rattle.std.proofs.lemmas.List.Sums.{prefix_len-le-length}
 use Rattle.std.proofs.Math.Seq.{take-add, drop-cons}
-use Rattle.std.proofs.Math.Numerals.{add-one, one-add}
+use Rattle.std.proofs.Math.Numerals.{one-add}
 use Rattle.std.proofs.lemmas.Slice.Eq.{bytes_eq-Decides}
-use Rattle.std.proofs.lemmas.Bool.{cases_Bool, cases_lt, and_parts, and_from, or_left, or_right, false≢true, cond_both, eqb-true, cond-true, cond-false, ltb-true}
+use Rattle.std.proofs.lemmas.Bool.{cases_Bool, cases_lt, and_parts, or_left, or_right, false≢true, cond_both, eqb-true, cond-true, cond-false, ltb-true}
 use Rattle.nss_lexer.specs.declared.bytes.Class.{Class}
 use Rattle.nss_lexer.specs.declared.bytes.Class.TheVariants.{Name as InName, Decimal, Hexadecimal}
 use Rattle.nss_lexer.specs.declared.token.Kind.{Kind}
@@ -17,8 +17,8 @@ use Rattle.nss_lexer.specs.declared.token.Kind.TheVariants.{Name, Word, Int, Flo
 use Rattle.nss_lexer.specs.declared.scan.Front.{Front}
 use Rattle.nss_lexer.specs.declared.string.Escape.TheVariants.{Outside}
 use Rattle.nss_lexer.specs.Bytes.{is_letter, is_decimal, is_hexadecimal, is_name_byte}
-use Rattle.nss_lexer.specs.Lexemes.{IsIdentifier, IsInt, decimal, hexadecimal, IsSuffix, none, suffix, IsFloat, pointed, fraction, marked, HasForm, is_word, is_sign, words, signs}
-use Rattle.nss_lexer.specs.Strings.{StandsFor, quoted, Inside}
+use Rattle.nss_lexer.specs.Lexemes.{IsIdentifier, decimal, hexadecimal, IsSuffix, none, suffix, IsFloat, pointed, fraction, marked, HasForm, is_word, is_sign, signs}
+use Rattle.nss_lexer.specs.Strings.{quoted}
 use Rattle.nss_lexer.specs.Reading.{is_in, run, front, name_form, fraction_length, float_form, decimal_form, begins_hexadecimal, hexadecimal_form, number_form, string_form, is_front, first_front, sign_form, form, closing}
 use Rattle.nss_lexer.proofs.StringLaws.{closing_finishes}
 
@@ -37,9 +37,9 @@ run_passes p [] = tt
 run_passes p (x ∷ xs) =
     ⊎_elim
     (λ h. let one : prefix_len p (x ∷ xs) ≡ suc (prefix_len p xs) = cond-true (p x) (1 + prefix_len p xs) 0 h ∙ one-add (prefix_len p xs) in
-        subst (λ n. AllByRecursion (λ c. p c ≡ true) (take n (x ∷ xs))) (sym one) (h, run_passes p xs))
+    subst (λ n. AllByRecursion (λ c. p c ≡ true) (take n (x ∷ xs))) (sym one) (h, run_passes p xs))
     (λ h. let none : prefix_len p (x ∷ xs) ≡ 0 = cond-false (p x) (1 + prefix_len p xs) 0 h in
-        subst (λ n. AllByRecursion (λ c. p c ≡ true) (take n (x ∷ xs))) (sym none) tt)
+    subst (λ n. AllByRecursion (λ c. p c ≡ true) (take n (x ∷ xs))) (sym none) tt)
     (cases_Bool (p x))
 
 run_some : (p : ℕ → Bool) (x : ℕ) (xs : List ℕ) → p x ≡ true → prefix_len p (x ∷ xs) ≡ suc (prefix_len p xs)
@@ -116,15 +116,15 @@ fraction_split tail =
     let r : ℕ = run Decimal tail in
     cond_both (slice_index tail r == 102) (r + 1) r (FractionSplit tail)
     (λ mark.
-        let is : slice_index tail r ≡ 102 = eqb-true (slice_index tail r) 102 mark in
-        let inside : r < length tail = inside_from tail r 102 is (omega arith) in
-        record {
-          end = 102 ∷ [];
-          ends = suffix;
-          is = take_more tail r 0 inside ∙ ap (λ c. take r tail ++ c ∷ []) is;
-          within = omega (arith, inside);
-          least = omega arith;
-        })
+    let is : slice_index tail r ≡ 102 = eqb-true (slice_index tail r) 102 mark in
+    let inside : r < length tail = inside_from tail r 102 is (omega arith) in
+    record {
+      end = 102 ∷ [];
+      ends = suffix;
+      is = take_more tail r 0 inside ∙ ap (λ c. take r tail ++ c ∷ []) is;
+      within = omega (arith, inside);
+      least = omega arith;
+    })
     (λ _. record { end = []; ends = none; is = sym (append-nil (take r tail)); within = run_within Decimal tail; least = omega arith })
 
 numeral_found : (d : ℕ) (bytes : List ℕ) → is_decimal d ≡ true → IsNumeral 10 (take (run Decimal (d ∷ bytes)) (d ∷ bytes))
@@ -144,26 +144,26 @@ decimal_found d bytes h =
     let tail : List ℕ = drop (n + 1) w in
     cond_both (slice_index w n == 46) (float_form w n) _ (IsFound w)
     (λ point.
-        let is : slice_index w n ≡ 46 = eqb-true (slice_index w n) 46 point in
-        let inside : n < length w = inside_from w n 46 is (omega arith) in
-        let split = fraction_split tail in
-        let text : take (n + 1 + fraction_length tail) w ≡ take n w ++ 46 ∷ (take (run Decimal tail) tail ++ split.end) =
-            taken_through w n 46 (fraction_length tail) is (omega arith) ∙ ap (λ t. take n w ++ 46 ∷ t) split.is in
-        record {
-          has = subst IsFloat (sym text) (pointed (take n w) (take (run Decimal tail) tail) split.end numeral (run_decimals tail) split.ends);
-          some = omega arith;
-          within = omega (arith, split.within, length-drop (n + 1) w, inside);
-        })
+    let is : slice_index w n ≡ 46 = eqb-true (slice_index w n) 46 point in
+    let inside : n < length w = inside_from w n 46 is (omega arith) in
+    let split = fraction_split tail in
+    let text : take (n + 1 + fraction_length tail) w ≡ take n w ++ 46 ∷ (take (run Decimal tail) tail ++ split.end) =
+    taken_through w n 46 (fraction_length tail) is (omega arith) ∙ ap (λ t. take n w ++ 46 ∷ t) split.is in
+    record {
+      has = subst IsFloat (sym text) (pointed (take n w) (take (run Decimal tail) tail) split.end numeral (run_decimals tail) split.ends);
+      some = omega arith;
+      within = omega (arith, split.within, length-drop (n + 1) w, inside);
+    })
     (λ _. cond_both (slice_index w n == 102) (front Float (n + 1)) (front (Int (digits_value 10 (take n w))) n) (IsFound w)
-        (λ mark.
-            let is : slice_index w n ≡ 102 = eqb-true (slice_index w n) 102 mark in
-            let inside : n < length w = inside_from w n 102 is (omega arith) in
-            record {
-              has = subst IsFloat (sym (take_more w n 0 inside ∙ ap (λ c. take n w ++ c ∷ []) is)) (marked (take n w) numeral);
-              some = omega arith;
-              within = omega (arith, inside);
-            })
-        (λ _. record { has = decimal (take n w) numeral; some = omega (arith, one); within = fits }))
+    (λ mark.
+    let is : slice_index w n ≡ 102 = eqb-true (slice_index w n) 102 mark in
+    let inside : n < length w = inside_from w n 102 is (omega arith) in
+    record {
+      has = subst IsFloat (sym (take_more w n 0 inside ∙ ap (λ c. take n w ++ c ∷ []) is)) (marked (take n w) numeral);
+      some = omega arith;
+      within = omega (arith, inside);
+    })
+    (λ _. record { has = decimal (take n w) numeral; some = omega (arith, one); within = fits }))
 
 hexadecimal_at : (x d : ℕ) (bytes : List ℕ) → (x == 120 || x == 88) ≡ true → is_hexadecimal d ≡ true
     → IsFound (48 ∷ x ∷ d ∷ bytes) (hexadecimal_form (48 ∷ x ∷ d ∷ bytes))
@@ -266,21 +266,21 @@ first_found (sign ∷ table) bytes n all is =
     let both = and_parts (nat_lt 0 (length sign)) (list_all (λ t. nat_lt 0 (length t)) table) all in
     ⊎_elim
     (λ here.
-        let front = front_taken sign bytes here in
-        let count : length sign ≡ n = some_same (length sign) n (sym (cond-true (is_front sign bytes) (Some (length sign)) (first_front table bytes) here) ∙ is) in
-        let text : sign ≡ take n bytes = sym front.0 ∙ ap (λ k. take k bytes) count in
-        record {
-          among = or_left (bytes_eq sign (take n bytes)) (list_any (λ e. bytes_eq e (take n bytes)) table) ((bytes_eq-Decides sign (take n bytes)).1 text);
-          within = omega (arith, front.1, count);
-          some = omega (arith, ltb-true 0 (length sign) both.0, count);
-        })
+    let front = front_taken sign bytes here in
+    let count : length sign ≡ n = some_same (length sign) n (sym (cond-true (is_front sign bytes) (Some (length sign)) (first_front table bytes) here) ∙ is) in
+    let text : sign ≡ take n bytes = sym front.0 ∙ ap (λ k. take k bytes) count in
+    record {
+      among = or_left (bytes_eq sign (take n bytes)) (list_any (λ e. bytes_eq e (take n bytes)) table) ((bytes_eq-Decides sign (take n bytes)).1 text);
+      within = omega (arith, front.1, count);
+      some = omega (arith, ltb-true 0 (length sign) both.0, count);
+    })
     (λ here.
-        let rest = first_found table bytes n both.1 (sym (cond-false (is_front sign bytes) (Some (length sign)) (first_front table bytes) here) ∙ is) in
-        record {
-          among = or_right (bytes_eq sign (take n bytes)) (list_any (λ e. bytes_eq e (take n bytes)) table) rest.among;
-          within = rest.within;
-          some = rest.some;
-        })
+    let rest = first_found table bytes n both.1 (sym (cond-false (is_front sign bytes) (Some (length sign)) (first_front table bytes) here) ∙ is) in
+    record {
+      among = or_right (bytes_eq sign (take n bytes)) (list_any (λ e. bytes_eq e (take n bytes)) table) rest.among;
+      within = rest.within;
+      some = rest.some;
+    })
     (cases_Bool (is_front sign bytes))
 
 pub signs_some : list_all (λ t. nat_lt 0 (length t)) signs ≡ true
