@@ -1,24 +1,22 @@
 -- What has the form of a token is read as that token, or as a longer one.
-use Rattle.std.specs.Prelude.{Option, Some, None, option_map, ◌==◌, if◌then◌else◌, IsTrue, ◌||◌, ◌&&◌, not, nat_lt, nat_le, slice_index, bytes_eq}
+use Rattle.std.specs.Prelude.{Option, Some, None, ◌==◌, if◌then◌else◌, ◌||◌, ◌&&◌, not, nat_le, slice_index, bytes_eq}
 use Rattle.std.specs.List.{prefix_len, AllByRecursion, list_any, list_all}
 use Rattle.std.specs.Char.{digit_value, is_digit}
 use Rattle.std.specs.Str.Parse.{IsNumeral, AllDigits, digits_value}
-use Rattle.std.proofs.Common.{◌≡◌, ℕ, zero, suc, ◌+◌, ◌<◌, ◌≤◌, Bool, true, false, cond, List, [], ◌∷◌, ◌++◌, length, take, drop, refl, ap, sym, ◌∙◌, subst, arith, inl, inr, ◌⊎◌, ⊎_elim, length-append}
-use Rattle.std.proofs.lemmas.List.{take-append-drop, take_at, drop_at, append_assoc, append-nil, get_or_at}
+use Rattle.std.proofs.Common.{◌≡◌, ℕ, suc, ◌+◌, ◌<◌, ◌≤◌, Bool, true, false, List, [], ◌∷◌, ◌++◌, length, take, drop, refl, ap, sym, ◌∙◌, subst, arith, ⊎_elim, length-append}
+use Rattle.std.proofs.lemmas.List.{take_at, append_assoc, append-nil, get_or_at}
 use Rattle.std.proofs.Math.Seq.{drop-append-add}
 use Rattle.std.proofs.lemmas.Slice.Eq.{bytes_eq-Decides}
-use Rattle.std.proofs.Math.Numerals.{add-one, one-add}
-use Rattle.std.proofs.lemmas.Bool.{cases_Bool, and_parts, and_from, and_left, and_right, or_cases, or_left, or_right, or_from, false≢true, true≢false, cond_both, eqb-true, eq-eqb, leb-true, not-true, not_from_true, cond-true, cond-false, lt-ltb, ltb-true}
-use Rattle.nss_lexer.specs.declared.bytes.Class.{Class}
+use Rattle.std.proofs.Math.Numerals.{one-add}
+use Rattle.std.proofs.lemmas.Bool.{cases_Bool, and_parts, and_from, and_left, and_right, or_cases, or_left, false≢true, cond_both, eqb-true, eq-eqb, leb-true, not-true, not_from_true, cond-true, cond-false, lt-ltb}
 use Rattle.nss_lexer.specs.declared.bytes.Class.TheVariants.{Name as InName, Decimal, Hexadecimal}
 use Rattle.nss_lexer.specs.declared.token.Kind.{Kind}
 use Rattle.nss_lexer.specs.declared.token.Kind.TheVariants.{Name, Word, Int, Float, Text, Sign}
 use Rattle.nss_lexer.specs.declared.scan.Front.{Front}
-use Rattle.nss_lexer.specs.declared.string.Escape.TheVariants.{Outside}
 use Rattle.nss_lexer.specs.Bytes.{is_letter, is_decimal, is_hexadecimal, is_name_byte}
 use Rattle.nss_lexer.specs.Lexemes.{IsIdentifier, IsInt, decimal, hexadecimal, IsSuffix, none, suffix, IsFloat, pointed, fraction, marked, HasForm, is_word, is_sign, words, signs}
-use Rattle.nss_lexer.specs.Strings.{StandsFor, quoted, Inside}
-use Rattle.nss_lexer.specs.Reading.{is_in, run, front, name_form, fraction_length, float_form, decimal_form, begins_hexadecimal, hexadecimal_form, number_form, string_form, is_front, first_front, sign_form, form, closing}
+use Rattle.nss_lexer.specs.Strings.{StandsFor, quoted}
+use Rattle.nss_lexer.specs.Reading.{is_in, run, front, name_form, fraction_length, float_form, decimal_form, begins_hexadecimal, hexadecimal_form, number_form, string_form, is_front, first_front, sign_form, form}
 use Rattle.nss_lexer.proofs.StringLaws.{inside_read}
 
 -- ---- the cases of reading
@@ -90,9 +88,10 @@ name_reads : (kind : Kind) (text more : List ℕ) → IsIdentifier text → kind
 name_reads kind [] more h is = absurd h
 name_reads kind (b ∷ bytes) more h is =
     let all : AllByRecursion (λ c. is_in InName c ≡ true) (b ∷ bytes) = (or_left (is_letter b) (is_decimal b) h.0, h.1) in
-    subst (AtLeast kind (length (b ∷ bytes))) (sym (form_letter (b ∷ (bytes ++ more)) h.0))
-    (run_least (is_in InName) (b ∷ bytes) more all,
-        λ same. is ∙ ap kind_of_name (sym (take_run (b ∷ bytes) more (run InName (b ∷ (bytes ++ more))) same)))
+    subst (AtLeast kind (length (b ∷ bytes))) (sym (form_letter (b ∷ (bytes ++ more)) h.0)) (
+      run_least (is_in InName) (b ∷ bytes) more all,
+      λ same. is ∙ ap kind_of_name (sym (take_run (b ∷ bytes) more (run InName (b ∷ (bytes ++ more))) same)),
+    )
 
 -- ---- numbers
 
@@ -177,7 +176,7 @@ hexadecimal_no_decimal : (d : ℕ) (ds more : List ℕ) → AllDigits 10 ds → 
 hexadecimal_no_decimal d [] more all is = refl
 hexadecimal_no_decimal d (e ∷ ds) more all is =
     absurd (false≢true (sym (and_left ((d == 48) && (e == 120 || e == 88)) (is_hexadecimal (slice_index (ds ++ more) 0))
-        (and_right (d == 48) (e == 120 || e == 88) (digit_is_no_x e all.0))) ∙ is))
+    (and_right (d == 48) (e == 120 || e == 88) (digit_is_no_x e all.0))) ∙ is))
 
 decimal_reads : (digits more : List ℕ) → IsNumeral 10 digits → AtLeast (Int (digits_value 10 digits)) (length digits) (form (digits ++ more))
 decimal_reads [] more h = absurd (omega (arith, h.0))
@@ -189,13 +188,13 @@ decimal_reads (d ∷ ds) more h =
     let P : Front → Type 0 = λ f. AtLeast kind m (Some f) in
     subst (AtLeast kind m) (sym (form_digit w (digit_is_no_letter d h.1.0) (lt-ltb (digit_value d) 10 h.1.0)))
     (cond_both (begins_hexadecimal w) (hexadecimal_form w) (decimal_form w) P
-        (λ hex. let one : length ds ≡ 0 = hexadecimal_no_decimal d ds more h.1.1 hex in
-            (omega (arith, one), λ same. absurd (omega (arith, one, same))))
-        (λ _. cond_both (slice_index w (run Decimal w) == 46) (float_form w (run Decimal w)) _ P
-            (λ _. (omega (arith, least), λ same. absurd (omega (arith, least, same))))
-            (λ _. cond_both (slice_index w (run Decimal w) == 102) (front Float (run Decimal w + 1)) (front (Int (digits_value 10 (take (run Decimal w) w))) (run Decimal w)) P
-                (λ _. (omega (arith, least), λ same. absurd (omega (arith, least, same))))
-                (λ _. (least, λ same. ap (λ t. Int (digits_value 10 t)) (sym (take_run (d ∷ ds) more (run Decimal w) same)))))))
+    (λ hex. let one : length ds ≡ 0 = hexadecimal_no_decimal d ds more h.1.1 hex in
+    (omega (arith, one), λ same. absurd (omega (arith, one, same))))
+    (λ _. cond_both (slice_index w (run Decimal w) == 46) (float_form w (run Decimal w)) _ P
+    (λ _. (omega (arith, least), λ same. absurd (omega (arith, least, same))))
+    (λ _. cond_both (slice_index w (run Decimal w) == 102) (front Float (run Decimal w + 1)) (front (Int (digits_value 10 (take (run Decimal w) w))) (run Decimal w)) P
+    (λ _. (omega (arith, least), λ same. absurd (omega (arith, least, same))))
+    (λ _. (least, λ same. ap (λ t. Int (digits_value 10 t)) (sym (take_run (d ∷ ds) more (run Decimal w) same)))))))
 
 hexadecimal_reads : (x : ℕ) (digits more : List ℕ) → (x == 120 || x == 88) ≡ true → IsNumeral 16 digits
     → AtLeast (Int (digits_value 16 digits)) (length (48 ∷ x ∷ digits)) (form (48 ∷ x ∷ (digits ++ more)))
@@ -206,9 +205,10 @@ hexadecimal_reads x (d ∷ ds) more is h =
     let n : ℕ = run Hexadecimal (d ∷ (ds ++ more)) in
     let least : length (d ∷ ds) ≤ n = run_least (is_in Hexadecimal) (d ∷ ds) more (hexadecimals_pass (d ∷ ds) h.1) in
     let begins : begins_hexadecimal w ≡ true = and_from (x == 120 || x == 88) (is_hexadecimal d) is (lt-ltb (digit_value d) 16 h.1.0) in
-    subst (AtLeast kind (length (48 ∷ x ∷ d ∷ ds))) (sym (form_digit w refl refl ∙ ap Some (cond-true (begins_hexadecimal w) _ _ begins)))
-    (omega (arith, least),
-        λ same. let e : length (d ∷ ds) ≡ n = omega (arith, same) in ap (λ t. Int (digits_value 16 t)) (sym (take_run (d ∷ ds) more n e)))
+    subst (AtLeast kind (length (48 ∷ x ∷ d ∷ ds))) (sym (form_digit w refl refl ∙ ap Some (cond-true (begins_hexadecimal w) _ _ begins))) (
+      omega (arith, least),
+      λ same. let e : length (d ∷ ds) ≡ n = omega (arith, same) in ap (λ t. Int (digits_value 16 t)) (sym (take_run (d ∷ ds) more n e)),
+    )
 
 -- ---- strings
 
@@ -248,7 +248,7 @@ unfolding falling
 signs_fall = refl
 
 -- what one text of a table has, each has
-any_passes : (test : List ℕ → Bool) (text : List ℕ) (table : List (List ℕ)) → list_any (λ entry. bytes_eq entry text) table ≡ true
+pub any_passes : (test : List ℕ → Bool) (text : List ℕ) (table : List (List ℕ)) → list_any (λ entry. bytes_eq entry text) table ≡ true
     → list_all test table ≡ true → test text ≡ true
 any_passes test text [] found all = absurd (false≢true found)
 any_passes test text (entry ∷ table) found all =
@@ -276,23 +276,23 @@ first_least text more (sign ∷ table) fall found =
     let among = or_cases (bytes_eq sign text) (list_any (λ e. bytes_eq e text) table) found in
     ⊎_elim
     (λ here. record {
-        count = length sign;
-        is = cond-true (is_front sign (text ++ more)) (Some (length sign)) (first_front table (text ++ more)) here;
-        least = ⊎_elim
-            (λ same. let e : length sign ≡ length text = ap length ((bytes_eq-Decides sign text).0 same) in omega (arith, e))
-            (λ later. leb-true (length text) (length sign) (any_passes (λ t. nat_le (length t) (length sign)) text table later both.0))
-            among;
+      count = length sign;
+      is = cond-true (is_front sign (text ++ more)) (Some (length sign)) (first_front table (text ++ more)) here;
+      least = ⊎_elim
+          (λ same. let e : length sign ≡ length text = ap length ((bytes_eq-Decides sign text).0 same) in omega (arith, e))
+          (λ later. leb-true (length text) (length sign) (any_passes (λ t. nat_le (length t) (length sign)) text table later both.0))
+          among;
     })
     (λ here. ⊎_elim
-        (λ same. absurd (false≢true (sym here ∙ ap (λ t. is_front t (text ++ more)) ((bytes_eq-Decides sign text).0 same) ∙ front_found text more)))
-        (λ later.
-            let rest = first_least text more table both.1 later in
-            record {
-                count = rest.count;
-                is = cond-false (is_front sign (text ++ more)) (Some (length sign)) (first_front table (text ++ more)) here ∙ rest.is;
-                least = rest.least;
-            })
-        among)
+    (λ same. absurd (false≢true (sym here ∙ ap (λ t. is_front t (text ++ more)) ((bytes_eq-Decides sign text).0 same) ∙ front_found text more)))
+    (λ later.
+    let rest = first_least text more table both.1 later in
+    record {
+      count = rest.count;
+      is = cond-false (is_front sign (text ++ more)) (Some (length sign)) (first_front table (text ++ more)) here ∙ rest.is;
+      least = rest.least;
+    })
+    among)
     (cases_Bool (is_front sign (text ++ more)))
 
 -- a sign's first byte, as tests
@@ -327,11 +327,11 @@ sign_reads_at (b ∷ text) more is head =
     let found = first_least (b ∷ text) more signs signs_fall is in
     ⊎_elim
     (λ point.
-        let both = and_parts (b == 46) (is_decimal (slice_index w 1)) point in
-        let short = h.alone both.0 in
-        rw (form_point w h.no_letter h.no_decimal point) (omega (arith, short), λ same. absurd (omega (arith, same, short, digit_fraction (drop 1 w) both.1))))
+    let both = and_parts (b == 46) (is_decimal (slice_index w 1)) point in
+    let short = h.alone both.0 in
+    rw (form_point w h.no_letter h.no_decimal point) (omega (arith, short), λ same. absurd (omega (arith, same, short, digit_fraction (drop 1 w) both.1))))
     (λ other.
-        rw (form_sign w h.no_letter h.no_decimal other h.no_quote, found.is) (found.least, λ _. refl))
+    rw (form_sign w h.no_letter h.no_decimal other h.no_quote, found.is) (found.least, λ _. refl))
     (cases_Bool ((b == 46) && is_decimal (slice_index w 1)))
 
 sign_reads : (text more : List ℕ) → is_sign text ≡ true → AtLeast Sign (length text) (form (text ++ more))

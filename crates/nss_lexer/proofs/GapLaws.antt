@@ -1,14 +1,14 @@
 -- Passing over blanks and comments one by one finds what the grammar has, and nothing else.
-use Rattle.std.specs.Prelude.{Option, Some, None, option_map, ◌==◌, if◌then◌else◌, IsTrue, ◌||◌, ◌&&◌, not, slice_index}
-use Rattle.std.specs.List.{prefix_len, AllByRecursion}
-use Rattle.std.proofs.Common.{◌≡◌, ℕ, zero, suc, ◌+◌, ◌<◌, ◌≤◌, Bool, true, false, cond, List, [], ◌∷◌, ◌++◌, length, take, drop, refl, ap, sym, ◌∙◌, subst, arith, inl, inr, ◌⊎◌, ⊎_elim, length-append}
-use Rattle.std.proofs.lemmas.List.{take-append-drop, drop_at, append_assoc, drop-drop}
-use Rattle.std.proofs.Math.Numerals.{add-one, one-add}
-use Rattle.std.proofs.lemmas.Bool.{cases_Bool, and_parts, and_from, and_cases, not-true, not-false, not_from_true, not_from_false, false≢true, true≢false, cond_both, eqb-true, eqb-false, eq-eqb, ne_eqb, cond-true, cond-false}
+use Rattle.std.specs.Prelude.{Option, Some, None, option_map, ◌==◌, ◌&&◌, not, slice_index}
+use Rattle.std.specs.List.{AllByRecursion}
+use Rattle.std.proofs.Common.{◌≡◌, ℕ, suc, ◌+◌, true, false, List, [], ◌∷◌, ◌++◌, length, take, drop, refl, ap, sym, ◌∙◌, subst, arith, ⊎_elim}
+use Rattle.std.proofs.lemmas.List.{take-append-drop, drop_at, drop-drop}
+use Rattle.std.proofs.Math.Numerals.{one-add}
+use Rattle.std.proofs.lemmas.Bool.{cases_Bool, and_parts, and_from, not_from_true, not_from_false, false≢true, eqb-true, eqb-false, eq-eqb, ne_eqb, cond-true, cond-false}
 use Rattle.nss_lexer.specs.declared.bytes.Class.TheVariants.{Line}
 use Rattle.nss_lexer.specs.Bytes.{newline, is_blank}
-use Rattle.nss_lexer.specs.Splitting.{Skips, blank, line, block, Gap, nothing, more, EndsLine, NeverCloses, begins_comment}
-use Rattle.nss_lexer.specs.Reading.{run, is_in, closing_comment, comment, pass}
+use Rattle.nss_lexer.specs.Splitting.{Skips, blank, line, block, EndsLine, NeverCloses}
+use Rattle.nss_lexer.specs.Reading.{run, closing_comment, comment, pass}
 
 option_same : (m n : ℕ) → Some m ≡ Some n → m ≡ n
 option_same m n e = cc
@@ -66,13 +66,13 @@ line_split [] = (tt, tt)
 line_split (b ∷ text) =
     ⊎_elim
     (λ at_end.
-        let none : run Line (b ∷ text) ≡ 0 = cond-false (not (b == newline)) (1 + run Line text) 0 (not_from_true (b == newline) at_end) in
-        subst (λ k. LineSplit k (b ∷ text)) (sym none) (tt, eqb-true b newline at_end))
+    let none : run Line (b ∷ text) ≡ 0 = cond-false (not (b == newline)) (1 + run Line text) 0 (not_from_true (b == newline) at_end) in
+    subst (λ k. LineSplit k (b ∷ text)) (sym none) (tt, eqb-true b newline at_end))
     (λ inside.
-        let one : run Line (b ∷ text) ≡ suc (run Line text) =
-            cond-true (not (b == newline)) (1 + run Line text) 0 (not_from_false (b == newline) inside) ∙ one-add (run Line text) in
-        let rest = line_split text in
-        subst (λ k. LineSplit k (b ∷ text)) (sym one) ((eqb-false b newline inside, rest.0), rest.1))
+    let one : run Line (b ∷ text) ≡ suc (run Line text) =
+    cond-true (not (b == newline)) (1 + run Line text) 0 (not_from_false (b == newline) inside) ∙ one-add (run Line text) in
+    let rest = line_split text in
+    subst (λ k. LineSplit k (b ∷ text)) (sym one) ((eqb-false b newline inside, rest.0), rest.1))
     (cases_Bool (b == newline))
 
 pub record BlockSplit (text : List ℕ) (n : ℕ) : Type 0 where
@@ -113,9 +113,9 @@ block_split [] n is = absurd (cc)
 block_split (b ∷ text) n is =
     ⊎_elim
     (λ here. closes_here b n text here
-        (option_same n 2 (sym is ∙ cond-true ((b == 42) && (slice_index text 0 == 47)) (Some 2) (option_map (λ n. n + 1) (closing_comment text)) here)))
+    (option_same n 2 (sym is ∙ cond-true ((b == 42) && (slice_index text 0 == 47)) (Some 2) (option_map (λ n. n + 1) (closing_comment text)) here)))
     (λ here. closes_later b n text (closing_comment text) here (λ m e. block_split text m e)
-        (sym (cond-false ((b == 42) && (slice_index text 0 == 47)) (Some 2) (option_map (λ n. n + 1) (closing_comment text)) here) ∙ is))
+    (sym (cond-false ((b == 42) && (slice_index text 0 == 47)) (Some 2) (option_map (λ n. n + 1) (closing_comment text)) here) ∙ is))
     (cases_Bool ((b == 42) && (slice_index text 0 == 47)))
 
 skips_line : (b c : ℕ) (text : List ℕ) (n : ℕ) → ((b == 47) && (c == 47)) ≡ true → n ≡ run Line text + 2 → Skips (b ∷ c ∷ text) (drop n (b ∷ c ∷ text))
@@ -127,15 +127,15 @@ skips_line b c text n here is =
     let whole : take (run Line text) text ++ drop (run Line text) text ≡ text = take-append-drop (run Line text) text in
     rw (first, second, is, drop_two 47 47 (run Line text) text)
     (subst (λ t. Skips (47 ∷ 47 ∷ t) (drop (run Line text) text)) whole
-        (line (take (run Line text) text) (drop (run Line text) text) split.0 split.1))
+    (line (take (run Line text) text) (drop (run Line text) text) split.0 split.1))
 
 skips_split : (text body after : List ℕ) (m : ℕ) → text ≡ body ++ 42 ∷ 47 ∷ after → m ≡ length body + 2 → NeverCloses body
     → Skips (47 ∷ 42 ∷ text) (drop m text)
 skips_split text body after m is count never =
     let left : drop m text ≡ after =
-        ap (λ t. drop m t) is ∙ ap (λ k. drop k (body ++ 42 ∷ 47 ∷ after)) count
-        ∙ sym (drop-drop 2 (length body) (body ++ 42 ∷ 47 ∷ after))
-        ∙ ap (drop 2) (drop_at body (42 ∷ 47 ∷ after) (length body) refl) in
+    ap (λ t. drop m t) is ∙ ap (λ k. drop k (body ++ 42 ∷ 47 ∷ after)) count
+    ∙ sym (drop-drop 2 (length body) (body ++ 42 ∷ 47 ∷ after))
+    ∙ ap (drop 2) (drop_at body (42 ∷ 47 ∷ after) (length body) refl) in
     subst (λ r. Skips (47 ∷ 42 ∷ text) r) (sym left) (subst (λ t. Skips (47 ∷ 42 ∷ t) after) (sym is) (block body after never))
 
 skips_block : (b c : ℕ) (text : List ℕ) (n m : ℕ) → ((b == 47) && (c == 42)) ≡ true → closing_comment text ≡ Some m → n ≡ m + 2
@@ -162,14 +162,14 @@ skips_comment (b ∷ []) n is = absurd (cc)
 skips_comment (b ∷ c ∷ text) n is =
     ⊎_elim
     (λ here. skips_line b c text n here
-        (option_same n (run Line text + 2) (sym is ∙ cond-true ((b == 47) && (c == 47)) (Some (run Line text + 2)) _ here)))
+    (option_same n (run Line text + 2) (sym is ∙ cond-true ((b == 47) && (c == 47)) (Some (run Line text + 2)) _ here)))
     (λ other. ⊎_elim
-        (λ here. in_block b c text n here (closing_comment text) refl
-            (sym (cond-false ((b == 47) && (c == 47)) (Some (run Line text + 2)) _ other
-                ∙ cond-true ((b == 47) && (c == 42)) (option_map (λ n. n + 2) (closing_comment text)) None here) ∙ is))
-        (λ here. absurd (none_some n (sym (cond-false ((b == 47) && (c == 47)) (Some (run Line text + 2)) _ other
-                ∙ cond-false ((b == 47) && (c == 42)) (option_map (λ n. n + 2) (closing_comment text)) None here) ∙ is)))
-        (cases_Bool ((b == 47) && (c == 42))))
+    (λ here. in_block b c text n here (closing_comment text) refl
+    (sym (cond-false ((b == 47) && (c == 47)) (Some (run Line text + 2)) _ other
+    ∙ cond-true ((b == 47) && (c == 42)) (option_map (λ n. n + 2) (closing_comment text)) None here) ∙ is))
+    (λ here. absurd (none_some n (sym (cond-false ((b == 47) && (c == 47)) (Some (run Line text + 2)) _ other
+    ∙ cond-false ((b == 47) && (c == 42)) (option_map (λ n. n + 2) (closing_comment text)) None here) ∙ is)))
+    (cases_Bool ((b == 47) && (c == 42))))
     (cases_Bool ((b == 47) && (c == 47)))
 
 pub pass_skips : (bytes : List ℕ) (n : ℕ) → pass bytes ≡ Some n → Skips bytes (drop n bytes)

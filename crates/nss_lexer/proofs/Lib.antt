@@ -2,3 +2,5 @@ pub mod Scanning
 pub mod StringLaws
 pub mod GapLaws
 pub mod FormLaws
+pub mod FoundLaws
+pub mod FirstLaws

@@ -1,9 +1,9 @@
 -- What the scanners' proofs need of lists and numbers.
-use Rattle.std.proofs.Common.{◌≡◌, ℕ, zero, suc, ◌+◌, ◌*◌, ◌^◌, ◌<◌, ◌≤◌, Bool, true, false, List, [], ◌∷◌, refl, ap, ◌∙◌, sym, arith, length, drop, get_or}
+use Rattle.std.proofs.Common.{◌≡◌, ℕ, suc, ◌+◌, ◌*◌, ◌^◌, ◌<◌, ◌≤◌, false, List, [], ◌∷◌, refl, ap, ◌∙◌, sym, arith, length, drop, get_or}
 use Rattle.std.proofs.Math.Seq.{drop-cons}
 use Rattle.std.proofs.Math.Nat.{mul-le-mul_left}
 use Rattle.std.proofs.lemmas.Bool.{le-ltb}
-use Rattle.std.specs.Prelude.{Option, None}
+use Rattle.std.specs.Prelude.{None}
 use Rattle.std.specs.Str.Parse.{digits_value_after, digits_value}
 use Rattle.nss_lexer.specs.Reading.{small, is_front}
 use Rattle.std.proofs.lemmas.List.{drop_all}
@@ -22,9 +22,9 @@ pub too_great : (radix n i : ℕ) (ds : List ℕ) → 2 ≤ radix → i < length
     → digits_value_after radix n (drop i ds) ≡ digits_value radix ds → None ≡ small (digits_value radix ds)
 too_great radix n i ds two inside more is =
     let rest : digits_value_after radix (n * radix + digit_value (get_or ds i 0)) (drop (suc i) ds) ≡ digits_value radix ds =
-        ap (digits_value_after radix n) (sym (drop-cons ds i 0 inside)) ∙ is in
+    ap (digits_value_after radix n) (sym (drop-cons ds i 0 inside)) ∙ is in
     let grown : n * radix + digit_value (get_or ds i 0) ≤ digits_value_after radix (n * radix + digit_value (get_or ds i 0)) (drop (suc i) ds) =
-        digits_grow radix (n * radix + digit_value (get_or ds i 0)) (drop (suc i) ds) (omega arith) in
+    digits_grow radix (n * radix + digit_value (get_or ds i 0)) (drop (suc i) ds) (omega arith) in
     let great : 2 ^ 32 ≤ digits_value radix ds = omega (arith, rest, grown) in
     rw (le-ltb (digits_value radix ds) (2 ^ 32) great) refl
 

@@ -1,14 +1,14 @@
 -- Reading a string byte by byte finds what its grammar has, and nothing else.
-use Rattle.std.specs.Prelude.{Option, Some, None, option_map, ◌==◌, if◌then◌else◌, IsTrue, ◌||◌, not}
-use Rattle.std.proofs.Common.{◌≡◌, ℕ, zero, suc, ◌+◌, ◌*◌, ◌<◌, ◌≤◌, Bool, true, false, cond, List, [], ◌∷◌, ◌++◌, length, take, drop, refl, ap, sym, ◌∙◌, arith, inl, inr, ◌⊎◌, ⊎_elim, append-nil}
-use Rattle.std.specs.Char.{digit_value, is_digit}
-use Rattle.std.proofs.lemmas.Bool.{cases_Bool, or_parts, or_from, not-true, not_from_true, not_from_false, false≢true, true≢false, cond_both, eqb-true}
+use Rattle.std.specs.Prelude.{Option, Some, None, option_map, ◌==◌}
+use Rattle.std.proofs.Common.{◌≡◌, ℕ, suc, ◌+◌, ◌*◌, ◌≤◌, true, false, List, [], ◌∷◌, ◌++◌, length, take, refl, ap, sym, ◌∙◌, arith, ⊎_elim, append-nil}
+use Rattle.std.specs.Char.{digit_value}
+use Rattle.std.proofs.lemmas.Bool.{cases_Bool, cond_both, eqb-true}
 use Rattle.nss_lexer.specs.declared.string.Escape.{Escape}
 use Rattle.nss_lexer.specs.declared.string.Escape.TheVariants.{Outside, AfterBackslash, AfterX, AfterDigit}
 use Rattle.nss_lexer.specs.declared.string.Step.{Step}
 use Rattle.nss_lexer.specs.declared.string.Step.TheVariants.{Gives, Leads, Closes, Fails}
 use Rattle.nss_lexer.specs.Bytes.{newline, is_hexadecimal}
-use Rattle.nss_lexer.specs.Strings.{Spelling, plain, escaped, line_end, hexadecimal, Inside, closed, more, StandsFor, quoted, IsString, step, value_after, value_from, string_value, is_plain, is_escaped, quote, backslash, small_n, small_x}
+use Rattle.nss_lexer.specs.Strings.{Spelling, plain, escaped, line_end, hexadecimal, Inside, closed, more, StandsFor, quoted, step, value_from, string_value, is_plain, is_escaped, quote, backslash, small_n, small_x}
 use Rattle.nss_lexer.specs.Reading.{closing, length_after}
 
 option_same : (m n : ℕ) → Some m ≡ Some n → m ≡ n
@@ -81,18 +81,18 @@ after_outside b text =
     cond_both (b == newline) Fails _ (Grows Outside b text) (λ _. tt)
     (λ l. cond_both (b == quote) Closes _ (Grows Outside b text) (λ q. let is : b ≡ 34 = eqb-true b 34 q in rw is ([], closed))
     (λ q. cond_both (b == backslash) (Leads AfterBackslash) (Gives b) (Grows Outside b text)
-        (λ s f. let is : b ≡ 92 = eqb-true b 92 s in rw is f)
-        (λ s f. (b ∷ f.0, more b (b ∷ []) text f.0 (plain b (plain_from b l q s)) f.1))))
+    (λ s f. let is : b ≡ 92 = eqb-true b 92 s in rw is f)
+    (λ s f. (b ∷ f.0, more b (b ∷ []) text f.0 (plain b (plain_from b l q s)) f.1))))
 
 after_backslash : (b : ℕ) (text : List ℕ) → Grows AfterBackslash b text (step AfterBackslash b)
 after_backslash b text =
     cond_both (b == newline) Fails _ (Grows AfterBackslash b text) (λ _. tt)
     (λ l. cond_both (b == small_x) (Leads AfterX) _ (Grows AfterBackslash b text)
-        (λ x f. let is : b ≡ 120 = eqb-true b 120 x in rw is f)
-        (λ x f. ⊎_elim
-            (λ n. let is : b ≡ 110 = eqb-true b 110 n in rw is (newline ∷ f.0, more newline (backslash ∷ small_n ∷ []) text f.0 line_end f.1))
-            (λ n. (b ∷ f.0, more b (backslash ∷ b ∷ []) text f.0 (escaped b (escaped_from b l x n)) f.1))
-            (cases_Bool (b == small_n))))
+    (λ x f. let is : b ≡ 120 = eqb-true b 120 x in rw is f)
+    (λ x f. ⊎_elim
+    (λ n. let is : b ≡ 110 = eqb-true b 110 n in rw is (newline ∷ f.0, more newline (backslash ∷ small_n ∷ []) text f.0 line_end f.1))
+    (λ n. (b ∷ f.0, more b (backslash ∷ b ∷ []) text f.0 (escaped b (escaped_from b l x n)) f.1))
+    (cases_Bool (b == small_n))))
 
 after_x : (b : ℕ) (text : List ℕ) → Grows AfterX b text (step AfterX b)
 after_x b text =

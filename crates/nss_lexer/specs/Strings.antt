@@ -1,5 +1,5 @@
 -- How a string is written, and the bytes that it stands for.
-use Rattle.std.specs.Prelude.{◌≡◌, ℕ, ◌+◌, ◌*◌, ◌<◌, Bool, not, ◌||◌, ◌==◌, IsTrue, List, [], ◌∷◌, ◌++◌, if◌then◌else◌}
+use Rattle.std.specs.Prelude.{ℕ, ◌+◌, ◌*◌, ◌<◌, Bool, not, ◌||◌, ◌==◌, IsTrue, List, [], ◌∷◌, ◌++◌, drop, if◌then◌else◌}
 use Rattle.std.specs.Char.{digit_value}
 use Rattle.nss_lexer.specs.declared.string.Escape.{Escape}
 use Rattle.nss_lexer.specs.declared.string.Escape.TheVariants.{Outside, AfterBackslash, AfterX, AfterDigit}
@@ -69,8 +69,7 @@ value_from state (b ∷ text) = value_after (step state b) (λ next. value_from 
 
 -- The bytes that a string stands for, as a function. By law they are those that `StandsFor` relates to it.
 unfoldable pub string_value : List ℕ → List ℕ
-string_value [] = []
-string_value (q ∷ text) = value_from Outside text
+string_value text = value_from Outside (drop 1 text)
 
 -- a first digit's value is below 16
 abbrev pub FitsByte : Escape → Type 0

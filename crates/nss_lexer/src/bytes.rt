@@ -1,4 +1,4 @@
-ghost use Rattle.std.specs.Prelude.{◌≡◌, ◌≢◌, ◌<◌, ◌≤◌, length, slice_index};
+ghost use Rattle.std.specs.Prelude.{◌≡◌, ◌≢◌, ◌<◌, ◌≤◌, ◌-◌, length, take, drop, slice_index};
 ghost use Rattle.std.specs.Char.{digit_value};
 ghost use Rattle.nss_lexer.specs.Bytes.{is_blank, is_letter};
 ghost use Rattle.nss_lexer.specs.Reading.{is_in, run};
@@ -66,4 +66,22 @@ pub fn row(class: Class, bytes: &[u8]) -> usize
         n += 1;
     }
     n
+}
+
+/// The bytes from a place on.
+pub fn tail(bytes: &[u8], at: usize) -> &[u8]
+    requires { at ≤ length bytes.now }
+    ensures value { result.now ≡ drop at bytes.now }
+    ensures count { length result.now ≡ length bytes.now - at }
+{
+    &bytes[at..]
+}
+
+/// The first bytes.
+pub fn head(bytes: &[u8], n: usize) -> &[u8]
+    requires { n ≤ length bytes.now }
+    ensures value { result.now ≡ take n bytes.now }
+    ensures count { length result.now ≡ n }
+{
+    &bytes[..n]
 }

@@ -1,8 +1,8 @@
-ghost use Rattle.std.specs.Prelude.{◌≡◌, ◌≤◌, ◌<◌, ◌^◌, length, IfSome};
-ghost use Rattle.nss_lexer.specs.Splitting.{begins_comment};
+ghost use Rattle.std.specs.Prelude.{◌≡◌, ◌≤◌, ◌<◌, ◌^◌, length, drop, IfSome, None};
+ghost use Rattle.nss_lexer.specs.Splitting.{Gap, begins_comment};
 ghost use Rattle.nss_lexer.specs.Reading as reading;
 
-use crate::bytes::{Class, blank, byte, row};
+use crate::bytes::{Class, blank, byte, row, tail};
 
 /// How many bytes come up to and with the next `*/`.
 fn closing_comment(text: &[u8]) -> Option<usize>
@@ -53,12 +53,21 @@ fn pass(bytes: &[u8]) -> Option<usize>
 {
     match bytes {
         [] => None,
-        [b, ..] => {
-            if blank(*b) {
-                Some(1)
-            } else {
-                comment(bytes)
-            }
-        }
+        [b, ..] => { if blank(*b) { Some(1) } else { comment(bytes) } }
     }
+}
+
+/// The first place from `at` on where no blank or closed comment begins.
+pub fn past_gap(bytes: &[u8], at: usize) -> usize
+    requires place { at ≤ length bytes.now }
+    requires size { length bytes.now < 2 ^ 32 }
+    ensures gap { Gap (drop at bytes.now) (drop result bytes.now) }
+    ensures stops { reading.pass (drop result bytes.now) ≡ None }
+    ensures range { (at ≤ result) × (result ≤ length bytes.now) }
+{
+    let mut place = at;
+    while let Some(n) = pass(tail(bytes, place)) {
+        place += n;
+    }
+    place
 }

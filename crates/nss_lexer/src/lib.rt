@@ -13,6 +13,8 @@ pub mod lexer;
 mod scan;
 mod string;
 pub mod token;
+pub mod unquote;
 
-pub use lexer::{literal, next};
+pub use lexer::next;
 pub use token::{Kind, Lexed, SOURCE_BYTES, Token};
+pub use unquote::literal;

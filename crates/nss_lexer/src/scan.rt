@@ -49,9 +49,10 @@ pub const WORDS: [&[u8]; 27] = [
 
 /// The operators, the assignments and the other signs, the longest first.
 pub const SIGNS: [&[u8]; 47] = [
-    b">>>=", b">>>", b"<<=", b">>=", b"||", b"&&", b"==", b"!=", b">=", b"<=", b"<<", b">>", b"++", b"--", b"+=",
-    b"-=", b"*=", b"/=", b"%=", b"&=", b"|=", b"^=", b"(", b")", b"{", b"}", b"[", b"]", b",", b";", b":", b"?", b"#",
-    b".", b"=", b"|", b"^", b"&", b">", b"<", b"+", b"-", b"*", b"/", b"%", b"!", b"~",
+    b">>>=", b">>>", b"<<=", b">>=", b"||", b"&&", b"==", b"!=", b">=", b"<=", b"<<", b">>", b"++",
+    b"--", b"+=", b"-=", b"*=", b"/=", b"%=", b"&=", b"|=", b"^=", b"(", b")", b"{", b"}", b"[",
+    b"]", b",", b";", b":", b"?", b"#", b".", b"=", b"|", b"^", b"&", b">", b"<", b"+", b"-", b"*",
+    b"/", b"%", b"!", b"~",
 ];
 
 #[tactic(auto, unfolding(crate::specs::Lexemes::is_word))]
@@ -124,7 +125,11 @@ fn fraction_length(tail: &[u8]) -> usize
     ensures within { result ≤ length tail.now }
 {
     let digits = row(Class::Decimal, tail);
-    if byte(tail, digits) == b'f' { digits + 1 } else { digits }
+    if byte(tail, digits) == b'f' {
+        digits + 1
+    } else {
+        digits
+    }
 }
 
 /// A float whose point stands at a place.

@@ -1,6 +1,4 @@
-use Rattle.std.proofs.Common.{refl}
 use Rattle.nss_lexer.proofs.StringLaws.{one_value}
-use Rattle.nss_lexer.proofs.FormLaws.{AtLeast}
 use Rattle.nss_lexer.proofs.laws.one_value.Goals as goal
 
 pub returns : goal.returns
