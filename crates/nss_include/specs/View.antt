@@ -1,0 +1,34 @@
+-- A unit as contracts see it, and what each unit keeps.
+use Rattle.std.specs.Prelude.{◌≡◌, ℕ, ◌<◌, ◌≤◌, List, [], length, map, slice_get, Option, Some, None, Result, Ok, Err}
+use Rattle.std.specs.List.{AllByRecursion}
+use Rattle.nss_lexer.specs.Lexemes.{IsLexeme}
+use Rattle.nss_lexer.specs.Splitting.{Lexeme}
+use Rattle.nss_include.specs.declared.file.Source.{Source}
+use Rattle.nss_include.specs.declared.step.Span.{Span}
+use Rattle.nss_include.specs.Steps.{lexeme_in}
+
+-- the files of a unit, in order of first mention, and its tokens
+pub record Gathered : Type 0 where
+  pub files : List Source
+  pub tokens : List Lexeme
+
+abbrev pub bytes_of : Option Source → List ℕ
+bytes_of None = []
+bytes_of (Some file) = file.bytes
+
+-- the token of a span of one of these files
+abbrev pub lexeme_of : List Source → Span → Lexeme
+lexeme_of files span = lexeme_in (bytes_of (slice_get files span.file)) span
+
+-- the span lies in one of these files, and its bytes spell a token
+pub record IsSpan (files : List Source) (span : Span) : Type 0 where
+  pub file : span.file < length files
+  pub order : span.start ≤ span.end
+  pub within : span.end ≤ length (bytes_of (slice_get files span.file))
+  pub lexeme : IsLexeme span.kind (lexeme_of files span).text
+
+-- what every unit keeps: its files have the size of files, and its spans lie in them
+pub record IsSound (files : List Source) (spans : List Span) : Type 0 where
+  pub sizes : AllByRecursion (λ f. length f.bytes ≤ 16777216) files
+  pub few : length files ≤ 65536
+  pub inside : AllByRecursion (IsSpan files) spans

@@ -1,0 +1,8 @@
+use nwq_value::Items;
+
+/// A file of a unit, with its whole name.
+#[derive(Debug, Drop)]
+pub struct Source {
+    pub name: Items<u8>,
+    pub bytes: Items<u8>,
+}
