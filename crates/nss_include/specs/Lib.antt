@@ -2,3 +2,4 @@ pub mod Names
 pub mod Steps
 pub mod Units
 pub mod View
+pub mod Progress

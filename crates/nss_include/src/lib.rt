@@ -6,11 +6,11 @@
 #![tactic(auto)]
 
 pub mod fault;
-pub mod file;
-pub mod reading;
-pub mod step;
+mod file;
+mod opened;
+mod reading;
+mod step;
 pub mod unit;
 
 pub use fault::{GatherFault, Spot};
-
-
+pub use unit::Unit;

@@ -1,1 +1,152 @@
+ghost use Rattle.std.specs.Prelude.{◌≡◌, ◌<◌, ◌≤◌, [], ◌∷◌, ◌++◌, length, map, slice_get, OnOk, OnErr, IfOk, Some};
+ghost use Rattle.std.specs.List.{AllByRecursion};
+ghost use Rattle.std.specs.Option.{option_map};
+ghost use Rattle.nss_lexer.specs.Lexemes.{IsToken};
+ghost use Rattle.nss_lexer.specs.Splitting.{plain};
+ghost use Rattle.nss_include.specs.Names.{spot_in};
+ghost use Rattle.nss_include.specs.Units.{is_among, source};
+ghost use Rattle.nss_include.specs.View.{IsSpan, lexeme_of, bytes_of};
+
+use crate::fault::Spot;
+use crate::file::Source;
+use crate::step::Span;
+use nss_lexer::{SOURCE_BYTES, Token};
+use nwq_text::line_of;
+use nwq_value::{Items, NoMemory, Text};
 use std::alloc::Global;
+use std::marker::Model;
+
+/// The files of a script and its includes, and their tokens in a row.
+#[derive(Debug, Drop)]
+pub struct Unit {
+    files: Items<Source>,
+    spans: Items<Span>,
+}
+
+impl Model for Unit {
+    ghost use Rattle.std.specs.Prelude.{map};
+    ghost use Rattle.nss_include.specs.View.{Gathered, lexeme_of, IsSound};
+
+    ghost Value = { Gathered };
+
+    ghost view = { λ u. record { files = u.files; tokens = map (lexeme_of u.files) u.spans } };
+
+    ghost invariant = { λ u. IsSound u.files u.spans };
+}
+
+impl Unit {
+    /// The unit without files.
+    pub(crate) fn new(alloc: Global) -> Unit
+        ensures { result ≡ record { files = []; tokens = [] } }
+    {
+        Unit {
+            files: Items::new(alloc),
+            spans: Items::new(alloc),
+        }
+    }
+
+    /// The tokens of the unit.
+    pub fn tokens(&self, alloc: Global) -> Result<Vec<Token<'_>>, NoMemory>
+        ensures tokens { IfOk result (λ made. map plain made.items ≡ self.now.tokens) }
+        ensures spelled { IfOk result (λ made. AllByRecursion IsToken made.items) }
+    {
+        tokens_of(alloc, self.files.as_slice(), self.spans.as_slice())
+    }
+
+    /// The name of a file, with `.nss`. The script is file 0, and the others follow in order of first mention.
+    pub fn file_name(&self, file: u16) -> &[u8]
+        requires { file < length self.now.files }
+        ensures { option_map (λ f. f.name) (slice_get self.now.files file) ≡ Some result.now }
+    {
+        self.files.as_slice()[file as usize].name.as_slice()
+    }
+
+    /// The bytes of a file.
+    pub fn file_bytes(&self, file: u16) -> &[u8]
+        requires { file < length self.now.files }
+        ensures bytes { option_map (λ f. f.bytes) (slice_get self.now.files file) ≡ Some result.now }
+        ensures size { length result.now ≤ SOURCE_BYTES }
+    {
+        self.files.as_slice()[file as usize].bytes.as_slice()
+    }
+
+    /// How many files the unit has.
+    pub(crate) fn count(&self) -> usize
+        ensures count { result ≡ length self.now.files }
+        ensures few { result ≤ 65_536 }
+    {
+        self.files.len()
+    }
+
+    #[tactic(auto, unfolding(crate::specs::Units::is_among))]
+    /// Whether a file of this name is in the unit.
+    pub(crate) fn has(&self, name: &[u8]) -> bool
+        ensures { result ≡ is_among self.now.files name.now }
+    {
+        self.files.as_slice().iter().any(|file| file.name.as_slice() == name)
+    }
+
+    /// Puts a file last.
+    pub(crate) fn open(&mut self, name: Items<u8>, bytes: Items<u8>) -> Result<(), NoMemory>
+        requires size { length bytes ≤ SOURCE_BYTES }
+        requires few { length self.old.files < 65_536 }
+        ensures ok { OnOk result (self.new ≡ record { files = self.old.files ++ source name bytes ∷ []; tokens = self.old.tokens }) }
+        ensures err { OnErr result (self.new ≡ self.old) }
+    {
+        self.files.push(Source { name, bytes })?;
+        Ok(())
+    }
+
+    /// Puts a token last.
+    pub(crate) fn push(&mut self, span: Span) -> Result<(), NoMemory>
+        requires { IsSpan self.old.files span }
+        ensures ok { OnOk result (self.new ≡ record { files = self.old.files; tokens = self.old.tokens ++ lexeme_of self.old.files span ∷ [] }) }
+        ensures err { OnErr result (self.new ≡ self.old) }
+    {
+        self.spans.push(span)?;
+        Ok(())
+    }
+
+    /// A place of a file.
+    pub(crate) fn spot(&self, alloc: Global, file: u16, at: u32) -> Result<Spot, NoMemory>
+        requires file { file < length self.now.files }
+        requires place { at ≤ length (bytes_of (slice_get self.now.files file)) }
+        ensures { IfOk result (λ spot. option_map (λ f. spot_in f at) (slice_get self.now.files file) ≡ Some spot) }
+    {
+        let source = &self.files.as_slice()[file as usize];
+        Ok(Spot {
+            name: Text::of(alloc, source.name.as_slice())?,
+            line: line_of(source.bytes.as_slice(), at),
+            at,
+        })
+    }
+}
+
+/// The tokens of these spans of these files.
+fn tokens_of<'a>(alloc: Global, files: &'a [Source], spans: &[Span]) -> Result<Vec<Token<'a>>, NoMemory>
+    requires { AllByRecursion (IsSpan files.now) spans.now }
+    ensures tokens { IfOk result (λ made. map plain made.items ≡ map (lexeme_of files.now) spans.now) }
+    ensures spelled { IfOk result (λ made. AllByRecursion IsToken made.items) }
+{
+    let mut tokens = Vec::new(alloc);
+    for span in spans {
+        tokens.push(token_of(files, *span))?;
+    }
+    Ok(tokens)
+}
+
+/// The token of a span of one of these files.
+fn token_of<'a>(files: &'a [Source], span: Span) -> Token<'a>
+    requires { IsSpan files.now span }
+    ensures token { plain result ≡ lexeme_of files.now span }
+    ensures spelled { IsToken result }
+{
+    let bytes = files[span.file as usize].bytes.as_slice();
+    Token {
+        kind: span.kind,
+        text: &bytes[span.start as usize..span.end as usize],
+        file: span.file,
+        start: span.start,
+        end: span.end,
+    }
+}

@@ -1,0 +1,210 @@
+use Rattle.std.proofs.Common.{◌≡◌, ℕ, ◌+◌, ◌-◌, ◌<◌, ◌≤◌, Bool, true, false, nat_lt, nat_le, List, [], ◌∷◌, ◌++◌, length, Option, Some, None, refl, sym, ap, subst, ◌∙◌, arith, append_assoc, append-nil}
+use Rattle.std.proofs.lemmas.Bool.Decides.{nat_tests}
+use Rattle.std.proofs.lemmas.Option.{same_Some}
+use Rattle.std.specs.List.{slice_get}
+use Rattle.std.specs.Option.{option_map}
+use Rattle.nss_lexer.specs.Splitting.{Lexeme}
+use Rattle.nss_include.specs.declared.fault.GatherFault.{GatherFault}
+use Rattle.nss_include.specs.declared.fault.GatherFault.TheVariants.{Missing, Long, Bad, Tokens, Include}
+use Rattle.nss_include.specs.declared.fault.Spot.{Spot}
+use Rattle.nss_include.specs.declared.file.Source.{Source}
+use Rattle.nss_include.specs.declared.opened.Open.{Open}
+use Rattle.nss_include.specs.declared.reading.Reading.{Reading}
+use Rattle.nss_include.specs.declared.step.Span.{Span}
+use Rattle.nss_include.specs.declared.step.Step.{Step}
+use Rattle.nss_include.specs.declared.step.Step.TheVariants as step
+use Rattle.nss_include.specs.Names.{file_name, spot_in}
+use Rattle.nss_include.specs.Steps.{IsStep, lexeme_in}
+use Rattle.nss_include.specs.Units.{Contents, Unfolds, step_fault, is_among, source, ends, fails, gives, again, breaks_off, includes}
+use Rattle.nss_include.specs.View.{lexeme_of, bytes_of}
+use Rattle.nss_include.specs.Progress.{Rest, closed, stops, goes, Ends, Leads, Stops, HasStep, reopened}
+
+-- an open file at a place
+abbrev pub file_at : ℕ → ℕ → Open
+file_at file at = record { file = file; at = at }
+
+pub rest-ends : (contents : Contents) (number at : ℕ) (stack : List Open) (files : List Source) (count : ℕ) (file : Source)
+    (tokens : List Lexeme) (last : List Source) (total : ℕ) (ending : Option GatherFault)
+    → slice_get files number ≡ Some file → IsStep file.bytes number at step.Ends
+    → Rest contents stack files count tokens last total ending
+    → Rest contents (file_at number at ∷ stack) files count tokens last total ending
+rest-ends contents number at stack files count file tokens last total ending is here rest =
+    goes (file_at number at) stack files count [] files count tokens last total ending (ends number at files count file is here) rest
+
+pub rest-fails : (contents : Contents) (number at : ℕ) (stack : List Open) (files : List Source) (count : ℕ) (file : Source) (s : Step)
+    (fault : GatherFault) → slice_get files number ≡ Some file → IsStep file.bytes number at s → step_fault contents files count file s ≡ Some fault
+    → Rest contents (file_at number at ∷ stack) files count [] files count (Some fault)
+rest-fails contents number at stack files count file s fault is here failing =
+    stops (file_at number at) stack files count [] files count fault (fails number at files count file s fault is here failing)
+
+pub rest-gives : (contents : Contents) (number at : ℕ) (stack : List Open) (files : List Source) (count : ℕ) (file : Source) (span : Span)
+    (tokens : List Lexeme) (last : List Source) (total : ℕ) (ending : Option GatherFault)
+    → slice_get files number ≡ Some file → IsStep file.bytes number at (step.Gives span) → step_fault contents files count file (step.Gives span) ≡ None
+    → Rest contents (file_at number span.end ∷ stack) files (count + 1) tokens last total ending
+    → Rest contents (file_at number at ∷ stack) files count (lexeme_in file.bytes span ∷ tokens) last total ending
+rest-gives contents number at stack files count file span tokens last total ending is here fine (stops h o f c ts l t fault unfolds) =
+    stops (file_at number at) stack files count (lexeme_in file.bytes span ∷ tokens) last total fault
+        (gives number at files count file span tokens last total (Some fault) is here fine unfolds)
+rest-gives contents number at stack files count file span tokens last total ending is here fine (goes h o f c inner between counted ts l t e unfolds rest) =
+    goes (file_at number at) stack files count (lexeme_in file.bytes span ∷ inner) between counted ts last total ending
+        (gives number at files count file span inner between counted None is here fine unfolds) rest
+
+pub rest-again : (contents : Contents) (number at : ℕ) (stack : List Open) (files : List Source) (count : ℕ) (file : Source) (hash : ℕ)
+    (name : List ℕ) (after : ℕ) (tokens : List Lexeme) (last : List Source) (total : ℕ) (ending : Option GatherFault)
+    → slice_get files number ≡ Some file → IsStep file.bytes number at (step.Mentions hash name after)
+    → step_fault contents files count file (step.Mentions hash name after) ≡ None → is_among files (file_name name) ≡ true
+    → Rest contents (file_at number after ∷ stack) files (count + 3) tokens last total ending
+    → Rest contents (file_at number at ∷ stack) files count tokens last total ending
+rest-again contents number at stack files count file hash name after tokens last total ending is here fine known (stops h o f c ts l t fault unfolds) =
+    stops (file_at number at) stack files count tokens last total fault
+        (again number at files count file hash name after tokens last total (Some fault) is here fine known unfolds)
+rest-again contents number at stack files count file hash name after tokens last total ending is here fine known
+    (goes h o f c inner between counted ts l t e unfolds rest) =
+    goes (file_at number at) stack files count inner between counted ts last total ending
+        (again number at files count file hash name after inner between counted None is here fine known unfolds) rest
+
+-- behind an included file its includer goes on
+rest-behind : (contents : Contents) (number at : ℕ) (stack : List Open) (files : List Source) (count : ℕ) (file : Source) (hash : ℕ)
+    (name : List ℕ) (after : ℕ) (bytes : List ℕ) (inner : List Lexeme) (between : List Source) (counted : ℕ)
+    (tokens : List Lexeme) (last : List Source) (total : ℕ) (ending : Option GatherFault)
+    → slice_get files number ≡ Some file → IsStep file.bytes number at (step.Mentions hash name after)
+    → step_fault contents files count file (step.Mentions hash name after) ≡ None → is_among files (file_name name) ≡ false
+    → contents (file_name name) ≡ Some bytes
+    → Unfolds contents (length files) 0 (files ++ source (file_name name) bytes ∷ []) (count + 3) inner between counted None
+    → Rest contents (file_at number after ∷ stack) between counted tokens last total ending
+    → Rest contents (file_at number at ∷ stack) files count (inner ++ tokens) last total ending
+rest-behind contents number at stack files count file hash name after bytes inner between counted tokens last total ending is here fine new read unfolds
+    (stops h o f c ts l t fault behind) =
+    stops (file_at number at) stack files count (inner ++ tokens) last total fault
+        (includes number at files count file hash name after bytes inner between counted tokens last total (Some fault) is here fine new read unfolds behind)
+rest-behind contents number at stack files count file hash name after bytes inner between counted tokens last total ending is here fine new read unfolds
+    (goes h o f c more between2 counted2 ts l t e behind rest) =
+    subst (λ tokens. Rest contents (file_at number at ∷ stack) files count tokens last total ending) (append_assoc inner more ts)
+        (goes (file_at number at) stack files count (inner ++ more) between2 counted2 ts last total ending
+            (includes number at files count file hash name after bytes inner between counted more between2 counted2 None is here fine new read unfolds behind) rest)
+
+pub rest-includes : (contents : Contents) (number at : ℕ) (stack : List Open) (files : List Source) (count : ℕ) (file : Source) (hash : ℕ)
+    (name : List ℕ) (after : ℕ) (bytes : List ℕ) (tokens : List Lexeme) (last : List Source) (total : ℕ) (ending : Option GatherFault)
+    → slice_get files number ≡ Some file → IsStep file.bytes number at (step.Mentions hash name after)
+    → step_fault contents files count file (step.Mentions hash name after) ≡ None → is_among files (file_name name) ≡ false
+    → contents (file_name name) ≡ Some bytes
+    → Rest contents (file_at (length files) 0 ∷ file_at number after ∷ stack) (files ++ source (file_name name) bytes ∷ []) (count + 3)
+        tokens last total ending
+    → Rest contents (file_at number at ∷ stack) files count tokens last total ending
+rest-includes contents number at stack files count file hash name after bytes tokens last total ending is here fine new read (stops h o f c ts l t fault unfolds) =
+    stops (file_at number at) stack files count tokens last total fault
+        (breaks_off number at files count file hash name after bytes tokens last total fault is here fine new read unfolds)
+rest-includes contents number at stack files count file hash name after bytes tokens last total ending is here fine new read
+    (goes h o f c inner between counted ts l t e unfolds rest) =
+    rest-behind contents number at stack files count file hash name after bytes inner between counted ts last total ending is here fine new read unfolds rest
+
+-- a stack, files and a count under other names
+rest_at : (contents : Contents) (stack stack' : List Open) (files files' : List Source) (count count' : ℕ) (tokens : List Lexeme)
+    (last : List Source) (total : ℕ) (ending : Option GatherFault) → stack ≡ stack' → files ≡ files' → count ≡ count'
+    → Rest contents stack files count tokens last total ending → Rest contents stack' files' count' tokens last total ending
+rest_at contents stack stack' files files' count count' tokens last total ending hs hf hc rest =
+    subst (λ s. Rest contents s files' count' tokens last total ending) hs
+    (subst (λ f. Rest contents stack f count' tokens last total ending) hf
+    (subst (λ n. Rest contents stack files n tokens last total ending) hc rest))
+
+-- ---- readings
+
+spot_is : (files : List Source) (i at : ℕ) (file : Source) (spot : Spot) → slice_get files i ≡ Some file
+    → option_map (λ f. spot_in f at) (slice_get files i) ≡ Some spot → spot_in file at ≡ spot
+spot_is files i at file spot is h = same_Some (spot_in file at) spot (ap (option_map (λ f. spot_in f at)) (sym is) ∙ h)
+
+-- a reading stops with what a step fails with
+pub stops-fault : (contents : Contents) (r : Reading) (here : Open) (s : Step) (h : HasStep r here s) (fault : GatherFault)
+    → step_fault contents r.unit.files r.count h.file s ≡ Some fault → Stops contents (reopened here r) fault
+stops-fault contents r here s h fault failing = record {
+  left = [];
+  parts = sym (append-nil r.unit.tokens);
+  rest = rest-fails contents here.file here.at r.stack r.unit.files r.count h.file s fault h.is h.step failing;
+}
+
+pub stops-breaks : (r : Reading) (here : Open) (place : ℕ) (h : HasStep r here (step.Breaks place)) (spot : Spot)
+    → option_map (λ f. spot_in f place) (slice_get r.unit.files here.file) ≡ Some spot → (contents : Contents) → Stops contents (reopened here r) (Bad spot)
+stops-breaks r here place h spot is contents =
+    stops-fault contents r here (step.Breaks place) h (Bad spot) (ap (λ s. Some (Bad s)) (spot_is r.unit.files here.file place h.file spot h.is is))
+
+pub stops-misses : (r : Reading) (here : Open) (place : ℕ) (h : HasStep r here (step.Misses place)) (spot : Spot)
+    → option_map (λ f. spot_in f place) (slice_get r.unit.files here.file) ≡ Some spot → (contents : Contents) → Stops contents (reopened here r) (Include spot)
+stops-misses r here place h spot is contents =
+    stops-fault contents r here (step.Misses place) h (Include spot) (ap (λ s. Some (Include s)) (spot_is r.unit.files here.file place h.file spot h.is is))
+
+pub stops-gives : (r : Reading) (here : Open) (span : Span) (h : HasStep r here (step.Gives span)) (spot : Spot) → r.count ≡ 100000
+    → option_map (λ f. spot_in f span.start) (slice_get r.unit.files here.file) ≡ Some spot → (contents : Contents) → Stops contents (reopened here r) (Tokens spot)
+stops-gives r here span h spot full is contents =
+    let over : nat_lt r.count 100000 ≡ false = grind (arith, nat_tests)
+    in stops-fault contents r here (step.Gives span) h (Tokens spot)
+        (rw over (ap (λ s. Some (Tokens s)) (spot_is r.unit.files here.file span.start h.file spot h.is is)))
+
+pub stops-mentions : (r : Reading) (here : Open) (hash : ℕ) (name : List ℕ) (after : ℕ) (h : HasStep r here (step.Mentions hash name after)) (spot : Spot)
+    → 100000 < r.count + 3 → option_map (λ f. spot_in f hash) (slice_get r.unit.files here.file) ≡ Some spot
+    → (contents : Contents) → Stops contents (reopened here r) (Tokens spot)
+stops-mentions r here hash name after h spot full is contents =
+    let over : nat_lt 100000 (r.count + 3) ≡ true = grind (arith, nat_tests)
+    in stops-fault contents r here (step.Mentions hash name after) h (Tokens spot)
+        (rw over (ap (λ s. Some (Tokens s)) (spot_is r.unit.files here.file hash h.file spot h.is is)))
+
+-- a token leads on
+pub leads-gives : (old new : Reading) (here : Open) (span : Span) (h : HasStep old here (step.Gives span)) → old.count < 100000
+    → new.unit ≡ record { files = old.unit.files; tokens = old.unit.tokens ++ lexeme_of old.unit.files span ∷ [] }
+    → new.stack ≡ file_at here.file span.end ∷ old.stack → new.count ≡ old.count + 1 → (contents : Contents) → Leads contents (reopened here old) new
+leads-gives old new here span h room unit stack count contents tokens last total ending e =
+    let below : nat_lt old.count 100000 ≡ true = grind (arith, nat_tests)
+    in let fine : step_fault contents old.unit.files old.count h.file (step.Gives span) ≡ None = rw below refl
+    in let token : lexeme_of old.unit.files span ≡ lexeme_in h.file.bytes span
+        = ap (λ i. lexeme_in (bytes_of (slice_get old.unit.files i)) span) h.within.0 ∙ ap (λ o. lexeme_in (bytes_of o) span) h.is
+    in record {
+      left = lexeme_in h.file.bytes span ∷ e.left;
+      parts = e.parts ∙ ap (λ u. u.tokens ++ e.left) unit ∙ append_assoc old.unit.tokens (lexeme_of old.unit.files span ∷ []) e.left
+        ∙ ap (λ t. old.unit.tokens ++ t ∷ e.left) token;
+      rest = rest-gives contents here.file here.at old.stack old.unit.files old.count h.file span e.left last total ending h.is h.step fine
+        (rest_at contents new.stack (file_at here.file span.end ∷ old.stack) new.unit.files old.unit.files new.count (old.count + 1) e.left last total ending
+            stack (ap (λ u. u.files) unit) count e.rest);
+    }
+
+-- so does the end of a file
+pub leads-ends : (old : Reading) (here : Open) (h : HasStep old here step.Ends) → (contents : Contents) → Leads contents (reopened here old) old
+leads-ends old here h contents tokens last total ending e = record {
+  left = e.left;
+  parts = e.parts;
+  rest = rest-ends contents here.file here.at old.stack old.unit.files old.count h.file e.left last total ending h.is h.step e.rest;
+}
+
+-- and an include of a file that is in the unit
+pub leads-again : (old new : Reading) (here : Open) (hash : ℕ) (name : List ℕ) (after : ℕ) (h : HasStep old here (step.Mentions hash name after))
+    → old.count + 3 ≤ 100000 → is_among old.unit.files (file_name name) ≡ true
+    → new.unit ≡ old.unit → new.stack ≡ file_at here.file after ∷ old.stack → new.count ≡ old.count + 3
+    → (contents : Contents) → Leads contents (reopened here old) new
+leads-again old new here hash name after h room known unit stack count contents tokens last total ending e =
+    let below : nat_lt 100000 (old.count + 3) ≡ false = grind (arith, nat_tests)
+    in let fine : step_fault contents old.unit.files old.count h.file (step.Mentions hash name after) ≡ None = rw (below, known) refl
+    in record {
+      left = e.left;
+      parts = e.parts ∙ ap (λ u. u.tokens ++ e.left) unit;
+      rest = rest-again contents here.file here.at old.stack old.unit.files old.count h.file hash name after e.left last total ending h.is h.step fine known
+        (rest_at contents new.stack (file_at here.file after ∷ old.stack) new.unit.files old.unit.files new.count (old.count + 3) e.left last total ending
+            stack (ap (λ u. u.files) unit) count e.rest);
+    }
+
+-- and an include of another
+pub leads-includes : (old new : Reading) (here : Open) (hash : ℕ) (name : List ℕ) (after : ℕ) (h : HasStep old here (step.Mentions hash name after))
+    (bytes : List ℕ) → old.count + 3 ≤ 100000 → is_among old.unit.files (file_name name) ≡ false → length bytes ≤ 16777216
+    → new.unit ≡ record { files = old.unit.files ++ source (file_name name) bytes ∷ []; tokens = old.unit.tokens }
+    → new.stack ≡ file_at (length old.unit.files) 0 ∷ file_at here.file after ∷ old.stack → new.count ≡ old.count + 3
+    → (contents : Contents) → contents (file_name name) ≡ Some bytes → Leads contents (reopened here old) new
+leads-includes old new here hash name after h bytes room new_file size unit stack count contents read tokens last total ending e =
+    let below : nat_lt 100000 (old.count + 3) ≡ false = grind (arith, nat_tests)
+    in let fits : nat_le (length bytes) 16777216 ≡ true = grind (arith, nat_tests)
+    in let fine : step_fault contents old.unit.files old.count h.file (step.Mentions hash name after) ≡ None = rw (below, new_file, read, fits) refl
+    in record {
+      left = e.left;
+      parts = e.parts ∙ ap (λ u. u.tokens ++ e.left) unit;
+      rest = rest-includes contents here.file here.at old.stack old.unit.files old.count h.file hash name after bytes e.left last total ending
+        h.is h.step fine new_file read
+        (rest_at contents new.stack (file_at (length old.unit.files) 0 ∷ file_at here.file after ∷ old.stack) new.unit.files
+            (old.unit.files ++ source (file_name name) bytes ∷ []) new.count (old.count + 3) e.left last total ending
+            stack (ap (λ u. u.files) unit) count e.rest);
+    }

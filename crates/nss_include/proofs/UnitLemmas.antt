@@ -1,0 +1,74 @@
+use Rattle.std.proofs.Common.{◌≡◌, ℕ, ◌+◌, ◌-◌, ◌<◌, ◌≤◌, suc, zero, List, [], ◌∷◌, ◌++◌, length, get_or, take, drop, map, Option, Some, None, refl, sym, ap, subst, ◌∙◌, arith, length-append}
+use Rattle.std.proofs.lemmas.List.{take_more, map-append}
+use Rattle.std.specs.List.{AllByRecursion, slice_get}
+use Rattle.nss_lexer.specs.declared.token.Token.{Token}
+use Rattle.nss_lexer.specs.Lexemes.{IsToken, IsLexeme}
+use Rattle.nss_lexer.specs.Splitting.{Lexeme, plain}
+use Rattle.nss_include.specs.declared.file.Source.{Source}
+use Rattle.nss_include.specs.declared.step.Span.{Span}
+use Rattle.nss_include.specs.Steps.{lexeme_in}
+use Rattle.nss_include.specs.View.{IsSpan, IsSound, lexeme_of, bytes_of}
+
+-- what a list has at a place stays where the list grows
+pub slice_get-append : {A : Type 0} (xs ys : List A) (i : ℕ) → i < length xs → slice_get (xs ++ ys) i ≡ slice_get xs i
+slice_get-append [] ys i h = absurd (omega arith)
+slice_get-append (x ∷ xs) ys zero h = refl
+slice_get-append (x ∷ xs) ys (suc i) h = let below : i < length xs = omega arith in slice_get-append xs ys i below
+
+pub all_push : {A : Type 0} (P : A → Type 0) (xs : List A) (y : A) → AllByRecursion P xs → P y → AllByRecursion P (xs ++ y ∷ [])
+all_push P [] y h hy = (hy, tt)
+all_push P (x ∷ xs) y h hy = (h.0, all_push P xs y h.1 hy)
+
+pub all_map : {A : Type 0} (P Q : A → Type 0) (xs : List A) → ((x : A) → P x → Q x) → AllByRecursion P xs → AllByRecursion Q xs
+all_map P Q [] f h = tt
+all_map P Q (x ∷ xs) f h = (f x h.0, all_map P Q xs f h.1)
+
+-- what holds of each element holds of the one at a place
+pub all_at : {A : Type 0} (P : A → Type 0) (xs : List A) (i : ℕ) (d : A) → AllByRecursion P xs → i < length xs → P (get_or xs i d)
+all_at P [] i d h below = absurd (omega arith)
+all_at P (x ∷ xs) zero d h below = h.0
+all_at P (x ∷ xs) (suc i) d h below = let rest : i < length xs = omega arith in all_at P xs i d h.1 rest
+
+pub bytes_stay : (files more : List Source) (i : ℕ) → i < length files → bytes_of (slice_get (files ++ more) i) ≡ bytes_of (slice_get files i)
+bytes_stay files more i h = ap bytes_of (slice_get-append files more i h)
+
+pub lexeme_stays : (files more : List Source) (span : Span) → span.file < length files → lexeme_of (files ++ more) span ≡ lexeme_of files span
+lexeme_stays files more span h = ap (λ bytes. lexeme_in bytes span) (bytes_stay files more span.file h)
+
+pub span_stays : (files more : List Source) (span : Span) → IsSpan files span → IsSpan (files ++ more) span
+span_stays files more span h =
+    let same = sym (bytes_stay files more span.file h.file)
+    in record {
+      file = omega (arith, h.file, length-append files more);
+      order = h.order;
+      within = subst (λ bytes. span.end ≤ length bytes) same h.within;
+      lexeme = subst (λ bytes. IsLexeme span.kind (lexeme_in bytes span).text) same h.lexeme;
+    }
+
+pub lexemes_stay : (files more : List Source) (spans : List Span) → AllByRecursion (IsSpan files) spans
+    → map (lexeme_of (files ++ more)) spans ≡ map (lexeme_of files) spans
+lexemes_stay files more [] h = refl
+lexemes_stay files more (span ∷ spans) h =
+    ap (λ t. t ∷ map (lexeme_of (files ++ more)) spans) (lexeme_stays files more span h.0.file)
+    ∙ ap (λ ts. lexeme_of files span ∷ ts) (lexemes_stay files more spans h.1)
+
+-- one more file keeps a unit sound
+pub sound_more : (files : List Source) (spans : List Span) (file : Source) → IsSound files spans → length file.bytes ≤ 16777216 → length files < 65536
+    → IsSound (files ++ file ∷ []) spans
+sound_more files spans file sound size few = record {
+  sizes = all_push (λ f. length f.bytes ≤ 16777216) files file sound.sizes size;
+  few = omega (arith, few, length-append files (file ∷ []));
+  inside = all_map (IsSpan files) (IsSpan (files ++ file ∷ [])) spans (span_stays files (file ∷ [])) sound.inside;
+}
+
+-- so does one more span
+pub sound_push : (files : List Source) (spans : List Span) (span : Span) → IsSound files spans → IsSpan files span → IsSound files (spans ++ span ∷ [])
+sound_push files spans span sound h = record { sizes = sound.sizes; few = sound.few; inside = all_push (IsSpan files) spans span sound.inside h }
+
+-- the tokens of one more span
+pub tokens_more : (files : List Source) (spans : List Span) (made : List Token) (i : ℕ) (d : Span) (t : Token) → i < length spans
+    → map plain made ≡ map (lexeme_of files) (take i spans) → plain t ≡ lexeme_of files (get_or spans i d)
+    → map plain (made ++ t ∷ []) ≡ map (lexeme_of files) (take (i + 1) spans)
+tokens_more files spans made i d t h so is =
+    map-append plain made (t ∷ []) ∙ ap (λ ts. ts ++ plain t ∷ []) so ∙ ap (λ x. map (lexeme_of files) (take i spans) ++ x ∷ []) is
+    ∙ sym (map-append (lexeme_of files) (take i spans) (get_or spans i d ∷ [])) ∙ ap (map (lexeme_of files)) (sym (take_more spans i d h))

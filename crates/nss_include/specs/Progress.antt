@@ -1,0 +1,128 @@
+-- A unit while it is read: the files that are open, the innermost first, and what is left to come of them.
+use Rattle.std.specs.Prelude.{◌≡◌, ℕ, ◌+◌, ◌-◌, ◌*◌, ◌<◌, ◌≤◌, List, [], ◌∷◌, ◌++◌, length, slice_get, take, Option, Some, None}
+use Rattle.std.specs.List.{AllByRecursion}
+use Rattle.nwq_outside.specs.Outside.{Rose}
+use Rattle.nss_lexer.specs.Splitting.{Lexeme}
+use Rattle.nss_include.specs.declared.fault.GatherFault.{GatherFault}
+use Rattle.nss_include.specs.declared.fault.GatherFault.TheVariants.{Missing, Fault, Long, Bad, Tokens, Include, NoMemory}
+use Rattle.nss_include.specs.declared.file.Source.{Source}
+use Rattle.nss_include.specs.declared.opened.Open.{Open}
+use Rattle.nss_include.specs.declared.reading.Reading.{Reading}
+use Rattle.nss_include.specs.declared.step.Step.{Step}
+use Rattle.nss_include.specs.Steps.{IsStep, IsWithin}
+use Rattle.nss_include.specs.Units.{Contents, Unfolds, source}
+use Rattle.nss_include.specs.View.{Gathered, bytes_of}
+
+-- what is left to come of open files: up to the end of all, or up to a fault
+pub data Rest (contents : Contents) : List Open → List Source → ℕ → List Lexeme → List Source → ℕ → Option GatherFault → Type 0 where
+  closed : (files : List Source) (count : ℕ) → Rest contents [] files count [] files count None
+  stops : (here : Open) (stack : List Open) (files : List Source) (count : ℕ) (tokens : List Lexeme) (last : List Source) (total : ℕ)
+      (fault : GatherFault) → Unfolds contents here.file here.at files count tokens last total (Some fault)
+      → Rest contents (here ∷ stack) files count tokens last total (Some fault)
+  goes : (here : Open) (stack : List Open) (files : List Source) (count : ℕ) (inner : List Lexeme) (between : List Source) (counted : ℕ)
+      (tokens : List Lexeme) (last : List Source) (total : ℕ) (ending : Option GatherFault)
+      → Unfolds contents here.file here.at files count inner between counted None
+      → Rest contents stack between counted tokens last total ending
+      → Rest contents (here ∷ stack) files count (inner ++ tokens) last total ending
+
+-- a reading ends with these tokens, its own among them, and with these files and this count
+pub record Ends (contents : Contents) (r : Reading) (tokens : List Lexeme) (last : List Source) (total : ℕ) (ending : Option GatherFault) : Type 0 where
+  pub left : List Lexeme
+  pub parts : tokens ≡ r.unit.tokens ++ left
+  pub rest : Rest contents r.stack r.unit.files r.count left last total ending
+
+-- whatever a later reading ends with, the earlier one ends with
+abbrev pub Leads : Contents → Reading → Reading → Type 0
+Leads contents old new =
+    (tokens : List Lexeme) (last : List Source) (total : ℕ) (ending : Option GatherFault) → Ends contents new tokens last total ending
+    → Ends contents old tokens last total ending
+
+-- each file of the unit has what is under its name
+abbrev pub HoldsFiles : Contents → List Source → Type 0
+HoldsFiles contents files = AllByRecursion (λ f. contents f.name ≡ Some f.bytes) files
+
+-- where a fault comes of what is under a name, that is so
+abbrev pub Explains : Contents → GatherFault → Type 0
+Explains contents (Missing name) = contents name ≡ None
+Explains contents (Long name) = (bytes : List ℕ) × (contents name ≡ Some bytes) × (16777216 < length bytes)
+Explains contents Fault = Unit {0}
+Explains contents (Bad spot) = Unit {0}
+Explains contents (Tokens spot) = Unit {0}
+Explains contents (Include spot) = Unit {0}
+Explains contents NoMemory = Unit {0}
+
+-- a claim on a fault that is neither want of memory nor a failure of the outside
+abbrev pub Claims : GatherFault → Type 0 → Type 0
+Claims (Missing name) P = P
+Claims (Long name) P = P
+Claims Fault P = Unit {0}
+Claims (Bad spot) P = P
+Claims (Tokens spot) P = P
+Claims (Include spot) P = P
+Claims NoMemory P = Unit {0}
+
+-- A fault of the outside comes only where its count rose: absences, faults or longs, each before and now.
+abbrev pub IsCaused : GatherFault → ℕ → ℕ → ℕ → ℕ → ℕ → ℕ → Type 0
+IsCaused (Missing name) absences absences' faults faults' longs longs' = Rose absences absences'
+IsCaused (Long name) absences absences' faults faults' longs longs' = Rose longs longs'
+IsCaused Fault absences absences' faults faults' longs longs' = Rose faults faults'
+IsCaused (Bad spot) absences absences' faults faults' longs longs' = Unit {0}
+IsCaused (Tokens spot) absences absences' faults faults' longs longs' = Unit {0}
+IsCaused (Include spot) absences absences' faults faults' longs longs' = Unit {0}
+IsCaused NoMemory absences absences' faults faults' longs longs' = Unit {0}
+
+-- an open file is one of these, and goes on inside it
+pub record IsOpen (files : List Source) (here : Open) : Type 0 where
+  pub file : here.file < length files
+  pub place : here.at ≤ length (bytes_of (slice_get files here.file))
+
+-- the open files are of the unit, and each file but the script was paid for by a directive
+pub record IsReady (r : Reading) : Type 0 where
+  pub places : AllByRecursion (IsOpen r.unit.files) r.stack
+  pub few : r.count ≤ 100000
+  pub paid : 3 * length r.unit.files ≤ r.count + 3
+
+-- a reading with one more file open
+abbrev pub reopened : Open → Reading → Reading
+reopened here r = record r { stack = here ∷ r.stack }
+
+-- what falls with each step of a reading
+abbrev pub steps_left : Reading → ℕ
+steps_left r = 2 * (100000 - r.count) + length r.stack
+
+-- the unit's file in which one goes on here goes on so, within its bounds
+pub record HasStep (r : Reading) (here : Open) (s : Step) : Type 0 where
+  pub file : Source
+  pub is : slice_get r.unit.files here.file ≡ Some file
+  pub step : IsStep file.bytes here.file here.at s
+  pub within : IsWithin file.bytes here.file s
+
+-- a reading ends with this fault and what it has so far
+abbrev pub Stops : Contents → Reading → GatherFault → Type 0
+Stops contents r fault = Ends contents r r.unit.tokens r.unit.files r.count (Some fault)
+
+-- the unit has one more file, of this name and of no more bytes than a file has
+pub record Opens (old new : Gathered) (name : List ℕ) : Type 0 where
+  pub bytes : List ℕ
+  pub size : length bytes ≤ 16777216
+  pub is : new ≡ record { files = old.files ++ source name bytes ∷ []; tokens = old.tokens }
+
+-- a fault of reading this name
+abbrev pub IsReadFault : List ℕ → GatherFault → Type 0
+IsReadFault name (Missing given) = given ≡ take 8192 name
+IsReadFault name (Long given) = given ≡ take 8192 name
+IsReadFault name Fault = Unit {0}
+IsReadFault name (Bad spot) = ⊥
+IsReadFault name (Tokens spot) = ⊥
+IsReadFault name (Include spot) = ⊥
+IsReadFault name NoMemory = Unit {0}
+
+-- where a fault of reading this name comes of what is under it, that is so
+abbrev pub ExplainsRead : Contents → List ℕ → GatherFault → Type 0
+ExplainsRead contents name (Missing given) = contents name ≡ None
+ExplainsRead contents name (Long given) = (bytes : List ℕ) × (contents name ≡ Some bytes) × (16777216 < length bytes)
+ExplainsRead contents name Fault = Unit {0}
+ExplainsRead contents name (Bad spot) = Unit {0}
+ExplainsRead contents name (Tokens spot) = Unit {0}
+ExplainsRead contents name (Include spot) = Unit {0}
+ExplainsRead contents name NoMemory = Unit {0}
