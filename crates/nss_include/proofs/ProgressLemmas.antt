@@ -1,11 +1,16 @@
-use Rattle.std.proofs.Common.{◌≡◌, ℕ, ◌+◌, ◌-◌, ◌<◌, ◌≤◌, Bool, true, false, nat_lt, nat_le, List, [], ◌∷◌, ◌++◌, length, Option, Some, None, refl, sym, ap, subst, ◌∙◌, arith, append_assoc, append-nil}
+use Rattle.std.proofs.Common.{◌≡◌, ℕ, ◌+◌, ◌-◌, ◌<◌, ◌≤◌, Bool, true, false, nat_lt, nat_le, List, [], ◌∷◌, ◌++◌, length, Option, Some, None, IsSomeAnd, take, refl, sym, ap, subst, ◌∙◌, arith, append_assoc, append-nil, length-append, lit<, zero, suc, get_or, map, ◌&&◌, codes}
 use Rattle.std.proofs.lemmas.Bool.Decides.{nat_tests}
 use Rattle.std.proofs.lemmas.Option.{same_Some}
-use Rattle.std.specs.List.{slice_get}
+use Rattle.std.proofs.lemmas.List.{take_all, length-map}
+use Rattle.std.specs.Char.{to_ascii_lowercase}
+use Rattle.std.proofs.lemmas.Str.{IsUtf8-from_ascii}
+use Rattle.std.specs.List.{slice_get, list_all, AllByRecursion}
+use Rattle.std.specs.Str.{IsUtf8}
+use Rattle.nss_lexer.specs.Bytes.{is_name_byte}
 use Rattle.std.specs.Option.{option_map}
 use Rattle.nss_lexer.specs.Splitting.{Lexeme}
 use Rattle.nss_include.specs.declared.fault.GatherFault.{GatherFault}
-use Rattle.nss_include.specs.declared.fault.GatherFault.TheVariants.{Missing, Long, Bad, Tokens, Include}
+use Rattle.nss_include.specs.declared.fault.GatherFault.TheVariants.{Missing, Fault, Long, Bad, Tokens, Include, NoMemory}
 use Rattle.nss_include.specs.declared.fault.Spot.{Spot}
 use Rattle.nss_include.specs.declared.file.Source.{Source}
 use Rattle.nss_include.specs.declared.opened.Open.{Open}
@@ -13,11 +18,12 @@ use Rattle.nss_include.specs.declared.reading.Reading.{Reading}
 use Rattle.nss_include.specs.declared.step.Span.{Span}
 use Rattle.nss_include.specs.declared.step.Step.{Step}
 use Rattle.nss_include.specs.declared.step.Step.TheVariants as step
-use Rattle.nss_include.specs.Names.{file_name, spot_in}
+use Rattle.nss_include.specs.Names.{file_name, is_include_name, spot_in}
 use Rattle.nss_include.specs.Steps.{IsStep, lexeme_in}
-use Rattle.nss_include.specs.Units.{Contents, Unfolds, step_fault, is_among, source, ends, fails, gives, again, breaks_off, includes}
+use Rattle.nss_include.specs.Units.{Contents, Unfolds, step_fault, reading_fault, is_among, source, ends, fails, gives, again, breaks_off, includes}
 use Rattle.nss_include.specs.View.{lexeme_of, bytes_of}
-use Rattle.nss_include.specs.Progress.{Rest, closed, stops, goes, Ends, Leads, Stops, HasStep, reopened}
+use Rattle.nss_include.proofs.UnitLemmas.{bytes_stay, all_map}
+use Rattle.nss_include.specs.Progress.{Rest, closed, stops, goes, Ends, Leads, Stops, HasStep, HoldsFiles, Explains, ExplainsRead, Claims, IsReadFault, Includes, IsOpen, IsReady, reopened}
 
 -- an open file at a place
 abbrev pub file_at : ℕ → ℕ → Open
@@ -208,3 +214,127 @@ leads-includes old new here hash name after h bytes room new_file size unit stac
             (old.unit.files ++ source (file_name name) bytes ∷ []) new.count (old.count + 3) e.left last total ending
             stack (ap (λ u. u.files) unit) count e.rest);
     }
+
+-- ---- includes
+
+both : (a b : Bool) → (a && b) ≡ true → (a ≡ true) × (b ≡ true)
+both true b h = (refl, h)
+both false b h = absurd cc
+
+list_all-short : (p : ℕ → Bool) (xs : List ℕ) (n : ℕ) → ((x : ℕ) → p x ≡ true → x < n) → list_all p xs ≡ true → AllByRecursion (λ x. x < n) xs
+list_all-short p [] n f h = tt
+list_all-short p (x ∷ xs) n f h = let parts = both (p x) (list_all p xs) h in (f x parts.0, list_all-short p xs n f parts.1)
+
+small_at : (n : ℕ) (xs : List ℕ) → 0 < n → AllByRecursion (λ x. x < n) xs → (i : ℕ) → get_or xs i 0 < n
+small_at n [] h all i = h
+small_at n (x ∷ xs) h all zero = all.0
+small_at n (x ∷ xs) h all (suc i) = small_at n xs h all.1 i
+
+name_small : (b : ℕ) → is_name_byte b ≡ true → b < 128
+name_small b h = grind (arith, nat_tests)
+
+pub IsUtf8-name : (name : List ℕ) → is_include_name name ≡ true → IsUtf8 name
+unfolding is_include_name
+IsUtf8-name name h =
+    let letters = both (nat_lt 0 (length name) && nat_le (length name) 16) (list_all is_name_byte name) h
+    in IsUtf8-from_ascii name (small_at 128 name (lit< tt) (list_all-short is_name_byte name 128 name_small letters.1))
+
+-- the name of an include's file is no longer than a text
+length-file_name : (name : List ℕ) → is_include_name name ≡ true → length (file_name name) ≤ 8192
+unfolding is_include_name file_name
+length-file_name name h =
+    let parts = both (nat_lt 0 (length name) && nat_le (length name) 16) (list_all is_name_byte name) h
+    in let short = both (nat_lt 0 (length name)) (nat_le (length name) 16) parts.0
+    in let few : length name ≤ 16 = grind (arith, nat_tests, short.1)
+    in omega (arith, few, length-append (map to_ascii_lowercase name) (codes ".nss"), length-map name to_ascii_lowercase)
+
+uncut : (given name : List ℕ) → given ≡ file_name name → is_include_name name ≡ true → take 8192 given ≡ file_name name
+uncut given name is h = ap (take 8192) is ∙ take_all 8192 (file_name name) (length-file_name name h)
+
+long_fault : (name : List ℕ) (content : Option (List ℕ)) → IsSomeAnd content (λ bytes. 16777216 < length bytes)
+    → reading_fault name content ≡ Some (Long (take 8192 name))
+long_fault name None h = absurd h
+long_fault name (Some bytes) h = let over : nat_le (length bytes) 16777216 ≡ false = grind (arith, nat_tests) in rw over refl
+
+include_fails : (contents : Contents) (r : Reading) (here : Open) (hash : ℕ) (name : List ℕ) (after : ℕ)
+    (h : HasStep r here (step.Mentions hash name after)) (fault : GatherFault) → r.count + 3 ≤ 100000 → is_among r.unit.files (file_name name) ≡ false
+    → reading_fault (file_name name) (contents (file_name name)) ≡ Some fault → Stops contents (reopened here r) fault
+include_fails contents r here hash name after h fault room new failing =
+    let below : nat_lt 100000 (r.count + 3) ≡ false = grind (arith, nat_tests)
+    in stops-fault contents r here (step.Mentions hash name after) h fault (rw (below, new) failing)
+
+pub stops-include : (r : Reading) (here : Open) (hash : ℕ) (name : List ℕ) (after : ℕ) (h : HasStep r here (step.Mentions hash name after))
+    → r.count + 3 ≤ 100000 → is_among r.unit.files (file_name name) ≡ false → (given : List ℕ) → given ≡ file_name name
+    → (fault : GatherFault) → IsReadFault given fault
+    → Claims fault ((contents : Contents) → Explains contents fault → Stops contents (reopened here r) fault)
+stops-include r here hash name after h room new given is (Missing n) cut = λ contents none.
+    let named : n ≡ file_name name = cut ∙ uncut given name is h.within.2
+    in include_fails contents r here hash name after h (Missing n) room new
+        (ap (reading_fault (file_name name)) (ap contents (sym named) ∙ none) ∙ ap (λ m. Some (Missing m)) (ap (take 8192) (sym is) ∙ sym cut))
+stops-include r here hash name after h room new given is (Long n) cut = λ contents long.
+    let named : n ≡ file_name name = cut ∙ uncut given name is h.within.2
+    in include_fails contents r here hash name after h (Long n) room new
+        (long_fault (file_name name) (contents (file_name name)) (subst (λ m. IsSomeAnd (contents m) (λ bytes. 16777216 < length bytes)) named long)
+            ∙ ap (λ m. Some (Long m)) (ap (take 8192) (sym is) ∙ sym cut))
+stops-include r here hash name after h room new given is Fault cut = tt
+stops-include r here hash name after h room new given is (Bad spot) cut = absurd cut
+stops-include r here hash name after h room new given is (Tokens spot) cut = absurd cut
+stops-include r here hash name after h room new given is (Include spot) cut = absurd cut
+stops-include r here hash name after h room new given is NoMemory cut = tt
+
+-- what explains a fault of reading an include explains it by the name that it tells
+pub explains-include : (contents : Contents) (given name : List ℕ) → given ≡ file_name name → is_include_name name ≡ true
+    → (fault : GatherFault) → IsReadFault given fault → ExplainsRead contents given fault → Explains contents fault
+explains-include contents given name is h (Missing n) cut e = ap contents (cut ∙ uncut given name is h ∙ sym is) ∙ e
+explains-include contents given name is h (Long n) cut e =
+    subst (λ m. IsSomeAnd (contents m) (λ bytes. 16777216 < length bytes)) (sym (cut ∙ uncut given name is h ∙ sym is)) e
+explains-include contents given name is h Fault cut e = tt
+explains-include contents given name is h (Bad spot) cut e = tt
+explains-include contents given name is h (Tokens spot) cut e = tt
+explains-include contents given name is h (Include spot) cut e = tt
+explains-include contents given name is h NoMemory cut e = tt
+
+-- an open file stays one where the unit grows
+open_stays : (files more : List Source) (here : Open) → IsOpen files here → IsOpen (files ++ more) here
+open_stays files more here h = record {
+  file = omega (arith, h.file, length-append files more);
+  place = subst (λ bytes. here.at ≤ length bytes) (sym (bytes_stay files more here.file h.file)) h.place;
+}
+
+pub ready-includes : (old new : Reading) (here : Open) (name : List ℕ) (after : ℕ) → IsReady (reopened here old) → Includes old new here name after
+    → after ≤ length (bytes_of (slice_get old.unit.files here.file)) → old.count + 3 ≤ 100000 → IsReady new
+ready-includes old new here name after ready i place room =
+    let more = source name i.opens.bytes ∷ []
+    in let files : new.unit.files ≡ old.unit.files ++ more = ap (λ u. u.files) i.opens.is
+    in let grown : length new.unit.files ≡ length old.unit.files + 1 = ap length files ∙ length-append old.unit.files more
+    in let behind : IsOpen old.unit.files (file_at here.file after) = record { file = ready.places.0.file; place = place }
+    in record {
+      places = subst (λ s. AllByRecursion (IsOpen new.unit.files) s) (sym i.stack)
+        (subst (λ f. AllByRecursion (IsOpen f) (file_at (length old.unit.files) 0 ∷ file_at here.file after ∷ old.stack)) (sym files)
+          ( record { file = omega (arith, length-append old.unit.files more); place = omega arith }
+          , ( open_stays old.unit.files more (file_at here.file after) behind
+            , all_map (IsOpen old.unit.files) (IsOpen (old.unit.files ++ more)) old.stack (open_stays old.unit.files more) ready.places.1)));
+      few = omega (arith, i.count, room);
+      paid = omega (arith, i.count, grown, ready.paid);
+    }
+
+-- behind a directive one is inside the file
+pub place-behind : (r : Reading) (here : Open) (hash : ℕ) (name : List ℕ) (after : ℕ) → HasStep r here (step.Mentions hash name after)
+    → after ≤ length (bytes_of (slice_get r.unit.files here.file))
+place-behind r here hash name after h = subst (λ o. after ≤ length (bytes_of o)) (sym h.is) h.within.1
+
+holds-last : (contents : Contents) (files : List Source) (name bytes : List ℕ) → HoldsFiles contents (files ++ source name bytes ∷ [])
+    → contents name ≡ Some bytes
+holds-last contents [] name bytes h = h.0
+holds-last contents (f ∷ files) name bytes h = holds-last contents files name bytes h.1
+
+-- an include of a file that is new to the unit leads on
+pub leads-include : (old new : Reading) (here : Open) (hash : ℕ) (name : List ℕ) (after : ℕ) (h : HasStep old here (step.Mentions hash name after))
+    → old.count + 3 ≤ 100000 → is_among old.unit.files (file_name name) ≡ false → (given : List ℕ) → given ≡ file_name name
+    → Includes old new here given after → (contents : Contents) → HoldsFiles contents new.unit.files → Leads contents (reopened here old) new
+leads-include old new here hash name after h room new_file given is i contents holds =
+    let unit : new.unit ≡ record { files = old.unit.files ++ source (file_name name) i.opens.bytes ∷ []; tokens = old.unit.tokens }
+        = i.opens.is ∙ ap (λ n. record { files = old.unit.files ++ source n i.opens.bytes ∷ []; tokens = old.unit.tokens }) is
+    in let read : contents (file_name name) ≡ Some i.opens.bytes
+        = holds-last contents old.unit.files (file_name name) i.opens.bytes (subst (HoldsFiles contents) (ap (λ u. u.files) unit) holds)
+    in leads-includes old new here hash name after h i.opens.bytes room new_file i.opens.size unit i.stack i.count contents read

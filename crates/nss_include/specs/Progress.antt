@@ -1,5 +1,5 @@
 -- A unit while it is read: the files that are open, the innermost first, and what is left to come of them.
-use Rattle.std.specs.Prelude.{◌≡◌, ℕ, ◌+◌, ◌-◌, ◌*◌, ◌<◌, ◌≤◌, List, [], ◌∷◌, ◌++◌, length, slice_get, take, Option, Some, None}
+use Rattle.std.specs.Prelude.{◌≡◌, ℕ, ◌+◌, ◌-◌, ◌*◌, ◌<◌, ◌≤◌, List, [], ◌∷◌, ◌++◌, length, slice_get, take, Option, Some, None, IsSomeAnd}
 use Rattle.std.specs.List.{AllByRecursion}
 use Rattle.nwq_outside.specs.Outside.{Rose}
 use Rattle.nss_lexer.specs.Splitting.{Lexeme}
@@ -44,7 +44,7 @@ HoldsFiles contents files = AllByRecursion (λ f. contents f.name ≡ Some f.byt
 -- where a fault comes of what is under a name, that is so
 abbrev pub Explains : Contents → GatherFault → Type 0
 Explains contents (Missing name) = contents name ≡ None
-Explains contents (Long name) = (bytes : List ℕ) × (contents name ≡ Some bytes) × (16777216 < length bytes)
+Explains contents (Long name) = IsSomeAnd (contents name) (λ bytes. 16777216 < length bytes)
 Explains contents Fault = Unit {0}
 Explains contents (Bad spot) = Unit {0}
 Explains contents (Tokens spot) = Unit {0}
@@ -107,6 +107,10 @@ pub record Opens (old new : Gathered) (name : List ℕ) : Type 0 where
   pub size : length bytes ≤ 16777216
   pub is : new ≡ record { files = old.files ++ source name bytes ∷ []; tokens = old.tokens }
 
+-- the file that the unit has more is what is under its name
+abbrev pub Opened : Contents → Gathered → Gathered → List ℕ → Type 0
+Opened contents old new name = (opens : Opens old new name) × (contents name ≡ Some opens.bytes)
+
 -- a fault of reading this name
 abbrev pub IsReadFault : List ℕ → GatherFault → Type 0
 IsReadFault name (Missing given) = given ≡ take 8192 name
@@ -120,9 +124,19 @@ IsReadFault name NoMemory = Unit {0}
 -- where a fault of reading this name comes of what is under it, that is so
 abbrev pub ExplainsRead : Contents → List ℕ → GatherFault → Type 0
 ExplainsRead contents name (Missing given) = contents name ≡ None
-ExplainsRead contents name (Long given) = (bytes : List ℕ) × (contents name ≡ Some bytes) × (16777216 < length bytes)
+ExplainsRead contents name (Long given) = IsSomeAnd (contents name) (λ bytes. 16777216 < length bytes)
 ExplainsRead contents name Fault = Unit {0}
 ExplainsRead contents name (Bad spot) = Unit {0}
 ExplainsRead contents name (Tokens spot) = Unit {0}
 ExplainsRead contents name (Include spot) = Unit {0}
 ExplainsRead contents name NoMemory = Unit {0}
+
+-- a directive behind which the file goes on was passed
+abbrev pub passed : Reading → Open → ℕ → Reading
+passed r here after = record r { stack = record { file = here.file; at = after } ∷ r.stack; count = r.count + 3 }
+
+-- a directive was passed, and the file that it names is open
+pub record Includes (old new : Reading) (here : Open) (name : List ℕ) (after : ℕ) : Type 0 where
+  pub opens : Opens old.unit new.unit name
+  pub stack : new.stack ≡ record { file = length old.unit.files; at = 0 } ∷ record { file = here.file; at = after } ∷ old.stack
+  pub count : new.count ≡ old.count + 3

@@ -1,16 +1,62 @@
-ghost use Rattle.std.specs.Prelude.{◌≡◌, ◌<◌, ◌≤◌, length, slice_get, OnOk, IfErr, Some};
+ghost use Rattle.std.specs.Prelude.{◌≡◌, ◌<◌, ◌≤◌, ◌+◌, ◌*◌, true, false, length, slice_get, take, OnOk, OnErr, IfOk, IfErr, IsTrue, Some};
+ghost use Rattle.std.specs.FinMap as map;
+ghost use Rattle.std.specs.String.{string_bytes};
+ghost use Rattle.std.specs.Str.{IsUtf8};
 ghost use Rattle.nss_include.specs.declared.step.Step.TheVariants as step;
-ghost use Rattle.nss_include.specs.Steps.{IsStep};
+ghost use Rattle.nss_include.specs.Names.{file_name};
+ghost use Rattle.nss_include.specs.Units.{is_among};
+ghost use Rattle.nss_include.specs.Progress.{Opens, Opened, IsReadFault, ExplainsRead, IsCaused};
 
 use crate::fault::GatherFault;
 use crate::opened::{Open, OpenFiles};
 use crate::step::{Span, Step, next_step};
 use crate::unit::Unit;
-use nwq_value::Text;
+use nwq_outside::{Files, Read};
+use nwq_value::{Items, NoMemory, Text};
 use std::alloc::Global;
 
 /// How many tokens a unit has at most, a directive being three.
 const MOST_TOKENS: u32 = 100_000;
+
+/// The file of a script or an include of this name.
+#[tactic(auto, unfolding(crate::specs::Names::file_name))]
+fn file_of(alloc: Global, name: &[u8]) -> Result<String, NoMemory>
+    requires { IsUtf8 name.now }
+    ensures { IfOk result (λ file. string_bytes file ≡ file_name name.now) }
+{
+    let mut file = String::from_utf8_lossy(alloc, name)?;
+    file.make_ascii_lowercase();
+    file.push_str(".nss")?;
+    Ok(file)
+}
+
+/// Reads a file into the unit.
+fn read_into<F: Files>(alloc: Global, files: &mut F, unit: &mut Unit, name: &str) -> Result<(), GatherFault>
+    requires { length unit.old.files < 65_536 }
+    ensures opens { OnOk result (Opens unit.old unit.new name.now) }
+    ensures holds { IsTrue F.tells → OnOk result (Opened (map.get (F.contents files.old)) unit.old unit.new name.now) }
+    ensures err { OnErr result (unit.new ≡ unit.old) }
+    ensures fault { IfErr result (IsReadFault name.now) }
+    ensures told { IsTrue F.tells → IfErr result (ExplainsRead (map.get (F.contents files.old)) name.now) }
+
+    ensures caused { IfErr result (λ fault. IsCaused fault (F.absences files.old) (F.absences files.new) (F.faults files.old) (F.faults files.new) (F.longs files.old) (F.longs files.new)) }
+    ensures same { F.contents files.new ≡ F.contents files.old }
+    ensures faults_stay { F.faults files.old ≤ F.faults files.new }
+    ensures absences_stay { F.absences files.old ≤ F.absences files.new }
+    ensures longs_stay { F.longs files.old ≤ F.longs files.new }
+{
+    match files.read(alloc, name) {
+        Read::Bytes(bytes) => {
+            let copy = Items::of_slice(alloc, name.as_bytes())?;
+            unit.open(copy, Items::of_vec(bytes))?;
+            Ok(())
+        }
+        Read::Missing => Err(GatherFault::Missing(Text::of(alloc, name.as_bytes())?)),
+        Read::Failed => Err(GatherFault::Fault),
+        Read::Long => Err(GatherFault::Long(Text::of(alloc, name.as_bytes())?)),
+        Read::NoMemory => Err(GatherFault::NoMemory),
+    }
+}
 
 /// A unit while it is read.
 #[derive(Debug, Drop)]
@@ -23,7 +69,7 @@ pub struct Reading {
 
 impl Reading {
     ghost use Rattle.nss_include.specs.Units.{Contents};
-    ghost use Rattle.nss_include.specs.Progress.{HasStep, Stops, Ends, Leads, HoldsFiles, Explains, Claims, IsReady, reopened, steps_left};
+    ghost use Rattle.nss_include.specs.Progress.{HasStep, Stops, Ends, Leads, HoldsFiles, Explains, Claims, IsReady, reopened, steps_left, passed, Includes};
 
     /// Goes on behind a token.
     fn give(&mut self, alloc: Global, here: Open, span: Span) -> Result<(), GatherFault>
@@ -45,5 +91,75 @@ impl Reading {
             at: span.end,
         })?;
         Ok(())
+    }
+
+    /// Goes on behind a directive.
+    fn pass(&mut self, here: Open, after: u32) -> Result<(), NoMemory>
+        requires { self.old.count + 3 ≤ 100000 }
+        ensures { OnOk result (self.new ≡ passed self.old here after) }
+    {
+        self.stack.push(Open {
+            file: here.file,
+            at: after,
+        })?;
+        self.count += 3;
+        Ok(())
+    }
+
+    /// Goes on in a file that is new to the unit, and then behind the directive.
+    fn include<F: Files>(&mut self, alloc: Global, files: &mut F, here: Open, name: &str, after: u32) -> Result<(), GatherFault>
+        requires ready { IsReady (reopened here self.old) }
+        requires room { self.old.count + 3 ≤ 100000 }
+        ensures includes { OnOk result (Includes self.old self.new here name.now after) }
+        ensures holds { IsTrue F.tells → OnOk result (Opened (map.get (F.contents files.old)) self.old.unit self.new.unit name.now) }
+        ensures fault { IfErr result (IsReadFault name.now) }
+        ensures told { IsTrue F.tells → IfErr result (ExplainsRead (map.get (F.contents files.old)) name.now) }
+
+        ensures caused { IfErr result (λ fault. IsCaused fault (F.absences files.old) (F.absences files.new) (F.faults files.old) (F.faults files.new) (F.longs files.old) (F.longs files.new)) }
+        ensures same { F.contents files.new ≡ F.contents files.old }
+        ensures faults_stay { F.faults files.old ≤ F.faults files.new }
+        ensures absences_stay { F.absences files.old ≤ F.absences files.new }
+        ensures longs_stay { F.longs files.old ≤ F.longs files.new }
+    {
+        self.pass(here, after)?;
+        let number = self.unit.count() as u16;
+        read_into(alloc, files, &mut self.unit, name)?;
+        self.stack.push(Open {
+            file: number,
+            at: 0,
+        })?;
+        Ok(())
+    }
+
+    /// Goes on behind a directive that names an include.
+    fn mention<F: Files>(&mut self, alloc: Global, files: &mut F, here: Open, hash: u32, name: &Text, after: u32) -> Result<(), GatherFault>
+        requires ready { IsReady (reopened here self.old) }
+        requires step { HasStep self.old here (step.Mentions hash name.now after) }
+        ensures ready { OnOk result (IsReady self.new) }
+        ensures leads { OnOk result ((contents : Contents) → HoldsFiles contents self.new.unit.files → Leads contents (reopened here self.old) self.new) }
+        ensures falls { OnOk result (steps_left self.new < steps_left (reopened here self.old)) }
+        ensures holds { IsTrue F.tells → OnOk result (HoldsFiles (map.get (F.contents files.old)) self.old.unit.files → HoldsFiles (map.get (F.contents files.old)) self.new.unit.files) }
+        ensures stops { IfErr result (λ fault. Claims fault ((contents : Contents) → Explains contents fault → Stops contents (reopened here self.old) fault)) }
+        ensures told { IsTrue F.tells → IfErr result (Explains (map.get (F.contents files.old))) }
+
+        ensures caused { IfErr result (λ fault. IsCaused fault (F.absences files.old) (F.absences files.new) (F.faults files.old) (F.faults files.new) (F.longs files.old) (F.longs files.new)) }
+        ensures same { F.contents files.new ≡ F.contents files.old }
+        ensures faults_stay { F.faults files.old ≤ F.faults files.new }
+        ensures absences_stay { F.absences files.old ≤ F.absences files.new }
+        ensures longs_stay { F.longs files.old ≤ F.longs files.new }
+    {
+        if self.count + 3 > MOST_TOKENS {
+            return Err(GatherFault::Tokens(self.unit.spot(alloc, here.file, hash)?));
+        }
+        let file = file_of(alloc, name.bytes())?;
+        if self.unit.has(file.as_bytes()) {
+            self.pass(here, after)?;
+            Ok(())
+        } else {
+            match self.include(alloc, files, here, file.as_str(), after) {
+                Ok(()) => Ok(()),
+                Err(fault) => Err(fault),
+            }
+        }
     }
 }
