@@ -1,6 +1,6 @@
-use Rattle.std.proofs.Common.{◌≡◌, ℕ, ◌+◌, ◌-◌, ◌<◌, ◌≤◌, Bool, true, false, nat_lt, nat_le, List, [], ◌∷◌, ◌++◌, length, Option, Some, None, IsSomeAnd, take, refl, sym, ap, subst, ◌∙◌, arith, append_assoc, append-nil, length-append, lit<, zero, suc, get_or, map, ◌&&◌, codes}
+use Rattle.std.proofs.Common.{◌≡◌, ℕ, ◌+◌, ◌-◌, ◌<◌, ◌≤◌, Bool, true, false, nat_lt, nat_le, List, [], ◌∷◌, ◌++◌, length, Option, Some, None, IsSomeAnd, IsTrue, take, refl, sym, ap, subst, ◌∙◌, arith, append_assoc, append-nil, length-append, lit<, zero, suc, get_or, map, ◌&&◌, codes}
 use Rattle.std.proofs.lemmas.Bool.Decides.{nat_tests}
-use Rattle.std.proofs.lemmas.Option.{same_Some}
+use Rattle.std.proofs.lemmas.Option.{same_Some, none-some}
 use Rattle.std.proofs.lemmas.List.{take_all, length-map}
 use Rattle.std.specs.Char.{to_ascii_lowercase}
 use Rattle.std.proofs.lemmas.Str.{IsUtf8-from_ascii}
@@ -19,11 +19,12 @@ use Rattle.nss_include.specs.declared.step.Span.{Span}
 use Rattle.nss_include.specs.declared.step.Step.{Step}
 use Rattle.nss_include.specs.declared.step.Step.TheVariants as step
 use Rattle.nss_include.specs.Names.{file_name, is_include_name, spot_in}
-use Rattle.nss_include.specs.Steps.{IsStep, lexeme_in}
+use Rattle.nss_include.specs.Steps.{IsStep, IsWithin, lexeme_in}
 use Rattle.nss_include.specs.Units.{Contents, Unfolds, step_fault, reading_fault, is_among, source, ends, fails, gives, again, breaks_off, includes}
 use Rattle.nss_include.specs.View.{lexeme_of, bytes_of}
 use Rattle.nss_include.proofs.UnitLemmas.{bytes_stay, all_map}
-use Rattle.nss_include.specs.Progress.{Rest, closed, stops, goes, Ends, Leads, Stops, HasStep, HoldsFiles, Explains, ExplainsRead, Claims, IsReadFault, Includes, IsOpen, IsReady, reopened}
+use Rattle.nss_include.specs.Gather.{HoldsFiles, Claims, Gathers}
+use Rattle.nss_include.specs.Progress.{Rest, closed, stops, goes, Ends, Leads, Stops, HasStep, Explains, ExplainsRead, IsReadFault, Includes, IsOpen, IsReady, reopened}
 
 -- an open file at a place
 abbrev pub file_at : ℕ → ℕ → Open
@@ -338,3 +339,32 @@ leads-include old new here hash name after h room new_file given is i contents h
     in let read : contents (file_name name) ≡ Some i.opens.bytes
         = holds-last contents old.unit.files (file_name name) i.opens.bytes (subst (HoldsFiles contents) (ap (λ u. u.files) unit) holds)
     in leads-includes old new here hash name after h i.opens.bytes room new_file i.opens.size unit i.stack i.count contents read
+
+-- ---- a whole reading
+
+pub holds-front : (contents : Contents) (files more : List Source) → HoldsFiles contents (files ++ more) → HoldsFiles contents files
+holds-front contents [] more h = tt
+holds-front contents (f ∷ files) more h = (h.0, holds-front contents files more h.1)
+
+has_step_by : (r : Reading) (here : Open) (s : Step) (bytes : List ℕ) (o : Option Source) → slice_get r.unit.files here.file ≡ o
+    → option_map (λ f. f.bytes) o ≡ Some bytes → IsStep bytes here.file here.at s → IsWithin bytes here.file s → HasStep r here s
+has_step_by r here s bytes None e h is within = absurd (none-some bytes h)
+has_step_by r here s bytes (Some file) e h is within =
+    let same : bytes ≡ file.bytes = sym (same_Some file.bytes bytes h)
+    in record {
+      file = file;
+      is = e;
+      step = subst (λ b. IsStep b here.file here.at s) same is;
+      within = subst (λ b. IsWithin b here.file s) same within;
+    }
+
+pub has_step : (r : Reading) (here : Open) (s : Step) (bytes : List ℕ) → option_map (λ f. f.bytes) (slice_get r.unit.files here.file) ≡ Some bytes
+    → IsStep bytes here.file here.at s → IsWithin bytes here.file s → HasStep r here s
+has_step r here s bytes h is within = has_step_by r here s bytes (slice_get r.unit.files here.file) refl h is within
+
+-- what a reading has come to
+pub record RunSoFar (tells : Bool) (outside : Contents) (first now : Reading) : Type 0 where
+  pub ready : IsReady now
+  pub leads : (contents : Contents) → HoldsFiles contents now.unit.files → Leads contents first now
+  pub keeps : (contents : Contents) → HoldsFiles contents now.unit.files → HoldsFiles contents first.unit.files
+  pub holds : IsTrue tells → HoldsFiles outside first.unit.files → HoldsFiles outside now.unit.files

@@ -1,7 +1,6 @@
 -- A unit while it is read: the files that are open, the innermost first, and what is left to come of them.
 use Rattle.std.specs.Prelude.{◌≡◌, ℕ, ◌+◌, ◌-◌, ◌*◌, ◌<◌, ◌≤◌, List, [], ◌∷◌, ◌++◌, length, slice_get, take, Option, Some, None, IsSomeAnd}
 use Rattle.std.specs.List.{AllByRecursion}
-use Rattle.nwq_outside.specs.Outside.{Rose}
 use Rattle.nss_lexer.specs.Splitting.{Lexeme}
 use Rattle.nss_include.specs.declared.fault.GatherFault.{GatherFault}
 use Rattle.nss_include.specs.declared.fault.GatherFault.TheVariants.{Missing, Fault, Long, Bad, Tokens, Include, NoMemory}
@@ -9,7 +8,9 @@ use Rattle.nss_include.specs.declared.file.Source.{Source}
 use Rattle.nss_include.specs.declared.opened.Open.{Open}
 use Rattle.nss_include.specs.declared.reading.Reading.{Reading}
 use Rattle.nss_include.specs.declared.step.Step.{Step}
+use Rattle.nss_include.specs.Names.{file_name}
 use Rattle.nss_include.specs.Steps.{IsStep, IsWithin}
+use Rattle.nss_include.specs.Gather.{HoldsFiles}
 use Rattle.nss_include.specs.Units.{Contents, Unfolds, source}
 use Rattle.nss_include.specs.View.{Gathered, bytes_of}
 
@@ -37,10 +38,6 @@ Leads contents old new =
     (tokens : List Lexeme) (last : List Source) (total : ℕ) (ending : Option GatherFault) → Ends contents new tokens last total ending
     → Ends contents old tokens last total ending
 
--- each file of the unit has what is under its name
-abbrev pub HoldsFiles : Contents → List Source → Type 0
-HoldsFiles contents files = AllByRecursion (λ f. contents f.name ≡ Some f.bytes) files
-
 -- where a fault comes of what is under a name, that is so
 abbrev pub Explains : Contents → GatherFault → Type 0
 Explains contents (Missing name) = contents name ≡ None
@@ -50,26 +47,6 @@ Explains contents (Bad spot) = Unit {0}
 Explains contents (Tokens spot) = Unit {0}
 Explains contents (Include spot) = Unit {0}
 Explains contents NoMemory = Unit {0}
-
--- a claim on a fault that is neither want of memory nor a failure of the outside
-abbrev pub Claims : GatherFault → Type 0 → Type 0
-Claims (Missing name) P = P
-Claims (Long name) P = P
-Claims Fault P = Unit {0}
-Claims (Bad spot) P = P
-Claims (Tokens spot) P = P
-Claims (Include spot) P = P
-Claims NoMemory P = Unit {0}
-
--- A fault of the outside comes only where its count rose: absences, faults or longs, each before and now.
-abbrev pub IsCaused : GatherFault → ℕ → ℕ → ℕ → ℕ → ℕ → ℕ → Type 0
-IsCaused (Missing name) absences absences' faults faults' longs longs' = Rose absences absences'
-IsCaused (Long name) absences absences' faults faults' longs longs' = Rose longs longs'
-IsCaused Fault absences absences' faults faults' longs longs' = Rose faults faults'
-IsCaused (Bad spot) absences absences' faults faults' longs longs' = Unit {0}
-IsCaused (Tokens spot) absences absences' faults faults' longs longs' = Unit {0}
-IsCaused (Include spot) absences absences' faults faults' longs longs' = Unit {0}
-IsCaused NoMemory absences absences' faults faults' longs longs' = Unit {0}
 
 -- an open file is one of these, and goes on inside it
 pub record IsOpen (files : List Source) (here : Open) : Type 0 where
@@ -140,3 +117,28 @@ pub record Includes (old new : Reading) (here : Open) (name : List ℕ) (after :
   pub opens : Opens old.unit new.unit name
   pub stack : new.stack ≡ record { file = length old.unit.files; at = 0 } ∷ record { file = here.file; at = after } ∷ old.stack
   pub count : new.count ≡ old.count + 3
+
+-- a fault of counting, or want of memory
+abbrev pub IsOwnFault : GatherFault → Type 0
+IsOwnFault (Missing name) = ⊥
+IsOwnFault (Long name) = ⊥
+IsOwnFault Fault = ⊥
+IsOwnFault (Bad spot) = ⊥
+IsOwnFault (Tokens spot) = Unit {0}
+IsOwnFault (Include spot) = ⊥
+IsOwnFault NoMemory = Unit {0}
+
+-- from here a reading comes to this fault
+pub record ComesTo (contents : Contents) (r : Reading) (fault : GatherFault) : Type 0 where
+  pub tokens : List Lexeme
+  pub last : List Source
+  pub total : ℕ
+  pub ends : Ends contents r tokens last total (Some fault)
+
+-- a reading that begins with the file of a script
+pub record Begins (r : Reading) (script : List ℕ) : Type 0 where
+  pub bytes : List ℕ
+  pub size : length bytes ≤ 16777216
+  pub unit : r.unit ≡ record { files = source (file_name script) bytes ∷ []; tokens = [] }
+  pub stack : r.stack ≡ record { file = 0; at = 0 } ∷ []
+  pub count : r.count ≡ 0

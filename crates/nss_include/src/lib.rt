@@ -13,4 +13,5 @@ mod step;
 pub mod unit;
 
 pub use fault::{GatherFault, Spot};
+pub use reading::gather;
 pub use unit::Unit;

@@ -1,11 +1,12 @@
-ghost use Rattle.std.specs.Prelude.{◌≡◌, ◌<◌, ◌≤◌, ◌+◌, ◌*◌, true, false, length, slice_get, take, OnOk, OnErr, IfOk, IfErr, IsTrue, Some};
+ghost use Rattle.std.specs.Prelude.{◌≡◌, ◌<◌, ◌≤◌, ◌+◌, length, OnOk, OnErr, IfOk, IfErr, IsTrue};
 ghost use Rattle.std.specs.FinMap as map;
 ghost use Rattle.std.specs.String.{string_bytes};
 ghost use Rattle.std.specs.Str.{IsUtf8};
 ghost use Rattle.nss_include.specs.declared.step.Step.TheVariants as step;
 ghost use Rattle.nss_include.specs.Names.{file_name};
-ghost use Rattle.nss_include.specs.Units.{is_among};
-ghost use Rattle.nss_include.specs.Progress.{Opens, Opened, IsReadFault, ExplainsRead, IsCaused};
+ghost use Rattle.nss_include.specs.Units.{Contents, IsUnit};
+ghost use Rattle.nss_include.specs.Progress.{Opens, Opened, IsReadFault, ExplainsRead, IsOwnFault, Begins, ComesTo};
+ghost use Rattle.nss_include.specs.Gather.{IsCaused, HoldsFiles, Claims, Gathers};
 
 use crate::fault::GatherFault;
 use crate::opened::{Open, OpenFiles};
@@ -68,8 +69,7 @@ pub struct Reading {
 }
 
 impl Reading {
-    ghost use Rattle.nss_include.specs.Units.{Contents};
-    ghost use Rattle.nss_include.specs.Progress.{HasStep, Stops, Ends, Leads, HoldsFiles, Explains, Claims, IsReady, reopened, steps_left, passed, Includes};
+    ghost use Rattle.nss_include.specs.Progress.{HasStep, Stops, Ends, Leads, Explains, IsReady, reopened, steps_left, passed, Includes};
 
     /// Goes on behind a token.
     fn give(&mut self, alloc: Global, here: Open, span: Span) -> Result<(), GatherFault>
@@ -79,6 +79,7 @@ impl Reading {
         ensures leads { OnOk result ((contents : Contents) → Leads contents (reopened here self.old) self.new) }
         ensures falls { OnOk result (steps_left self.new < steps_left (reopened here self.old)) }
         ensures files { self.new.unit.files ≡ self.old.unit.files }
+        ensures own { IfErr result IsOwnFault }
         ensures stops { IfErr result (λ fault. Claims fault ((contents : Contents) → Stops contents (reopened here self.old) fault)) }
     {
         if self.count == MOST_TOKENS {
@@ -137,6 +138,7 @@ impl Reading {
         requires step { HasStep self.old here (step.Mentions hash name.now after) }
         ensures ready { OnOk result (IsReady self.new) }
         ensures leads { OnOk result ((contents : Contents) → HoldsFiles contents self.new.unit.files → Leads contents (reopened here self.old) self.new) }
+        ensures keeps { OnOk result ((contents : Contents) → HoldsFiles contents self.new.unit.files → HoldsFiles contents self.old.unit.files) }
         ensures falls { OnOk result (steps_left self.new < steps_left (reopened here self.old)) }
         ensures holds { IsTrue F.tells → OnOk result (HoldsFiles (map.get (F.contents files.old)) self.old.unit.files → HoldsFiles (map.get (F.contents files.old)) self.new.unit.files) }
         ensures stops { IfErr result (λ fault. Claims fault ((contents : Contents) → Explains contents fault → Stops contents (reopened here self.old) fault)) }
@@ -161,5 +163,127 @@ impl Reading {
                 Err(fault) => Err(fault),
             }
         }
+    }
+
+    #[tactic(auto, using(crate::proofs::ProgressLemmas::has_step))]
+    /// What the file goes on with here.
+    fn step_at(&self, alloc: Global, here: Open) -> Result<Step, NoMemory>
+        requires { IsReady (reopened here self.now) }
+        ensures { IfOk result (HasStep self.now here) }
+    {
+        let step = next_step(alloc, self.unit.file_bytes(here.file), here.file, here.at)?;
+        Ok(step)
+    }
+
+    /// Goes on here by a step.
+    fn advance<F: Files>(&mut self, alloc: Global, files: &mut F, here: Open) -> Result<(), GatherFault>
+        requires { IsReady (reopened here self.old) }
+        ensures ready { OnOk result (IsReady self.new) }
+        ensures leads { OnOk result ((contents : Contents) → HoldsFiles contents self.new.unit.files → Leads contents (reopened here self.old) self.new) }
+        ensures keeps { OnOk result ((contents : Contents) → HoldsFiles contents self.new.unit.files → HoldsFiles contents self.old.unit.files) }
+        ensures falls { OnOk result (steps_left self.new < steps_left (reopened here self.old)) }
+        ensures holds { IsTrue F.tells → OnOk result (HoldsFiles (map.get (F.contents files.old)) self.old.unit.files → HoldsFiles (map.get (F.contents files.old)) self.new.unit.files) }
+        ensures stops { IfErr result (λ fault. Claims fault ((contents : Contents) → Explains contents fault → Stops contents (reopened here self.old) fault)) }
+        ensures told { IsTrue F.tells → IfErr result (Explains (map.get (F.contents files.old))) }
+
+        ensures caused { IfErr result (λ fault. IsCaused fault (F.absences files.old) (F.absences files.new) (F.faults files.old) (F.faults files.new) (F.longs files.old) (F.longs files.new)) }
+        ensures same { F.contents files.new ≡ F.contents files.old }
+        ensures faults_stay { F.faults files.old ≤ F.faults files.new }
+        ensures absences_stay { F.absences files.old ≤ F.absences files.new }
+        ensures longs_stay { F.longs files.old ≤ F.longs files.new }
+    {
+        match self.step_at(alloc, here)? {
+            Step::Ends => Ok(()),
+            Step::Breaks(place) => Err(GatherFault::Bad(self.unit.spot(alloc, here.file, place)?)),
+            Step::Gives(span) => match self.give(alloc, here, span) {
+                Ok(()) => Ok(()),
+                Err(fault) => Err(fault),
+            },
+            Step::Mentions(hash, name, after) => match self.mention(alloc, files, here, hash, &name, after) {
+                Ok(()) => Ok(()),
+                Err(fault) => Err(fault),
+            },
+            Step::Misses(place) => Err(GatherFault::Include(self.unit.spot(alloc, here.file, place)?)),
+        }
+    }
+
+    /// Reads all open files to their ends.
+    fn run<F: Files>(&mut self, alloc: Global, files: &mut F) -> Result<(), GatherFault>
+        requires { IsReady self.old }
+        ensures whole { OnOk result ((contents : Contents) → HoldsFiles contents self.new.unit.files → Ends contents self.old self.new.unit.tokens self.new.unit.files self.new.count None) }
+        ensures keeps { OnOk result ((contents : Contents) → HoldsFiles contents self.new.unit.files → HoldsFiles contents self.old.unit.files) }
+        ensures holds { IsTrue F.tells → HoldsFiles (map.get (F.contents files.old)) self.old.unit.files → OnOk result (HoldsFiles (map.get (F.contents files.old)) self.new.unit.files) }
+        ensures stops { IsTrue F.tells → HoldsFiles (map.get (F.contents files.old)) self.old.unit.files → IfErr result (λ fault. Claims fault (ComesTo (map.get (F.contents files.old)) self.old fault)) }
+
+        ensures caused { IfErr result (λ fault. IsCaused fault (F.absences files.old) (F.absences files.new) (F.faults files.old) (F.faults files.new) (F.longs files.old) (F.longs files.new)) }
+        ensures same { F.contents files.new ≡ F.contents files.old }
+        ensures faults_stay { F.faults files.old ≤ F.faults files.new }
+        ensures absences_stay { F.absences files.old ≤ F.absences files.new }
+        ensures longs_stay { F.longs files.old ≤ F.longs files.new }
+    {
+        while let Some(here) = self.stack.pop() {
+            match self.advance(alloc, files, here) {
+                Ok(()) => {}
+                Err(fault) => return Err(fault),
+            }
+        }
+        Ok(())
+    }
+}
+
+/// Begins to read the unit of a script with its file.
+fn begin<F: Files>(alloc: Global, files: &mut F, script: &str) -> Result<Reading, GatherFault>
+    ensures begins { IfOk result (λ reading. Begins reading script.now) }
+    ensures holds { IsTrue F.tells → IfOk result (λ reading. HoldsFiles (map.get (F.contents files.old)) reading.unit.files) }
+    ensures fault { IfErr result (IsReadFault (file_name script.now)) }
+    ensures told { IsTrue F.tells → IfErr result (ExplainsRead (map.get (F.contents files.old)) (file_name script.now)) }
+
+    ensures caused { IfErr result (λ fault. IsCaused fault (F.absences files.old) (F.absences files.new) (F.faults files.old) (F.faults files.new) (F.longs files.old) (F.longs files.new)) }
+    ensures same { F.contents files.new ≡ F.contents files.old }
+    ensures faults_stay { F.faults files.old ≤ F.faults files.new }
+    ensures absences_stay { F.absences files.old ≤ F.absences files.new }
+    ensures longs_stay { F.longs files.old ≤ F.longs files.new }
+{
+    let mut unit = Unit::new(alloc);
+    let file = file_of(alloc, script.as_bytes())?;
+    match read_into(alloc, files, &mut unit, file.as_str()) {
+        Ok(()) => {}
+        Err(fault) => return Err(fault),
+    }
+    let mut stack = OpenFiles::new(alloc);
+    stack.push(Open { file: 0, at: 0 })?;
+    Ok(Reading {
+        unit,
+        stack,
+        count: 0,
+    })
+}
+
+/// The unit of a script: its tokens and those of its includes, or its first fault. Letters A to Z count as a to z in
+/// the name.
+pub fn gather<F: Files>(alloc: Global, files: &mut F, name: &str) -> Result<Unit, GatherFault>
+    // The unit is that of its files, whatever else there is.
+    ensures unit { IfOk result (λ unit. (contents : Contents) → HoldsFiles contents unit.files → IsUnit contents name.now unit.tokens unit.files None) }
+    ensures told { IsTrue F.tells → Gathers (map.get (F.contents files.old)) name.now result }
+
+    ensures caused { IfErr result (λ fault. IsCaused fault (F.absences files.old) (F.absences files.new) (F.faults files.old) (F.faults files.new) (F.longs files.old) (F.longs files.new)) }
+    ensures same { F.contents files.new ≡ F.contents files.old }
+    ensures faults_stay { F.faults files.old ≤ F.faults files.new }
+    ensures absences_stay { F.absences files.old ≤ F.absences files.new }
+    ensures longs_stay { F.longs files.old ≤ F.longs files.new }
+{
+    match begin(alloc, files, name) {
+        Err(fault) => Err(fault),
+        Ok(mut reading) => match reading.run(alloc, files) {
+            Err(fault) => Err(fault),
+            Ok(()) => {
+                let Reading {
+                    unit,
+                    stack: _,
+                    count: _,
+                } = reading;
+                Ok(unit)
+            }
+        },
     }
 }
