@@ -20,11 +20,11 @@ use Rattle.nss_include.specs.declared.step.Step.{Step}
 use Rattle.nss_include.specs.declared.step.Step.TheVariants as step
 use Rattle.nss_include.specs.Names.{file_name, is_include_name, spot_in}
 use Rattle.nss_include.specs.Steps.{IsStep, IsWithin, lexeme_in}
-use Rattle.nss_include.specs.Units.{Contents, Unfolds, step_fault, reading_fault, is_among, source, ends, fails, gives, again, breaks_off, includes}
+use Rattle.nss_include.specs.Units.{Contents, Unfolds, step_fault, reading_fault, is_among, source, ends, fails, gives, again, breaks_off, includes, IsUnit, unread, is_read}
 use Rattle.nss_include.specs.View.{lexeme_of, bytes_of}
 use Rattle.nss_include.proofs.UnitLemmas.{bytes_stay, all_map}
 use Rattle.nss_include.specs.Gather.{HoldsFiles, Claims, Gathers}
-use Rattle.nss_include.specs.Progress.{Rest, closed, stops, goes, Ends, Leads, Stops, HasStep, Explains, ExplainsRead, IsReadFault, Includes, IsOpen, IsReady, reopened}
+use Rattle.nss_include.specs.Progress.{Rest, closed, stops, goes, Ends, Leads, Stops, HasStep, Explains, ExplainsRead, IsReadFault, Includes, IsOpen, IsReady, Begins, ComesTo, reopened}
 
 -- an open file at a place
 abbrev pub file_at : ℕ → ℕ → Open
@@ -51,10 +51,10 @@ pub rest-gives : (contents : Contents) (number at : ℕ) (stack : List Open) (fi
     → Rest contents (file_at number at ∷ stack) files count (lexeme_in file.bytes span ∷ tokens) last total ending
 rest-gives contents number at stack files count file span tokens last total ending is here fine (stops h o f c ts l t fault unfolds) =
     stops (file_at number at) stack files count (lexeme_in file.bytes span ∷ tokens) last total fault
-        (gives number at files count file span tokens last total (Some fault) is here fine unfolds)
+    (gives number at files count file span tokens last total (Some fault) is here fine unfolds)
 rest-gives contents number at stack files count file span tokens last total ending is here fine (goes h o f c inner between counted ts l t e unfolds rest) =
     goes (file_at number at) stack files count (lexeme_in file.bytes span ∷ inner) between counted ts last total ending
-        (gives number at files count file span inner between counted None is here fine unfolds) rest
+    (gives number at files count file span inner between counted None is here fine unfolds) rest
 
 pub rest-again : (contents : Contents) (number at : ℕ) (stack : List Open) (files : List Source) (count : ℕ) (file : Source) (hash : ℕ)
     (name : List ℕ) (after : ℕ) (tokens : List Lexeme) (last : List Source) (total : ℕ) (ending : Option GatherFault)
@@ -64,11 +64,11 @@ pub rest-again : (contents : Contents) (number at : ℕ) (stack : List Open) (fi
     → Rest contents (file_at number at ∷ stack) files count tokens last total ending
 rest-again contents number at stack files count file hash name after tokens last total ending is here fine known (stops h o f c ts l t fault unfolds) =
     stops (file_at number at) stack files count tokens last total fault
-        (again number at files count file hash name after tokens last total (Some fault) is here fine known unfolds)
+    (again number at files count file hash name after tokens last total (Some fault) is here fine known unfolds)
 rest-again contents number at stack files count file hash name after tokens last total ending is here fine known
     (goes h o f c inner between counted ts l t e unfolds rest) =
     goes (file_at number at) stack files count inner between counted ts last total ending
-        (again number at files count file hash name after inner between counted None is here fine known unfolds) rest
+    (again number at files count file hash name after inner between counted None is here fine known unfolds) rest
 
 -- behind an included file its includer goes on
 rest-behind : (contents : Contents) (number at : ℕ) (stack : List Open) (files : List Source) (count : ℕ) (file : Source) (hash : ℕ)
@@ -83,12 +83,12 @@ rest-behind : (contents : Contents) (number at : ℕ) (stack : List Open) (files
 rest-behind contents number at stack files count file hash name after bytes inner between counted tokens last total ending is here fine new read unfolds
     (stops h o f c ts l t fault behind) =
     stops (file_at number at) stack files count (inner ++ tokens) last total fault
-        (includes number at files count file hash name after bytes inner between counted tokens last total (Some fault) is here fine new read unfolds behind)
+    (includes number at files count file hash name after bytes inner between counted tokens last total (Some fault) is here fine new read unfolds behind)
 rest-behind contents number at stack files count file hash name after bytes inner between counted tokens last total ending is here fine new read unfolds
     (goes h o f c more between2 counted2 ts l t e behind rest) =
     subst (λ tokens. Rest contents (file_at number at ∷ stack) files count tokens last total ending) (append_assoc inner more ts)
-        (goes (file_at number at) stack files count (inner ++ more) between2 counted2 ts last total ending
-            (includes number at files count file hash name after bytes inner between counted more between2 counted2 None is here fine new read unfolds behind) rest)
+    (goes (file_at number at) stack files count (inner ++ more) between2 counted2 ts last total ending
+    (includes number at files count file hash name after bytes inner between counted more between2 counted2 None is here fine new read unfolds behind) rest)
 
 pub rest-includes : (contents : Contents) (number at : ℕ) (stack : List Open) (files : List Source) (count : ℕ) (file : Source) (hash : ℕ)
     (name : List ℕ) (after : ℕ) (bytes : List ℕ) (tokens : List Lexeme) (last : List Source) (total : ℕ) (ending : Option GatherFault)
@@ -96,11 +96,11 @@ pub rest-includes : (contents : Contents) (number at : ℕ) (stack : List Open) 
     → step_fault contents files count file (step.Mentions hash name after) ≡ None → is_among files (file_name name) ≡ false
     → contents (file_name name) ≡ Some bytes
     → Rest contents (file_at (length files) 0 ∷ file_at number after ∷ stack) (files ++ source (file_name name) bytes ∷ []) (count + 3)
-        tokens last total ending
+    tokens last total ending
     → Rest contents (file_at number at ∷ stack) files count tokens last total ending
 rest-includes contents number at stack files count file hash name after bytes tokens last total ending is here fine new read (stops h o f c ts l t fault unfolds) =
     stops (file_at number at) stack files count tokens last total fault
-        (breaks_off number at files count file hash name after bytes tokens last total fault is here fine new read unfolds)
+    (breaks_off number at files count file hash name after bytes tokens last total fault is here fine new read unfolds)
 rest-includes contents number at stack files count file hash name after bytes tokens last total ending is here fine new read
     (goes h o f c inner between counted ts l t e unfolds rest) =
     rest-behind contents number at stack files count file hash name after bytes inner between counted ts last total ending is here fine new read unfolds rest
@@ -144,7 +144,7 @@ pub stops-gives : (r : Reading) (here : Open) (span : Span) (h : HasStep r here 
 stops-gives r here span h spot full is contents =
     let over : nat_lt r.count 100000 ≡ false = grind (arith, nat_tests)
     in stops-fault contents r here (step.Gives span) h (Tokens spot)
-        (rw over (ap (λ s. Some (Tokens s)) (spot_is r.unit.files here.file span.start h.file spot h.is is)))
+    (rw over (ap (λ s. Some (Tokens s)) (spot_is r.unit.files here.file span.start h.file spot h.is is)))
 
 pub stops-mentions : (r : Reading) (here : Open) (hash : ℕ) (name : List ℕ) (after : ℕ) (h : HasStep r here (step.Mentions hash name after)) (spot : Spot)
     → 100000 < r.count + 3 → option_map (λ f. spot_in f hash) (slice_get r.unit.files here.file) ≡ Some spot
@@ -152,7 +152,7 @@ pub stops-mentions : (r : Reading) (here : Open) (hash : ℕ) (name : List ℕ) 
 stops-mentions r here hash name after h spot full is contents =
     let over : nat_lt 100000 (r.count + 3) ≡ true = grind (arith, nat_tests)
     in stops-fault contents r here (step.Mentions hash name after) h (Tokens spot)
-        (rw over (ap (λ s. Some (Tokens s)) (spot_is r.unit.files here.file hash h.file spot h.is is)))
+    (rw over (ap (λ s. Some (Tokens s)) (spot_is r.unit.files here.file hash h.file spot h.is is)))
 
 -- a token leads on
 pub leads-gives : (old new : Reading) (here : Open) (span : Span) (h : HasStep old here (step.Gives span)) → old.count < 100000
@@ -162,14 +162,14 @@ leads-gives old new here span h room unit stack count contents tokens last total
     let below : nat_lt old.count 100000 ≡ true = grind (arith, nat_tests)
     in let fine : step_fault contents old.unit.files old.count h.file (step.Gives span) ≡ None = rw below refl
     in let token : lexeme_of old.unit.files span ≡ lexeme_in h.file.bytes span
-        = ap (λ i. lexeme_in (bytes_of (slice_get old.unit.files i)) span) h.within.0 ∙ ap (λ o. lexeme_in (bytes_of o) span) h.is
+    = ap (λ i. lexeme_in (bytes_of (slice_get old.unit.files i)) span) h.within.0 ∙ ap (λ o. lexeme_in (bytes_of o) span) h.is
     in record {
       left = lexeme_in h.file.bytes span ∷ e.left;
       parts = e.parts ∙ ap (λ u. u.tokens ++ e.left) unit ∙ append_assoc old.unit.tokens (lexeme_of old.unit.files span ∷ []) e.left
-        ∙ ap (λ t. old.unit.tokens ++ t ∷ e.left) token;
+          ∙ ap (λ t. old.unit.tokens ++ t ∷ e.left) token;
       rest = rest-gives contents here.file here.at old.stack old.unit.files old.count h.file span e.left last total ending h.is h.step fine
-        (rest_at contents new.stack (file_at here.file span.end ∷ old.stack) new.unit.files old.unit.files new.count (old.count + 1) e.left last total ending
-            stack (ap (λ u. u.files) unit) count e.rest);
+          (rest_at contents new.stack (file_at here.file span.end ∷ old.stack) new.unit.files old.unit.files new.count (old.count + 1) e.left last total ending
+          stack (ap (λ u. u.files) unit) count e.rest);
     }
 
 -- so does the end of a file
@@ -192,8 +192,8 @@ leads-again old new here hash name after h room known unit stack count contents 
       left = e.left;
       parts = e.parts ∙ ap (λ u. u.tokens ++ e.left) unit;
       rest = rest-again contents here.file here.at old.stack old.unit.files old.count h.file hash name after e.left last total ending h.is h.step fine known
-        (rest_at contents new.stack (file_at here.file after ∷ old.stack) new.unit.files old.unit.files new.count (old.count + 3) e.left last total ending
-            stack (ap (λ u. u.files) unit) count e.rest);
+          (rest_at contents new.stack (file_at here.file after ∷ old.stack) new.unit.files old.unit.files new.count (old.count + 3) e.left last total ending
+          stack (ap (λ u. u.files) unit) count e.rest);
     }
 
 -- and an include of another
@@ -210,10 +210,10 @@ leads-includes old new here hash name after h bytes room new_file size unit stac
       left = e.left;
       parts = e.parts ∙ ap (λ u. u.tokens ++ e.left) unit;
       rest = rest-includes contents here.file here.at old.stack old.unit.files old.count h.file hash name after bytes e.left last total ending
-        h.is h.step fine new_file read
-        (rest_at contents new.stack (file_at (length old.unit.files) 0 ∷ file_at here.file after ∷ old.stack) new.unit.files
-            (old.unit.files ++ source (file_name name) bytes ∷ []) new.count (old.count + 3) e.left last total ending
-            stack (ap (λ u. u.files) unit) count e.rest);
+          h.is h.step fine new_file read
+          (rest_at contents new.stack (file_at (length old.unit.files) 0 ∷ file_at here.file after ∷ old.stack) new.unit.files
+          (old.unit.files ++ source (file_name name) bytes ∷ []) new.count (old.count + 3) e.left last total ending
+          stack (ap (λ u. u.files) unit) count e.rest);
     }
 
 -- ---- includes
@@ -271,12 +271,12 @@ pub stops-include : (r : Reading) (here : Open) (hash : ℕ) (name : List ℕ) (
 stops-include r here hash name after h room new given is (Missing n) cut = λ contents none.
     let named : n ≡ file_name name = cut ∙ uncut given name is h.within.2
     in include_fails contents r here hash name after h (Missing n) room new
-        (ap (reading_fault (file_name name)) (ap contents (sym named) ∙ none) ∙ ap (λ m. Some (Missing m)) (ap (take 8192) (sym is) ∙ sym cut))
+    (ap (reading_fault (file_name name)) (ap contents (sym named) ∙ none) ∙ ap (λ m. Some (Missing m)) (ap (take 8192) (sym is) ∙ sym cut))
 stops-include r here hash name after h room new given is (Long n) cut = λ contents long.
     let named : n ≡ file_name name = cut ∙ uncut given name is h.within.2
     in include_fails contents r here hash name after h (Long n) room new
-        (long_fault (file_name name) (contents (file_name name)) (subst (λ m. IsSomeAnd (contents m) (λ bytes. 16777216 < length bytes)) named long)
-            ∙ ap (λ m. Some (Long m)) (ap (take 8192) (sym is) ∙ sym cut))
+    (long_fault (file_name name) (contents (file_name name)) (subst (λ m. IsSomeAnd (contents m) (λ bytes. 16777216 < length bytes)) named long)
+    ∙ ap (λ m. Some (Long m)) (ap (take 8192) (sym is) ∙ sym cut))
 stops-include r here hash name after h room new given is Fault cut = tt
 stops-include r here hash name after h room new given is (Bad spot) cut = absurd cut
 stops-include r here hash name after h room new given is (Tokens spot) cut = absurd cut
@@ -311,10 +311,13 @@ ready-includes old new here name after ready i place room =
     in let behind : IsOpen old.unit.files (file_at here.file after) = record { file = ready.places.0.file; place = place }
     in record {
       places = subst (λ s. AllByRecursion (IsOpen new.unit.files) s) (sym i.stack)
-        (subst (λ f. AllByRecursion (IsOpen f) (file_at (length old.unit.files) 0 ∷ file_at here.file after ∷ old.stack)) (sym files)
-          ( record { file = omega (arith, length-append old.unit.files more); place = omega arith }
-          , ( open_stays old.unit.files more (file_at here.file after) behind
-            , all_map (IsOpen old.unit.files) (IsOpen (old.unit.files ++ more)) old.stack (open_stays old.unit.files more) ready.places.1)));
+          (subst (λ f. AllByRecursion (IsOpen f) (file_at (length old.unit.files) 0 ∷ file_at here.file after ∷ old.stack)) (sym files) (
+            record { file = omega (arith, length-append old.unit.files more); place = omega arith },
+            (
+              open_stays old.unit.files more (file_at here.file after) behind,
+              all_map (IsOpen old.unit.files) (IsOpen (old.unit.files ++ more)) old.stack (open_stays old.unit.files more) ready.places.1,
+            ),
+          ));
       few = omega (arith, i.count, room);
       paid = omega (arith, i.count, grown, ready.paid);
     }
@@ -335,9 +338,9 @@ pub leads-include : (old new : Reading) (here : Open) (hash : ℕ) (name : List 
     → Includes old new here given after → (contents : Contents) → HoldsFiles contents new.unit.files → Leads contents (reopened here old) new
 leads-include old new here hash name after h room new_file given is i contents holds =
     let unit : new.unit ≡ record { files = old.unit.files ++ source (file_name name) i.opens.bytes ∷ []; tokens = old.unit.tokens }
-        = i.opens.is ∙ ap (λ n. record { files = old.unit.files ++ source n i.opens.bytes ∷ []; tokens = old.unit.tokens }) is
+    = i.opens.is ∙ ap (λ n. record { files = old.unit.files ++ source n i.opens.bytes ∷ []; tokens = old.unit.tokens }) is
     in let read : contents (file_name name) ≡ Some i.opens.bytes
-        = holds-last contents old.unit.files (file_name name) i.opens.bytes (subst (HoldsFiles contents) (ap (λ u. u.files) unit) holds)
+    = holds-last contents old.unit.files (file_name name) i.opens.bytes (subst (HoldsFiles contents) (ap (λ u. u.files) unit) holds)
     in leads-includes old new here hash name after h i.opens.bytes room new_file i.opens.size unit i.stack i.count contents read
 
 -- ---- a whole reading
@@ -368,3 +371,101 @@ pub record RunSoFar (tells : Bool) (outside : Contents) (first now : Reading) : 
   pub leads : (contents : Contents) → HoldsFiles contents now.unit.files → Leads contents first now
   pub keeps : (contents : Contents) → HoldsFiles contents now.unit.files → HoldsFiles contents first.unit.files
   pub holds : IsTrue tells → HoldsFiles outside first.unit.files → HoldsFiles outside now.unit.files
+
+pub run-more : (tells : Bool) (outside : Contents) (first now popped new : Reading) (here : Open) → RunSoFar tells outside first now
+    → now ≡ reopened here popped → IsReady new
+    → ((contents : Contents) → HoldsFiles contents new.unit.files → Leads contents (reopened here popped) new)
+    → ((contents : Contents) → HoldsFiles contents new.unit.files → HoldsFiles contents popped.unit.files)
+    → (IsTrue tells → HoldsFiles outside popped.unit.files → HoldsFiles outside new.unit.files) → RunSoFar tells outside first new
+run-more tells outside first now popped new here so is ready leads keeps holds =
+    let files : now.unit.files ≡ popped.unit.files = ap (λ r. r.unit.files) is
+    in record {
+      ready = ready;
+      leads = λ contents held tokens last total ending e.
+          so.leads contents (subst (HoldsFiles contents) (sym files) (keeps contents held)) tokens last total ending
+          (subst (λ r. Ends contents r tokens last total ending) (sym is) (leads contents held tokens last total ending e));
+      keeps = λ contents held. so.keeps contents (subst (HoldsFiles contents) (sym files) (keeps contents held));
+      holds = λ told held. holds told (subst (HoldsFiles outside) files (so.holds told held));
+    }
+
+claims-map : (fault : GatherFault) (P Q : Type 0) → Claims fault P → (P → Q) → Claims fault Q
+claims-map (Missing name) P Q p f = f p
+claims-map (Long name) P Q p f = f p
+claims-map Fault P Q p f = tt
+claims-map (Bad spot) P Q p f = f p
+claims-map (Tokens spot) P Q p f = f p
+claims-map (Include spot) P Q p f = f p
+claims-map NoMemory P Q p f = tt
+
+-- where a step fails, the whole reading comes to its fault
+pub run-stops : (tells : Bool) (outside : Contents) (first now popped : Reading) (here : Open) (fault : GatherFault) → RunSoFar tells outside first now
+    → now ≡ reopened here popped → IsTrue tells → HoldsFiles outside first.unit.files
+    → Claims fault ((contents : Contents) → Explains contents fault → Stops contents (reopened here popped) fault) → Explains outside fault
+    → Claims fault (ComesTo outside first fault)
+run-stops tells outside first now popped here fault so is told held halts explained =
+    claims-map fault ((contents : Contents) → Explains contents fault → Stops contents (reopened here popped) fault) (ComesTo outside first fault) halts
+    (λ stop. record {
+      tokens = popped.unit.tokens;
+      last = popped.unit.files;
+      total = popped.count;
+      ends = so.leads outside (so.holds told held) popped.unit.tokens popped.unit.files popped.count (Some fault)
+          (subst (λ r. Ends outside r popped.unit.tokens popped.unit.files popped.count (Some fault)) (sym is) (stop outside explained));
+    })
+
+-- where no file is open any more, a reading ends with what it has
+pub run-whole : (tells : Bool) (outside : Contents) (first now : Reading) → RunSoFar tells outside first now → now.stack ≡ []
+    → (contents : Contents) → HoldsFiles contents now.unit.files → Ends contents first now.unit.tokens now.unit.files now.count None
+run-whole tells outside first now so empty contents held =
+    so.leads contents held now.unit.tokens now.unit.files now.count None (record {
+      left = [];
+      parts = sym (append-nil now.unit.tokens);
+      rest = subst (λ s. Rest contents s now.unit.files now.count [] now.unit.files now.count None) (sym empty) (closed now.unit.files now.count);
+    })
+
+rest_done : (contents : Contents) (number at : ℕ) (files : List Source) (count : ℕ) (inner : List Lexeme) (between : List Source) (counted : ℕ)
+    (tokens : List Lexeme) (last : List Source) (total : ℕ) (ending : Option GatherFault)
+    → Unfolds contents number at files count inner between counted None → Rest contents [] between counted tokens last total ending
+    → Unfolds contents number at files count (inner ++ tokens) last total ending
+rest_done contents number at files count inner between counted tokens last total ending unfolds (closed f c) =
+    subst (λ ts. Unfolds contents number at files count ts between counted None) (sym (append-nil inner)) unfolds
+
+rest_one : (contents : Contents) (number at : ℕ) (files : List Source) (count : ℕ) (tokens : List Lexeme) (last : List Source) (total : ℕ)
+    (ending : Option GatherFault) → Rest contents (file_at number at ∷ []) files count tokens last total ending
+    → Unfolds contents number at files count tokens last total ending
+rest_one contents number at files count tokens last total ending (stops h s f c ts l t failing unfolds) = unfolds
+rest_one contents number at files count tokens last total ending (goes h s f c inner between counted ts l t e unfolds rest) =
+    rest_done contents number at files count inner between counted ts last total ending unfolds rest
+
+-- what a reading from the beginning ends with is the unit of the script
+pub begins-unit : (contents : Contents) (script : List ℕ) (r : Reading) (tokens : List Lexeme) (files : List Source) (total : ℕ)
+    (ending : Option GatherFault) → Begins r script → HoldsFiles contents r.unit.files → Ends contents r tokens files total ending
+    → IsUnit contents script tokens files ending
+begins-unit contents script r tokens files total ending b held e =
+    let first : List Source = source (file_name script) b.bytes ∷ []
+    in let have : HoldsFiles contents first = subst (HoldsFiles contents) (ap (λ u. u.files) b.unit) held
+    in let unfolds : Unfolds contents 0 0 first 0 e.left files total ending
+    = rest_one contents 0 0 first 0 e.left files total ending
+    (rest_at contents r.stack (file_at 0 0 ∷ []) r.unit.files first r.count 0 e.left files total ending b.stack (ap (λ u. u.files) b.unit) b.count e.rest)
+    in let all : e.left ≡ tokens = sym (e.parts ∙ ap (λ u. u.tokens ++ e.left) b.unit)
+    in is_read b.bytes tokens files total ending have.0 b.size (subst (λ ts. Unfolds contents 0 0 first 0 ts files total ending) all unfolds)
+
+-- a script that is not read has no more than that fault
+pub begins-fails : (contents : Contents) (script : List ℕ) (fault : GatherFault) → IsReadFault (file_name script) fault
+    → ExplainsRead contents (file_name script) fault
+    → Claims fault ((tokens : List Lexeme) × (files : List Source) × IsUnit contents script tokens files (Some fault))
+begins-fails contents script (Missing n) cut e =
+    ([], [], unread (Missing n) (ap (reading_fault (file_name script)) e ∙ ap (λ m. Some (Missing m)) (sym cut)))
+begins-fails contents script (Long n) cut e =
+    ([], [], unread (Long n) (long_fault (file_name script) (contents (file_name script)) e ∙ ap (λ m. Some (Long m)) (sym cut)))
+begins-fails contents script Fault cut e = tt
+begins-fails contents script (Bad spot) cut e = absurd cut
+begins-fails contents script (Tokens spot) cut e = absurd cut
+begins-fails contents script (Include spot) cut e = absurd cut
+begins-fails contents script NoMemory cut e = tt
+
+pub begins-stops : (contents : Contents) (script : List ℕ) (r : Reading) (fault : GatherFault) → Begins r script → HoldsFiles contents r.unit.files
+    → Claims fault (ComesTo contents r fault)
+    → Claims fault ((tokens : List Lexeme) × (files : List Source) × IsUnit contents script tokens files (Some fault))
+begins-stops contents script r fault b held claims =
+    claims-map fault (ComesTo contents r fault) ((tokens : List Lexeme) × (files : List Source) × IsUnit contents script tokens files (Some fault)) claims
+    (λ c. (c.tokens, c.last, begins-unit contents script r c.tokens c.last c.total (Some fault) b held c.ends))

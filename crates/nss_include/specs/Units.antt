@@ -83,7 +83,7 @@ pub data Unfolds (contents : Contents) : ℕ → ℕ → List Source → ℕ →
 pub data IsUnit (contents : Contents) (script : List ℕ) : List Lexeme → List Source → Option GatherFault → Type 0 where
   unread : (fault : GatherFault) → reading_fault (file_name script) (contents (file_name script)) ≡ Some fault
       → IsUnit contents script [] [] (Some fault)
-  read : (bytes : List ℕ) (tokens : List Lexeme) (files : List Source) (total : ℕ) (ending : Option GatherFault)
+  is_read : (bytes : List ℕ) (tokens : List Lexeme) (files : List Source) (total : ℕ) (ending : Option GatherFault)
       → contents (file_name script) ≡ Some bytes → length bytes ≤ 16777216
       → Unfolds contents 0 0 (source (file_name script) bytes ∷ []) 0 tokens files total ending
       → IsUnit contents script tokens files ending

@@ -15,3 +15,6 @@ pub mod unit;
 pub use fault::{GatherFault, Spot};
 pub use reading::gather;
 pub use unit::Unit;
+
+#[cfg(test)]
+mod tests;

@@ -32,7 +32,12 @@ fn file_of(alloc: Global, name: &[u8]) -> Result<String, NoMemory>
 }
 
 /// Reads a file into the unit.
-fn read_into<F: Files>(alloc: Global, files: &mut F, unit: &mut Unit, name: &str) -> Result<(), GatherFault>
+fn read_into<F: Files>(
+    alloc: Global,
+    files: &mut F,
+    unit: &mut Unit,
+    name: &str,
+) -> Result<(), GatherFault>
     requires { length unit.old.files < 65_536 }
     ensures opens { OnOk result (Opens unit.old unit.new name.now) }
     ensures holds { IsTrue F.tells → OnOk result (Opened (map.get (F.contents files.old)) unit.old unit.new name.now) }
@@ -108,7 +113,14 @@ impl Reading {
     }
 
     /// Goes on in a file that is new to the unit, and then behind the directive.
-    fn include<F: Files>(&mut self, alloc: Global, files: &mut F, here: Open, name: &str, after: u32) -> Result<(), GatherFault>
+    fn include<F: Files>(
+        &mut self,
+        alloc: Global,
+        files: &mut F,
+        here: Open,
+        name: &str,
+        after: u32,
+    ) -> Result<(), GatherFault>
         requires ready { IsReady (reopened here self.old) }
         requires room { self.old.count + 3 ≤ 100000 }
         ensures includes { OnOk result (Includes self.old self.new here name.now after) }
@@ -133,7 +145,15 @@ impl Reading {
     }
 
     /// Goes on behind a directive that names an include.
-    fn mention<F: Files>(&mut self, alloc: Global, files: &mut F, here: Open, hash: u32, name: &Text, after: u32) -> Result<(), GatherFault>
+    fn mention<F: Files>(
+        &mut self,
+        alloc: Global,
+        files: &mut F,
+        here: Open,
+        hash: u32,
+        name: &Text,
+        after: u32,
+    ) -> Result<(), GatherFault>
         requires ready { IsReady (reopened here self.old) }
         requires step { HasStep self.old here (step.Mentions hash name.now after) }
         ensures ready { OnOk result (IsReady self.new) }
@@ -176,7 +196,12 @@ impl Reading {
     }
 
     /// Goes on here by a step.
-    fn advance<F: Files>(&mut self, alloc: Global, files: &mut F, here: Open) -> Result<(), GatherFault>
+    fn advance<F: Files>(
+        &mut self,
+        alloc: Global,
+        files: &mut F,
+        here: Open,
+    ) -> Result<(), GatherFault>
         requires { IsReady (reopened here self.old) }
         ensures ready { OnOk result (IsReady self.new) }
         ensures leads { OnOk result ((contents : Contents) → HoldsFiles contents self.new.unit.files → Leads contents (reopened here self.old) self.new) }
@@ -199,11 +224,15 @@ impl Reading {
                 Ok(()) => Ok(()),
                 Err(fault) => Err(fault),
             },
-            Step::Mentions(hash, name, after) => match self.mention(alloc, files, here, hash, &name, after) {
+            Step::Mentions(hash, name, after) => match self.mention(
+                alloc, files, here, hash, &name, after,
+            ) {
                 Ok(()) => Ok(()),
                 Err(fault) => Err(fault),
             },
-            Step::Misses(place) => Err(GatherFault::Include(self.unit.spot(alloc, here.file, place)?)),
+            Step::Misses(place) => Err(GatherFault::Include(
+                self.unit.spot(alloc, here.file, place)?,
+            )),
         }
     }
 

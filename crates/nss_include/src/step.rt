@@ -91,7 +91,13 @@ fn reads(text: &[u8], word: &[u8]) -> bool
 
 #[tactic(auto, using(crate::proofs::StepLemmas::named_within))]
 /// What a directive with its `#` at `hash` goes on with behind its `include`.
-fn behind_include(alloc: Global, bytes: &[u8], file: u16, hash: u32, at: u32) -> Result<Step, NoMemory>
+fn behind_include(
+    alloc: Global,
+    bytes: &[u8],
+    file: u16,
+    hash: u32,
+    at: u32,
+) -> Result<Step, NoMemory>
     requires size { length bytes.now ≤ SOURCE_BYTES }
     requires place { at ≤ length bytes.now }
     requires before { hash ≤ length bytes.now }

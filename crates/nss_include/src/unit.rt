@@ -83,7 +83,10 @@ impl Unit {
     pub(crate) fn has(&self, name: &[u8]) -> bool
         ensures { result ≡ is_among self.now.files name.now }
     {
-        self.files.as_slice().iter().any(|file| file.name.as_slice() == name)
+        self.files
+            .as_slice()
+            .iter()
+            .any(|file| file.name.as_slice() == name)
     }
 
     /// Puts a file last.
@@ -123,7 +126,11 @@ impl Unit {
 }
 
 /// The tokens of these spans of these files.
-fn tokens_of<'a>(alloc: Global, files: &'a [Source], spans: &[Span]) -> Result<Vec<Token<'a>>, NoMemory>
+fn tokens_of<'a>(
+    alloc: Global,
+    files: &'a [Source],
+    spans: &[Span],
+) -> Result<Vec<Token<'a>>, NoMemory>
     requires { AllByRecursion (IsSpan files.now) spans.now }
     ensures tokens { IfOk result (λ made. map plain made.items ≡ map (lexeme_of files.now) spans.now) }
     ensures spelled { IfOk result (λ made. AllByRecursion IsToken made.items) }

@@ -18,38 +18,37 @@ returns-then-has-clause-leads g c = λ contents _.
     let passed = c.in_ok-pass.ensures {u = tt}
     in let named : string_bytes c.in_ok-file.file ≡ file_name c.args.name.now = c.in_ok-file.ensures {u = tt} ∙ ap file_name c.bytes.ensures.same
     in let known : is_among c.args.self.now.unit.files (file_name c.args.name.now) ≡ true
-        = ap (is_among c.args.self.now.unit.files) (sym (c.as_bytes.ensures.value ∙ named)) ∙ sym c.has.ensures ∙ c.if-has.true
+    = ap (is_among c.args.self.now.unit.files) (sym (c.as_bytes.ensures.value ∙ named)) ∙ sym c.has.ensures ∙ c.if-has.true
     in let room : c.args.self.now.count + 3 ≤ 100000 = omega arith
     in leads-again c.args.self.now c.pass.new.self c.args.here c.args.hash c.args.name.now c.args.after c.requires.step room known
-        (ap (λ r. r.unit) passed) (ap (λ r. r.stack) passed) (ap (λ r. r.count) passed) contents
-
+    (ap (λ r. r.unit) passed) (ap (λ r. r.stack) passed) (ap (λ r. r.count) passed) contents
 
 pub returns-in-Ok-clause-ready : goal.returns-in-Ok-clause-ready
 returns-in-Ok-clause-ready g c =
     let room : c.args.self.now.count + 3 ≤ 100000 = omega arith
     in ready-includes c.args.self.now c.include.new.self c.args.here _ c.args.after c.requires.ready c.in-Ok.ensures.includes
-        (place-behind c.args.self.now c.args.here c.args.hash c.args.name.now c.args.after c.requires.step) room
+    (place-behind c.args.self.now c.args.here c.args.hash c.args.name.now c.args.after c.requires.step) room
 
 pub returns-in-Ok-clause-leads : goal.returns-in-Ok-clause-leads
 returns-in-Ok-clause-leads g c =
     let named : string_bytes c.in_ok-file.file ≡ file_name c.args.name.now = c.in_ok-file.ensures {u = tt} ∙ ap file_name c.bytes.ensures.same
     in let new : is_among c.args.self.now.unit.files (file_name c.args.name.now) ≡ false
-        = ap (is_among c.args.self.now.unit.files) (sym (c.as_bytes.ensures.value ∙ named)) ∙ sym c.has.ensures ∙ c.if-has.false
+    = ap (is_among c.args.self.now.unit.files) (sym (c.as_bytes.ensures.value ∙ named)) ∙ sym c.has.ensures ∙ c.if-has.false
     in let room : c.args.self.now.count + 3 ≤ 100000 = omega arith
     in leads-include c.args.self.now c.include.new.self c.args.here c.args.hash c.args.name.now c.args.after c.requires.step room new
-        c.as_str.result.now (c.as_str.ensures.value ∙ named) c.in-Ok.ensures.includes
+    c.as_str.result.now (c.as_str.ensures.value ∙ named) c.in-Ok.ensures.includes
 
 pub returns-clause-stops : goal.returns-clause-stops
 returns-clause-stops g c =
     let named : string_bytes c.in_ok-file.file ≡ file_name c.args.name.now = c.in_ok-file.ensures {u = tt} ∙ ap file_name c.bytes.ensures.same
     in let new : is_among c.args.self.now.unit.files (file_name c.args.name.now) ≡ false
-        = ap (is_among c.args.self.now.unit.files) (sym (c.as_bytes.ensures.value ∙ named)) ∙ sym c.has.ensures ∙ c.if-has.false
+    = ap (is_among c.args.self.now.unit.files) (sym (c.as_bytes.ensures.value ∙ named)) ∙ sym c.has.ensures ∙ c.if-has.false
     in let room : c.args.self.now.count + 3 ≤ 100000 = omega arith
     in stops-include c.args.self.now c.args.here c.args.hash c.args.name.now c.args.after c.requires.step room new
-        c.as_str.result.now (c.as_str.ensures.value ∙ named) c.in-Err.fault c.in-Err.ensures.fault
+    c.as_str.result.now (c.as_str.ensures.value ∙ named) c.in-Err.fault c.in-Err.ensures.fault
 
 pub returns-clause-told : goal.returns-clause-told
 returns-clause-told g c = λ told.
     let named : string_bytes c.in_ok-file.file ≡ file_name c.args.name.now = c.in_ok-file.ensures {u = tt} ∙ ap file_name c.bytes.ensures.same
     in explains-include (map.get (g.F.Files.contents c.args.files.now)) c.as_str.result.now c.args.name.now (c.as_str.ensures.value ∙ named)
-        c.requires.step.within.2 c.in-Err.fault c.in-Err.ensures.fault (c.in-Err.ensures.told told)
+    c.requires.step.within.2 c.in-Err.fault c.in-Err.ensures.fault (c.in-Err.ensures.told told)

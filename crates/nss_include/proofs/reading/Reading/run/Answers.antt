@@ -1,0 +1,36 @@
+use Rattle.std.proofs.Common.{ℕ, ◌≡◌, List, ◌∷◌, ap, subst, arith, ◌∙◌}
+use Rattle.std.specs.FinMap as map
+use Rattle.nss_include.specs.declared.opened.Open.{Open}
+use Rattle.nss_include.specs.declared.reading.Reading.{Reading}
+use Rattle.nss_include.specs.Gather.{HoldsFiles}
+use Rattle.nss_include.specs.Units.{Contents}
+use Rattle.nss_include.specs.Progress.{Explains, reopened}
+use Rattle.nss_include.proofs.ProgressLemmas.{run-more, run-stops, run-whole}
+use Rattle.nss_include.proofs.reading.Reading.run.Goals as goal
+
+pub loop-here-preserved : goal.loop-here-preserved
+loop-here-preserved g c =
+    let at : List Open → Reading = λ (s : List Open). record { unit = c.loop-here.self.unit; stack = s; count = c.loop-here.self.count }
+    in let is : c.loop-here.self ≡ at (c.in-Some.here ∷ c.pop.new.self) = ap at (c.in-Some.ensures {u = tt})
+    in let outside : map.get (g.F.Files.contents c.loop-here.files) ≡ map.get (g.F.Files.contents c.args.files.now) = ap map.get c.loop-here.invariant.1
+    in (
+      run-more _ _ c.args.self.now c.loop-here.self (at c.pop.new.self) c.advance.new.self c.in-Some.here c.loop-here.invariant.0 is
+          c.in-Ok.ensures.ready c.in-Ok.ensures.leads c.in-Ok.ensures.keeps
+          (λ told. subst (λ (o : Contents). HoldsFiles o c.loop-here.self.unit.files → HoldsFiles o c.advance.new.self.unit.files) outside
+          (c.in-Ok.ensures.holds told)),
+      c.in-Ok.ensures.same ∙ c.loop-here.invariant.1,
+      omega (arith, c.loop-here.invariant.2, c.in-Ok.ensures.faults_stay),
+      omega (arith, c.loop-here.invariant.3, c.in-Ok.ensures.absences_stay),
+      omega (arith, c.loop-here.invariant.4, c.in-Ok.ensures.longs_stay),
+    )
+
+pub returns-in-Err-clause-stops : goal.returns-in-Err-clause-stops
+returns-in-Err-clause-stops g c = λ told held.
+    let at : List Open → Reading = λ (s : List Open). record { unit = c.loop-here.self.unit; stack = s; count = c.loop-here.self.count }
+    in let is : c.loop-here.self ≡ at (c.in-Some.here ∷ c.pop.new.self) = ap at (c.in-Some.ensures {u = tt})
+    in let outside : map.get (g.F.Files.contents c.loop-here.files) ≡ map.get (g.F.Files.contents c.args.files.now) = ap map.get c.loop-here.invariant.1
+    in run-stops _ _ c.args.self.now c.loop-here.self (at c.pop.new.self) c.in-Some.here c.in-Err.fault c.loop-here.invariant.0 is told held
+    c.in-Err.ensures.stops (subst (λ (o : Contents). Explains o c.in-Err.fault) outside (c.in-Err.ensures.told told))
+
+pub returns-clause-whole : goal.returns-clause-whole
+returns-clause-whole g c = run-whole _ _ _ c.loop-here.self c.loop-here.invariant.0 c.in_default.ensures.0
