@@ -79,13 +79,16 @@ begins_at bytes g f plain is fits =
     let found : IsFound bytes g = subst (IsFoundIf bytes) is (form_found bytes) in
     let size : length (take g.length bytes) ≡ g.length = length_taken g.length bytes found.within in
     let limits = within_limited g.kind (take g.length bytes) g.length f size fits in
-    subst (BeginsAs bytes) (sym limits.is) (found.within, record {
-      front = ap (λ n. take n bytes) (sym size);
-      lexeme = (found.has, limits.fits);
-      longest = λ other k inside h.
-          let least = (subst (AtLeast other k) is (reads_front bytes other k inside h)).0 in omega (arith, least, size);
-      no_comment = plain;
-    })
+    subst (BeginsAs bytes) (sym limits.is) (
+      found.within,
+      record {
+        front = ap (λ n. take n bytes) (sym size);
+        lexeme = (found.has, limits.fits);
+        longest = λ other k inside h.
+            let least = (subst (AtLeast other k) is (reads_front bytes other k inside h)).0 in omega (arith, least, size);
+        no_comment = plain;
+      },
+    )
 
 begins_from : (bytes : List ℕ) (f : Front) (o : Option Front) → begins_comment bytes ≡ false → form bytes ≡ o → option_and_then within o ≡ Some f
     → BeginsAs bytes f
@@ -109,9 +112,9 @@ lexeme_at bytes kind text (Some g) b is least =
 pub begins_lexeme : (bytes : List ℕ) (kind : Kind) (text : List ℕ) → Begins bytes kind text → lexeme bytes ≡ Some (front kind (length text))
 begins_lexeme bytes kind text b =
     let whole : text ++ drop (length text) bytes ≡ bytes =
-        ap (λ t. t ++ drop (length text) bytes) b.front ∙ take-append-drop (length text) bytes in
+    ap (λ t. t ++ drop (length text) bytes) b.front ∙ take-append-drop (length text) bytes in
     lexeme_at bytes kind text (form bytes) b refl
-        (subst (λ t. AtLeast kind (length text) (form t)) whole (reads kind text (drop (length text) bytes) b.lexeme.0))
+    (subst (λ t. AtLeast kind (length text) (form t)) whole (reads kind text (drop (length text) bytes) b.lexeme.0))
 
 -- ---- where nothing begins
 
