@@ -71,7 +71,7 @@ reads_front bytes kind k fits h =
     (subst (λ t. AtLeast kind (length (take k bytes)) (form t)) (take-append-drop k bytes) (reads kind (take k bytes) (drop k bytes) h))
 
 abbrev pub BeginsAs : List ℕ → Front → Type 0
-BeginsAs bytes f = (f.length ≤ length bytes) × Begins bytes f.kind (take f.length bytes)
+BeginsAs bytes f = (0 < f.length) × (f.length ≤ length bytes) × Begins bytes f.kind (take f.length bytes)
 
 begins_at : (bytes : List ℕ) (g f : Front) → begins_comment bytes ≡ false → form bytes ≡ Some g → limited g.kind g.length ≡ Some f
     → BeginsAs bytes f
@@ -80,6 +80,7 @@ begins_at bytes g f plain is fits =
     let size : length (take g.length bytes) ≡ g.length = length_taken g.length bytes found.within in
     let limits = within_limited g.kind (take g.length bytes) g.length f size fits in
     subst (BeginsAs bytes) (sym limits.is) (
+      found.some,
       found.within,
       record {
         front = ap (λ n. take n bytes) (sym size);
@@ -336,6 +337,6 @@ pub front_stuck : (bytes : List ℕ) → 0 < length bytes → pass bytes ≡ Non
 front_stuck bytes some stops is = stuck_from bytes some stops (inl is)
 
 pub front_found : (bytes : List ℕ) (o : Option Front) → 0 < length bytes → pass bytes ≡ None → begins_comment bytes ≡ false → o ≡ lexeme bytes
-    → MatchOption o (IsStuck bytes) (λ f. (f.length ≤ length bytes) × Begins bytes f.kind (take f.length bytes))
+    → MatchOption o (IsStuck bytes) (λ f. (0 < f.length) × (f.length ≤ length bytes) × Begins bytes f.kind (take f.length bytes))
 front_found bytes None some stops plain is = stuck_from bytes some stops (inr (sym is))
 front_found bytes (Some f) some stops plain is = lexeme_begins bytes f plain (sym is)

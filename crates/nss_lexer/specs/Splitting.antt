@@ -80,6 +80,7 @@ pub record IsFirstToken (bytes : List ℕ) (number at : ℕ) (t : Lexeme) : Type
   pub gap : Gap (drop at bytes) (drop t.start bytes)
   pub begins : Begins (drop t.start bytes) t.kind t.text
   pub last : t.end ≡ t.start + length t.text
+  pub some : t.start < t.end
   pub within : t.end ≤ length bytes
   pub file : t.file ≡ number
 
