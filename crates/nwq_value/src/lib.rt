@@ -8,7 +8,9 @@
 pub mod items;
 pub mod memory;
 pub mod text;
+pub mod value;
 
 pub use items::Items;
 pub use memory::NoMemory;
 pub use text::Text;
+pub use value::{start_of, Args, Effect, Ints, Randoms, Ty, Tys, Value};
