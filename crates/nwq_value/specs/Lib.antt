@@ -1,1 +1,5 @@
+pub mod Engine
+pub mod Entries
+pub mod Header
+pub mod Roles
 pub mod Values

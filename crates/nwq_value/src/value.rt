@@ -21,8 +21,11 @@ pub enum Ty {
 }
 
 pub type Ints = Items<i32>;
+
 pub type Randoms = Items<u32>;
+
 pub type Args = Items<Value>;
+
 pub type Tys = Items<Ty>;
 
 /// An effect: the number of the routine that made it, and that routine's integer arguments in order.
