@@ -36,11 +36,15 @@ pub record Signature : Type 0 where
 abbrev pub signature : HeaderRoutine → Signature
 signature h = record { name = h.name; gives = h.word.ty; takes = map (λ p. p.word.ty) h.params; role = h.role }
 
--- the role of the first row with this name, this result and these parameter types, where one is there and has a role
+-- whether a routine with this name, this result and these parameter types has the signature
+unfoldable pub has_signature : List ℕ → Ty → List Ty → Signature → Bool
+has_signature name gives takes s = bytes_eq name s.name && ty_eq gives s.gives && tys_eq takes s.takes
+
+-- the role of the first row with this signature
 unfoldable pub role_of_row : List Signature → List ℕ → Ty → List Ty → Option Role
 role_of_row [] name gives takes = None
 role_of_row (s ∷ rest) name gives takes =
-    if bytes_eq name s.name && ty_eq gives s.gives && tys_eq takes s.takes then s.role else role_of_row rest name gives takes
+    if has_signature name gives takes s then s.role else role_of_row rest name gives takes
 
 -- a type that no call can pass or give
 abbrev pub is_barred_type : Ty → Bool

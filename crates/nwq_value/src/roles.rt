@@ -1,6 +1,7 @@
-ghost use Rattle.std.specs.Prelude.{◌≡◌, ◌↔◌, IsTrue, map};
-ghost use Rattle.nwq_value.specs.Roles.{engine_role, is_barred_type, role_of_row, role_without_row, signature, types_of};
-ghost use Rattle.nwq_value.specs.Header.{header_routines};
+ghost use Rattle.std.specs.Prelude.{◌≡◌, map};
+ghost use Rattle.std.specs.List.{list_any};
+ghost use Rattle.nwq_value.specs.Roles.{engine_role, has_signature, header_signatures, is_barred_type, role_of_row, role_without_row, ty_eq, tys_eq, types_of};
+ghost use Rattle.nwq_value.specs.Rows.{row_signature};
 
 use crate::engine::{Param, Role};
 use crate::value::Ty;
@@ -244,27 +245,58 @@ static ROWS: [Row; 38] = [
     },
 ];
 
-/// Whether these are parameters of these types, in order.
-fn are_types(params: &[Param], takes: &[Ty]) -> bool
-    ensures { IsTrue result ↔ (types_of params.now ≡ takes.now) }
+/// Whether the types are equal.
+fn same_type(a: Ty, b: Ty) -> bool
+    ensures { result ≡ ty_eq a b }
 {
-    match (params, takes) {
-        ([], []) => true,
-        ([param, params @ ..], [ty, takes @ ..]) => param.ty == *ty && are_types(params, takes),
-        _ => false,
+    a == b
+}
+
+/// Whether these are parameters of these types, in order.
+#[tactic(auto, unfolding(crate::specs::Roles::tys_eq))]
+fn are_types(params: &[Param], takes: &[Ty]) -> bool
+    ensures { result ≡ tys_eq (types_of params.now) takes.now }
+{
+    match params {
+        [] => takes.is_empty(),
+        [param, params @ ..] => match takes {
+            [] => false,
+            [ty, takes @ ..] => same_type(param.ty, *ty) && are_types(params, takes),
+        },
     }
 }
 
-/// The role of the engine's row for this signature.
-fn row_role(name: &[u8], gives: Ty, params: &[Param]) -> Option<Role>
-    ensures { result ≡ role_of_row (map signature header_routines) name.now gives (types_of params.now) }
+/// Whether a routine has the row's signature.
+#[tactic(auto, unfolding(crate::specs::Roles::has_signature))]
+fn has_signature(name: &[u8], gives: Ty, params: &[Param], row: &Row) -> bool
+    ensures { result ≡ has_signature name.now gives (types_of params.now) (row_signature row.now) }
 {
-    for row in &ROWS {
-        if name == row.name && gives == row.gives && are_types(params, row.takes) {
-            return row.role;
+    name == row.name && same_type(gives, row.gives) && are_types(params, row.takes)
+}
+
+/// The role of the first row with this signature.
+#[tactic(auto, unfolding(crate::specs::Roles::role_of_row))]
+fn role_in(rows: &[Row], name: &[u8], gives: Ty, params: &[Param]) -> Option<Role>
+    ensures { result ≡ role_of_row (map row_signature rows.now) name.now gives (types_of params.now) }
+{
+    match rows {
+        [] => None,
+        [row, rest @ ..] => {
+            if has_signature(name, gives, params, row) {
+                row.role
+            } else {
+                role_in(rest, name, gives, params)
+            }
         }
     }
-    None
+}
+
+/// The rows of the built-in header.
+#[tactic(auto, unfolding(crate::specs::Header::header_routines))]
+fn rows() -> &'static [Row]
+    ensures { map row_signature result.now ≡ header_signatures }
+{
+    &ROWS
 }
 
 /// Whether no call can pass or give a value of this type.
@@ -274,11 +306,21 @@ fn is_barred(ty: Ty) -> bool
     matches!(ty, Ty::Refused | Ty::Action)
 }
 
+/// Whether one of these is a parameter that no call can pass.
+fn any_barred(params: &[Param]) -> bool
+    ensures { result ≡ list_any (λ p. is_barred_type p.ty) params.now }
+{
+    params.iter().any(|param| is_barred(param.ty))
+}
+
 /// The role of a routine for which the engine has no row.
+#[tactic(auto, using(crate::proofs::RoleLemmas::any_barred_type), unfolding(crate::specs::Roles::role_without_row))]
 fn plain_role(gives: Ty, params: &[Param]) -> Role
     ensures { result ≡ role_without_row gives (types_of params.now) }
 {
-    if is_barred(gives) || params.iter().any(|param| is_barred(param.ty)) {
+    if is_barred(gives) {
+        Role::Uncallable
+    } else if any_barred(params) {
         Role::Uncallable
     } else {
         Role::World
@@ -288,10 +330,11 @@ fn plain_role(gives: Ty, params: &[Param]) -> Role
 /// The role of a routine with this name, result and parameters, which depends on their types alone: that
 /// of the engine's row where the built-in header has this very signature, else `Uncallable` where a type
 /// is refused or an action, and else `World`.
+#[tactic(auto, unfolding(crate::specs::Roles::engine_role))]
 pub fn role_of(name: &[u8], gives: Ty, params: &[Param]) -> Role
     ensures { result ≡ engine_role name.now gives (types_of params.now) }
 {
-    match row_role(name, gives, params) {
+    match role_in(rows(), name, gives, params) {
         Some(role) => role,
         None => plain_role(gives, params),
     }
