@@ -1,3 +1,4 @@
 mod RoleLemmas
+mod TableLemmas
 mod TextLemmas
 mod ValueLemmas

@@ -1,5 +1,5 @@
 -- What a table holds, and what is kept of it.
-use Rattle.std.specs.Prelude.{◌≡◌, ◌≢◌, ◌≤◌, ℕ, ◌+◌, Bool, List, [], ◌∷◌, Option, None, Some, length, map, if◌then◌else◌}
+use Rattle.std.specs.Prelude.{◌≡◌, ◌≢◌, ◌≤◌, ℕ, suc, Bool, List, [], ◌∷◌, Option, None, Some, length, map, if◌then◌else◌}
 use Rattle.std.specs.Option.{option_map}
 use Rattle.std.specs.List.{IsDistinct}
 use Rattle.std.specs.Str.{bytes_eq}
@@ -24,7 +24,7 @@ pub record EngineTable : Type 0 where
 -- the number of the first routine with this name
 unfoldable pub routine_named : List ℕ → List Routine → Option ℕ
 routine_named name [] = None
-routine_named name (r ∷ rs) = if bytes_eq name r.name then Some 0 else option_map (λ n. n + 1) (routine_named name rs)
+routine_named name (r ∷ rs) = if bytes_eq name r.name then Some 0 else option_map suc (routine_named name rs)
 
 -- the first constant with this name
 unfoldable pub constant_named : List ℕ → List Constant → Option Const
