@@ -1,4 +1,5 @@
 mod RoleLemmas
+mod RowLemmas
 mod TableLemmas
 mod TextLemmas
 mod ValueLemmas
