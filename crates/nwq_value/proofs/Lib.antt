@@ -1,3 +1,4 @@
+mod NameLemmas
 mod RoleLemmas
 mod RowLemmas
 mod TableLemmas

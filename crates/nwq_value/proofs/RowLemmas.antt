@@ -7,7 +7,7 @@ use Rattle.nwq_value.specs.declared.value.Ty.{Ty}
 use Rattle.nwq_value.specs.declared.engine.Role.{Role}
 use Rattle.nwq_value.specs.declared.engine.Role.TheVariants.{Built, Pure, World, Uncallable}
 use Rattle.nwq_value.specs.Header.{header_routines}
-use Rattle.nwq_value.specs.Roles.{Signature, ty_eq, tys_eq, has_signature, role_of_row, role_without_row, engine_role, header_signatures, is_barred_type, BuiltAsHeader, PureAsHeader}
+use Rattle.nwq_value.specs.Roles.{Signature, ty_eq, tys_eq, has_signature, role_of_row, role_without_row, engine_role, header_signatures, is_barred_type, BuiltAsHeader, PureAsHeader, WorldIsCallable, UncallableIsBarred}
 use Rattle.nwq_value.proofs.RoleLemmas.{ty_eq-same}
 
 both : (a b : Bool) → (a && b) ≡ true → (a ≡ true) × (b ≡ true)
@@ -57,7 +57,8 @@ row_at (s ∷ ss) name gives takes role e = by (has_signature name gives takes s
 is_number : ℕ → Option Role → Bool
 is_number i (Some (Built n)) = nat_eq n i
 is_number i (Some (Pure k)) = nat_eq (28 + k) i
-is_number i _ = true
+is_number i None = true
+is_number i _ = false
 
 numbered : ℕ → List Signature → Bool
 numbered i [] = true
@@ -125,3 +126,33 @@ unfolding engine_role role_without_row
 pure_as_header name gives takes k e =
     pure_at header_signatures name gives takes k header_numbered (row_at header_signatures name gives takes (Pure k)
         (pure_row (role_of_row header_signatures name gives takes) (is_barred_type gives || list_any is_barred_type takes) k e))
+
+-- ---- no row is of a world function or of an uncallable one
+
+no_such_row : (ss : List Signature) (name : List ℕ) (gives : Ty) (takes : List Ty) (role : Role) → numbered 0 ss ≡ true
+    → ((i : ℕ) → is_number i (Some role) ≡ false) → role_of_row ss name gives takes ≡ Some role → ⊥
+no_such_row ss name gives takes role all never e =
+    let row = row_at ss name gives takes role e in
+    true≢false (sym (number_from_zero ss row.number _ all row.at) ∙ never row.number)
+
+world_row : (o : Option Role) (b : Bool) → unwrap_or o (if b then Uncallable else World) ≡ World → (o ≡ Some World → ⊥) → b ≡ false
+world_row None true e never = cc
+world_row None false e never = refl
+world_row (Some role) b e never = absurd (never (ap Some e))
+
+uncallable_row : (o : Option Role) (b : Bool) → unwrap_or o (if b then Uncallable else World) ≡ Uncallable → (o ≡ Some Uncallable → ⊥) → b ≡ true
+uncallable_row None true e never = refl
+uncallable_row None false e never = cc
+uncallable_row (Some role) b e never = absurd (never (ap Some e))
+
+pub world_is_callable : WorldIsCallable
+unfolding engine_role role_without_row is_number
+world_is_callable name gives takes e =
+    world_row (role_of_row header_signatures name gives takes) (is_barred_type gives || list_any is_barred_type takes) e
+        (no_such_row header_signatures name gives takes World header_numbered (λ i. refl))
+
+pub uncallable_is_barred : UncallableIsBarred
+unfolding engine_role role_without_row is_number
+uncallable_is_barred name gives takes e =
+    uncallable_row (role_of_row header_signatures name gives takes) (is_barred_type gives || list_any is_barred_type takes) e
+        (no_such_row header_signatures name gives takes Uncallable header_numbered (λ i. refl))

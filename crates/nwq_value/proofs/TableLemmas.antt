@@ -25,7 +25,7 @@ later : {A B : Type 0} (f : A → B) (o : Option A) → option_map f o ≡ None 
 later f None e = refl
 later f (Some x) e = cc
 
-routine_cons : (name : List ℕ) (r : Routine) (rs : List Routine) → routine_named name (r ∷ rs) ≡ None → (bytes_eq name r.name ≡ false) × (routine_named name rs ≡ None)
+pub routine_cons : (name : List ℕ) (r : Routine) (rs : List Routine) → routine_named name (r ∷ rs) ≡ None → (bytes_eq name r.name ≡ false) × (routine_named name rs ≡ None)
 unfolding routine_named
 routine_cons name r rs e = let p = parts (bytes_eq name r.name) 0 (option_map suc (routine_named name rs)) e in (p.0, later suc (routine_named name rs) p.1)
 
@@ -33,7 +33,7 @@ routine_absent : (name : List ℕ) (r : Routine) (rs : List Routine) → bytes_e
 unfolding routine_named
 routine_absent name r rs other none = ap (λ b. if b then Some 0 else option_map suc (routine_named name rs)) other ∙ ap (option_map suc) none
 
-constant_cons : (name : List ℕ) (c : Constant) (cs : List Constant) → constant_named name (c ∷ cs) ≡ None → (bytes_eq name c.name ≡ false) × (constant_named name cs ≡ None)
+pub constant_cons : (name : List ℕ) (c : Constant) (cs : List Constant) → constant_named name (c ∷ cs) ≡ None → (bytes_eq name c.name ≡ false) × (constant_named name cs ≡ None)
 unfolding constant_named
 constant_cons name c cs e = parts (bytes_eq name c.name) c.value (constant_named name cs) e
 

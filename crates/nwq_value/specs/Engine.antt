@@ -1,5 +1,5 @@
 -- What a table holds, and what is kept of it.
-use Rattle.std.specs.Prelude.{◌≡◌, ◌≢◌, ◌≤◌, ℕ, suc, Bool, List, [], ◌∷◌, Option, None, Some, length, map, if◌then◌else◌}
+use Rattle.std.specs.Prelude.{◌≡◌, ◌≢◌, ◌≤◌, ℕ, suc, Bool, List, [], ◌∷◌, Option, None, Some, length, map, slice_get, if◌then◌else◌}
 use Rattle.std.specs.Option.{option_map}
 use Rattle.std.specs.List.{IsDistinct}
 use Rattle.std.specs.Str.{bytes_eq}
@@ -75,3 +75,21 @@ pub record IsTable (t : EngineTable) : Type 0 where
   pub routine_names : IsDistinct bytes_eq (map (λ r. r.name) t.routines)
   pub constant_names : IsDistinct bytes_eq (map (λ c. c.name) t.constants)
   pub apart : AreApart t.constants t.routines
+
+-- the number of a name is that of a routine with this very name, and no number says that no routine has it
+abbrev pub NumberIsOfName : Type 0
+NumberIsOfName = (name : List ℕ) (routines : List Routine) (n : ℕ) → routine_named name routines ≡ Some n
+    → (r : Routine) × (slice_get routines n ≡ Some r) × (r.name ≡ name)
+
+abbrev pub NoNumberNoName : Type 0
+NoNumberNoName = (name : List ℕ) (routines : List Routine) → routine_named name routines ≡ None
+    → (n : ℕ) (r : Routine) → slice_get routines n ≡ Some r → r.name ≢ name
+
+-- the same of constants
+abbrev pub ConstantIsOfName : Type 0
+ConstantIsOfName = (name : List ℕ) (constants : List Constant) (value : Const) → constant_named name constants ≡ Some value
+    → (n : ℕ) × (slice_get constants n ≡ Some (record { name = name; value = value }))
+
+abbrev pub NoConstantNoName : Type 0
+NoConstantNoName = (name : List ℕ) (constants : List Constant) → constant_named name constants ≡ None
+    → (n : ℕ) (c : Constant) → slice_get constants n ≡ Some c → c.name ≢ name

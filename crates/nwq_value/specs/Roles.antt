@@ -78,3 +78,13 @@ BuiltAsHeader = (name : List ℕ) (gives : Ty) (takes : List Ty) (n : ℕ) → e
 abbrev pub PureAsHeader : Type 0
 PureAsHeader = (name : List ℕ) (gives : Ty) (takes : List Ty) (k : ℕ) → engine_role name gives takes ≡ Pure k
     → slice_get header_signatures (28 + k) ≡ Some (record { name = name; gives = gives; takes = takes; role = Some (Pure k) })
+
+-- a world function passes and gives values that a call can pass and give
+abbrev pub WorldIsCallable : Type 0
+WorldIsCallable = (name : List ℕ) (gives : Ty) (takes : List Ty) → engine_role name gives takes ≡ World
+    → list_any is_barred_type (gives ∷ takes) ≡ false
+
+-- an uncallable function would pass or give one that no call can
+abbrev pub UncallableIsBarred : Type 0
+UncallableIsBarred = (name : List ℕ) (gives : Ty) (takes : List Ty) → engine_role name gives takes ≡ Uncallable
+    → list_any is_barred_type (gives ∷ takes) ≡ true

@@ -1,6 +1,6 @@
 ghost use Rattle.std.specs.Prelude.{◌≡◌};
 ghost use Rattle.nwq_value.specs.Header.{header_text};
-ghost use Rattle.nwq_value.specs.Roles.{BuiltAsHeader, PureAsHeader};
+ghost use Rattle.nwq_value.specs.Roles.{BuiltAsHeader, PureAsHeader, UncallableIsBarred, WorldIsCallable};
 
 /// The built-in header, as a script's header is written.
 pub static BUILT_IN: &[u8] = b"#define ENGINE_NUM_STRUCTURES 4\n\
@@ -57,8 +57,12 @@ pub fn built_in_is_the_header()
     ensures { BUILT_IN.now ≡ header_text }
 {}
 
-/// The engine carries out a routine by a row of its table only where the routine has that row's signature.
-pub fn rows_fit_the_header()
+/// What a role tells: `Built` and `Pure` come from the header's row of that number alone, with its name
+/// and its types; a world function has only values that a call can pass and give, an uncallable one has not.
+pub fn roles_tell()
     ensures built { BuiltAsHeader }
     ensures hooks { PureAsHeader }
-{}
+    ensures world { WorldIsCallable }
+    ensures uncallable { UncallableIsBarred }
+{
+}

@@ -1,6 +1,6 @@
 ghost use Rattle.std.specs.Prelude.{◌≡◌, ◌<◌, ◌≤◌, ◌∷◌, [], ◌++◌, None, Some, length, slice_get, IfSome, OnOk, OnErr};
 ghost use Rattle.std.specs.Option.{option_copied};
-ghost use Rattle.nwq_value.specs.Engine.{routine_named, constant_named, AreParams, IsNoStruct, IsRoutine, IsTable};
+ghost use Rattle.nwq_value.specs.Engine.{routine_named, constant_named, AreParams, ConstantIsOfName, IsNoStruct, IsRoutine, IsTable, NoConstantNoName, NoNumberNoName, NumberIsOfName};
 ghost use Rattle.nwq_value.specs.Roles.{engine_role, types_of};
 
 use crate::engine::{Const, Routine};
@@ -119,4 +119,13 @@ impl Table {
     {
         let _ = &self.routines;
     }
+}
+
+/// What the look-ups by name tell of a list of routines and of a list of constants.
+pub fn names_tell()
+    ensures number { NumberIsOfName }
+    ensures no_number { NoNumberNoName }
+    ensures constant { ConstantIsOfName }
+    ensures no_constant { NoConstantNoName }
+{
 }
