@@ -119,13 +119,13 @@ pub built_as_header : BuiltAsHeader
 unfolding engine_role role_without_row
 built_as_header name gives takes n e =
     built_at header_signatures name gives takes n header_numbered (row_at header_signatures name gives takes (Built n)
-        (built_row (role_of_row header_signatures name gives takes) (is_barred_type gives || list_any is_barred_type takes) n e))
+    (built_row (role_of_row header_signatures name gives takes) (is_barred_type gives || list_any is_barred_type takes) n e))
 
 pub pure_as_header : PureAsHeader
 unfolding engine_role role_without_row
 pure_as_header name gives takes k e =
     pure_at header_signatures name gives takes k header_numbered (row_at header_signatures name gives takes (Pure k)
-        (pure_row (role_of_row header_signatures name gives takes) (is_barred_type gives || list_any is_barred_type takes) k e))
+    (pure_row (role_of_row header_signatures name gives takes) (is_barred_type gives || list_any is_barred_type takes) k e))
 
 -- ---- no row is of a world function or of an uncallable one
 
@@ -149,10 +149,10 @@ pub world_is_callable : WorldIsCallable
 unfolding engine_role role_without_row is_number
 world_is_callable name gives takes e =
     world_row (role_of_row header_signatures name gives takes) (is_barred_type gives || list_any is_barred_type takes) e
-        (no_such_row header_signatures name gives takes World header_numbered (λ i. refl))
+    (no_such_row header_signatures name gives takes World header_numbered (λ i. refl))
 
 pub uncallable_is_barred : UncallableIsBarred
 unfolding engine_role role_without_row is_number
 uncallable_is_barred name gives takes e =
     uncallable_row (role_of_row header_signatures name gives takes) (is_barred_type gives || list_any is_barred_type takes) e
-        (no_such_row header_signatures name gives takes Uncallable header_numbered (λ i. refl))
+    (no_such_row header_signatures name gives takes Uncallable header_numbered (λ i. refl))

@@ -229,7 +229,6 @@ module _ {S : Type 0} (m : IndexMap (Vec ℕ Global) Routine S) (k : Vec ℕ Glo
     (cs : List (Vec ℕ Global × Const)) (t : EngineTable) (view : table_of m.entries cs ≡ t) (kept : AreKeyed m.entries × IsTable (table_of m.entries cs))
     (is : k.items ≡ r.name) (no_r : routine_named r.name t.routines ≡ None)
     (entries : after ≡ insert_entry (λ x y. bytes_eq x.items y.items) m.entries k r) where
-
   no_routine_in : routine_named r.name (routines_in m.entries) ≡ None
   no_routine_in = ap (λ u. routine_named r.name u.routines) view ∙ no_r
 
@@ -243,15 +242,15 @@ module _ {S : Type 0} (m : IndexMap (Vec ℕ Global) Routine S) (k : Vec ℕ Glo
       ∙ ap (λ u. record { routines = u.routines ++ r ∷ []; constants = u.constants }) view
 
   pub kept_pushed : constant_named r.name t.constants ≡ None → length t.routines < 65535 → IsRoutine r → AreKeyed after × IsTable (table_of after cs)
-  kept_pushed no_c room here =
-      (subst AreKeyed (sym routine_last) (keyed_more m.entries k r kept.0 is),
-       subst IsTable (sym view_pushed) (table_pushed t r (subst IsTable view kept.1) no_r no_c room here))
+  kept_pushed no_c room here = (
+    subst AreKeyed (sym routine_last) (keyed_more m.entries k r kept.0 is),
+    subst IsTable (sym view_pushed) (table_pushed t r (subst IsTable view kept.1) no_r no_c room here),
+  )
 
 module _ {S : Type 0} (m : IndexMap (Vec ℕ Global) Const S) (k : Vec ℕ Global) (v : Const) (name : List ℕ) (after : List (Vec ℕ Global × Const))
     (es : List (Vec ℕ Global × Routine)) (t : EngineTable) (view : table_of es m.entries ≡ t) (kept : AreKeyed es × IsTable (table_of es m.entries))
     (is : k.items ≡ name) (no_c : constant_named name t.constants ≡ None)
     (entries : after ≡ insert_entry (λ x y. bytes_eq x.items y.items) m.entries k v) where
-
   no_constant_in : constant_named k.items (constants_in m.entries) ≡ None
   no_constant_in = ap (λ u. constant_named k.items u.constants) view ∙ subst (λ n. constant_named n t.constants ≡ None) (sym is) no_c
 

@@ -64,5 +64,4 @@ pub fn roles_tell()
     ensures hooks { PureAsHeader }
     ensures world { WorldIsCallable }
     ensures uncallable { UncallableIsBarred }
-{
-}
+{}

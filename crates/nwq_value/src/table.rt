@@ -127,5 +127,4 @@ pub fn names_tell()
     ensures no_number { NoNumberNoName }
     ensures constant { ConstantIsOfName }
     ensures no_constant { NoConstantNoName }
-{
-}
+{}
