@@ -1,5 +1,5 @@
 -- What becomes of a table's names and facts as it grows, and how its maps answer.
-use Rattle.std.proofs.Common.{◌≡◌, ℕ, zero, suc, ◌+◌, ◌≤◌, ◌<◌, Bool, true, false, not, cond, if◌then◌else◌, nat_lt, nat_eq, Vec, List, [], ◌∷◌, ◌++◌, length, map, slice_get, position, Option, None, Some, refl, sym, ap, subst, ◌∙◌, true≢false, arith, IfSome, Bor}
+use Rattle.std.proofs.Common.{◌≡◌, ℕ, zero, suc, ◌+◌, ◌<◌, Bool, true, false, not, cond, if◌then◌else◌, nat_lt, Vec, List, [], ◌∷◌, ◌++◌, length, map, slice_get, position, Option, None, Some, refl, sym, ap, subst, ◌∙◌, arith, IfSome, Bor}
 use Rattle.std.proofs.lemmas.Bool.Decides.{nat_tests}
 use Rattle.std.proofs.lemmas.Grind.{common_steps}
 use Rattle.std.specs.declared.alloc.Global.{Global}

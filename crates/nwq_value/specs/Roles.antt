@@ -7,7 +7,7 @@ use Rattle.nwq_value.specs.declared.value.Ty.TheVariants.{Void, Int, Text, Objec
 use Rattle.nwq_value.specs.declared.engine.Param.{Param}
 use Rattle.nwq_value.specs.declared.engine.Role.{Role}
 use Rattle.nwq_value.specs.declared.engine.Role.TheVariants.{Built, Pure, World, Uncallable}
-use Rattle.nwq_value.specs.Header.{HeaderRoutine, HeaderParam, header_routines}
+use Rattle.nwq_value.specs.Header.{HeaderRoutine, header_routines}
 
 -- the test of two types for equality
 unfoldable pub ty_eq : Ty → Ty → Bool

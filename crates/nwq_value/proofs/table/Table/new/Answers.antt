@@ -1,4 +1,3 @@
-use Rattle.std.proofs.Common.{◌∷◌}
 use Rattle.nwq_value.proofs.TableLemmas.{table_empty}
 use Rattle.nwq_value.proofs.table.Table.new.Goals as goal
 
