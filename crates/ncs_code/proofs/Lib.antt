@@ -1,4 +1,4 @@
-mod Pieces
-mod Rows
-mod Sound
-mod Readings
+pub mod Pieces
+pub mod Rows
+pub mod Sound
+pub mod Readings

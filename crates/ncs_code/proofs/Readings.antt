@@ -13,15 +13,7 @@ use Rattle.ncs_code.specs.Plain.{plain}
 use Rattle.ncs_code.specs.declared.fault.CodeFault.{CodeFault}
 use Rattle.ncs_code.specs.declared.instruction.Op.{Op}
 use Rattle.ncs_code.proofs.Sound.{sound}
-
-abbrev two_of : List ℕ → ℕ
-two_of args = from_be_bytes w16 args
-
-abbrev four_of : List ℕ → ℕ
-four_of args = from_be_bytes w32 args
-
-abbrev signed_of : List ℕ → ℤ
-signed_of args = cast_signed w32 (from_be_bytes w32 args)
+use Rattle.ncs_code.specs.Reading.{two_of, four_of, signed_of, op_of}
 
 two_again : (n : ℕ) (rest : List ℕ) → n < 2 ^ 16 → two_of (two n ++ rest) ≡ n
 unfolding two
@@ -34,86 +26,6 @@ four_again n rest fits = from_be_bytes-to_be_bytes_4 n fits
 signed_again : (n : ℤ) (rest : List ℕ) → FitsSigned w32 n → signed_of (signed n ++ rest) ≡ n
 unfolding signed
 signed_again n rest fits = ap (cast_signed w32) (from_be_bytes-to_be_bytes_4 (cast_unsigned w32 n) (omega (arith, Fits-of_z fits))) ∙ to_z-of_z w32 n fits
-
--- a row: the instruction with this type byte and arguments that begin here
-abbrev Row : Type 0
-Row = ℕ → List ℕ → PlainOp
-
-abbrev bare : PlainOp → Row
-bare op kind args = op
-
-abbrev typed : (ℕ → PlainOp) → Row
-typed make kind args = make kind
-
-abbrev moved : (ℤ → PlainOp) → Row
-moved make kind args = make (signed_of args)
-
-abbrev copied : (ℤ → ℕ → PlainOp) → Row
-copied make kind args = make (signed_of args) (two_of (drop 4 args))
-
-abbrev compared : (ℕ → ℕ → PlainOp) → Row
-compared make kind args = make kind (cond (eqb kind 0x24) (two_of args) 0)
-
-abbrev literal : Row
-literal kind args =
-  cond (eqb kind 0x03) (Const (Int (signed_of args)))
-  (cond (eqb kind 0x04) (Const (Float (take 4 args)))
-  (cond (eqb kind 0x05) (Const (Text (take (two_of args) (drop 2 args)))) (Const (Object (four_of args)))))
-
-abbrev rows : List Row
-rows =
-  bare Nop
-  ∷ copied CpDownSp
-  ∷ typed RsAdd
-  ∷ copied CpTopSp
-  ∷ literal
-  ∷ (λ kind args. Action (two_of args) (get_or args 2 0))
-  ∷ bare LogAnd
-  ∷ bare LogOr
-  ∷ bare IncOr
-  ∷ bare ExcOr
-  ∷ bare BoolAnd
-  ∷ compared Equal
-  ∷ compared Nequal
-  ∷ typed Geq
-  ∷ typed Gt
-  ∷ typed Lt
-  ∷ typed Leq
-  ∷ bare ShLeft
-  ∷ bare ShRight
-  ∷ bare UshRight
-  ∷ typed Add
-  ∷ typed Sub
-  ∷ typed Mul
-  ∷ typed Div
-  ∷ bare Mod
-  ∷ typed Neg
-  ∷ bare Comp
-  ∷ moved MovSp
-  ∷ bare Nop
-  ∷ moved Jmp
-  ∷ moved Jsr
-  ∷ moved Jz
-  ∷ bare Retn
-  ∷ (λ kind args. Destruct (two_of args) (two_of (drop 2 args)) (two_of (drop 4 args)))
-  ∷ bare Not
-  ∷ moved DecISp
-  ∷ moved IncISp
-  ∷ moved Jnz
-  ∷ copied CpDownBp
-  ∷ copied CpTopBp
-  ∷ moved DecIBp
-  ∷ moved IncIBp
-  ∷ bare SaveBp
-  ∷ bare RestoreBp
-  ∷ (λ kind args. StoreState (four_of args) (four_of (drop 4 args)))
-  ∷ bare Nop
-  ∷ []
-
-abbrev op_of : List ℕ → PlainOp
-op_of [] = Nop
-op_of (code ∷ []) = Nop
-op_of (code ∷ kind ∷ args) = get_or rows code (bare Nop) kind args
 
 -- two parts and what follows
 copied_again : (make : ℤ → ℕ → PlainOp) (offset : ℤ) (size : ℕ) (rest : List ℕ) → FitsSigned w32 offset → size < 2 ^ 16
@@ -132,15 +44,15 @@ compared_again : (make : ℕ → ℕ → PlainOp) (kind size : ℕ) (rest : List
 compared_again make kind size rest without fits = compared_by make kind size rest (eqb kind 0x24) refl without fits
 
 literal_again : (lit : PlainLit) (rest : List ℕ) → HasTextSize lit → LitFits lit → op_of (spelling (Const lit) ++ rest) ≡ Const lit
-unfolding two
+unfolding two op_of
 literal_again (Int n) rest size fits = ap (λ m. Const (Int m)) (signed_again n rest fits)
 literal_again (Float bytes) rest size fits = ap (λ b. Const (Float b)) (take_at bytes rest 4 fits.0)
 literal_again (Text bytes) rest size fits =
     ap (λ n. Const (Text (take n (bytes ++ rest)))) (two_again (length bytes) (bytes ++ rest) size) ∙ ap (λ b. Const (Text b)) (take_at bytes rest (length bytes) refl)
 literal_again (Object n) rest size fits = ap (λ m. Const (Object m)) (four_again n rest fits)
 
-op_again : (op : PlainOp) (rest : List ℕ) → IsOp op → op_of (spelling op ++ rest) ≡ op
-unfolding signed two four
+pub op_again : (op : PlainOp) (rest : List ℕ) → IsOp op → op_of (spelling op ++ rest) ≡ op
+unfolding signed two four op_of
 op_again (CpDownSp offset size) rest h = copied_again CpDownSp offset size rest h.fits.0 h.fits.1
 op_again (RsAdd kind) rest h = refl
 op_again (CpTopSp offset size) rest h = copied_again CpTopSp offset size rest h.fits.0 h.fits.1
