@@ -34,61 +34,61 @@ compared make kind args = make kind (if kind == 0x24 then two_of args else 0)
 
 abbrev pub literal : Row
 literal kind args =
-  if kind == 0x03 then Const (Int (signed_of args))
-  else if kind == 0x04 then Const (Float (take 4 args))
-  else if kind == 0x05 then Const (Text (take (two_of args) (drop 2 args)))
-  else Const (Object (four_of args))
+    if kind == 0x03 then Const (Int (signed_of args))
+    else if kind == 0x04 then Const (Float (take 4 args))
+    else if kind == 0x05 then Const (Text (take (two_of args) (drop 2 args)))
+    else Const (Object (four_of args))
 
 -- by opcode
 abbrev pub rows : List Row
 rows =
-  bare Nop
-  ∷ copied CpDownSp
-  ∷ typed RsAdd
-  ∷ copied CpTopSp
-  ∷ literal
-  ∷ (λ kind args. Action (two_of args) (slice_index_or args 2 0))
-  ∷ bare LogAnd
-  ∷ bare LogOr
-  ∷ bare IncOr
-  ∷ bare ExcOr
-  ∷ bare BoolAnd
-  ∷ compared Equal
-  ∷ compared Nequal
-  ∷ typed Geq
-  ∷ typed Gt
-  ∷ typed Lt
-  ∷ typed Leq
-  ∷ bare ShLeft
-  ∷ bare ShRight
-  ∷ bare UshRight
-  ∷ typed Add
-  ∷ typed Sub
-  ∷ typed Mul
-  ∷ typed Div
-  ∷ bare Mod
-  ∷ typed Neg
-  ∷ bare Comp
-  ∷ moved MovSp
-  ∷ bare Nop
-  ∷ moved Jmp
-  ∷ moved Jsr
-  ∷ moved Jz
-  ∷ bare Retn
-  ∷ (λ kind args. Destruct (two_of args) (two_of (drop 2 args)) (two_of (drop 4 args)))
-  ∷ bare Not
-  ∷ moved DecISp
-  ∷ moved IncISp
-  ∷ moved Jnz
-  ∷ copied CpDownBp
-  ∷ copied CpTopBp
-  ∷ moved DecIBp
-  ∷ moved IncIBp
-  ∷ bare SaveBp
-  ∷ bare RestoreBp
-  ∷ (λ kind args. StoreState (four_of args) (four_of (drop 4 args)))
-  ∷ bare Nop
-  ∷ []
+    bare Nop
+    ∷ copied CpDownSp
+    ∷ typed RsAdd
+    ∷ copied CpTopSp
+    ∷ literal
+    ∷ (λ kind args. Action (two_of args) (slice_index_or args 2 0))
+    ∷ bare LogAnd
+    ∷ bare LogOr
+    ∷ bare IncOr
+    ∷ bare ExcOr
+    ∷ bare BoolAnd
+    ∷ compared Equal
+    ∷ compared Nequal
+    ∷ typed Geq
+    ∷ typed Gt
+    ∷ typed Lt
+    ∷ typed Leq
+    ∷ bare ShLeft
+    ∷ bare ShRight
+    ∷ bare UshRight
+    ∷ typed Add
+    ∷ typed Sub
+    ∷ typed Mul
+    ∷ typed Div
+    ∷ bare Mod
+    ∷ typed Neg
+    ∷ bare Comp
+    ∷ moved MovSp
+    ∷ bare Nop
+    ∷ moved Jmp
+    ∷ moved Jsr
+    ∷ moved Jz
+    ∷ bare Retn
+    ∷ (λ kind args. Destruct (two_of args) (two_of (drop 2 args)) (two_of (drop 4 args)))
+    ∷ bare Not
+    ∷ moved DecISp
+    ∷ moved IncISp
+    ∷ moved Jnz
+    ∷ copied CpDownBp
+    ∷ copied CpTopBp
+    ∷ moved DecIBp
+    ∷ moved IncIBp
+    ∷ bare SaveBp
+    ∷ bare RestoreBp
+    ∷ (λ kind args. StoreState (four_of args) (four_of (drop 4 args)))
+    ∷ bare Nop
+    ∷ []
 
 unfoldable pub op_of : List ℕ → PlainOp
 op_of [] = Nop

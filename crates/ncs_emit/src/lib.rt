@@ -1,13 +1,19 @@
-// A library with one function.
+//! NCS bytecode made with labels: instructions one after another, jumps by name, and the file at the end.
+//!
+//! Contracts see an [`Emitter`] as a list of lines: instructions, jumps to labels, and the marks of labels
+//! (`specs/Labelled.antt`). Promised: each call adds exactly its line, and [`Emitter::finish`] gives the
+//! file of these instructions in which each jump has the distance from its own start to its label's place,
+//! or says how large the file would be. A finished file is one that `ncs_file` loads, with the same
+//! instructions in order, wherever each jump's label and each stored state leads to an instruction.
 #![tactic(auto)]
 
-ghost use Rattle.std.specs.Prelude.{◌≡◌};
-ghost use Rattle.ncs_emit.specs.Echo.{echo_of};
+mod emitter;
+mod fault;
+mod jump;
+mod laws;
+mod line;
 
-// The `ensures` clause is the contract: what `echo` returns is `echo_of` of its argument, a definition
-// in `specs/Echo.antt`, which a caller's clause can cite too.
-pub fn echo(x: usize) -> usize
-    ensures { result ≡ echo_of x }
-{
-    x
-}
+pub use emitter::Emitter;
+pub use fault::EmitFault;
+pub use jump::Jump;
+pub use laws::finished_is_code;

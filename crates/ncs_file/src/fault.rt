@@ -28,7 +28,10 @@ impl fmt::Display for LoadFault {
             LoadFault::Magic => f.write_str("no file of bytecode"),
             LoadFault::Length => f.write_str("the file gives another length than its own"),
             LoadFault::At(place, fault) => write!(f, "at {place}: {fault}"),
-            LoadFault::Target(place) => write!(f, "at {place}: no instruction begins where this leads"),
+            LoadFault::Target(place) => write!(
+                f,
+                "at {place}: no instruction begins where this leads"
+            ),
             LoadFault::NoMemory => f.write_str("out of memory"),
         }
     }
