@@ -10,14 +10,16 @@
 
 mod arguments;
 mod fault;
+mod front;
 mod instruction;
 mod opcode;
 mod reading;
 mod writing;
 
 pub use fault::CodeFault;
+pub use front::{HEADER_BYTES, header};
 pub use instruction::{Lit, Op};
-pub use reading::{decode, one_spelling, spelled_is_sound};
+pub use reading::{decode, listed_again, one_spelling, spelled_is_sound};
 
 /// How many bytes a file of bytecode has at most.
 pub const FILE_BYTES: u32 = 16_777_216;

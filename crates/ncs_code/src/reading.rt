@@ -1,7 +1,7 @@
 ghost use Rattle.std.specs.Prelude.{◌≡◌, ◌≢◌, ◌+◌, ◌<◌, ◌≤◌, ◌∷◌, ◌++◌, ◌↔◌, List, ℕ, length, take, drop, Some, None, IfOk, IsOkAnd, MatchResult, IsTrue};
 ghost use Rattle.ncs_code.specs.Plain.{PlainOp, plain};
 ghost use Rattle.ncs_code.specs.Spelling.{IsOp, Spells, spelling, fault_of, is_opcode, has_type, args_size, lit_size};
-ghost use Rattle.ncs_code.specs.Laws.{NoneBeginsAnother, SpelledIsSound};
+ghost use Rattle.ncs_code.specs.Laws.{ListedAgain, NoneBeginsAnother, SpelledIsSound};
 
 use crate::FILE_BYTES;
 use crate::arguments::{call_at, copy_at, kept_at, lit_at, offset_at, run_size_at, state_at};
@@ -230,3 +230,9 @@ pub fn one_spelling()
 pub fn spelled_is_sound()
     ensures { SpelledIsSound }
 {}
+
+/// What is spelled in a row is listed again.
+pub fn listed_again()
+    ensures { ListedAgain }
+{
+}

@@ -6,7 +6,8 @@ ghost use Rattle.ncs_file.specs.Loading.{Fails};
 ghost use Rattle.ncs_file.specs.declared.fault.LoadFault.TheVariants.{NoMemory};
 
 use crate::fault::LoadFault;
-use ncs_code::{FILE_BYTES, Op};
+use crate::scan::{Starts, starts_of, test_header, test_targets};
+use ncs_code::{FILE_BYTES, Op, decode};
 use std::alloc::Global;
 use std::marker::Model;
 
@@ -43,7 +44,15 @@ pub fn load(alloc: Global, bytes: Vec<u8>) -> Result<Code, LoadFault>
     // The fault is the first that there is.
     ensures fault { IfErr result (λ fault. Fails fault bytes.items) }
 {
-    Err(LoadFault::Magic)
+    test_header(bytes.as_slice())?;
+    let starts = starts_of(alloc, bytes.as_slice())?;
+    test_targets(bytes.as_slice(), &starts)?;
+    let Starts { table, count } = starts;
+    Ok(Code {
+        bytes,
+        starts: table,
+        count,
+    })
 }
 
 /// The bytes of the file, as they were loaded.
@@ -58,7 +67,14 @@ impl Code {
     pub fn op_at(&self, at: u32) -> Option<(Op<'_>, u32)>
         ensures { MatchOption result (op_at self.now at ≡ None) (λ x. (op_at self.now at ≡ Some (plain x.0)) × (x.1 ≡ length (spelling (plain x.0)))) }
     {
-        None
+        let starts = self.starts.as_slice();
+        if starts.len() <= at as usize || !starts[at as usize] {
+            return None;
+        }
+        match decode(self.bytes.as_slice(), at) {
+            Err(_) => unreachable!(),
+            Ok(found) => Some(found),
+        }
     }
 
     /// How many instructions there are.

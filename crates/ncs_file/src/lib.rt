@@ -9,6 +9,7 @@
 
 mod code;
 mod fault;
+mod scan;
 
 pub use code::{Code, load, store};
 pub use fault::LoadFault;
