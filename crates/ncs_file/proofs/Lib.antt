@@ -1,3 +1,4 @@
 mod Lists
 pub mod Places
-mod Scanning
+pub mod Scanning
+pub mod Loaded

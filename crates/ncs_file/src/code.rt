@@ -6,7 +6,7 @@ ghost use Rattle.ncs_file.specs.Loading.{Fails};
 ghost use Rattle.ncs_file.specs.declared.fault.LoadFault.TheVariants.{NoMemory};
 
 use crate::fault::LoadFault;
-use crate::scan::{Starts, starts_of, test_header, test_targets};
+use crate::scan::{Starts, is_marked, starts_of, test_header, test_targets};
 use ncs_code::{FILE_BYTES, Op, decode};
 use std::alloc::Global;
 use std::marker::Model;
@@ -34,6 +34,7 @@ impl Model for Code {
 }
 
 /// The file that these bytes are, which keeps them.
+#[tactic(auto, using(crate::proofs::Loaded::loaded_code, crate::proofs::Loaded::refused, crate::proofs::Scanning::listing_is))]
 pub fn load(alloc: Global, bytes: Vec<u8>) -> Result<Code, LoadFault>
     requires { length bytes.items ≤ FILE_BYTES }
 
@@ -67,8 +68,7 @@ impl Code {
     pub fn op_at(&self, at: u32) -> Option<(Op<'_>, u32)>
         ensures { MatchOption result (op_at self.now at ≡ None) (λ x. (op_at self.now at ≡ Some (plain x.0)) × (x.1 ≡ length (spelling (plain x.0)))) }
     {
-        let starts = self.starts.as_slice();
-        if starts.len() <= at as usize || !starts[at as usize] {
+        if !is_marked(self.starts.as_slice(), at as usize) {
             return None;
         }
         match decode(self.bytes.as_slice(), at) {

@@ -1,6 +1,6 @@
 //! The tests that a file passes, one after another.
 
-ghost use Rattle.std.specs.Prelude.{◌≡◌, ◌+◌, ◌-◌, ◌^◌, ◌<◌, ◌≤◌, ◌∷◌, ◌++◌, [], ℕ, List, length, true, false, replicate, take, IfOk, IfErr, IfSome, OnOk, Some, None, MatchResult, MatchOption, OnErr};
+ghost use Rattle.std.specs.Prelude.{◌≡◌, ◌+◌, ◌-◌, ◌^◌, ◌<◌, ◌≤◌, ◌∷◌, ◌++◌, [], ℕ, List, length, true, false, replicate, slice_index_or, take, IfOk, IfErr, IfSome, OnOk, Some, None, MatchResult, MatchOption, OnErr};
 ghost use Rattle.ncs_code.specs.Plain.{PlainOp, plain};
 ghost use Rattle.ncs_code.specs.Spelling.{spelling};
 ghost use Rattle.ncs_code.specs.File.{begins, first_bad, leads_well, target};
@@ -44,6 +44,7 @@ pub(crate) fn test_header(bytes: &[u8]) -> Result<(), LoadFault>
 }
 
 /// Puts an entry for each byte of an instruction last.
+#[tactic(auto, using(crate::proofs::Lists::mark_next))]
 fn put_mark(table: &mut Vec<bool>, size: u32) -> Result<(), NoMemory>
     requires { 1 ≤ size }
     ensures { OnOk result (table.new.items ≡ table.old.items ++ true ∷ replicate (size - 1) false) }
@@ -67,6 +68,7 @@ fn empty_table(alloc: Global, room: usize) -> Result<Vec<bool>, NoMemory>
 }
 
 /// Goes over the instructions, which must fill the file.
+#[tactic(auto, using(crate::proofs::Scanning::scan_begins, crate::proofs::Scanning::scan_goes_on, crate::proofs::Scanning::scan_ends, crate::proofs::Scanning::scan_stops))]
 pub(crate) fn starts_of(alloc: Global, bytes: &[u8]) -> Result<Starts, LoadFault>
     requires bounded { length bytes.now ≤ FILE_BYTES }
     requires begun { HasHeader bytes.now }
@@ -89,11 +91,11 @@ pub(crate) fn starts_of(alloc: Global, bytes: &[u8]) -> Result<Starts, LoadFault
     Ok(Starts { table, count })
 }
 
-/// Does an instruction begin there?
-fn is_start(table: &[bool], place: i64) -> bool
-    ensures { (ops : List PlainOp) → table.now ≡ marks ops → result ≡ begins ops place }
+/// The entry of the table at a place; behind its end nothing begins.
+pub(crate) fn is_marked(table: &[bool], place: usize) -> bool
+    ensures { result ≡ slice_index_or table.now place false }
 {
-    0 <= place && (place as u64) < table.len() as u64 && table[place as usize]
+    place < table.len() && table[place]
 }
 
 /// Where an instruction leads besides the next one.
@@ -110,17 +112,20 @@ fn target_of(op: &Op<'_>, at: u32) -> Option<i64>
     }
 }
 
+/// Does it lead to the beginning of an instruction, if it leads elsewhere?
+#[tactic(auto, using(crate::proofs::Places::begins_marked))]
 fn is_well_led(table: &[bool], op: &Op<'_>, at: u32) -> bool
     requires { at < 2 ^ 31 }
     ensures { (ops : List PlainOp) → table.now ≡ marks ops → result ≡ leads_well ops (target at (plain op.now)) }
 {
     match target_of(op, at) {
         None => true,
-        Some(place) => is_start(table, place),
+        Some(place) => 0 <= place && is_marked(table, place as usize),
     }
 }
 
 /// Goes over the instructions again, each of which must lead to beginnings of instructions.
+#[tactic(auto, using(crate::proofs::Scanning::pass_ends))]
 pub(crate) fn test_targets(bytes: &[u8], starts: &Starts) -> Result<(), LoadFault>
     requires bounded { length bytes.now ≤ FILE_BYTES }
     requires scanned { IsScanned bytes.now starts.now.table.items starts.now.count }
