@@ -1,6 +1,6 @@
-ghost use Rattle.std.specs.Prelude.{◌≡◌, ◌+◌, ◌<◌, ◌^◌, ◌∷◌, ◌++◌, [], length, OnOk, OnErr};
+ghost use Rattle.std.specs.Prelude.{◌≡◌, ◌+◌, ◌<◌, ◌^◌, ◌∷◌, ◌++◌, [], length, OnOk, OnErr, All};
 ghost use Rattle.ncs_code.specs.Plain.{plain, plain_lit};
-ghost use Rattle.ncs_code.specs.Spelling.{HasRow, HasTextSize, spelling, lit_spelling, run_size, signed, two, four};
+ghost use Rattle.ncs_code.specs.Spelling.{Fits, HasRow, HasTextSize, IsByte, LitFits, spelling, lit_spelling, run_size, signed, two, four};
 
 use crate::instruction::{Lit, Op};
 use crate::opcode::*;
@@ -89,6 +89,7 @@ fn put_text(out: &mut Vec<u8>, text: &[u8]) -> Result<(), NoMemory>
     requires { length text.now < 2 ^ 16 }
     ensures ok { OnOk result (out.new.items ≡ out.old.items ++ 0x04 ∷ 0x05 ∷ (two (length text.now) ++ text.now)) }
     ensures err { OnErr result (out.new.items ≡ out.old.items) }
+    ensures bytes { All IsByte text.now }
 {
     let start = out.len();
     let [a, b] = (text.len() as u16).to_be_bytes();
@@ -107,6 +108,7 @@ fn put_lit(out: &mut Vec<u8>, lit: Lit<'_>) -> Result<(), NoMemory>
     requires { HasTextSize (plain_lit lit) }
     ensures ok { OnOk result (out.new.items ≡ out.old.items ++ 0x04 ∷ lit_spelling (plain_lit lit.entry)) }
     ensures err { OnErr result (out.new.items ≡ out.old.items) }
+    ensures fits { LitFits (plain_lit lit.entry) }
 {
     match lit {
         Lit::Int(n) => put_offset(out, CONST, 0x03, n),
@@ -167,6 +169,8 @@ impl Op<'_> {
         requires { HasRow (plain self.now) }
         ensures ok { OnOk result (out.new.items ≡ out.old.items ++ spelling (plain self.now)) }
         ensures err { OnErr result (out.new.items ≡ out.old.items) }
+        // What is known of every instruction: its fields fit their bytes.
+        ensures fits { Fits (plain self.now) }
     {
         match *self {
             Op::CpDownSp { offset, size } => put_copy(out, CPDOWNSP, offset, size),

@@ -1,0 +1,4 @@
+mod Lines
+mod Counting
+mod Placing
+mod Putting

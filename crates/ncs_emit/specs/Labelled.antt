@@ -22,7 +22,7 @@ pub record Draft : Type 0 where
 abbrev pub is_marked : List Line → ℕ → Bool
 is_marked [] label = false
 is_marked (Plain op ∷ lines) label = is_marked lines label
-is_marked (Leap jump other ∷ lines) label = is_marked lines label
+is_marked (Leap way other ∷ lines) label = is_marked lines label
 is_marked (Mark other ∷ lines) label = other == label || is_marked lines label
 
 -- the jump over a distance, from its own start
@@ -35,14 +35,14 @@ leap Jnz distance = ops.Jnz distance
 -- how many bytes a line takes: each jump takes six, wherever it leads
 abbrev pub line_size : Line → ℕ
 line_size (Plain op) = length (spelling op)
-line_size (Leap jump label) = 6
+line_size (Leap way label) = 6
 line_size (Mark label) = 0
 
 -- where the mark of a label stands, if the first line stands at `at`
 abbrev pub place_from : ℕ → List Line → ℕ → ℕ
 place_from at [] label = at
 place_from at (Plain op ∷ lines) label = place_from (at + length (spelling op)) lines label
-place_from at (Leap jump other ∷ lines) label = place_from (at + 6) lines label
+place_from at (Leap way other ∷ lines) label = place_from (at + 6) lines label
 place_from at (Mark other ∷ lines) label = if other == label then at else place_from at lines label
 
 -- the place of a label in the file
@@ -53,7 +53,7 @@ place_of lines label = place_from header_size lines label
 abbrev pub ops_from : (ℕ → ℕ) → ℕ → List Line → List PlainOp
 ops_from places at [] = []
 ops_from places at (Plain op ∷ lines) = op ∷ ops_from places (at + length (spelling op)) lines
-ops_from places at (Leap jump label ∷ lines) = leap jump (pos (places label) -ℤ pos at) ∷ ops_from places (at + 6) lines
+ops_from places at (Leap way label ∷ lines) = leap way (pos (places label) -ℤ pos at) ∷ ops_from places (at + 6) lines
 ops_from places at (Mark label ∷ lines) = ops_from places at lines
 
 -- the instructions of labelled code: each jump has the distance from its own start to its label's place

@@ -8,9 +8,10 @@ ghost use Rattle.ncs_emit.specs.Laws.{LineFits};
 ghost use Rattle.std.specs.List.{AllByRecursion};
 
 use crate::fault::EmitFault;
+use crate::finishing::{places_of, put_lines};
 use crate::jump::Jump;
 use crate::line::Kept;
-use ncs_code::{FILE_BYTES, Op};
+use ncs_code::{FILE_BYTES, Op, header};
 use nwq_value::NoMemory;
 use std::alloc::Global;
 use std::marker::Model;
@@ -30,12 +31,15 @@ pub struct Emitter {
 
 impl Model for Emitter {
     ghost use Rattle.std.specs.Prelude.{length};
+    ghost use Rattle.std.specs.Vec.{vec_capacity};
     ghost use Rattle.ncs_emit.specs.Labelled.{Draft};
-    ghost use Rattle.ncs_emit.specs.Emitting.{lines_of};
+    ghost use Rattle.ncs_emit.specs.Emitting.{IsKept, lines_of};
 
     ghost Value = { Draft };
 
     ghost view = { λ e. record { lines = lines_of e.bytes.items e.kept.items; labels = length e.placed.items } };
+
+    ghost invariant = { λ e. IsKept e.bytes.items e.kept.items (vec_capacity e.kept) e.placed.items e.missing };
 }
 
 impl Emitter {
@@ -53,38 +57,55 @@ impl Emitter {
     }
 
     /// A new label. After `NoMemory` the emitter is as before.
+    #[tactic(auto, using(crate::proofs::Counting::kept_label, crate::proofs::Counting::kept_room, crate::proofs::Counting::missing_few))]
     pub fn label(&mut self) -> Result<u32, NoMemory>
         requires { self.old.labels + 1 < 2 ^ 32 }
         ensures number { IfOk result (λ label. label ≡ self.old.labels) }
         ensures made { OnOk result (self.new ≡ record self.old { labels = self.old.labels + 1 }) }
         ensures err { OnErr result (self.new ≡ self.old) }
     {
-        Err(NoMemory)
+        let label = self.placed.len() as u32;
+        self.kept.reserve(self.missing as usize + 1)?;
+        self.placed.push(false)?;
+        self.missing += 1;
+        Ok(label)
     }
 
     /// Puts the mark of a label last.
+    #[tactic(auto, using(crate::proofs::Counting::kept_mark, crate::proofs::Counting::missing_some, crate::proofs::Lines::lines_and_mark))]
     pub fn place(&mut self, label: u32)
         requires made { label < self.old.labels }
         requires unplaced { is_marked self.old.lines label ≡ false }
         ensures { self.new ≡ record self.old { lines = self.old.lines ++ Mark label ∷ [] } }
-    {}
+    {
+        self.kept.push(Kept::Mark(label)).unwrap();
+        self.placed[label as usize] = true;
+        self.missing -= 1;
+    }
 
     /// Puts an instruction last. After `NoMemory` the emitter is as before.
+    #[tactic(auto, using(crate::proofs::Counting::kept_op, crate::proofs::Counting::kept_room, crate::proofs::Lines::lines_and_op))]
     pub fn op(&mut self, op: &Op<'_>) -> Result<(), NoMemory>
         requires { HasRow (plain op.now) }
         ensures ok { OnOk result (self.new ≡ record self.old { lines = self.old.lines ++ Plain (plain op.now) ∷ [] }) }
         ensures err { OnErr result (self.new ≡ self.old) }
     {
-        Err(NoMemory)
+        self.kept.reserve(self.missing as usize + 1)?;
+        op.encode(&mut self.bytes)?;
+        self.kept.push(Kept::Op(op.size())).unwrap();
+        Ok(())
     }
 
     /// Puts a jump to a label last. After `NoMemory` the emitter is as before.
+    #[tactic(auto, using(crate::proofs::Counting::kept_leap, crate::proofs::Counting::kept_room, crate::proofs::Lines::lines_and_leap))]
     pub fn jump(&mut self, jump: Jump, label: u32) -> Result<(), NoMemory>
         requires { label < self.old.labels }
         ensures ok { OnOk result (self.new ≡ record self.old { lines = self.old.lines ++ Leap jump label ∷ [] }) }
         ensures err { OnErr result (self.new ≡ self.old) }
     {
-        Err(NoMemory)
+        self.kept.reserve(self.missing as usize + 1)?;
+        self.kept.push(Kept::Leap(jump, label)).unwrap();
+        Ok(())
     }
 
     /// What is known of every emitter's lines.
@@ -101,7 +122,20 @@ impl Emitter {
         ensures bounded { OnOk result (file_length (program self.lines) ≤ FILE_BYTES) }
         ensures fault { IfErr result (λ fault. Fails fault self.lines) }
     {
-        let _ = alloc;
-        Err(EmitFault::NoMemory)
+        let labels = self.placed.len();
+        let (places, size) = places_of(alloc, self.kept.as_slice(), labels)?;
+        if size > FILE_BYTES as u64 {
+            return Err(EmitFault::Large(size));
+        }
+        let mut file = Vec::with_capacity(alloc, size as usize)?;
+        file.extend_from_slice(&header(size as u32))?;
+        put_lines(
+            &mut file,
+            self.bytes.as_slice(),
+            self.kept.as_slice(),
+            places.as_slice(),
+            size,
+        )?;
+        Ok(file)
     }
 }

@@ -1,7 +1,7 @@
 ghost use Rattle.std.specs.Prelude.{◌≡◌};
 
 use nwq_value::NoMemory as OutOfMemory;
-use std::alloc::{AllocError, AllocFailed};
+use std::alloc::AllocError;
 use std::error::Error;
 use std::fmt;
 
@@ -31,6 +31,16 @@ impl From<OutOfMemory> for EmitFault {
     ghost from_gives = { λ _ fault. fault ≡ NoMemory };
 
     fn from(_error: OutOfMemory) -> EmitFault {
+        EmitFault::NoMemory
+    }
+}
+
+impl From<AllocError> for EmitFault {
+    ghost use Rattle.ncs_emit.specs.declared.fault.EmitFault.TheVariants.{NoMemory};
+
+    ghost from_gives = { λ _ fault. fault ≡ NoMemory };
+
+    fn from(_error: AllocError) -> EmitFault {
         EmitFault::NoMemory
     }
 }

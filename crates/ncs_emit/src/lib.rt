@@ -9,6 +9,7 @@
 
 mod emitter;
 mod fault;
+mod finishing;
 mod jump;
 mod laws;
 mod line;
