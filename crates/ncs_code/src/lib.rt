@@ -23,3 +23,6 @@ pub use reading::{decode, listed_again, one_spelling, spelled_is_sound};
 
 /// How many bytes a file of bytecode has at most.
 pub const FILE_BYTES: u32 = 16_777_216;
+
+#[cfg(test)]
+mod tests;

@@ -234,5 +234,4 @@ pub fn spelled_is_sound()
 /// What is spelled in a row is listed again.
 pub fn listed_again()
     ensures { ListedAgain }
-{
-}
+{}

@@ -2,3 +2,4 @@ mod Lines
 mod Counting
 mod Placing
 mod Putting
+mod Leading

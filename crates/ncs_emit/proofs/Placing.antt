@@ -22,7 +22,7 @@ kept_place_is labels bytes (kept.Op size ∷ all) at label fits =
 kept_place_is labels bytes (kept.Leap way other ∷ all) at label fits = kept_place_is labels bytes all (at + 6) label fits.1
 kept_place_is labels bytes (kept.Mark other ∷ all) at label fits = ap (λ p. cond (eqb other label) at p) (kept_place_is labels bytes all at label fits.1)
 
-cond_below : (b : Bool) (m n k : ℕ) → m ≤ k → n ≤ k → cond b m n ≤ k
+pub cond_below : (b : Bool) (m n k : ℕ) → m ≤ k → n ≤ k → cond b m n ≤ k
 cond_below true m n k f g = f
 cond_below false m n k f g = g
 

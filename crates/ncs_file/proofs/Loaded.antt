@@ -72,9 +72,9 @@ inside_there bytes starts count at loaded test =
     elim (cases_lt at (length bytes)) [
       | inl lt ↦ lt
       | inr le ↦
-        let long : length starts ≤ at = omega (arith, ap length loaded.scanned.table, length_marks (listing bytes), ap length loaded.scanned.spelled, length_file (listing bytes), le) in
-        let past : false ≡ true = sym (get_or_past starts at false long) ∙ test in
-        absurd cc
+          let long : length starts ≤ at = omega (arith, ap length loaded.scanned.table, length_marks (listing bytes), ap length loaded.scanned.spelled, length_file (listing bytes), le) in
+          let past : false ≡ true = sym (get_or_past starts at false long) ∙ test in
+          absurd cc
     ]
 
 stands_here : (bytes : List ℕ) (starts : List Bool) (count at : ℕ) → IsLoaded bytes starts count → get_or starts at false ≡ true → Stands (listing bytes) bytes at
@@ -115,7 +115,7 @@ left (x ∷ xs) (y ∷ ys) rest f g same =
     let is : x ≡ y = none_begins_another x y (spellings xs ++ rest) (spellings ys) f.0 g.0 whole in
     let n : ℕ = length (spelling x) in
     let others : spellings xs ++ rest ≡ spellings ys =
-        sym (drop_at (spelling x) (spellings xs ++ rest) n refl) ∙ ap (drop n) whole ∙ drop_at (spelling y) (spellings ys) n (ap (λ o. length (spelling o)) (sym is)) in
+    sym (drop_at (spelling x) (spellings xs ++ rest) n refl) ∙ ap (drop n) whole ∙ drop_at (spelling y) (spellings ys) n (ap (λ o. length (spelling o)) (sym is)) in
     left xs ys rest f.1 g.1 others
 
 -- where an instruction stands there is no fault

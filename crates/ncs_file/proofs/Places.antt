@@ -39,16 +39,16 @@ marked_from (op ∷ ops) at zero = rw (op_from_here at op ops) refl
 marked_from (op ∷ ops) at (suc k) =
     elim (cases_lt (suc k) (length (spelling op))) [
       | inl lt ↦
-        let left = get_or_append_left (mark op) (flat_map mark ops) false (suc k) (omega (arith, length_mark op)) in
-        let inside = get_or-replicate (length (spelling op) - 1) k false false (omega arith) in
-        let none = op_from_behind at (suc k) op ops (omega arith) ∙ none_below (at + length (spelling op)) ops (at + suc k) (omega arith) in
-        left ∙ inside ∙ sym (ap is_some none)
+          let left = get_or_append_left (mark op) (flat_map mark ops) false (suc k) (omega (arith, length_mark op)) in
+          let inside = get_or-replicate (length (spelling op) - 1) k false false (omega arith) in
+          let none = op_from_behind at (suc k) op ops (omega arith) ∙ none_below (at + length (spelling op)) ops (at + suc k) (omega arith) in
+          left ∙ inside ∙ sym (ap is_some none)
       | inr le ↦
-        let right = get_or-append_right (mark op) (flat_map mark ops) (length (spelling op)) (suc k) false (length_mark op) le in
-        let j : ℕ = suc k - length (spelling op) in
-        let place : at + length (spelling op) + j ≡ at + suc k = omega arith in
-        let others = marked_from ops (at + length (spelling op)) j in
-        right ∙ others ∙ ap (λ p. is_some (op_from (at + length (spelling op)) ops p)) place ∙ sym (ap is_some (op_from_behind at (suc k) op ops (omega arith)))
+          let right = get_or-append_right (mark op) (flat_map mark ops) (length (spelling op)) (suc k) false (length_mark op) le in
+          let j : ℕ = suc k - length (spelling op) in
+          let place : at + length (spelling op) + j ≡ at + suc k = omega arith in
+          let others = marked_from ops (at + length (spelling op)) j in
+          right ∙ others ∙ ap (λ p. is_some (op_from (at + length (spelling op)) ops p)) place ∙ sym (ap is_some (op_from_behind at (suc k) op ops (omega arith)))
     ]
 
 -- the table tells where instructions begin
@@ -57,10 +57,10 @@ unfolding op_at
 marked ops n =
     elim (cases_lt n 13) [
       | inl lt ↦
-        get_or_append_left (replicate 13 false) (flat_map mark ops) false n (omega arith) ∙ get_or-replicate 13 n false false lt ∙ sym (ap is_some (none_below 13 ops n lt))
+          get_or_append_left (replicate 13 false) (flat_map mark ops) false n (omega arith) ∙ get_or-replicate 13 n false false lt ∙ sym (ap is_some (none_below 13 ops n lt))
       | inr le ↦
-        let place : 13 + (n - 13) ≡ n = omega arith in
-        get_or-append_right (replicate 13 false) (flat_map mark ops) 13 n false refl le ∙ marked_from ops 13 (n - 13) ∙ ap (λ p. is_some (op_from 13 ops p)) place
+          let place : 13 + (n - 13) ≡ n = omega arith in
+          get_or-append_right (replicate 13 false) (flat_map mark ops) 13 n false refl le ∙ marked_from ops 13 (n - 13) ∙ ap (λ p. is_some (op_from 13 ops p)) place
     ]
 
 length_flat_marks : (ops : List PlainOp) → length (flat_map mark ops) ≡ length (spellings ops)
@@ -92,16 +92,16 @@ found_from (x ∷ ops) at (suc k) op each is =
     let behind : op_from (at + length (spelling x)) ops (at + suc k) ≡ Some op = sym (op_from_behind at (suc k) x ops (omega arith)) ∙ is in
     elim (cases_lt (suc k) (length (spelling x))) [
       | inl lt ↦
-        let none : None ≡ Some op = sym (none_below (at + length (spelling x)) ops (at + suc k) (omega arith)) ∙ behind in
-        absurd cc
+          let none : None ≡ Some op = sym (none_below (at + length (spelling x)) ops (at + suc k) (omega arith)) ∙ behind in
+          absurd cc
       | inr le ↦
-        let j : ℕ = suc k - length (spelling x) in
-        let place : at + suc k ≡ at + length (spelling x) + j = omega arith in
-        let found = found_from ops (at + length (spelling x)) j op each.1 (ap (op_from (at + length (spelling x)) ops) (sym place) ∙ behind) in
-        let count : length (spelling x) + j ≡ suc k = omega arith in
-        let rest : drop (suc k) (spelling x ++ spellings ops) ≡ drop j (spellings ops) =
-            ap (λ n. drop n (spelling x ++ spellings ops)) (sym count) ∙ sym (drop-drop j (length (spelling x)) (spelling x ++ spellings ops)) ∙ ap (drop j) (drop_at (spelling x) (spellings ops) (length (spelling x)) refl) in
-        subst (Found op) (sym rest) found
+          let j : ℕ = suc k - length (spelling x) in
+          let place : at + suc k ≡ at + length (spelling x) + j = omega arith in
+          let found = found_from ops (at + length (spelling x)) j op each.1 (ap (op_from (at + length (spelling x)) ops) (sym place) ∙ behind) in
+          let count : length (spelling x) + j ≡ suc k = omega arith in
+          let rest : drop (suc k) (spelling x ++ spellings ops) ≡ drop j (spellings ops) =
+          ap (λ n. drop n (spelling x ++ spellings ops)) (sym count) ∙ sym (drop-drop j (length (spelling x)) (spelling x ++ spellings ops)) ∙ ap (drop j) (drop_at (spelling x) (spellings ops) (length (spelling x)) refl) in
+          subst (Found op) (sym rest) found
     ]
 
 pub drop_header : (ops : List PlainOp) → drop 13 (file_bytes ops) ≡ spellings ops
@@ -115,11 +115,11 @@ found_at ops n op each is =
     elim (cases_lt n 13) [
       | inl lt ↦ let none : None ≡ Some op = sym (none_below 13 ops n lt) ∙ is in absurd cc
       | inr le ↦
-        let place : 13 + (n - 13) ≡ n = omega arith in
-        let found = found_from ops 13 (n - 13) op each (ap (op_from 13 ops) place ∙ is) in
-        let rest : drop n (file_bytes ops) ≡ drop (n - 13) (spellings ops) =
-            ap (λ k. drop k (file_bytes ops)) (sym place) ∙ sym (drop-drop (n - 13) 13 (file_bytes ops)) ∙ ap (drop (n - 13)) (drop_header ops) in
-        subst (Found op) (sym rest) found
+          let place : 13 + (n - 13) ≡ n = omega arith in
+          let found = found_from ops 13 (n - 13) op each (ap (op_from 13 ops) place ∙ is) in
+          let rest : drop n (file_bytes ops) ≡ drop (n - 13) (spellings ops) =
+          ap (λ k. drop k (file_bytes ops)) (sym place) ∙ sym (drop-drop (n - 13) 13 (file_bytes ops)) ∙ ap (drop (n - 13)) (drop_header ops) in
+          subst (Found op) (sym rest) found
     ]
 
 pub begins_marked : (ops : List PlainOp) (table : List Bool) (place : ℤ) → pos 0 ≤ℤ place → table ≡ marks ops → get_or table (unsigned_abs place) false ≡ begins ops place

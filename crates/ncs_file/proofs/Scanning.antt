@@ -83,7 +83,7 @@ scan_ends bytes table at count so_far end header =
     let size : length bytes ≡ file_length ops = omega (arith, so_far.inside, so_far.stands, end) in
     let rest : drop 13 bytes ≡ spellings ops = so_far.before ∙ ap (λ (rest : List ℕ). spellings ops ++ rest) (none_left bytes at end) ∙ append-nil (spellings ops) in
     let whole : bytes ≡ (magic ++ four (file_length ops)) ++ spellings ops =
-        sym (take-append-drop 13 bytes) ∙ ap (λ (front : List ℕ). front ++ drop 13 bytes) (header ∙ ap (λ n. magic ++ four n) size) ∙ ap (λ (text : List ℕ). (magic ++ four (file_length ops)) ++ text) rest in
+    sym (take-append-drop 13 bytes) ∙ ap (λ (front : List ℕ). front ++ drop 13 bytes) (header ∙ ap (λ n. magic ++ four n) size) ∙ ap (λ (text : List ℕ). (magic ++ four (file_length ops)) ++ text) rest in
     let spelled : bytes ≡ file_bytes ops = whole ∙ append_assoc magic (four (file_length ops)) (spellings ops) in
     let is : ops ≡ listing bytes = sym (listing_is bytes ops so_far.each spelled) in
     record {

@@ -13,3 +13,6 @@ mod scan;
 
 pub use code::{Code, load, store};
 pub use fault::LoadFault;
+
+#[cfg(test)]
+mod tests;

@@ -21,7 +21,7 @@ loop-line-preserved c =
           moved _ _ _ _ _ _ _ _ _ (put_op _ _ _ _ _ _ _ _ w.in-Op.count c.loop-line.invariant seen) file rest
       | in-Leap+in_ok-put_jump-in-Leap w ↦
           let seen = met c.args.kept.now c.loop-line.line-index _ _ w.in-Leap.is c.loop-line-test.true in
-          let place = w.unwrap_or-place.ensures ∙ place_known _ _ _ _ _ w.in-Leap.label c.requires.fits c.requires.placed in
+          let place = w.unwrap_or-place.ensures ∙ place_known _ c.args.size _ _ c.args.places.now w.in-Leap.label c.requires.fits c.requires.placed in
           let file = ap (λ v. v.items) w.file-is ∙ w.in_ok-put_jump-in-Leap.ensures in
           moved _ _ _ _ _ _ _ _ _ (put_leap _ _ _ _ _ _ _ _ w.in-Leap.jump w.in-Leap.label _ c.loop-line.invariant seen place) file (ap (λ r. r.now) w.rest-is)
       | in-Mark w ↦
