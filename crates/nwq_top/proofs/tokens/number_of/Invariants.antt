@@ -1,0 +1,7 @@
+use Rattle.std.proofs.Common.{◌≡◌, ◌≤◌, drop}
+use Rattle.nwq_top.specs.Tokens.{number_from}
+use Rattle.nwq_top.proofs.TokenLemmas.{IsNumberSoFar}
+use Rattle.nwq_top.proofs.tokens.number_of.Given as goal
+
+abbrev pub invariant-loop-digit : goal.invariant-loop-digit
+invariant-loop-digit l = IsNumberSoFar l.base l.number l.digit-index l.digits

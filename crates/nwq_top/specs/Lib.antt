@@ -1,0 +1,4 @@
+pub mod Tokens
+pub mod Sentence
+pub mod Source
+pub mod Reading
