@@ -1,0 +1,12 @@
+-- What holds of spellings by themselves.
+use Rattle.std.specs.Prelude.{◌≡◌, List, ℕ, ◌++◌, length, Option, None}
+use Rattle.ncs_code.specs.Plain.{PlainOp}
+use Rattle.ncs_code.specs.Spelling.{spelling, IsOp, fault_of}
+
+-- No instruction's spelling begins another's.
+abbrev pub NoneBeginsAnother : Type 0
+NoneBeginsAnother = (a b : PlainOp) (x y : List ℕ) → IsOp a → IsOp b → spelling a ++ x ≡ spelling b ++ y → a ≡ b
+
+-- Where an instruction is spelled, there is no fault, whatever follows.
+abbrev pub SpelledIsSound : Type 0
+SpelledIsSound = (op : PlainOp) (rest : List ℕ) → IsOp op → fault_of (spelling op ++ rest) ≡ None
