@@ -1,0 +1,4 @@
+pub mod Number
+pub mod Escape
+pub mod Unescape
+pub mod Line
