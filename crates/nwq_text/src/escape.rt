@@ -36,6 +36,7 @@ pub fn put_quoted(out: &mut Vec<u8>, text: &[u8]) -> Result<(), NoMemory>
     done
 }
 
+#[tactic(auto, using(crate::proofs::EscapeLemmas::shorter_rest))]
 /// The text whose escaped text this is, and `None` exactly where it is the escaped text of no text.
 pub fn read_text(alloc: Global, text: &[u8]) -> Result<Option<Text>, NoMemory>
     ensures { IfOk result (λ read. ReadsText text.now read) }
@@ -60,6 +61,7 @@ pub fn escapes_apart()
     ensures { EscapesApart }
 {}
 
+#[tactic(auto, using(crate::proofs::EscapeLemmas::one_more, crate::proofs::EscapeLemmas::taken_back))]
 /// Appends the spellings of these bytes. A front of them may stand there after `NoMemory`.
 fn put_spellings(out: &mut Vec<u8>, text: &[u8]) -> Result<(), NoMemory>
     ensures ok { OnOk result (out.new.items ≡ out.old.items ++ flat_map spelling text.now) }
@@ -71,6 +73,7 @@ fn put_spellings(out: &mut Vec<u8>, text: &[u8]) -> Result<(), NoMemory>
     Ok(())
 }
 
+#[tactic(auto, using(crate::proofs::EscapeLemmas::one_more, crate::proofs::EscapeLemmas::taken_back))]
 /// The same between quotes.
 fn put_between_quotes(out: &mut Vec<u8>, text: &[u8]) -> Result<(), NoMemory>
     ensures ok { OnOk result (out.new.items ≡ out.old.items ++ (codes "\"" ++ flat_map quoted_spelling text.now ++ codes "\"")) }

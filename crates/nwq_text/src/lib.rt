@@ -12,3 +12,6 @@ pub mod number;
 pub use escape::{escapes_apart, put_quoted, put_text, read_text};
 pub use line::line_of;
 pub use number::{put_number, read_number};
+
+#[cfg(test)]
+mod tests;

@@ -18,6 +18,7 @@ pub fn put_number(out: &mut Vec<u8>, n: i64) -> Result<(), NoMemory>
     Ok(())
 }
 
+#[tactic(auto, using(crate::proofs::NumberLemmas::one_more_digit, crate::proofs::NumberLemmas::number_fits, crate::proofs::NumberLemmas::no_digit, crate::proofs::NumberLemmas::all_digits, crate::proofs::NumberLemmas::no_number))]
 /// The number that one to ten decimal digits write, and `None` for any other bytes.
 pub fn read_number(digits: &[u8]) -> Option<u64>
     ensures { result ≡ number_of digits.now }
