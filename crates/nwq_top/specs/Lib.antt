@@ -1,4 +1,12 @@
+pub mod Texts
+pub mod Words
+pub mod Work
 pub mod Tokens
 pub mod Sentence
 pub mod Source
+pub mod Meaning
+pub mod Emission
+pub mod Machine
+pub mod Command
 pub mod Reading
+pub mod Stepping

@@ -1,5 +1,5 @@
 -- Reading as functions of the bytes, for private clauses and proofs. What they mean is said in Tokens, Sentence and Source.
-use Rattle.std.specs.Prelude.{◌≡◌, ℕ, zero, suc, ◌+◌, ◌-◌, ◌*◌, ◌≤◌, ◌<◌, Bool, true, false, cond, ◌==◌, nat_le, nat_lt, if◌then◌else◌, List, [], ◌∷◌, ◌++◌, length, take, drop, Option, Some, None, option_map}
+use Rattle.std.specs.Prelude.{◌≡◌, ℕ, zero, suc, ◌+◌, ◌-◌, ◌*◌, ◌≤◌, ◌<◌, Bool, true, false, cond, ◌==◌, nat_le, nat_lt, if◌then◌else◌, List, [], ◌∷◌, ◌++◌, length, take, drop, Option, Some, None, option_map, slice_index_or}
 use Rattle.nwq_top.specs.declared.tokens.Symbol.{Symbol}
 use Rattle.nwq_top.specs.declared.tokens.Symbol.TheVariants.{Void, Main, PrintInteger, OtherWord, Int, Open, Close, OpenBrace, CloseBrace, Semicolon, Plus}
 use Rattle.nwq_top.specs.declared.sentence.Stage.{Stage}
@@ -7,11 +7,13 @@ use Rattle.nwq_top.specs.declared.sentence.Stage.TheVariants.{AtVoid, AtMain, At
 use Rattle.nwq_top.specs.declared.sentence.Reader.{Reader}
 use Rattle.nwq_top.specs.declared.sentence.Parsed.{Parsed}
 use Rattle.nwq_top.specs.declared.sentence.Parsed.TheVariants.{Whole, Unfit, Unfinished}
+use Rattle.nwq_top.specs.declared.source.Reading.{Reading}
+use Rattle.nwq_top.specs.declared.source.Reading.TheVariants.{Built, NotBuilt}
 use Rattle.nwq_top.specs.declared.tokens.Class.{Class}
 use Rattle.nwq_top.specs.declared.tokens.Class.TheVariants.{NameStart, NameByte, Digit, HexDigit, Blank, LineByte}
 use Rattle.nwq_top.specs.declared.tokens.Piece.{Piece}
 use Rattle.nwq_top.specs.declared.tokens.Piece.TheVariants.{Token, Gap, Nothing}
-use Rattle.nwq_top.specs.Tokens.{passes, word_symbol, sign_symbol, number_from, begins_hex, begins_with}
+use Rattle.nwq_top.specs.Tokens.{passes, word_symbol, sign_symbol, number_from, begins_hex, begins_with, symbols}
 use Rattle.nwq_top.specs.declared.tokens.Placed.{Placed}
 use Rattle.nwq_top.specs.declared.tokens.Scan.{Scan}
 
@@ -137,3 +139,23 @@ onward (Some r) i on = on r
 unfoldable pub parse : Reader → ℕ → List Symbol → Parsed
 parse r i [] = at_end r.stage r.sums
 parse r i (s ∷ ss) = onward (goes r s) i (λ next. parse next (i + 1) ss)
+
+-- what a source is: built, with its sums, or refused at a place
+abbrev pub no_token : Placed
+no_token = record { place = 0; symbol = Void }
+
+abbrev pub built : List (List ℕ) → Option ℕ → Reading
+built sums None = Built sums
+built sums (Some place) = NotBuilt place
+
+abbrev pub unfinished : ℕ → Option ℕ → Reading
+unfinished end None = NotBuilt end
+unfinished end (Some place) = NotBuilt place
+
+abbrev pub judged : Scan → ℕ → Parsed → Reading
+judged s end (Whole sums) = built sums s.cut
+judged s end (Unfit i) = NotBuilt (slice_index_or s.tokens i no_token).place
+judged s end Unfinished = unfinished end s.cut
+
+unfoldable pub reading_of : List ℕ → Reading
+reading_of file = let s = scan 0 0 100000 file in judged s (length file) (parse fresh 0 (symbols s.tokens))

@@ -1,4 +1,4 @@
-ghost use Rattle.std.specs.Prelude.{◌≡◌, ℕ, ◌+◌, ◌≤◌, ◌<◌, length, option_map, IfOk, IfSome, [], nat_le};
+ghost use Rattle.std.specs.Prelude.{◌≡◌, ℕ, ◌+◌, ◌≤◌, ◌<◌, length, drop, option_map, IfOk, IfSome, IsTrue};
 ghost use Rattle.nwq_top.specs.Tokens.{passes, word_symbol, sign_symbol, digit_worth, number_from, begins_hex, begins_with};
 ghost use Rattle.nwq_top.specs.Reading.{run_length, limited, word_piece, int_piece, number_piece, block_end, comment_piece, sign_piece, IsInside, piece_of, scan};
 
@@ -88,6 +88,14 @@ fn is_of(class: Class, byte: u8) -> bool
     }
 }
 
+/// The bytes from a place on.
+fn rest_of(bytes: &[u8], at: usize) -> &[u8]
+    requires { at ≤ length bytes.now }
+    ensures { result.now ≡ drop at bytes.now }
+{
+    bytes.split_at(at).1
+}
+
 /// How many bytes from the front on are of a class.
 fn run_of(class: Class, bytes: &[u8]) -> usize
     ensures count { result ≡ run_length class bytes.now }
@@ -167,7 +175,8 @@ fn word_at(text: &[u8]) -> Piece
 }
 
 fn int_at(value: Option<u32>, count: usize) -> Piece
-    ensures { result ≡ int_piece value count }
+    ensures piece { result ≡ int_piece value count }
+    ensures inside { (most : ℕ) → 0 < count → count ≤ most → IsInside result most }
 {
     match value {
         None => Piece::Nothing,
@@ -187,7 +196,8 @@ fn begins_hexadecimal(text: &[u8]) -> bool
 }
 
 fn number_at(text: &[u8]) -> Piece
-    ensures { result ≡ number_piece text.now }
+    ensures piece { result ≡ number_piece text.now }
+    ensures inside { 0 < run_length Class.Digit text.now → IsInside result (length text.now) }
 {
     if begins_hexadecimal(text) {
         let digits = &text[2..];
@@ -200,7 +210,8 @@ fn number_at(text: &[u8]) -> Piece
 }
 
 fn begins_pair(first: u8, second: u8, text: &[u8]) -> bool
-    ensures { result ≡ begins_with first second text.now }
+    ensures same { result ≡ begins_with first second text.now }
+    ensures two { IsTrue result → 2 ≤ length text.now }
 {
     match text {
         [one, two, ..] => *one == first && *two == second,
@@ -210,10 +221,11 @@ fn begins_pair(first: u8, second: u8, text: &[u8]) -> bool
 
 /// How many bytes there are through the first `*/`.
 fn end_of_block(text: &[u8]) -> Option<usize>
-    ensures { result ≡ block_end text.now }
+    ensures count { result ≡ block_end text.now }
+    ensures inside { IfSome result (λ n. n ≤ length text.now) }
 {
     for i in 0..text.len() {
-        if begins_pair(b'*', b'/', &text[i..]) {
+        if begins_pair(b'*', b'/', rest_of(text, i)) {
             return Some(i + 2);
         }
     }
@@ -221,7 +233,8 @@ fn end_of_block(text: &[u8]) -> Option<usize>
 }
 
 fn comment_at(text: &[u8]) -> Piece
-    ensures { result ≡ comment_piece text.now }
+    ensures piece { result ≡ comment_piece text.now }
+    ensures inside { IsInside result (length text.now) }
 {
     if begins_pair(b'/', b'/', text) {
         Piece::Gap(run_of(Class::LineByte, &text[2..]) + 2)
@@ -273,7 +286,7 @@ pub fn tokens_of(alloc: Global, text: &[u8]) -> Result<Scan, NoMemory>
     let mut tokens = Items::new(alloc);
     let mut at = 0;
     while at < text.len() {
-        match first_piece(&text[at..]) {
+        match first_piece(rest_of(text, at)) {
             Piece::Nothing => return Ok(Scan { tokens, cut: Some(at) }),
             Piece::Gap(count) => at += count,
             Piece::Token(symbol, count) => {

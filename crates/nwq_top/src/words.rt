@@ -1,0 +1,54 @@
+ghost use Rattle.std.specs.Prelude.{◌≡◌, map, string_bytes, bytes_eq, codes};
+ghost use Rattle.nwq_top.specs.Words.{is_script_byte, is_script_name, form_of, IsCommand};
+
+/// How many characters the name of a script has at most.
+const NAME_MOST: usize = 16;
+
+/// A command, as its words say it.
+#[derive(Clone, Copy, Debug)]
+pub enum Command<'a> {
+    /// Plays one start entry of this script, with the built-in header.
+    Run(&'a str),
+}
+
+fn is_of_script(byte: u8) -> bool
+    ensures { result ≡ is_script_byte byte }
+{
+    (b'a' <= byte && byte <= b'z') || (b'0' <= byte && byte <= b'9') || byte == b'_'
+}
+
+/// Whether this is the name of a script.
+fn names_script(name: &str) -> bool
+    ensures { result ≡ is_script_name name.now }
+{
+    let bytes = name.as_bytes();
+    1 <= bytes.len() && bytes.len() <= NAME_MOST && bytes.iter().all(|byte| is_of_script(*byte))
+}
+
+fn is_run(word: &str) -> bool
+    ensures { result ≡ bytes_eq word.now (codes "run") }
+{
+    word == "run"
+}
+
+fn is_dash(word: &str) -> bool
+    ensures { result ≡ bytes_eq word.now (codes "-") }
+{
+    word == "-"
+}
+
+/// The command that these words are, if they are one.
+pub fn command_of(words: &[String]) -> Option<Command<'_>>
+    ensures { IsCommand result (form_of (map string_bytes words.now)) }
+{
+    match words {
+        [command, header, script] => {
+            if is_run(command.as_str()) && is_dash(header.as_str()) && names_script(script.as_str()) {
+                Some(Command::Run(script.as_str()))
+            } else {
+                None
+            }
+        }
+        _ => None,
+    }
+}
