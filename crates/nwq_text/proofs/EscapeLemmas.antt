@@ -1,9 +1,9 @@
-use Rattle.std.proofs.Common.{◌≡◌, ℕ, ◌+◌, ◌-◌, ◌*◌, ◌/◌, ◌%◌, ◌<◌, ◌≤◌, Bool, true, false, ◌&&◌, List, [], ◌∷◌, ◌++◌, length, get_or, take, drop, Option, Some, None, refl, sym, ap, ◌∙◌, arith, ◌≢◌, subst, length-append, append_assoc, append-nil}
+use Rattle.std.proofs.Common.{◌≡◌, ℕ, ◌+◌, ◌*◌, ◌/◌, ◌%◌, ◌<◌, ◌≤◌, true, List, [], ◌∷◌, ◌++◌, length, get_or, take, Option, Some, None, refl, sym, ap, ◌∙◌, arith, ◌≢◌, subst, length-append, append_assoc, append-nil}
 use Rattle.std.proofs.lemmas.List.{take_more, flat_map_more, take_at, take_all}
 use Rattle.std.proofs.lemmas.Bool.Decides.{nat_tests}
 use Rattle.std.proofs.lemmas.Option.{cond_some, some_pair_parts, none-some}
 use Rattle.std.specs.List.{flat_map}
-use Rattle.nwq_text.specs.Escape.{spelling, hex_digit, is_plain, escaped, AreBytes, IsTextual, ReadsText, EscapesApart}
+use Rattle.nwq_text.specs.Escape.{spelling, hex_digit, is_plain, escaped, AreBytes, ReadsText, EscapesApart}
 use Rattle.nwq_text.specs.Unescape.{front_spelled, after_backslash, after_x, hex_value, hex_pair, is_spelled_in_hex}
 
 -- what was appended is taken back

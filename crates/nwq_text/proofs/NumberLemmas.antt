@@ -5,7 +5,7 @@ use Rattle.std.proofs.Math.Nat.{pow-le-pow_right, pow-suc}
 use Rattle.std.specs.Char.{digit_value, is_ascii_digit}
 use Rattle.std.specs.Str.{all_ascii_digits}
 use Rattle.std.specs.Str.Parse.{digits_value_after, digits_value}
-use Rattle.nwq_text.specs.Number.{number_of, is_number}
+use Rattle.nwq_text.specs.Number.{number_of}
 use Rattle.std.proofs.Common.{◌⊎◌, cond, nat_lt, nat_le, add-one, lit<}
 
 -- after i digits, which write n, the digits that are left decide whether all are digits, and give the value

@@ -1,0 +1,69 @@
+use Rattle.std.specs.Prelude.{ℕ, ◌+◌, ◌-◌, ◌^◌, min, max, Bool, true, false, List, ◌++◌, map, refl}
+use Rattle.std.specs.FinMap as contents
+use Rattle.std.specs.Coded.{Coded, code_by, coded×, coded_ℕ, coded_list}
+use Rattle.std.specs.BTreeMap.{BTreeMap}
+use Rattle.std.specs.Prelude.{String}
+use Rattle.std.specs.String.{string_bytes}
+use Rattle.nwq_outside.specs.Outside.{Contents}
+use Rattle.nwq_outside.specs.declared.answer.Read.{Read}
+use Rattle.nwq_outside.specs.declared.answer.Read.TheVariants.{Bytes, Missing, Failed, Long, NoMemory}
+use Rattle.nwq_outside.specs.declared.answer.Done.{Done}
+use Rattle.nwq_outside.specs.declared.answer.Done.TheVariants as done
+
+-- the number after a count, which stays where it is from the greatest `u64` on
+abbrev pub next : ℕ → ℕ
+next count = max count (min (count + 1) (2 ^ 64 - 1))
+
+-- files in memory: what they hold, which calls are to fail, how many there were, and the counts
+pub record Memory : Type 0 where
+  pub contents : Contents
+  pub failing : List ℕ
+  pub calls : ℕ
+  pub faults : ℕ
+  pub absences : ℕ
+  pub longs : ℕ
+
+-- a value of these files is told from others as the tuple of its fields
+abbrev pub memory_code : Coded Memory
+memory_code =
+    code_by (Contents × (List ℕ × (ℕ × (ℕ × (ℕ × ℕ)))))
+    (coded× (contents.code (coded_list coded_ℕ) (coded_list coded_ℕ)) (coded× (coded_list coded_ℕ) (coded× coded_ℕ (coded× coded_ℕ (coded× coded_ℕ coded_ℕ)))))
+    (λ m. (m.contents, (m.failing, (m.calls, (m.faults, (m.absences, m.longs))))))
+    (λ p. record { contents = p.0; failing = p.1.0; calls = p.1.1.0; faults = p.1.1.1.0; absences = p.1.1.1.1.0; longs = p.1.1.1.1.1 })
+    (λ _. refl)
+
+-- the contents that a map from names to bytes stands for
+abbrev pub contents_of : {A : Type 0} → BTreeMap (String A) (List ℕ) → Contents
+contents_of held = contents.from_entries (map (λ e. (string_bytes e.0, e.1)) held.entries)
+
+-- a call was counted, and with it a fault where it was to fail
+abbrev pub counted : Memory → Bool → Memory
+counted m true = record m { calls = next m.calls; faults = next m.faults }
+counted m false = record m { calls = next m.calls }
+
+-- files after a read with this answer
+abbrev pub after_read : Memory → Read → Memory
+after_read m (Bytes bytes) = counted m false
+after_read m Missing = record m { calls = next m.calls; absences = next m.absences }
+after_read m Failed = counted m true
+after_read m Long = record m { calls = next m.calls; longs = next m.longs }
+after_read m NoMemory = counted m false
+
+-- files after a write of these bytes with this answer
+abbrev pub after_write : Memory → List ℕ → List ℕ → Done → Memory
+after_write m name bytes done.Ok = record m { calls = next m.calls; contents = contents.insert m.contents name bytes }
+after_write m name bytes done.Failed = counted m true
+after_write m name bytes done.NoMemory = counted m false
+
+-- a sink in memory: what it took, which calls are to fail, how many there were, and how many failed
+pub record Tape : Type 0 where
+  pub taken : List ℕ
+  pub failing : List ℕ
+  pub calls : ℕ
+  pub faults : ℕ
+
+-- a sink after a put of this piece with this answer
+abbrev pub after_put : Tape → List ℕ → Done → Tape
+after_put t piece done.Ok = record t { calls = next t.calls; taken = t.taken ++ piece }
+after_put t piece done.Failed = record t { calls = next t.calls; faults = next t.faults }
+after_put t piece done.NoMemory = record t { calls = next t.calls }

@@ -1,0 +1,61 @@
+ghost use Rattle.std.specs.Prelude.{◌≡◌, ◌≤◌, ℕ, Bool, List, IsTrue};
+ghost use Rattle.std.specs.FinMap as map;
+ghost use Rattle.nwq_outside.specs.Outside.{Contents, Rose, ReadsContent, IsFileSize, Leaves, Takes};
+
+use crate::answer::{Done, Read};
+use std::alloc::Global;
+
+/// Files under names. Kinds of files that tell their contents have every answer explained by them; of the
+/// others, which say nothing of their contents, only the counts are known.
+pub trait Files {
+    /// Whether this kind of files tells its contents.
+    ghost tells: { Bool };
+
+    ghost contents: { Self → Contents };
+
+    /// How often the outside failed, a name was not there, and a file was too long.
+    ghost faults: { Self → ℕ };
+
+    ghost absences: { Self → ℕ };
+
+    ghost longs: { Self → ℕ };
+
+    /// What is under the name.
+    fn read(&mut self, alloc: Global, name: &str) -> Read
+        ensures content { IsTrue tells → ReadsContent (map.get (contents self.old) name.now) result }
+        ensures size { IsFileSize result }
+        ensures missing { result ≡ Read.Missing → Rose (absences self.old) (absences self.new) }
+        ensures failed { result ≡ Read.Failed → Rose (faults self.old) (faults self.new) }
+        ensures long { result ≡ Read.Long → Rose (longs self.old) (longs self.new) }
+
+        ensures same { contents self.new ≡ contents self.old }
+        ensures faults_stay { faults self.old ≤ faults self.new }
+        ensures absences_stay { absences self.old ≤ absences self.new }
+        ensures longs_stay { longs self.old ≤ longs self.new };
+
+    /// Puts these bytes under the name, in place of what was there.
+    fn write(&mut self, name: &str, bytes: &[u8]) -> Done
+        ensures left { IsTrue tells → Leaves (contents self.old) (contents self.new) name.now bytes.now result }
+        ensures failed { result ≡ Done.Failed → Rose (faults self.old) (faults self.new) }
+
+        ensures faults_stay { faults self.old ≤ faults self.new }
+        ensures absences_stay { absences self.old ≤ absences self.new }
+        ensures longs_stay { longs self.old ≤ longs self.new };
+}
+
+/// What takes the printed text, piece by piece.
+pub trait Sink {
+    /// Whether this kind of sink tells what it took.
+    ghost tells: { Bool };
+
+    ghost taken: { Self → List ℕ };
+
+    /// How often the outside failed.
+    ghost faults: { Self → ℕ };
+
+    /// Takes the piece after what was taken before.
+    fn put(&mut self, piece: &[u8]) -> Done
+        ensures taken { IsTrue tells → Takes piece.now (taken self.old) (taken self.new) result }
+        ensures failed { result ≡ Done.Failed → Rose (faults self.old) (faults self.new) }
+        ensures faults_stay { faults self.old ≤ faults self.new };
+}
