@@ -1,10 +1,10 @@
 -- What each form of words does: the seed of the main theorem.
-use Rattle.std.specs.Prelude.{◌≡◌, ℕ, ℤ, ◌≤◌, List, [], ◌∷◌, ◌++◌, length, codes}
+use Rattle.std.specs.Prelude.{◌≡◌, ℕ, ℤ, ◌≤◌, List, [], ◌∷◌, ◌++◌, length, codes, Result}
 use Rattle.nwq_outside.specs.Outside.{Contents}
 use Rattle.nwq_text.specs.Line.{line_number}
 use Rattle.nwq_top.specs.declared.status.Status.{Status}
 use Rattle.nwq_top.specs.declared.status.Status.TheVariants.{Done, Words, Script, Code, Area, Limit, Missing, Fault, Memory, Long}
-use Rattle.nwq_top.specs.Work.{Work, Gives, Ends, Reads, Puts, Does, Finished, ending}
+use Rattle.nwq_top.specs.Work.{Work, Gives, Ends, Reads, Puts, Does, Finished}
 use Rattle.nwq_top.specs.Texts.{words_line, notbuilt_line, trace_text, end_text}
 use Rattle.nwq_top.specs.Words.{Form, Run, NoForm}
 use Rattle.nwq_top.specs.Source.{IsSource, IsNotBuilt}
@@ -31,21 +31,7 @@ pub data IsWorkOf : Form → Work Finished → Type 0 where
       → IsWorkOf (Run script) (Reads (source_name script) next)
 
 -- the call did the work of this form
-pub record DoesWorkOf (form : Form) (c : Contents) (t : List ℕ) (status : Status) (c' : Contents) (t' : List ℕ) : Type 0 where
+pub record DoesWorkOf (form : Form) (c : Contents) (t : List ℕ) (r : Result Finished Status) (c' : Contents) (t' : List ℕ) : Type 0 where
   pub work : Work Finished
   pub is : IsWorkOf form work
-  pub does : Does work c t (ending status) c' t'
-
--- the statuses that these commands have
-abbrev pub CanCome : Status → Type 0
-CanCome Code = ⊥
-CanCome Area = ⊥
-CanCome Limit = ⊥
-CanCome _ = Unit {0}
-
--- the statuses of words that are no form
-abbrev pub IsForNoForm : Status → Type 0
-IsForNoForm Words = Unit {0}
-IsForNoForm Fault = Unit {0}
-IsForNoForm Memory = Unit {0}
-IsForNoForm _ = ⊥
+  pub does : Does work c t r c' t'

@@ -10,3 +10,5 @@ pub mod Machine
 pub mod Command
 pub mod Reading
 pub mod Stepping
+pub mod Causes
+pub mod Playing

@@ -22,12 +22,15 @@ then (Reads name next) f = Reads name (λ bytes. then (next bytes) f)
 then (Writes name bytes rest) f = Writes name bytes (then rest f)
 then (Puts text rest) f = Puts text (then rest f)
 
--- the two answers that may come at any point: a call outside failed, or memory was wanted
+-- the two statuses that may come at any point: a call outside failed, or memory was wanted
+abbrev pub CutsShort : Status → Type 0
+CutsShort Fault = Unit {0}
+CutsShort Memory = Unit {0}
+CutsShort _ = ⊥
+
 abbrev pub IsCut : {A : Type 0} → Result A Status → Type 0
 IsCut (Ok a) = ⊥
-IsCut (Err Fault) = Unit {0}
-IsCut (Err Memory) = Unit {0}
-IsCut (Err _) = ⊥
+IsCut (Err status) = CutsShort status
 
 -- nothing changed and nothing was taken
 abbrev pub Stays : Contents → Contents → List ℕ → List ℕ → Type 0

@@ -1,6 +1,6 @@
 ghost use Rattle.std.specs.Prelude.{◌≡◌, ◌++◌, codes, OnOk, IfOk};
 ghost use Rattle.nwq_text.specs.Escape.{escaped};
-ghost use Rattle.nwq_top.specs.Texts.{missing_line, long_line, notbuilt_line, print_line, trace_text, end_text};
+ghost use Rattle.nwq_top.specs.Texts.{missing_line, long_line, words_line, notbuilt_line, print_line, trace_text, end_text};
 
 use crate::machine::Played;
 use nwq_text::{put_number, put_text};
@@ -87,4 +87,11 @@ pub fn played_text(alloc: Global, played: &Played) -> Result<Vec<u8>, NoMemory>
     put_trace(&mut text, played.printed.as_slice())?;
     put_end(&mut text, played.count)?;
     Ok(text)
+}
+
+/// The line for words that are no command form.
+pub fn words_text(alloc: Global) -> Result<Vec<u8>, NoMemory>
+    ensures { IfOk result (λ text. text.items ≡ words_line) }
+{
+    Ok(Vec::from_slice(alloc, b"refused words\n")?)
 }
