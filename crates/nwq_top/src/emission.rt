@@ -1,6 +1,6 @@
 ghost use Rattle.std.specs.Prelude.{◌≡◌, ◌+◌, ◌≤◌, ◌++◌, length, flat_map, pos, OnOk, IfOk};
-ghost use Rattle.ncs_code.specs.Plain.{Action, Add, Jsr, Retn};
-ghost use Rattle.ncs_code.specs.Spelling.{spelling};
+ghost use Rattle.ncs_code.specs.Plain.{plain, Action, Add, Jsr, Retn};
+ghost use Rattle.ncs_code.specs.Spelling.{HasRow, spelling};
 ghost use Rattle.nwq_top.specs.Emission.{push, adds, print_code, code_of, bytes_of, file_of};
 
 use ncs_code::{Lit, Op};
@@ -16,39 +16,54 @@ pub const TWO_INTS: u8 = 0x20;
 /// How many bytes of start stand before the first instruction of a file.
 pub const START_BYTES: u32 = 13;
 
+/// Appends the spelling of an instruction.
+fn put_op(out: &mut Vec<u8>, op: Op<'_>) -> Result<(), NoMemory>
+    requires { HasRow (plain op) }
+    ensures { OnOk result (out.new.items ≡ out.old.items ++ spelling (plain op)) }
+{
+    op.encode(out)
+}
+
+#[tactic(auto, using(crate::proofs::CodeLemmas::push_row))]
 fn put_push(out: &mut Vec<u8>, n: u32) -> Result<(), NoMemory>
     ensures { OnOk result (out.new.items ≡ out.old.items ++ spelling (push n)) }
 {
-    Op::Const(Lit::Int(n.cast_signed())).encode(out)
+    put_op(out, Op::Const(Lit::Int(n.cast_signed())))
 }
 
+#[tactic(auto, using(crate::proofs::CodeLemmas::add_row))]
 fn put_add(out: &mut Vec<u8>) -> Result<(), NoMemory>
     ensures { OnOk result (out.new.items ≡ out.old.items ++ spelling (Add 0x20)) }
 {
-    Op::Add { kind: TWO_INTS }.encode(out)
+    put_op(out, Op::Add { kind: TWO_INTS })
 }
 
+#[tactic(auto, using(crate::proofs::CodeLemmas::call_row))]
 fn put_call(out: &mut Vec<u8>) -> Result<(), NoMemory>
     ensures { OnOk result (out.new.items ≡ out.old.items ++ spelling (Action 4 1)) }
 {
-    Op::Action {
-        routine: PRINT_INTEGER,
-        count: 1,
-    }
-    .encode(out)
+    put_op(
+        out,
+        Op::Action {
+            routine: PRINT_INTEGER,
+            count: 1,
+        },
+    )
 }
 
+#[tactic(auto, using(crate::proofs::CodeLemmas::return_row))]
 fn put_return(out: &mut Vec<u8>) -> Result<(), NoMemory>
     ensures { OnOk result (out.new.items ≡ out.old.items ++ spelling Retn) }
 {
-    Op::Retn.encode(out)
+    put_op(out, Op::Retn)
 }
 
 /// The call of `main`, which begins past the start's two instructions.
+#[tactic(auto, using(crate::proofs::CodeLemmas::start_row))]
 fn put_start(out: &mut Vec<u8>) -> Result<(), NoMemory>
     ensures { OnOk result (out.new.items ≡ out.old.items ++ spelling (Jsr (pos 8))) }
 {
-    Op::Jsr { offset: 8 }.encode(out)
+    put_op(out, Op::Jsr { offset: 8 })
 }
 
 fn put_adds(out: &mut Vec<u8>, ints: &[u32]) -> Result<(), NoMemory>
