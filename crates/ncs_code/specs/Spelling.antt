@@ -1,6 +1,6 @@
 -- The one spelling of each instruction: opcode, type byte, big-endian arguments.
-use Rattle.std.specs.Prelude.{◌≡◌, ◌≢◌, ℕ, ℤ, ◌+◌, ◌<◌, ◌≤◌, ◌^◌, List, [], ◌∷◌, ◌++◌, length, Bool, true, false, not, ◌&&◌, ◌||◌, ◌==◌, nat_lt, nat_le, if◌then◌else◌, IsTrue, Option, Some, None, All, take, drop, FitsSigned}
-use Rattle.std.specs.Int.{w16, w32, to_be_bytes, from_be_bytes, cast_unsigned}
+use Rattle.std.specs.Prelude.{◌≡◌, ◌≢◌, ℕ, ℤ, ◌+◌, ◌<◌, ◌≤◌, ◌^◌, List, [], ◌∷◌, ◌++◌, length, Bool, true, false, not, ◌&&◌, ◌||◌, ◌==◌, nat_lt, nat_le, if◌then◌else◌, IsTrue, Option, Some, None, All, drop, FitsSigned, ◌*◌, slice_index}
+use Rattle.std.specs.Int.{w16, w32, to_be_bytes, cast_unsigned}
 use Rattle.ncs_code.specs.declared.fault.CodeFault.{CodeFault}
 use Rattle.ncs_code.specs.declared.fault.CodeFault.TheVariants.{Opcode, TypeByte, Short}
 use Rattle.ncs_code.specs.Plain.{PlainLit, PlainOp, Int, Float, Text, Object, CpDownSp, RsAdd, CpTopSp, Const, Action, LogAnd, LogOr, IncOr, ExcOr, BoolAnd, Equal, Nequal, Geq, Gt, Lt, Leq, ShLeft, ShRight, UshRight, Add, Sub, Mul, Div, Mod, Neg, Comp, MovSp, Jmp, Jsr, Jz, Retn, Destruct, Not, DecISp, IncISp, Jnz, CpDownBp, CpTopBp, DecIBp, IncIBp, SaveBp, RestoreBp, StoreState, Nop}
@@ -109,7 +109,7 @@ has_type code kind =
 
 -- the number that stands in the first two bytes
 unfoldable pub first_two : List ℕ → ℕ
-first_two bytes = from_be_bytes w16 (take 2 bytes)
+first_two bytes = 0x100 * slice_index bytes 0 + slice_index bytes 1
 
 -- how many bytes the argument of CONST takes
 abbrev pub lit_size : ℕ → List ℕ → ℕ
@@ -143,8 +143,12 @@ has_its_type (code ∷ []) = false
 has_its_type (code ∷ kind ∷ args) = has_type code kind
 
 -- A string's length takes two bytes, and only the comparison of two runs of cells has a size.
+abbrev pub HasTextSize : PlainLit → Type 0
+HasTextSize (Text bytes) = length bytes < 2 ^ 16
+HasTextSize _ = Unit {0}
+
 abbrev pub HasSizes : PlainOp → Type 0
-HasSizes (Const (Text bytes)) = length bytes < 2 ^ 16
+HasSizes (Const lit) = HasTextSize lit
 HasSizes (Equal kind size) = kind ≢ 0x24 → size ≡ 0
 HasSizes (Nequal kind size) = kind ≢ 0x24 → size ≡ 0
 HasSizes _ = Unit {0}

@@ -8,6 +8,7 @@
 //! spelling begins another, so that bytes stand for one list of instructions at most.
 #![tactic(auto)]
 
+mod arguments;
 mod fault;
 mod instruction;
 mod opcode;

@@ -1,4 +1,4 @@
-//! The one list of opcodes. 0x1C, which would keep the whole stack for later, is none of them.
+//! The one list of opcodes.
 
 pub(crate) const CPDOWNSP: u8 = 0x01;
 
@@ -53,6 +53,9 @@ pub(crate) const NEG: u8 = 0x19;
 pub(crate) const COMP: u8 = 0x1A;
 
 pub(crate) const MOVSP: u8 = 0x1B;
+
+/// What the engine's own list has here, an instruction that kept the whole stack, is in no file.
+pub(crate) const NO_OPCODE: u8 = 0x1C;
 
 pub(crate) const JMP: u8 = 0x1D;
 

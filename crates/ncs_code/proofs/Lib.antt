@@ -1,0 +1,4 @@
+mod Pieces
+mod Rows
+mod Sound
+mod Readings
