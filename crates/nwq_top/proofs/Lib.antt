@@ -1,3 +1,5 @@
 mod TokenLemmas
 mod SentenceLemmas
 mod CodeLemmas
+mod MachineLemmas
+mod StepLemmas

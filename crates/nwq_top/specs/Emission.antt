@@ -1,12 +1,12 @@
 -- The code of a sentence: a list of instructions, and the bytes of its file.
-use Rattle.std.specs.Prelude.{ℕ, ℤ, pos, ◌+◌, List, [], ◌∷◌, ◌++◌, length, flat_map, codes}
+use Rattle.std.specs.Prelude.{ℕ, ℤ, pos, ◌+◌, ◌%◌, ◌^◌, List, [], ◌∷◌, ◌++◌, length, flat_map, codes}
 use Rattle.std.specs.Int.{w32, cast_signed, to_be_bytes}
 use Rattle.ncs_code.specs.Plain.{PlainOp, Int, Const, Action, Add, Jsr, Retn}
 use Rattle.ncs_code.specs.Spelling.{spelling}
 
--- pushes an int of the source, which stands for a signed number of 32 bits
+-- pushes an int of the source as a signed number of 32 bits, in two's complement
 abbrev pub push : ℕ → PlainOp
-push n = Const (Int (cast_signed w32 n))
+push n = Const (Int (cast_signed w32 (n % 2 ^ 32)))
 
 -- each further int is pushed and added to the sum so far
 abbrev pub adds : List ℕ → List PlainOp

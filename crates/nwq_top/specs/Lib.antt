@@ -12,3 +12,4 @@ pub mod Reading
 pub mod Stepping
 pub mod Causes
 pub mod Playing
+pub mod Laws

@@ -17,7 +17,7 @@ laid start (op ∷ ops) place = cond (place == start) (Some op) (laid (start + l
 
 pub data After : Type 0 where
   GoesOn : Machine → After
-  HasEnded : After
+  HasEnded : Machine → After
   Stuck : After
 
 abbrev pub moved : Machine → ℕ → List ℤ → After
@@ -43,7 +43,7 @@ call_place None next m = Stuck
 call_place (Some place) next m = GoesOn (record m { place = place; calls = next ∷ m.calls })
 
 abbrev pub return_place : List ℕ → Machine → After
-return_place [] m = HasEnded
+return_place [] m = HasEnded m
 return_place (place ∷ calls) m = GoesOn (record m { place = place; calls = calls })
 
 abbrev pub act_of : PlainOp → ℕ → Machine → After
@@ -61,7 +61,7 @@ step_of (Some op) m = act_of op (m.place + length (spelling op)) m
 
 -- from this state the run ends after so many instructions, having printed this in all
 pub data Runs : Code → Machine → ℕ → List ℤ → Type 0 where
-  ends : {code : Code} {m : Machine} → step_of (code m.place) m ≡ HasEnded → Runs code m 1 m.printed
+  ends : {code : Code} {m last : Machine} → step_of (code m.place) m ≡ HasEnded last → Runs code m 1 last.printed
   goes : {code : Code} {m next : Machine} {count : ℕ} {out : List ℤ} → step_of (code m.place) m ≡ GoesOn next → Runs code next count out
       → Runs code m (suc count) out
 

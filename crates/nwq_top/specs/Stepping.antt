@@ -9,7 +9,7 @@ use Rattle.nwq_top.specs.Machine.{After, GoesOn, HasEnded, Stuck, step_of}
 
 abbrev pub after_of : Next → Machine → After
 after_of Goes m = GoesOn m
-after_of Ends m = HasEnded
+after_of Ends m = HasEnded m
 
 -- an instruction is spelled at the machine's place, and can be done
 pub record HasStep (file : List ℕ) (m : Machine) (op : PlainOp) (rest : List ℕ) : Type 0 where

@@ -17,25 +17,25 @@ pub const TWO_INTS: u8 = 0x20;
 pub const START_BYTES: u32 = 13;
 
 /// Appends the spelling of an instruction.
-fn put_op(out: &mut Vec<u8>, op: Op<'_>) -> Result<(), NoMemory>
-    requires { HasRow (plain op) }
-    ensures { OnOk result (out.new.items ≡ out.old.items ++ spelling (plain op)) }
+fn put_op(out: &mut Vec<u8>, op: &Op<'_>) -> Result<(), NoMemory>
+    requires { HasRow (plain op.now) }
+    ensures { OnOk result (out.new.items ≡ out.old.items ++ spelling (plain op.now)) }
 {
     op.encode(out)
 }
 
-#[tactic(auto, using(crate::proofs::CodeLemmas::push_row))]
+#[tactic(auto, using(crate::proofs::CodeLemmas::push_row, crate::proofs::CodeLemmas::small_int))]
 fn put_push(out: &mut Vec<u8>, n: u32) -> Result<(), NoMemory>
     ensures { OnOk result (out.new.items ≡ out.old.items ++ spelling (push n)) }
 {
-    put_op(out, Op::Const(Lit::Int(n.cast_signed())))
+    put_op(out, &Op::Const(Lit::Int(n.cast_signed())))
 }
 
 #[tactic(auto, using(crate::proofs::CodeLemmas::add_row))]
 fn put_add(out: &mut Vec<u8>) -> Result<(), NoMemory>
     ensures { OnOk result (out.new.items ≡ out.old.items ++ spelling (Add 0x20)) }
 {
-    put_op(out, Op::Add { kind: TWO_INTS })
+    put_op(out, &Op::Add { kind: TWO_INTS })
 }
 
 #[tactic(auto, using(crate::proofs::CodeLemmas::call_row))]
@@ -44,7 +44,7 @@ fn put_call(out: &mut Vec<u8>) -> Result<(), NoMemory>
 {
     put_op(
         out,
-        Op::Action {
+        &Op::Action {
             routine: PRINT_INTEGER,
             count: 1,
         },
@@ -55,7 +55,7 @@ fn put_call(out: &mut Vec<u8>) -> Result<(), NoMemory>
 fn put_return(out: &mut Vec<u8>) -> Result<(), NoMemory>
     ensures { OnOk result (out.new.items ≡ out.old.items ++ spelling Retn) }
 {
-    put_op(out, Op::Retn)
+    put_op(out, &Op::Retn)
 }
 
 /// The call of `main`, which begins past the start's two instructions.
@@ -63,7 +63,7 @@ fn put_return(out: &mut Vec<u8>) -> Result<(), NoMemory>
 fn put_start(out: &mut Vec<u8>) -> Result<(), NoMemory>
     ensures { OnOk result (out.new.items ≡ out.old.items ++ spelling (Jsr (pos 8))) }
 {
-    put_op(out, Op::Jsr { offset: 8 })
+    put_op(out, &Op::Jsr { offset: 8 })
 }
 
 fn put_adds(out: &mut Vec<u8>, ints: &[u32]) -> Result<(), NoMemory>

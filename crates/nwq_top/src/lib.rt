@@ -8,6 +8,7 @@
 
 mod command;
 mod emission;
+pub mod laws;
 mod machine;
 mod pile;
 mod run;

@@ -114,14 +114,14 @@ fn return_from(m: &mut Machine) -> Next
 
 /// Does one instruction, whose spelling has so many bytes.
 #[tactic(auto, unfolding(crate::specs::Machine::step_of))]
-fn act(op: Op<'_>, size: u32, m: &mut Machine) -> Result<Next, NoMemory>
-    requires sized { size ≡ length (spelling (plain op)) }
+fn act(op: &Op<'_>, size: u32, m: &mut Machine) -> Result<Next, NoMemory>
+    requires sized { size ≡ length (spelling (plain op.now)) }
     requires room { m.old.place + size < 2 ^ 32 }
-    requires runs { step_of (Some (plain op)) m.old ≢ Stuck }
-    ensures { IfOk result (λ next. step_of (Some (plain op)) m.old ≡ after_of next m.new) }
+    requires runs { step_of (Some (plain op.now)) m.old ≢ Stuck }
+    ensures { IfOk result (λ next. step_of (Some (plain op.now)) m.old ≡ after_of next m.new) }
 {
     let next = m.place + size;
-    match op {
+    match *op {
         Op::Const(Lit::Int(value)) => {
             m.cells.push(value)?;
             m.place = next;
@@ -146,7 +146,7 @@ fn step(file: &[u8], m: &mut Machine) -> Result<Next, NoMemory>
         step_of (Some op) m.old ≡ after_of next m.new) }
 {
     match decode(file, m.place) {
-        Ok((op, size)) => act(op, size, m),
+        Ok((op, size)) => act(&op, size, m),
         Err(_) => unreachable!(),
     }
 }
@@ -164,11 +164,14 @@ pub fn play(alloc: Global, sums: &[Items<u32>]) -> Result<Played, NoMemory>
     loop {
         let next = step(file.as_slice(), &mut machine)?;
         count += 1;
-        if next == Next::Ends {
-            return Ok(Played {
-                printed: machine.printed,
-                count,
-            });
+        match next {
+            Next::Goes => {}
+            Next::Ends => {
+                return Ok(Played {
+                    printed: machine.printed,
+                    count,
+                });
+            }
         }
     }
 }
