@@ -1,4 +1,4 @@
-use Rattle.std.proofs.Common.{◌≡◌, ℕ, Bool, cond, List, [], ◌∷◌, map, Option, Some, None, refl, sym, ap, ◌∙◌}
+use Rattle.std.proofs.Common.{◌≡◌, ℕ, cond, List, [], ◌∷◌, map, Some, refl, sym, ap, ◌∙◌}
 use Rattle.std.proofs.lemmas.Cmp.{nat_list_cmp_total, nat_list_eq_equiv}
 use Rattle.std.proofs.lemmas.Map.Lookups.{exact_bytes}
 use Rattle.std.proofs.lemmas.Map.Text.{is_eq-slice_cmp, btree_map_updates_text}
@@ -10,7 +10,6 @@ use Rattle.std.specs.Ordering.{nat_cmp, is_eq}
 use Rattle.std.specs.Prelude.{String}
 use Rattle.std.specs.Str.{bytes_eq}
 use Rattle.std.specs.String.{string_bytes, string_cmp}
-use Rattle.nwq_outside.specs.Outside.{Contents}
 use Rattle.nwq_outside.specs.Memory.{contents_of}
 
 find_held : {A : Type 0} (es : List (String A × List ℕ)) (name : List ℕ)

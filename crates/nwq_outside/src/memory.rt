@@ -2,6 +2,7 @@ ghost use Rattle.std.specs.Prelude.{◌≡◌, ◌≤◌, ◌↔◌, [], ◌∷�
 ghost use Rattle.std.specs.Option.{option_map, option_copied};
 ghost use Rattle.std.specs.FinMap as map;
 ghost use Rattle.nwq_outside.specs.Outside.{Rose, ReadsContent, IsFileSize, Leaves, Takes};
+ghost use Rattle.nwq_outside.specs.Memory.{contents_of};
 
 use crate::answer::{Done, FILE_BYTES, Read, raised};
 use crate::traits::{Files, Sink};
@@ -9,8 +10,6 @@ use nwq_value::{Items, NoMemory};
 use std::alloc::Global;
 use std::collections::BTreeMap;
 use std::marker::Model;
-
-ghost use Rattle.nwq_outside.specs.Memory.{contents_of};
 
 /// What a name holds.
 #[tactic(auto, using(crate::proofs::MemoryLemmas::get_held))]
@@ -22,7 +21,12 @@ fn content_of<'a>(held: &'a BTreeMap<String, Items<u8>>, name: &str) -> Option<&
 
 /// Puts a copy of these bytes under the name.
 #[tactic(auto, using(crate::proofs::MemoryLemmas::insert_held))]
-fn hold(held: &mut BTreeMap<String, Items<u8>>, alloc: Global, name: &str, bytes: &[u8]) -> Result<(), NoMemory>
+fn hold(
+    held: &mut BTreeMap<String, Items<u8>>,
+    alloc: Global,
+    name: &str,
+    bytes: &[u8],
+) -> Result<(), NoMemory>
     ensures ok { OnOk result (contents_of held.new ≡ map.insert (contents_of held.old) name.now bytes.now) }
     ensures err { OnErr result (contents_of held.new ≡ contents_of held.old) }
 {
@@ -237,9 +241,9 @@ impl Sink for MemSink {
         ensures fails { (result ≡ Done.Failed) ↔ Contains self.old.failing self.old.calls }
         ensures after { self.new ≡ after_put self.old piece.now result }
     {
-        let fails = self.failing.as_slice().contains(&self.calls);
+        let refused = self.failing.as_slice().contains(&self.calls);
         self.calls = raised(self.calls);
-        if fails {
+        if refused {
             self.faults = raised(self.faults);
             return Done::Failed;
         }
