@@ -1,5 +1,5 @@
 use Rattle.std.specs.Prelude.{◌≡◌, ◌≢◌, ℕ, ◌+◌, ◌-◌, ◌^◌, ◌<◌, ◌≤◌, min, List, ◌++◌, length, Option, Some, None}
-use Rattle.std.specs.Option.{ForSome}
+use Rattle.std.specs.Option.{IsSomeAnd}
 use Rattle.std.specs.Ordering.{nat_cmp}
 use Rattle.std.specs.Cmp.Lexicographic.{slice_cmp}
 use Rattle.std.specs.FinMap as map
@@ -21,7 +21,7 @@ abbrev pub ReadsContent : Option (List ℕ) → Read → Type 0
 ReadsContent content (Bytes bytes) = content ≡ Some bytes.items
 ReadsContent content Missing = content ≡ None
 ReadsContent content Failed = Unit {0}
-ReadsContent content Long = ForSome content (λ bytes. 16777216 < length bytes)
+ReadsContent content Long = IsSomeAnd content (λ bytes. 16777216 < length bytes)
 ReadsContent content NoMemory = Unit {0}
 
 -- what is read is no longer than a file can be
