@@ -3,3 +3,10 @@ mod SentenceLemmas
 mod CodeLemmas
 mod MachineLemmas
 mod StepLemmas
+mod WorkLemmas
+mod PieceLemmas
+mod ScanLemmas
+mod ParseLemmas
+mod SourceLemmas
+mod CommandLemmas
+mod TextLemmas

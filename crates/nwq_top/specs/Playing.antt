@@ -1,5 +1,5 @@
 -- The work of a run by the reading functions, for private clauses.
-use Rattle.std.specs.Prelude.{◌≡◌, ℕ, ◌⊎◌, List, ◌++◌, length}
+use Rattle.std.specs.Prelude.{◌≡◌, ℕ, ◌⊎◌, List, ◌++◌, length, Result, Ok, Err}
 use Rattle.nwq_outside.specs.Outside.{TookFront}
 use Rattle.nwq_text.specs.Line.{line_number}
 use Rattle.nwq_top.specs.declared.status.Status.{Status}
@@ -16,6 +16,11 @@ use Rattle.nwq_top.specs.Command.{source_name}
 -- a line is put and the status answered, or the work is cut with a front of the line taken
 abbrev pub Refuses : List ℕ → Status → List ℕ → Status → List ℕ → Type 0
 Refuses line status t answer t' = ((answer ≡ status) × (t' ≡ t ++ line)) ⊎ (CutsShort answer × TookFront line t t')
+
+-- a text is put whole, or the work is cut with a front of it taken
+abbrev pub PutsWhole : List ℕ → List ℕ → Result Finished Status → List ℕ → Type 0
+PutsWhole text t (Ok done) t' = t' ≡ t ++ text
+PutsWhole text t (Err cut) t' = CutsShort cut × TookFront text t t'
 
 abbrev pub work_on : List ℕ → List ℕ → Reading → Work Finished
 work_on name file (Built sums) = Puts (trace_text (prints_of sums) ++ end_text (length (code_of sums))) (Gives tt)

@@ -1,5 +1,5 @@
 -- Reading as functions of the bytes, for private clauses and proofs. What they mean is said in Tokens, Sentence and Source.
-use Rattle.std.specs.Prelude.{◌≡◌, ℕ, zero, suc, ◌+◌, ◌-◌, ◌*◌, ◌≤◌, ◌<◌, Bool, true, false, cond, ◌==◌, nat_le, nat_lt, if◌then◌else◌, List, [], ◌∷◌, ◌++◌, length, take, drop, Option, Some, None, option_map, slice_index_or}
+use Rattle.std.specs.Prelude.{◌≡◌, ℕ, zero, suc, ◌+◌, ◌-◌, ◌*◌, ◌≤◌, ◌<◌, Bool, true, false, cond, ◌==◌, nat_le, nat_lt, if◌then◌else◌, List, [], ◌∷◌, ◌++◌, length, take, drop, Option, Some, None, option_map, slice_get}
 use Rattle.nwq_top.specs.declared.tokens.Symbol.{Symbol}
 use Rattle.nwq_top.specs.declared.tokens.Symbol.TheVariants.{Void, Main, PrintInteger, OtherWord, Int, Open, Close, OpenBrace, CloseBrace, Semicolon, Plus}
 use Rattle.nwq_top.specs.declared.sentence.Stage.{Stage}
@@ -141,8 +141,9 @@ parse r i [] = at_end r.stage r.sums
 parse r i (s ∷ ss) = onward (goes r s) i (λ next. parse next (i + 1) ss)
 
 -- what a source is: built, with its sums, or refused at a place
-abbrev pub no_token : Placed
-no_token = record { place = 0; symbol = Void }
+abbrev pub place_in : Option Placed → ℕ
+place_in None = 0
+place_in (Some t) = t.place
 
 abbrev pub built : List (List ℕ) → Option ℕ → Reading
 built sums None = Built sums
@@ -154,7 +155,7 @@ unfinished end (Some place) = NotBuilt place
 
 abbrev pub judged : Scan → ℕ → Parsed → Reading
 judged s end (Whole sums) = built sums s.cut
-judged s end (Unfit i) = NotBuilt (slice_index_or s.tokens i no_token).place
+judged s end (Unfit i) = NotBuilt (place_in (slice_get s.tokens i))
 judged s end Unfinished = unfinished end s.cut
 
 unfoldable pub reading_of : List ℕ → Reading

@@ -44,7 +44,7 @@ EndsWith text status c t r c' t' =
 -- from contents c and taken bytes t the work answers r and leaves c' and t'
 abbrev pub Does : {A : Type 0} → Work A → Contents → List ℕ → Result A Status → Contents → List ℕ → Type 0
 Does (Gives a) c t r c' t' = ((r ≡ Ok a) ⊎ IsCut r) × Stays c c' t t'
-Does (Ends status) c t r c' t' = (r ≡ Err status) × Stays c c' t t'
+Does (Ends status) c t r c' t' = ((r ≡ Err status) ⊎ IsCut r) × Stays c c' t t'
 Does (Reads name next) c t r c' t' =
     (IsCut r × Stays c c' t t')
     ⊎ MatchOption (map.get c name) (EndsWith (missing_line name) Missing c t r c' t')

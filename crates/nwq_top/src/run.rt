@@ -1,6 +1,6 @@
 ghost use Rattle.std.specs.Prelude.{◌≡◌, ◌≤◌, ◌++◌, ◌⊎◌, List, ℕ, length, string_bytes, IsTrue, IfErr, IfOk, Ok, Err};
 ghost use Rattle.nwq_outside.specs.Outside.{Contents, Rose};
-ghost use Rattle.nwq_top.specs.Work.{Reads, Gives, Puts, Does};
+ghost use Rattle.nwq_top.specs.Work.{Reads, Gives, Does};
 ghost use Rattle.nwq_top.specs.Causes.{IsRefusal, StopsPut, StopsSource, StopsRead, StopsRun};
 ghost use Rattle.nwq_top.specs.Command.{source_name};
 ghost use Rattle.nwq_text.specs.Line.{line_number};
@@ -8,7 +8,7 @@ ghost use Rattle.nwq_top.specs.Texts.{notbuilt_line, trace_text, end_text};
 ghost use Rattle.nwq_top.specs.Sentence.{AreSums, spelled};
 ghost use Rattle.nwq_top.specs.Meaning.{prints_of};
 ghost use Rattle.nwq_top.specs.Emission.{code_of};
-ghost use Rattle.nwq_top.specs.Playing.{Refuses, play_work, run_work};
+ghost use Rattle.nwq_top.specs.Playing.{PutsWhole, Refuses, play_work, run_work};
 
 use crate::machine::play;
 use crate::source::{Reading, read_source};
@@ -19,10 +19,10 @@ use nwq_text::line_of;
 use nwq_value::{Items, NoMemory};
 use std::alloc::Global;
 
-/// Puts a text, with which the work is done.
+/// Puts a text, if there was memory to make it.
 fn put<S: Sink>(text: Result<Vec<u8>, NoMemory>, out: &mut S) -> Result<(), Status>
-    ensures does { IsTrue S.tells → (c : Contents) (whole : List ℕ) → IfOk text (λ t. t.items ≡ whole) →
-        Does (Puts whole (Gives tt)) c (S.taken out.old) result c (S.taken out.new) }
+    ensures does { IsTrue S.tells → (whole : List ℕ) → IfOk text (λ t. t.items ≡ whole) →
+        PutsWhole whole (S.taken out.old) result (S.taken out.new) }
     ensures fault { result ≡ Err Status.Fault → Rose (S.faults out.old) (S.faults out.new) }
     ensures only { IfErr result StopsPut }
 {
@@ -70,8 +70,8 @@ pub fn read_file<F: Files, S: Sink>(
 {
     match files.read(alloc, name) {
         Read::Bytes(bytes) => Ok(Items::of_vec(bytes)),
-        Read::Missing => Err(refuse(missing_text(alloc, name.as_bytes()), Status::Missing, out)),
-        Read::Long => Err(refuse(long_text(alloc, name.as_bytes()), Status::Long, out)),
+        Read::Missing => Err(refuse(missing_text(alloc, name), Status::Missing, out)),
+        Read::Long => Err(refuse(long_text(alloc, name), Status::Long, out)),
         Read::Failed => Err(Status::Fault),
         Read::NoMemory => Err(Status::Memory),
     }
@@ -96,7 +96,7 @@ fn refuse_source<S: Sink>(alloc: Global, name: &str, file: &[u8], place: u32, ou
     ensures only { StopsSource result }
 {
     let line = line_of(file, place);
-    refuse(notbuilt_text(alloc, name.as_bytes(), line, place), Status::Script, out)
+    refuse(notbuilt_text(alloc, name, line, place), Status::Script, out)
 }
 
 /// The text of a sentence's play.

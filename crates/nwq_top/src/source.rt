@@ -1,5 +1,5 @@
-ghost use Rattle.std.specs.Prelude.{◌≡◌, length, slice_index_or, IfOk};
-ghost use Rattle.nwq_top.specs.Reading.{judged, no_token, reading_of};
+ghost use Rattle.std.specs.Prelude.{◌≡◌, length, slice_get, IfOk};
+ghost use Rattle.nwq_top.specs.Reading.{place_in, judged, reading_of};
 
 use crate::sentence::{Parsed, parse_tokens};
 use crate::tokens::{Scan, tokens_of};
@@ -15,7 +15,7 @@ pub enum Reading {
 
 /// Where token `i` begins.
 fn place_of(scan: &Scan, i: usize) -> usize
-    ensures { result ≡ (slice_index_or scan.now.tokens i no_token).place }
+    ensures { result ≡ place_in (slice_get scan.now.tokens i) }
 {
     match scan.tokens.get(i) {
         None => 0,

@@ -1,4 +1,5 @@
 ghost use Rattle.std.specs.Prelude.{◌≡◌, map, string_bytes, bytes_eq, codes};
+ghost use Rattle.std.specs.List.{list_all};
 ghost use Rattle.nwq_top.specs.Words.{is_script_byte, is_script_name, form_of, IsCommand};
 
 /// How many characters the name of a script has at most.
@@ -17,12 +18,18 @@ fn is_of_script(byte: u8) -> bool
     (b'a' <= byte && byte <= b'z') || (b'0' <= byte && byte <= b'9') || byte == b'_'
 }
 
+fn all_of_script(bytes: &[u8]) -> bool
+    ensures { result ≡ list_all is_script_byte bytes.now }
+{
+    bytes.iter().all(|byte| is_of_script(*byte))
+}
+
 /// Whether this is the name of a script.
 fn names_script(name: &str) -> bool
     ensures { result ≡ is_script_name name.now }
 {
     let bytes = name.as_bytes();
-    1 <= bytes.len() && bytes.len() <= NAME_MOST && bytes.iter().all(|byte| is_of_script(*byte))
+    1 <= bytes.len() && bytes.len() <= NAME_MOST && all_of_script(bytes)
 }
 
 fn is_run(word: &str) -> bool
