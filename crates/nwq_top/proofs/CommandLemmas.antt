@@ -5,7 +5,9 @@ use Rattle.nwq_top.specs.declared.source.Reading.TheVariants.{Built, NotBuilt}
 use Rattle.nwq_top.specs.declared.machine.Machine.{Machine}
 use Rattle.ncs_code.specs.Plain.{PlainOp}
 use Rattle.nwq_top.specs.Words.{Form, Run, NoForm}
-use Rattle.nwq_top.specs.Work.{Work, Finished}
+use Rattle.nwq_top.specs.declared.status.Status.TheVariants.{Words}
+use Rattle.nwq_top.specs.Texts.{words_line}
+use Rattle.nwq_top.specs.Work.{Work, Puts, Ends, Finished}
 use Rattle.nwq_top.specs.Meaning.{prints_of}
 use Rattle.nwq_top.specs.Emission.{code_of}
 use Rattle.nwq_top.specs.Machine.{Code, After, GoesOn, HasEnded, step_of, Runs, ends, goes}
@@ -40,3 +42,7 @@ one_run (goes {code = code} {next = a} {out = out} e r) k other (goes {next = b}
     let same : b ≡ a = gone_same b a (sym f ∙ e) in
     let rest = one_run r count other (subst (λ x. Runs code x count other) same s) in
     (ap suc rest.0, rest.1)
+
+pub work_of : (form : Form) → (work : Work Finished) × IsWorkOf form work
+work_of (Run script) = (run_work script, run_is script)
+work_of NoForm = (Puts words_line (Ends Words), no_form)

@@ -1,6 +1,4 @@
 use Rattle.nwq_top.proofs.MachineLemmas.{code_runs}
-use Rattle.nwq_top.proofs.SourceLemmas.{one_source, never_both, built_small}
-use Rattle.nwq_top.proofs.CommandLemmas.{run_is, one_run}
 use Rattle.nwq_top.proofs.laws.code_does_what_is_meant.Goals as goal
 
 pub returns : goal.returns
