@@ -1,5 +1,5 @@
 -- The words of the command line.
-use Rattle.std.specs.Prelude.{◌≡◌, Option, Some, None, ℕ, Bool, true, false, cond, ◌&&◌, ◌||◌, ◌==◌, nat_le, List, [], ◌∷◌, length, codes, bytes_eq}
+use Rattle.std.specs.Prelude.{◌≡◌, ℕ, Bool, true, false, cond, ◌&&◌, ◌||◌, ◌==◌, nat_le, List, [], ◌∷◌, length, codes, bytes_eq}
 use Rattle.std.specs.List.{list_all}
 use Rattle.nwq_top.specs.declared.words.Command.{Command}
 use Rattle.nwq_top.specs.declared.words.Command.TheVariants as command
@@ -26,7 +26,7 @@ abbrev pub form_of : List (List ℕ) → Form
 form_of (command ∷ (header ∷ (script ∷ []))) = run_form command header script
 form_of _ = NoForm
 
--- the command that the words are, or none where they are no form
-abbrev pub IsCommand : Option Command → Form → Type 0
-IsCommand None form = form ≡ NoForm
-IsCommand (Some (command.Run script)) form = form ≡ Run script.now
+-- the command that the words are
+abbrev pub IsCommand : Command → Form → Type 0
+IsCommand command.NoForm form = form ≡ NoForm
+IsCommand (command.Run script) form = form ≡ Run script.now

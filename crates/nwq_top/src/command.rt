@@ -29,7 +29,7 @@ pub fn command<F: Files, S: Sink>(
     ensures only { IfErr result StopsCommand }
 {
     match command_of(words) {
-        None => Err(refuse(words_text(alloc), Status::Words, out)),
-        Some(Command::Run(script)) => run(alloc, script, files, out),
+        Command::NoForm => Err(refuse(words_text(alloc), Status::Words, out)),
+        Command::Run(script) => run(alloc, script, files, out),
     }
 }

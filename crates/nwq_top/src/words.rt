@@ -10,6 +10,8 @@ const NAME_MOST: usize = 16;
 pub enum Command<'a> {
     /// Plays one start entry of this script, with the built-in header.
     Run(&'a str),
+    /// The words are no form of a command.
+    NoForm,
 }
 
 fn is_of_script(byte: u8) -> bool
@@ -44,18 +46,18 @@ fn is_dash(word: &str) -> bool
     word == "-"
 }
 
-/// The command that these words are, if they are one.
-pub fn command_of(words: &[String]) -> Option<Command<'_>>
+/// The command that these words are.
+pub fn command_of(words: &[String]) -> Command<'_>
     ensures { IsCommand result (form_of (map string_bytes words.now)) }
 {
     match words {
         [command, header, script] => {
             if is_run(command.as_str()) && is_dash(header.as_str()) && names_script(script.as_str()) {
-                Some(Command::Run(script.as_str()))
+                Command::Run(script.as_str())
             } else {
-                None
+                Command::NoForm
             }
         }
-        _ => None,
+        _ => Command::NoForm,
     }
 }
