@@ -49,7 +49,7 @@ prints_left sums i out put h p =
     let here : List PlainOp = print_code (get_or sums i []) in
     let rest : List PlainOp = flat_map print_code (drop (suc i) sums) in
     let front : bytes_of (flat_map print_code (drop i sums)) ≡ bytes_of here ++ bytes_of rest =
-        rw (drop-cons sums i []) (flat_map-append spelling here rest) in
+    rw (drop-cons sums i []) (flat_map-append spelling here rest) in
     rw (add-one) (ap (λ xs. xs ++ bytes_of rest) p ∙ append_assoc out (bytes_of here) (bytes_of rest) ∙ ap (λ xs. out ++ xs) (sym front))
 
 pub prints_over : (sums : List (List ℕ)) (i : ℕ) (out : List ℕ) → length sums ≤ i → out ++ bytes_of (flat_map print_code (drop i sums)) ≡ out
@@ -60,7 +60,7 @@ pub print_parts : (n : ℕ) (more out pushed added called : List ℕ) → pushed
     → called ≡ added ++ spelling (Action 4 1) → called ≡ out ++ bytes_of (print_code (n ∷ more))
 print_parts n more out pushed added called p a c =
     let whole : bytes_of (print_code (n ∷ more)) ≡ spelling (push n) ++ (bytes_of (adds more) ++ (spelling (Action 4 1) ++ [])) =
-        ap (λ xs. spelling (push n) ++ xs) (flat_map-append spelling (adds more) (Action 4 1 ∷ [])) in
+    ap (λ xs. spelling (push n) ++ xs) (flat_map-append spelling (adds more) (Action 4 1 ∷ [])) in
     c ∙ ap (λ xs. xs ++ spelling (Action 4 1)) (a ∙ ap (λ xs. xs ++ bytes_of (adds more)) p)
     ∙ append_assoc (out ++ spelling (push n)) (bytes_of (adds more)) (spelling (Action 4 1))
     ∙ append_assoc out (spelling (push n)) (bytes_of (adds more) ++ spelling (Action 4 1))
@@ -73,7 +73,7 @@ pub code_parts : (sums : List (List ℕ)) (a b c d : List ℕ) → a ≡ spellin
 code_parts sums a b c d p q r s =
     let prints : List PlainOp = flat_map print_code sums in
     let whole : bytes_of (code_of sums) ≡ spelling (Jsr (pos 8)) ++ (spelling Retn ++ (bytes_of prints ++ (spelling Retn ++ []))) =
-        ap (λ xs. spelling (Jsr (pos 8)) ++ (spelling Retn ++ xs)) (flat_map-append spelling prints (Retn ∷ [])) in
+    ap (λ xs. spelling (Jsr (pos 8)) ++ (spelling Retn ++ xs)) (flat_map-append spelling prints (Retn ∷ [])) in
     s ∙ ap (λ xs. xs ++ spelling Retn) (r ∙ ap (λ xs. xs ++ bytes_of prints) (q ∙ ap (λ xs. xs ++ spelling Retn) p))
     ∙ append_assoc (spelling (Jsr (pos 8)) ++ spelling Retn) (bytes_of prints) (spelling Retn)
     ∙ append_assoc (spelling (Jsr (pos 8))) (spelling Retn) (bytes_of prints ++ spelling Retn)

@@ -10,3 +10,4 @@ mod ParseLemmas
 mod SourceLemmas
 mod CommandLemmas
 mod TextLemmas
+mod Rows

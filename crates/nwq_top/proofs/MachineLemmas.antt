@@ -71,9 +71,10 @@ laid_after start op ops place past =
 
 stands_of : (code : Code) (start : ℕ) (ops : List PlainOp) → ((place : ℕ) → start ≤ place → code place ≡ laid start ops place) → Stands code start ops
 stands_of code start [] same = tt
-stands_of code start (op ∷ ops) same =
-    (same start (omega arith) ∙ laid_here start op ops,
-     stands_of code (start + length (spelling op)) ops (λ place past. same place (omega arith) ∙ laid_after start op ops place past))
+stands_of code start (op ∷ ops) same = (
+  same start (omega arith) ∙ laid_here start op ops,
+  stands_of code (start + length (spelling op)) ops (λ place past. same place (omega arith) ∙ laid_after start op ops place past),
+)
 
 pub stands_laid : (start : ℕ) (ops : List PlainOp) → Stands (laid start ops) start ops
 stands_laid start ops = stands_of (laid start ops) start ops (λ place past. refl)
@@ -83,7 +84,7 @@ rear : (code : Code) (place : ℕ) (a b : List PlainOp) → Stands code place (a
 rear code place [] b h = let same : place ≡ place + 0 = omega arith in subst (λ p. Stands code p b) same h
 rear code place (op ∷ a) b h =
     let same : place + length (spelling op) + length (bytes_of a) ≡ place + length (bytes_of (op ∷ a)) =
-        omega (arith, length-append (spelling op) (bytes_of a)) in
+    omega (arith, length-append (spelling op) (bytes_of a)) in
     subst (λ p. Stands code p b) same (rear code (place + length (spelling op)) a b h.1)
 
 abbrev at : ℕ → List ℤ → List ℕ → List ℤ → Machine
@@ -125,13 +126,13 @@ module _ (code : Code) where
       let s1 : ℕ = length (spelling (push n)) in
       let s2 : ℕ = length (spelling (Add 32)) in
       let sizes : length (bytes_of (adds (n ∷ more))) ≡ s1 + (s2 + length (bytes_of (adds more))) =
-          length-append (spelling (push n)) (spelling (Add 32) ++ bytes_of (adds more)) ∙ ap (λ k. s1 + k) (length-append (spelling (Add 32)) (bytes_of (adds more))) in
+      length-append (spelling (push n)) (spelling (Add 32) ++ bytes_of (adds more)) ∙ ap (λ k. s1 + k) (length-append (spelling (Add 32)) (bytes_of (adds more))) in
       let there : q ≡ p + s1 + s2 + length (bytes_of (adds more)) = omega (arith, place, sizes) in
       let same : suc (suc (length (adds more) + k)) ≡ j = omega (arith, count) in
       subst (λ i. Runs code (at p (x ∷ cs) ks out) i all) same
-          (push_runs p n (suc (length (adds more) + k)) (x ∷ cs) out all ks st.0
-              (add_runs (p + s1) (length (adds more) + k) x (cast_signed w32 (n % 2 ^ 32)) cs out all ks st.1.0
-                  (adds_run more (p + s1 + s2) q (length (adds more) + k) k (int_wrapping_add w32 x (cast_signed w32 (n % 2 ^ 32))) cs out all ks rest st.1.1 there refl r)))
+      (push_runs p n (suc (length (adds more) + k)) (x ∷ cs) out all ks st.0
+      (add_runs (p + s1) (length (adds more) + k) x (cast_signed w32 (n % 2 ^ 32)) cs out all ks st.1.0
+      (adds_run more (p + s1 + s2) q (length (adds more) + k) k (int_wrapping_add w32 x (cast_signed w32 (n % 2 ^ 32))) cs out all ks rest st.1.1 there refl r)))
 
   prints_run : (sums : List (List ℕ)) (p q j k : ℕ) (cs out all : List ℤ) (ks : List ℕ) (rest : List PlainOp) → AreSums sums
       → Stands code p (flat_map print_code sums ++ rest) → q ≡ p + length (bytes_of (flat_map print_code sums)) → j ≡ length (flat_map print_code sums) + k
@@ -140,40 +141,40 @@ module _ (code : Code) where
       let here : q ≡ p = omega (arith, place) in
       let same : k ≡ j = omega (arith, count) in
       subst (λ n. Runs code (at p cs ks out) n all) same
-          (subst (λ n. Runs code (at n cs ks out) k all) here (subst (λ o. Runs code (at q cs ks o) k all) (append-nil out) r))
+      (subst (λ n. Runs code (at n cs ks out) k all) here (subst (λ o. Runs code (at q cs ks o) k all) (append-nil out) r))
   prints_run ([] ∷ sums) p q j k cs out all ks rest are st place count r = absurd (omega (arith, are.0))
   prints_run ((n ∷ more) ∷ sums) p q j k cs out all ks rest are st place count r =
       let first : List PlainOp = print_code (n ∷ more) in
       let others : List PlainOp = flat_map print_code sums in
       let stands : Stands code p (first ++ (others ++ rest)) = subst (Stands code p) (append_assoc first others rest) st in
       let inner : Stands code p (push n ∷ (adds more ++ (Action 4 1 ∷ (others ++ rest)))) =
-          subst (λ ops. Stands code p (push n ∷ ops)) (append_assoc (adds more) (Action 4 1 ∷ []) (others ++ rest)) stands in
+      subst (λ ops. Stands code p (push n ∷ ops)) (append_assoc (adds more) (Action 4 1 ∷ []) (others ++ rest)) stands in
       let s1 : ℕ = length (spelling (push n)) in
       let s2 : ℕ = length (bytes_of (adds more)) in
       let s3 : ℕ = length (spelling (Action 4 1)) in
       let call : Stands code (p + s1 + s2) (Action 4 1 ∷ (others ++ rest)) = rear code (p + s1) (adds more) (Action 4 1 ∷ (others ++ rest)) inner.1 in
       let next : Stands code (p + s1 + s2 + s3) (others ++ rest) = call.1 in
       let value : added (cast_signed w32 (n % 2 ^ 32)) more ≡ value_of (n ∷ more) =
-          added_is n more ∙ ap (λ k. cast_signed w32 (k % 2 ^ 32)) (sym (sum_by-cons (λ (x : ℕ). x) n more)) in
+      added_is n more ∙ ap (λ k. cast_signed w32 (k % 2 ^ 32)) (sym (sum_by-cons (λ (x : ℕ). x) n more)) in
       let size : length (bytes_of first) ≡ s1 + (s2 + s3) =
-          length-append (spelling (push n)) (bytes_of (adds more ++ Action 4 1 ∷ []))
-          ∙ ap (λ xs. s1 + length xs) (flat_map-append spelling (adds more) (Action 4 1 ∷ []))
-          ∙ ap (λ k. s1 + k) (length-append (bytes_of (adds more)) (spelling (Action 4 1) ++ []) ∙ ap (λ xs. s2 + length xs) (append-nil (spelling (Action 4 1)))) in
+      length-append (spelling (push n)) (bytes_of (adds more ++ Action 4 1 ∷ []))
+      ∙ ap (λ xs. s1 + length xs) (flat_map-append spelling (adds more) (Action 4 1 ∷ []))
+      ∙ ap (λ k. s1 + k) (length-append (bytes_of (adds more)) (spelling (Action 4 1) ++ []) ∙ ap (λ xs. s2 + length xs) (append-nil (spelling (Action 4 1)))) in
       let sizes : length (bytes_of (first ++ others)) ≡ length (bytes_of first) + length (bytes_of others) =
-          ap length (flat_map-append spelling first others) ∙ length-append (bytes_of first) (bytes_of others) in
+      ap length (flat_map-append spelling first others) ∙ length-append (bytes_of first) (bytes_of others) in
       let there : q ≡ p + s1 + s2 + s3 + length (bytes_of others) = omega (arith, place, size, sizes) in
       let ops : length (first ++ others) ≡ length first + length others = length-append first others in
       let ops_first : length first ≡ suc (length (adds more) + 1) = ap suc (length-append (adds more) (Action 4 1 ∷ [])) in
       let same : suc (length (adds more) + suc (length others + k)) ≡ j = omega (arith, count, ops, ops_first) in
       let after : Runs code (at (p + s1 + s2 + s3) cs ks (out ++ value_of (n ∷ more) ∷ [])) (length others + k) all =
-          prints_run sums (p + s1 + s2 + s3) q (length others + k) k cs (out ++ value_of (n ∷ more) ∷ []) all ks rest are.2 next there refl
-              (subst (λ o. Runs code (at q cs ks o) k all) (sym (append_assoc out (value_of (n ∷ more) ∷ []) (prints_of sums))) r) in
+      prints_run sums (p + s1 + s2 + s3) q (length others + k) k cs (out ++ value_of (n ∷ more) ∷ []) all ks rest are.2 next there refl
+      (subst (λ o. Runs code (at q cs ks o) k all) (sym (append_assoc out (value_of (n ∷ more) ∷ []) (prints_of sums))) r) in
       subst (λ i. Runs code (at p cs ks out) i all) same
-          (push_runs p n (length (adds more) + suc (length others + k)) cs out all ks inner.0
-              (adds_run more (p + s1) (p + s1 + s2) (length (adds more) + suc (length others + k)) (suc (length others + k)) (cast_signed w32 (n % 2 ^ 32)) cs out all ks
-                  (Action 4 1 ∷ (others ++ rest)) inner.1 refl refl
-                  (subst (λ v. Runs code (at (p + s1 + s2) (v ∷ cs) ks out) (suc (length others + k)) all) (sym value)
-                      (print_runs (p + s1 + s2) (length others + k) (value_of (n ∷ more)) cs out all ks call.0 after))))
+      (push_runs p n (length (adds more) + suc (length others + k)) cs out all ks inner.0
+      (adds_run more (p + s1) (p + s1 + s2) (length (adds more) + suc (length others + k)) (suc (length others + k)) (cast_signed w32 (n % 2 ^ 32)) cs out all ks
+      (Action 4 1 ∷ (others ++ rest)) inner.1 refl refl
+      (subst (λ v. Runs code (at (p + s1 + s2) (v ∷ cs) ks out) (suc (length others + k)) all) (sym value)
+      (print_runs (p + s1 + s2) (length others + k) (value_of (n ∷ more)) cs out all ks call.0 after))))
 
 jsr_size : length (spelling (Jsr (pos 8))) ≡ 6
 unfolding signed
@@ -197,9 +198,9 @@ code_runs sums are =
     let end : ℕ = 21 + length (bytes_of prints) in
     let last : Stands code end (Retn ∷ []) = rear code 21 prints (Retn ∷ []) body in
     let returned : Runs code (at end [] (19 ∷ []) (prints_of sums)) 2 (prints_of sums) =
-        return_runs code end 19 1 [] (prints_of sums) (prints_of sums) [] last.0 (end_runs code 19 [] (prints_of sums) back) in
+    return_runs code end 19 1 [] (prints_of sums) (prints_of sums) [] last.0 (end_runs code 19 [] (prints_of sums) back) in
     let ran : Runs code (at 21 [] (19 ∷ []) []) (length prints + 2) (prints_of sums) =
-        prints_run code sums 21 end (length prints + 2) 2 [] [] (prints_of sums) (19 ∷ []) (Retn ∷ []) are body refl refl returned in
+    prints_run code sums 21 end (length prints + 2) 2 [] [] (prints_of sums) (19 ∷ []) (Retn ∷ []) are body refl refl returned in
     let ops : length (prints ++ Retn ∷ []) ≡ length prints + 1 = length-append prints (Retn ∷ []) in
     let same : suc (length prints + 2) ≡ length (code_of sums) = omega (arith, ops) in
     subst (λ n. Runs code (at 13 [] [] []) n (prints_of sums)) same (call_runs code (length prints + 2) (prints_of sums) st.0 ran)

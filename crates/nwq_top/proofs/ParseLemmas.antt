@@ -57,7 +57,7 @@ are_more (s ∷ sums) sum are some few = (are.0, are.1, are_more sums sum are.2 
 front_more : (sums : List (List ℕ)) (sum : List ℕ) → front (sums ++ sum ∷ []) ≡ front sums ++ spelled_print sum
 front_more sums sum =
     ap (λ xs. Void ∷ Main ∷ Open ∷ Close ∷ OpenBrace ∷ xs)
-        (flat_map-append spelled_print sums (sum ∷ []) ∙ ap (λ xs. flat_map spelled_print sums ++ xs) (append-nil (spelled_print sum)))
+    (flat_map-append spelled_print sums (sum ∷ []) ∙ ap (λ xs. flat_map spelled_print sums ++ xs) (append-nil (spelled_print sum)))
 
 sum_more : (m : ℕ) (more : List ℕ) (n : ℕ) → spelled_sum ((m ∷ more) ++ n ∷ []) ≡ spelled_sum (m ∷ more) ++ signed_int n
 sum_more m more n = ap (λ xs. Int m ∷ xs) (flat_map-append signed_int more (n ∷ []))
@@ -122,7 +122,7 @@ plus_by : (sums : List (List ℕ)) (sum : List ℕ) (next : Reader) (room : Bool
     → option_map (at_stage (at AtPlus sums sum)) (next_stage AtPlus Plus room) ≡ Some next → LedReader next (led AtPlus sums sum ++ Plus ∷ [])
 plus_by sums sum next true test fit e =
     lead (at AtNextInt sums sum) next (led AtPlus sums sum ++ Plus ∷ []) e
-        (record { fit = (fit.0, fit.1, room_of sum test); same = further sums (PrintInteger ∷ Open ∷ spelled_sum sum) (Plus ∷ []) })
+    (record { fit = (fit.0, fit.1, room_of sum test); same = further sums (PrintInteger ∷ Open ∷ spelled_sum sum) (Plus ∷ []) })
 plus_by sums sum next false test fit e = absurd (none_is next e)
 
 -- a token that may come leads on
@@ -134,26 +134,26 @@ goes_led AtOpen sums sum Open next fit e = lead (at AtClose sums sum) next (Void
 goes_led AtClose sums sum Close next fit e = lead (at AtBrace sums sum) next (Void ∷ Main ∷ Open ∷ Close ∷ []) e (record { fit = fit; same = refl })
 goes_led AtBrace sums sum OpenBrace next fit e =
     lead (at AtPrint sums sum) next (Void ∷ Main ∷ Open ∷ Close ∷ OpenBrace ∷ []) e
-        (record { fit = (subst AreSums (sym fit.0) tt, fit.1); same = empty_front sums fit.0 })
+    (record { fit = (subst AreSums (sym fit.0) tt, fit.1); same = empty_front sums fit.0 })
 goes_led AtPrint sums sum PrintInteger next fit e =
     lead (at AtArgument sums sum) next (front sums ++ PrintInteger ∷ []) e (record { fit = fit; same = refl })
 goes_led AtPrint sums sum CloseBrace next fit e =
     lead (at AtEnd sums sum) next (front sums ++ CloseBrace ∷ []) e (record { fit = fit.0; same = refl })
 goes_led AtArgument sums sum Open next fit e =
     lead (at AtFirstInt sums sum) next ((front sums ++ PrintInteger ∷ []) ++ Open ∷ []) e
-        (record { fit = fit; same = further sums (PrintInteger ∷ []) (Open ∷ []) })
+    (record { fit = fit; same = further sums (PrintInteger ∷ []) (Open ∷ []) })
 goes_led AtFirstInt sums sum (Int n) next fit e =
     lead (at AtPlus sums (sum ++ n ∷ [])) next ((front sums ++ PrintInteger ∷ Open ∷ []) ++ Int n ∷ []) e (one_int sums sum n fit.0 fit.1)
 goes_led AtPlus sums sum Plus next fit e = plus_by sums sum next (nat_lt (length sum) 201) refl fit e
 goes_led AtPlus sums sum Close next fit e =
     lead (at AtSemicolon sums sum) next ((front sums ++ (PrintInteger ∷ Open ∷ spelled_sum sum)) ++ Close ∷ []) e
-        (record { fit = fit; same = further sums (PrintInteger ∷ Open ∷ spelled_sum sum) (Close ∷ []) })
+    (record { fit = fit; same = further sums (PrintInteger ∷ Open ∷ spelled_sum sum) (Close ∷ []) })
 goes_led AtNextInt sums sum (Int n) next fit e =
     lead (at AtPlus sums (sum ++ n ∷ [])) next ((front sums ++ (PrintInteger ∷ Open ∷ (spelled_sum sum ++ Plus ∷ []))) ++ Int n ∷ []) e
-        (more_int sums sum n fit.0 fit.1 fit.2)
+    (more_int sums sum n fit.0 fit.1 fit.2)
 goes_led AtSemicolon sums sum Semicolon next fit e =
     lead (at AtPrint (sums ++ sum ∷ []) []) next ((front sums ++ (PrintInteger ∷ Open ∷ (spelled_sum sum ++ Close ∷ []))) ++ Semicolon ∷ []) e
-        (ended_sum sums sum fit.0 fit.1 fit.2)
+    (ended_sum sums sum fit.0 fit.1 fit.2)
 goes_led stage sums sum s next fit e = absurd (none_is next e)
 
 -- the tokens of every stage are the front of a sentence
@@ -169,9 +169,9 @@ one_more_int sums [] some = absurd (omega arith)
 one_more_int sums (m ∷ more) some =
     sentence_end sums ((m ∷ more) ++ 0 ∷ [])
     ∙ ap (λ xs. front sums ++ (PrintInteger ∷ Open ∷ xs))
-        (ap (λ xs. xs ++ Close ∷ Semicolon ∷ CloseBrace ∷ []) (sum_more m more 0)
-        ∙ append_assoc (spelled_sum (m ∷ more)) (signed_int 0) (Close ∷ Semicolon ∷ CloseBrace ∷ [])
-        ∙ sym (append_assoc (spelled_sum (m ∷ more)) (Plus ∷ []) (Int 0 ∷ Close ∷ Semicolon ∷ CloseBrace ∷ [])))
+    (ap (λ xs. xs ++ Close ∷ Semicolon ∷ CloseBrace ∷ []) (sum_more m more 0)
+    ∙ append_assoc (spelled_sum (m ∷ more)) (signed_int 0) (Close ∷ Semicolon ∷ CloseBrace ∷ [])
+    ∙ sym (append_assoc (spelled_sum (m ∷ more)) (Plus ∷ []) (Int 0 ∷ Close ∷ Semicolon ∷ CloseBrace ∷ [])))
     ∙ further sums (PrintInteger ∷ Open ∷ (spelled_sum (m ∷ more) ++ Plus ∷ [])) (Int 0 ∷ Close ∷ Semicolon ∷ CloseBrace ∷ [])
 
 pub led_front : (stage : Stage) (sums : List (List ℕ)) (sum : List ℕ) → Fit stage sums sum → IsFront (led stage sums sum)
@@ -181,28 +181,48 @@ led_front AtOpen sums sum fit = (Open ∷ Close ∷ OpenBrace ∷ CloseBrace ∷
 led_front AtClose sums sum fit = (Close ∷ OpenBrace ∷ CloseBrace ∷ [], [], (refl, tt))
 led_front AtBrace sums sum fit = (OpenBrace ∷ CloseBrace ∷ [], [], (refl, tt))
 led_front AtPrint sums sum fit = (CloseBrace ∷ [], sums, (refl, fit.0))
-led_front AtArgument sums sum fit =
-    (Open ∷ Int 0 ∷ Close ∷ Semicolon ∷ CloseBrace ∷ [], sums ++ (0 ∷ []) ∷ [],
-    (append_assoc (front sums) (PrintInteger ∷ []) (Open ∷ Int 0 ∷ Close ∷ Semicolon ∷ CloseBrace ∷ []) ∙ sym (sentence_end sums (0 ∷ [])),
-    are_more sums (0 ∷ []) fit.0 (omega arith) (omega arith)))
-led_front AtFirstInt sums sum fit =
-    (Int 0 ∷ Close ∷ Semicolon ∷ CloseBrace ∷ [], sums ++ (0 ∷ []) ∷ [],
-    (append_assoc (front sums) (PrintInteger ∷ Open ∷ []) (Int 0 ∷ Close ∷ Semicolon ∷ CloseBrace ∷ []) ∙ sym (sentence_end sums (0 ∷ [])),
-    are_more sums (0 ∷ []) fit.0 (omega arith) (omega arith)))
-led_front AtPlus sums sum fit =
-    (Close ∷ Semicolon ∷ CloseBrace ∷ [], sums ++ sum ∷ [],
-    (append_assoc (front sums) (PrintInteger ∷ Open ∷ spelled_sum sum) (Close ∷ Semicolon ∷ CloseBrace ∷ []) ∙ sym (sentence_end sums sum),
-    are_more sums sum fit.0 fit.1 fit.2))
-led_front AtNextInt sums sum fit =
-    (Int 0 ∷ Close ∷ Semicolon ∷ CloseBrace ∷ [], sums ++ (sum ++ 0 ∷ []) ∷ [],
-    (sym (one_more_int sums sum fit.1),
-    are_more sums (sum ++ 0 ∷ []) fit.0 (omega (arith, length-append sum (0 ∷ []))) (omega (arith, length-append sum (0 ∷ []), fit.2))))
-led_front AtSemicolon sums sum fit =
-    (Semicolon ∷ CloseBrace ∷ [], sums ++ sum ∷ [],
-    (append_assoc (front sums) (PrintInteger ∷ Open ∷ (spelled_sum sum ++ Close ∷ [])) (Semicolon ∷ CloseBrace ∷ [])
-    ∙ ap (λ xs. front sums ++ (PrintInteger ∷ Open ∷ xs)) (append_assoc (spelled_sum sum) (Close ∷ []) (Semicolon ∷ CloseBrace ∷ []))
-    ∙ sym (sentence_end sums sum),
-    are_more sums sum fit.0 fit.1 fit.2))
+led_front AtArgument sums sum fit = (
+  Open ∷ Int 0 ∷ Close ∷ Semicolon ∷ CloseBrace ∷ [],
+  sums ++ (0 ∷ []) ∷ [],
+  (
+    append_assoc (front sums) (PrintInteger ∷ []) (Open ∷ Int 0 ∷ Close ∷ Semicolon ∷ CloseBrace ∷ []) ∙ sym (sentence_end sums (0 ∷ [])),
+    are_more sums (0 ∷ []) fit.0 (omega arith) (omega arith),
+  ),
+)
+led_front AtFirstInt sums sum fit = (
+  Int 0 ∷ Close ∷ Semicolon ∷ CloseBrace ∷ [],
+  sums ++ (0 ∷ []) ∷ [],
+  (
+    append_assoc (front sums) (PrintInteger ∷ Open ∷ []) (Int 0 ∷ Close ∷ Semicolon ∷ CloseBrace ∷ []) ∙ sym (sentence_end sums (0 ∷ [])),
+    are_more sums (0 ∷ []) fit.0 (omega arith) (omega arith),
+  ),
+)
+led_front AtPlus sums sum fit = (
+  Close ∷ Semicolon ∷ CloseBrace ∷ [],
+  sums ++ sum ∷ [],
+  (
+    append_assoc (front sums) (PrintInteger ∷ Open ∷ spelled_sum sum) (Close ∷ Semicolon ∷ CloseBrace ∷ []) ∙ sym (sentence_end sums sum),
+    are_more sums sum fit.0 fit.1 fit.2,
+  ),
+)
+led_front AtNextInt sums sum fit = (
+  Int 0 ∷ Close ∷ Semicolon ∷ CloseBrace ∷ [],
+  sums ++ (sum ++ 0 ∷ []) ∷ [],
+  (
+    sym (one_more_int sums sum fit.1),
+    are_more sums (sum ++ 0 ∷ []) fit.0 (omega (arith, length-append sum (0 ∷ []))) (omega (arith, length-append sum (0 ∷ []), fit.2)),
+  ),
+)
+led_front AtSemicolon sums sum fit = (
+  Semicolon ∷ CloseBrace ∷ [],
+  sums ++ sum ∷ [],
+  (
+    append_assoc (front sums) (PrintInteger ∷ Open ∷ (spelled_sum sum ++ Close ∷ [])) (Semicolon ∷ CloseBrace ∷ [])
+        ∙ ap (λ xs. front sums ++ (PrintInteger ∷ Open ∷ xs)) (append_assoc (spelled_sum sum) (Close ∷ []) (Semicolon ∷ CloseBrace ∷ []))
+        ∙ sym (sentence_end sums sum),
+    are_more sums sum fit.0 fit.1 fit.2,
+  ),
+)
 led_front AtEnd sums sum fit = ([], sums, (append-nil (spelled sums), fit))
 
 -- what a reader makes of the tokens that are left, of which the first has number i
@@ -210,7 +230,7 @@ abbrev pub Right : Parsed → Stage → List (List ℕ) → List ℕ → ℕ →
 Right (Whole found) stage sums sum i tokens = IsSentence (led stage sums sum ++ tokens) found
 Right (Unfit j) stage sums sum i tokens =
     (k : ℕ) × ((j ≡ i + k) × (k < length tokens) × IsFront (led stage sums sum ++ take k tokens)
-        × ((more : List Symbol) → parse (at stage sums sum) i (take (suc k) tokens ++ more) ≡ Unfit j))
+    × ((more : List Symbol) → parse (at stage sums sum) i (take (suc k) tokens ++ more) ≡ Unfit j))
 Right Unfinished stage sums sum i tokens = IsFront (led stage sums sum ++ tokens)
 
 front_same : (a b : List Symbol) → a ≡ b → IsFront a → IsFront b
@@ -238,14 +258,19 @@ unfolding parse
 step_right stage sums sum s next i tokens e same (Whole found) h =
     (sym (ap (λ xs. xs ++ tokens) same ∙ append_assoc (led stage sums sum) (s ∷ []) tokens) ∙ h.0, h.1)
 step_right stage sums sum s next i tokens e same (Unfit j) h =
-    let k : ℕ = h.0 in
-    (suc k, (omega (arith, h.1.0), omega (arith, h.1.1),
+    let k : ℕ = h.0 in (
+      suc k,
+      (
+        omega (arith, h.1.0),
+        omega (arith, h.1.1),
         front_same (led next.stage next.sums next.sum ++ take k tokens) (led stage sums sum ++ (s ∷ take k tokens))
             (ap (λ xs. xs ++ take k tokens) same ∙ append_assoc (led stage sums sum) (s ∷ []) (take k tokens)) h.1.2,
-        λ more. ap (λ o. onward o i (λ r. parse r (i + 1) (take (suc k) tokens ++ more))) e ∙ h.1.3 more))
+        λ more. ap (λ o. onward o i (λ r. parse r (i + 1) (take (suc k) tokens ++ more))) e ∙ h.1.3 more,
+      ),
+    )
 step_right stage sums sum s next i tokens e same Unfinished h =
     front_same (led next.stage next.sums next.sum ++ tokens) (led stage sums sum ++ (s ∷ tokens))
-        (ap (λ xs. xs ++ tokens) same ∙ append_assoc (led stage sums sum) (s ∷ []) tokens) h
+    (ap (λ xs. xs ++ tokens) same ∙ append_assoc (led stage sums sum) (s ∷ []) tokens) h
 
 pub parse_right : (tokens : List Symbol) (stage : Stage) (sums : List (List ℕ)) (sum : List ℕ) (i : ℕ) → Fit stage sums sum
     → Right (parse (at stage sums sum) i tokens) stage sums sum i tokens
@@ -257,9 +282,15 @@ parse_right (s ∷ tokens) stage sums sum i fit =
     by_goes : ((next : Reader) → Fit next.stage next.sums next.sum → Right (parse next (i + 1) tokens) next.stage next.sums next.sum (i + 1) tokens)
         → (o : Option Reader) → goes (at stage sums sum) s ≡ o → Right (onward o i (λ r. parse r (i + 1) tokens)) stage sums sum i (s ∷ tokens)
     by_goes later None e =
-        let whole : led stage sums sum ≡ led stage sums sum ++ [] = sym (append-nil (led stage sums sum)) in
-        (0, (omega arith, omega arith, front_same (led stage sums sum) (led stage sums sum ++ []) whole (led_front stage sums sum fit),
-            λ more. ap (λ o. onward o i (λ r. parse r (i + 1) more)) e))
+        let whole : led stage sums sum ≡ led stage sums sum ++ [] = sym (append-nil (led stage sums sum)) in (
+          0,
+          (
+            omega arith,
+            omega arith,
+            front_same (led stage sums sum) (led stage sums sum ++ []) whole (led_front stage sums sum fit),
+            λ more. ap (λ o. onward o i (λ r. parse r (i + 1) more)) e,
+          ),
+        )
     by_goes later (Some next) e =
         let l : LedReader next (led stage sums sum ++ s ∷ []) = goes_led stage sums sum s next fit e in
         step_right stage sums sum s next i tokens e l.same (parse next (i + 1) tokens) (later next l.fit)
@@ -274,7 +305,7 @@ pluses_read (n ∷ more) sums sum rest found few then i =
     let fewer : length (sum ++ n ∷ []) + length more ≤ 201 = omega (arith, length-append sum (n ∷ [])) in
     ap (λ t. onward (option_map (at_stage (at AtPlus sums sum)) (next_stage AtPlus Plus t)) i (λ r. parse r (i + 1) (Int n ∷ (flat_map signed_int more ++ rest)))) room
     ∙ pluses_read more sums (sum ++ n ∷ []) rest found fewer
-        (λ j. ap (λ xs. parse (at AtPlus sums xs) j rest) (append_assoc sum (n ∷ []) more) ∙ then j) (i + 1 + 1)
+    (λ j. ap (λ xs. parse (at AtPlus sums xs) j rest) (append_assoc sum (n ∷ []) more) ∙ then j) (i + 1 + 1)
   where
     room_test : (sum : List ℕ) → length sum < 201 → nat_lt (length sum) 201 ≡ true
     room_test sum h = grind (arith, nat_tests)
@@ -286,7 +317,7 @@ print_read [] sums rest found some few then i = absurd (omega arith)
 print_read (n ∷ more) sums rest found some few then i =
     ap (parse (at AtPlus sums (n ∷ [])) (i + 1 + 1 + 1)) (append_assoc (flat_map signed_int more) (Close ∷ Semicolon ∷ []) rest)
     ∙ pluses_read more sums (n ∷ []) (Close ∷ Semicolon ∷ rest) found (omega (arith, few))
-        (λ j. then (j + 1 + 1)) (i + 1 + 1 + 1)
+    (λ j. then (j + 1 + 1)) (i + 1 + 1 + 1)
 
 prints_read : (sums before : List (List ℕ)) → AreSums sums → (i : ℕ) → parse (at AtPrint before []) i (flat_map spelled_print sums ++ CloseBrace ∷ []) ≡ Whole (before ++ sums)
 unfolding parse
@@ -294,7 +325,7 @@ prints_read [] before are i = ap (λ found. Whole found) (sym (append-nil before
 prints_read (sum ∷ sums) before are i =
     ap (parse (at AtPrint before []) i) (append_assoc (spelled_print sum) (flat_map spelled_print sums) (CloseBrace ∷ []))
     ∙ print_read sum before (flat_map spelled_print sums ++ CloseBrace ∷ []) (before ++ sum ∷ sums) are.0 are.1
-        (λ j. prints_read sums (before ++ sum ∷ []) are.2 j ∙ ap (λ found. Whole found) (append_assoc before (sum ∷ []) sums)) i
+    (λ j. prints_read sums (before ++ sum ∷ []) are.2 j ∙ ap (λ found. Whole found) (append_assoc before (sum ∷ []) sums)) i
 
 pub sentence_read : (sums : List (List ℕ)) → AreSums sums → parse fresh 0 (spelled sums) ≡ Whole sums
 unfolding parse

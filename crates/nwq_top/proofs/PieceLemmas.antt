@@ -90,7 +90,7 @@ word_by : (b : ℕ) (bs : List ℕ) (r : Run NameByte bs) → passes NameStart b
 word_by b bs r start true e =
     let few : length (b ∷ r.run) ≤ 255 = grind (arith, nat_tests) in
     let front : b ∷ r.run ≡ take (suc (length r.run)) (b ∷ bs) =
-        ap (λ xs. b ∷ xs) (sym (ap (take (length r.run)) r.parts ∙ take-append_seam r.run r.rest)) in
+    ap (λ xs. b ∷ xs) (sym (ap (take (length r.run)) r.parts ∙ take-append_seam r.run r.rest)) in
     record {
       xs = b ∷ r.run;
       rest = r.rest;
@@ -112,9 +112,9 @@ decimal_by : (d : ℕ) (ds : List ℕ) (r : Run Digit ds) → passes Digit d ≡
     → Here (int_piece (cond t (Some (number_from 10 0 (take (suc (length r.run)) (d ∷ ds)))) None) (suc (length r.run))) (d ∷ ds)
 decimal_by d ds r first other true e =
     let front : take (suc (length r.run)) (d ∷ ds) ≡ d ∷ r.run =
-        ap (λ xs. d ∷ xs) (ap (take (length r.run)) r.parts ∙ take-append_seam r.run r.rest) in
+    ap (λ xs. d ∷ xs) (ap (take (length r.run)) r.parts ∙ take-append_seam r.run r.rest) in
     let few : number_from 10 0 (d ∷ r.run) ≤ 4294967295 =
-        subst (λ xs. number_from 10 0 xs ≤ 4294967295) front (le_of_test (number_from 10 0 (take (suc (length r.run)) (d ∷ ds))) e) in
+    subst (λ xs. number_from 10 0 xs ≤ 4294967295) front (le_of_test (number_from 10 0 (take (suc (length r.run)) (d ∷ ds))) e) in
     let other' : begins_hex (d ∷ (r.run ++ r.rest)) ≡ false = subst (λ xs. begins_hex (d ∷ xs) ≡ false) r.parts other in
     record {
       xs = d ∷ r.run;
@@ -133,16 +133,16 @@ decimal_here d ds first other =
     let r : Run Digit ds = run_of Digit ds in
     let size : suc (length r.run) ≡ run_length Digit (d ∷ ds) = rw first (ap suc r.size) in
     subst (λ n. Here (decimal_piece (d ∷ ds) n) (d ∷ ds)) size
-        (decimal_by d ds r first other (nat_le (number_from 10 0 (take (suc (length r.run)) (d ∷ ds))) 4294967295) refl)
+    (decimal_by d ds r first other (nat_le (number_from 10 0 (take (suc (length r.run)) (d ∷ ds))) 4294967295) refl)
 
 hex_by : (x h : ℕ) (ds : List ℕ) (r : Run HexDigit ds) → (x ≡ 120) ⊎ (x ≡ 88) → passes HexDigit h ≡ true
     → (t : Bool) → nat_le (number_from 16 0 (take (suc (length r.run)) (h ∷ ds))) 4294967295 ≡ t
     → Here (int_piece (cond t (Some (number_from 16 0 (take (suc (length r.run)) (h ∷ ds)))) None) (suc (length r.run) + 2)) (48 ∷ (x ∷ (h ∷ ds)))
 hex_by x h ds r letter first true e =
     let front : take (suc (length r.run)) (h ∷ ds) ≡ h ∷ r.run =
-        ap (λ xs. h ∷ xs) (ap (take (length r.run)) r.parts ∙ take-append_seam r.run r.rest) in
+    ap (λ xs. h ∷ xs) (ap (take (length r.run)) r.parts ∙ take-append_seam r.run r.rest) in
     let few : number_from 16 0 (h ∷ r.run) ≤ 4294967295 =
-        subst (λ xs. number_from 16 0 xs ≤ 4294967295) front (le_of_test (number_from 16 0 (take (suc (length r.run)) (h ∷ ds))) e) in
+    subst (λ xs. number_from 16 0 xs ≤ 4294967295) front (le_of_test (number_from 16 0 (take (suc (length r.run)) (h ∷ ds))) e) in
     record {
       xs = 48 ∷ (x ∷ (h ∷ r.run));
       rest = r.rest;
@@ -161,7 +161,7 @@ hex_here x h ds letter first =
     let r : Run HexDigit ds = run_of HexDigit ds in
     let size : suc (length r.run) ≡ run_length HexDigit (h ∷ ds) = rw first (ap suc r.size) in
     subst (λ n. Here (hex_piece (h ∷ ds) n) (48 ∷ (x ∷ (h ∷ ds)))) size
-        (hex_by x h ds r letter first (nat_le (number_from 16 0 (take (suc (length r.run)) (h ∷ ds))) 4294967295) refl)
+    (hex_by x h ds r letter first (nat_le (number_from 16 0 (take (suc (length r.run)) (h ∷ ds))) 4294967295) refl)
 
 -- the parts of the test for a hexadecimal number
 pub record HexParts (z x h : ℕ) : Type 0 where
@@ -211,6 +211,7 @@ pair_is x y (b ∷ (c ∷ more)) e =
     swap true false h = h
     swap false true h = h
     swap false false h = h
+
     first : (m n : ℕ) (q : Bool) → (nat_eq m n && q) ≡ true → m ≡ n
     first m n q h = grind (arith, nat_tests)
 
@@ -292,7 +293,7 @@ blank_at b bs e = record { xs = b ∷ []; rest = bs; parts = refl; is = blank e;
 
 here_by : (b : ℕ) (bs : List ℕ) (p q r s : Bool) → passes NameStart b ≡ p → passes Digit b ≡ q → passes Blank b ≡ r → nat_eq b 47 ≡ s
     → Here (cond p (word_piece (b ∷ bs) (run_length NameByte (b ∷ bs)))
-        (cond q (number_piece (b ∷ bs)) (cond r (Gap 1) (cond s (comment_piece (b ∷ bs)) (sign_piece (sign_symbol b)))))) (b ∷ bs)
+    (cond q (number_piece (b ∷ bs)) (cond r (Gap 1) (cond s (comment_piece (b ∷ bs)) (sign_piece (sign_symbol b)))))) (b ∷ bs)
 here_by b bs true q r s hp hq hr hs = word_here b bs hp
 here_by b bs false true r s hp hq hr hs = number_here b bs hq
 here_by b bs false false true s hp hq hr hs = blank_at b bs hr
@@ -372,8 +373,8 @@ pub token_found : (s : Symbol) (xs rest : List ℕ) → IsToken s xs rest → pi
 unfolding piece_of
 token_found s xs rest (word {b = b} {name = name} start all stops few) =
     ap (λ t. cond t (word_piece (b ∷ (name ++ rest)) (run_length NameByte (b ∷ (name ++ rest))))
-        (cond (passes Digit b) (number_piece (b ∷ (name ++ rest)))
-        (cond (passes Blank b) (Gap 1) (cond (nat_eq b 47) (comment_piece (b ∷ (name ++ rest))) (sign_piece (sign_symbol b)))))) start
+    (cond (passes Digit b) (number_piece (b ∷ (name ++ rest)))
+    (cond (passes Blank b) (Gap 1) (cond (nat_eq b 47) (comment_piece (b ∷ (name ++ rest))) (sign_piece (sign_symbol b)))))) start
     ∙ word_found b name rest start all stops few
 token_found s xs rest (decimal {d = d} {digits = digits} first all stops other few) =
     let none : passes NameStart d ≡ false = digit_is_no_start d first in

@@ -113,7 +113,7 @@ scan_sound (b ∷ bs) (suc k) at room inside =
 scan_sound (b ∷ bs) zero at room inside =
     let far : at ≡ at + 0 = omega arith in
     subst (λ a. ScanFrom a room (b ∷ bs) (scan_by (piece_of (b ∷ bs)) at room (λ skip left. scan skip (at + 1) left bs))) far
-        (step_by b bs at room (λ m left h. scan_sound bs m (at + 1) left h) (piece_of (b ∷ bs)) refl (piece_here (b ∷ bs)))
+    (step_by b bs at room (λ m left h. scan_sound bs m (at + 1) left h) (piece_of (b ∷ bs)) refl (piece_here (b ∷ bs)))
 
 -- where nothing begins, nothing is found
 blocked_nothing : (text : List ℕ) → IsBlocked text → piece_of text ≡ Nothing

@@ -21,7 +21,7 @@ use Rattle.nwq_top.proofs.ParseLemmas.{Means, parse_meant, sentence_parsed}
 front_of : (tokens : List Symbol) (n : ℕ) → IsFront tokens → IsFront (take n tokens)
 front_of tokens n f =
     let parts : take n tokens ++ (drop n tokens ++ f.0) ≡ tokens ++ f.0 =
-        sym (append_assoc (take n tokens) (drop n tokens) f.0) ∙ ap (λ xs. xs ++ f.0) (take-append-drop n tokens) in
+    sym (append_assoc (take n tokens) (drop n tokens) f.0) ∙ ap (λ xs. xs ++ f.0) (take-append-drop n tokens) in
     (drop n tokens ++ f.0, f.1, (parts ∙ f.2.0, f.2.1))
 
 take_less : {A : Type 0} (n m : ℕ) (xs : List A) → n ≤ m → take n (take m xs) ≡ take n xs
@@ -131,6 +131,7 @@ token_inside (past_token {at = at} {xs = xs} {rest = rest} s is split) zero t e 
   where
     placed_same : (a b : Placed) → Some a ≡ Some b → a ≡ b
     placed_same a b e = cc
+
     first : (at : ℕ) (s : Symbol) (t : Placed) → Some (record { place = at; symbol = s }) ≡ Some t → at ≡ t.place
     first at s t e = ap (λ (p : Placed). p.place) (placed_same (record { place = at; symbol = s }) t e)
 token_inside (past_token {at = at} {xs = xs} {rest = rest} s is split) (suc i) t e = omega (arith, token_inside split i t e, length-append xs rest)

@@ -50,9 +50,13 @@ prints_ops [] = tt
 prints_ops (sum ∷ sums) = are_both (print_code sum) (flat_map print_code sums) (print_ops sum) (prints_ops sums)
 
 pub code_ops : (sums : List (List ℕ)) → AreOps (code_of sums)
-code_ops sums =
-    (record { row = start_row; fits = fits_signed_from_abs w32 (pos 8) (lit< tt) }, (record { row = return_row; fits = tt },
-        are_both (flat_map print_code sums) (Retn ∷ []) (prints_ops sums) (record { row = return_row; fits = tt }, tt)))
+code_ops sums = (
+  record { row = start_row; fits = fits_signed_from_abs w32 (pos 8) (lit< tt) },
+  (
+    record { row = return_row; fits = tt },
+    are_both (flat_map print_code sums) (Retn ∷ []) (prints_ops sums) (record { row = return_row; fits = tt }, tt),
+  ),
+)
 
 -- an instruction of the list, found in its bytes
 pub record Found (start place : ℕ) (ops : List PlainOp) (op : PlainOp) : Type 0 where
@@ -183,7 +187,7 @@ adds_size : (ints : List ℕ) → length (bytes_of (adds ints)) ≡ 8 * length i
 adds_size [] = refl
 adds_size (n ∷ more) =
     let size : length (bytes_of (adds (n ∷ more))) ≡ length (spelling (push n)) + suc (suc (length (bytes_of (adds more)))) =
-        length-append (spelling (push n)) (spelling (Add 32) ++ bytes_of (adds more)) in
+    length-append (spelling (push n)) (spelling (Add 32) ++ bytes_of (adds more)) in
     omega (arith, size, push_size n, adds_size more)
 
 sum_tokens : (ints : List ℕ) → length (flat_map (λ m. Plus ∷ symbol.Int m ∷ []) ints) ≡ 2 * length ints
@@ -194,20 +198,20 @@ print_size : (sum : List ℕ) → length (bytes_of (print_code sum)) ≤ 8 * len
 print_size [] = omega arith
 print_size (n ∷ more) =
     let size : length (bytes_of (print_code (n ∷ more))) ≡ length (spelling (push n)) + (length (bytes_of (adds more)) + length (bytes_of (Action 4 1 ∷ []))) =
-        length-append (spelling (push n)) (bytes_of (adds more ++ Action 4 1 ∷ []))
-        ∙ ap (λ k. length (spelling (push n)) + k) (ap length (flat_map-append spelling (adds more) (Action 4 1 ∷ [])) ∙ length-append (bytes_of (adds more)) (bytes_of (Action 4 1 ∷ []))) in
+    length-append (spelling (push n)) (bytes_of (adds more ++ Action 4 1 ∷ []))
+    ∙ ap (λ k. length (spelling (push n)) + k) (ap length (flat_map-append spelling (adds more) (Action 4 1 ∷ [])) ∙ length-append (bytes_of (adds more)) (bytes_of (Action 4 1 ∷ []))) in
     let last : length (bytes_of (Action 4 1 ∷ [])) ≡ 5 = length-append (spelling (Action 4 1)) [] ∙ ap (λ k. k + 0) call_size in
     let tokens : length (spelled_sum (n ∷ more) ++ symbol.Close ∷ symbol.Semicolon ∷ []) ≡ length (spelled_sum (n ∷ more)) + 2 =
-        length-append (spelled_sum (n ∷ more)) (symbol.Close ∷ symbol.Semicolon ∷ []) in
+    length-append (spelled_sum (n ∷ more)) (symbol.Close ∷ symbol.Semicolon ∷ []) in
     omega (arith, size, last, push_size n, adds_size more, tokens, sum_tokens more)
 
 prints_size : (sums : List (List ℕ)) → length (bytes_of (flat_map print_code sums)) ≤ 8 * length (flat_map spelled_print sums)
 prints_size [] = omega arith
 prints_size (sum ∷ sums) =
     let bytes : length (bytes_of (print_code sum ++ flat_map print_code sums)) ≡ length (bytes_of (print_code sum)) + length (bytes_of (flat_map print_code sums)) =
-        ap length (flat_map-append spelling (print_code sum) (flat_map print_code sums)) ∙ length-append (bytes_of (print_code sum)) (bytes_of (flat_map print_code sums)) in
+    ap length (flat_map-append spelling (print_code sum) (flat_map print_code sums)) ∙ length-append (bytes_of (print_code sum)) (bytes_of (flat_map print_code sums)) in
     let tokens : length (spelled_print sum ++ flat_map spelled_print sums) ≡ length (spelled_print sum) + length (flat_map spelled_print sums) =
-        length-append (spelled_print sum) (flat_map spelled_print sums) in
+    length-append (spelled_print sum) (flat_map spelled_print sums) in
     omega (arith, bytes, tokens, print_size sum, prints_size sums)
 
 -- the code of a sentence is short
@@ -215,11 +219,11 @@ pub code_size : (sums : List (List ℕ)) → length (bytes_of (code_of sums)) �
 code_size sums =
     let prints : List PlainOp = flat_map print_code sums in
     let bytes : length (bytes_of (code_of sums)) ≡ length (spelling (Jsr (pos 8))) + suc (suc (length (bytes_of (prints ++ Retn ∷ [])))) =
-        length-append (spelling (Jsr (pos 8))) (spelling Retn ++ bytes_of (prints ++ Retn ∷ [])) in
+    length-append (spelling (Jsr (pos 8))) (spelling Retn ++ bytes_of (prints ++ Retn ∷ [])) in
     let body : length (bytes_of (prints ++ Retn ∷ [])) ≡ length (bytes_of prints) + 2 =
-        ap length (flat_map-append spelling prints (Retn ∷ [])) ∙ length-append (bytes_of prints) (bytes_of (Retn ∷ [])) in
+    ap length (flat_map-append spelling prints (Retn ∷ [])) ∙ length-append (bytes_of prints) (bytes_of (Retn ∷ [])) in
     let tokens : length (flat_map spelled_print sums ++ symbol.CloseBrace ∷ []) ≡ length (flat_map spelled_print sums) + 1 =
-        length-append (flat_map spelled_print sums) (symbol.CloseBrace ∷ []) in
+    length-append (flat_map spelled_print sums) (symbol.CloseBrace ∷ []) in
     omega (arith, bytes, body, start_size, tokens, prints_size sums)
 
 -- there are no more instructions than bytes

@@ -172,9 +172,9 @@ token_on text tokens more at n s so_far room piece some inside is =
           ap (λ ts. joined ts (scan 0 (at + n) (100000 - length more) (drop (at + n) text))) is
           ∙ sym (joined_token tokens t (scan 0 (at + n) (100000 - length more) (drop (at + n) text)))
           ∙ ap (joined tokens)
-              (ap (λ xs. with_token t (scan 0 (at + n) (100000 - length more) xs)) (sym (drop-drop n at text))
-              ∙ sym (token_step (drop at text) at (100000 - length more) n s piece some inside)
-              ∙ ap (λ k. scan 0 at k (drop at text)) (sym left))
+          (ap (λ xs. with_token t (scan 0 (at + n) (100000 - length more) xs)) (sym (drop-drop n at text))
+          ∙ sym (token_step (drop at text) at (100000 - length more) n s piece some inside)
+          ∙ ap (λ k. scan 0 at k (drop at text)) (sym left))
           ∙ so_far.same;
       inside = omega arith;
       few = omega arith;

@@ -79,9 +79,9 @@ module _ (name : List ℕ) (next : List ℕ → Work Finished) where
 
   stopped_at : (status : Status) (c c' : Contents) (t t' : List ℕ) (content : Option (List ℕ))
       → MatchOption content (EndsWith {A = List ℕ} (missing_line name) Missing c t (Err status) c' t')
-          (λ bytes. MatchBool (nat_lt 16777216 (length bytes)) (EndsWith {A = List ℕ} (long_line name) Long c t (Err status) c' t') (Does {A = List ℕ} (Gives bytes) c t (Err status) c' t'))
+      (λ bytes. MatchBool (nat_lt 16777216 (length bytes)) (EndsWith {A = List ℕ} (long_line name) Long c t (Err status) c' t') (Does {A = List ℕ} (Gives bytes) c t (Err status) c' t'))
       → MatchOption content (EndsWith {A = Finished} (missing_line name) Missing c t (Err status) c' t')
-          (λ bytes. MatchBool (nat_lt 16777216 (length bytes)) (EndsWith {A = Finished} (long_line name) Long c t (Err status) c' t') (Does {A = Finished} (next bytes) c t (Err status) c' t'))
+      (λ bytes. MatchBool (nat_lt 16777216 (length bytes)) (EndsWith {A = Finished} (long_line name) Long c t (Err status) c' t') (Does {A = Finished} (next bytes) c t (Err status) c' t'))
   stopped_at status c c' t t' None h = ends_again (List ℕ) Finished (missing_line name) Missing status c c' t t' h
   stopped_at status c c' t t' (Some bytes) h = stopped_by status c c' t t' bytes (nat_lt 16777216 (length bytes)) h
 
@@ -100,15 +100,15 @@ module _ (name : List ℕ) (next : List ℕ → Work Finished) where
   gave_by file r c c' c'' t t' t'' bytes false (inl e, stays) d =
       let same : file ≡ bytes = cc in
       subst (λ x. Does {A = Finished} (next x) c t r c'' t'') same
-          (subst (λ x. Does {A = Finished} (next file) x t r c'' t'') stays.0 (subst (λ x. Does {A = Finished} (next file) c' x r c'' t'') stays.1 d))
+      (subst (λ x. Does {A = Finished} (next file) x t r c'' t'') stays.0 (subst (λ x. Does {A = Finished} (next file) c' x r c'' t'') stays.1 d))
   gave_by file r c c' c'' t t' t'' bytes false (inr cuts, stays) d = absurd cuts
 
   gave_at : (file : List ℕ) (r : Result Finished Status) (c c' c'' : Contents) (t t' t'' : List ℕ) (content : Option (List ℕ))
       → MatchOption content (EndsWith {A = List ℕ} (missing_line name) Missing c t (Ok file) c' t')
-          (λ bytes. MatchBool (nat_lt 16777216 (length bytes)) (EndsWith {A = List ℕ} (long_line name) Long c t (Ok file) c' t') (Does {A = List ℕ} (Gives bytes) c t (Ok file) c' t'))
+      (λ bytes. MatchBool (nat_lt 16777216 (length bytes)) (EndsWith {A = List ℕ} (long_line name) Long c t (Ok file) c' t') (Does {A = List ℕ} (Gives bytes) c t (Ok file) c' t'))
       → Does {A = Finished} (next file) c' t' r c'' t''
       → MatchOption content (EndsWith {A = Finished} (missing_line name) Missing c t r c'' t'')
-          (λ bytes. MatchBool (nat_lt 16777216 (length bytes)) (EndsWith {A = Finished} (long_line name) Long c t r c'' t'') (Does {A = Finished} (next bytes) c t r c'' t''))
+      (λ bytes. MatchBool (nat_lt 16777216 (length bytes)) (EndsWith {A = Finished} (long_line name) Long c t r c'' t'') (Does {A = Finished} (next bytes) c t r c'' t''))
   gave_at file r c c' c'' t t' t'' None (inl (e, same, taken)) d = absurd (not_ok (List ℕ) file Missing (sym e))
   gave_at file r c c' c'' t t' t'' None (inr (cuts, same, front)) d = absurd cuts
   gave_at file r c c' c'' t t' t'' (Some bytes) h d = gave_by file r c c' c'' t t' t'' bytes (nat_lt 16777216 (length bytes)) h d

@@ -6,7 +6,7 @@ use Rattle.nwq_top.specs.declared.words.Command.TheVariants as command
 use Rattle.nwq_top.specs.Tokens.{is_between}
 
 pub data Form : Type 0 where
-  Run : (script : List ℕ) → Form     -- with the built-in header
+  Run : (script : List ℕ) → Form  -- with the built-in header
   NoForm : Form
 
 -- a to z, 0 to 9 and the underscore

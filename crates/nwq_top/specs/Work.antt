@@ -48,7 +48,7 @@ Does (Ends status) c t r c' t' = ((r ≡ Err status) ⊎ IsCut r) × Stays c c' 
 Does (Reads name next) c t r c' t' =
     (IsCut r × Stays c c' t t')
     ⊎ MatchOption (map.get c name) (EndsWith (missing_line name) Missing c t r c' t')
-        (λ bytes. MatchBool (nat_lt 16777216 (length bytes)) (EndsWith (long_line name) Long c t r c' t') (Does (next bytes) c t r c' t'))
+    (λ bytes. MatchBool (nat_lt 16777216 (length bytes)) (EndsWith (long_line name) Long c t r c' t') (Does (next bytes) c t r c' t'))
 Does (Writes name bytes rest) c t r c' t' =
     (IsCut r × KeepsOthers name c c' × (t' ≡ t)) ⊎ Does rest (map.insert c name bytes) t r c' t'
 Does (Puts text rest) c t r c' t' =

@@ -15,6 +15,8 @@ mod run;
 mod sentence;
 mod source;
 mod status;
+#[cfg(test)]
+mod tests;
 mod texts;
 mod tokens;
 mod words;
@@ -26,12 +28,10 @@ ghost use Rattle.nwq_top.specs.Work.{ending};
 ghost use Rattle.nwq_top.specs.Command.{DoesWorkOf};
 ghost use Rattle.nwq_top.specs.Causes.{CanCome, IsOfNoForm};
 
-use nwq_outside::{Files, Sink};
-use std::alloc::Global;
-
-pub use status::Status;
-
 use crate::command::command;
+use nwq_outside::{Files, Sink};
+pub use status::Status;
+use std::alloc::Global;
 
 /// Does what the words say.
 pub fn nwq_main<F: Files, S: Sink>(

@@ -92,9 +92,7 @@ fn call(m: &mut Machine, place: Option<u32>, next: u32) -> Result<Next, NoMemory
     requires { call_place place next m.old ≢ Stuck }
     ensures { IfOk result (λ goes. call_place place next m.old ≡ after_of goes m.new) }
 {
-    let Some(place) = place else {
-        unreachable!()
-    };
+    let Some(place) = place else { unreachable!() };
     m.calls.push(next)?;
     m.place = place;
     Ok(Next::Goes)

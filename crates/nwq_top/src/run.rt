@@ -119,9 +119,7 @@ fn play_source<S: Sink>(alloc: Global, name: &str, file: &[u8], out: &mut S) -> 
 {
     match read_source(alloc, file) {
         Err(_) => Err(Status::Memory),
-        Ok(Reading::NotBuilt(place)) => {
-            Err(refuse_source(alloc, name, file, place as u32, out))
-        }
+        Ok(Reading::NotBuilt(place)) => { Err(refuse_source(alloc, name, file, place as u32, out)) }
         Ok(Reading::Built(sums)) => put(text_of_play(alloc, sums.as_slice()), out),
     }
 }

@@ -171,7 +171,11 @@ fn word_at(text: &[u8]) -> Piece
     ensures inside { 0 < run_length Class.NameByte text.now → IsInside result (length text.now) }
 {
     let count = run_of(Class::NameByte, text);
-    if count <= NAME_BYTES { Piece::Token(word_of(&text[..count]), count) } else { Piece::Nothing }
+    if count <= NAME_BYTES {
+        Piece::Token(word_of(&text[..count]), count)
+    } else {
+        Piece::Nothing
+    }
 }
 
 fn int_at(value: Option<u32>, count: usize) -> Piece
@@ -287,11 +291,17 @@ pub fn tokens_of(alloc: Global, text: &[u8]) -> Result<Scan, NoMemory>
     let mut at = 0;
     while at < text.len() {
         match first_piece(rest_of(text, at)) {
-            Piece::Nothing => return Ok(Scan { tokens, cut: Some(at) }),
+            Piece::Nothing => return Ok(Scan {
+                tokens,
+                cut: Some(at),
+            }),
             Piece::Gap(count) => at += count,
             Piece::Token(symbol, count) => {
                 if tokens.len() == TOKENS {
-                    return Ok(Scan { tokens, cut: Some(at) });
+                    return Ok(Scan {
+                        tokens,
+                        cut: Some(at),
+                    });
                 }
                 tokens.push(Placed { place: at, symbol })?;
                 at += count;

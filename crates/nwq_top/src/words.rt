@@ -52,7 +52,10 @@ pub fn command_of(words: &[String]) -> Command<'_>
 {
     match words {
         [command, header, script] => {
-            if is_run(command.as_str()) && is_dash(header.as_str()) && names_script(script.as_str()) {
+            if is_run(command.as_str())
+                && is_dash(header.as_str())
+                && names_script(script.as_str())
+            {
                 Command::Run(script.as_str())
             } else {
                 Command::NoForm

@@ -12,7 +12,7 @@ loop-machine-init c = subst (λ m. SoFar c.args.sums.now m 0) (sym c.new-machine
 pub step-requires-clause-runs : goal.step-requires-clause-runs
 step-requires-clause-runs c =
     has_step c.args.sums.now c.as_slice.result.now c.loop-machine.machine c.loop-machine.count c.loop-machine.invariant
-        (c.as_slice.ensures.value ∙ c.in_ok-file.ensures)
+    (c.as_slice.ensures.value ∙ c.in_ok-file.ensures)
 
 pub step-requires-clause-bounded : goal.step-requires-clause-bounded
 step-requires-clause-bounded c =
@@ -25,19 +25,19 @@ overflow_add-count c =
 pub loop-machine-preserved : goal.loop-machine-preserved
 loop-machine-preserved c =
     subst (λ next. Turned c.args.sums.now next c.step.new.m c.loop-machine.count) c.in-Goes.is
-        (turned c.args.sums.now c.as_slice.result.now c.loop-machine.machine c.step.new.m c.in_ok-next.next c.loop-machine.count c.loop-machine.invariant
-            (c.as_slice.ensures.value ∙ c.in_ok-file.ensures) c.in_ok-next.ensures)
+    (turned c.args.sums.now c.as_slice.result.now c.loop-machine.machine c.step.new.m c.in_ok-next.next c.loop-machine.count c.loop-machine.invariant
+    (c.as_slice.ensures.value ∙ c.in_ok-file.ensures) c.in_ok-next.ensures)
 
 pub returns-in-Ends-clause-printed : goal.returns-in-Ends-clause-printed
 returns-in-Ends-clause-printed c =
     let ended = subst (λ next. Turned c.args.sums.now next c.step.new.m c.loop-machine.count) c.in-Ends.is
-        (turned c.args.sums.now c.as_slice.result.now c.loop-machine.machine c.step.new.m c.in_ok-next.next c.loop-machine.count c.loop-machine.invariant
-            (c.as_slice.ensures.value ∙ c.in_ok-file.ensures) c.in_ok-next.ensures) in
+    (turned c.args.sums.now c.as_slice.result.now c.loop-machine.machine c.step.new.m c.in_ok-next.next c.loop-machine.count c.loop-machine.invariant
+    (c.as_slice.ensures.value ∙ c.in_ok-file.ensures) c.in_ok-next.ensures) in
     ended.0
 
 pub returns-in-Ends-clause-count : goal.returns-in-Ends-clause-count
 returns-in-Ends-clause-count c =
     let ended = subst (λ next. Turned c.args.sums.now next c.step.new.m c.loop-machine.count) c.in-Ends.is
-        (turned c.args.sums.now c.as_slice.result.now c.loop-machine.machine c.step.new.m c.in_ok-next.next c.loop-machine.count c.loop-machine.invariant
-            (c.as_slice.ensures.value ∙ c.in_ok-file.ensures) c.in_ok-next.ensures) in
+    (turned c.args.sums.now c.as_slice.result.now c.loop-machine.machine c.step.new.m c.in_ok-next.next c.loop-machine.count c.loop-machine.invariant
+    (c.as_slice.ensures.value ∙ c.in_ok-file.ensures) c.in_ok-next.ensures) in
     ended.1

@@ -13,7 +13,7 @@ use Rattle.nwq_top.proofs.run.play_source.Goals as goal
 pub overflow_cast-place : goal.overflow_cast-place
 overflow_cast-place g c =
     let inside : c.in-Ok-NotBuilt.place ≤ length c.args.file.now =
-        refused_inside c.args.file.now c.in-Ok-NotBuilt.place (sym c.in-Ok-NotBuilt.ensures ∙ c.in-Ok-NotBuilt.field-0-is) in
+    refused_inside c.args.file.now c.in-Ok-NotBuilt.place (sym c.in-Ok-NotBuilt.ensures ∙ c.in-Ok-NotBuilt.field-0-is) in
     let small : length c.args.file.now ≤ 16777216 = c.requires in
     omega arith
 
@@ -28,13 +28,13 @@ text_of_play-requires-clause-sums g c =
 pub text_of_play-requires-clause-small : goal.text_of_play-requires-clause-small
 text_of_play-requires-clause-small g c =
     subst (λ sums. length (spelled sums) ≤ 100000) (sym c.as_slice.ensures)
-        (built_small c.args.file.now c.in-Ok-Built.sums (sym c.in-Ok-Built.ensures ∙ c.in-Ok-Built.field-0-is))
+    (built_small c.args.file.now c.in-Ok-Built.sums (sym c.in-Ok-Built.ensures ∙ c.in-Ok-Built.field-0-is))
 
 pub returns-in-Ok-Built-clause-does : goal.returns-in-Ok-Built-clause-does
 returns-in-Ok-Built-clause-does g c = λ told contents.
     let text : List ℕ = trace_text (prints_of c.in-Ok-Built.sums) ++ end_text (length (code_of c.in-Ok-Built.sums)) in
     subst (λ r. Does {A = Finished} (work_on c.args.name.now c.args.file.now r) contents (g.S.Sink.taken c.args.out.now) c.put.result contents (g.S.Sink.taken c.put.new.out))
-        (sym (sym c.in-Ok-Built.ensures ∙ c.in-Ok-Built.field-0-is))
-        (puts text c.put.result contents (g.S.Sink.taken c.args.out.now) (g.S.Sink.taken c.put.new.out)
-            (c.put.ensures.does told text
-                (subst (λ sums. IfOk c.text_of_play.result (λ t. t.items ≡ trace_text (prints_of sums) ++ end_text (length (code_of sums)))) c.as_slice.ensures c.text_of_play.ensures)))
+    (sym (sym c.in-Ok-Built.ensures ∙ c.in-Ok-Built.field-0-is))
+    (puts text c.put.result contents (g.S.Sink.taken c.args.out.now) (g.S.Sink.taken c.put.new.out)
+    (c.put.ensures.does told text
+    (subst (λ sums. IfOk c.text_of_play.result (λ t. t.items ≡ trace_text (prints_of sums) ++ end_text (length (code_of sums)))) c.as_slice.ensures c.text_of_play.ensures)))

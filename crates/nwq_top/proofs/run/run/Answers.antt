@@ -11,9 +11,9 @@ returns-in-Err-read_file-clause-does g c = λ told told_too.
     let name : List ℕ = source_name c.args.script.now in
     let same : c.as_str.result.now ≡ name = c.as_str.ensures.value ∙ c.in-Ok.ensures in
     read_stops name (play_work name) c.in-Err-read_file.status (g.F.Files.contents c.args.files.now) (g.F.Files.contents c.read_file.new.files)
-        (g.S.Sink.taken c.args.out.now) (g.S.Sink.taken c.read_file.new.out)
-        (subst (λ n. Does {A = List ℕ} (Reads n Gives) (g.F.Files.contents c.args.files.now) (g.S.Sink.taken c.args.out.now) (Err c.in-Err-read_file.status)
-                (g.F.Files.contents c.read_file.new.files) (g.S.Sink.taken c.read_file.new.out)) same (c.in-Err-read_file.ensures.does told told_too))
+    (g.S.Sink.taken c.args.out.now) (g.S.Sink.taken c.read_file.new.out)
+    (subst (λ n. Does {A = List ℕ} (Reads n Gives) (g.F.Files.contents c.args.files.now) (g.S.Sink.taken c.args.out.now) (Err c.in-Err-read_file.status)
+    (g.F.Files.contents c.read_file.new.files) (g.S.Sink.taken c.read_file.new.out)) same (c.in-Err-read_file.ensures.does told told_too))
 
 pub returns-clause-does : goal.returns-clause-does
 returns-clause-does g c = λ told told_too.
@@ -25,8 +25,8 @@ returns-clause-does g c = λ told told_too.
     let read : List ℕ = g.S.Sink.taken c.read_file.new.out in
     let put : List ℕ = g.S.Sink.taken c.play_source.new.out in
     read_gives name (play_work name) file c.play_source.result (g.F.Files.contents c.args.files.now) contents contents (g.S.Sink.taken c.args.out.now) read put
-        (subst (λ n. Does {A = List ℕ} (Reads n Gives) (g.F.Files.contents c.args.files.now) (g.S.Sink.taken c.args.out.now) (Ok file) contents read) same
-            (c.in-Ok-read_file.ensures.does told told_too))
-        (subst (λ n. Does {A = Finished} (play_work n file) contents read c.play_source.result contents put) same_too
-            (subst (λ f. Does {A = Finished} (play_work c.as_str-in-Ok-read_file.result.now f) contents read c.play_source.result contents put) c.as_slice.ensures
-                (c.play_source.ensures.does told_too contents)))
+    (subst (λ n. Does {A = List ℕ} (Reads n Gives) (g.F.Files.contents c.args.files.now) (g.S.Sink.taken c.args.out.now) (Ok file) contents read) same
+    (c.in-Ok-read_file.ensures.does told told_too))
+    (subst (λ n. Does {A = Finished} (play_work n file) contents read c.play_source.result contents put) same_too
+    (subst (λ f. Does {A = Finished} (play_work c.as_str-in-Ok-read_file.result.now f) contents read c.play_source.result contents put) c.as_slice.ensures
+    (c.play_source.ensures.does told_too contents)))

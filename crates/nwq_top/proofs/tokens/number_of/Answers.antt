@@ -11,4 +11,4 @@ returns-then-number-gt-GREATEST_INT c =
     let next : ℕ = base * c.loop-digit.number + digit_worth (get_or c.args.digits.now i 0) in
     let great : 4294967295 < next = omega (arith, c.worth_of.ensures) in
     sym (ap limited (sym c.loop-digit.invariant.same ∙ number_more base c.loop-digit.number c.args.digits.now i (omega arith))
-        ∙ too_great base next (drop (i + 1) c.args.digits.now) c.requires.low great)
+    ∙ too_great base next (drop (i + 1) c.args.digits.now) c.requires.low great)
