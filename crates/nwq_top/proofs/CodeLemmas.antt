@@ -1,12 +1,12 @@
 -- The instructions that are written: their rows, sizes and bytes.
-use Rattle.std.proofs.Common.{◌≡◌, ◌≢◌, ℕ, ℤ, pos, zero, suc, ◌+◌, ◌-◌, ◌*◌, ◌%◌, ◌≤◌, ◌<◌, ◌^◌, List, [], ◌∷◌, ◌++◌, length, take, drop, get_or, cond, true, false, Option, Some, None, refl, sym, ap, ◌∙◌, subst, arith, add-one, drop-cons, append_assoc, length-append, flat_map}
+use Rattle.std.proofs.Common.{◌≡◌, ℕ, ℤ, pos, suc, ◌+◌, ◌%◌, ◌≤◌, ◌<◌, ◌^◌, List, [], ◌∷◌, ◌++◌, length, drop, get_or, refl, sym, ap, ◌∙◌, add-one, drop-cons, append_assoc, flat_map}
 use Rattle.std.proofs.Math.Nat.{mod-eq_of_lt}
 use Rattle.std.proofs.lemmas.List as lists
 use Rattle.std.proofs.lemmas.List.{append-nil}
 use Rattle.std.proofs.lemmas.Grind.{flat_map-append}
 use Rattle.std.specs.Int.{w32, cast_signed}
 use Rattle.ncs_code.specs.Plain.{PlainOp, Int, Const, Action, Add, Jsr, Retn}
-use Rattle.ncs_code.specs.Spelling.{spelling, HasRow, has_type, signed, two}
+use Rattle.ncs_code.specs.Spelling.{spelling, HasRow, has_type}
 use Rattle.nwq_top.specs.Emission.{push, adds, print_code, code_of, bytes_of}
 
 pub push_row : (v : ℤ) → HasRow (Const (Int v))

@@ -1,16 +1,14 @@
 -- The work of a run by the reading functions is the work that the definitions say.
-use Rattle.std.proofs.Common.{◌≡◌, ℕ, ℤ, suc, ◌≤◌, List, length, Result, Ok, Err, refl, sym, ap, ◌∙◌, subst, arith}
+use Rattle.std.proofs.Common.{◌≡◌, ℕ, ℤ, suc, List, length, refl, sym, ap, ◌∙◌, subst}
 use Rattle.nwq_top.specs.declared.source.Reading.{Reading}
 use Rattle.nwq_top.specs.declared.source.Reading.TheVariants.{Built, NotBuilt}
 use Rattle.nwq_top.specs.declared.machine.Machine.{Machine}
-use Rattle.ncs_code.specs.Plain.{PlainOp}
 use Rattle.nwq_top.specs.Words.{Form, Run, NoForm}
 use Rattle.nwq_top.specs.declared.status.Status.TheVariants.{Words}
 use Rattle.nwq_top.specs.Texts.{words_line}
 use Rattle.nwq_top.specs.Work.{Work, Puts, Ends, Finished}
-use Rattle.nwq_top.specs.Meaning.{prints_of}
 use Rattle.nwq_top.specs.Emission.{code_of}
-use Rattle.nwq_top.specs.Machine.{Code, After, GoesOn, HasEnded, step_of, Runs, ends, goes}
+use Rattle.nwq_top.specs.Machine.{Code, GoesOn, HasEnded, Runs, ends, goes}
 use Rattle.nwq_top.specs.Reading.{reading_of}
 use Rattle.nwq_top.specs.Command.{source_name, IsPlay, plays, refuses, IsWorkOf, no_form, run}
 use Rattle.nwq_top.specs.Playing.{work_on, play_work, run_work}

@@ -1,6 +1,5 @@
 -- The machine on the code of a sentence prints what the sentence means.
-use Rattle.std.proofs.Common.{◌≡◌, ◌≢◌, ℕ, ℤ, pos, zero, suc, ◌+◌, ◌-◌, ◌*◌, ◌/◌, ◌%◌, ◌≤◌, ◌<◌, ◌^◌, List, [], ◌∷◌, ◌++◌, length, take, drop, map, get_or, cond, nat_eq, true, false, Bool, Option, Some, None, refl, sym, ap, ◌∙◌, subst, lit<, arith, add-one, drop-cons, append_assoc, length-append, flat_map, sum}
-use Rattle.std.proofs.lemmas.List as lists
+use Rattle.std.proofs.Common.{◌≡◌, ℕ, ℤ, pos, suc, ◌+◌, ◌*◌, ◌/◌, ◌%◌, ◌≤◌, ◌<◌, ◌^◌, List, [], ◌∷◌, ◌++◌, length, nat_eq, true, false, Some, refl, sym, ap, ◌∙◌, subst, lit<, arith, append_assoc, length-append, flat_map, sum}
 use Rattle.std.proofs.lemmas.List.{append-nil}
 use Rattle.std.proofs.lemmas.Grind.{flat_map-append}
 use Rattle.std.proofs.lemmas.List.Sums.{sum_by-cons}
@@ -9,13 +8,13 @@ use Rattle.std.proofs.lemmas.Bool.Decides.{nat_tests}
 use Rattle.std.proofs.lemmas.Int.{of_z-to_z}
 use Rattle.std.proofs.Math.Nat.{mod-lt, div-add-mod, mul-add-mod_self_left}
 use Rattle.std.specs.Int.{w32, cast_signed, cast_unsigned, int_wrapping_add}
-use Rattle.ncs_code.specs.Plain.{PlainOp, Int, CpDownSp, Const, Action, Add, Jsr, Retn}
-use Rattle.ncs_code.specs.Spelling.{spelling, signed, IsOp}
+use Rattle.ncs_code.specs.Plain.{PlainOp, CpDownSp, Action, Add, Jsr, Retn}
+use Rattle.ncs_code.specs.Spelling.{spelling, signed}
 use Rattle.nwq_top.specs.declared.machine.Machine.{Machine}
 use Rattle.nwq_top.specs.Sentence.{AreSums}
 use Rattle.nwq_top.specs.Meaning.{value_of, prints_of}
 use Rattle.nwq_top.specs.Emission.{push, adds, print_code, code_of, bytes_of}
-use Rattle.nwq_top.specs.Machine.{Code, laid, After, GoesOn, HasEnded, Stuck, step_of, Runs, ends, goes, entry, RunsTo}
+use Rattle.nwq_top.specs.Machine.{Code, laid, HasEnded, step_of, Runs, ends, goes, RunsTo}
 
 -- the sum of two remainders leaves what the sum leaves
 mod_left : (a b m : ℕ) → (a % m + b) % m ≡ (a + b) % m

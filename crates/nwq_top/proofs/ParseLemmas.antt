@@ -1,18 +1,18 @@
 -- What the reader makes of tokens: a sentence is read as its sums, what is read is a sentence, and what it refuses is refused at the
 -- first token that fits none.
-use Rattle.std.proofs.Common.{◌≡◌, ◌≢◌, ℕ, zero, suc, ◌+◌, ◌-◌, ◌*◌, ◌≤◌, ◌<◌, ◌⊎◌, inl, inr, List, [], ◌∷◌, ◌++◌, length, take, drop, nat_lt, cond, true, false, Bool, Option, Some, None, option_map, refl, sym, ap, ◌∙◌, subst, arith, add-one, append_assoc, length-append, flat_map}
+use Rattle.std.proofs.Common.{◌≡◌, ℕ, suc, ◌+◌, ◌≤◌, ◌<◌, List, [], ◌∷◌, ◌++◌, length, take, nat_lt, true, false, Bool, Option, Some, None, option_map, refl, sym, ap, ◌∙◌, subst, arith, append_assoc, length-append, flat_map}
 use Rattle.std.proofs.lemmas.List.{append-nil}
 use Rattle.std.proofs.lemmas.Grind.{flat_map-append}
 use Rattle.std.proofs.lemmas.Bool.Decides.{nat_tests}
 use Rattle.nwq_top.specs.declared.tokens.Symbol.{Symbol}
-use Rattle.nwq_top.specs.declared.tokens.Symbol.TheVariants.{Void, Main, PrintInteger, OtherWord, Int, Open, Close, OpenBrace, CloseBrace, Semicolon, Plus}
+use Rattle.nwq_top.specs.declared.tokens.Symbol.TheVariants.{Void, Main, PrintInteger, Int, Open, Close, OpenBrace, CloseBrace, Semicolon, Plus}
 use Rattle.nwq_top.specs.declared.sentence.Stage.{Stage}
 use Rattle.nwq_top.specs.declared.sentence.Stage.TheVariants.{AtVoid, AtMain, AtOpen, AtClose, AtBrace, AtPrint, AtArgument, AtFirstInt, AtPlus, AtNextInt, AtSemicolon, AtEnd}
 use Rattle.nwq_top.specs.declared.sentence.Reader.{Reader}
 use Rattle.nwq_top.specs.declared.sentence.Parsed.{Parsed}
 use Rattle.nwq_top.specs.declared.sentence.Parsed.TheVariants.{Whole, Unfit, Unfinished}
 use Rattle.nwq_top.specs.Sentence.{spelled_sum, spelled_print, spelled, AreSums, IsSentence, IsFront, IsFirstUnfit, IsUnfinished}
-use Rattle.nwq_top.specs.Reading.{next_stage, kept, at_stage, goes, fresh, at_end, onward, parse}
+use Rattle.nwq_top.specs.Reading.{next_stage, at_stage, goes, fresh, at_end, onward, parse}
 
 abbrev signed_int : ℕ → List Symbol
 signed_int m = Plus ∷ Int m ∷ []

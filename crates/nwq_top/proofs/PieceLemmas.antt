@@ -1,10 +1,9 @@
 -- What stands first in a text, as the reading function finds it and as the tokens and gaps are defined.
-use Rattle.std.proofs.Common.{◌≡◌, ◌≢◌, ℕ, zero, suc, ◌+◌, ◌-◌, ◌*◌, ◌≤◌, ◌<◌, ◌⊎◌, inl, inr, List, [], ◌∷◌, ◌++◌, length, take, drop, cond, nat_eq, nat_le, ◌==◌, ◌&&◌, ◌||◌, true, false, Bool, Option, Some, None, option_map, refl, sym, ap, ◌∙◌, subst, arith, append_assoc, length-append}
-use Rattle.std.proofs.lemmas.List as lists
+use Rattle.std.proofs.Common.{◌≡◌, ℕ, suc, ◌+◌, ◌≤◌, ◌⊎◌, inl, inr, List, [], ◌∷◌, ◌++◌, length, take, drop, cond, nat_eq, nat_le, ◌==◌, ◌&&◌, ◌||◌, true, false, Bool, Option, Some, None, option_map, refl, sym, ap, ◌∙◌, subst, arith, append_assoc, length-append}
 use Rattle.std.proofs.lemmas.Bool.Decides.{nat_tests}
-use Rattle.std.proofs.Math.Seq.{take-append_seam, drop-append_seam}
+use Rattle.std.proofs.Math.Seq.{take-append_seam}
 use Rattle.nwq_top.specs.declared.tokens.Symbol.{Symbol}
-use Rattle.nwq_top.specs.declared.tokens.Symbol.TheVariants.{Void, Main, PrintInteger, OtherWord, Int, Open, Close, OpenBrace, CloseBrace, Semicolon, Plus}
+use Rattle.nwq_top.specs.declared.tokens.Symbol.TheVariants.{Int}
 use Rattle.nwq_top.specs.declared.tokens.Class.{Class}
 use Rattle.nwq_top.specs.declared.tokens.Class.TheVariants.{NameStart, NameByte, Digit, HexDigit, Blank, LineByte}
 use Rattle.nwq_top.specs.declared.tokens.Piece.{Piece}

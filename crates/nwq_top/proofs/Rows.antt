@@ -1,20 +1,18 @@
 -- The definitions at the worked examples, by computing.
-use Rattle.std.proofs.Common.{◌≡◌, ℕ, ℤ, pos, negsuc, List, [], ◌∷◌, ◌++◌, length, take, drop, Some, None, refl}
+use Rattle.std.proofs.Common.{◌≡◌, pos, negsuc, [], ◌∷◌, ◌++◌, length, refl}
 use Rattle.std.specs.Prelude.{codes}
 use Rattle.std.specs.Fmt.{digits}
 use Rattle.ncs_code.specs.Spelling.{signed, two}
 use Rattle.nwq_text.specs.Escape.{escaped, spelling}
 use Rattle.nwq_text.specs.Line.{line_number}
 use Rattle.nwq_top.specs.declared.source.Reading.TheVariants.{Built, NotBuilt}
-use Rattle.nwq_top.specs.Tokens.{IsToken, word, decimal, hexadecimal, sign, IsGap, blank, line, block, word_symbol, number_from}
-use Rattle.nwq_top.specs.Sentence.{IsSentence, spelled}
-use Rattle.nwq_top.specs.Source.{IsSource, IsNotBuilt}
+use Rattle.nwq_top.specs.Source.{IsSource}
 use Rattle.nwq_top.specs.Reading.{scan, piece_of, parse, reading_of}
 use Rattle.nwq_top.specs.Meaning.{value_of, prints_of}
-use Rattle.nwq_top.specs.Emission.{code_of, bytes_of, file_of}
-use Rattle.nwq_top.specs.Texts.{notbuilt_line, trace_text, end_text, missing_line, words_line}
+use Rattle.nwq_top.specs.Emission.{code_of, file_of}
+use Rattle.nwq_top.specs.Texts.{notbuilt_line, trace_text, end_text, missing_line}
 use Rattle.nwq_top.specs.Words.{form_of, Run, NoForm}
-use Rattle.nwq_top.proofs.SourceLemmas.{IsReading, reading_is, source_of}
+use Rattle.nwq_top.proofs.SourceLemmas.{source_of}
 
 -- `2+3` prints 5, and 4294967295 stands for -1
 prints_five : prints_of ((2 ∷ 3 ∷ []) ∷ []) ≡ pos 5 ∷ []

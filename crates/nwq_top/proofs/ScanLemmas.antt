@@ -9,7 +9,7 @@ use Rattle.nwq_top.specs.declared.tokens.Piece.TheVariants.{Token, Gap, Nothing}
 use Rattle.nwq_top.specs.Tokens.{IsToken, word, decimal, hexadecimal, sign, IsGap, blank, line, block, Splits, here, past_gap, past_token, BeginsToken, IsBlocked, EndsAt, AreTokens}
 use Rattle.nwq_top.specs.Reading.{piece_of, scan, scan_by, stopped, with_token}
 use Rattle.nwq_top.proofs.TokenLemmas.{gap_step, token_step, full_step, stop_step, scan_end}
-use Rattle.nwq_top.proofs.PieceLemmas.{Here, TokenHere, GapHere, piece_here, token_found, gap_found}
+use Rattle.nwq_top.proofs.PieceLemmas.{Here, piece_here, token_found, gap_found}
 
 -- as the definition has it, with room for so many tokens
 abbrev pub EndsFrom : ℕ → Option ℕ → ℕ → List Placed → List ℕ → Type 0

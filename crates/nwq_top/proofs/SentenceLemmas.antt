@@ -1,12 +1,12 @@
 -- The loop over the tokens of a sentence.
-use Rattle.std.proofs.Common.{◌≡◌, ℕ, zero, suc, ◌+◌, ◌≤◌, ◌<◌, List, [], ◌∷◌, length, drop, get_or, Option, Some, None, refl, sym, ap, ◌∙◌, arith, add-one, drop-cons}
+use Rattle.std.proofs.Common.{◌≡◌, ℕ, ◌+◌, ◌≤◌, ◌<◌, List, length, drop, get_or, Some, None, refl, add-one, drop-cons}
 use Rattle.std.proofs.lemmas.List as lists
 use Rattle.nwq_top.specs.declared.tokens.Placed.{Placed}
 use Rattle.nwq_top.specs.declared.tokens.Symbol.TheVariants.{Void}
 use Rattle.nwq_top.specs.declared.sentence.Reader.{Reader}
 use Rattle.nwq_top.specs.declared.sentence.Parsed.TheVariants.{Unfit}
 use Rattle.nwq_top.specs.Tokens.{symbols}
-use Rattle.nwq_top.specs.Reading.{goes, at_end, onward, parse}
+use Rattle.nwq_top.specs.Reading.{goes, at_end, parse}
 
 abbrev no_token : Placed
 no_token = record { place = 0; symbol = Void }

@@ -1,5 +1,5 @@
 -- Each file is the source of a list of sums or is refused at a place, never both, and of each there is one.
-use Rattle.std.proofs.Common.{◌≡◌, ◌≢◌, ℕ, ℤ, zero, suc, ◌+◌, ◌-◌, ◌≤◌, ◌<◌, ◌⊎◌, inl, inr, List, [], ◌∷◌, ◌++◌, length, take, drop, map, slice_get, Option, Some, None, refl, sym, ap, ◌∙◌, subst, arith, append_assoc, length-append}
+use Rattle.std.proofs.Common.{◌≡◌, ℕ, zero, suc, ◌+◌, ◌≤◌, ◌<◌, ◌⊎◌, inl, inr, List, [], ◌∷◌, ◌++◌, length, take, drop, slice_get, Option, Some, None, refl, sym, ap, ◌∙◌, subst, arith, append_assoc, length-append}
 use Rattle.std.proofs.lemmas.Bool.{cases_lt}
 use Rattle.std.proofs.lemmas.List.{append-nil, take-append-drop}
 use Rattle.nwq_top.specs.declared.tokens.Symbol.{Symbol}
@@ -9,11 +9,10 @@ use Rattle.nwq_top.specs.declared.sentence.Parsed.{Parsed}
 use Rattle.nwq_top.specs.declared.sentence.Parsed.TheVariants.{Whole, Unfit, Unfinished}
 use Rattle.nwq_top.specs.declared.source.Reading.{Reading}
 use Rattle.nwq_top.specs.declared.source.Reading.TheVariants.{Built, NotBuilt}
-use Rattle.nwq_top.specs.Tokens.{symbols, Splits, here, past_gap, past_token, EndsAt, AreTokens}
+use Rattle.nwq_top.specs.Tokens.{symbols, Splits, here, past_gap, past_token, AreTokens}
 use Rattle.nwq_top.specs.Sentence.{spelled, AreSums, IsSentence, IsFront, IsFirstUnfit, IsUnfinished}
-use Rattle.nwq_top.specs.Source.{IsSource, StandsAt, IsRefusal, unfit, at_cut, at_end, IsNotBuilt}
-use Rattle.nwq_top.specs.Reading as reading
-use Rattle.nwq_top.specs.Reading.{scan, fresh, parse, place_in, judged, built, unfinished, reading_of}
+use Rattle.nwq_top.specs.Source.{IsSource, IsRefusal, unfit, at_cut, at_end, IsNotBuilt}
+use Rattle.nwq_top.specs.Reading.{scan, fresh, parse, place_in, judged, reading_of}
 use Rattle.nwq_top.proofs.ScanLemmas.{tokens_sound, tokens_found, places_inside}
 use Rattle.nwq_top.proofs.ParseLemmas.{Means, parse_meant, sentence_parsed}
 

@@ -1,5 +1,5 @@
 -- The loop that decodes a file and runs it, against the machine on the list of its instructions.
-use Rattle.std.proofs.Common.{◌≡◌, ◌≢◌, ℕ, ℤ, pos, zero, suc, ◌+◌, ◌-◌, ◌*◌, ◌%◌, ◌≤◌, ◌<◌, ◌^◌, List, [], ◌∷◌, ◌++◌, length, drop, cond, nat_eq, true, false, Bool, Option, Some, None, refl, sym, ap, ◌∙◌, subst, lit<, Fits, arith, append_assoc, length-append, length-drop, flat_map}
+use Rattle.std.proofs.Common.{◌≡◌, ◌≢◌, ℕ, ℤ, pos, suc, ◌+◌, ◌-◌, ◌*◌, ◌%◌, ◌≤◌, ◌<◌, ◌^◌, List, [], ◌∷◌, ◌++◌, length, drop, cond, nat_eq, true, false, Bool, Option, Some, None, refl, sym, ap, ◌∙◌, subst, lit<, Fits, arith, length-append, flat_map}
 use Rattle.std.proofs.lemmas.Grind.{flat_map-append}
 use Rattle.std.proofs.lemmas.Bool.Decides.{nat_tests}
 use Rattle.std.proofs.Math.Seq.{drop-append-add}
@@ -7,18 +7,17 @@ use Rattle.std.proofs.Math.Facts.{sfits_to_z}
 use Rattle.std.proofs.lemmas.Int.{fits_signed_from_abs}
 use Rattle.std.proofs.Math.Nat.{mod-lt}
 use Rattle.std.specs.Int.{w32, cast_signed}
-use Rattle.ncs_code.specs.Plain.{PlainOp, Int, Const, Action, Add, Jsr, Retn}
+use Rattle.ncs_code.specs.Plain.{PlainOp, Action, Add, Jsr, Retn}
 use Rattle.ncs_code.specs.Spelling.{spelling, signed, two, IsOp}
 use Rattle.nwq_top.specs.declared.machine.Machine.{Machine}
 use Rattle.nwq_top.specs.declared.machine.Next.{Next}
 use Rattle.nwq_top.specs.declared.machine.Next.TheVariants.{Goes, Ends}
 use Rattle.nwq_top.specs.Sentence.{AreSums, spelled, spelled_sum, spelled_print}
-use Rattle.nwq_top.specs.declared.tokens.Symbol.{Symbol}
 use Rattle.nwq_top.specs.declared.tokens.Symbol.TheVariants.{Plus}
 use Rattle.nwq_top.specs.declared.tokens.Symbol.TheVariants as symbol
 use Rattle.nwq_top.specs.Meaning.{prints_of}
 use Rattle.nwq_top.specs.Emission.{push, adds, print_code, code_of, bytes_of, file_start, file_of}
-use Rattle.nwq_top.specs.Machine.{Code, laid, After, GoesOn, HasEnded, Stuck, step_of, Runs, ends, goes, entry, RunsTo}
+use Rattle.nwq_top.specs.Machine.{Code, laid, After, GoesOn, HasEnded, Stuck, step_of, Runs, ends, goes, entry}
 use Rattle.nwq_top.specs.Stepping.{after_of, HasStep}
 use Rattle.nwq_top.proofs.CodeLemmas.{push_row, add_row, call_row, return_row, start_row}
 use Rattle.nwq_top.proofs.MachineLemmas.{spelled_some, code_runs}

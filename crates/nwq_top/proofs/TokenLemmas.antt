@@ -1,5 +1,5 @@
 -- The loops over the bytes of a source, and what they come to.
-use Rattle.std.proofs.Common.{◌≡◌, ℕ, zero, suc, ◌+◌, ◌-◌, ◌*◌, ◌≤◌, ◌<◌, ◌≢◌, List, [], ◌∷◌, ◌++◌, length, take, drop, get_or, cond, true, false, Option, Some, None, option_map, refl, sym, ap, ◌∙◌, subst, arith, add-one, drop-cons, append_assoc, length-drop, length-append}
+use Rattle.std.proofs.Common.{◌≡◌, ℕ, zero, suc, ◌+◌, ◌-◌, ◌*◌, ◌≤◌, ◌<◌, ◌≢◌, List, [], ◌∷◌, ◌++◌, length, drop, get_or, cond, true, false, Option, Some, None, option_map, refl, sym, ap, ◌∙◌, arith, add-one, drop-cons, append_assoc, length-drop, length-append}
 use Rattle.std.proofs.Math.Seq.{drop-drop}
 use Rattle.std.proofs.lemmas.List.{append-nil}
 use Rattle.std.proofs.lemmas.Bool.Decides.{nat_tests}
@@ -8,10 +8,9 @@ use Rattle.nwq_top.specs.declared.tokens.Class.{Class}
 use Rattle.nwq_top.specs.declared.tokens.Placed.{Placed}
 use Rattle.nwq_top.specs.declared.tokens.Scan.{Scan}
 use Rattle.nwq_top.specs.declared.tokens.Symbol.{Symbol}
-use Rattle.nwq_top.specs.declared.tokens.Piece.{Piece}
 use Rattle.nwq_top.specs.declared.tokens.Piece.TheVariants.{Token, Gap, Nothing}
 use Rattle.nwq_top.specs.Tokens.{passes, number_from, digit_worth, begins_with}
-use Rattle.nwq_top.specs.Reading.{run_length, block_end, limited, piece_of, scan, scan_by, stopped, with_token, IsInside}
+use Rattle.nwq_top.specs.Reading.{run_length, block_end, limited, piece_of, scan, stopped, with_token}
 
 -- a byte of the class is one more of the run
 pub run_more : (class : Class) (bytes : List ℕ) (i : ℕ) → i < length bytes → passes class (get_or bytes i 0) ≡ true

@@ -1,13 +1,13 @@
 -- How the parts of a command make up its work.
-use Rattle.std.proofs.Common.{◌≡◌, ℕ, ◌+◌, ◌≤◌, ◌<◌, ◌⊎◌, inl, inr, List, [], ◌∷◌, ◌++◌, length, nat_lt, Bool, true, false, Option, Some, None, MatchOption, MatchBool, Result, Ok, Err, refl, sym, ap, ◌∙◌, subst, arith, append_assoc}
+use Rattle.std.proofs.Common.{◌≡◌, ℕ, ◌<◌, inl, inr, List, [], length, nat_lt, Bool, true, false, Option, Some, None, MatchOption, MatchBool, Result, Ok, Err, refl, sym, ap, subst, arith}
 use Rattle.std.proofs.lemmas.List.{append-nil}
 use Rattle.std.proofs.lemmas.Bool.Decides.{nat_tests}
 use Rattle.std.specs.FinMap as map
 use Rattle.std.specs.Option.{IsSomeAnd}
-use Rattle.nwq_outside.specs.Outside.{Contents, KeepsOthers, TookFront}
+use Rattle.nwq_outside.specs.Outside.{Contents, TookFront}
 use Rattle.nwq_top.specs.declared.status.Status.{Status}
-use Rattle.nwq_top.specs.declared.status.Status.TheVariants.{Done, Words, Script, Code, Area, Limit, Missing, Fault, Memory, Long}
-use Rattle.nwq_top.specs.Work.{Work, Gives, Ends, Reads, Writes, Puts, then, CutsShort, IsCut, Stays, EndsWith, Does, Finished}
+use Rattle.nwq_top.specs.declared.status.Status.TheVariants.{Missing, Long}
+use Rattle.nwq_top.specs.Work.{Work, Gives, Ends, Reads, Writes, Puts, CutsShort, EndsWith, Does, Finished}
 use Rattle.nwq_top.specs.Texts.{missing_line, long_line}
 use Rattle.nwq_top.specs.Playing.{Refuses, PutsWhole}
 

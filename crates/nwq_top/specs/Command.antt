@@ -1,9 +1,9 @@
 -- What each form of words does: the seed of the main theorem.
-use Rattle.std.specs.Prelude.{◌≡◌, ℕ, ℤ, ◌≤◌, List, [], ◌∷◌, ◌++◌, length, codes, Result}
+use Rattle.std.specs.Prelude.{ℕ, ◌≤◌, List, ◌++◌, length, codes, Result}
 use Rattle.nwq_outside.specs.Outside.{Contents}
 use Rattle.nwq_text.specs.Line.{line_number}
 use Rattle.nwq_top.specs.declared.status.Status.{Status}
-use Rattle.nwq_top.specs.declared.status.Status.TheVariants.{Done, Words, Script, Code, Area, Limit, Missing, Fault, Memory, Long}
+use Rattle.nwq_top.specs.declared.status.Status.TheVariants.{Words, Script}
 use Rattle.nwq_top.specs.Work.{Work, Gives, Ends, Reads, Puts, Does, Finished}
 use Rattle.nwq_top.specs.Texts.{words_line, notbuilt_line, trace_text, end_text}
 use Rattle.nwq_top.specs.Words.{Form, Run, NoForm}

@@ -1,5 +1,5 @@
 -- The code of a sentence: a list of instructions, and the bytes of its file.
-use Rattle.std.specs.Prelude.{ℕ, ℤ, pos, ◌+◌, ◌%◌, ◌^◌, List, [], ◌∷◌, ◌++◌, length, flat_map, codes}
+use Rattle.std.specs.Prelude.{ℕ, pos, ◌+◌, ◌%◌, ◌^◌, List, [], ◌∷◌, ◌++◌, length, flat_map, codes}
 use Rattle.std.specs.Int.{w32, cast_signed, to_be_bytes}
 use Rattle.ncs_code.specs.Plain.{PlainOp, Int, Const, Action, Add, Jsr, Retn}
 use Rattle.ncs_code.specs.Spelling.{spelling}

@@ -1,5 +1,5 @@
 -- Statements about the definitions alone. Each stands on the contract of a function of `laws`.
-use Rattle.std.specs.Prelude.{◌≡◌, ℕ, ℤ, ◌≤◌, ◌⊎◌, List, length}
+use Rattle.std.specs.Prelude.{◌≡◌, ℕ, ℤ, ◌⊎◌, List, length}
 use Rattle.ncs_code.specs.Plain.{PlainOp}
 use Rattle.nwq_top.specs.Sentence.{AreSums}
 use Rattle.nwq_top.specs.Source.{IsSource, IsNotBuilt}

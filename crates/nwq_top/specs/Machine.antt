@@ -2,7 +2,7 @@
 -- and what was printed.
 use Rattle.std.specs.Prelude.{◌≡◌, ℕ, ℤ, pos, negsuc, suc, ◌+◌, ◌-◌, ◌^◌, cond, ◌==◌, ◌&&◌, nat_lt, List, [], ◌∷◌, ◌++◌, length, Option, Some, None}
 use Rattle.std.specs.Int.{w32, int_wrapping_add}
-use Rattle.ncs_code.specs.Plain.{PlainOp, PlainLit, Int, Const, Action, Add, Jsr, Retn}
+use Rattle.ncs_code.specs.Plain.{PlainOp, Int, Const, Action, Add, Jsr, Retn}
 use Rattle.ncs_code.specs.Spelling.{spelling}
 use Rattle.nwq_top.specs.declared.machine.Machine.{Machine}
 

@@ -1,7 +1,7 @@
 -- Reading as functions of the bytes, for private clauses and proofs. What they mean is said in Tokens, Sentence and Source.
-use Rattle.std.specs.Prelude.{◌≡◌, ℕ, zero, suc, ◌+◌, ◌-◌, ◌*◌, ◌≤◌, ◌<◌, Bool, true, false, cond, ◌==◌, nat_le, nat_lt, if◌then◌else◌, List, [], ◌∷◌, ◌++◌, length, take, drop, Option, Some, None, option_map, slice_get}
+use Rattle.std.specs.Prelude.{ℕ, zero, suc, ◌+◌, ◌-◌, ◌≤◌, ◌<◌, Bool, true, cond, ◌==◌, nat_le, nat_lt, List, [], ◌∷◌, ◌++◌, length, take, drop, Option, Some, None, option_map, slice_get}
 use Rattle.nwq_top.specs.declared.tokens.Symbol.{Symbol}
-use Rattle.nwq_top.specs.declared.tokens.Symbol.TheVariants.{Void, Main, PrintInteger, OtherWord, Int, Open, Close, OpenBrace, CloseBrace, Semicolon, Plus}
+use Rattle.nwq_top.specs.declared.tokens.Symbol.TheVariants.{Void, Main, PrintInteger, Int, Open, Close, OpenBrace, CloseBrace, Semicolon, Plus}
 use Rattle.nwq_top.specs.declared.sentence.Stage.{Stage}
 use Rattle.nwq_top.specs.declared.sentence.Stage.TheVariants.{AtVoid, AtMain, AtOpen, AtClose, AtBrace, AtPrint, AtArgument, AtFirstInt, AtPlus, AtNextInt, AtSemicolon, AtEnd}
 use Rattle.nwq_top.specs.declared.sentence.Reader.{Reader}

@@ -1,5 +1,5 @@
 -- Which sources are built, and where the others are refused.
-use Rattle.std.specs.Prelude.{◌≡◌, ℕ, ◌+◌, ◌<◌, ◌≤◌, ◌⊎◌, List, length, slice_get, Option, Some, None}
+use Rattle.std.specs.Prelude.{◌≡◌, ℕ, List, length, slice_get, Option, Some, None}
 use Rattle.nwq_top.specs.declared.tokens.Placed.{Placed}
 use Rattle.nwq_top.specs.Tokens.{symbols, AreTokens}
 use Rattle.nwq_top.specs.Sentence.{IsSentence, IsFront, IsFirstUnfit, IsUnfinished}

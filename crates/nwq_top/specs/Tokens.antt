@@ -1,5 +1,5 @@
 -- How the bytes of a source split into tokens, blanks and comments. Nothing here says how they are found.
-use Rattle.std.specs.Prelude.{◌≡◌, ◌≢◌, ℕ, suc, ◌+◌, ◌-◌, ◌*◌, ◌≤◌, Bool, true, false, cond, not, ◌&&◌, ◌||◌, ◌==◌, nat_le, if◌then◌else◌, ◌⊎◌, List, [], ◌∷◌, ◌++◌, length, map, Option, Some, None, codes, bytes_eq}
+use Rattle.std.specs.Prelude.{◌≡◌, ◌≢◌, ℕ, ◌+◌, ◌-◌, ◌*◌, ◌≤◌, Bool, true, false, not, ◌&&◌, ◌||◌, ◌==◌, nat_le, if◌then◌else◌, ◌⊎◌, List, [], ◌∷◌, ◌++◌, length, map, Option, Some, None, codes, bytes_eq}
 use Rattle.nwq_top.specs.declared.tokens.Symbol.{Symbol}
 use Rattle.nwq_top.specs.declared.tokens.Symbol.TheVariants.{Void, Main, PrintInteger, OtherWord, Int, Open, Close, OpenBrace, CloseBrace, Semicolon, Plus}
 use Rattle.nwq_top.specs.declared.tokens.Placed.{Placed}

@@ -1,9 +1,9 @@
 -- The work of a command in order, and what it is to do it. A further command is one more value of this.
-use Rattle.std.specs.Prelude.{◌≡◌, ℕ, ◌⊎◌, List, [], ◌∷◌, ◌++◌, length, nat_lt, Option, MatchOption, MatchBool, Result, Ok, Err}
+use Rattle.std.specs.Prelude.{◌≡◌, ℕ, ◌⊎◌, List, ◌++◌, length, nat_lt, MatchOption, MatchBool, Result, Ok, Err}
 use Rattle.std.specs.FinMap as map
 use Rattle.nwq_outside.specs.Outside.{Contents, KeepsOthers, TookFront}
 use Rattle.nwq_top.specs.declared.status.Status.{Status}
-use Rattle.nwq_top.specs.declared.status.Status.TheVariants.{Done, Words, Script, Code, Area, Limit, Missing, Fault, Memory, Long}
+use Rattle.nwq_top.specs.declared.status.Status.TheVariants.{Done, Missing, Fault, Memory, Long}
 use Rattle.nwq_top.specs.Texts.{missing_line, long_line}
 
 -- the work of a command, or of a part of one that gives an A. What is read decides what comes next

@@ -1,6 +1,5 @@
-use Rattle.std.proofs.Common.{◌≡◌, ℕ, List, map, string_bytes, Err, refl, ap, sym, ◌∙◌, subst, codes}
+use Rattle.std.proofs.Common.{Err, sym, subst}
 use Rattle.nwq_top.specs.declared.status.Status.TheVariants.{Words}
-use Rattle.nwq_top.specs.Words.{form_of, NoForm, Run}
 use Rattle.nwq_top.specs.Texts.{words_line}
 use Rattle.nwq_top.specs.Command.{DoesWorkOf, no_form}
 use Rattle.nwq_top.specs.Playing.{run_work}

@@ -1,5 +1,4 @@
-use Rattle.std.proofs.Common.{◌≡◌, ℕ, List, ◌∙◌, sym, subst, arith}
-use Rattle.nwq_top.specs.Emission.{code_of, file_of}
+use Rattle.std.proofs.Common.{◌∙◌, sym, subst, arith}
 use Rattle.nwq_top.proofs.StepLemmas.{SoFar, Turned, at_start, file_small, file_bounded, count_bounded, has_step, turned}
 use Rattle.nwq_top.proofs.machine.play.Goals as goal
 

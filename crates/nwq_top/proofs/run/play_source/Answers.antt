@@ -1,5 +1,4 @@
-use Rattle.std.proofs.Common.{◌≡◌, ◌≤◌, ℕ, List, ◌++◌, length, IfOk, ap, sym, ◌∙◌, subst, arith}
-use Rattle.nwq_top.specs.declared.source.Reading.TheVariants.{Built, NotBuilt}
+use Rattle.std.proofs.Common.{◌≡◌, ◌≤◌, ℕ, List, ◌++◌, length, IfOk, sym, ◌∙◌, subst, arith}
 use Rattle.nwq_top.specs.Work.{Does, Finished}
 use Rattle.nwq_top.specs.Sentence.{AreSums, spelled}
 use Rattle.nwq_top.specs.Texts.{trace_text, end_text}

@@ -1,4 +1,4 @@
-use Rattle.std.proofs.Common.{◌≡◌, ℕ, List, Ok, Err, refl, ap, sym, ◌∙◌, subst}
+use Rattle.std.proofs.Common.{◌≡◌, ℕ, List, Ok, Err, ◌∙◌, subst}
 use Rattle.nwq_outside.specs.Outside.{Contents}
 use Rattle.nwq_top.specs.Work.{Does, Reads, Gives, Finished}
 use Rattle.nwq_top.specs.Command.{source_name}

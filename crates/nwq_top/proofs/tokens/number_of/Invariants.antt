@@ -1,5 +1,3 @@
-use Rattle.std.proofs.Common.{◌≡◌, ◌≤◌, drop}
-use Rattle.nwq_top.specs.Tokens.{number_from}
 use Rattle.nwq_top.proofs.TokenLemmas.{IsNumberSoFar}
 use Rattle.nwq_top.proofs.tokens.number_of.Given as goal
 
