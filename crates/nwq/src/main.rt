@@ -4,7 +4,7 @@
 use nwq_outside::{RealFiles, RealSink};
 use nwq_top::{Status, nwq_main};
 use std::env;
-use std::io;
+use std::io::{self, ErrorKind};
 use std::process::ExitCode;
 
 /// The words after the program's name.
@@ -17,7 +17,12 @@ fn words_after_name(rt: &HostRuntime) -> io::Result<Vec<String>> {
 }
 
 fn run(rt: HostRuntime) -> io::Result<Status> {
-    let words = words_after_name(&rt)?;
+    let words = match words_after_name(&rt) {
+        Ok(words) => words,
+        Err(error) if error.kind() == ErrorKind::OutOfMemory => return Err(error),
+        // Words that are no text are no form of a command, as no words are.
+        Err(_) => Vec::new(rt.alloc()),
+    };
     let mut files = RealFiles::new(rt.clone()?);
     let mut out = RealSink::new(rt.stdout());
     Ok(nwq_main(rt.alloc(), words.as_slice(), &mut files, &mut out))
