@@ -1,7 +1,7 @@
 -- Numbers as the bytes that they were read from.
 use Rattle.std.proofs.Common.{◌≡◌, ◌++◌, ◌+◌, ◌-◌, ◌<◌, ◌≤◌, ◌^◌, ℕ, zero, suc, List, [], ◌∷◌, length, take, drop, get_or, refl, ap, sym, ◌∙◌, arith, ltb, false, inl, inr}
 use Rattle.std.proofs.Math.Seq.{take-append_seam, take-add}
-use Rattle.std.specs.Int.{w16, w32, to_be_bytes, from_be_bytes, cast_signed, cast_unsigned}
+use Rattle.std.specs.Int.{w16, w32, to_be_bytes, from_be_bytes, cast_signed}
 use Rattle.std.proofs.lemmas.Int.{of_z-to_z}
 use Rattle.std.proofs.lemmas.Bool.{le-ltb, cases_lt}
 use Rattle.std.proofs.lemmas.Nat.{be_bytes_2, be_bytes_4}

@@ -1,4 +1,4 @@
-use Rattle.std.proofs.Common.{◌≡◌, ◌∷◌, ℕ, List, take, refl, ap, sym, subst}
+use Rattle.std.proofs.Common.{◌≡◌, ◌∷◌, ℕ, List, take, refl, subst}
 use Rattle.std.specs.Prelude.{IsTrue}
 use Rattle.std.proofs.lemmas.Bool.{eqb-true}
 use Rattle.ncs_code.specs.Spelling.{has_type, args_size}

@@ -1,12 +1,10 @@
 -- Where an instruction is spelled, each test of its row holds.
-use Rattle.std.proofs.Common.{◌≡◌, ◌+◌, ◌*◌, ◌<◌, ◌≤◌, ◌^◌, ℕ, ℤ, List, [], ◌∷◌, ◌++◌, length, Bool, true, false, not, cond, eqb, ltb, leb, refl, sym, ap, ◌∙◌, arith, Option, Some, None, append_assoc}
-use Rattle.std.specs.Prelude.{IsTrue}
-use Rattle.std.specs.Int.{w16, to_be_bytes, from_be_bytes}
+use Rattle.std.proofs.Common.{◌≡◌, ◌+◌, ◌<◌, ◌≤◌, ◌^◌, ℕ, List, [], ◌∷◌, ◌++◌, length, true, false, cond, eqb, ltb, refl, arith, None}
 use Rattle.std.proofs.lemmas.Bool.{le-ltb}
 use Rattle.std.proofs.lemmas.List.{length-append}
 use Rattle.std.proofs.lemmas.Nat.{from_be_bytes-to_be_bytes_2}
 use Rattle.ncs_code.specs.Plain.{PlainLit, PlainOp, Int, Float, Text, Object, CpDownSp, RsAdd, CpTopSp, Const, Action, LogAnd, LogOr, IncOr, ExcOr, BoolAnd, Equal, Nequal, Geq, Gt, Lt, Leq, ShLeft, ShRight, UshRight, Add, Sub, Mul, Div, Mod, Neg, Comp, MovSp, Jmp, Jsr, Jz, Retn, Destruct, Not, DecISp, IncISp, Jnz, CpDownBp, CpTopBp, DecIBp, IncIBp, SaveBp, RestoreBp, StoreState, Nop}
-use Rattle.ncs_code.specs.Spelling.{two, four, signed, run_size, lit_spelling, spelling, is_opcode, has_type, args_size, lit_size, first_two, fault_of, HasSizes, HasTextSize, IsOp, LitFits}
+use Rattle.ncs_code.specs.Spelling.{two, four, signed, run_size, spelling, is_opcode, has_type, args_size, lit_size, first_two, fault_of, HasTextSize, IsOp, LitFits}
 
 -- the three tests
 enough : (code kind : ℕ) (xs rest : List ℕ) → is_opcode code ≡ true → has_type code kind ≡ true → args_size code kind (xs ++ rest) ≤ length xs → fault_of (code ∷ kind ∷ (xs ++ rest)) ≡ None

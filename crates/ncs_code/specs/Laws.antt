@@ -1,5 +1,5 @@
 -- What holds of spellings by themselves.
-use Rattle.std.specs.Prelude.{◌≡◌, ◌≤◌, List, ℕ, ◌++◌, length, Option, None}
+use Rattle.std.specs.Prelude.{◌≡◌, ◌≤◌, List, ℕ, ◌++◌, length, None}
 use Rattle.ncs_code.specs.Plain.{PlainOp}
 use Rattle.std.specs.List.{AllByRecursion}
 use Rattle.ncs_code.specs.Spelling.{spelling, IsOp, fault_of}

@@ -1,5 +1,5 @@
 -- The one spelling of each instruction: opcode, type byte, big-endian arguments.
-use Rattle.std.specs.Prelude.{◌≡◌, ◌≢◌, ℕ, ℤ, ◌+◌, ◌<◌, ◌≤◌, ◌^◌, List, [], ◌∷◌, ◌++◌, length, Bool, true, false, not, ◌&&◌, ◌||◌, ◌==◌, nat_lt, nat_le, if◌then◌else◌, IsTrue, Option, Some, None, All, drop, FitsSigned, ◌*◌, slice_index}
+use Rattle.std.specs.Prelude.{◌≡◌, ◌≢◌, ℕ, ℤ, ◌+◌, ◌<◌, ◌^◌, List, [], ◌∷◌, ◌++◌, length, Bool, false, not, ◌&&◌, ◌||◌, ◌==◌, nat_lt, nat_le, if◌then◌else◌, IsTrue, Option, Some, None, All, drop, FitsSigned, ◌*◌, slice_index}
 use Rattle.std.specs.Int.{w16, w32, to_be_bytes, cast_unsigned}
 use Rattle.ncs_code.specs.declared.fault.CodeFault.{CodeFault}
 use Rattle.ncs_code.specs.declared.fault.CodeFault.TheVariants.{Opcode, TypeByte, Short}
