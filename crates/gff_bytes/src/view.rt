@@ -157,6 +157,14 @@ impl<'a> View<'a> {
         [bytes[0], bytes[1], bytes[2], bytes[3]]
     }
 
+    /// How many structs the file has.
+    #[tactic(auto, using(crate::proofs::FileLemmas::header_fits))]
+    pub fn struct_count(&self) -> u32
+        ensures { result ≡ count_of self.now Part.Struct }
+    {
+        count(self.bytes, Part::Struct)
+    }
+
     #[tactic(auto, unfolding(crate::specs::File::struct_row), using(crate::proofs::FileLemmas::header_fits, crate::proofs::FileLemmas::struct_fits))]
     pub fn struct_at(&self, n: u32) -> Result<StructRow, Range>
         ensures { result ≡ struct_row self.now n }
