@@ -167,7 +167,8 @@ impl<'a> View<'a> {
 
     #[tactic(auto, unfolding(crate::specs::File::struct_row), using(crate::proofs::FileLemmas::header_fits, crate::proofs::FileLemmas::struct_fits))]
     pub fn struct_at(&self, n: u32) -> Result<StructRow, Range>
-        ensures { result ≡ struct_row self.now n }
+        ensures row { result ≡ struct_row self.now n }
+        ensures inside { OnOk result (n < count_of self.now Part.Struct) }
     {
         let bytes = self.bytes;
         if n >= count(bytes, Part::Struct) {
@@ -206,7 +207,8 @@ impl<'a> View<'a> {
     /// The sixteen bytes of a label, its filling included.
     #[tactic(auto, unfolding(crate::specs::File::label_row), using(crate::proofs::FileLemmas::header_fits, crate::proofs::FileLemmas::label_fits))]
     pub fn label_at(&self, n: u32) -> Result<&'a [u8], Range>
-        ensures { MatchResult result (λ part. label_row self.now n ≡ Ok part.now) (λ e. label_row self.now n ≡ Err e) }
+        ensures bytes { MatchResult result (λ part. label_row self.now n ≡ Ok part.now) (λ e. label_row self.now n ≡ Err e) }
+        ensures length { IfOk result (λ part. length part.now ≡ 16) }
     {
         let bytes = self.bytes;
         if n >= count(bytes, Part::Label) {

@@ -5,6 +5,7 @@ use Rattle.std.specs.Str.{bytes_eq}
 use Rattle.gff_tree.specs.declared.tree.Loc.{Loc}
 use Rattle.gff_tree.specs.declared.tree.Leaf as leaf
 use Rattle.gff_tree.specs.declared.tree.Leaf.{Leaf, Row_of-Node, end_of-Node, more_of-Node}
+use Rattle.gff_tree.specs.declared.tree.Field.{Field}
 use Rattle.gff_tree.specs.declared.tree.Node.{Node, Node', Row_of-Field, end_of-Field, more_of-Field}
 
 -- what a field holds that holds no struct; a float is the list of its bytes
@@ -74,6 +75,21 @@ abbrev mutual
   pub plain_nodes : {m : _} → Row_of-Node m → PlainNodes
   plain_nodes end_of-Node = NoNode
   plain_nodes (more_of-Node node rest) = MoreNodes (plain_node node) (plain_nodes rest)
+
+-- fields and structs of vectors, before those that follow
+abbrev pub front_fields : List Field → PlainFields → PlainFields
+front_fields [] rest = rest
+front_fields (field ∷ fields) rest = MoreFields field.label (plain_leaf field.leaf) (front_fields fields rest)
+
+abbrev pub front_nodes : List Node → PlainNodes → PlainNodes
+front_nodes [] rest = rest
+front_nodes (node ∷ nodes) rest = MoreNodes (plain_node node) (front_nodes nodes rest)
+
+abbrev pub fields_list : List Field → PlainFields
+fields_list fields = front_fields fields NoField
+
+abbrev pub nodes_list : List Node → PlainNodes
+nodes_list nodes = front_nodes nodes NoNode
 
 -- does each item differ from those before it and from these first ones, by this test?
 abbrev pub differ_after : {X : Type 0} → (X → X → Bool) → List X → List X → Bool

@@ -1,4 +1,5 @@
 ghost use Rattle.std.specs.Prelude.{◌≡◌, ◌≤◌, length, false};
+ghost use Rattle.std.specs.Str.{bytes_eq};
 ghost use Rattle.gff_tree.specs.Label.{has_zero, label_of, label_text};
 
 use std::marker::Model;
@@ -85,5 +86,12 @@ impl Label {
         ensures no_zero { has_zero self.now ≡ false }
     {
         &self.bytes[..self.len]
+    }
+
+    /// Whether two labels have the same bytes.
+    pub fn same(&self, other: &Label) -> bool
+        ensures { result ≡ bytes_eq self.now other.now }
+    {
+        self.bytes() == other.bytes()
     }
 }

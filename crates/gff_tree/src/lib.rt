@@ -5,12 +5,15 @@
 //! that bytes stand for such a tree, by the types of the fields.
 #![tactic(auto)]
 
+mod budget;
 mod fault;
 mod kind;
 mod label;
+mod read;
 mod row;
 mod scalar;
 mod tree;
+mod walk;
 
 pub use fault::TreeFault;
 pub use label::{LABEL_BYTES, Label};
