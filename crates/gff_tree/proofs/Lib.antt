@@ -1,2 +1,6 @@
 pub mod RowLemmas
 pub mod WalkLemmas
+pub mod Steps
+pub mod ScalarLaws
+pub mod RowLaws
+pub mod WalkLaws

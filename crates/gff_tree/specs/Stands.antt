@@ -20,8 +20,8 @@ abbrev pub NumberStands : List ℕ → ℕ → ℕ → ℕ → Type 0
 NumberStands bytes place width n = (read : List ℕ) × (data_at bytes place width ≡ Ok read) × (n ≡ number_in width read)
 
 -- a length of so many bytes, and a text of that length behind it
-abbrev pub CountedStands : List ℕ → ℕ → ℕ → List ℕ → Type 0
-CountedStands bytes place width text = (count : ℕ) × NumberStands bytes place width count × (data_at bytes (place + width) count ≡ Ok text)
+abbrev pub CountedStands : List ℕ → ℕ → ℕ → ℕ → List ℕ → Type 0
+CountedStands bytes place width count text = NumberStands bytes place width count × (data_at bytes (place + width) count ≡ Ok text)
 
 -- texts in a row, each behind its number and its length; bytes may follow them. A length whose sign is set
 -- is greater than any file.
@@ -50,10 +50,10 @@ ScalarStands bytes kind.Dword64 word s = (n : ℕ) × NumberStands bytes word 8 
 ScalarStands bytes kind.Int64 word s = (n : ℕ) × NumberStands bytes word 8 n × (s ≡ tree.Int64 (cast_signed w64 n))
 ScalarStands bytes kind.Float word s = s ≡ tree.Float (to_le_bytes w32 word)
 ScalarStands bytes kind.Double word s = (bits : List ℕ) × (data_at bytes word 8 ≡ Ok bits) × (s ≡ tree.Double bits)
-ScalarStands bytes kind.Str word s = (text : List ℕ) × CountedStands bytes word 4 text × (s ≡ tree.Str text)
-ScalarStands bytes kind.Res word s = (text : List ℕ) × CountedStands bytes word 1 text × (length text ≤ 16) × (s ≡ tree.Res text)
-ScalarStands bytes kind.Loc word s = (body : List ℕ) × (loc : Loc) × CountedStands bytes word 4 body × LocalizedStands body loc × (s ≡ tree.Localized loc)
-ScalarStands bytes kind.Void word s = (text : List ℕ) × CountedStands bytes word 4 text × (s ≡ tree.Void text)
+ScalarStands bytes kind.Str word s = (count : ℕ) × (text : List ℕ) × CountedStands bytes word 4 count text × (s ≡ tree.Str text)
+ScalarStands bytes kind.Res word s = (count : ℕ) × (text : List ℕ) × CountedStands bytes word 1 count text × (count ≤ 16) × (s ≡ tree.Res text)
+ScalarStands bytes kind.Loc word s = (count : ℕ) × (body : List ℕ) × (loc : Loc) × CountedStands bytes word 4 count body × LocalizedStands body loc × (s ≡ tree.Localized loc)
+ScalarStands bytes kind.Void word s = (count : ℕ) × (text : List ℕ) × CountedStands bytes word 4 count text × (s ≡ tree.Void text)
 ScalarStands bytes kind.Struct word s = ⊥
 ScalarStands bytes kind.List word s = ⊥
 

@@ -10,12 +10,13 @@ use crate::fault::TreeFault;
 use crate::tree::Gff;
 use crate::walk::read_node;
 use gff_bytes::View;
+use nwq_value::NoMemory;
 use std::alloc::Global;
 
 /// How deep a struct is at most, the top being 1 deep.
 const DEPTH: u8 = 64;
 
-fn marks(alloc: Global, view: &View<'_>) -> Result<Vec<bool>, TreeFault>
+fn marks(alloc: Global, view: &View<'_>) -> Result<Vec<bool>, NoMemory>
     ensures { IfOk result (λ marks. marks.items ≡ replicate (struct_count view.now) false) }
 {
     let count = view.struct_count() as usize;
