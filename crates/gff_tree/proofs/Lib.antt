@@ -4,3 +4,5 @@ pub mod Steps
 pub mod ScalarLaws
 pub mod RowLaws
 pub mod WalkLaws
+pub mod SoundLaws
+pub mod TreeLaws

@@ -110,7 +110,8 @@ row_stands bytes rows field row e =
     let g = guard_ok (has_label rows (label_text l.0)) _ _ row l.2 in
     let s = bind_ok (shape_for bytes field k.0 b.0.word) (λ holds. Ok (record { label = label_text l.0; shape = holds })) row g.1 in
     let made : PlainRow = record { label = label_text l.0; shape = s.0 } in
-    let stands : RowStands bytes field made × (has_label rows made.label ≡ false) = (record {
+    let stands : RowStands bytes field made × (has_label rows made.label ≡ false) = (
+      record {
         entry = b.0;
         of_kind = k.0;
         name = l.0;
@@ -119,7 +120,9 @@ row_stands bytes rows field row e =
         name-is = placed_ok (label_row bytes b.0.label) l.0 l.1;
         label = refl;
         shape = shape_stands bytes field k.0 b.0.word s.0 s.1;
-      }, g.0) in
+      },
+      g.0,
+    ) in
     subst (λ (r : PlainRow). RowStands bytes field r × (has_label rows r.label ≡ false)) (ok_is made row s.2) stands
 
 row_read : (bytes : List ℕ) (rows : List PlainRow) (field : ℕ) (row : PlainRow) → RowStands bytes field row → has_label rows row.label ≡ false → row_for bytes rows field ≡ Ok row
@@ -141,9 +144,13 @@ rows_stand bytes entry i (suc n) front all e =
     let here = row_stands bytes front b.0 r.0 r.1 in
     let rest = rows_stand bytes entry (i + 1) n (front ++ r.0 ∷ []) all r.2 in
     let grown : labels (front ++ r.0 ∷ []) ≡ labels front ++ r.0.label ∷ [] = map_push _ front r.0 in
-    let differ : differ_after bytes_eq (labels front ++ r.0.label ∷ []) (labels rest.0) ≡ true = subst (λ (ls : List (List ℕ)). differ_after bytes_eq ls (labels rest.0) ≡ true) grown rest.4 in
-    (r.0 ∷ rest.0, rest.1 ∙ append_assoc front (r.0 ∷ []) rest.0, ap suc rest.2,
-     (b.0, placed_ok (field_number bytes entry i) b.0 b.1, here.0, rest.3), rw (here.1, differ) refl)
+    let differ : differ_after bytes_eq (labels front ++ r.0.label ∷ []) (labels rest.0) ≡ true = subst (λ (ls : List (List ℕ)). differ_after bytes_eq ls (labels rest.0) ≡ true) grown rest.4 in (
+      r.0 ∷ rest.0,
+      rest.1 ∙ append_assoc front (r.0 ∷ []) rest.0,
+      ap suc rest.2,
+      (b.0, placed_ok (field_number bytes entry i) b.0 b.1, here.0, rest.3),
+      rw (here.1, differ) refl,
+    )
 
 fresh_of : (same rest : Bool) → (not same && rest) ≡ true → (same ≡ false) × (rest ≡ true)
 fresh_of true rest e = absurd cc

@@ -49,8 +49,8 @@ pub words_end : (e : TreeFault) (bytes : List ℕ) (place k j : ℕ) (front : Li
     with_front front (words_from bytes place k) ≡ whole → k ≡ suc j → Fails e (placed (list_word bytes place)) → Fails e whole
 words_end e bytes place k j front whole before more here =
     fault_of e (placed (list_word bytes place)) whole here (λ failed.
-        (let at : with_front front (words_from bytes place (suc j)) ≡ whole = subst (λ (i : ℕ). with_front front (words_from bytes place i) ≡ whole) more before in
-        sym (rw failed at at)))
+    (let at : with_front front (words_from bytes place (suc j)) ≡ whole = subst (λ (i : ℕ). with_front front (words_from bytes place i) ≡ whole) more before in
+    sym (rw failed at at)))
 
 -- one more field is read
 pub rows_step : (bytes : List ℕ) (row : StructRow) (i k j field : ℕ) (front now : List PlainRow) (next : PlainRow) (whole : Result (List PlainRow) TreeFault) →
@@ -67,12 +67,12 @@ pub rows_end : (e : TreeFault) (bytes : List ℕ) (row : StructRow) (i k j : ℕ
     rows_from bytes row i k front ≡ whole → k ≡ suc j → Fails e (placed (field_number bytes row i)) → Fails e whole
 rows_end e bytes row i k j front whole before more here =
     fault_of e (placed (field_number bytes row i)) whole here (λ failed.
-        (let at : rows_from bytes row i (suc j) front ≡ whole = subst (λ (m : ℕ). rows_from bytes row i m front ≡ whole) more before in
-        sym (rw failed at at)))
+    (let at : rows_from bytes row i (suc j) front ≡ whole = subst (λ (m : ℕ). rows_from bytes row i m front ≡ whole) more before in
+    sym (rw failed at at)))
 
 pub rows_stop : (e : TreeFault) (bytes : List ℕ) (row : StructRow) (i k j field : ℕ) (front : List PlainRow) (whole : Result (List PlainRow) TreeFault) →
     rows_from bytes row i k front ≡ whole → k ≡ suc j → placed (field_number bytes row i) ≡ Ok field → Fails e (row_for bytes front field) → Fails e whole
 rows_stop e bytes row i k j field front whole before more numbered here =
     fault_of e (row_for bytes front field) whole here (λ failed.
-        (let at : rows_from bytes row i (suc j) front ≡ whole = subst (λ (m : ℕ). rows_from bytes row i m front ≡ whole) more before in
-        sym (rw (numbered, failed) at at)))
+    (let at : rows_from bytes row i (suc j) front ≡ whole = subst (λ (m : ℕ). rows_from bytes row i m front ≡ whole) more before in
+    sym (rw (numbered, failed) at at)))

@@ -99,7 +99,7 @@ fields_step one front now row rows rest marks after field whole before more read
     let at : with_fields front (fields_at one (row ∷ rest) marks) ≡ whole = subst (λ (rs : List PlainRow). with_fields front (fields_at one rs marks) ≡ whole) more before in
     let opened : with_fields front (fields_at one rest after >>= λ r. Ok (MoreFields row.label (plain_leaf field.leaf) r.0, r.1)) ≡ whole = rw read at at in
     let named : with_fields front (fields_at one rest after >>= λ r. Ok (MoreFields field.label (plain_leaf field.leaf) r.0, r.1)) ≡ whole =
-        subst (λ (l : List ℕ). with_fields front (fields_at one rest after >>= λ r. Ok (MoreFields l (plain_leaf field.leaf) r.0, r.1)) ≡ whole) label opened in
+    subst (λ (l : List ℕ). with_fields front (fields_at one rest after >>= λ r. Ok (MoreFields l (plain_leaf field.leaf) r.0, r.1)) ≡ whole) label opened in
     rw grown (shift_fields front field (fields_at one rest after) ∙ named)
 
 pub nodes_step : (one : Reading) (front now : List Node) (n : ℕ) (ns rest : List ℕ) (marks after : Marks) (node : Node) (whole : Result (PlainNodes × Marks) TreeFault) →

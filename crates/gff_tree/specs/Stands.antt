@@ -138,3 +138,7 @@ pub record Stands (bytes : List ℕ) (gff : PlainGff) : Type 0 where
   pub file_type : gff.file_type ≡ take 4 bytes
   pub top : NodeStands 64 bytes 0 gff.top uses
   pub distinct : IsTrue (are_distinct nat_eq uses)
+
+-- bytes stand for one tree at most
+abbrev pub OneTree : Type 0
+OneTree = (bytes : List ℕ) (first second : PlainGff) → Stands bytes first → Stands bytes second → first ≡ second

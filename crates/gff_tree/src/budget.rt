@@ -32,7 +32,9 @@ pub fn data_bytes(leaf: &Leaf) -> u64 {
         Leaf::Loc(loc) => {
             let mut bytes: u64 = 12;
             for part in loc.parts.as_slice() {
-                bytes = bytes.saturating_add(8).saturating_add(part.text.len() as u64);
+                bytes = bytes
+                    .saturating_add(8)
+                    .saturating_add(part.text.len() as u64);
             }
             bytes
         }

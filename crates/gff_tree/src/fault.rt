@@ -68,7 +68,10 @@ impl fmt::Display for TreeFault {
             TreeFault::Kind(n) => write!(f, "field {n} has no type of the format"),
             TreeFault::Shared(n) => write!(f, "struct {n} is used twice"),
             TreeFault::Deep(n) => write!(f, "struct {n} is too deep"),
-            TreeFault::Label(n) => write!(f, "field {n} has the label of an earlier field of its struct"),
+            TreeFault::Label(n) => write!(
+                f,
+                "field {n} has the label of an earlier field of its struct"
+            ),
             TreeFault::NoMemory => f.write_str("out of memory"),
         }
     }

@@ -9,12 +9,14 @@ mod budget;
 mod fault;
 mod kind;
 mod label;
-mod read;
+mod reading;
 mod row;
 mod scalar;
 mod tree;
 mod walk;
 
+pub use budget::TREE_BYTES;
 pub use fault::TreeFault;
 pub use label::{LABEL_BYTES, Label};
+pub use reading::{one_tree, read};
 pub use tree::{Blob, Field, Gff, Leaf, Loc, LocPart, Node, Parts};

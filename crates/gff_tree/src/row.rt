@@ -39,7 +39,13 @@ fn list_word(view: &View<'_>, place: u32) -> Result<u32, TreeFault>
 }
 
 /// So many numbers of the list indices.
-fn read_words(alloc: Global, view: &View<'_>, place: u32, count: u32, left: &mut u64) -> Result<Vec<u32>, TreeFault>
+fn read_words(
+    alloc: Global,
+    view: &View<'_>,
+    place: u32,
+    count: u32,
+    left: &mut u64,
+) -> Result<Vec<u32>, TreeFault>
     requires { place ≤ FILE_BYTES }
     ensures { Gives (λ words. words.items) result (words_from view.now place count) }
 {
@@ -55,7 +61,13 @@ fn read_words(alloc: Global, view: &View<'_>, place: u32, count: u32, left: &mut
 }
 
 #[tactic(auto, unfolding(crate::specs::Rows::shape_for))]
-fn list_shape(alloc: Global, view: &View<'_>, field: u32, word: u32, left: &mut u64) -> Result<Shape, TreeFault>
+fn list_shape(
+    alloc: Global,
+    view: &View<'_>,
+    field: u32,
+    word: u32,
+    left: &mut u64,
+) -> Result<Shape, TreeFault>
     ensures { Gives plain_shape result (shape_for view.now field Kind.List word) }
 {
     let count = list_word(view, word)?;
@@ -97,7 +109,13 @@ fn is_used(rows: &[Row], label: &Label) -> bool
 
 /// A field of a struct whose earlier fields are these rows.
 #[tactic(auto, unfolding(crate::specs::Rows::row_for))]
-fn read_row(alloc: Global, view: &View<'_>, rows: &[Row], field: u32, left: &mut u64) -> Result<Row, TreeFault>
+fn read_row(
+    alloc: Global,
+    view: &View<'_>,
+    rows: &[Row],
+    field: u32,
+    left: &mut u64,
+) -> Result<Row, TreeFault>
     ensures { Gives plain_row result (row_for view.now (map plain_row rows.now) field) }
 {
     let entry = view.field_at(field)?;
@@ -132,7 +150,12 @@ fn number(view: &View<'_>, entry: StructRow, i: u32) -> Result<u32, TreeFault>
 
 /// All fields of a struct.
 #[tactic(auto, unfolding(crate::specs::Rows::rows_of))]
-pub fn read_rows(alloc: Global, view: &View<'_>, entry: StructRow, left: &mut u64) -> Result<Vec<Row>, TreeFault>
+pub fn read_rows(
+    alloc: Global,
+    view: &View<'_>,
+    entry: StructRow,
+    left: &mut u64,
+) -> Result<Vec<Row>, TreeFault>
     ensures { Gives (λ rows. map plain_row rows.items) result (rows_of view.now entry) }
 {
     let mut rows = Vec::new(alloc);

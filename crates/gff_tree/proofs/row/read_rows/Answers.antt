@@ -10,14 +10,14 @@ unfolding rows_of
 returns-in_err-field c =
     let p = err_from_is_err_and c.from_residual.result c.from_residual.ensures.1 in
     rw (p.1, p.2) (rows_end c.in_err-field.field-0.0 c.args.view.now c.args.entry c.loop-i.i (c.args.entry.count - c.loop-i.i) (c.args.entry.count - (c.loop-i.i + 1)) (map plain_row c.loop-i.rows.items) _
-        c.loop-i.invariant.read (omega arith) c.in_err-field.ensures.number)
+    c.loop-i.invariant.read (omega arith) c.in_err-field.ensures.number)
 
 pub returns-in_err-next : goal.returns-in_err-next
 unfolding rows_of
 returns-in_err-next c =
     let p = err_from_is_err_and c.from_residual-in_err-next.result c.from_residual-in_err-next.ensures.1 in
     rw (p.1, p.2) (rows_stop c.in_err-next.field-0.0 c.args.view.now c.args.entry c.loop-i.i (c.args.entry.count - c.loop-i.i) (c.args.entry.count - (c.loop-i.i + 1)) c.in_ok-field.field (map plain_row c.loop-i.rows.items) _
-        c.loop-i.invariant.read (omega arith) c.in_ok-field.ensures.number (rw c.deref.ensures.value at c.in_err-next.ensures))
+    c.loop-i.invariant.read (omega arith) c.in_ok-field.ensures.number (rw c.deref.ensures.value at c.in_err-next.ensures))
 
 pub loop-i-preserved : goal.loop-i-preserved
 loop-i-preserved c =

@@ -14,4 +14,4 @@ pub returns-in_err-word : goal.returns-in_err-word
 returns-in_err-word c =
     let p = err_from_is_err_and c.from_residual.result c.from_residual.ensures.1 in
     rw (p.1, p.2) (words_end c.in_err-word.field-0.0 c.args.view.now c.loop-done.at (c.args.count - c.loop-done._done) (c.args.count - (c.loop-done._done + 1)) c.loop-done.words.items _
-        c.loop-done.invariant.read (omega arith) c.in_err-word.ensures.word)
+    c.loop-done.invariant.read (omega arith) c.in_err-word.ensures.word)

@@ -22,12 +22,12 @@ pub read_node-returns-in_err-fields : goal.read_node-returns-in_err-fields
 read_node-returns-in_err-fields t c =
     let p = err_from_is_err_and c.from_residual-in_err-fields.result c.from_residual-in_err-fields.ensures.1 in
     rw (p.1, p.2) (node_fields_fail c.in_err-fields.field-0.0 c.args.depth c.args.view.now c.args.n c.args.marks.now c.in_ok-entry.entry (map plain_row c.in_ok-rows.rows.items)
-        c.in_ok-entry.ensures.row c.in_ok-rows.ensures c.in_err-fields.ensures)
+    c.in_ok-entry.ensures.row c.in_ok-rows.ensures c.in_err-fields.ensures)
 
 pub read_node-returns : goal.read_node-returns
 read_node-returns t c =
     node_made c.args.depth c.args.view.now c.args.n c.args.marks.now _ c.in_ok-entry.entry (map plain_row c.in_ok-rows.rows.items) (fields_list c.in_ok-fields.fields.items) _
-        c.in_ok-entry.ensures.row c.in_ok-rows.ensures c.in_ok-fields.ensures c.node_of.ensures
+    c.in_ok-entry.ensures.row c.in_ok-rows.ensures c.in_ok-fields.ensures c.node_of.ensures
 
 pub read_fields-loop-row-preserved : goal.read_fields-loop-row-preserved
 read_fields-loop-row-preserved t c =
