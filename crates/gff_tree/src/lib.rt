@@ -20,3 +20,6 @@ pub use fault::TreeFault;
 pub use label::{LABEL_BYTES, Label};
 pub use reading::{one_tree, read};
 pub use tree::{Blob, Field, Gff, Leaf, Loc, LocPart, Node, Parts};
+
+#[cfg(test)]
+mod tests;

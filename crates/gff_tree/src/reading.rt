@@ -26,7 +26,7 @@ fn marks(alloc: Global, view: &View<'_>) -> Result<Vec<bool>, NoMemory>
 
 /// The tree of a file, if its size stays within so many bytes.
 #[tactic(auto, unfolding(crate::specs::Walk::tree_of))]
-fn read_within(alloc: Global, view: &View<'_>, bytes: u64) -> Result<Gff, TreeFault>
+pub(crate) fn read_within(alloc: Global, view: &View<'_>, bytes: u64) -> Result<Gff, TreeFault>
     ensures found { IfOk result (λ gff. Stands view.now (plain_gff gff)) }
     ensures exact { Gives plain_gff result (tree_of view.now) }
 {
