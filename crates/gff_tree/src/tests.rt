@@ -34,7 +34,7 @@ fn refused_with(alloc: Global, bytes: &[u8]) -> Option<Refusal> {
 fn changed(alloc: Global, changes: &[(usize, u32)]) -> Result<Vec<u8>, AllocError> {
     let mut bytes = Vec::from_slice(alloc, BASE.as_slice())?;
     for (place, n) in changes {
-        if *place + 4 <= bytes.len() {
+        if *place < bytes.len() && bytes.len() - *place >= 4 {
             LittleEndian::write_u32(&mut bytes[*place..], *n);
         }
     }
