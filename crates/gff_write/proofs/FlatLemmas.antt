@@ -33,9 +33,9 @@ pub below_step : (rows now : List Row) (items : List Field) (i : ℕ) (item : Fi
 below_step rows now items i item whole lt is before grown =
     let next : drop i items ≡ item ∷ drop (i + 1) items = rw (add-one, drop-cons items i item) (ap (λ (f : Field). f ∷ drop (suc i) items) (sym is)) in
     let at : rows ++ (leaf_rows (length rows) (plain_leaf item.leaf) ++ rows_below (length rows + leaf_count (plain_leaf item.leaf)) (fields_list (drop (i + 1) items))) ≡ whole =
-        subst (λ (fs : List Field). rows ++ rows_below (length rows) (fields_list fs) ≡ whole) next before in
+    subst (λ (fs : List Field). rows ++ rows_below (length rows) (fields_list fs) ≡ whole) next before in
     let long : length now ≡ length rows + leaf_count (plain_leaf item.leaf) =
-        ap length grown ∙ (length-append rows (leaf_rows (length rows) (plain_leaf item.leaf)) ∙ ap (λ (k : ℕ). length rows + k) (leaf_length (length rows) (plain_leaf item.leaf))) in
+    ap length grown ∙ (length-append rows (leaf_rows (length rows) (plain_leaf item.leaf)) ∙ ap (λ (k : ℕ). length rows + k) (leaf_length (length rows) (plain_leaf item.leaf))) in
     let rest = rows_below (length rows + leaf_count (plain_leaf item.leaf)) (fields_list (drop (i + 1) items)) in
     ap (λ (k : ℕ). now ++ rows_below k (fields_list (drop (i + 1) items))) long
     ∙ (ap (λ (rs : List Row). rs ++ rest) grown ∙ (append_assoc rows (leaf_rows (length rows) (plain_leaf item.leaf)) rest ∙ at))
@@ -45,9 +45,9 @@ pub list_step : (rows now : List Row) (items : List Node) (i : ℕ) (item : Node
 list_step rows now items i item whole lt is before grown =
     let next : drop i items ≡ item ∷ drop (i + 1) items = rw (add-one, drop-cons items i item) (ap (λ (f : Node). f ∷ drop (suc i) items) (sym is)) in
     let at : rows ++ (rows_of (length rows) (plain_node item) ++ list_rows (length rows + node_count (plain_node item)) (nodes_list (drop (i + 1) items))) ≡ whole =
-        subst (λ (fs : List Node). rows ++ list_rows (length rows) (nodes_list fs) ≡ whole) next before in
+    subst (λ (fs : List Node). rows ++ list_rows (length rows) (nodes_list fs) ≡ whole) next before in
     let long : length now ≡ length rows + node_count (plain_node item) =
-        ap length grown ∙ (length-append rows (rows_of (length rows) (plain_node item)) ∙ ap (λ (k : ℕ). length rows + k) (rows_length (length rows) (plain_node item))) in
+    ap length grown ∙ (length-append rows (rows_of (length rows) (plain_node item)) ∙ ap (λ (k : ℕ). length rows + k) (rows_length (length rows) (plain_node item))) in
     let rest = list_rows (length rows + node_count (plain_node item)) (nodes_list (drop (i + 1) items)) in
     ap (λ (k : ℕ). now ++ list_rows k (nodes_list (drop (i + 1) items))) long
     ∙ (ap (λ (rs : List Row). rs ++ rest) grown ∙ (append_assoc rows (rows_of (length rows) (plain_node item)) rest ∙ at))

@@ -15,4 +15,7 @@ mod sections;
 mod writing;
 
 pub use fault::WriteFault;
-pub use writing::write;
+pub use writing::{size, write};
+
+#[cfg(test)]
+mod tests;

@@ -84,7 +84,14 @@ fn file(alloc: Global, file_type: &[u8; 4], rows: &[Row]) -> Result<Items<u8>, N
     let sections = sections_of(alloc, rows)?;
     let labels = label_count(alloc, rows)?;
     let fields = count_fields(rows)?;
-    let mut out = header(alloc, file_type, &sections, rows.len() as u64, fields, labels)?;
+    let mut out = header(
+        alloc,
+        file_type,
+        &sections,
+        rows.len() as u64,
+        fields,
+        labels,
+    )?;
     put_body(&mut out, &sections)?;
     Ok(out)
 }
@@ -108,6 +115,15 @@ fn bounded(bytes: Items<u8>) -> Result<Vec<u8>, WriteFault>
         return Err(WriteFault::Large(size as u64));
     }
     Ok(bytes.into_vec())
+}
+
+/// How many bytes the one file of a tree has, however many these are.
+pub fn size(alloc: Global, tree: &Gff) -> Result<u64, NoMemory>
+    ensures { IfOk result (λ n. n ≡ length (written (plain_gff tree.now))) }
+{
+    let rows = rows_in(alloc, tree)?;
+    let bytes = file(alloc, &tree.file_type, rows.as_slice())?;
+    Ok(bytes.len() as u64)
 }
 
 /// The one file of a tree, or its size where it has more than 16,777,216 bytes.
