@@ -3,13 +3,19 @@ use Rattle.std.proofs.Common.{◌≡◌, ◌≤◌, ◌+◌, ℕ, zero, suc, Boo
 use Rattle.gff_tree.specs.declared.fault.TreeFault.{TreeFault}
 use Rattle.gff_tree.specs.declared.fault.TreeFault.TheVariants as fault
 use Rattle.gff_tree.specs.declared.tree.LocPart.{LocPart}
-use Rattle.std.specs.Prelude.{map}
-use Rattle.std.specs.List.{list_any}
+use Rattle.std.specs.Prelude.{map, ◌||◌, cond}
+use Rattle.std.specs.Borrow.{Bor}
+use Rattle.std.specs.Ordering.{nat_cmp, is_eq}
+use Rattle.std.specs.Cmp.Lexicographic.{slice_cmp}
+use Rattle.std.specs.BTreeSet.{BTreeSet, Updates}
+use Rattle.std.proofs.lemmas.Cmp.{nat_list_eq_equiv}
+use Rattle.std.proofs.lemmas.Map.Text.{is_eq-slice_cmp}
 use Rattle.std.specs.Str.{bytes_eq}
 use Rattle.gff_bytes.specs.declared.rows.StructRow.{StructRow}
 use Rattle.gff_bytes.specs.File.{list_word}
 use Rattle.gff_tree.specs.declared.row.Row.{Row}
 use Rattle.gff_tree.specs.Rows.{◌>>=◌, placed, parts_in, part_in, words_from, PlainRow, plain_row, rows_from, row_for, field_number, has_label, Fails}
+use Rattle.gff_tree.specs.Used.{has_text, HasLabels, AddsLabel}
 
 -- what was read so far stands before what is read from here on
 abbrev pub with_front : {X : Type 0} → List X → Result (List X) TreeFault → Result (List X) TreeFault
@@ -59,9 +65,48 @@ rows_step bytes row i k j field front now next whole before more numbered read g
     let at : rows_from bytes row i (suc j) front ≡ whole = subst (λ (m : ℕ). rows_from bytes row i m front ≡ whole) more before in
     rw grown (rw (numbered, read) at at)
 
-pub has_label_rows : (rows : List Row) (label : List ℕ) → has_label (map plain_row rows) label ≡ list_any (λ row. bytes_eq label row.label) rows
-has_label_rows [] label = refl
-has_label_rows (row ∷ rows) label = rw (has_label_rows rows label) refl
+or_swaps : (a b c : Bool) → (a || (b || c)) ≡ (b || (a || c))
+or_swaps true true true = refl
+or_swaps true true false = refl
+or_swaps true false true = refl
+or_swaps true false false = refl
+or_swaps false true true = refl
+or_swaps false true false = refl
+or_swaps false false true = refl
+or_swaps false false false = refl
+
+cond_or : (b c : Bool) → cond b true c ≡ (b || c)
+cond_or true true = refl
+cond_or true false = refl
+cond_or false true = refl
+cond_or false false = refl
+
+-- one more row has one more label
+has_label_more : (rows : List PlainRow) (next : PlainRow) (label : List ℕ) → has_label (rows ++ next ∷ []) label ≡ (bytes_eq label next.label || has_label rows label)
+has_label_more [] next label = refl
+has_label_more (row ∷ rows) next label =
+    ap (λ (b : Bool). bytes_eq label row.label || b) (has_label_more rows next label) ∙ or_swaps (bytes_eq label row.label) (bytes_eq label next.label) (has_label rows label)
+
+-- no label is used before the first field
+pub no_labels : (used : BTreeSet (Bor (List ℕ))) (rows : List Row) (label : Bor (List ℕ)) → used.keys ≡ [] → rows ≡ [] → has_text used label ≡ has_label (map plain_row rows) label.now
+no_labels used rows label empty none =
+    ap (λ (keys : List (Bor (List ℕ))). has_text (record { keys = keys }) label) empty ∙ sym (ap (λ (rs : List Row). has_label (map plain_row rs) label.now) none)
+
+-- what an insertion into the set of labels adds
+pub inserts_label : (before after : BTreeSet (Bor (List ℕ))) (key : Bor (List ℕ)) (text : List ℕ) →
+    text ≡ key.now → Updates (λ x y. slice_cmp nat_cmp x.now y.now) before after key true → AddsLabel before text after
+inserts_label before after key text same updates label =
+    let tested : is_eq (slice_cmp nat_cmp key.now label.now) ≡ bytes_eq label.now text =
+    is_eq-slice_cmp key.now label.now ∙ nat_list_eq_equiv.symm key.now label.now ∙ ap (bytes_eq label.now) (sym same) in
+    updates.0 label ∙ ap (λ (b : Bool). cond b true (has_text before label)) tested ∙ cond_or (bytes_eq label.now text) (has_text before label)
+
+-- the set goes with the rows
+pub labels_step : (before after : BTreeSet (Bor (List ℕ))) (front now : List PlainRow) (next : PlainRow) →
+    HasLabels before front → AddsLabel before next.label after → now ≡ front ++ next ∷ [] → HasLabels after now
+labels_step before after front now next same adds grown label =
+    let more : has_label now label.now ≡ (bytes_eq label.now next.label || has_label front label.now) =
+    ap (λ (rows : List PlainRow). has_label rows label.now) grown ∙ has_label_more front next label.now in
+    adds label ∙ ap (λ (b : Bool). bytes_eq label.now next.label || b) (same label) ∙ sym more
 
 pub rows_end : (e : TreeFault) (bytes : List ℕ) (row : StructRow) (i k j : ℕ) (front : List PlainRow) (whole : Result (List PlainRow) TreeFault) →
     rows_from bytes row i k front ≡ whole → k ≡ suc j → Fails e (placed (field_number bytes row i)) → Fails e whole

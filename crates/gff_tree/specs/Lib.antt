@@ -4,3 +4,4 @@ pub mod Whole
 pub mod Rows
 pub mod Walk
 pub mod Stands
+pub mod Used

@@ -32,7 +32,7 @@ fn contains_zero(text: &[u8]) -> bool
 }
 
 /// The bytes before the first zero byte.
-fn before_zero(raw: &[u8]) -> &[u8]
+pub(crate) fn before_zero(raw: &[u8]) -> &[u8]
     ensures text { result.now ≡ label_text raw.now }
     ensures bound { length result.now ≤ length raw.now }
     ensures no_zero { has_zero result.now ≡ false }
@@ -43,18 +43,6 @@ fn before_zero(raw: &[u8]) -> &[u8]
         }
     }
     raw
-}
-
-/// The label of these bytes.
-fn held(text: &[u8]) -> Label
-    requires bound { length text.now ≤ LABEL_BYTES }
-    requires no_zero { has_zero text.now ≡ false }
-    ensures { result ≡ text.now }
-{
-    let mut bytes = [0; LABEL_BYTES];
-    let len = text.len();
-    bytes[..len].copy_from_slice(text);
-    Label { bytes, len }
 }
 
 impl Label {
@@ -68,16 +56,20 @@ impl Label {
         if contains_zero(text) {
             None
         } else {
-            Some(held(text))
+            Some(Label::held(text))
         }
     }
 
-    /// The label in a row of the file, whose text ends before its first zero byte.
-    pub(crate) fn of_row(raw: &[u8]) -> Label
-        requires { length raw.now ≤ LABEL_BYTES }
-        ensures { result ≡ label_text raw.now }
+    /// The label of these bytes.
+    pub(crate) fn held(text: &[u8]) -> Label
+        requires bound { length text.now ≤ LABEL_BYTES }
+        requires no_zero { has_zero text.now ≡ false }
+        ensures { result ≡ text.now }
     {
-        held(before_zero(raw))
+        let mut bytes = [0; LABEL_BYTES];
+        let len = text.len();
+        bytes[..len].copy_from_slice(text);
+        Label { bytes, len }
     }
 
     pub fn bytes(&self) -> &[u8]

@@ -1,17 +1,20 @@
 //! The fields that a struct of the file lists.
 
-ghost use Rattle.std.specs.Prelude.{◌≡◌, ◌≢◌, ◌≤◌, ◌<◌, ◌+◌, ◌*◌, map, Ok, OnOk};
+ghost use Rattle.std.specs.Prelude.{◌≡◌, ◌≢◌, ◌≤◌, ◌<◌, ◌+◌, ◌*◌, if◌then◌else◌, List, length, map, Ok, Err, OnOk, IfOk};
 ghost use Rattle.gff_bytes.specs.File as File;
-ghost use Rattle.gff_tree.specs.Rows.{Gives, placed, words_from, plain_shape, plain_row, shape_for, has_label, row_for, field_number, rows_from, rows_of};
+ghost use Rattle.gff_tree.specs.Label.{label_text};
+ghost use Rattle.gff_tree.specs.Rows.{Gives, PlainRow, placed, words_from, plain_shape, plain_row, shape_for, has_label, row_for, field_number, rows_from, rows_of};
+ghost use Rattle.gff_tree.specs.Used.{HasLabels, AddsLabel};
 
 use crate::budget::{FIELD_BYTES, charge, data_bytes};
 use crate::fault::TreeFault;
 use crate::kind::Kind;
-use crate::label::Label;
+use crate::label::{Label, before_zero};
 use crate::scalar::leaf;
 use crate::tree::Leaf;
 use gff_bytes::{FILE_BYTES, StructRow, View};
 use std::alloc::Global;
+use std::collections::BTreeSet;
 
 /// What a field of the file holds: a value, the number of a struct, or those of a list's structs.
 #[derive(Debug, Drop)]
@@ -96,36 +99,42 @@ fn read_shape(
     }
 }
 
-fn is_used(rows: &[Row], label: &Label) -> bool
-    ensures { result ≡ has_label (map plain_row rows.now) label.now }
+/// The label of a row of the file, if no earlier field of the struct has it.
+fn take_label<'a>(
+    used: &mut BTreeSet<&'a [u8]>,
+    raw: &'a [u8],
+    field: u32,
+) -> Result<Label, TreeFault>
+    requires { length raw.now ≤ 16 }
+    ensures added { IfOk result (λ label. AddsLabel used.old label used.new) }
+    ensures read { (rows : List PlainRow) → HasLabels used.old rows → Gives (λ label. label) result
+        (if has_label rows (label_text raw.now) then Err (TreeFault.Label field) else Ok (label_text raw.now)) }
 {
-    for row in rows {
-        if label.same(&row.label) {
-            return true;
-        }
+    let text = before_zero(raw);
+    if used.insert(text)? {
+        Ok(Label::held(text))
+    } else {
+        Err(TreeFault::Label(field))
     }
-    false
 }
 
-/// A field of a struct whose earlier fields are these rows.
+/// A field of a struct whose earlier fields have these labels.
 #[tactic(auto, unfolding(crate::specs::Rows::row_for))]
-fn read_row(
+fn read_row<'a>(
     alloc: Global,
-    view: &View<'_>,
-    rows: &[Row],
+    view: &View<'a>,
+    used: &mut BTreeSet<&'a [u8]>,
     field: u32,
     left: &mut u64,
 ) -> Result<Row, TreeFault>
-    ensures { Gives plain_row result (row_for view.now (map plain_row rows.now) field) }
+    ensures added { IfOk result (λ row. AddsLabel used.old row.label used.new) }
+    ensures read { (rows : List PlainRow) → HasLabels used.old rows → Gives plain_row result (row_for view.now rows field) }
 {
     let entry = view.field_at(field)?;
     match Kind::of(entry.kind) {
         None => Err(TreeFault::Kind(field)),
         Some(kind) => {
-            let label = Label::of_row(view.label_at(entry.label)?);
-            if is_used(rows, &label) {
-                return Err(TreeFault::Label(field));
-            }
+            let label = take_label(used, view.label_at(entry.label)?, field)?;
             let shape = read_shape(alloc, view, field, kind, entry.word, left)?;
             Ok(Row { label, shape })
         }
@@ -149,7 +158,7 @@ fn number(view: &View<'_>, entry: StructRow, i: u32) -> Result<u32, TreeFault>
 }
 
 /// All fields of a struct.
-#[tactic(auto, unfolding(crate::specs::Rows::rows_of))]
+#[tactic(auto, using(crate::proofs::RowLemmas::no_labels), unfolding(crate::specs::Rows::rows_of))]
 pub fn read_rows(
     alloc: Global,
     view: &View<'_>,
@@ -159,9 +168,10 @@ pub fn read_rows(
     ensures { Gives (λ rows. map plain_row rows.items) result (rows_of view.now entry) }
 {
     let mut rows = Vec::new(alloc);
+    let mut used = BTreeSet::new(alloc);
     for i in 0..entry.count {
         let field = number(view, entry, i)?;
-        let next = read_row(alloc, view, &rows, field, left)?;
+        let next = read_row(alloc, view, &mut used, field, left)?;
         charge(left, FIELD_BYTES)?;
         rows.push(next)?;
     }
