@@ -2,7 +2,7 @@
 -- a place on is one thing.
 use Rattle.std.specs.Prelude.{Option, Some, None, MatchOption, option_map, option_and_then, ◌==◌, ◌||◌, ◌&&◌, not, nat_lt, nat_le, slice_index}
 use Rattle.std.specs.List.{list_all}
-use Rattle.std.proofs.Common.{◌≡◌, ℕ, zero, suc, ◌+◌, ◌^◌, ◌<◌, ◌≤◌, Bool, true, false, List, [], ◌∷◌, length, take, drop, refl, ap, sym, ◌∙◌, subst, arith, inl, inr, ◌⊎◌, ⊎_elim}
+use Rattle.std.proofs.Common.{◌≡◌, ℕ, zero, suc, ◌+◌, ◌^◌, ◌<◌, ◌≤◌, Bool, true, false, List, [], ◌∷◌, ◌++◌, length, take, drop, refl, ap, sym, ◌∙◌, subst, arith, inl, inr, ◌⊎◌, ⊎_elim}
 use Rattle.std.proofs.lemmas.List.{take-append-drop, length-drop, drop-drop}
 use Rattle.std.proofs.lemmas.Bool.{cases_Bool, and_cases, or_parts, false≢true, cond-true, cond-false, leb-true, le-leb, ltb-true, lt-ltb, not-true}
 use Rattle.nss_lexer.specs.declared.token.Kind.{Kind}
@@ -70,39 +70,52 @@ reads_front bytes kind k fits h =
     subst (λ m. AtLeast kind m (form bytes)) (length_taken k bytes fits)
     (subst (λ t. AtLeast kind (length (take k bytes)) (form t)) (take-append-drop k bytes) (reads kind (take k bytes) (drop k bytes) h))
 
+abbrev pub BeginsAs : List ℕ → Front → Type 0
+BeginsAs bytes f = (0 < f.length) × (f.length ≤ length bytes) × Begins bytes f.kind (take f.length bytes)
+
 begins_at : (bytes : List ℕ) (g f : Front) → begins_comment bytes ≡ false → form bytes ≡ Some g → limited g.kind g.length ≡ Some f
-    → Begins bytes f.kind f.length
+    → BeginsAs bytes f
 begins_at bytes g f plain is fits =
     let found : IsFound bytes g = subst (IsFoundIf bytes) is (form_found bytes) in
-    let limits = within_limited g.kind (take g.length bytes) g.length f (length_taken g.length bytes found.within) fits in
-    subst (λ f. Begins bytes f.kind f.length) (sym limits.is) (record {
-      within = found.within;
-      lexeme = (found.has, limits.fits);
-      longest = λ other k inside h. (subst (AtLeast other k) is (reads_front bytes other k inside h)).0;
-      no_comment = plain;
-    })
+    let size : length (take g.length bytes) ≡ g.length = length_taken g.length bytes found.within in
+    let limits = within_limited g.kind (take g.length bytes) g.length f size fits in
+    subst (BeginsAs bytes) (sym limits.is) (
+      found.some,
+      found.within,
+      record {
+        front = ap (λ n. take n bytes) (sym size);
+        lexeme = (found.has, limits.fits);
+        longest = λ other k inside h.
+            let least = (subst (AtLeast other k) is (reads_front bytes other k inside h)).0 in omega (arith, least, size);
+        no_comment = plain;
+      },
+    )
 
 begins_from : (bytes : List ℕ) (f : Front) (o : Option Front) → begins_comment bytes ≡ false → form bytes ≡ o → option_and_then within o ≡ Some f
-    → Begins bytes f.kind f.length
+    → BeginsAs bytes f
 begins_from bytes f None plain is h = absurd (none_some f h)
 begins_from bytes f (Some g) plain is h = begins_at bytes g f plain is h
 
-pub lexeme_begins : (bytes : List ℕ) (f : Front) → begins_comment bytes ≡ false → lexeme bytes ≡ Some f → Begins bytes f.kind f.length
+pub lexeme_begins : (bytes : List ℕ) (f : Front) → begins_comment bytes ≡ false → lexeme bytes ≡ Some f → BeginsAs bytes f
 lexeme_begins bytes f plain h = begins_from bytes f (form bytes) plain refl h
 
-lexeme_at : (bytes : List ℕ) (kind : Kind) (n : ℕ) (o : Option Front) → Begins bytes kind n → form bytes ≡ o → AtLeast kind n o
-    → option_and_then within o ≡ Some (front kind n)
-lexeme_at bytes kind n None b is least = absurd least
-lexeme_at bytes kind n (Some g) b is least =
+lexeme_at : (bytes : List ℕ) (kind : Kind) (text : List ℕ) (o : Option Front) → Begins bytes kind text → form bytes ≡ o → AtLeast kind (length text) o
+    → option_and_then within o ≡ Some (front kind (length text))
+lexeme_at bytes kind text None b is least = absurd least
+lexeme_at bytes kind text (Some g) b is least =
     let found : IsFound bytes g = subst (IsFoundIf bytes) is (form_found bytes) in
-    let most : g.length ≤ n = b.longest g.kind g.length found.within found.has in
-    let same : n ≡ g.length = omega (arith, least.0, most) in
+    let most : g.length ≤ length text = b.longest g.kind g.length found.within found.has in
+    let same : length text ≡ g.length = omega (arith, least.0, most) in
     let kinds : kind ≡ g.kind = least.1 same in
-    let at : limited kind n ≡ Some (front kind n) = limited_within kind (take n bytes) n (length_taken n bytes b.within) b.lexeme.1 in
+    let at : limited kind (length text) ≡ Some (front kind (length text)) = limited_within kind text (length text) refl b.lexeme.1 in
     ap (λ k. limited k g.length) (sym kinds) ∙ ap (limited kind) (sym same) ∙ at
 
-pub begins_lexeme : (bytes : List ℕ) (kind : Kind) (n : ℕ) → Begins bytes kind n → lexeme bytes ≡ Some (front kind n)
-begins_lexeme bytes kind n b = lexeme_at bytes kind n (form bytes) b refl (reads_front bytes kind n b.within b.lexeme.0)
+pub begins_lexeme : (bytes : List ℕ) (kind : Kind) (text : List ℕ) → Begins bytes kind text → lexeme bytes ≡ Some (front kind (length text))
+begins_lexeme bytes kind text b =
+    let whole : text ++ drop (length text) bytes ≡ bytes =
+    ap (λ t. t ++ drop (length text) bytes) b.front ∙ take-append-drop (length text) bytes in
+    lexeme_at bytes kind text (form bytes) b refl
+    (subst (λ t. AtLeast kind (length text) (form t)) whole (reads kind text (drop (length text) bytes) b.lexeme.0))
 
 -- ---- where nothing begins
 
@@ -110,9 +123,9 @@ pub stuck_from : (bytes : List ℕ) → 0 < length bytes → pass bytes ≡ None
 stuck_from bytes some no_pass why = record {
   some = λ is. let e : length bytes ≡ 0 = ap length is in omega (arith, e);
   no_gap = λ after skips. let p = skips_passed bytes after skips in none_some p.count (sym no_pass ∙ p.found);
-  no_token = λ kind n b. ⊎_elim
+  no_token = λ kind text b. ⊎_elim
       (λ comment. false≢true (sym b.no_comment ∙ comment))
-      (λ none. none_some (front kind n) (sym none ∙ begins_lexeme bytes kind n b))
+      (λ none. none_some (front kind (length text)) (sym none ∙ begins_lexeme bytes kind text b))
       why;
 }
 
@@ -172,12 +185,12 @@ blank_form b bytes h =
     form_sign (b ∷ bytes) (blank_no_letter b h) (blank_no_decimal b h) (ap (λ x. x && is_decimal (slice_index bytes 0)) (blank_no_point b h)) (blank_no_quote b h)
     ∙ ap (option_map (front Sign)) (blank_sign b bytes (first_front signs (b ∷ bytes)) h refl)
 
-pub begins_pass : (bytes : List ℕ) (kind : Kind) (n : ℕ) → Begins bytes kind n → pass bytes ≡ None
+pub begins_pass : (bytes : List ℕ) (kind : Kind) (text : List ℕ) → Begins bytes kind text → pass bytes ≡ None
 unfolding pass
-begins_pass [] kind n b = refl
-begins_pass (c ∷ bytes) kind n b =
+begins_pass [] kind text b = refl
+begins_pass (c ∷ bytes) kind text b =
     ⊎_elim
-    (λ blank. absurd (none_some (front kind n) (sym (ap (option_and_then within) (blank_form c bytes blank)) ∙ begins_lexeme (c ∷ bytes) kind n b)))
+    (λ blank. absurd (none_some (front kind (length text)) (sym (ap (option_and_then within) (blank_form c bytes blank)) ∙ begins_lexeme (c ∷ bytes) kind text b)))
     (λ black. cond-false (is_blank c) (Some 1) (comment (c ∷ bytes)) black ∙ no_comment (c ∷ bytes) b.no_comment)
     (cases_Bool (is_blank c))
 
@@ -210,7 +223,7 @@ unfolding pass
 pass_nil = refl
 
 token_stop : (bytes : List ℕ) (file at : ℕ) (t : Lexeme) → IsFirstToken bytes file at t → Stop bytes at (drop t.start bytes)
-token_stop bytes file at t h = record { gap = h.gap; stops = begins_pass (drop t.start bytes) t.kind (length t.text) h.begins }
+token_stop bytes file at t h = record { gap = h.gap; stops = begins_pass (drop t.start bytes) t.kind t.text h.begins }
 
 bad_stop : (bytes : List ℕ) (at place : ℕ) → IsFirstBad bytes at place → Stop bytes at (drop place bytes)
 bad_stop bytes at place h = record { gap = h.gap; stops = stuck_pass (drop place bytes) h.stuck }
@@ -239,10 +252,10 @@ one_token bytes file at t u h k =
     let rests : drop t.start bytes ≡ drop u.start bytes = one_stop bytes at _ _ (token_stop bytes file at t h) (token_stop bytes file at u k) in
     let starts : t.start ≡ u.start = same_place bytes t.start u.start (omega (arith, h.last, h.within)) (omega (arith, k.last, k.within)) rests in
     let fronts = same_front t.kind u.kind (length t.text) (length u.text)
-    (sym (begins_lexeme (drop t.start bytes) t.kind (length t.text) h.begins) ∙ ap lexeme rests
-    ∙ begins_lexeme (drop u.start bytes) u.kind (length u.text) k.begins) in
+    (sym (begins_lexeme (drop t.start bytes) t.kind t.text h.begins) ∙ ap lexeme rests
+    ∙ begins_lexeme (drop u.start bytes) u.kind u.text k.begins) in
     let texts : t.text ≡ u.text =
-    h.text ∙ ap (λ n. take n (drop t.start bytes)) fronts.1 ∙ ap (λ r. take (length u.text) r) rests ∙ sym k.text in
+    h.begins.front ∙ ap (λ n. take n (drop t.start bytes)) fronts.1 ∙ ap (λ r. take (length u.text) r) rests ∙ sym k.begins.front in
     same_lexeme t.kind u.kind t.text u.text t.file u.file t.start u.start t.end u.end
     fronts.0 texts (h.file ∙ sym k.file) starts (h.last ∙ ap (λ n. n + length t.text) starts ∙ ap (λ n. u.start + n) fronts.1 ∙ sym k.last)
 
@@ -250,18 +263,18 @@ lexeme_nil : lexeme [] ≡ None
 unfolding form
 lexeme_nil = refl
 
-nothing_begins : (kind : Kind) (n : ℕ) → Begins [] kind n → ⊥
-nothing_begins kind n b = none_some (front kind n) (sym lexeme_nil ∙ begins_lexeme [] kind n b)
+nothing_begins : (kind : Kind) (text : List ℕ) → Begins [] kind text → ⊥
+nothing_begins kind text b = none_some (front kind (length text)) (sym lexeme_nil ∙ begins_lexeme [] kind text b)
 
 no_end : (bytes : List ℕ) (file at : ℕ) (t : Lexeme) → IsFirstToken bytes file at t → Gap (drop at bytes) [] → ⊥
 no_end bytes file at t h k =
     let rests : drop t.start bytes ≡ [] = one_stop bytes at _ [] (token_stop bytes file at t h) (end_stop bytes at k) in
-    nothing_begins t.kind (length t.text) (subst (λ r. Begins r t.kind (length t.text)) rests h.begins)
+    nothing_begins t.kind t.text (subst (λ r. Begins r t.kind t.text) rests h.begins)
 
 no_bad : (bytes : List ℕ) (file at place : ℕ) (t : Lexeme) → IsFirstToken bytes file at t → IsFirstBad bytes at place → ⊥
 no_bad bytes file at place t h k =
     let rests : drop t.start bytes ≡ drop place bytes = one_stop bytes at _ _ (token_stop bytes file at t h) (bad_stop bytes at place k) in
-    k.stuck.no_token t.kind (length t.text) (subst (λ r. Begins r t.kind (length t.text)) rests h.begins)
+    k.stuck.no_token t.kind t.text (subst (λ r. Begins r t.kind t.text) rests h.begins)
 
 no_bad_end : (bytes : List ℕ) (at place : ℕ) → IsFirstBad bytes at place → Gap (drop at bytes) [] → ⊥
 no_bad_end bytes at place h k = h.stuck.some (one_stop bytes at _ [] (bad_stop bytes at place h) (end_stop bytes at k))
@@ -324,6 +337,6 @@ pub front_stuck : (bytes : List ℕ) → 0 < length bytes → pass bytes ≡ Non
 front_stuck bytes some stops is = stuck_from bytes some stops (inl is)
 
 pub front_found : (bytes : List ℕ) (o : Option Front) → 0 < length bytes → pass bytes ≡ None → begins_comment bytes ≡ false → o ≡ lexeme bytes
-    → MatchOption o (IsStuck bytes) (λ f. Begins bytes f.kind f.length)
+    → MatchOption o (IsStuck bytes) (λ f. (0 < f.length) × (f.length ≤ length bytes) × Begins bytes f.kind (take f.length bytes))
 front_found bytes None some stops plain is = stuck_from bytes some stops (inr (sym is))
 front_found bytes (Some f) some stops plain is = lexeme_begins bytes f plain (sym is)

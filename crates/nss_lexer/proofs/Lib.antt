@@ -4,3 +4,4 @@ pub mod GapLaws
 pub mod FormLaws
 pub mod FoundLaws
 pub mod FirstLaws
+mod Examples

@@ -38,19 +38,19 @@ begins_comment [] = false
 begins_comment (b ∷ []) = false
 begins_comment (b ∷ c ∷ bytes) = b == 47 && (c == 47 || c == 42)
 
--- A token of this kind and of so many bytes begins the bytes: no comment begins them, and no longer front of
--- them has the form of a token.
-pub record Begins (bytes : List ℕ) (kind : Kind) (n : ℕ) : Type 0 where
-  pub within : n ≤ length bytes
-  pub lexeme : IsLexeme kind (take n bytes)
-  pub longest : (other : Kind) (k : ℕ) → k ≤ length bytes → HasForm other (take k bytes) → k ≤ n
+-- A token of this kind with this text begins the bytes: no comment begins them, and no longer front of them has
+-- the form of a token.
+pub record Begins (bytes : List ℕ) (kind : Kind) (text : List ℕ) : Type 0 where
+  pub front : text ≡ take (length text) bytes
+  pub lexeme : IsLexeme kind text
+  pub longest : (other : Kind) (n : ℕ) → n ≤ length bytes → HasForm other (take n bytes) → n ≤ length text
   pub no_comment : begins_comment bytes ≡ false
 
 -- no token, blank or closed comment begins the bytes, of which there is one at least
 pub record IsStuck (bytes : List ℕ) : Type 0 where
   pub some : bytes ≢ []
   pub no_gap : (after : List ℕ) → Skips bytes after → ⊥
-  pub no_token : (kind : Kind) (n : ℕ) → Begins bytes kind n → ⊥
+  pub no_token : (kind : Kind) (text : List ℕ) → Begins bytes kind text → ⊥
 
 -- a token without where its bytes lie in memory
 pub record Lexeme : Type 0 where
@@ -78,9 +78,9 @@ first (Bad place) = BadAt place
 pub record IsFirstToken (bytes : List ℕ) (number at : ℕ) (t : Lexeme) : Type 0 where
   pub from : at ≤ t.start
   pub gap : Gap (drop at bytes) (drop t.start bytes)
-  pub begins : Begins (drop t.start bytes) t.kind (length t.text)
-  pub text : t.text ≡ take (length t.text) (drop t.start bytes)
+  pub begins : Begins (drop t.start bytes) t.kind t.text
   pub last : t.end ≡ t.start + length t.text
+  pub some : t.start < t.end
   pub within : t.end ≤ length bytes
   pub file : t.file ≡ number
 

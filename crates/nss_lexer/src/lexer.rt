@@ -1,4 +1,4 @@
-ghost use Rattle.std.specs.Prelude.{◌≡◌, ◌≤◌, ◌<◌, ◌^◌, length, MatchOption, None};
+ghost use Rattle.std.specs.Prelude.{◌≡◌, ◌≤◌, ◌<◌, ◌^◌, length, take, MatchOption, None};
 ghost use Rattle.nss_lexer.specs.Splitting.{Begins, IsFirst, IsStuck, first};
 ghost use Rattle.nss_lexer.specs.Reading as reading;
 
@@ -12,7 +12,7 @@ fn front_of(bytes: &[u8]) -> Option<Front>
     requires some { 0 < length bytes.now }
     requires size { length bytes.now < 2 ^ 32 }
     requires stops { reading.pass bytes.now ≡ None }
-    ensures { MatchOption result (IsStuck bytes.now) (λ front. Begins bytes.now front.kind front.length) }
+    ensures { MatchOption result (IsStuck bytes.now) (λ front. (0 < front.length) × (front.length ≤ length bytes.now) × Begins bytes.now front.kind (take front.length bytes.now)) }
 {
     if comment_begins(bytes) {
         return None;

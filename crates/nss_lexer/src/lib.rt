@@ -17,4 +17,8 @@ pub mod unquote;
 
 pub use lexer::next;
 pub use token::{Kind, Lexed, SOURCE_BYTES, Token};
+
+#[cfg(test)]
+mod tests;
+
 pub use unquote::literal;

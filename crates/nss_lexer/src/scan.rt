@@ -1,7 +1,6 @@
-ghost use Rattle.std.specs.Prelude.{◌≡◌, ◌<◌, ◌≤◌, ◌^◌, ◌-◌, ◌+◌, length, bytes_eq, map, option_and_then};
+ghost use Rattle.std.specs.Prelude.{◌≡◌, ◌<◌, ◌≤◌, ◌^◌, length, bytes_eq, map, option_and_then};
 ghost use Rattle.std.specs.List.{list_any};
 ghost use Rattle.std.specs.Str.Parse.{digits_value};
-ghost use Rattle.nss_lexer.specs.Bytes.{is_letter, is_decimal};
 ghost use Rattle.nss_lexer.specs.Lexemes as grammar;
 ghost use Rattle.nss_lexer.specs.Reading as reading;
 

@@ -37,7 +37,7 @@ pub fn step_by(state: Escape, b: u8) -> Step
             _ => Step::Gives(b),
         },
         Escape::AfterBackslash => match b {
-            b'\n' => Step::Fails,
+            b'\n' => Step::Fails, // a line end is no escape
             b'x' => Step::Leads(Escape::AfterX),
             b'n' => Step::Gives(b'\n'),
             _ => Step::Gives(b),

@@ -1,1 +1,6 @@
+mod NameLemmas
+mod RoleLemmas
+mod RowLemmas
+mod TableLemmas
 mod TextLemmas
+mod ValueLemmas

@@ -1,14 +1,31 @@
-//! The base of every crate here: want of memory as an error, plain lists, and texts.
+//! The base of every crate here: want of memory as an error, plain lists, texts, values and engine tables.
 //!
-//! Contracts see an [`Items`] as the list of its items and a [`Text`] as the list of its bytes, so no
-//! definition above speaks of vectors. Every call that may allocate answers [`NoMemory`] and nothing
-//! else for want of memory, and leaves what it was given through `&mut` as it was.
+//! Contracts see an [`Items`] as the list of its items, a [`Text`] as the list of its bytes, a [`Value`] as
+//! plain data and a [`Table`] as a list of routines and a list of named constants, so no definition above
+//! speaks of vectors or maps. Every call that may allocate answers [`NoMemory`] and nothing else for want
+//! of memory, and leaves what it was given through `&mut` as it was.
+//!
+//! What the clauses mean is written in `specs/`: types and starting values in `Values`, what a table keeps
+//! in `Engine`, the rule of roles in `Roles`, and the built-in header, once as data, in `Header`.
 #![tactic(auto)]
 
+pub mod engine;
+pub mod header;
 pub mod items;
 pub mod memory;
+pub mod roles;
+pub mod table;
 pub mod text;
+pub mod value;
 
+pub use engine::{Const, Param, Params, Role, Routine};
+pub use header::BUILT_IN;
 pub use items::Items;
 pub use memory::NoMemory;
+pub use roles::role_of;
+pub use table::Table;
 pub use text::Text;
+pub use value::{Args, Effect, Ints, Randoms, Ty, Tys, Value, start_of};
+
+#[cfg(test)]
+mod tests;

@@ -1,0 +1,10 @@
+use Rattle.std.proofs.Common.{◌≡◌, ◌+◌, drop}
+use Rattle.gff_tree.specs.Tree.{fields_list, nodes_list}
+use Rattle.gff_write.specs.Flat.{fields_count, nodes_count}
+use Rattle.gff_write.proofs.count.+count.Given as goal
+
+abbrev pub invariant-count_leaf-loop-node : goal.invariant-count_leaf-loop-node
+invariant-count_leaf-loop-node l = l.total + nodes_count (nodes_list (drop l.node-index l.node-items)) ≡ nodes_count (nodes_list l.node-items)
+
+abbrev pub invariant-count_node-loop-field : goal.invariant-count_node-loop-field
+invariant-count_node-loop-field l = l.total + fields_count (fields_list (drop l.field-index l.field-items)) ≡ 1 + fields_count (fields_list l.field-items)

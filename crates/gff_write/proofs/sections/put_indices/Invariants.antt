@@ -1,0 +1,6 @@
+use Rattle.std.proofs.Common.{◌≡◌, ◌+◌, ◌-◌, ◌<◌, ◌++◌, [], length, drop, true, false}
+use Rattle.gff_write.specs.File.{words_up}
+use Rattle.gff_write.proofs.sections.put_indices.Given as goal
+
+abbrev pub invariant-loop-done : goal.invariant-loop-done
+invariant-loop-done l = l.indices ++ words_up l.next (l.count - l._done) ≡ l.fn.indices ++ words_up l.first l.count

@@ -1,0 +1,46 @@
+//! The structs of a tree in preorder.
+
+ghost use Rattle.std.specs.Prelude.{◌≡◌, ◌++◌, length, OnOk};
+ghost use Rattle.gff_tree.specs.Tree.{plain_node, plain_leaf};
+ghost use Rattle.gff_write.specs.Flat.{rows_of, leaf_rows};
+
+use crate::count::sum;
+use crate::encode::entries;
+use crate::flat::Row;
+use gff_tree::{Leaf, Node};
+use nwq_value::{Items, NoMemory};
+use std::alloc::Global;
+
+/// Puts a struct and all below it last.
+#[cycle(flatten)]
+pub fn flatten_node(alloc: Global, node: &Node, rows: &mut Items<Row>) -> Result<(), NoMemory>
+    ensures { OnOk result (rows.new ≡ rows.old ++ rows_of (length rows.old) (plain_node node.now)) }
+{
+    let first = sum(rows.len() as u64, 1)?;
+    let fields = entries(alloc, &node.fields, first)?;
+    rows.push(Row {
+        kind: node.kind,
+        fields,
+    })?;
+    for field in &node.fields {
+        flatten_leaf(alloc, &field.leaf, rows)?;
+    }
+    Ok(())
+}
+
+/// Puts the structs that stand in a field last, with all below them.
+#[cycle(flatten)]
+fn flatten_leaf(alloc: Global, leaf: &Leaf, rows: &mut Items<Row>) -> Result<(), NoMemory>
+    ensures { OnOk result (rows.new ≡ rows.old ++ leaf_rows (length rows.old) (plain_leaf leaf.now)) }
+{
+    match leaf {
+        Leaf::Struct(node) => flatten_node(alloc, node, rows),
+        Leaf::List(nodes) => {
+            for node in nodes {
+                flatten_node(alloc, node, rows)?;
+            }
+            Ok(())
+        }
+        _ => Ok(()),
+    }
+}

@@ -1,0 +1,5 @@
+pub mod Plain
+pub mod Spelling
+pub mod Reading
+pub mod File
+pub mod Laws

@@ -1,0 +1,5 @@
+mod Lines
+mod Counting
+mod Placing
+mod Putting
+mod Leading

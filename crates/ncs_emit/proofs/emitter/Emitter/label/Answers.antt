@@ -1,0 +1,11 @@
+use Rattle.std.proofs.Common.{arith, ap}
+use Rattle.ncs_emit.proofs.Counting.{kept_label, missing_few}
+use Rattle.ncs_emit.proofs.emitter.Emitter.label.Goals as goal
+
+pub overflow_add-self : goal.overflow_add-self
+overflow_add-self c = omega (arith, missing_few _ _ _ _ _ c.self.invariant, ap (λ d. d.labels) c.self.view_is, c.requires)
+
+pub invariant_of-self-2 : goal.invariant_of-self-2
+invariant_of-self-2 c =
+    rw (c.in_ok-reserve.ensures.items, c.in_ok-push.ensures.items)
+    (kept_label _ _ _ _ _ _ c.self.invariant (omega (arith, ap (λ d. d.labels) c.self.view_is, c.requires)) (omega (arith, c.in_ok-reserve.ensures.ok, c.in_ok-reserve.ensures.len)))

@@ -1,0 +1,141 @@
+ghost use Rattle.std.specs.Prelude.{◌≡◌, ◌+◌, ◌-◌, ◌^◌, ◌<◌, ◌≤◌, ◌∷◌, ◌++◌, [], ℕ, List, false, true, IfOk, IfErr, OnOk, OnErr};
+ghost use Rattle.ncs_code.specs.Plain.{plain};
+ghost use Rattle.ncs_code.specs.Spelling.{HasRow};
+ghost use Rattle.ncs_code.specs.File.{file_bytes, file_length};
+ghost use Rattle.ncs_emit.specs.Labelled.{Line, Plain, Leap, Mark, is_marked, program};
+ghost use Rattle.ncs_emit.specs.Emitting.{Fails};
+ghost use Rattle.ncs_emit.specs.Laws.{LineFits};
+ghost use Rattle.std.specs.List.{AllByRecursion};
+
+use crate::fault::EmitFault;
+use crate::finishing::{places_of, put_lines};
+use crate::jump::Jump;
+use crate::line::Kept;
+use ncs_code::{FILE_BYTES, Op, header};
+use nwq_value::NoMemory;
+use std::alloc::Global;
+use std::marker::Model;
+
+/// Labelled code that grows at its end. Contracts see the list of its lines, where instructions, jumps to
+/// labels and the labels' own marks stand, and how many labels were made: they are the numbers below that.
+#[derive(Drop)]
+pub struct Emitter {
+    /// The spellings of the instructions, without those of jumps to labels.
+    bytes: Vec<u8>,
+    kept: Vec<Kept>,
+    /// For each label: does its mark stand in the code?
+    placed: Vec<bool>,
+    /// How many of the labels have no mark yet; `kept` has room for all of those.
+    missing: u32,
+}
+
+impl Model for Emitter {
+    ghost use Rattle.std.specs.Prelude.{length};
+    ghost use Rattle.std.specs.Vec.{vec_capacity};
+    ghost use Rattle.ncs_emit.specs.Labelled.{Draft};
+    ghost use Rattle.ncs_emit.specs.Emitting.{IsKept, lines_of};
+
+    ghost Value = { Draft };
+
+    ghost view = { λ e. record { lines = lines_of e.bytes.items e.kept.items; labels = length e.placed.items } };
+
+    ghost invariant = { λ e. IsKept e.bytes.items e.kept.items (vec_capacity e.kept) e.placed.items e.missing };
+}
+
+impl Emitter {
+    /// The emitter without lines and labels.
+    pub fn new(alloc: Global) -> Emitter
+        ensures lines { result.lines ≡ [] }
+        ensures labels { result.labels ≡ 0 }
+    {
+        Emitter {
+            bytes: Vec::new(alloc),
+            kept: Vec::new(alloc),
+            placed: Vec::new(alloc),
+            missing: 0,
+        }
+    }
+
+    /// A new label. After `NoMemory` the emitter is as before.
+    #[tactic(auto, using(crate::proofs::Counting::kept_label, crate::proofs::Counting::kept_room, crate::proofs::Counting::missing_few))]
+    pub fn label(&mut self) -> Result<u32, NoMemory>
+        requires { self.old.labels + 1 < 2 ^ 32 }
+        ensures number { IfOk result (λ label. label ≡ self.old.labels) }
+        ensures made { OnOk result (self.new ≡ record self.old { labels = self.old.labels + 1 }) }
+        ensures err { OnErr result (self.new ≡ self.old) }
+    {
+        let label = self.placed.len() as u32;
+        self.kept.reserve(self.missing as usize + 1)?;
+        self.placed.push(false)?;
+        self.missing += 1;
+        Ok(label)
+    }
+
+    /// Puts the mark of a label last.
+    #[tactic(auto, using(crate::proofs::Counting::kept_mark, crate::proofs::Counting::missing_some, crate::proofs::Lines::lines_and_mark))]
+    pub fn place(&mut self, label: u32)
+        requires made { label < self.old.labels }
+        requires unplaced { is_marked self.old.lines label ≡ false }
+        ensures { self.new ≡ record self.old { lines = self.old.lines ++ Mark label ∷ [] } }
+    {
+        self.kept.push(Kept::Mark(label)).unwrap();
+        self.placed[label as usize] = true;
+        self.missing -= 1;
+    }
+
+    /// Puts an instruction last. After `NoMemory` the emitter is as before.
+    #[tactic(auto, using(crate::proofs::Counting::kept_op, crate::proofs::Counting::kept_room, crate::proofs::Lines::lines_and_op))]
+    pub fn op(&mut self, op: &Op<'_>) -> Result<(), NoMemory>
+        requires { HasRow (plain op.now) }
+        ensures ok { OnOk result (self.new ≡ record self.old { lines = self.old.lines ++ Plain (plain op.now) ∷ [] }) }
+        ensures err { OnErr result (self.new ≡ self.old) }
+    {
+        self.kept.reserve(self.missing as usize + 1)?;
+        op.encode(&mut self.bytes)?;
+        self.kept.push(Kept::Op(op.size())).unwrap();
+        Ok(())
+    }
+
+    /// Puts a jump to a label last. After `NoMemory` the emitter is as before.
+    #[tactic(auto, using(crate::proofs::Counting::kept_leap, crate::proofs::Counting::kept_room, crate::proofs::Lines::lines_and_leap))]
+    pub fn jump(&mut self, jump: Jump, label: u32) -> Result<(), NoMemory>
+        requires { label < self.old.labels }
+        ensures ok { OnOk result (self.new ≡ record self.old { lines = self.old.lines ++ Leap jump label ∷ [] }) }
+        ensures err { OnErr result (self.new ≡ self.old) }
+    {
+        self.kept.reserve(self.missing as usize + 1)?;
+        self.kept.push(Kept::Leap(jump, label)).unwrap();
+        Ok(())
+    }
+
+    /// What is known of every emitter's lines.
+    pub fn sound(&self)
+        ensures { AllByRecursion LineFits self.now.lines }
+    {
+        let _ = &self.missing;
+    }
+
+    /// The file of the code, where each jump has the distance from its own start to its label's place.
+    pub fn finish(self, alloc: Global) -> Result<Vec<u8>, EmitFault>
+        requires placed { (label : ℕ) → label < self.labels → is_marked self.lines label ≡ true }
+        ensures file { IfOk result (λ bytes. bytes.items ≡ file_bytes (program self.lines)) }
+        ensures bounded { OnOk result (file_length (program self.lines) ≤ FILE_BYTES) }
+        ensures fault { IfErr result (λ fault. Fails fault self.lines) }
+    {
+        let labels = self.placed.len();
+        let (places, size) = places_of(alloc, self.kept.as_slice(), labels)?;
+        if size > FILE_BYTES as u64 {
+            return Err(EmitFault::Large(size));
+        }
+        let mut file = Vec::with_capacity(alloc, size as usize)?;
+        file.extend_from_slice(&header(size as u32))?;
+        put_lines(
+            &mut file,
+            self.bytes.as_slice(),
+            self.kept.as_slice(),
+            places.as_slice(),
+            size,
+        )?;
+        Ok(file)
+    }
+}

@@ -1,0 +1,110 @@
+//! The file of labelled code, once all of it is there.
+
+ghost use Rattle.std.specs.Prelude.{◌≡◌, ◌+◌, ◌-ℤ◌, ◌^◌, ◌<◌, ◌≤◌, ◌++◌, ℕ, pos, length, vec_len, replicate, unwrap_or, slice_index_or, None, IfOk, OnOk};
+ghost use Rattle.std.specs.List.{AllByRecursion};
+ghost use Rattle.ncs_code.specs.Plain.{plain};
+ghost use Rattle.ncs_code.specs.Spelling.{spelling};
+ghost use Rattle.ncs_code.specs.File.{spellings};
+ghost use Rattle.ncs_emit.specs.Labelled.{leap, program};
+ghost use Rattle.ncs_emit.specs.Emitting.{HasLabels, KeptFits, kept_place, kept_total, lines_of};
+
+use crate::jump::Jump;
+use crate::line::Kept;
+use ncs_code::{FILE_BYTES, HEADER_BYTES, Op};
+use nwq_value::NoMemory;
+use std::alloc::Global;
+
+/// No place yet for any label.
+fn no_places(alloc: Global, labels: usize) -> Result<Vec<Option<u64>>, NoMemory>
+    ensures { IfOk result (λ places. places.items ≡ replicate labels None) }
+{
+    let mut places = Vec::with_capacity(alloc, labels)?;
+    for _label in 0..labels {
+        places.push(None)?;
+    }
+    Ok(places)
+}
+
+/// Where the first mark of each label stands, and how large the file is.
+pub(crate) fn places_of(
+    alloc: Global,
+    kept: &[Kept],
+    labels: usize,
+) -> Result<(Vec<Option<u64>>, u64), NoMemory>
+    requires bounded { 13 + kept_total kept.now < 2 ^ 64 }
+    requires labelled { AllByRecursion (HasLabels labels) kept.now }
+    ensures size { IfOk result (λ x. x.1 ≡ 13 + kept_total kept.now) }
+    ensures len { IfOk result (λ x. vec_len x.0 ≡ labels) }
+    ensures places { IfOk result (λ x. (label : ℕ) → unwrap_or (slice_index_or x.0.items label None) x.1 ≡ kept_place 13 kept.now label) }
+{
+    let mut places = no_places(alloc, labels)?;
+    let mut at = HEADER_BYTES as u64;
+    for line in kept {
+        match *line {
+            Kept::Op(size) => at += size as u64,
+            Kept::Leap(_, _) => at += 6,
+            Kept::Mark(label) => {
+                let place = &mut places[label as usize];
+                if place.is_none() {
+                    *place = Some(at);
+                }
+            }
+        }
+    }
+    Ok((places, at))
+}
+
+/// The jump over a distance.
+fn jump_over(jump: Jump, distance: i32) -> Op<'static>
+    ensures { plain result ≡ leap jump distance }
+{
+    match jump {
+        Jump::Jmp => Op::Jmp { offset: distance },
+        Jump::Jsr => Op::Jsr { offset: distance },
+        Jump::Jz => Op::Jz { offset: distance },
+        Jump::Jnz => Op::Jnz { offset: distance },
+    }
+}
+
+/// Appends a jump that stands at the end of the file.
+fn put_jump(file: &mut Vec<u8>, jump: Jump, place: u64) -> Result<(), NoMemory>
+    requires long { length file.old.items ≤ FILE_BYTES }
+    requires near { place ≤ FILE_BYTES }
+    ensures { OnOk result (file.new.items ≡ file.old.items ++ spelling (leap jump (pos place -ℤ pos (length file.old.items)))) }
+{
+    let distance = place as i32 - file.len() as i32;
+    jump_over(jump, distance).encode(file)
+}
+
+/// Appends the lines, each jump with the distance from its own start to its label's place.
+pub(crate) fn put_lines(
+    file: &mut Vec<u8>,
+    bytes: &[u8],
+    kept: &[Kept],
+    places: &[Option<u64>],
+    size: u64,
+) -> Result<(), NoMemory>
+    requires begun { length file.old.items ≡ 13 }
+    requires fits { KeptFits (length places.now) bytes.now kept.now }
+    requires whole { size ≡ 13 + kept_total kept.now }
+    requires bounded { size ≤ FILE_BYTES }
+    requires placed { (label : ℕ) → unwrap_or (slice_index_or places.now label None) size ≡ kept_place 13 kept.now label }
+    ensures { OnOk result (file.new.items ≡ file.old.items ++ spellings (program (lines_of bytes.now kept.now))) }
+{
+    let mut rest = bytes;
+    for line in kept {
+        match *line {
+            Kept::Op(count) => {
+                let (spelled, others) = rest.split_at(count as usize);
+                file.extend_from_slice(spelled)?;
+                rest = others;
+            }
+            Kept::Leap(jump, label) => {
+                let place = places[label as usize].unwrap_or(size);
+                put_jump(file, jump, place)?;
+            }
+            Kept::Mark(_) => {}
+        }
+    }
+    Ok(())
+}

@@ -1,0 +1,10 @@
+use crate::jump::Jump;
+
+/// What is kept of a line of labelled code.
+#[derive(Clone, Copy, Debug)]
+pub enum Kept {
+    /// The next so many bytes of the spellings are an instruction.
+    Op(u32),
+    Leap(Jump, u32),
+    Mark(u32),
+}

@@ -1,0 +1,4 @@
+mod Lists
+pub mod Places
+pub mod Scanning
+pub mod Loaded

@@ -1,0 +1,7 @@
+use Rattle.std.proofs.Common.{subst}
+use Rattle.ncs_code.specs.File.{IsCode}
+use Rattle.ncs_file.proofs.Loaded.{loaded_code}
+use Rattle.ncs_file.proofs.code.Code.sound.Goals as goal
+
+pub returns : goal.returns
+returns c = subst IsCode c.self.view_is (loaded_code _ _ _ c.self.invariant)

@@ -1,0 +1,6 @@
+use Rattle.std.proofs.Common.{arith}
+use Rattle.ncs_file.proofs.Scanning.{scan_ends}
+use Rattle.ncs_file.proofs.scan.starts_of.Goals as goal
+
+pub returns-clause-scanned : goal.returns-clause-scanned
+returns-clause-scanned c = scan_ends _ _ c.loop-at.at _ c.loop-at.invariant (omega arith) c.requires.begun

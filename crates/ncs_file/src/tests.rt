@@ -1,0 +1,59 @@
+ghost use Rattle.std.specs.Prelude.{◌≤◌, length};
+
+use super::*;
+use ncs_code::{CodeFault, Op};
+use std::alloc::Global;
+use std::test::*;
+
+const EMPTY: [u8; 13] = *b"NCS V1.0B\x00\x00\x00\x0d";
+
+/// `JSR` over the next instruction, `RETN`, `RETN`.
+const CALL: [u8; 23] = *b"NCS V1.0B\x00\x00\x00\x17\x1e\x00\x00\x00\x00\x08\x20\x00\x20\x00";
+
+fn loaded(alloc: Global, bytes: &[u8]) -> Result<Code, LoadFault>
+    requires { length bytes.now ≤ 16777216 }
+{
+    load(alloc, Vec::from_slice(alloc, bytes)?)
+}
+
+#[test]
+fn small_files(rt: HostRuntime) -> Result<(), Fail> {
+    let code = loaded(rt.alloc(), &EMPTY)?;
+    assert_eq!(rt; code.count(), 0);
+    assert!(rt; code.op_at(13).is_none());
+    let code = loaded(rt.alloc(), &CALL)?;
+    assert_eq!(rt; code.count(), 3);
+    assert_eq!(rt; store(&code), CALL.as_slice());
+    assert!(rt; matches!(code.op_at(13), Some((Op::Jsr { offset: 8 }, 6))));
+    assert!(rt; code.op_at(14).is_none());
+    assert!(rt; matches!(code.op_at(21), Some((Op::Retn, 2))));
+    assert!(rt; code.op_at(23).is_none());
+    Ok(())
+}
+
+#[test]
+fn refused_files(rt: HostRuntime) {
+    assert!(rt; matches!(loaded(rt.alloc(), &EMPTY[..8]), Err(LoadFault::Magic)));
+    assert!(rt; matches!(loaded(rt.alloc(), &EMPTY[..12]), Err(LoadFault::Length)));
+    assert!(rt;
+        matches!(
+            loaded(rt.alloc(), b"NCS V1.0B\x00\x00\x00\x0e"),
+            Err(LoadFault::Length)
+        )
+    );
+    assert!(rt;
+        matches!(
+            loaded(rt.alloc(), b"NCS V1.0B\x00\x00\x00\x0e\x1e"),
+            Err(LoadFault::At(13, CodeFault::Short))
+        )
+    );
+    assert!(rt;
+        matches!(
+            loaded(
+                rt.alloc(),
+                b"NCS V1.0B\x00\x00\x00\x15\x1d\x00\x00\x00\x00\x07\x20\x00"
+            ),
+            Err(LoadFault::Target(13))
+        )
+    );
+}

@@ -1,0 +1,13 @@
+mod TokenLemmas
+mod SentenceLemmas
+mod CodeLemmas
+mod MachineLemmas
+mod StepLemmas
+mod WorkLemmas
+mod PieceLemmas
+mod ScanLemmas
+mod ParseLemmas
+mod SourceLemmas
+mod CommandLemmas
+mod TextLemmas
+mod Rows

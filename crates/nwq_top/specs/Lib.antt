@@ -1,0 +1,15 @@
+pub mod Texts
+pub mod Words
+pub mod Work
+pub mod Tokens
+pub mod Sentence
+pub mod Source
+pub mod Meaning
+pub mod Emission
+pub mod Machine
+pub mod Command
+pub mod Reading
+pub mod Stepping
+pub mod Causes
+pub mod Playing
+pub mod Laws

@@ -1,0 +1,40 @@
+-- The sentences of this stage: `void main ( ) { {print} }` with `print = PrintInteger ( int { + int } ) ;`. A sentence is a list of
+-- sums, a sum the list of its ints.
+use Rattle.std.specs.Prelude.{◌≡◌, ℕ, ◌+◌, ◌<◌, ◌≤◌, List, [], ◌∷◌, ◌++◌, length, take, flat_map}
+use Rattle.nwq_top.specs.declared.tokens.Symbol.{Symbol}
+use Rattle.nwq_top.specs.declared.tokens.Symbol.TheVariants.{Void, Main, PrintInteger, Int, Open, Close, OpenBrace, CloseBrace, Semicolon, Plus}
+
+-- the ints of a sum, parted by `+`
+abbrev pub spelled_sum : List ℕ → List Symbol
+spelled_sum [] = []
+spelled_sum (n ∷ more) = Int n ∷ flat_map (λ m. Plus ∷ Int m ∷ []) more
+
+abbrev pub spelled_print : List ℕ → List Symbol
+spelled_print sum = PrintInteger ∷ Open ∷ (spelled_sum sum ++ Close ∷ Semicolon ∷ [])
+
+abbrev pub spelled : List (List ℕ) → List Symbol
+spelled sums = Void ∷ Main ∷ Open ∷ Close ∷ OpenBrace ∷ (flat_map spelled_print sums ++ CloseBrace ∷ [])
+
+-- each sum has at least one int, and at most 200 signs between them
+abbrev pub AreSums : List (List ℕ) → Type 0
+AreSums [] = Unit {0}
+AreSums (sum ∷ sums) = (0 < length sum) × (length sum ≤ 201) × AreSums sums
+
+-- the tokens are the sentence of these sums
+abbrev pub IsSentence : List Symbol → List (List ℕ) → Type 0
+IsSentence tokens sums = (tokens ≡ spelled sums) × AreSums sums
+
+-- some tokens after these make a sentence
+abbrev pub IsFront : List Symbol → Type 0
+IsFront tokens = (more : List Symbol) × (sums : List (List ℕ)) × IsSentence (tokens ++ more) sums
+
+-- token i is the first with which the tokens are no front of a sentence
+pub record IsFirstUnfit (tokens : List Symbol) (i : ℕ) : Type 0 where
+  pub inside : i < length tokens
+  pub before : IsFront (take i tokens)
+  pub through : IsFront (take (i + 1) tokens) → ⊥
+
+-- the tokens are the front of a sentence and no sentence
+pub record IsUnfinished (tokens : List Symbol) : Type 0 where
+  pub front : IsFront tokens
+  pub none : (sums : List (List ℕ)) → IsSentence tokens sums → ⊥

@@ -1,0 +1,5 @@
+use Rattle.nwq_value.proofs.TableLemmas.{table_empty}
+use Rattle.nwq_value.proofs.table.Table.new.Goals as goal
+
+pub invariant_of-result : goal.invariant_of-result
+invariant_of-result c = rw (c.new.ensures.empty, c.new-2.ensures.empty) (tt, table_empty)

@@ -1,0 +1,146 @@
+use crate::*;
+use std::alloc::Global;
+use std::test::Fail;
+
+fn params_of(alloc: Global, types: &[Ty]) -> Result<Params, NoMemory> {
+    let mut params = Params::new(alloc);
+    for ty in types {
+        params.push(Param {
+            ty: *ty,
+            default: None,
+        })?;
+    }
+    Ok(params)
+}
+
+#[test]
+fn texts_keep_8192_bytes(rt: HostRuntime) -> Result<(), Fail> {
+    let alloc = rt.alloc();
+    let long = Text::of(alloc, vec![in alloc; 7u8; 9000]?.as_slice())?;
+    assert_eq!(rt; long.bytes().len(), 8192);
+    let almost = Text::of(alloc, vec![in alloc; 7u8; 8190]?.as_slice())?;
+    let joined = almost.join(alloc, &Text::of(alloc, b"abc")?)?;
+    assert_eq!(rt; joined.bytes().len(), 8192);
+    assert_eq!(rt; joined.bytes().last(), Some(&b'b'));
+    assert_eq!(rt;
+        Text::of(alloc, b"tag")?.copy(alloc)?.bytes(),
+        b"tag".as_slice()
+    );
+    Ok(())
+}
+
+#[test]
+fn lists_grow_at_their_end(rt: HostRuntime) -> Result<(), Fail> {
+    let alloc = rt.alloc();
+    let mut ints = Ints::of_slice(alloc, &[1, -2])?;
+    ints.push(3)?;
+    ints.extend(&[4, 5])?;
+    assert_eq!(rt; ints.as_slice(), [1, -2, 3, 4, 5].as_slice());
+    ints.clear();
+    assert!(rt; ints.is_empty() && ints.get(0).is_none());
+    Ok(())
+}
+
+#[test]
+fn values_are_equal_by_type_and_content(rt: HostRuntime) -> Result<(), Fail> {
+    let alloc = rt.alloc();
+    let damage = Value::Effect(Effect {
+        routine: 25,
+        ints: Ints::of_slice(alloc, &[10, 8, 0])?,
+    });
+    let heal = Value::Effect(Effect {
+        routine: 26,
+        ints: Ints::of_slice(alloc, &[10, 8, 0])?,
+    });
+    assert!(rt; damage.same(&damage.copy(alloc)?));
+    assert!(rt; !damage.same(&heal));
+    assert!(rt; start_of(alloc, Ty::Object).same(&Value::Object(0)));
+    Ok(())
+}
+
+#[test]
+fn roles_follow_name_and_types(rt: HostRuntime) -> Result<(), Fail> {
+    let wanted: [(&[u8], Ty, &[Ty], Role); 10] = [
+        (b"Random", Ty::Int, &[Ty::Int], Role::Built(0)),
+        (b"Random", Ty::Void, &[Ty::Int], Role::World),
+        (b"random", Ty::Int, &[Ty::Int], Role::World),
+        (
+            b"DeleteLocalString",
+            Ty::Void,
+            &[Ty::Object, Ty::Text],
+            Role::Built(22),
+        ),
+        (b"abs", Ty::Int, &[Ty::Int], Role::Pure(0)),
+        (
+            b"InsertString",
+            Ty::Text,
+            &[Ty::Text, Ty::Text, Ty::Int],
+            Role::Pure(8),
+        ),
+        (
+            b"AssignCommand",
+            Ty::Void,
+            &[Ty::Object, Ty::Action],
+            Role::Built(6),
+        ),
+        (
+            b"AssignCommands",
+            Ty::Void,
+            &[Ty::Object, Ty::Action],
+            Role::Uncallable,
+        ),
+        (
+            b"ExecuteScript",
+            Ty::Void,
+            &[Ty::Text, Ty::Object],
+            Role::World,
+        ),
+        (
+            b"PrintFloat",
+            Ty::Void,
+            &[Ty::Refused, Ty::Int, Ty::Int],
+            Role::Uncallable,
+        ),
+    ];
+    for (name, gives, takes, role) in wanted {
+        let params = params_of(rt.alloc(), takes)?;
+        assert_eq!(rt; role_of(name, gives, params.as_slice()), role);
+    }
+    Ok(())
+}
+
+#[test]
+fn tables_answer_by_number_and_name(rt: HostRuntime) -> Result<(), Fail> {
+    let alloc = rt.alloc();
+    let mut table = Table::new(alloc);
+    let params = Params::new(alloc);
+    let role = role_of(b"Rest", Ty::Int, params.as_slice());
+    let name = Text::of(alloc, b"Rest")?;
+    assert!(rt; table.by_name(name.bytes()).is_none());
+    assert!(rt; table.constant(name.bytes()).is_none());
+    table.push(Routine {
+        name,
+        result: Ty::Int,
+        params,
+        role,
+    })?;
+    assert_eq!(rt; table.by_name(b"Rest"), Some(0));
+    assert_eq!(rt;
+        table.routine(0).map(|routine| routine.role),
+        Some(Role::World)
+    );
+    Ok(())
+}
+
+#[test]
+fn tables_keep_constants(rt: HostRuntime) -> Result<(), Fail> {
+    let alloc = rt.alloc();
+    let mut table = Table::new(alloc);
+    let name = Text::of(alloc, b"TRUE")?;
+    assert!(rt; table.by_name(name.bytes()).is_none());
+    assert!(rt; table.constant(name.bytes()).is_none());
+    table.define(name, Const::Int(1))?;
+    let constant = table.constant(b"TRUE").ok_or("no constant")?;
+    assert_eq!(rt; constant.copy(alloc)?.ty(), Ty::Int);
+    Ok(())
+}
