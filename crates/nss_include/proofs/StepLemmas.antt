@@ -73,7 +73,7 @@ span_of t = record { kind = t.kind; file = t.file; start = t.start; end = t.end 
 same_text : (bytes : List ℕ) (file at : ℕ) (t : Lexeme) → IsFirstToken bytes file at t → take (t.end - t.start) (drop t.start bytes) ≡ t.text
 same_text bytes file at t first =
     let size : t.end - t.start ≡ length t.text = omega (arith, first.last)
-    in ap (λ n. take n (drop t.start bytes)) size ∙ sym first.text
+    in ap (λ n. take n (drop t.start bytes)) size ∙ sym first.begins.front
 
 -- the token of a first token's span is that token
 pub lexeme_in-span_of : (bytes : List ℕ) (file at : ℕ) (t : Lexeme) → IsFirstToken bytes file at t → lexeme_in bytes (span_of t) ≡ t
@@ -98,5 +98,5 @@ begins_step bytes file at end t step first (include u hash stands word) goes = b
 
 pub token_within : (bytes : List ℕ) (file at : ℕ) (t : Lexeme) → IsFirstToken bytes file at t → IsWithin bytes file (Gives (span_of t))
 token_within bytes file at t first =
-    let spelled : IsLexeme t.kind t.text = subst (IsLexeme t.kind) (sym first.text) first.begins.lexeme
-    in (first.file, omega (arith, first.last), first.within, subst (IsLexeme t.kind) (sym (same_text bytes file at t first)) spelled)
+    let spelled = subst (IsLexeme t.kind) (sym (same_text bytes file at t first)) first.begins.lexeme
+    in (first.file, omega (arith, first.last), first.within, spelled)

@@ -1,8 +1,8 @@
-use crate::{GatherFault, Spot, gather};
+use crate::{GatherFault, gather};
 use nss_lexer::Token;
 use nwq_outside::MemFiles;
+use nwq_value::Text;
 use std::alloc::Global;
-use std::process::Abort;
 use std::test::Fail;
 
 /// The texts of the unit of `p` in a row, each with a space behind it.
@@ -17,10 +17,46 @@ fn texts(alloc: Global, files: &mut MemFiles) -> Result<Vec<u8>, GatherFault> {
     Ok(out)
 }
 
-fn expect_spot(rt: &impl Abort, spot: &Spot, name: &[u8], line: u32, at: u32) {
-    assert_eq!(rt; spot.name.bytes(), name);
-    assert_eq!(rt; spot.line, line);
-    assert_eq!(rt; spot.at, at);
+/// What a script comes to.
+#[derive(Clone, Copy, Debug, PartialEq, Eq)]
+enum Outcome {
+    Whole,
+    Bad(u32, u32),
+    Include(u32, u32),
+    Tokens(u32, u32),
+    Other,
+}
+
+fn outcome_of(fault: GatherFault) -> Outcome {
+    match fault {
+        GatherFault::Bad(spot) => Outcome::Bad(spot.line, spot.at),
+        GatherFault::Include(spot) => Outcome::Include(spot.line, spot.at),
+        GatherFault::Tokens(spot) => Outcome::Tokens(spot.line, spot.at),
+        _ => Outcome::Other,
+    }
+}
+
+/// What the script `p` with these bytes comes to, alone.
+fn gathered(alloc: Global, source: &[u8]) -> Result<Outcome, GatherFault> {
+    let mut files = MemFiles::new(alloc);
+    files.add("p.nss", source)?;
+    match gather(alloc, &mut files, "p") {
+        Ok(_unit) => Ok(Outcome::Whole),
+        Err(fault) => Ok(outcome_of(fault)),
+    }
+}
+
+/// The name of the file that the script `p` with these bytes misses.
+fn missing(alloc: Global, source: &[u8]) -> Result<Option<Text>, GatherFault> {
+    let mut files = MemFiles::new(alloc);
+    files.add("p.nss", source)?;
+    match gather(alloc, &mut files, "p") {
+        Ok(_unit) => Ok(None),
+        Err(fault) => match fault {
+            GatherFault::Missing(name) => Ok(Some(name)),
+            _other => Ok(None),
+        },
+    }
 }
 
 #[test]
@@ -52,46 +88,28 @@ fn files_of_units(rt: HostRuntime) -> Result<(), Fail> {
 
 #[test]
 fn faults(rt: HostRuntime) -> Result<(), Fail> {
-    for (source, kind, line, at) in [
-        (b"x #include foo".as_slice(), "include", 1, 2),
-        (b"#include".as_slice(), "include", 1, 0),
-        (b"#include \"\"".as_slice(), "include", 1, 0),
+    for (source, want) in [
+        (b"x #include foo".as_slice(), Outcome::Include(1, 2)),
+        (b"#include".as_slice(), Outcome::Include(1, 0)),
+        (b"#include \"\"".as_slice(), Outcome::Include(1, 0)),
         (
-            b"#include \"a234567890123456_\"".as_slice(),
-            "include",
-            1,
-            0,
+            b"#include \"a2345678901234567\"".as_slice(),
+            Outcome::Include(1, 0),
         ),
-        (b"\n#include \"a.b\" @".as_slice(), "include", 2, 1),
-        (b"#include @".as_slice(), "bad", 1, 9),
-        (b"void main() { \"a".as_slice(), "bad", 1, 14),
-        (b"x\n# @".as_slice(), "bad", 2, 4),
+        (b"\n#include \"a.b\" @".as_slice(), Outcome::Include(2, 1)),
+        (b"#include @".as_slice(), Outcome::Bad(1, 9)),
+        (b"void main() { \"a".as_slice(), Outcome::Bad(1, 14)),
+        (b"x\n# @".as_slice(), Outcome::Bad(2, 4)),
     ] {
-        let mut files = MemFiles::new(rt.alloc());
-        files.add("p.nss", source)?;
-        match gather(rt.alloc(), &mut files, "p") {
-            Err(GatherFault::Bad(spot)) => {
-                assert_eq!(rt; kind, "bad");
-                expect_spot(&rt, &spot, b"p.nss", line, at);
-            }
-            Err(GatherFault::Include(spot)) => {
-                assert_eq!(rt; kind, "include");
-                expect_spot(&rt, &spot, b"p.nss", line, at);
-            }
-            _ => assert!(rt; false, "{source:?}"),
-        }
+        assert_eq!(rt; gathered(rt.alloc(), source)?, want, "{source:?}");
     }
     Ok(())
 }
 
 #[test]
 fn missing_include(rt: HostRuntime) -> Result<(), Fail> {
-    let mut files = MemFiles::new(rt.alloc());
-    files.add("p.nss", b"x #include \"NoPe\" @")?;
-    match gather(rt.alloc(), &mut files, "p") {
-        Err(GatherFault::Missing(name)) => assert_eq!(rt; name.bytes(), b"nope.nss".as_slice()),
-        _ => assert!(rt; false, "nope is missing"),
-    }
+    let name = missing(rt.alloc(), b"x #include \"NoPe\" @")?.ok_or("nothing is missing")?;
+    assert_eq!(rt; name.bytes(), b"nope.nss".as_slice());
     Ok(())
 }
 
@@ -104,23 +122,18 @@ fn signs(alloc: Global, count: usize, last: &[u8]) -> Result<Vec<u8>, GatherFaul
 
 #[test]
 fn token_limit(rt: HostRuntime) -> Result<(), Fail> {
-    let mut files = MemFiles::new(rt.alloc());
-    files.add("p.nss", signs(rt.alloc(), 100_000, b"")?.as_slice())?;
-    assert!(rt; gather(rt.alloc(), &mut files, "p").is_ok());
-    files.add(
-        "p.nss",
-        signs(rt.alloc(), 99_997, b"#include \"p\"")?.as_slice(),
-    )?;
-    assert!(rt; gather(rt.alloc(), &mut files, "p").is_ok());
-    for (count, last) in [
-        (100_000, b";".as_slice()),
-        (99_998, b"#include \"p\"".as_slice()),
+    for (count, last, want) in [
+        (100_000, b"".as_slice(), Outcome::Whole),
+        (99_997, b"#include \"p\"".as_slice(), Outcome::Whole),
+        (100_000, b";".as_slice(), Outcome::Tokens(1, 100_000)),
+        (
+            99_998,
+            b"#include \"p\"".as_slice(),
+            Outcome::Tokens(1, 99_998),
+        ),
     ] {
-        files.add("p.nss", signs(rt.alloc(), count, last)?.as_slice())?;
-        match gather(rt.alloc(), &mut files, "p") {
-            Err(GatherFault::Tokens(spot)) => expect_spot(&rt, &spot, b"p.nss", 1, count as u32),
-            _ => assert!(rt; false, "too many tokens"),
-        }
+        let source = signs(rt.alloc(), count, last)?;
+        assert_eq!(rt; gathered(rt.alloc(), source.as_slice())?, want);
     }
     Ok(())
 }
