@@ -18,3 +18,6 @@ pub use emitter::Emitter;
 pub use fault::EmitFault;
 pub use jump::Jump;
 pub use laws::finished_is_code;
+
+#[cfg(test)]
+mod tests;
