@@ -1,4 +1,4 @@
-use Rattle.std.proofs.Common.{◌≡◌, ap, arith, subst, true, pos}
+use Rattle.std.proofs.Common.{◌≡◌, ap, arith, subst, true}
 use Rattle.ncs_code.specs.Plain.{Retn}
 use Rattle.ncs_emit.specs.Labelled.{is_marked, Plain}
 use Rattle.ncs_emit.proofs.Lines.{mark_placed, mark_follows}
