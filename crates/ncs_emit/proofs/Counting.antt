@@ -1,6 +1,5 @@
 -- The parts of an emitter agree after each call.
-use Rattle.std.proofs.Common.{◌≡◌, ◌≢◌, ◌<◌, ◌≤◌, ◌+◌, ◌++◌, ◌-◌, ◌^◌, ◌∷◌, [], ℕ, suc, zero, List, length, get_or, set, sym, ◌∙◌, ap, arith, refl, subst, true, false, Bool, eqb, inl, inr}
-use Rattle.std.specs.List.{AllByRecursion}
+use Rattle.std.proofs.Common.{◌≡◌, ◌<◌, ◌≤◌, ◌+◌, ◌++◌, ◌^◌, ◌∷◌, [], ℕ, suc, zero, List, length, get_or, set, sym, ◌∙◌, ap, arith, refl, subst, true, false, Bool, eqb, inl, inr}
 use Rattle.std.proofs.lemmas.Bool.{eqb-true, eqb-false, cases_lt}
 use Rattle.std.proofs.lemmas.List.{length-append, get_or_push, get_or_append_left, get_or-set_same, get_or-set_other, length-set}
 use Rattle.ncs_code.specs.Plain.{PlainOp}

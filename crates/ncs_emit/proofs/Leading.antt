@@ -1,5 +1,5 @@
 -- The file of code whose lines lead to instructions is one that loads.
-use Rattle.std.proofs.Common.{rules, ◌≡◌, ◌≢◌, ◌<◌, ◌≤◌, ◌+◌, ◌++◌, ◌^◌, ◌∷◌, [], ℕ, ℤ, pos, negsuc, ◌+ℤ◌, ◌-ℤ◌, suc, zero, List, length, sym, ◌∙◌, ap, arith, refl, subst, true, false, Bool, eqb, cond, Option, Some, None}
+use Rattle.std.proofs.Common.{rules, ◌≡◌, ◌≤◌, ◌+◌, ◌∷◌, [], ℕ, pos, ◌+ℤ◌, ◌-ℤ◌, List, length, sym, ◌∙◌, ap, arith, refl, true, false, Bool, eqb, cond, Some, None}
 use Rattle.std.specs.Prelude.{◌&&◌, is_some, FitsSigned}
 use Rattle.std.specs.Int.{w32}
 use Rattle.std.specs.List.{AllByRecursion}

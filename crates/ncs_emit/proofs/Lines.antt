@@ -1,5 +1,5 @@
 -- The lines that an emitter keeps, when one more comes.
-use Rattle.std.proofs.Common.{◌≡◌, ◌<◌, ◌≤◌, ◌+◌, ◌++◌, ◌-◌, ◌∷◌, [], ℕ, suc, zero, List, length, take, drop, sym, ◌∙◌, ap, arith, refl, subst, true, false, append_assoc, Bool, cond, eqb}
+use Rattle.std.proofs.Common.{◌≡◌, ◌<◌, ◌≤◌, ◌+◌, ◌++◌, ◌∷◌, [], ℕ, List, length, drop, sym, ◌∙◌, ap, arith, refl, subst, true, false, append_assoc, Bool, eqb}
 use Rattle.std.specs.Prelude.{◌||◌}
 use Rattle.std.specs.List.{AllByRecursion}
 use Rattle.std.proofs.lemmas.Bool.{ne_eqb}
@@ -11,7 +11,7 @@ use Rattle.ncs_code.proofs.Readings.{op_again}
 use Rattle.ncs_emit.specs.declared.jump.Jump.{Jump}
 use Rattle.ncs_emit.specs.declared.line.Kept.{Kept}
 use Rattle.ncs_emit.specs.declared.line.Kept.TheVariants as kept
-use Rattle.ncs_emit.specs.Labelled.{Line, Plain, Leap, Mark, is_marked}
+use Rattle.ncs_emit.specs.Labelled.{Draft, Line, Plain, Leap, Mark, is_marked}
 use Rattle.ncs_emit.specs.Emitting.{lines_of, KeptFits, HasLabels}
 use Rattle.ncs_emit.specs.Laws.{LineFits}
 
@@ -121,6 +121,10 @@ or_true : (b : Bool) → (b || true) ≡ true
 or_true true = refl
 or_true false = refl
 
+or_kept : (a b c : Bool) → (a || b) ≡ true → (b ≡ true → c ≡ true) → (a || c) ≡ true
+or_kept true b c h f = refl
+or_kept false b c h f = f h
+
 or_false : (b : Bool) → (b || false) ≡ b
 or_false true = refl
 or_false false = refl
@@ -159,3 +163,16 @@ labels_made labels bytes [] fits = tt
 labels_made labels bytes (kept.Op s ∷ all) fits = (tt, labels_made labels (drop s bytes) all fits.1)
 labels_made labels bytes (kept.Leap j l ∷ all) fits = (fits.0, labels_made labels bytes all fits.1)
 labels_made labels bytes (kept.Mark l ∷ all) fits = (fits.0, labels_made labels bytes all fits.1)
+
+-- a mark stays
+pub mark_kept : (lines : List Line) (more : Line) (label : ℕ) → is_marked lines label ≡ true → is_marked (lines ++ more ∷ []) label ≡ true
+mark_kept [] more label h = absurd cc
+mark_kept (Plain o ∷ lines) more label h = mark_kept lines more label h
+mark_kept (Leap w l ∷ lines) more label h = mark_kept lines more label h
+mark_kept (Mark l ∷ lines) more label h = or_kept (eqb l label) (is_marked lines label) (is_marked (lines ++ more ∷ []) label) h (mark_kept lines more label)
+
+pub mark_placed : (old new : Draft) (label : ℕ) → new ≡ record { lines = old.lines ++ Mark label ∷ []; labels = old.labels } → is_marked new.lines label ≡ true
+mark_placed old new label is = ap (λ d. is_marked d.lines label) is ∙ marked_here old.lines label
+
+pub mark_follows : (old new : Draft) (more : Line) (label : ℕ) → is_marked old.lines label ≡ true → new ≡ record { lines = old.lines ++ more ∷ []; labels = old.labels } → is_marked new.lines label ≡ true
+mark_follows old new more label h is = ap (λ d. is_marked d.lines label) is ∙ mark_kept old.lines more label h

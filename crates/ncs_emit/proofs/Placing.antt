@@ -1,17 +1,15 @@
 -- Where the labels of labelled code stand.
-use Rattle.std.proofs.Common.{◌≡◌, ◌≢◌, ◌<◌, ◌≤◌, ◌+◌, ◌++◌, ◌-◌, ◌∷◌, [], ℕ, suc, zero, List, length, get_or, set, drop, sym, ◌∙◌, ap, arith, refl, subst, true, false, Bool, eqb, cond, ℤ, Option, Some, None, replicate}
+use Rattle.std.proofs.Common.{◌≡◌, ◌<◌, ◌≤◌, ◌+◌, ◌∷◌, [], ℕ, suc, zero, List, length, get_or, set, drop, sym, ◌∙◌, ap, arith, refl, subst, true, false, Bool, eqb, cond, ℤ, Option, Some, None, replicate}
 use Rattle.std.specs.Prelude.{unwrap_or}
 use Rattle.std.specs.List.{AllByRecursion}
-use Rattle.std.proofs.lemmas.Bool.{eqb-true, eqb-false, ne_eqb}
-use Rattle.std.proofs.lemmas.List.{drop_more, length-replicate, get_or-set_same, get_or-set_other, length-set, length-append, drop_at}
-use Rattle.ncs_code.specs.Plain.{PlainOp}
-use Rattle.ncs_code.specs.Spelling.{spelling, HasRow, has_type}
-use Rattle.ncs_code.specs.Reading.{op_of}
+use Rattle.std.proofs.lemmas.Bool.{eqb-true, eqb-false}
+use Rattle.std.proofs.lemmas.List.{drop_more, length-replicate, get_or-set_same, get_or-set_other, length-set}
+use Rattle.ncs_code.specs.Spelling.{HasRow, has_type}
 use Rattle.ncs_emit.specs.declared.jump.Jump.{Jump}
 use Rattle.ncs_emit.specs.declared.jump.Jump.TheVariants.{Jmp, Jsr, Jz, Jnz}
 use Rattle.ncs_emit.specs.declared.line.Kept.{Kept}
 use Rattle.ncs_emit.specs.declared.line.Kept.TheVariants as kept
-use Rattle.ncs_emit.specs.Labelled.{Line, leap, place_from}
+use Rattle.ncs_emit.specs.Labelled.{leap, place_from}
 use Rattle.ncs_emit.specs.Emitting.{lines_of, HasLabels, KeptFits, kept_place, kept_total}
 
 -- the mark of a label has the same place in what is kept as in the lines

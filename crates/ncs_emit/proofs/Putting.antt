@@ -1,8 +1,7 @@
 -- Writing the lines out.
-use Rattle.std.proofs.Common.{◌≡◌, ◌<◌, ◌≤◌, ◌+◌, ◌*◌, ◌++◌, ◌-◌, ◌∷◌, [], ℕ, ℤ, pos, ◌-ℤ◌, suc, zero, List, length, get_or, take, drop, sym, ◌∙◌, ap, arith, refl, subst, append_assoc, Option, None}
+use Rattle.std.proofs.Common.{◌≡◌, ◌<◌, ◌≤◌, ◌+◌, ◌*◌, ◌++◌, ◌∷◌, [], ℕ, ℤ, pos, ◌-ℤ◌, List, length, get_or, take, drop, sym, ◌∙◌, ap, arith, refl, subst, append_assoc, Option, None}
 use Rattle.std.specs.Prelude.{unwrap_or}
 use Rattle.std.proofs.lemmas.List.{length-append, append-nil, take_at, drop_more}
-use Rattle.ncs_code.specs.Plain.{PlainOp}
 use Rattle.ncs_code.specs.Spelling.{spelling, signed, four}
 use Rattle.ncs_code.specs.Reading.{op_of}
 use Rattle.ncs_code.specs.File.{magic, spellings, file_length, file_bytes}

@@ -7,7 +7,7 @@ use Rattle.ncs_emit.specs.declared.line.Kept.{Kept}
 use Rattle.ncs_emit.specs.declared.line.Kept.TheVariants as kept
 use Rattle.ncs_emit.specs.declared.fault.EmitFault.{EmitFault}
 use Rattle.ncs_emit.specs.declared.fault.EmitFault.TheVariants.{Large, NoMemory}
-use Rattle.ncs_emit.specs.Labelled.{Line, Plain, Leap, Mark, Draft, is_marked, program}
+use Rattle.ncs_emit.specs.Labelled.{Line, Plain, Leap, Mark, is_marked, program}
 
 -- the lines that are kept as spellings and what stands between them
 abbrev pub lines_of : List ℕ → List Kept → List Line

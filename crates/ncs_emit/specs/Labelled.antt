@@ -1,9 +1,9 @@
 -- Code with labels, and the instructions that it stands for.
-use Rattle.std.specs.Prelude.{◌≡◌, ℕ, ℤ, pos, ◌+◌, ◌<◌, ◌-ℤ◌, List, [], ◌∷◌, length, Bool, true, false, ◌==◌, ◌||◌, if◌then◌else◌, IsTrue}
+use Rattle.std.specs.Prelude.{ℕ, ℤ, pos, ◌+◌, ◌-ℤ◌, List, [], ◌∷◌, length, Bool, false, ◌==◌, ◌||◌, if◌then◌else◌}
 use Rattle.ncs_code.specs.Plain.{PlainOp}
 use Rattle.ncs_code.specs.Plain as ops
-use Rattle.ncs_code.specs.Spelling.{spelling, IsOp}
-use Rattle.ncs_code.specs.File.{header_size, begins}
+use Rattle.ncs_code.specs.Spelling.{spelling}
+use Rattle.ncs_code.specs.File.{header_size}
 use Rattle.ncs_emit.specs.declared.jump.Jump.{Jump}
 use Rattle.ncs_emit.specs.declared.jump.Jump.TheVariants.{Jmp, Jsr, Jz, Jnz}
 

@@ -1,5 +1,5 @@
 -- When the file of labelled code is one that loads.
-use Rattle.std.specs.Prelude.{◌≡◌, ℕ, ◌≤◌, List, [], ◌∷◌, Bool, true, false, ◌==◌, ◌&&◌, if◌then◌else◌, IsTrue}
+use Rattle.std.specs.Prelude.{ℕ, ◌≤◌, List, [], ◌∷◌, Bool, true, false, ◌==◌, ◌&&◌, if◌then◌else◌, IsTrue}
 use Rattle.std.specs.List.{AllByRecursion}
 use Rattle.ncs_code.specs.Plain.{PlainOp, Jmp, Jsr, Jz, Jnz, StoreState}
 use Rattle.ncs_code.specs.Spelling.{IsOp}

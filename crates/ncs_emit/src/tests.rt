@@ -3,6 +3,7 @@ use ncs_code::{Lit, Op};
 use std::test::*;
 
 #[test]
+#[tactic(auto, unfolding(ncs_code::specs::Spelling::has_type))]
 fn nothing_at_all(rt: HostRuntime) -> Result<(), Fail> {
     let mut code = Emitter::new(rt.alloc());
     let entry = code.label()?;
@@ -19,6 +20,7 @@ fn nothing_at_all(rt: HostRuntime) -> Result<(), Fail> {
 }
 
 #[test]
+#[tactic(auto, unfolding(ncs_code::specs::Spelling::has_type))]
 fn a_sum_is_printed(rt: HostRuntime) -> Result<(), Fail> {
     let mut code = Emitter::new(rt.alloc());
     let entry = code.label()?;

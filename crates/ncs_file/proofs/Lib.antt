@@ -2,3 +2,4 @@ mod Lists
 pub mod Places
 pub mod Scanning
 pub mod Loaded
+pub mod Targets

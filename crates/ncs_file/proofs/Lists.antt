@@ -1,4 +1,4 @@
-use Rattle.std.proofs.Common.{◌≡◌, ◌≤◌, ◌+◌, ◌++◌, ◌-◌, ◌∷◌, [], ℕ, suc, zero, List, length, take, drop, sym, ◌∙◌, ap, arith, refl, true, false, replicate, append_assoc, Bool}
+use Rattle.std.proofs.Common.{◌≡◌, ◌≤◌, ◌+◌, ◌++◌, ◌-◌, ◌∷◌, [], ℕ, List, length, take, sym, ◌∙◌, ap, arith, refl, true, false, replicate, append_assoc, Bool}
 use Rattle.std.proofs.lemmas.List as lists
 use Rattle.ncs_code.specs.File.{magic}
 use Rattle.ncs_code.specs.Spelling.{four}

@@ -1,7 +1,7 @@
 -- What a loaded file is, and that nothing else could have been loaded.
-use Rattle.std.proofs.Common.{◌≡◌, ◌<◌, ◌≤◌, ◌+◌, ◌++◌, ◌-◌, ◌∷◌, [], ℕ, suc, zero, List, length, take, drop, get_or, sym, ◌∙◌, ap, arith, refl, subst, true, false, append_assoc, Bool, Option, Some, None, cond, inl, inr}
+use Rattle.std.proofs.Common.{◌≡◌, ◌<◌, ◌≤◌, ◌++◌, ◌∷◌, [], ℕ, List, length, take, drop, get_or, sym, ◌∙◌, ap, arith, refl, subst, true, false, append_assoc, Bool, Option, Some, None, inl, inr}
 use Rattle.std.specs.Prelude.{is_some}
-use Rattle.std.specs.List.{flat_map, AllByRecursion}
+use Rattle.std.specs.List.{AllByRecursion}
 use Rattle.std.proofs.lemmas.List.{length-append, length-drop, drop_at, get_or_past}
 use Rattle.std.proofs.lemmas.Bool.{cases_lt}
 use Rattle.ncs_code.specs.Plain.{PlainOp}
@@ -13,7 +13,7 @@ use Rattle.ncs_code.proofs.Sound.{sound}
 use Rattle.ncs_file.specs.declared.fault.LoadFault.{LoadFault}
 use Rattle.ncs_file.specs.declared.fault.LoadFault.TheVariants.{Magic, Length, At, Target, NoMemory}
 use Rattle.ncs_file.specs.Loading.{Fails}
-use Rattle.ncs_file.specs.Marks.{marks, listing, IsLoaded, IsScanned}
+use Rattle.ncs_file.specs.Marks.{listing, IsLoaded, IsScanned}
 use Rattle.ncs_file.proofs.Places.{drop_header, length_file, length_marks, marked, found_at}
 use Rattle.ncs_file.proofs.Scanning.{listing_is}
 

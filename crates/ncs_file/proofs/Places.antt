@@ -1,13 +1,12 @@
 -- Instructions by place, and the table of their beginnings.
-use Rattle.std.proofs.Common.{◌≡◌, ◌≢◌, ◌<◌, ◌≤◌, ◌+◌, ◌++◌, ◌-◌, ◌∷◌, [], ℕ, suc, zero, List, length, take, drop, get_or, sym, ◌∙◌, ap, arith, refl, subst, true, false, replicate, append_assoc, Bool, Option, Some, None, eqb, cond, inl, inr}
+use Rattle.std.proofs.Common.{◌≡◌, ◌<◌, ◌≤◌, ◌+◌, ◌++◌, ◌-◌, ◌∷◌, [], ℕ, suc, zero, List, length, drop, get_or, sym, ◌∙◌, ap, arith, refl, subst, true, false, replicate, Bool, Some, None, eqb, inl, inr}
 use Rattle.std.specs.Prelude.{is_some, ℤ, pos, negsuc, ◌≤ℤ◌, unsigned_abs}
 use Rattle.std.specs.List.{flat_map, AllByRecursion}
 use Rattle.std.proofs.lemmas.Bool.{ne_eqb, cases_lt}
 use Rattle.std.proofs.lemmas.List.{get_or-replicate, length-replicate, drop-drop, drop_at, length-append, get_or_append_left, get_or-append_right}
-use Rattle.std.proofs.Math.Dec.{eqb_refl}
 use Rattle.ncs_code.specs.Plain.{PlainOp}
 use Rattle.ncs_code.specs.Spelling.{spelling, four, IsOp}
-use Rattle.ncs_code.specs.File.{magic, header_size, spellings, file_bytes, file_length, op_from, op_at, begins}
+use Rattle.ncs_code.specs.File.{spellings, file_bytes, file_length, op_from, op_at, begins}
 use Rattle.ncs_code.proofs.Lengths.{spelling_some}
 use Rattle.ncs_file.specs.Marks.{mark, marks}
 

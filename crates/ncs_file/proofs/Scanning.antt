@@ -1,6 +1,6 @@
 -- What the two passes over a file keep.
-use Rattle.std.proofs.Common.{◌≡◌, ◌<◌, ◌≤◌, ◌+◌, ◌++◌, ◌-◌, ◌∷◌, [], ℕ, suc, zero, List, length, take, drop, sym, ◌∙◌, ap, arith, refl, subst, true, false, replicate, append_assoc, Bool, Option, Some, None, cond}
-use Rattle.std.specs.List.{flat_map, AllByRecursion}
+use Rattle.std.proofs.Common.{◌≡◌, ◌<◌, ◌≤◌, ◌+◌, ◌++◌, ◌-◌, ◌∷◌, [], ℕ, List, length, drop, sym, ◌∙◌, ap, arith, refl, subst, true, false, replicate, append_assoc, Bool, Some, None, cond}
+use Rattle.std.specs.List.{AllByRecursion}
 use Rattle.std.proofs.lemmas.List.{drop-drop, length-append, length-drop, length-take, take-append-drop, flat_map_more, drop_at, append-nil}
 use Rattle.ncs_code.specs.declared.fault.CodeFault.{CodeFault}
 use Rattle.ncs_code.specs.Plain.{PlainOp}

@@ -1,5 +1,5 @@
 -- Why bytes are no file of bytecode.
-use Rattle.std.specs.Prelude.{◌≡◌, ◌≢◌, ℕ, ◌<◌, List, ◌++◌, length, take, drop, Option, Some, None}
+use Rattle.std.specs.Prelude.{◌≡◌, ◌≢◌, ℕ, ◌<◌, List, ◌++◌, length, take, drop, Some}
 use Rattle.std.specs.List.{AllByRecursion}
 use Rattle.ncs_code.specs.declared.fault.CodeFault.{CodeFault}
 use Rattle.ncs_code.specs.Plain.{PlainOp}

@@ -1,5 +1,5 @@
 -- A table that tells at once where instructions begin.
-use Rattle.std.specs.Prelude.{ℕ, ◌-◌, ◌≤◌, None, ◌≡◌, List, [], ◌∷◌, ◌++◌, length, Bool, true, false, replicate, drop}
+use Rattle.std.specs.Prelude.{ℕ, ◌-◌, ◌≤◌, None, ◌≡◌, List, ◌∷◌, ◌++◌, length, Bool, true, false, replicate, drop}
 use Rattle.std.specs.List.{flat_map, AllByRecursion}
 use Rattle.ncs_code.specs.Plain.{PlainOp}
 use Rattle.ncs_code.specs.Spelling.{spelling, IsOp}

@@ -9,10 +9,12 @@
 
 mod code;
 mod fault;
+mod laws;
 mod scan;
 
 pub use code::{Code, load, store};
 pub use fault::LoadFault;
+pub use laws::{next_begins, targets_begin};
 
 #[cfg(test)]
 mod tests;
