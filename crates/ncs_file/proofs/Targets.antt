@@ -1,6 +1,6 @@
 -- Where the instructions of a file lead.
-use Rattle.std.proofs.Common.{◌≡◌, ◌<◌, ◌≤◌, ◌+◌, ◌++◌, ◌∷◌, [], ℕ, pos, List, length, sym, ◌∙◌, ap, arith, refl, subst, true, false, Bool, Option, Some, None, eqb, cond, ◌⊎◌, inl, inr}
-use Rattle.std.specs.Prelude.{is_some, IsTrue}
+use Rattle.std.proofs.Common.{◌≡◌, ◌≤◌, ◌+◌, ◌∷◌, [], ℕ, pos, List, length, sym, ◌∙◌, ap, arith, refl, subst, true, false, Bool, Option, Some, None, eqb, cond, ◌⊎◌, inl, inr}
+use Rattle.std.specs.Prelude.{is_some}
 use Rattle.std.proofs.lemmas.Bool.{eqb-true, ne_eqb}
 use Rattle.std.proofs.lemmas.List.{length-append}
 use Rattle.ncs_code.specs.Plain.{PlainOp}
