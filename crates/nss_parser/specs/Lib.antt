@@ -8,3 +8,4 @@ pub mod Sentence
 pub mod Nest
 pub mod Fault
 pub mod Outcome
+pub mod ReadExpression

@@ -1,6 +1,6 @@
 -- How deep the tokens nest, counted over the tokens alone. A list of numbers is carried over them, with a
 -- count of open `do`s beside each number; the nest of a token is the sum of the numbers after it.
-use Rattle.std.specs.Prelude.{ℕ, ◌+◌, ◌-◌, ◌<◌, ◌≤◌, Bool, true, false, ◌&&◌, not, List, [], ◌∷◌, Option, None, Some, sum_by, slice_index, if◌then◌else◌}
+use Rattle.std.specs.Prelude.{ℕ, ◌+◌, ◌-◌, ◌<◌, ◌≤◌, ◌==◌, Bool, true, false, ◌&&◌, not, List, [], ◌∷◌, Option, None, Some, sum_by, slice_index, if◌then◌else◌}
 use Rattle.nss_parser.specs.declared.mark.Mark.{Mark}
 use Rattle.nss_parser.specs.declared.mark.Mark.TheVariants as mark
 use Rattle.nss_parser.specs.Symbols.{Symbol, Sign}

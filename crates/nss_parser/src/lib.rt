@@ -7,6 +7,7 @@
 
 pub mod fault;
 pub mod mark;
+mod operator;
 pub mod reader;
 
 pub use fault::ParseFault;
