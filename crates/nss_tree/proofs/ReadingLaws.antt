@@ -12,17 +12,17 @@ row_items : {n : _} (es : Row_of-Expr n) → plain_row es ≡ plain_exprs (items
 row_items end_of-Expr = search rules
 row_items (more_of-Expr x xs) = search (rules, row_items xs)
 
-call_is : (n : ℕ) (f : List ℕ) (args : Vec Expr Global) → plain_expr (v.Call n f args) ≡ e.call n f (plain_exprs args.items)
+pub call_is : (n : ℕ) (f : List ℕ) (args : Vec Expr Global) → plain_expr (v.Call n f args) ≡ e.call n f (plain_exprs args.items)
 call_is n f args = search (rules, v.the_lemmas, row_items)
 
 stmt_row_items : {n : _} (es : Row_of-Stmt n) → plain_stmt_row es ≡ plain_stmts (items-the_row-Stmt n es)
 stmt_row_items end_of-Stmt = search rules
 stmt_row_items (more_of-Stmt x xs) = search (rules, stmt_row_items xs)
 
-block_is : (n : ℕ) (xs : Vec Stmt Global) → plain_stmt (w.Block n xs) ≡ s.block n (plain_stmts xs.items)
+pub block_is : (n : ℕ) (xs : Vec Stmt Global) → plain_stmt (w.Block n xs) ≡ s.block n (plain_stmts xs.items)
 block_is n xs = search (rules, w.the_lemmas, stmt_row_items)
 
-switch_is : (n : ℕ) (x : Expr) (xs : Vec Stmt Global) → plain_stmt (w.Switch n x xs) ≡ s.switch n (plain_expr x) (plain_stmts xs.items)
+pub switch_is : (n : ℕ) (x : Expr) (xs : Vec Stmt Global) → plain_stmt (w.Switch n x xs) ≡ s.switch n (plain_expr x) (plain_stmts xs.items)
 switch_is n x xs = search (rules, w.the_lemmas, stmt_row_items)
 
 -- a variant that is known by an equation
