@@ -24,3 +24,8 @@ mutual
   pub data PlainExprs : Type 0 where
     no_expr : PlainExprs
     more_exprs : PlainExpr → PlainExprs → PlainExprs
+
+-- one list after another
+abbrev pub joined_exprs : PlainExprs → PlainExprs → PlainExprs
+joined_exprs no_expr ys = ys
+joined_exprs (more_exprs x xs) ys = more_exprs x (joined_exprs xs ys)

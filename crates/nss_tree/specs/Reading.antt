@@ -14,7 +14,7 @@ use Rattle.nss_tree.specs.declared.units.Item.{Item}
 use Rattle.nss_tree.specs.declared.units.Item.TheVariants.{Struct, Const, Global, Function}
 use Rattle.nss_tree.specs.declared.units.Tree.{Tree}
 
-abbrev mutual
+unfoldable mutual
   pub plain_expr : Expr → PlainExpr
   plain_expr (Int n v) = e.int n v
   plain_expr (Float n) = e.float n
@@ -34,7 +34,7 @@ abbrev mutual
   plain_row (more_of-Expr x xs) = e.more_exprs (plain_expr x) (plain_row xs)
 
 -- the same of the list that code sees
-abbrev pub plain_exprs : List Expr → PlainExprs
+unfoldable pub plain_exprs : List Expr → PlainExprs
 plain_exprs [] = e.no_expr
 plain_exprs (x ∷ xs) = e.more_exprs (plain_expr x) (plain_exprs xs)
 
@@ -44,7 +44,7 @@ plain_name d = record { token = d.token; name = d.name; value = option_map plain
 abbrev pub plain_names : List DeclaredName → List PlainDeclared
 plain_names = map plain_name
 
-abbrev mutual
+unfoldable mutual
   pub plain_stmt : Stmt → PlainStmt
   plain_stmt (Block' n shape xs) = s.block n (plain_stmt_row xs)
   plain_stmt (Empty n) = s.empty n
@@ -66,7 +66,7 @@ abbrev mutual
   plain_stmt_row end_of-Stmt = s.no_stmt
   plain_stmt_row (more_of-Stmt x xs) = s.more_stmts (plain_stmt x) (plain_stmt_row xs)
 
-abbrev pub plain_stmts : List Stmt → PlainStmts
+unfoldable pub plain_stmts : List Stmt → PlainStmts
 plain_stmts [] = s.no_stmt
 plain_stmts (x ∷ xs) = s.more_stmts (plain_stmt x) (plain_stmts xs)
 

@@ -34,3 +34,8 @@ mutual
   pub data PlainStmts : Type 0 where
     no_stmt : PlainStmts
     more_stmts : PlainStmt → PlainStmts → PlainStmts
+
+-- one list after another
+abbrev pub joined_stmts : PlainStmts → PlainStmts → PlainStmts
+joined_stmts no_stmt ys = ys
+joined_stmts (more_stmts x xs) ys = more_stmts x (joined_stmts xs ys)
