@@ -3,3 +3,4 @@ pub mod Statements
 pub mod Units
 pub mod Reading
 pub mod Places
+pub mod Seeking
