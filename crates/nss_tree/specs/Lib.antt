@@ -1,0 +1,6 @@
+pub mod Expressions
+pub mod Statements
+pub mod Units
+pub mod Reading
+pub mod Places
+pub mod Seeking

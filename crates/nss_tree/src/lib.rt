@@ -1,0 +1,24 @@
+//! The syntax tree of a unit of NWScript.
+//!
+//! A node keeps the number of its token in the unit's token list, a name its bytes, a string literal the
+//! bytes that it stands for, and an int literal its value; a parenthesised expression is no node.
+//! Expressions and statements lead back to themselves through boxes and vectors, so definitions speak of
+//! the plain tree in their place (`specs/Expressions.antt`, `specs/Statements.antt`, `specs/Units.antt`),
+//! which the one reading in `specs/Reading.antt` takes from the tree. Each variant has a constructor
+//! function whose clause says what it adds to the plain tree. `specs/Places.antt` says which nodes a tree
+//! has, in which order, and which token each has; [`Tree::place`] answers by it.
+#![tactic(auto)]
+
+pub mod constants;
+pub mod expressions;
+pub mod operators;
+#[tactic(auto, using(crate::proofs::ReadingLaws::plain_cases, crate::proofs::SeekLaws::seek_laws))]
+pub mod places;
+pub mod statements;
+pub mod units;
+
+pub use constants::{Constant, TypeName};
+pub use expressions::Expr;
+pub use operators::{AssignOperator, BinaryOperator, PostfixOperator, PrefixOperator};
+pub use statements::{DeclaredName, Stmt};
+pub use units::{FieldLine, Identifier, Item, Parameter, Tree};
