@@ -6,3 +6,5 @@ pub mod ExpressionSteps
 pub mod ExpressionComplete
 pub mod ExpressionLocal
 pub mod ExpressionRight
+pub mod NameLemmas
+pub mod CursorLemmas

@@ -9,3 +9,4 @@ pub mod Nest
 pub mod Fault
 pub mod Outcome
 pub mod ReadExpression
+pub mod Cursor
