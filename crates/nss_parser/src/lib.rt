@@ -6,6 +6,7 @@
 #![tactic(auto)]
 
 mod cursor;
+mod expression;
 pub mod fault;
 pub mod mark;
 mod operator;

@@ -114,7 +114,7 @@ fn postfix_operator(mark: Mark) -> Option<PostfixOperator>
 
 /// The operator between two operands that comes next.
 pub fn binary_of(next: Option<Seen<'_>>) -> Option<BinaryOperator>
-    ensures { result ≡ read.binary_of (option_map plain_symbol next) }
+    ensures { result ≡ read.binary_of (option_map plain_symbol next.entry) }
 {
     match next {
         Some(Seen::Sign(mark)) => binary_operator(mark),
@@ -124,7 +124,7 @@ pub fn binary_of(next: Option<Seen<'_>>) -> Option<BinaryOperator>
 
 /// The operator that writes its left operand that comes next.
 pub fn assign_of(next: Option<Seen<'_>>) -> Option<AssignOperator>
-    ensures { result ≡ read.assign_of (option_map plain_symbol next) }
+    ensures { result ≡ read.assign_of (option_map plain_symbol next.entry) }
 {
     match next {
         Some(Seen::Sign(mark)) => assign_operator(mark),
@@ -134,7 +134,7 @@ pub fn assign_of(next: Option<Seen<'_>>) -> Option<AssignOperator>
 
 /// The operator before its operand that comes next.
 pub fn prefix_of(next: Option<Seen<'_>>) -> Option<PrefixOperator>
-    ensures { result ≡ read.prefix_of (option_map plain_symbol next) }
+    ensures { result ≡ read.prefix_of (option_map plain_symbol next.entry) }
 {
     match next {
         Some(Seen::Sign(mark)) => prefix_operator(mark),
@@ -144,7 +144,7 @@ pub fn prefix_of(next: Option<Seen<'_>>) -> Option<PrefixOperator>
 
 /// What comes next that goes on an expression.
 pub fn suffix_of(next: Option<Seen<'_>>) -> Option<Suffix>
-    ensures { result ≡ read.suffix_of (option_map plain_symbol next) }
+    ensures { result ≡ read.suffix_of (option_map plain_symbol next.entry) }
 {
     match next {
         Some(Seen::Sign(Mark::Dot)) => Some(Suffix::Member),
