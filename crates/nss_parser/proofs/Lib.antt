@@ -8,3 +8,4 @@ pub mod ExpressionLocal
 pub mod ExpressionRight
 pub mod NameLemmas
 pub mod CursorLemmas
+pub mod Turns

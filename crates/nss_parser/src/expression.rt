@@ -1,4 +1,5 @@
-ghost use Rattle.std.specs.Prelude.{◌≡◌};
+ghost use Rattle.std.specs.Prelude.{◌≡◌, IfOk};
+ghost use Rattle.nss_tree.specs.Expressions as tree;
 ghost use Rattle.nss_tree.specs.Reading.{plain_expr, plain_exprs};
 ghost use Rattle.nss_parser.specs.ReadExpression as read;
 ghost use Rattle.nss_parser.specs.Cursor.{Reads};
@@ -9,7 +10,7 @@ use crate::operator::{Suffix, assign_of, binary_of, level_of, prefix_of, suffix_
 use crate::symbol::{Seen, name_text};
 use nss_lexer::literal;
 use nss_tree::{BinaryOperator, Expr};
-use nwq_value::{Items, Text};
+use nwq_value::{Items, NoMemory, Text};
 use std::alloc::Global;
 
 /// The level after the tightest operators.
@@ -48,20 +49,35 @@ fn suffixes(alloc: Global, tokens: &mut Cursor<'_>, depth: usize, of: Expr) -> R
     Err(Stop::TooDeep)
 }
 
-/// The arguments of a call, after its `(` and through its `)`.
-#[cycle(level)]
-#[tactic(auto, unfolding(crate::specs::ReadExpression::arguments))]
-fn arguments(alloc: Global, tokens: &mut Cursor<'_>, depth: usize) -> Result<Items<Expr>, Stop>
-    ensures { Reads plain_exprs (read.arguments depth (read.level depth) tokens.old) result tokens.new }
+/// No expressions.
+#[tactic(auto, using(nss_tree::proofs::ReadingLaws::plain_exprs_none))]
+fn no_exprs(alloc: Global) -> Items<Expr>
+    ensures { plain_exprs result ≡ tree.no_expr }
 {
-    let mut all = Items::new(alloc);
-    if tokens.sees(Mark::Close) {
-        tokens.take()?;
-        return Ok(all);
-    }
+    Items::new(alloc)
+}
+
+/// One more expression at the end.
+#[tactic(auto, using(nss_tree::proofs::ReadingLaws::plain_exprs_push))]
+fn push_expr(all: &mut Items<Expr>, next: Expr) -> Result<(), NoMemory>
+    ensures { IfOk result (λ _. plain_exprs all.new ≡ tree.joined_exprs (plain_exprs all.old) (tree.more_exprs (plain_expr next) tree.no_expr)) }
+{
+    all.push(next)
+}
+
+/// The arguments of a call up to `)`, of which there is one at least.
+#[cycle(level)]
+fn some_arguments(
+    alloc: Global,
+    tokens: &mut Cursor<'_>,
+    depth: usize,
+) -> Result<Items<Expr>, Stop>
+    ensures { Reads plain_exprs (read.arguments_from depth (read.level depth) depth tree.no_expr tokens.old) result tokens.new }
+{
+    let mut all = no_exprs(alloc);
     for _turn in 0..depth {
         let argument = level(alloc, tokens, depth, 0)?;
-        all.push(argument)?;
+        push_expr(&mut all, argument)?;
         if tokens.sees(Mark::Comma) {
             tokens.take()?;
         } else {
@@ -70,6 +86,20 @@ fn arguments(alloc: Global, tokens: &mut Cursor<'_>, depth: usize) -> Result<Ite
         }
     }
     Err(Stop::TooDeep)
+}
+
+/// The arguments of a call, after its `(` and through its `)`.
+#[cycle(level)]
+#[tactic(auto, unfolding(crate::specs::ReadExpression::arguments))]
+fn arguments(alloc: Global, tokens: &mut Cursor<'_>, depth: usize) -> Result<Items<Expr>, Stop>
+    ensures { Reads plain_exprs (read.arguments depth (read.level depth) tokens.old) result tokens.new }
+{
+    if tokens.sees(Mark::Close) {
+        tokens.take()?;
+        Ok(no_exprs(alloc))
+    } else {
+        some_arguments(alloc, tokens, depth)
+    }
 }
 
 /// What a name that was read is: a call where `(` follows.
