@@ -1,0 +1,11 @@
+pub mod Symbols
+pub mod Marks
+pub mod Tokens
+pub mod Operators
+pub mod Grammar
+pub mod Unit
+pub mod Sentence
+pub mod Nest
+pub mod Fault
+pub mod Outcome
+pub mod ReadExpression
