@@ -1,3 +1,4 @@
 pub mod Local
 pub mod Fronts
 pub mod MarkLemmas
+pub mod NestLaws

@@ -7,6 +7,7 @@
 
 pub mod fault;
 pub mod mark;
+mod nest;
 mod operator;
 pub mod reader;
 
