@@ -1,5 +1,5 @@
 -- What is read is spelled so, what stops is a front, and where the depth runs out.
-use Rattle.std.proofs.Common.{◌≡◌, ℕ, suc, ◌+◌, Bool, true, false, List, [], ◌∷◌, ◌++◌, length, Option, None, Some, refl, sym, ap, subst, ◌∙◌, append_assoc, append-nil, arith, rules}
+use Rattle.std.proofs.Common.{◌≡◌, ℕ, suc, ◌+◌, Bool, true, false, List, [], ◌∷◌, ◌++◌, length, Option, None, Some, refl, sym, ap, subst, ◌∙◌, append_assoc, append-nil, length-append, arith, rules}
 use denote.Enum.Bare.{same_true}
 use Rattle.nss_parser.specs.contracts.mark.Mark.{the_type}
 use Rattle.nss_parser.specs.Symbols as symbol
@@ -161,3 +161,18 @@ viable_done N x xs p n = ([], x, subst (λ (z : List Spot). N x z) (sym (append-
 -- a front after the tokens ps
 pub viable_under : {A : Type 0} (N : A → List Spot → Type 0) (ps xs : List Spot) → Viable (λ x ys. N x (ps ++ ys)) xs → Viable N (ps ++ xs)
 viable_under N ps xs v n = let (more, x, p) = v n in (more, x, subst (λ (z : List Spot). N x z) (sym (append_assoc ps xs (spots n more))) p)
+
+-- A part, and then a word or sign: how what the part needs for its tokens to be a front shows the whole's front.
+pub then_sign : {A B : Type 0} {P : A → List Spot → List Spot → Type 0} {V : List Spot → Type 0} {D : Type 0} {Q : B → List Spot → List Spot → Type 0} {W : List Spot → Type 0} {E : Type 0}
+  {i : List Spot} {o : Outcome A} {f : A → ℕ → Parser B} (m : Mark) → Right P V D i o
+  → ((x : A) (xs rest : List Spot) (k : ℕ) (r : List Spot) → P x xs rest → rest ≡ sign k m ∷ r → i ≡ xs ++ rest → Right (λ y ys end. Q y (xs ++ sign k m ∷ ys) end) (λ ys. W (xs ++ sign k m ∷ ys)) E r (f x k r))
+  → ((x : A) (xs rest : List Spot) → P x xs rest → V xs) → ((xs : List Spot) → V xs → W xs) → (D → E) → Right Q W E i (and_then o (λ x. expect m >>= λ k. f x k))
+then_sign {A = A} {P = P} {V = V} {D = D} {Q = Q} {W = W} {E = E} {i = i} {o = o} {f = f} m r go done front depth =
+  then {Q = Q} {W = W} {E = E} r
+    (λ x xs rest p e. then_expect {Q = λ y ys end. Q y (xs ++ ys) end} {W = λ ys. W (xs ++ ys)} {E = E} {f = λ k. f x k} m rest (λ k r' e'. go x xs rest k r' p e' e)
+      (subst (λ (z : List Spot). W z) (sym (append-nil xs)) (front xs (done x xs rest p))))
+    front depth
+
+-- what a list of tokens leaves is shorter
+pub rest_length : (i xs rest : List Spot) → i ≡ xs ++ rest → length i ≡ length xs + length rest
+rest_length i xs rest e = ap length e ∙ length-append xs rest

@@ -1,4 +1,9 @@
+pub mod NestLaws
 pub mod Local
 pub mod Fronts
 pub mod MarkLemmas
-pub mod NestLaws
+pub mod ExpressionFacts
+pub mod ExpressionSteps
+pub mod ExpressionComplete
+pub mod ExpressionLocal
+pub mod ExpressionRight

@@ -1,5 +1,6 @@
 -- Reading depends on the tokens that it passes and on the next one alone, and more depth changes nothing.
 use Rattle.std.proofs.Common.{◌≡◌, ℕ, Bool, true, false, List, [], ◌∷◌, ◌++◌, Option, None, Some, refl, sym, ap, ◌∙◌, append_assoc}
+use Rattle.nss_parser.specs.Symbols as symbol
 use Rattle.nss_parser.specs.Symbols.{Symbol, Spot}
 use Rattle.nss_parser.specs.declared.mark.Mark.{Mark}
 use Rattle.nss_parser.specs.Outcome.{Outcome, Got, Stuck, Deep, Parser, and_then, ◌>>=◌, pure, stuck, deep, next, first, number_of, here, take, peek, branch, choice, is_sign, expect, name_by, name}
@@ -98,3 +99,15 @@ local_choice test lp lq = local_peek (λ o. local_branch (test o) lp lq)
 
 pub local_expect : (m : Mark) → Local (expect m) (expect m)
 local_expect m = local_choice (is_sign m) local_take local_stuck
+
+local_name_by : (o : Option Symbol) → Local (name_by o) (name_by o)
+local_name_by (Some (symbol.Name bytes)) = local_bind local_take (λ n. local_pure bytes)
+local_name_by (Some (symbol.Sign m)) = local_stuck
+local_name_by (Some (symbol.Int v)) = local_stuck
+local_name_by (Some symbol.Float) = local_stuck
+local_name_by (Some (symbol.Text v)) = local_stuck
+local_name_by (Some symbol.Unknown) = local_stuck
+local_name_by None = local_stuck
+
+pub local_name : Local name name
+local_name = local_peek local_name_by
