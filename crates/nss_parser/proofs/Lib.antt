@@ -1,3 +1,6 @@
+pub mod DeclarationRight
+pub mod DeclarationLocal
+pub mod DeclarationComplete
 pub mod NestLaws
 pub mod Local
 pub mod Fronts

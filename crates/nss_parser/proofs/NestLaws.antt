@@ -1,5 +1,6 @@
 -- The walk that carries the nest over the tokens.
-use Rattle.std.proofs.Common.{◌≡◌, ◌∙◌, ◌<◌, ◌≤◌, ◌+◌, ap, sym, refl, subst, arith, ℕ, suc, List, [], ◌∷◌, Option, None, Some, length, drop, get_or, map, below_more, cases_lt}
+use Rattle.std.proofs.Common.{◌≡◌, ◌∙◌, ◌<◌, ◌≤◌, ◌+◌, ap, sym, refl, subst, arith, ℕ, suc, List, [], ◌∷◌, Option, None, Some, length, drop, get_or, map, below_more, inl, inr}
+use Rattle.std.proofs.lemmas.Bool.{cases_lt}
 use Rattle.std.proofs.lemmas.List.{drop_more, drop-drop, get_or-drop, get_or_past}
 use Rattle.nss_parser.specs.Symbols.{Symbol}
 use Rattle.nss_parser.specs.declared.mark.Mark.{Mark}
@@ -64,7 +65,7 @@ goes_on ms i before mark after s t so h after-is t-is small =
     under_at : (k : ℕ) → k < i + 1 → t ≡ changed before mark (head_of (drop (i + 1) ms)) s
         → drop i (all ms) ≡ total (changed before mark (head_of (drop (i + 1) ms)) s) ∷ nests_from mark (changed before mark (head_of (drop (i + 1) ms)) s) (drop (i + 1) ms)
         → get_or (all ms) k 0 ≤ 256
-    under_at k below t' here = below_more i _ so.under (subst (λ n. n ≤ 256) (ap total t' ∙ sym (get_at (all ms) i _ _ here)) small) k below
+    under_at k below t' here = below_more (λ n. get_or (all ms) n 0 ≤ 256) i so.under (subst (λ n. n ≤ 256) (ap total t' ∙ sym (get_at (all ms) i _ _ here)) small) k below
 
 pub passes : (tokens : List Symbol) (i : ℕ) (before mark after : Option Mark) (s t : State) → SoFar (map mark_in tokens) i before mark s → i < length (map mark_in tokens)
     → after ≡ head_of (drop (i + 1) (map mark_in tokens)) → t ≡ changed before mark after s → 256 < total t → IsFirstOver tokens i
@@ -78,7 +79,7 @@ passes tokens i before mark after s t so h after-is t-is over =
 
 pub all_within : (tokens : List Symbol) (i : ℕ) (before mark : Option Mark) (s : State) → SoFar (map mark_in tokens) i before mark s → length (map mark_in tokens) ≤ i → IsWithinNest tokens
 unfolding nests
-all_within tokens i before mark s so past k = cases_lt k i so.under (λ h. beyond h)
+all_within tokens i before mark s so past k = elim (cases_lt k i) [ inl h ↦ so.under k h | inr h ↦ beyond h ]
   where
     beyond : i ≤ k → get_or (all (map mark_in tokens)) k 0 ≤ 256
     beyond h =
