@@ -1,3 +1,7 @@
+pub mod DeclarationRight
+pub mod DeclarationLocal
+pub mod DeclarationComplete
+pub mod NestLaws
 pub mod Local
 pub mod Fronts
 pub mod MarkLemmas

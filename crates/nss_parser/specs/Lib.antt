@@ -1,3 +1,5 @@
+pub mod ReadDeclaration
+pub mod ReadUnit
 pub mod Symbols
 pub mod Marks
 pub mod Tokens

@@ -1,14 +1,11 @@
 -- How deep the tokens nest, counted over the tokens alone. A list of numbers is carried over them, with a
 -- count of open `do`s beside each number; the nest of a token is the sum of the numbers after it.
-use Rattle.std.specs.Prelude.{ℕ, ◌+◌, ◌-◌, ◌<◌, ◌≤◌, ◌==◌, Bool, true, false, ◌&&◌, not, List, [], ◌∷◌, Option, None, Some, sum_by, slice_index, if◌then◌else◌}
+use Rattle.std.specs.Prelude.{ℕ, ◌+◌, ◌-◌, ◌<◌, ◌≤◌, ◌==◌, Bool, true, false, ◌&&◌, not, List, [], ◌∷◌, Option, None, Some, sum_by, slice_index, map, if◌then◌else◌}
+use Rattle.std.specs.List.{AllByRecursion}
 use Rattle.nss_parser.specs.declared.mark.Mark.{Mark}
 use Rattle.nss_parser.specs.declared.mark.Mark.TheVariants as mark
 use Rattle.nss_parser.specs.Symbols.{Symbol, Sign}
-use Rattle.nss_parser.specs.Operators.{binary_operator, assign_operator, prefix_operator, postfix_operator}
-
-pub record Level : Type 0 where
-  pub number : ℕ
-  pub dos : ℕ
+use Rattle.nss_parser.specs.declared.nest.Level.{Level}
 
 -- the last number, and those below it, the nearest first
 pub record State : Type 0 where
@@ -95,10 +92,15 @@ abbrev pub is_else : Mark → Bool
 is_else mark.Else = true
 is_else _ = false
 
--- a test of a token that is a word or a sign, and false of every other
-abbrev pub tests : (Mark → Bool) → Option Symbol → Bool
-tests p (Some (Sign m)) = p m
-tests p _ = false
+-- the word or sign that a token is, if it is one: no other token changes the numbers
+abbrev pub mark_in : Symbol → Option Mark
+mark_in (Sign m) = Some m
+mark_in _ = None
+
+-- a test of a word or a sign, and false of every other token
+abbrev pub tests : (Mark → Bool) → Option Mark → Bool
+tests p (Some m) = p m
+tests p None = false
 
 -- an opening bracket appends the number 1
 abbrev pub opened : Mark → State → State
@@ -124,7 +126,7 @@ abbrev pub counted : Mark → State → State
 counted m s = if is_do m then with_last s (record { number = s.last.number; dos = s.last.dos + 1 }) else s
 
 -- a `while` directly after `}` or `;` lowers the count of the last number by 1 where it isn't 0
-abbrev pub uncounted : Option Symbol → Mark → State → State
+abbrev pub uncounted : Option Mark → Mark → State → State
 uncounted before m s = if is_while m && tests ends before then with_last s (record { number = s.last.number; dos = s.last.dos - 1 }) else s
 
 abbrev pub reset_number : List Level → ℕ
@@ -136,31 +138,31 @@ positive n = not (n == 0)
 
 -- A `}` or `;` then resets the last number, to 1, or to 0 where it is the only one, and its count to 0; but not
 -- before `else`, and not before `while` where the count is above 0.
-abbrev pub reset : Mark → Option Symbol → State → State
+abbrev pub reset : Mark → Option Mark → State → State
 reset m after s = if ends m && not (tests is_else after) && not (tests is_while after && positive s.last.dos) then with_last s (record { number = reset_number s.below; dos = 0 }) else s
 
 -- what a token makes of the numbers, by the one before it and the one after it
-abbrev pub changed : Option Symbol → Symbol → Option Symbol → State → State
-changed before (Sign m) after s = reset m after (uncounted before m (counted m (headed m (closed m (opened m s)))))
-changed before _ after s = s
+abbrev pub changed : Option Mark → Option Mark → Option Mark → State → State
+changed before None after s = s
+changed before (Some m) after s = reset m after (uncounted before m (counted m (headed m (closed m (opened m s)))))
 
 -- the sum of the numbers
 abbrev pub total : State → ℕ
 total s = s.last.number + sum_by (λ l. l.number) s.below
 
-abbrev pub head_of : List Symbol → Option Symbol
+abbrev pub head_of : List (Option Mark) → Option Mark
 head_of [] = None
-head_of (s ∷ ss) = Some s
+head_of (m ∷ ms) = m
 
 -- the nest of each token, from a state on, after this token
-abbrev pub nests_from : Option Symbol → State → List Symbol → List ℕ
+abbrev pub nests_from : Option Mark → State → List (Option Mark) → List ℕ
 nests_from before s [] = []
-nests_from before s (t ∷ ts) =
-    let after = changed before t (head_of ts) s
-    in total after ∷ nests_from (Some t) after ts
+nests_from before s (m ∷ ms) =
+    let after = changed before m (head_of ms) s
+    in total after ∷ nests_from m after ms
 
 unfoldable pub nests : List Symbol → List ℕ
-nests tokens = nests_from None start tokens
+nests tokens = nests_from None start (map mark_in tokens)
 
 -- how deep tokens may nest
 abbrev pub nest_limit : ℕ
@@ -174,3 +176,12 @@ pub record IsFirstOver (tokens : List Symbol) (i : ℕ) : Type 0 where
 -- no token's nest passes the limit
 abbrev pub IsWithinNest : List Symbol → Type 0
 IsWithinNest tokens = (k : ℕ) → slice_index (nests tokens) k ≤ nest_limit
+
+-- what the walk over the tokens answers
+abbrev pub IsNestAnswer : List Symbol → Option ℕ → Type 0
+IsNestAnswer tokens None = IsWithinNest tokens
+IsNestAnswer tokens (Some i) = IsFirstOver tokens i
+
+-- no count passes its number, since each `do` raises both
+abbrev pub AreCounted : Level → List Level → Type 0
+AreCounted last below = (last.dos ≤ last.number) × AllByRecursion (λ l. l.dos ≤ l.number) below

@@ -9,6 +9,7 @@ mod cursor;
 mod expression;
 pub mod fault;
 pub mod mark;
+mod nest;
 mod operator;
 pub mod reader;
 mod symbol;

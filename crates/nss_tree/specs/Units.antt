@@ -12,7 +12,7 @@ pub data PlainItem : Type 0 where
   structure : ℕ → List ℕ → List FieldLine → PlainItem
   constant : ℕ → TypeName → Identifier → Constant → PlainItem
   global : ℕ → TypeName → List PlainDeclared → PlainItem
-  function : ℕ → TypeName → List ℕ → List Parameter → Option PlainStmts → PlainItem     -- with no body a prototype
+  function : ℕ → TypeName → List ℕ → List Parameter → Option PlainStmts → PlainItem  -- with no body a prototype
 
 abbrev pub PlainTree : Type 0
 PlainTree = List PlainItem

@@ -29,12 +29,29 @@ pub enum TypeName {
 /// value and whether it is negated. A float keeps no value, since no type of a float is ever accepted.
 #[derive(Debug, Drop)]
 pub enum Constant {
-    Int { token: u32, negated: bool, value: i32 },
-    Float { token: u32, negated: bool },
-    Text { token: u32, value: Text },
-    Name { token: u32, name: Text },
-    ObjectSelf { token: u32 },
-    ObjectInvalid { token: u32 },
+    Int {
+        token: u32,
+        negated: bool,
+        value: i32,
+    },
+    Float {
+        token: u32,
+        negated: bool,
+    },
+    Text {
+        token: u32,
+        value: Text,
+    },
+    Name {
+        token: u32,
+        name: Text,
+    },
+    ObjectSelf {
+        token: u32,
+    },
+    ObjectInvalid {
+        token: u32,
+    },
 }
 
 impl Constant {

@@ -64,13 +64,18 @@ fn seek_expr(expr: &Expr, seek: Seek) -> Seek
         Expr::ObjectInvalid { token } => pass(*token, seek),
         Expr::Name { token, .. } => pass(*token, seek),
         Expr::Call {
-            token, arguments, ..
+            token,
+            arguments,
+            ..
         } => seek_exprs(arguments.as_slice(), pass(*token, seek)),
         Expr::Member { token, of, .. } => seek_expr(of, pass(*token, seek)),
         Expr::Prefix { token, of, .. } => seek_expr(of, pass(*token, seek)),
         Expr::Postfix { token, of, .. } => seek_expr(of, pass(*token, seek)),
         Expr::Binary {
-            token, left, right, ..
+            token,
+            left,
+            right,
+            ..
         } => seek_expr(right, seek_expr(left, pass(*token, seek))),
         Expr::Assign {
             token,
@@ -224,7 +229,10 @@ fn seek_item(item: &Item, seek: Seek) -> Seek
     match item {
         Item::Struct { token, fields, .. } => seek_lines(fields.as_slice(), pass(*token, seek)),
         Item::Const {
-            token, name, value, ..
+            token,
+            name,
+            value,
+            ..
         } => seek_constant(value, pass(name.token, pass(*token, seek))),
         Item::Global { token, names, .. } => seek_names(names.as_slice(), pass(*token, seek)),
         Item::Function {

@@ -10,11 +10,11 @@ seek_exprs-loop-expr-preserved t c =
 pub seek_expr-returns-in-Binary : goal.seek_expr-returns-in-Binary
 seek_expr-returns-in-Binary t c =
     binary_sought _ _ _ _ _ _ _ _ _ c.in-Binary.is c.pass-in-Binary.ensures
-        (at_expr _ _ _ _ c.deref-in-Binary-2.ensures c.seek_expr-in-Binary.ensures)
-        (at_expr _ _ _ _ c.deref-in-Binary.ensures c.seek_expr-in-Binary-2.ensures)
+    (at_expr _ _ _ _ c.deref-in-Binary-2.ensures c.seek_expr-in-Binary.ensures)
+    (at_expr _ _ _ _ c.deref-in-Binary.ensures c.seek_expr-in-Binary-2.ensures)
 
 pub seek_expr-returns-in-Assign : goal.seek_expr-returns-in-Assign
 seek_expr-returns-in-Assign t c =
     assign_sought _ _ _ _ _ _ _ _ _ c.in-Assign.is c.pass-in-Assign.ensures
-        (at_expr _ _ _ _ c.deref-in-Assign-2.ensures c.seek_expr-in-Assign.ensures)
-        (at_expr _ _ _ _ c.deref-in-Assign.ensures c.seek_expr-in-Assign-2.ensures)
+    (at_expr _ _ _ _ c.deref-in-Assign-2.ensures c.seek_expr-in-Assign.ensures)
+    (at_expr _ _ _ _ c.deref-in-Assign.ensures c.seek_expr-in-Assign-2.ensures)

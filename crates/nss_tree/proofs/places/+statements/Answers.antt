@@ -10,5 +10,5 @@ seek_stmts-loop-stmt-preserved t c =
 pub seek_stmt-returns-in-IfElse : goal.seek_stmt-returns-in-IfElse
 seek_stmt-returns-in-IfElse t c =
     if_else_sought _ _ _ _ _ _ _ _ _ _ c.in-IfElse.is c.pass-in-IfElse.ensures c.seek_expr-in-IfElse.ensures
-        (at_stmt _ _ _ _ c.deref-in-IfElse-2.ensures c.seek_stmt-in-IfElse.ensures)
-        (at_stmt _ _ _ _ c.deref-in-IfElse.ensures c.seek_stmt-in-IfElse-2.ensures)
+    (at_stmt _ _ _ _ c.deref-in-IfElse-2.ensures c.seek_stmt-in-IfElse.ensures)
+    (at_stmt _ _ _ _ c.deref-in-IfElse.ensures c.seek_stmt-in-IfElse-2.ensures)
