@@ -13,3 +13,4 @@ pub mod ExpressionRight
 pub mod NameLemmas
 pub mod CursorLemmas
 pub mod Turns
+pub mod StatementLocal
