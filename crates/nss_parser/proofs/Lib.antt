@@ -14,3 +14,4 @@ pub mod NameLemmas
 pub mod CursorLemmas
 pub mod Turns
 pub mod StatementLocal
+pub mod StatementComplete
