@@ -15,3 +15,4 @@ pub mod CursorLemmas
 pub mod Turns
 pub mod StatementLocal
 pub mod StatementComplete
+pub mod StatementRight
