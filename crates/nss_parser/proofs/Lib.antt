@@ -1,3 +1,7 @@
+pub mod UnitRight
+pub mod Closed
+pub mod UnitComplete
+pub mod UnitLocal
 pub mod DeclarationRight
 pub mod DeclarationLocal
 pub mod DeclarationComplete
