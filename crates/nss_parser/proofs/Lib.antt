@@ -20,3 +20,4 @@ pub mod Turns
 pub mod StatementLocal
 pub mod StatementComplete
 pub mod StatementRight
+pub mod Whole
