@@ -17,6 +17,7 @@ pub mod ExpressionRight
 pub mod NameLemmas
 pub mod CursorLemmas
 pub mod Turns
+pub mod LoopTurns
 pub mod StatementLocal
 pub mod StatementComplete
 pub mod StatementRight
