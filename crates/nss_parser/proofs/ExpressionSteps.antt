@@ -16,8 +16,8 @@ use Rattle.nss_parser.specs.declared.operator.Suffix.TheVariants.{Member, Step}
 use Rattle.nss_parser.specs.Symbols as symbol
 use Rattle.nss_parser.specs.Symbols.{Symbol, Spot, at, sign}
 use Rattle.nss_parser.specs.Operators.{binary_operator, level_of, unary_level, assign_operator, prefix_operator, postfix_operator}
-use Rattle.nss_parser.specs.Outcome.{Outcome, Got, Stuck, Deep, Parser, and_then, ◌>>=◌, branch, same_mark, is_sign, sees, first, take}
-use Rattle.nss_parser.specs.ReadExpression.{prefix_of, binary_of, assign_of, suffix_of, suffix, suffixes, suffixes_by, arguments_from, arguments, after_name, primary, prefix, prefix_by, operation, climb, climb_by, assigned, assigned_by, after_first, level}
+use Rattle.nss_parser.specs.Outcome.{Outcome, Got, Stuck, Deep, Parser, and_then, ◌>>=◌, branch, same_mark, is_sign, sees, first, take, expect}
+use Rattle.nss_parser.specs.ReadExpression.{prefix_of, binary_of, assign_of, suffix_of, suffix, suffixes, suffixes_by, after_argument, arguments_from, arguments, after_name, primary, prefix, prefix_by, operation, climb, climb_by, assigned, assigned_by, after_first, level}
 use Rattle.nss_parser.proofs.ExpressionFacts.{NoOperator}
 
 module _ (d : ℕ) (inner : ℕ → Parser PlainExpr) where
@@ -71,6 +71,15 @@ module _ (d : ℕ) (inner : ℕ → Parser PlainExpr) where
     → arguments_from d inner (suc t) before i ≡ arguments_from d inner t (joined_exprs before (tree.more_exprs x tree.no_expr)) j
   unfolding first take same_mark
   next_argument t n before x i j e = rw e refl
+
+  -- a turn of the loop over arguments, by what its three calls gave
+  pub argument_more : (t n : ℕ) (before : PlainExprs) (x : PlainExpr) (i j r : List Spot) → inner 0 i ≡ Got x j → sees mark.Comma j ≡ true → take j ≡ Got n r
+    → arguments_from d inner (suc t) before i ≡ arguments_from d inner t (joined_exprs before (tree.more_exprs x tree.no_expr)) r
+  argument_more t n before x i j r e comma taken =
+    let all = joined_exprs before (tree.more_exprs x tree.no_expr) in
+    ap (λ (z : Outcome PlainExpr). and_then z (λ y. after_argument d inner (arguments_from d inner t) (joined_exprs before (tree.more_exprs y tree.no_expr)))) e
+    ∙ ap (λ (b : Bool). branch b (λ k. and_then (take k) (λ m. arguments_from d inner t all)) (λ k. and_then (expect mark.Close k) (λ m z. Got all z)) j) comma
+    ∙ ap (λ (z : Outcome ℕ). and_then z (λ m. arguments_from d inner t all)) taken
 
   pub prefix_step : (n : ℕ) (m : Mark) (o : PrefixOperator) (x : PlainExpr) (i rest : List Spot) → prefix_operator m ≡ Some o → inner unary_level i ≡ Got x rest
     → prefix d inner (sign n m ∷ i) ≡ Got (tree.prefix n o x) rest

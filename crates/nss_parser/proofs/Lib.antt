@@ -14,3 +14,6 @@ pub mod ExpressionSteps
 pub mod ExpressionComplete
 pub mod ExpressionLocal
 pub mod ExpressionRight
+pub mod NameLemmas
+pub mod CursorLemmas
+pub mod Turns

@@ -11,3 +11,4 @@ pub mod Nest
 pub mod Fault
 pub mod Outcome
 pub mod ReadExpression
+pub mod Cursor

@@ -5,11 +5,14 @@
 //! `specs/Grammar.antt` and `specs/Unit.antt`, the nest in `specs/Nest.antt`, places in `specs/Sentence.antt`.
 #![tactic(auto)]
 
+mod cursor;
+mod expression;
 pub mod fault;
 pub mod mark;
 mod nest;
 mod operator;
 pub mod reader;
+mod symbol;
 
 pub use fault::ParseFault;
 pub use reader::parse;

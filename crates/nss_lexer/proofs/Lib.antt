@@ -1,0 +1,6 @@
+pub mod Scanning
+pub mod StringLaws
+pub mod GapLaws
+pub mod FormLaws
+pub mod FoundLaws
+pub mod FirstLaws

@@ -1,0 +1,5 @@
+use Rattle.nss_lexer.proofs.FirstLaws.{one_first}
+use Rattle.nss_lexer.proofs.laws.one_first.Goals as goal
+
+pub returns : goal.returns
+returns c = one_first

@@ -1,0 +1,5 @@
+use Rattle.nss_lexer.proofs.FirstLaws.{one_split}
+use Rattle.nss_lexer.proofs.laws.one_split.Goals as goal
+
+pub returns : goal.returns
+returns c = one_split

@@ -1,0 +1,44 @@
+ghost use Rattle.std.specs.Prelude.{◌≡◌, ◌≤◌, ◌<◌, ◌^◌, length, MatchOption, None};
+ghost use Rattle.nss_lexer.specs.Splitting.{Begins, IsFirst, IsStuck, first};
+ghost use Rattle.nss_lexer.specs.Reading as reading;
+
+use crate::bytes::{head, tail};
+use crate::gap::{comment_begins, past_gap};
+use crate::scan::{Front, scan};
+use crate::token::{Lexed, SOURCE_BYTES, Token};
+
+/// The token that begins the bytes, which no blank and no closed comment begins.
+fn front_of(bytes: &[u8]) -> Option<Front>
+    requires some { 0 < length bytes.now }
+    requires size { length bytes.now < 2 ^ 32 }
+    requires stops { reading.pass bytes.now ≡ None }
+    ensures { MatchOption result (IsStuck bytes.now) (λ front. Begins bytes.now front.kind front.length) }
+{
+    if comment_begins(bytes) {
+        return None;
+    }
+    scan(bytes)
+}
+
+/// The first token of the file at or after `at`; takes no memory.
+pub fn next(bytes: &[u8], file: u16, at: u32) -> Lexed<'_>
+    requires size { length bytes.now ≤ SOURCE_BYTES }
+    requires place { at ≤ length bytes.now }
+    ensures { IsFirst bytes.now file at (first result) }
+{
+    let start = past_gap(bytes, at as usize);
+    let rest = tail(bytes, start);
+    if rest.is_empty() {
+        return Lexed::End;
+    }
+    match front_of(rest) {
+        None => Lexed::Bad(start as u32),
+        Some(front) => Lexed::Token(Token {
+            kind: front.kind,
+            text: head(rest, front.length),
+            file,
+            start: start as u32,
+            end: (start + front.length) as u32,
+        }),
+    }
+}

@@ -1,0 +1,260 @@
+ghost use Rattle.std.specs.Prelude.{◌≡◌, ◌<◌, ◌≤◌, ◌^◌, ◌-◌, ◌+◌, length, bytes_eq, map, option_and_then};
+ghost use Rattle.std.specs.List.{list_any};
+ghost use Rattle.std.specs.Str.Parse.{digits_value};
+ghost use Rattle.nss_lexer.specs.Bytes.{is_letter, is_decimal};
+ghost use Rattle.nss_lexer.specs.Lexemes as grammar;
+ghost use Rattle.nss_lexer.specs.Reading as reading;
+
+use crate::bytes::{Class, belongs, byte, digit, letter, row};
+use crate::string::closing_quote;
+use crate::token::Kind;
+
+/// A token's kind and its length, where it begins the bytes.
+#[derive(Clone, Copy, Debug)]
+pub struct Front {
+    pub kind: Kind,
+    pub length: usize,
+}
+
+/// The words that are no names.
+pub const WORDS: [&[u8]; 27] = [
+    b"void",
+    b"int",
+    b"float",
+    b"string",
+    b"object",
+    b"vector",
+    b"location",
+    b"effect",
+    b"event",
+    b"talent",
+    b"itemproperty",
+    b"action",
+    b"struct",
+    b"const",
+    b"if",
+    b"else",
+    b"while",
+    b"do",
+    b"for",
+    b"switch",
+    b"case",
+    b"default",
+    b"break",
+    b"continue",
+    b"return",
+    b"OBJECT_SELF",
+    b"OBJECT_INVALID",
+];
+
+/// The operators, the assignments and the other signs, the longest first.
+pub const SIGNS: [&[u8]; 47] = [
+    b">>>=", b">>>", b"<<=", b">>=", b"||", b"&&", b"==", b"!=", b">=", b"<=", b"<<", b">>", b"++",
+    b"--", b"+=", b"-=", b"*=", b"/=", b"%=", b"&=", b"|=", b"^=", b"(", b")", b"{", b"}", b"[",
+    b"]", b",", b";", b":", b"?", b"#", b".", b"=", b"|", b"^", b"&", b">", b"<", b"+", b"-", b"*",
+    b"/", b"%", b"!", b"~",
+];
+
+#[tactic(auto, unfolding(crate::specs::Lexemes::is_word))]
+fn is_word(text: &[u8]) -> bool
+    ensures { result ≡ grammar.is_word text.now }
+{
+    is_among(&WORDS, text)
+}
+
+/// Whether the table has this text.
+fn is_among(table: &[&[u8]], text: &[u8]) -> bool
+    ensures { result ≡ list_any (λ entry. bytes_eq entry.now text.now) table.now }
+{
+    table.iter().any(|entry| *entry == text)
+}
+
+/// The number that the digits write, if it fits 32 bits.
+fn number(radix: u8, digits: &[u8]) -> Option<u32>
+    requires { (2 ≤ radix) × (radix ≤ 16) }
+    ensures { result ≡ reading.small (digits_value radix digits.now) }
+{
+    let mut n = 0;
+    for b in digits {
+        let more = n as u64 * radix as u64 + digit(*b) as u64;
+        if more > u32::MAX as u64 {
+            return None;
+        }
+        n = more as u32;
+    }
+    Some(n)
+}
+
+/// A name or a word.
+fn scan_name(bytes: &[u8]) -> Option<Front>
+    ensures { result ≡ reading.within (reading.name_form bytes.now) }
+{
+    let length = row(Class::Name, bytes);
+    if is_word(&bytes[..length]) {
+        Some(Front {
+            kind: Kind::Word,
+            length,
+        })
+    } else if length <= 255 {
+        Some(Front {
+            kind: Kind::Name,
+            length,
+        })
+    } else {
+        None
+    }
+}
+
+/// An int, if its value fits 32 bits.
+fn int(radix: u8, digits: &[u8], length: usize) -> Option<Front>
+    requires { (2 ≤ radix) × (radix ≤ 16) }
+    ensures { result ≡ reading.within (reading.front (Kind.Int (digits_value radix digits.now)) length) }
+{
+    match number(radix, digits) {
+        None => None,
+        Some(value) => Some(Front {
+            kind: Kind::Int(value),
+            length,
+        }),
+    }
+}
+
+/// How many bytes of a float follow its point: digits, and maybe an `f`.
+fn fraction_length(tail: &[u8]) -> usize
+    ensures value { result ≡ reading.fraction_length tail.now }
+    ensures within { result ≤ length tail.now }
+{
+    let digits = row(Class::Decimal, tail);
+    if byte(tail, digits) == b'f' {
+        digits + 1
+    } else {
+        digits
+    }
+}
+
+/// A float whose point stands at a place.
+fn scan_fraction(bytes: &[u8], point: usize) -> Front
+    requires { point < length bytes.now }
+    ensures { result ≡ reading.float_form bytes.now point }
+{
+    Front {
+        kind: Kind::Float,
+        length: point + 1 + fraction_length(&bytes[point + 1..]),
+    }
+}
+
+/// An int or a float that begins with a digit and isn't hexadecimal.
+fn scan_decimal(bytes: &[u8]) -> Option<Front>
+    ensures { result ≡ reading.within (reading.decimal_form bytes.now) }
+{
+    let end = row(Class::Decimal, bytes);
+    match byte(bytes, end) {
+        b'.' => Some(scan_fraction(bytes, end)),
+        b'f' => Some(Front {
+            kind: Kind::Float,
+            length: end + 1,
+        }),
+        _ => int(10, &bytes[..end], end),
+    }
+}
+
+fn begins_hexadecimal(bytes: &[u8]) -> bool
+    ensures { result ≡ reading.begins_hexadecimal bytes.now }
+{
+    byte(bytes, 0) == b'0'
+        && (byte(bytes, 1) == b'x' || byte(bytes, 1) == b'X')
+        && belongs(Class::Hexadecimal, byte(bytes, 2))
+}
+
+fn scan_hexadecimal(bytes: &[u8]) -> Option<Front>
+    requires { 2 ≤ length bytes.now }
+    ensures { result ≡ reading.within (reading.hexadecimal_form bytes.now) }
+{
+    let digits = &bytes[2..];
+    let count = row(Class::Hexadecimal, digits);
+    int(16, &digits[..count], count + 2)
+}
+
+/// A number that begins with a digit.
+fn scan_number(bytes: &[u8]) -> Option<Front>
+    ensures { result ≡ reading.within (reading.number_form bytes.now) }
+{
+    if begins_hexadecimal(bytes) {
+        scan_hexadecimal(bytes)
+    } else {
+        scan_decimal(bytes)
+    }
+}
+
+/// A string that begins with its quote.
+fn scan_string(bytes: &[u8]) -> Option<Front>
+    requires { (0 < length bytes.now) × (length bytes.now < 2 ^ 32) }
+    ensures { result ≡ reading.string_form bytes.now }
+{
+    match closing_quote(&bytes[1..]) {
+        None => None,
+        Some(end) => Some(Front {
+            kind: Kind::Text,
+            length: end + 1,
+        }),
+    }
+}
+
+fn is_front(sign: &[u8], bytes: &[u8]) -> bool
+    ensures { result ≡ reading.is_front sign.now bytes.now }
+{
+    for (at, b) in sign.iter().enumerate() {
+        if at >= bytes.len() {
+            return false;
+        }
+        if *b != bytes[at] {
+            return false;
+        }
+    }
+    true
+}
+
+/// The length of the first entry that begins the bytes.
+fn first_front(table: &[&[u8]], bytes: &[u8]) -> Option<usize>
+    ensures { result ≡ reading.first_front (map (λ sign. sign.now) table.now) bytes.now }
+{
+    for sign in table {
+        if is_front(sign, bytes) {
+            return Some(sign.len());
+        }
+    }
+    None
+}
+
+/// The longest sign.
+fn scan_sign(bytes: &[u8]) -> Option<Front>
+    ensures { result ≡ option_and_then reading.within (reading.sign_form bytes.now) }
+{
+    match first_front(&SIGNS, bytes) {
+        None => None,
+        Some(length) => Some(Front {
+            kind: Kind::Sign,
+            length,
+        }),
+    }
+}
+
+/// The longest token that begins the bytes, if it is within the limits.
+#[tactic(auto, unfolding(crate::specs::Reading::form))]
+pub fn scan(bytes: &[u8]) -> Option<Front>
+    requires { (0 < length bytes.now) × (length bytes.now < 2 ^ 32) }
+    ensures { result ≡ reading.lexeme bytes.now }
+{
+    let first = byte(bytes, 0);
+    if letter(first) {
+        scan_name(bytes)
+    } else if belongs(Class::Decimal, first) {
+        scan_number(bytes)
+    } else if first == b'.' && belongs(Class::Decimal, byte(bytes, 1)) {
+        Some(scan_fraction(bytes, 0))
+    } else if first == b'"' {
+        scan_string(bytes)
+    } else {
+        scan_sign(bytes)
+    }
+}
