@@ -1,5 +1,6 @@
 -- A list of tokens has at most one tree, reading gives it, and where reading stops is the exact place.
 use Rattle.std.proofs.Common.{◌≡◌, ℕ, zero, suc, ◌+◌, ◌-◌, ◌<◌, ◌≤◌, Bool, true, false, List, [], ◌∷◌, ◌++◌, length, take, refl, sym, ap, subst, ◌∙◌, arith, append_assoc, append-nil, length-append}
+use Rattle.std.proofs.lemmas.List.{append_cancel_right}
 use Rattle.nss_tree.specs.Statements as stmt
 use Rattle.nss_tree.specs.Statements.{PlainStmts}
 use Rattle.nss_tree.specs.Units.{PlainTree}
@@ -112,3 +113,31 @@ through_of tokens d xs r s is h (more, y, p) =
   let b : unit (d + suc (suc (length (xs ++ s ∷ spots (0 + length (take (length xs + 1) tokens)) more)))) (xs ++ s ∷ spots (0 + length (take (length xs + 1) tokens)) more) ≡ Stuck (s ∷ spots (0 + length (take (length xs + 1) tokens)) more) =
         h (d + suc (suc (length (xs ++ s ∷ spots (0 + length (take (length xs + 1) tokens)) more)))) (omega arith) (s ∷ spots (0 + length (take (length xs + 1) tokens)) more) refl in
   let bad : Got y [] ≡ Stuck (s ∷ spots (0 + length (take (length xs + 1) tokens)) more) = sym a ∙ b in cc
+
+place_of : (tokens : List Symbol) (d : ℕ) (xs left : List Spot) → suc (length tokens) < d → unit d (spots 0 tokens) ≡ Stuck left → spots 0 tokens ≡ xs ++ left → Viable Items xs
+  → length xs ≤ length tokens → IsPlace tokens (length xs)
+place_of tokens d xs left lt stuck is v within = record {
+    within = within;
+    front = front_of tokens xs left is v;
+    through = through left stuck is;
+    none = λ x p. let a : unit d (spots 0 tokens) ≡ Got x [] = whole_reads p d (let l = spots_length 0 tokens in omega arith) in let bad : Got x [] ≡ Stuck left = sym a ∙ stuck in cc }
+  where
+    through : (end : List Spot) → unit d (spots 0 tokens) ≡ Stuck end → spots 0 tokens ≡ xs ++ end → length xs < length tokens → IsFront (take (length xs + 1) tokens) → ⊥
+    through [] stops e less f = absurd (let l = spots_length 0 tokens in let m = ap length e in let n = length-append xs [] in omega arith)
+    through (s ∷ r) stops e less f =
+      through_of tokens d xs r s e
+        (λ k le other same.
+          let (ys, is', h) = outcome_local d k le (spots 0 tokens) (Stuck (s ∷ r)) stops in
+          let front : ys ≡ xs = append_cancel_right ys xs (s ∷ r) (sym is' ∙ e) in
+          subst (λ (z : List Spot). unit k (z ++ other) ≡ Stuck other) front (h other same))
+        f
+
+-- where reading stops is the exact place
+pub whole_stuck : (tokens : List Symbol) (d : ℕ) (left : List Spot) → suc (length tokens) < d → unit d (spots 0 tokens) ≡ Stuck left → IsPlace tokens (length tokens - length left)
+whole_stuck tokens d left lt stuck =
+  let (xs, is, v) = outcome_right d (spots 0 tokens) (Stuck left) stuck in
+  let l = spots_length 0 tokens in
+  let m : length (spots 0 tokens) ≡ length (xs ++ left) = ap length is in
+  let n : length (xs ++ left) ≡ length xs + length left = length-append xs left in
+  let j : length xs ≡ length tokens - length left = omega arith in
+  subst (λ (k : ℕ). IsPlace tokens k) j (place_of tokens d xs left lt stuck is v (omega arith))
