@@ -22,3 +22,5 @@ pub mod StatementLocal
 pub mod StatementComplete
 pub mod StatementRight
 pub mod Whole
+pub mod ReaderLemmas
+pub mod SeenLemmas
