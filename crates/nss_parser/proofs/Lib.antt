@@ -14,4 +14,6 @@ pub mod NameLemmas
 pub mod CursorLemmas
 pub mod Turns
 pub mod LoopTurns
+pub mod PartLaws
+pub mod TestLaws
 pub mod StatementLocal
