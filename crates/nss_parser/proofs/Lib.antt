@@ -18,6 +18,8 @@ pub mod NameLemmas
 pub mod CursorLemmas
 pub mod Turns
 pub mod LoopTurns
+pub mod PartLaws
+pub mod TestLaws
 pub mod StatementLocal
 pub mod StatementComplete
 pub mod StatementRight
