@@ -17,3 +17,5 @@ pub mod ExpressionRight
 pub mod NameLemmas
 pub mod CursorLemmas
 pub mod Turns
+pub mod LoopTurns
+pub mod StatementLocal

@@ -12,3 +12,4 @@ pub mod Fault
 pub mod Outcome
 pub mod ReadExpression
 pub mod Cursor
+pub mod ReadStatement

@@ -6,12 +6,14 @@
 #![tactic(auto)]
 
 mod cursor;
+mod declaration;
 mod expression;
 pub mod fault;
 pub mod mark;
 mod nest;
 mod operator;
 pub mod reader;
+mod statement;
 mod symbol;
 
 pub use fault::ParseFault;
