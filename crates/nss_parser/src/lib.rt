@@ -15,6 +15,7 @@ mod operator;
 pub mod reader;
 mod statement;
 mod symbol;
+mod unit;
 
 pub use fault::ParseFault;
 pub use reader::parse;
