@@ -20,3 +20,6 @@ pub mod CursorLemmas
 pub mod Turns
 pub mod LoopTurns
 pub mod StatementLocal
+pub mod StatementComplete
+pub mod StatementRight
+pub mod Whole

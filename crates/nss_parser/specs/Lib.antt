@@ -13,3 +13,4 @@ pub mod Outcome
 pub mod ReadExpression
 pub mod Cursor
 pub mod ReadStatement
+pub mod ReadWhole

@@ -9,6 +9,7 @@ mod cursor;
 mod declaration;
 mod expression;
 pub mod fault;
+pub mod laws;
 pub mod mark;
 mod nest;
 mod operator;
