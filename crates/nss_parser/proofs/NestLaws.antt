@@ -100,3 +100,13 @@ all_within tokens i before mark s so past k = elim (cases_lt k i) [ inl h ↦ so
     beyond h =
         let long : length (all (map mark_in tokens)) ≤ k = subst (λ n. n ≤ k) (sym (nests_length None start (map mark_in tokens))) (let e : length (map mark_in tokens) ≤ k = omega arith in e)
         in subst (λ n. n ≤ 256) (sym (get_or_past (all (map mark_in tokens)) k 0 long)) (let z : 0 ≤ 256 = omega arith in z)
+
+marks_length : (xs : List Seen) → length (map mark_in (map plain_symbol xs)) ≡ length xs
+marks_length [] = refl
+marks_length (x ∷ xs) = ap suc (marks_length xs)
+
+pub marks_before : (xs : List Seen) (i : ℕ) → i < length xs → i < length (map mark_in (map plain_symbol xs))
+marks_before xs i h = subst (λ n. i < n) (sym (marks_length xs)) h
+
+pub marks_past : (xs : List Seen) (i : ℕ) → length xs ≤ i → length (map mark_in (map plain_symbol xs)) ≤ i
+marks_past xs i h = subst (λ n. n ≤ i) (sym (marks_length xs)) h
