@@ -19,7 +19,11 @@ pub mod NameLemmas
 pub mod CursorLemmas
 pub mod Turns
 pub mod LoopTurns
+pub mod PartLaws
+pub mod TestLaws
 pub mod StatementLocal
 pub mod StatementComplete
 pub mod StatementRight
 pub mod Whole
+pub mod ReaderLemmas
+pub mod SeenLemmas

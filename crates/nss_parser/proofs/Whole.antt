@@ -141,3 +141,12 @@ whole_stuck tokens d left lt stuck =
   let n : length (xs ++ left) ≡ length xs + length left = length-append xs left in
   let j : length xs ≡ length tokens - length left = omega arith in
   subst (λ (k : ℕ). IsPlace tokens k) j (place_of tokens d xs left lt stuck is v (omega arith))
+
+-- no more tokens are left than there were
+pub whole_left : (tokens : List Symbol) (d : ℕ) (left : List Spot) → unit d (spots 0 tokens) ≡ Stuck left → length left ≤ length tokens
+whole_left tokens d left stuck =
+  let (xs, is, v) = outcome_right d (spots 0 tokens) (Stuck left) stuck in
+  let l = spots_length 0 tokens in
+  let m : length (spots 0 tokens) ≡ length (xs ++ left) = ap length is in
+  let n : length (xs ++ left) ≡ length xs + length left = length-append xs left in
+  omega arith

@@ -14,3 +14,4 @@ pub mod ReadExpression
 pub mod Cursor
 pub mod ReadStatement
 pub mod ReadWhole
+pub mod ReadParts

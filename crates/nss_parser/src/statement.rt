@@ -3,6 +3,7 @@ ghost use Rattle.std.specs.Option.{option_map};
 ghost use Rattle.nss_tree.specs.Statements as tree;
 ghost use Rattle.nss_tree.specs.Reading.{plain_expr, plain_stmt, plain_stmts};
 ghost use Rattle.nss_parser.specs.ReadStatement as read;
+ghost use Rattle.nss_parser.specs.ReadParts as parts;
 ghost use Rattle.nss_parser.specs.Cursor.{Reads};
 
 use crate::cursor::{Cursor, Stop};
@@ -191,21 +192,41 @@ pub fn entries(
     Err(Stop::TooDeep)
 }
 
-/// A block.
+/// `else` and its statement, where one comes next.
 #[cycle(statement)]
-#[tactic(auto, unfolding(crate::specs::ReadStatement::block))]
-fn block(alloc: Global, tokens: &mut Cursor<'_>, depth: usize) -> Result<Stmt, Stop>
-    ensures { Reads plain_stmt (read.block depth (read.statement depth) tokens.old) result tokens.new }
+#[tactic(auto, unfolding(crate::specs::ReadParts::else_part))]
+fn else_part(alloc: Global, tokens: &mut Cursor<'_>, depth: usize) -> Result<Option<Stmt>, Stop>
+    ensures { Reads (option_map plain_stmt) (parts.else_part (read.statement depth) tokens.old) result tokens.new }
 {
-    let number = tokens.take()?;
-    let items = entries(alloc, tokens, depth, false)?;
-    Ok(Stmt::block(number, items))
+    if tokens.sees(Mark::Else) {
+        tokens.take()?;
+        let otherwise = statement(alloc, tokens, depth)?;
+        Ok(Some(otherwise))
+    } else {
+        Ok(None)
+    }
+}
+
+/// An `if` of its parts.
+fn if_of(
+    alloc: Global,
+    number: u32,
+    condition: Expr,
+    then: Stmt,
+    otherwise: Option<Stmt>,
+) -> Result<Stmt, NoMemory>
+    ensures { IfOk result (λ s. plain_stmt s ≡ parts.if_of number (plain_expr condition) (plain_stmt then) (option_map plain_stmt otherwise)) }
+{
+    match otherwise {
+        Some(otherwise) => Stmt::if_else(alloc, number, condition, then, otherwise),
+        None => Stmt::if_only(alloc, number, condition, then),
+    }
 }
 
 /// What follows the first statement of an `if`: an `else` belongs to the `if` before it.
 #[cycle(statement)]
-#[tactic(auto, unfolding(crate::specs::ReadStatement::after_then))]
-fn after_then(
+#[tactic(auto, unfolding(crate::specs::ReadParts::if_rest))]
+fn if_rest(
     alloc: Global,
     tokens: &mut Cursor<'_>,
     depth: usize,
@@ -213,15 +234,10 @@ fn after_then(
     condition: Expr,
     then: Stmt,
 ) -> Result<Stmt, Stop>
-    ensures { Reads plain_stmt (read.after_then depth (read.statement depth) number (plain_expr condition) (plain_stmt then) tokens.old) result tokens.new }
+    ensures { Reads plain_stmt (parts.if_rest (read.statement depth) number (plain_expr condition) (plain_stmt then) tokens.old) result tokens.new }
 {
-    if tokens.sees(Mark::Else) {
-        tokens.take()?;
-        let otherwise = statement(alloc, tokens, depth)?;
-        Ok(Stmt::if_else(alloc, number, condition, then, otherwise)?)
-    } else {
-        Ok(Stmt::if_only(alloc, number, condition, then)?)
-    }
+    let otherwise = else_part(alloc, tokens, depth)?;
+    Ok(if_of(alloc, number, condition, then, otherwise)?)
 }
 
 /// `if`, with an `else` or none.
@@ -231,9 +247,9 @@ fn if_statement(alloc: Global, tokens: &mut Cursor<'_>, depth: usize) -> Result<
     ensures { Reads plain_stmt (read.if_statement depth (read.statement depth) tokens.old) result tokens.new }
 {
     let number = tokens.take()?;
-    let condition = condition(alloc, tokens, depth)?;
-    let then = statement(alloc, tokens, depth)?;
-    after_then(alloc, tokens, depth, number, condition, then)
+    let value = condition(alloc, tokens, depth)?;
+    let inner = statement(alloc, tokens, depth)?;
+    if_rest(alloc, tokens, depth, number, value, inner)
 }
 
 /// `while`.
@@ -248,6 +264,32 @@ fn while_statement(alloc: Global, tokens: &mut Cursor<'_>, depth: usize) -> Resu
     Ok(Stmt::while_loop(alloc, number, condition, body)?)
 }
 
+/// What stands behind the body of a `do`.
+#[tactic(auto, unfolding(crate::specs::ReadParts::do_end))]
+fn do_end(alloc: Global, tokens: &mut Cursor<'_>, depth: usize) -> Result<Expr, Stop>
+    ensures { Reads plain_expr (parts.do_end depth tokens.old) result tokens.new }
+{
+    tokens.expect(Mark::While)?;
+    let value = condition(alloc, tokens, depth)?;
+    tokens.expect(Mark::Semicolon)?;
+    Ok(value)
+}
+
+/// What follows the body of a `do`.
+#[tactic(auto, unfolding(crate::specs::ReadParts::do_rest))]
+fn do_rest(
+    alloc: Global,
+    tokens: &mut Cursor<'_>,
+    depth: usize,
+    number: u32,
+    body: Stmt,
+) -> Result<Stmt, Stop>
+    ensures { Reads plain_stmt (parts.do_rest depth number (plain_stmt body) tokens.old) result tokens.new }
+{
+    let value = do_end(alloc, tokens, depth)?;
+    Ok(Stmt::do_loop(alloc, number, body, value)?)
+}
+
 /// `do`, with its `while` after the body.
 #[cycle(statement)]
 #[tactic(auto, unfolding(crate::specs::ReadStatement::do_statement))]
@@ -255,11 +297,8 @@ fn do_statement(alloc: Global, tokens: &mut Cursor<'_>, depth: usize) -> Result<
     ensures { Reads plain_stmt (read.do_statement depth (read.statement depth) tokens.old) result tokens.new }
 {
     let number = tokens.take()?;
-    let body = statement(alloc, tokens, depth)?;
-    tokens.expect(Mark::While)?;
-    let condition = condition(alloc, tokens, depth)?;
-    tokens.expect(Mark::Semicolon)?;
-    Ok(Stmt::do_loop(alloc, number, body, condition)?)
+    let inner = statement(alloc, tokens, depth)?;
+    do_rest(alloc, tokens, depth, number, inner)
 }
 
 /// `for`, each of whose three parts may be left out.
@@ -295,12 +334,16 @@ fn switch_statement(alloc: Global, tokens: &mut Cursor<'_>, depth: usize) -> Res
 
 /// The statement that its first token begins.
 #[cycle(statement)]
-#[tactic(auto, unfolding(crate::specs::ReadStatement::some_statement))]
+#[tactic(auto, unfolding(crate::specs::ReadStatement::some_statement, crate::specs::ReadStatement::block))]
 fn some_statement(alloc: Global, tokens: &mut Cursor<'_>, depth: usize) -> Result<Stmt, Stop>
     ensures { Reads plain_stmt (read.some_statement depth (read.statement depth) tokens.old) result tokens.new }
 {
     match tokens.peek() {
-        Some(Seen::Sign(Mark::OpenBrace)) => block(alloc, tokens, depth),
+        Some(Seen::Sign(Mark::OpenBrace)) => {
+            let number = tokens.take()?;
+            let items = entries(alloc, tokens, depth, false)?;
+            Ok(Stmt::block(number, items))
+        }
         Some(Seen::Sign(Mark::Semicolon)) => {
             let number = tokens.take()?;
             Ok(Stmt::empty(number))

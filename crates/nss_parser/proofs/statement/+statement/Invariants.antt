@@ -4,11 +4,11 @@ use Rattle.nss_tree.specs.Reading.{plain_stmts}
 use Rattle.nss_parser.specs.ReadStatement as read
 use Rattle.nss_parser.proofs.statement.+statement.Given as goal
 
-abbrev pub decreases-after_then : goal.decreases-after_then
-decreases-after_then l = 6 * l.depth + 1
+abbrev pub decreases-else_part : goal.decreases-else_part
+decreases-else_part l = 6 * l.depth + 1
 
-abbrev pub decreases-block : goal.decreases-block
-decreases-block l = 6 * l.depth + 4
+abbrev pub decreases-if_rest : goal.decreases-if_rest
+decreases-if_rest l = 6 * l.depth + 2
 
 abbrev pub decreases-do_statement : goal.decreases-do_statement
 decreases-do_statement l = 6 * l.depth + 1
@@ -23,7 +23,7 @@ abbrev pub decreases-for_statement : goal.decreases-for_statement
 decreases-for_statement l = 6 * l.depth + 1
 
 abbrev pub decreases-if_statement : goal.decreases-if_statement
-decreases-if_statement l = 6 * l.depth + 2
+decreases-if_statement l = 6 * l.depth + 3
 
 abbrev pub decreases-labelled : goal.decreases-labelled
 decreases-labelled l = 6 * l.depth + 1
