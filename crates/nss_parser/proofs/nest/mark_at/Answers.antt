@@ -7,4 +7,4 @@ use Rattle.nss_parser.proofs.nest.mark_at.Goals as goal
 pub returns-in-Some : goal.returns-in-Some
 returns-in-Some c =
     let found = c.in-Some.ensures.lookup in
-    c.sign_in.ensures ∙ head_at _ _ (Some c.in-Some.symbol.now) (sym (slice_get_read _ _ _ _ refl (ltb-true _ _ (sym found.0)) found.1))
+    c.sign_in.ensures ∙ head_at c.args.symbols.now c.args.at (Some c.in-Some.symbol.now) (sym (slice_get_read _ _ _ _ refl (ltb-true _ _ (sym found.0)) found.1))
