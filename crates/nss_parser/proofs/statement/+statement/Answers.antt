@@ -25,10 +25,10 @@ pub if_statement-returns : goal.if_statement-returns
 if_statement-returns t c =
     let e = if_is c.args.depth (read.statement c.args.depth) c.in_ok-number.number (plain_expr c.in_ok-value.value) (plain_stmt c.in_ok-inner.inner)
         c.args.tokens.now c.take.new.self c.condition.new.tokens c.statement.new.tokens c.in_ok-number.ensures c.in_ok-value.ensures c.in_ok-inner.ensures in
-    first_of (rw e c.if_rest.ensures, search rules, grind (arith, common_steps))
+    rw e c.if_rest.ensures
 
 pub do_statement-returns : goal.do_statement-returns
 do_statement-returns t c =
     let e = do_is c.args.depth (read.statement c.args.depth) c.in_ok-number.number (plain_stmt c.in_ok-inner.inner)
         c.args.tokens.now c.take.new.self c.statement.new.tokens c.in_ok-number.ensures c.in_ok-inner.ensures in
-    first_of (rw e c.do_rest.ensures, search rules, grind (arith, common_steps))
+    rw e c.do_rest.ensures
