@@ -57,6 +57,11 @@ parameters d = choice (is_sign mark.Close) (take >>= λ k. pure []) (parameters_
 unfoldable pub global : ℕ → ℕ → TypeName → Identifier → Parser PlainItem
 global d n t x = declared_after d x >>= λ y. more_declared d d (y ∷ []) >>= λ all. expect mark.Semicolon >>= λ k. pure (unit.global n t all)
 
+-- whether no token is left
+abbrev pub is_end : Option Symbol → Bool
+is_end None = true
+is_end (Some s) = false
+
 module _ (d : ℕ) (entries : Parser PlainStmts) where
   unfoldable pub body : Parser (Option PlainStmts)
   body = choice (is_sign mark.Semicolon) (take >>= λ k. pure None) (expect mark.OpenBrace >>= λ n. entries >>= λ all. pure (Some all))
@@ -72,6 +77,10 @@ module _ (d : ℕ) (entries : Parser PlainStmts) where
   -- what begins with `struct`
   unfoldable pub after_struct : Parser PlainItem
   after_struct = take >>= λ a. identifier >>= λ x. choice (is_sign mark.OpenBrace) (structure d x) (after_type a (type.Struct x.name))
+
+  -- what begins with any other type
+  abbrev pub typed_item : Parser PlainItem
+  typed_item = typed >>= λ p. after_type p.0 p.1
 
   unfoldable pub item : Parser PlainItem
   item = choice (is_sign mark.Struct) after_struct (choice (is_sign mark.Const) constant_line (typed >>= λ p. after_type p.0 p.1))

@@ -3,6 +3,7 @@ ghost use Rattle.std.specs.Option.{option_map};
 ghost use Rattle.nss_tree.specs.Reading.{plain_item, plain_name, plain_stmts, plain_tree};
 ghost use Rattle.nss_parser.specs.ReadStatement as statements;
 ghost use Rattle.nss_parser.specs.ReadUnit as read;
+ghost use Rattle.nss_parser.specs.Outcome.{first};
 ghost use Rattle.nss_parser.specs.Cursor.{Reads};
 
 use crate::cursor::{Cursor, Stop};
@@ -263,6 +264,14 @@ fn after_struct(alloc: Global, tokens: &mut Cursor<'_>, depth: usize) -> Result<
     }
 }
 
+/// What begins with a type that is no struct.
+fn typed_item(alloc: Global, tokens: &mut Cursor<'_>, depth: usize) -> Result<Item, Stop>
+    ensures { Reads plain_item (read.typed_item depth (statements.entries depth (statements.statement depth) false) tokens.old) result tokens.new }
+{
+    let (token, ty) = typed(alloc, tokens)?;
+    after_type(alloc, tokens, depth, token, ty)
+}
+
 /// One item of a unit.
 #[tactic(auto, unfolding(crate::specs::ReadUnit::item))]
 fn item(alloc: Global, tokens: &mut Cursor<'_>, depth: usize) -> Result<Item, Stop>
@@ -273,8 +282,17 @@ fn item(alloc: Global, tokens: &mut Cursor<'_>, depth: usize) -> Result<Item, St
     } else if tokens.sees(Mark::Const) {
         constant_line(alloc, tokens)
     } else {
-        let (token, ty) = typed(alloc, tokens)?;
-        after_type(alloc, tokens, depth, token, ty)
+        typed_item(alloc, tokens, depth)
+    }
+}
+
+/// Whether no token is left.
+fn is_at_end(tokens: &Cursor<'_>) -> bool
+    ensures { result ≡ read.is_end (first tokens.now) }
+{
+    match tokens.peek() {
+        None => true,
+        Some(_) => false,
     }
 }
 
@@ -292,7 +310,7 @@ pub fn unit(alloc: Global, tokens: &mut Cursor<'_>, depth: usize) -> Result<Tree
 {
     let mut items = Items::new(alloc);
     for _turn in 0..depth {
-        if tokens.peek().is_none() {
+        if is_at_end(tokens) {
             return Ok(Tree { items });
         }
         let next = item(alloc, tokens, depth)?;
