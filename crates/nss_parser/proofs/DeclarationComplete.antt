@@ -106,7 +106,7 @@ valued_step : (d k : ℕ) (x : Identifier) (y : PlainExpr) (i rest : List Spot) 
 unfolding declared_after first take same_mark
 valued_step d k x y i rest e = rw e refl
 
-declared_step : (d n : ℕ) (f : List ℕ) (i : List Spot) → declared d (at n (symbol.Name f) ∷ i) ≡ declared_after d (record { token = n; name = f }) i
+pub declared_step : (d n : ℕ) (f : List ℕ) (i : List Spot) → declared d (at n (symbol.Name f) ∷ i) ≡ declared_after d (record { token = n; name = f }) i
 unfolding declared
 declared_step d n f i = ap (λ (z : Outcome Identifier). and_then z (declared_after d)) (identifier_step n f i)
 
@@ -130,7 +130,7 @@ some_declared (grammar.bare n f) = omega arith
 some_declared (grammar.valued n k f e) = omega arith
 
 -- the lists of a production, regrouped, and how long its parts are
-tail_length : (xs j : List Spot) (s : Spot) → length (xs ++ s ∷ j) ≡ length xs + (length j + 1)
+pub tail_length : (xs j : List Spot) (s : Spot) → length (xs ++ s ∷ j) ≡ length xs + (length j + 1)
 tail_length xs j s = let e = length-append xs (s ∷ j) in omega (arith, e)
 
 -- a turn of the loop is opened

@@ -169,7 +169,7 @@ called n m f (none k) = grammar.call_empty n m k f
 called n m f (some e) = ended_call n m f e
 
 -- an expression to complete a front with
-zero_expression : (n : ℕ) → Expression (tree.int n (cast_signed w32 0)) (at n (symbol.Int 0) ∷ [])
+pub zero_expression : (n : ℕ) → Expression (tree.int n (cast_signed w32 0)) (at n (symbol.Int 0) ∷ [])
 zero_expression n = grammar.value (lower 1 unary_level (omega arith) (grammar.unary (grammar.postfix (grammar.primary (grammar.int n 0)))))
 
 module _ (d : ℕ) (inner : ℕ → Parser PlainExpr)

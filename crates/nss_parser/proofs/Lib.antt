@@ -1,3 +1,7 @@
+pub mod UnitRight
+pub mod Closed
+pub mod UnitComplete
+pub mod UnitLocal
 pub mod DeclarationRight
 pub mod DeclarationLocal
 pub mod DeclarationComplete
@@ -17,3 +21,8 @@ pub mod LoopTurns
 pub mod PartLaws
 pub mod TestLaws
 pub mod StatementLocal
+pub mod StatementComplete
+pub mod StatementRight
+pub mod Whole
+pub mod ReaderLemmas
+pub mod SeenLemmas

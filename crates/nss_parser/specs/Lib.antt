@@ -13,4 +13,5 @@ pub mod Outcome
 pub mod ReadExpression
 pub mod Cursor
 pub mod ReadStatement
+pub mod ReadWhole
 pub mod ReadParts

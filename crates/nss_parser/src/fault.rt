@@ -1,5 +1,6 @@
+ghost use Rattle.std.specs.Prelude.{◌≡◌};
+
 use nwq_value::NoMemory as OutOfMemory;
-use std::alloc::{AllocError, AllocFailed};
 use std::error::Error;
 use std::fmt;
 
@@ -26,19 +27,11 @@ impl fmt::Display for ParseFault {
 impl Error for ParseFault {}
 
 impl From<OutOfMemory> for ParseFault {
+    ghost use Rattle.nss_parser.specs.declared.fault.ParseFault.TheVariants as fault;
+
+    ghost from_gives = { λ _ e. e ≡ fault.NoMemory };
+
     fn from(_error: OutOfMemory) -> ParseFault {
-        ParseFault::NoMemory
-    }
-}
-
-impl From<AllocError> for ParseFault {
-    fn from(_error: AllocError) -> ParseFault {
-        ParseFault::NoMemory
-    }
-}
-
-impl<T: Drop> From<AllocFailed<T>> for ParseFault {
-    fn from(_error: AllocFailed<T>) -> ParseFault {
         ParseFault::NoMemory
     }
 }

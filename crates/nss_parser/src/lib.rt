@@ -9,12 +9,14 @@ mod cursor;
 mod declaration;
 mod expression;
 pub mod fault;
+pub mod laws;
 pub mod mark;
 mod nest;
 mod operator;
 pub mod reader;
 mod statement;
 mod symbol;
+mod unit;
 
 pub use fault::ParseFault;
 pub use reader::parse;
