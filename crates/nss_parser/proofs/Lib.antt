@@ -1,3 +1,4 @@
+pub mod UnitTurns
 pub mod UnitRight
 pub mod Closed
 pub mod UnitComplete

@@ -1,10 +1,25 @@
 -- The walk that carries the nest over the tokens.
-use Rattle.std.proofs.Common.{◌≡◌, ◌∙◌, ◌<◌, ◌≤◌, ◌+◌, ap, sym, refl, subst, arith, ℕ, suc, List, [], ◌∷◌, Option, None, Some, length, drop, get_or, map, below_more, inl, inr}
+use Rattle.std.proofs.Common.{◌≡◌, ◌∙◌, ◌<◌, ◌≤◌, ◌+◌, ap, sym, refl, subst, arith, ℕ, zero, suc, slice_get, List, [], ◌∷◌, Option, None, Some, length, drop, get_or, map, below_more, inl, inr}
 use Rattle.std.proofs.lemmas.Bool.{cases_lt}
 use Rattle.std.proofs.lemmas.List.{drop_more, drop-drop, get_or-drop, get_or_past}
+use Rattle.std.proofs.Math.Seq.{drop-nil}
+use Rattle.nss_parser.specs.declared.symbol.Seen.{Seen}
+use Rattle.nss_parser.specs.Cursor.{plain_symbol}
 use Rattle.nss_parser.specs.Symbols.{Symbol}
 use Rattle.nss_parser.specs.declared.mark.Mark.{Mark}
 use Rattle.nss_parser.specs.Nest.{State, changed, head_of, mark_in, nests, nests_from, start, total, IsFirstOver, IsWithinNest}
+
+abbrev mark_after : Option Seen → Option Mark
+mark_after None = None
+mark_after (Some s) = mark_in (plain_symbol s)
+
+head_is : (xs : List Seen) (i : ℕ) → head_of (drop i (map mark_in (map plain_symbol xs))) ≡ mark_after (slice_get xs i)
+head_is [] i = ap head_of (drop-nil i)
+head_is (x ∷ xs) zero = refl
+head_is (x ∷ xs) (suc i) = head_is xs i
+
+pub head_at : (xs : List Seen) (i : ℕ) (o : Option Seen) → o ≡ slice_get xs i → mark_after o ≡ head_of (drop i (map mark_in (map plain_symbol xs)))
+head_at xs i o e = ap mark_after e ∙ sym (head_is xs i)
 
 -- the nests of all tokens, from the beginning
 abbrev pub all : List (Option Mark) → List ℕ
@@ -85,3 +100,13 @@ all_within tokens i before mark s so past k = elim (cases_lt k i) [ inl h ↦ so
     beyond h =
         let long : length (all (map mark_in tokens)) ≤ k = subst (λ n. n ≤ k) (sym (nests_length None start (map mark_in tokens))) (let e : length (map mark_in tokens) ≤ k = omega arith in e)
         in subst (λ n. n ≤ 256) (sym (get_or_past (all (map mark_in tokens)) k 0 long)) (let z : 0 ≤ 256 = omega arith in z)
+
+marks_length : (xs : List Seen) → length (map mark_in (map plain_symbol xs)) ≡ length xs
+marks_length [] = refl
+marks_length (x ∷ xs) = ap suc (marks_length xs)
+
+pub marks_before : (xs : List Seen) (i : ℕ) → i < length xs → i < length (map mark_in (map plain_symbol xs))
+marks_before xs i h = subst (λ n. i < n) (sym (marks_length xs)) h
+
+pub marks_past : (xs : List Seen) (i : ℕ) → length xs ≤ i → length (map mark_in (map plain_symbol xs)) ≤ i
+marks_past xs i h = subst (λ n. n ≤ i) (sym (marks_length xs)) h

@@ -1,10 +1,10 @@
-ghost use Rattle.std.specs.Prelude.{◌≡◌, ◌+◌, ◌<◌, ◌≤◌, ◌^◌, length, map, IfOk, OnOk};
+ghost use Rattle.std.specs.Prelude.{◌≡◌, drop, ◌+◌, ◌<◌, ◌≤◌, ◌^◌, length, map, IfOk, OnOk};
 ghost use Rattle.nss_parser.specs.Nest as nest;
 ghost use Rattle.nss_parser.specs.Nest.{IsNestAnswer, head_of, mark_in, changed, closed, counted, headed, opened, reset, start, total, uncounted};
-ghost use Rattle.nss_parser.specs.Tokens.{symbol_of, symbols_of};
+ghost use Rattle.nss_parser.specs.Cursor.{plain_symbol};
 
-use crate::mark::{Mark, mark_of};
-use nss_lexer::{Kind, Token};
+use crate::mark::Mark;
+use crate::symbol::Seen;
 use nwq_value::NoMemory;
 use std::alloc::Global;
 use std::marker::Model;
@@ -261,4 +261,45 @@ impl Nest {
     {
         self.sum
     }
+}
+
+/// The word or sign that a token is, if it is one.
+fn sign_in(symbol: &Seen<'_>) -> Option<Mark>
+    ensures { result ≡ mark_in (plain_symbol symbol.now) }
+{
+    match symbol {
+        Seen::Sign(mark) => Some(*mark),
+        _ => None,
+    }
+}
+
+/// The same of the token at a place; none past the end.
+#[tactic(auto, using(crate::proofs::NestLaws::head_at))]
+fn mark_at(symbols: &[Seen<'_>], at: usize) -> Option<Mark>
+    ensures { result ≡ head_of (drop at (map mark_in (map plain_symbol symbols.now))) }
+{
+    match symbols.get(at) {
+        None => None,
+        Some(symbol) => sign_in(symbol),
+    }
+}
+
+/// The first token whose nest passes the limit.
+pub fn first_over(alloc: Global, symbols: &[Seen<'_>]) -> Result<Option<u32>, NoMemory>
+    requires { length symbols.now < 2 ^ 32 }
+    ensures { IfOk result (IsNestAnswer (map plain_symbol symbols.now)) }
+{
+    let mut nest = Nest::new(alloc);
+    let mut before = None;
+    let mut mark = mark_at(symbols, 0);
+    for i in 0..symbols.len() {
+        let after = mark_at(symbols, i + 1);
+        nest.step(before, mark, after)?;
+        if nest.total() > NEST {
+            return Ok(Some(i as u32));
+        }
+        before = mark;
+        mark = after;
+    }
+    Ok(None)
 }
