@@ -57,6 +57,11 @@ parameters d = choice (is_sign mark.Close) (take >>= λ k. pure []) (parameters_
 unfoldable pub global : ℕ → ℕ → TypeName → Identifier → Parser PlainItem
 global d n t x = declared_after d x >>= λ y. more_declared d d (y ∷ []) >>= λ all. expect mark.Semicolon >>= λ k. pure (unit.global n t all)
 
+-- whether no token is left
+abbrev pub is_end : Option Symbol → Bool
+is_end None = true
+is_end (Some s) = false
+
 module _ (d : ℕ) (entries : Parser PlainStmts) where
   unfoldable pub body : Parser (Option PlainStmts)
   body = choice (is_sign mark.Semicolon) (take >>= λ k. pure None) (expect mark.OpenBrace >>= λ n. entries >>= λ all. pure (Some all))

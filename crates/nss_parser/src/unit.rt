@@ -3,6 +3,7 @@ ghost use Rattle.std.specs.Option.{option_map};
 ghost use Rattle.nss_tree.specs.Reading.{plain_item, plain_name, plain_stmts, plain_tree};
 ghost use Rattle.nss_parser.specs.ReadStatement as statements;
 ghost use Rattle.nss_parser.specs.ReadUnit as read;
+ghost use Rattle.nss_parser.specs.Outcome.{first};
 ghost use Rattle.nss_parser.specs.Cursor.{Reads};
 
 use crate::cursor::{Cursor, Stop};
@@ -278,6 +279,16 @@ fn item(alloc: Global, tokens: &mut Cursor<'_>, depth: usize) -> Result<Item, St
     }
 }
 
+/// Whether no token is left.
+fn is_at_end(tokens: &Cursor<'_>) -> bool
+    ensures { result ≡ read.is_end (first tokens.now) }
+{
+    match tokens.peek() {
+        None => true,
+        Some(_) => false,
+    }
+}
+
 /// One more item at the end.
 fn push_item(items: &mut Items<Item>, next: Item) -> Result<(), NoMemory>
     ensures { IfOk result (λ _. map plain_item items.new ≡ map plain_item items.old ++ plain_item next ∷ []) }
@@ -292,7 +303,7 @@ pub fn unit(alloc: Global, tokens: &mut Cursor<'_>, depth: usize) -> Result<Tree
 {
     let mut items = Items::new(alloc);
     for _turn in 0..depth {
-        if tokens.peek().is_none() {
+        if is_at_end(tokens) {
             return Ok(Tree { items });
         }
         let next = item(alloc, tokens, depth)?;
