@@ -58,11 +58,15 @@ const TREES: [(&[u8], &[u32]); 14] = [
     // levels, loosest first, and the other way round
     (
         b"int g = a || b && c | d ^ e & f == h < i << j + k * l;",
-        &[0, 1, 4, 3, 6, 5, 8, 7, 10, 9, 12, 11, 14, 13, 16, 15, 18, 17, 20, 19, 22, 21, 23],
+        &[
+            0, 1, 4, 3, 6, 5, 8, 7, 10, 9, 12, 11, 14, 13, 16, 15, 18, 17, 20, 19, 22, 21, 23,
+        ],
     ),
     (
         b"int g = a * b + c << d < e == f & h ^ i | j && k || l;",
-        &[0, 1, 22, 20, 18, 16, 14, 12, 10, 8, 6, 4, 3, 5, 7, 9, 11, 13, 15, 17, 19, 21, 23],
+        &[
+            0, 1, 22, 20, 18, 16, 14, 12, 10, 8, 6, 4, 3, 5, 7, 9, 11, 13, 15, 17, 19, 21, 23,
+        ],
     ),
     // operators of one level group to the left
     (b"int g = a - b + c;", &[0, 1, 6, 4, 3, 5, 7]),
@@ -89,7 +93,9 @@ const TREES: [(&[u8], &[u32]); 14] = [
     ),
     (
         b"void f() { switch (a) { case -1: int b, c = 2; default: b; case \"s\": case N: ; } }",
-        &[1, 5, 7, 10, 12, 14, 15, 17, 19, 21, 23, 23, 25, 26, 28, 29, 31],
+        &[
+            1, 5, 7, 10, 12, 14, 15, 17, 19, 21, 23, 23, 25, 26, 28, 29, 31,
+        ],
     ),
     (
         b"struct P { int a, b; struct Q q; }; const string S = \"x\"; int g;",
@@ -99,7 +105,10 @@ const TREES: [(&[u8], &[u32]); 14] = [
         b"void h(int a, object o = OBJECT_SELF); int m = 1, n;",
         &[1, 3, 6, 9, 12, 13, 15, 17],
     ),
-    (b"struct P f(float x = -1.5) { struct P p; }", &[2, 4, 8, 11, 13]),
+    (
+        b"struct P f(float x = -1.5) { struct P p; }",
+        &[2, 4, 8, 11, 13],
+    ),
 ];
 
 #[test]
@@ -119,7 +128,10 @@ const FAULTS: [(&[u8], ParseFault); 15] = [
     (b"void main() { else; }", ParseFault::Syntax(5)),
     (b"void main() { if (a) int b; }", ParseFault::Syntax(9)),
     (b"void main() { case 1: }", ParseFault::Syntax(5)),
-    (b"void main() { switch (a) default: ; }", ParseFault::Syntax(9)),
+    (
+        b"void main() { switch (a) default: ; }",
+        ParseFault::Syntax(9),
+    ),
     (b"void main() { do ; while (a) }", ParseFault::Syntax(11)),
     (b"void main() { f(a,); }", ParseFault::Syntax(9)),
     (b"void main() { a ? b : c; }", ParseFault::Syntax(6)),
@@ -142,7 +154,13 @@ fn faults(rt: HostRuntime) {
 
 /// Whether a unit is one function with an `if` without `else`, whose statement is an `if` with one.
 fn inner_has_else(tree: &Tree) -> bool {
-    let [Item::Function { body: Some(body), .. }] = tree.items.as_slice() else {
+    let [
+        Item::Function {
+            body: Some(body),
+            ..
+        },
+    ] = tree.items.as_slice()
+    else {
         return false;
     };
     match body.as_slice() {
@@ -156,7 +174,10 @@ fn inner_has_else(tree: &Tree) -> bool {
 
 #[test]
 fn nearest_if(rt: HostRuntime) -> Result<(), Fail> {
-    let tree = tree_of(rt.alloc(), b"void f() { if (1) if (0) g(1); else g(2); }".as_slice())?;
+    let tree = tree_of(
+        rt.alloc(),
+        b"void f() { if (1) if (0) g(1); else g(2); }".as_slice(),
+    )?;
     assert!(rt; inner_has_else(&tree));
     Ok(())
 }
