@@ -1,0 +1,71 @@
+-- Reading of types, constants and declared names.
+use Rattle.std.specs.Prelude.{ℕ, zero, suc, Bool, true, false, List, [], ◌∷◌, ◌++◌, Option, None, Some}
+use Rattle.std.specs.Int.{cast_signed, w32}
+use Rattle.nss_tree.specs.declared.constants.TypeName.{TypeName}
+use Rattle.nss_tree.specs.declared.constants.TypeName.TheVariants as type
+use Rattle.nss_tree.specs.declared.constants.Constant.{Constant}
+use Rattle.nss_tree.specs.declared.constants.Constant.TheVariants as constant
+use Rattle.nss_tree.specs.declared.units.Identifier.{Identifier}
+use Rattle.nss_tree.specs.Statements.{PlainDeclared}
+use Rattle.nss_parser.specs.declared.mark.Mark.TheVariants as mark
+use Rattle.nss_parser.specs.Symbols as symbol
+use Rattle.nss_parser.specs.Symbols.{Symbol}
+use Rattle.nss_parser.specs.Operators.{type_word}
+use Rattle.nss_parser.specs.Outcome.{Parser, ◌>>=◌, pure, stuck, deep, here, take, peek, choice, is_sign, expect, name}
+use Rattle.nss_parser.specs.ReadExpression.{level}
+
+-- the type that the next token is, where it is one by itself
+abbrev pub word_of : Option Symbol → Option TypeName
+word_of (Some (symbol.Sign m)) = type_word m
+word_of _ = None
+
+abbrev pub type_by : Option TypeName → Parser TypeName
+type_by (Some t) = take >>= λ n. pure t
+type_by None = expect mark.Struct >>= λ n. name >>= λ f. pure (type.Struct f)
+
+unfoldable pub type_name : Parser TypeName
+type_name = peek (λ o. type_by (word_of o))
+
+-- a type with the number of its first token
+unfoldable pub typed : Parser (ℕ × TypeName)
+typed = here >>= λ n. type_name >>= λ t. pure (n, t)
+
+-- a literal after `-`
+abbrev pub negated_by : Option Symbol → Parser Constant
+negated_by (Some (symbol.Int v)) = take >>= λ n. pure (constant.Int n true (cast_signed w32 v))
+negated_by (Some symbol.Float) = take >>= λ n. pure (constant.Float n true)
+negated_by _ = stuck
+
+abbrev pub constant_by : Option Symbol → Parser Constant
+constant_by (Some (symbol.Int v)) = take >>= λ n. pure (constant.Int n false (cast_signed w32 v))
+constant_by (Some symbol.Float) = take >>= λ n. pure (constant.Float n false)
+constant_by (Some (symbol.Text bytes)) = take >>= λ n. pure (constant.Text n bytes)
+constant_by (Some (symbol.Name f)) = take >>= λ n. pure (constant.Name n f)
+constant_by (Some (symbol.Sign mark.ObjectSelf)) = take >>= λ n. pure (constant.ObjectSelf n)
+constant_by (Some (symbol.Sign mark.ObjectInvalid)) = take >>= λ n. pure (constant.ObjectInvalid n)
+constant_by (Some (symbol.Sign mark.Minus)) = take >>= λ k. peek negated_by
+constant_by _ = stuck
+
+unfoldable pub constant_value : Parser Constant
+constant_value = peek constant_by
+
+-- a name with its number
+unfoldable pub identifier : Parser Identifier
+identifier = here >>= λ n. name >>= λ f. pure (record { token = n; name = f })
+
+-- what follows a declared name: its first value, where `=` comes next
+unfoldable pub declared_after : ℕ → Identifier → Parser PlainDeclared
+declared_after d n = choice (is_sign mark.Assign)
+    (take >>= λ k. level d 0 >>= λ x. pure (record { token = n.token; name = n.name; value = Some x }))
+    (pure (record { token = n.token; name = n.name; value = None }))
+
+unfoldable pub declared : ℕ → Parser PlainDeclared
+declared d = identifier >>= declared_after d
+
+-- further declared names, each after a comma, in so many turns
+abbrev pub more_declared : ℕ → ℕ → List PlainDeclared → Parser (List PlainDeclared)
+more_declared d zero all = deep
+more_declared d (suc t) all = choice (is_sign mark.Comma) (take >>= λ n. declared d >>= λ x. more_declared d t (all ++ x ∷ [])) (pure all)
+
+unfoldable pub declared_names : ℕ → Parser (List PlainDeclared)
+declared_names d = declared d >>= λ x. more_declared d d (x ∷ [])

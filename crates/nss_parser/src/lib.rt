@@ -1,0 +1,25 @@
+//! Reads the tokens of a unit of NWScript into its syntax tree.
+//!
+//! [`parse`] answers the one tree that the grammar gives the tokens, or why there is none: the first token that
+//! nests too deep, or else the exact place where the tokens stop being the front of a unit. The grammar stands in
+//! `specs/Grammar.antt` and `specs/Unit.antt`, the nest in `specs/Nest.antt`, places in `specs/Sentence.antt`.
+#![tactic(auto)]
+
+mod cursor;
+mod declaration;
+mod expression;
+pub mod fault;
+pub mod laws;
+pub mod mark;
+mod nest;
+mod operator;
+pub mod reader;
+mod statement;
+mod symbol;
+mod unit;
+
+pub use fault::ParseFault;
+pub use reader::parse;
+
+#[cfg(test)]
+mod tests;
