@@ -16,13 +16,13 @@ module _ (n : ℕ) (x : PlainExpr) (s : PlainStmt) where
   then_statement Deep = refl
 
   then_take : (statement : Parser PlainStmt) (o : Outcome ℕ)
-    → and_then o (λ c. statement >>= λ t. pure (stmt.if_else n x s t)) ≡ and_then (and_then o (λ c. statement >>= λ t. pure (Some t))) (λ o. pure (if_of n x s o))
+      → and_then o (λ c. statement >>= λ t. pure (stmt.if_else n x s t)) ≡ and_then (and_then o (λ c. statement >>= λ t. pure (Some t))) (λ o. pure (if_of n x s o))
   then_take statement (Got c r) = then_statement (statement r)
   then_take statement (Stuck r) = refl
   then_take statement Deep = refl
 
   then_branch : (statement : Parser PlainStmt) (i : List Spot) (b : Bool)
-    → branch b (take >>= λ c. statement >>= λ t. pure (stmt.if_else n x s t)) (pure (stmt.if_only n x s)) i
+      → branch b (take >>= λ c. statement >>= λ t. pure (stmt.if_else n x s t)) (pure (stmt.if_only n x s)) i
       ≡ and_then (branch b (take >>= λ c. statement >>= λ t. pure (Some t)) (pure None) i) (λ o. pure (if_of n x s o))
   then_branch statement i true = then_take statement (take i)
   then_branch statement i false = refl
@@ -32,7 +32,7 @@ unfolding after_then if_rest else_part
 then_is d statement n x s i = then_branch n x s statement i (sees mark.Else i)
 
 pub if_is : (d : ℕ) (statement : Parser PlainStmt) (n : ℕ) (x : PlainExpr) (s : PlainStmt) (i j k l : List Spot)
-  → take i ≡ Got n j → condition d j ≡ Got x k → statement k ≡ Got s l → if_statement d statement i ≡ if_rest statement n x s l
+    → take i ≡ Got n j → condition d j ≡ Got x k → statement k ≡ Got s l → if_statement d statement i ≡ if_rest statement n x s l
 unfolding if_statement
 if_is d statement n x s i j k l taken tested read =
     ap (λ (z : Outcome ℕ). and_then z (λ m. condition d >>= λ y. statement >>= λ t. after_then d statement m y t)) taken
@@ -52,7 +52,7 @@ module _ (n : ℕ) (s : PlainStmt) where
   end_condition Deep = refl
 
   end_while : (d : ℕ) (o : Outcome ℕ) → and_then o (λ a. condition d >>= λ x. expect mark.Semicolon >>= λ k. pure (stmt.do_loop n s x))
-    ≡ and_then (and_then o (λ a. condition d >>= λ x. expect mark.Semicolon >>= λ k. pure x)) (λ y. pure (stmt.do_loop n s y))
+      ≡ and_then (and_then o (λ a. condition d >>= λ x. expect mark.Semicolon >>= λ k. pure x)) (λ y. pure (stmt.do_loop n s y))
   end_while d (Got a r) = end_condition (condition d r)
   end_while d (Stuck r) = refl
   end_while d Deep = refl

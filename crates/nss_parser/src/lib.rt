@@ -20,3 +20,6 @@ mod unit;
 
 pub use fault::ParseFault;
 pub use reader::parse;
+
+#[cfg(test)]
+mod tests;

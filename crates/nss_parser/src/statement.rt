@@ -152,12 +152,7 @@ fn labelled(alloc: Global, tokens: &mut Cursor<'_>, depth: usize) -> Result<Stmt
 /// What stands in a block, or with labels in the body of a switch.
 #[cycle(statement)]
 #[tactic(auto, unfolding(crate::specs::ReadStatement::entry))]
-fn entry(
-    alloc: Global,
-    tokens: &mut Cursor<'_>,
-    depth: usize,
-    labels: bool,
-) -> Result<Stmt, Stop>
+fn entry(alloc: Global, tokens: &mut Cursor<'_>, depth: usize, labels: bool) -> Result<Stmt, Stop>
     ensures { Reads plain_stmt (read.entry depth (read.statement depth) labels tokens.old) result tokens.new }
 {
     if begins_type(tokens.peek()) {

@@ -1,0 +1,196 @@
+ghost use Rattle.std.specs.Prelude.{◌≤◌, length, IfOk};
+ghost use Rattle.std.specs.List.{AllByRecursion};
+ghost use Rattle.nss_lexer.specs.Lexemes.{IsToken};
+
+use crate::{ParseFault, parse};
+use nss_lexer::{Lexed, SOURCE_BYTES, Token, next};
+use nss_tree::{Item, Stmt, Tree};
+use nwq_value::NoMemory;
+use std::alloc::Global;
+use std::test::Fail;
+
+/// The tokens of a script.
+#[tactic(auto, using(crate::proofs::TestLaws::token_is, crate::proofs::TestLaws::all_push))]
+fn tokens_of<'a>(alloc: Global, source: &'a [u8]) -> Result<Vec<Token<'a>>, NoMemory>
+    requires { length source.now ≤ SOURCE_BYTES }
+    ensures tokens { IfOk result (λ all. AllByRecursion IsToken all.items) }
+    ensures count { IfOk result (λ all. length all.items ≤ length source.now) }
+{
+    let mut all = Vec::new(alloc);
+    let mut at = 0;
+    for _turn in 0..source.len() {
+        match next(source, 0, at) {
+            Lexed::Token(token) => {
+                at = token.end;
+                all.push(token)?;
+            }
+            _ => return Ok(all),
+        }
+    }
+    Ok(all)
+}
+
+/// The tree of a script, which is short.
+fn tree_of(alloc: Global, source: &[u8]) -> Result<Tree, ParseFault> {
+    if source.len() > SOURCE_BYTES {
+        return Err(ParseFault::NoMemory);
+    }
+    let tokens = tokens_of(alloc, source)?;
+    parse(alloc, tokens.as_slice())
+}
+
+/// Whether these are the tokens of the nodes, in preorder, and no more.
+fn has_places(tree: &Tree, want: &[u32]) -> bool {
+    for (node, token) in (0u32..100).zip(want) {
+        if tree.place(node) != Some(*token) {
+            return false;
+        }
+    }
+    match u32::try_from(want.len()) {
+        Ok(count) => tree.place(count) == None,
+        Err(_) => false,
+    }
+}
+
+/// Each script with the tokens of its tree's nodes in preorder.
+const TREES: [(&[u8], &[u32]); 14] = [
+    (b"", &[]),
+    // levels, loosest first, and the other way round
+    (
+        b"int g = a || b && c | d ^ e & f == h < i << j + k * l;",
+        &[
+            0, 1, 4, 3, 6, 5, 8, 7, 10, 9, 12, 11, 14, 13, 16, 15, 18, 17, 20, 19, 22, 21, 23,
+        ],
+    ),
+    (
+        b"int g = a * b + c << d < e == f & h ^ i | j && k || l;",
+        &[
+            0, 1, 22, 20, 18, 16, 14, 12, 10, 8, 6, 4, 3, 5, 7, 9, 11, 13, 15, 17, 19, 21, 23,
+        ],
+    ),
+    // operators of one level group to the left
+    (b"int g = a - b + c;", &[0, 1, 6, 4, 3, 5, 7]),
+    // assignments group to the right
+    (b"void f() { a = b += c; }", &[1, 5, 6, 5, 8, 7, 9]),
+    // what stands behind an operand is tighter than what stands before it
+    (
+        b"int g = -f(a, !p.x++)--;",
+        &[0, 1, 3, 14, 4, 6, 8, 12, 10, 9],
+    ),
+    // parentheses are no node, and what they hold may be assigned to
+    (b"void f() { (a + 1) = 2; }", &[1, 5, 10, 7, 6, 8, 11]),
+    (
+        b"void f() { { ; } while (a) break; do continue; while (b); }",
+        &[1, 5, 6, 8, 10, 12, 14, 15, 19],
+    ),
+    (
+        b"int f() { for (a; b; c) return; for (;;) return d; }",
+        &[1, 5, 7, 9, 11, 13, 15, 20, 21],
+    ),
+    (
+        b"void f() { if (a) ; else if (b) { } else do ; while (c); }",
+        &[1, 5, 7, 9, 11, 13, 15, 18, 19, 22],
+    ),
+    (
+        b"void f() { switch (a) { case -1: int b, c = 2; default: b; case \"s\": case N: ; } }",
+        &[
+            1, 5, 7, 10, 12, 14, 15, 17, 19, 21, 23, 23, 25, 26, 28, 29, 31,
+        ],
+    ),
+    (
+        b"struct P { int a, b; struct Q q; }; const string S = \"x\"; int g;",
+        &[1, 3, 4, 6, 8, 10, 15, 16, 18, 20, 21],
+    ),
+    (
+        b"void h(int a, object o = OBJECT_SELF); int m = 1, n;",
+        &[1, 3, 6, 9, 12, 13, 15, 17],
+    ),
+    (
+        b"struct P f(float x = -1.5) { struct P p; }",
+        &[2, 4, 8, 11, 13],
+    ),
+];
+
+#[test]
+fn trees(rt: HostRuntime) -> Result<(), Fail> {
+    for (source, places) in TREES {
+        let tree = tree_of(rt.alloc(), source)?;
+        assert!(rt; has_places(&tree, places));
+    }
+    Ok(())
+}
+
+/// Each script with its fault.
+const FAULTS: [(&[u8], ParseFault); 15] = [
+    (b"void main() { int 5; }", ParseFault::Syntax(6)),
+    (b"void main() { int a; a + 1 = 2; }", ParseFault::Syntax(11)),
+    (b"void main() {", ParseFault::Syntax(5)),
+    (b"void main() { else; }", ParseFault::Syntax(5)),
+    (b"void main() { if (a) int b; }", ParseFault::Syntax(9)),
+    (b"void main() { case 1: }", ParseFault::Syntax(5)),
+    (
+        b"void main() { switch (a) default: ; }",
+        ParseFault::Syntax(9),
+    ),
+    (b"void main() { do ; while (a) }", ParseFault::Syntax(11)),
+    (b"void main() { f(a,); }", ParseFault::Syntax(9)),
+    (b"void main() { a ? b : c; }", ParseFault::Syntax(6)),
+    (b"int a[2];", ParseFault::Syntax(2)),
+    (b"int", ParseFault::Syntax(1)),
+    (b"struct P { };", ParseFault::Syntax(3)),
+    (b"const int C = +1;", ParseFault::Syntax(4)),
+    (b"#include \"a\"", ParseFault::Syntax(0)),
+];
+
+#[test]
+fn faults(rt: HostRuntime) {
+    for (source, want) in FAULTS {
+        match tree_of(rt.alloc(), source) {
+            Ok(_) => assert!(rt; false),
+            Err(fault) => assert_eq!(rt; fault, want),
+        }
+    }
+}
+
+/// Whether a unit is one function with an `if` without `else`, whose statement is an `if` with one.
+fn inner_has_else(tree: &Tree) -> bool {
+    let [
+        Item::Function {
+            body: Some(body),
+            ..
+        },
+    ] = tree.items.as_slice()
+    else {
+        return false;
+    };
+    match body.as_slice() {
+        [Stmt::If { then, .. }] => match then.as_ref() {
+            Stmt::IfElse { .. } => true,
+            _ => false,
+        },
+        _ => false,
+    }
+}
+
+#[test]
+fn nearest_if(rt: HostRuntime) -> Result<(), Fail> {
+    let tree = tree_of(
+        rt.alloc(),
+        b"void f() { if (1) if (0) g(1); else g(2); }".as_slice(),
+    )?;
+    assert!(rt; inner_has_else(&tree));
+    Ok(())
+}
+
+#[test]
+fn nest(rt: HostRuntime) {
+    let open = [b'('; 257];
+    match tree_of(rt.alloc(), &open) {
+        Ok(_) => assert!(rt; false),
+        Err(fault) => assert_eq!(rt; fault, ParseFault::Nested(256)),
+    }
+    match tree_of(rt.alloc(), &open[..256]) {
+        Ok(_) => assert!(rt; false),
+        Err(fault) => assert_eq!(rt; fault, ParseFault::Syntax(0)),
+    }
+}
