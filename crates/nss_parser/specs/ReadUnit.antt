@@ -78,6 +78,10 @@ module _ (d : ℕ) (entries : Parser PlainStmts) where
   unfoldable pub after_struct : Parser PlainItem
   after_struct = take >>= λ a. identifier >>= λ x. choice (is_sign mark.OpenBrace) (structure d x) (after_type a (type.Struct x.name))
 
+  -- what begins with any other type
+  abbrev pub typed_item : Parser PlainItem
+  typed_item = typed >>= λ p. after_type p.0 p.1
+
   unfoldable pub item : Parser PlainItem
   item = choice (is_sign mark.Struct) after_struct (choice (is_sign mark.Const) constant_line (typed >>= λ p. after_type p.0 p.1))
 

@@ -264,6 +264,14 @@ fn after_struct(alloc: Global, tokens: &mut Cursor<'_>, depth: usize) -> Result<
     }
 }
 
+/// What begins with a type that is no struct.
+fn typed_item(alloc: Global, tokens: &mut Cursor<'_>, depth: usize) -> Result<Item, Stop>
+    ensures { Reads plain_item (read.typed_item depth (statements.entries depth (statements.statement depth) false) tokens.old) result tokens.new }
+{
+    let (token, ty) = typed(alloc, tokens)?;
+    after_type(alloc, tokens, depth, token, ty)
+}
+
 /// One item of a unit.
 #[tactic(auto, unfolding(crate::specs::ReadUnit::item))]
 fn item(alloc: Global, tokens: &mut Cursor<'_>, depth: usize) -> Result<Item, Stop>
@@ -274,8 +282,7 @@ fn item(alloc: Global, tokens: &mut Cursor<'_>, depth: usize) -> Result<Item, St
     } else if tokens.sees(Mark::Const) {
         constant_line(alloc, tokens)
     } else {
-        let (token, ty) = typed(alloc, tokens)?;
-        after_type(alloc, tokens, depth, token, ty)
+        typed_item(alloc, tokens, depth)
     }
 }
 
