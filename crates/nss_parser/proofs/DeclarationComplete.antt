@@ -102,7 +102,7 @@ unfolding declared_after
 bare_step d x rest e = rw e refl
 
 valued_step : (d k : ℕ) (x : Identifier) (y : PlainExpr) (i rest : List Spot) → level d 0 i ≡ Got y rest
-  → declared_after d x (sign k mark.Assign ∷ i) ≡ Got (record { token = x.token; name = x.name; value = Some y }) rest
+    → declared_after d x (sign k mark.Assign ∷ i) ≡ Got (record { token = x.token; name = x.name; value = Some y }) rest
 unfolding declared_after first take same_mark
 valued_step d k x y i rest e = rw e refl
 
@@ -113,7 +113,7 @@ declared_step d n f i = ap (λ (z : Outcome Identifier). and_then z (declared_af
 pub complete_declared : {x : PlainDeclared} {xs : List Spot} → Declared x xs → (d : ℕ) (rest : List Spot) → Stops rest → length (xs ++ rest) < d → declared d (xs ++ rest) ≡ Got x rest
 complete_declared (grammar.bare n f) d rest stops lt = declared_step d n f rest ∙ bare_step d (record { token = n; name = f }) rest stops.assign
 complete_declared (grammar.valued {x = x} {xs = xs} n k f e) d rest stops lt =
-  declared_step d n f (sign k mark.Assign ∷ (xs ++ rest)) ∙ valued_step d k (record { token = n; name = f }) x (xs ++ rest) rest (complete_expression e d rest stops.ends (omega arith))
+    declared_step d n f (sign k mark.Assign ∷ (xs ++ rest)) ∙ valued_step d k (record { token = n; name = f }) x (xs ++ rest) rest (complete_expression e d rest stops.ends (omega arith))
 
 -- the names end, or go on after a comma
 names_end : (d t k : ℕ) (all : List PlainDeclared) (rest : List Spot) → 0 < t → more_declared d t all (sign k mark.Semicolon ∷ rest) ≡ Got all (sign k mark.Semicolon ∷ rest)
@@ -135,25 +135,25 @@ tail_length xs j s = let e = length-append xs (s ∷ j) in omega (arith, e)
 
 -- a turn of the loop is opened
 name_turn : (d t k : ℕ) (all : List PlainDeclared) (i : List Spot) (o : Outcome (List PlainDeclared)) → length i < t
-  → ((t' : ℕ) → length i ≤ t' → and_then (declared d i) (λ x. more_declared d t' (all ++ x ∷ [])) ≡ o) → more_declared d t all (sign k mark.Comma ∷ i) ≡ o
+    → ((t' : ℕ) → length i ≤ t' → and_then (declared d i) (λ x. more_declared d t' (all ++ x ∷ [])) ≡ o) → more_declared d t all (sign k mark.Comma ∷ i) ≡ o
 name_turn d zero k all i o lt h = absurd (omega arith)
 name_turn d (suc t) k all i o lt h = names_more d t k all i ∙ h t (omega arith)
 
 pub complete_names : {all : List PlainDeclared} {xs : List Spot} → DeclaredNames all xs → (d t : ℕ) (before : List PlainDeclared) (k : ℕ) (rest : List Spot)
-  → length (xs ++ sign k mark.Semicolon ∷ rest) < d → length (xs ++ sign k mark.Semicolon ∷ rest) ≤ t
-  → and_then (declared d (xs ++ sign k mark.Semicolon ∷ rest)) (λ x. more_declared d t (before ++ x ∷ [])) ≡ Got (before ++ all) (sign k mark.Semicolon ∷ rest)
+    → length (xs ++ sign k mark.Semicolon ∷ rest) < d → length (xs ++ sign k mark.Semicolon ∷ rest) ≤ t
+    → and_then (declared d (xs ++ sign k mark.Semicolon ∷ rest)) (λ x. more_declared d t (before ++ x ∷ [])) ≡ Got (before ++ all) (sign k mark.Semicolon ∷ rest)
 complete_names (grammar.one {d = x} {xs = xs} h) d t before k rest ld lt =
-  let long = tail_length xs rest (sign k mark.Semicolon) in
-  ap (λ (z : Outcome PlainDeclared). and_then z (λ x. more_declared d t (before ++ x ∷ []))) (complete_declared h d (sign k mark.Semicolon ∷ rest) (stops_semicolon k rest) ld)
-  ∙ names_end d t k (before ++ x ∷ []) rest (omega arith)
+    let long = tail_length xs rest (sign k mark.Semicolon) in
+    ap (λ (z : Outcome PlainDeclared). and_then z (λ x. more_declared d t (before ++ x ∷ []))) (complete_declared h d (sign k mark.Semicolon ∷ rest) (stops_semicolon k rest) ld)
+    ∙ names_end d t k (before ++ x ∷ []) rest (omega arith)
 complete_names (grammar.more {d = x} {all = all} {xs = xs} {ys = ys} n h hs) d t before k rest ld lt =
-  let j = ys ++ sign k mark.Semicolon ∷ rest in
-  let regroup = append_assoc xs (sign n mark.Comma ∷ ys) (sign k mark.Semicolon ∷ rest) in
-  let again : length ((xs ++ sign n mark.Comma ∷ ys) ++ sign k mark.Semicolon ∷ rest) ≡ length xs + (length (ys ++ sign k mark.Semicolon ∷ rest) + 1) = ap length regroup ∙ tail_length xs (ys ++ sign k mark.Semicolon ∷ rest) (sign n mark.Comma) in
-  let whole : length (xs ++ sign n mark.Comma ∷ (ys ++ sign k mark.Semicolon ∷ rest)) ≡ length xs + (length (ys ++ sign k mark.Semicolon ∷ rest) + 1) = tail_length xs (ys ++ sign k mark.Semicolon ∷ rest) (sign n mark.Comma) in
-  let some = some_declared h in
-  ap (λ (z : List Spot). and_then (declared d z) (λ x. more_declared d t (before ++ x ∷ []))) regroup
-  ∙ ap (λ (z : Outcome PlainDeclared). and_then z (λ x. more_declared d t (before ++ x ∷ []))) (complete_declared h d (sign n mark.Comma ∷ (ys ++ sign k mark.Semicolon ∷ rest)) (stops_comma n (ys ++ sign k mark.Semicolon ∷ rest)) (omega arith))
-  ∙ name_turn d t n (before ++ x ∷ []) (ys ++ sign k mark.Semicolon ∷ rest) (Got (before ++ x ∷ all) (sign k mark.Semicolon ∷ rest)) (omega arith) (λ t' le.
-      complete_names hs d t' (before ++ x ∷ []) k rest (omega arith) le
-      ∙ ap (λ (z : List PlainDeclared). Got z (sign k mark.Semicolon ∷ rest)) (append_assoc before (x ∷ []) all))
+    let j = ys ++ sign k mark.Semicolon ∷ rest in
+    let regroup = append_assoc xs (sign n mark.Comma ∷ ys) (sign k mark.Semicolon ∷ rest) in
+    let again : length ((xs ++ sign n mark.Comma ∷ ys) ++ sign k mark.Semicolon ∷ rest) ≡ length xs + (length (ys ++ sign k mark.Semicolon ∷ rest) + 1) = ap length regroup ∙ tail_length xs (ys ++ sign k mark.Semicolon ∷ rest) (sign n mark.Comma) in
+    let whole : length (xs ++ sign n mark.Comma ∷ (ys ++ sign k mark.Semicolon ∷ rest)) ≡ length xs + (length (ys ++ sign k mark.Semicolon ∷ rest) + 1) = tail_length xs (ys ++ sign k mark.Semicolon ∷ rest) (sign n mark.Comma) in
+    let some = some_declared h in
+    ap (λ (z : List Spot). and_then (declared d z) (λ x. more_declared d t (before ++ x ∷ []))) regroup
+    ∙ ap (λ (z : Outcome PlainDeclared). and_then z (λ x. more_declared d t (before ++ x ∷ []))) (complete_declared h d (sign n mark.Comma ∷ (ys ++ sign k mark.Semicolon ∷ rest)) (stops_comma n (ys ++ sign k mark.Semicolon ∷ rest)) (omega arith))
+    ∙ name_turn d t n (before ++ x ∷ []) (ys ++ sign k mark.Semicolon ∷ rest) (Got (before ++ x ∷ all) (sign k mark.Semicolon ∷ rest)) (omega arith) (λ t' le.
+    complete_names hs d t' (before ++ x ∷ []) k rest (omega arith) le
+    ∙ ap (λ (z : List PlainDeclared). Got z (sign k mark.Semicolon ∷ rest)) (append_assoc before (x ∷ []) all))

@@ -22,9 +22,9 @@ use Rattle.nss_parser.proofs.Fronts.{Right, right_got, right_pure, right_stuck, 
 use Rattle.nss_parser.proofs.ExpressionRight.{right_level}
 
 identifier_at : {A : Type 0} (Q : A → List Spot → List Spot → Type 0) (W : List Spot → Type 0) (E : Type 0) (f : Identifier → Parser A) (n : ℕ) (s : Symbol) (r : List Spot)
-  → ((k : ℕ) (bytes : List ℕ) (z : List Spot) → at n s ∷ r ≡ at k (symbol.Name bytes) ∷ z
+    → ((k : ℕ) (bytes : List ℕ) (z : List Spot) → at n s ∷ r ≡ at k (symbol.Name bytes) ∷ z
     → Right (λ y ys end. Q y (at k (symbol.Name bytes) ∷ ys) end) (λ ys. W (at k (symbol.Name bytes) ∷ ys)) E z (f (record { token = k; name = bytes }) z))
-  → W [] → Right Q W E (at n s ∷ r) (and_then (identifier (at n s ∷ r)) f)
+    → W [] → Right Q W E (at n s ∷ r) (and_then (identifier (at n s ∷ r)) f)
 unfolding identifier here first take
 identifier_at Q W E f n (symbol.Name bytes) r go front = further (at n (symbol.Name bytes) ∷ []) refl (go n bytes r refl)
 identifier_at Q W E f n (symbol.Sign k) r go front = right_stuck front
@@ -35,9 +35,9 @@ identifier_at Q W E f n symbol.Unknown r go front = right_stuck front
 
 -- a name with its number that must come next
 pub then_identifier : {A : Type 0} {Q : A → List Spot → List Spot → Type 0} {W : List Spot → Type 0} {E : Type 0} (f : Identifier → Parser A) (i : List Spot)
-  → ((k : ℕ) (bytes : List ℕ) (r : List Spot) → i ≡ at k (symbol.Name bytes) ∷ r
+    → ((k : ℕ) (bytes : List ℕ) (r : List Spot) → i ≡ at k (symbol.Name bytes) ∷ r
     → Right (λ y ys end. Q y (at k (symbol.Name bytes) ∷ ys) end) (λ ys. W (at k (symbol.Name bytes) ∷ ys)) E r (f (record { token = k; name = bytes }) r))
-  → W [] → Right Q W E i (and_then (identifier i) f)
+    → W [] → Right Q W E i (and_then (identifier i) f)
 unfolding identifier here
 then_identifier f [] go front = right_stuck front
 then_identifier {Q = Q} {W = W} {E = E} f (s ∷ r) go front = identifier_at Q W E f s.number s.symbol r go front
@@ -50,7 +50,7 @@ abbrev TypeAt : ℕ × TypeName → List Spot → List Spot → Type 0
 TypeAt p ts rest = TypeTokens p.0 p.1 ts
 
 struct_name : (n m : ℕ) (s : Symbol) (r : List Spot)
-  → Right TypeAt TypeFront ⊥ (sign n mark.Struct ∷ at m s ∷ r) (and_then (and_then (name (at m s ∷ r)) (λ f j. Got (type.Struct f) j)) (λ t j. Got (n, t) j))
+    → Right TypeAt TypeFront ⊥ (sign n mark.Struct ∷ at m s ∷ r) (and_then (and_then (name (at m s ∷ r)) (λ f j. Got (type.Struct f) j)) (λ t j. Got (n, t) j))
 unfolding first take
 struct_name n m (symbol.Name f) r = right_got (sign n mark.Struct ∷ at m (symbol.Name f) ∷ []) refl (grammar.structure n m f)
 struct_name n m (symbol.Sign k) r = record { by = (sign n mark.Struct ∷ [], refl, inr (n, refl)) }
@@ -70,7 +70,7 @@ type_at n m r (Some t) e = right_got (sign n m ∷ []) refl (grammar.word n m t 
 type_at n m r None e = by_test (same_mark mark.Struct m) refl
   where
     by_test : (b : Bool) → same_mark mark.Struct m ≡ b
-      → Right TypeAt TypeFront ⊥ (sign n m ∷ r) (and_then (and_then (branch b take stuck (sign n m ∷ r)) (λ k. name >>= λ f. pure (type.Struct f))) (λ t j. Got (n, t) j))
+        → Right TypeAt TypeFront ⊥ (sign n m ∷ r) (and_then (and_then (branch b take stuck (sign n m ∷ r)) (λ k. name >>= λ f. pure (type.Struct f))) (λ t j. Got (n, t) j))
     by_test true same = subst (λ (z : Mark). Right TypeAt TypeFront ⊥ (sign n z ∷ r) (and_then (and_then (name r) (λ f j. Got (type.Struct f) j)) (λ t j. Got (n, t) j))) (mark_same mark.Struct m same) (struct_type n r)
     by_test false other = right_stuck (inl refl)
 
@@ -90,10 +90,10 @@ right_typed (s ∷ r) = typed_at s.number s.symbol r
 
 -- a type that must come next
 pub then_typed : {A : Type 0} {Q : A → List Spot → List Spot → Type 0} {W : List Spot → Type 0} {E : Type 0} (f : ℕ × TypeName → Parser A) (i : List Spot)
-  → ((n : ℕ) (t : TypeName) (ts rest : List Spot) → TypeTokens n t ts → i ≡ ts ++ rest → Right (λ y ys end. Q y (ts ++ ys) end) (λ ys. W (ts ++ ys)) E rest (f (n, t) rest))
-  → W [] → ((n : ℕ) → W (sign n mark.Struct ∷ [])) → Right Q W E i (and_then (typed i) f)
+    → ((n : ℕ) (t : TypeName) (ts rest : List Spot) → TypeTokens n t ts → i ≡ ts ++ rest → Right (λ y ys end. Q y (ts ++ ys) end) (λ ys. W (ts ++ ys)) E rest (f (n, t) rest))
+    → W [] → ((n : ℕ) → W (sign n mark.Struct ∷ [])) → Right Q W E i (and_then (typed i) f)
 then_typed {Q = Q} {W = W} {E = E} f i go none struct =
-  then {Q = Q} {W = W} {E = E} {f = f} (right_typed i)
+    then {Q = Q} {W = W} {E = E} {f = f} (right_typed i)
     (λ p ts rest h e. go p.0 p.1 ts rest h e)
     (λ xs v. elim v [ inl e ↦ subst (λ (z : List Spot). W z) (sym e) none | inr w ↦ subst (λ (z : List Spot). W z) (sym w.1) (struct w.0) ])
     (λ deep. absurd deep)
@@ -126,21 +126,21 @@ right_constant (s ∷ r) = constant_at s.number s.symbol r
 
 -- a declared name whose name was read
 pub right_declared_after : (d k : ℕ) (f : List ℕ) (i : List Spot)
-  → Right (λ y ys rest. Declared y (at k (symbol.Name f) ∷ ys)) (λ ys. Viable Declared (at k (symbol.Name f) ∷ ys)) (d ≤ length i) i (declared_after d (record { token = k; name = f }) i)
+    → Right (λ y ys rest. Declared y (at k (symbol.Name f) ∷ ys)) (λ ys. Viable Declared (at k (symbol.Name f) ∷ ys)) (d ≤ length i) i (declared_after d (record { token = k; name = f }) i)
 unfolding declared_after
 right_declared_after d k f i =
-  right_choice mark.Assign i _ _
+    right_choice mark.Assign i _ _
     (λ n r is. after_take (λ n. level d 0 >>= λ x. pure (record { token = k; name = f; value = Some x })) n (symbol.Sign mark.Assign) r is
-      (then (right_level d 0 (omega arith) r)
-        (λ y ys rest h e. right_pure (subst (λ (z : List Spot). Declared (record { token = k; name = f; value = Some y }) (at k (symbol.Name f) ∷ sign n mark.Assign ∷ z)) (sym (append-nil ys)) (grammar.valued k n f h.0)))
-        (λ ys v. viable_as Expression (λ y zs. Declared y (at k (symbol.Name f) ∷ sign n mark.Assign ∷ zs)) ys v (λ y zs h. (record { token = k; name = f; value = Some y }, grammar.valued k n f h)))
-        (λ deep. let shorter : length i ≡ suc (length r) = ap length is in omega arith)))
+    (then (right_level d 0 (omega arith) r)
+    (λ y ys rest h e. right_pure (subst (λ (z : List Spot). Declared (record { token = k; name = f; value = Some y }) (at k (symbol.Name f) ∷ sign n mark.Assign ∷ z)) (sym (append-nil ys)) (grammar.valued k n f h.0)))
+    (λ ys v. viable_as Expression (λ y zs. Declared y (at k (symbol.Name f) ∷ sign n mark.Assign ∷ zs)) ys v (λ y zs h. (record { token = k; name = f; value = Some y }, grammar.valued k n f h)))
+    (λ deep. let shorter : length i ≡ suc (length r) = ap length is in omega arith)))
     (λ other. right_pure (grammar.bare k f))
 
 pub right_declared : (d : ℕ) (i : List Spot) → Right (λ y ys rest. Declared y ys) (Viable Declared) (d ≤ length i) i (declared d i)
 unfolding declared
 right_declared d i =
-  then_identifier (declared_after d) i
+    then_identifier (declared_after d) i
     (λ k f r is. right_as (right_declared_after d k f r) (λ y ys rest h. h) (λ ys v. v) (λ deep. let shorter : length i ≡ suc (length r) = ap length is in omega arith))
     (λ j. (symbol.Name [] ∷ [], record { token = j; name = []; value = None }, grammar.bare j []))
 
@@ -148,30 +148,30 @@ right_declared d i =
 pub names_push : {all : List PlainDeclared} {y : PlainDeclared} {xs ys : List Spot} (n : ℕ) → DeclaredNames all xs → Declared y ys → DeclaredNames (all ++ y ∷ []) (xs ++ sign n mark.Comma ∷ ys)
 names_push n (grammar.one h) last = grammar.more n h (grammar.one last)
 names_push {y = y} {ys = ys} n (grammar.more {d = x} {all = all} {xs = xs} {ys = zs} m h hs) last =
-  subst (λ (z : List Spot). DeclaredNames (x ∷ (all ++ y ∷ [])) z) (sym (append_assoc xs (sign m mark.Comma ∷ zs) (sign n mark.Comma ∷ ys))) (grammar.more m h (names_push n hs last))
+    subst (λ (z : List Spot). DeclaredNames (x ∷ (all ++ y ∷ [])) z) (sym (append_assoc xs (sign m mark.Comma ∷ zs) (sign n mark.Comma ∷ ys))) (grammar.more m h (names_push n hs last))
 
 pub right_more_declared : (d t : ℕ) (all : List PlainDeclared) (ps i : List Spot) → DeclaredNames all ps
-  → Right (λ z zs rest. DeclaredNames z (ps ++ zs)) (λ zs. Viable DeclaredNames (ps ++ zs)) ((t ≤ length i) ⊎ (d ≤ length i)) i (more_declared d t all i)
+    → Right (λ z zs rest. DeclaredNames z (ps ++ zs)) (λ zs. Viable DeclaredNames (ps ++ zs)) ((t ≤ length i) ⊎ (d ≤ length i)) i (more_declared d t all i)
 right_more_declared d zero all ps i names = right_deep (inl (omega arith))
 right_more_declared d (suc t) all ps i names =
-  right_choice mark.Comma i _ _
+    right_choice mark.Comma i _ _
     (λ n r is. after_take (λ n. declared d >>= λ x. more_declared d t (all ++ x ∷ [])) n (symbol.Sign mark.Comma) r is
-      (then (right_declared d r)
-        (λ x xs rest h e.
-          right_as (right_more_declared d t (all ++ x ∷ []) (ps ++ sign n mark.Comma ∷ xs) rest (names_push n names h))
-            (λ z zs end q. subst (λ (w : List Spot). DeclaredNames z w) (append_assoc ps (sign n mark.Comma ∷ xs) zs) q)
-            (λ zs v. subst (λ (w : List Spot). Viable DeclaredNames w) (append_assoc ps (sign n mark.Comma ∷ xs) zs) v)
-            (λ deep. let shorter : length i ≡ suc (length r) = ap length is in let lengths = rest_length r xs rest e in elim deep [ inl a ↦ inl (omega arith) | inr b ↦ inr (omega arith) ]))
-        (λ xs v. viable_under DeclaredNames ps (sign n mark.Comma ∷ xs)
-          (viable_as Declared (λ y zs. DeclaredNames y (ps ++ sign n mark.Comma ∷ zs)) xs v (λ y zs h. (all ++ y ∷ [], names_push n names h))))
-        (λ deep. let shorter : length i ≡ suc (length r) = ap length is in inr (omega arith))))
+    (then (right_declared d r)
+    (λ x xs rest h e.
+    right_as (right_more_declared d t (all ++ x ∷ []) (ps ++ sign n mark.Comma ∷ xs) rest (names_push n names h))
+    (λ z zs end q. subst (λ (w : List Spot). DeclaredNames z w) (append_assoc ps (sign n mark.Comma ∷ xs) zs) q)
+    (λ zs v. subst (λ (w : List Spot). Viable DeclaredNames w) (append_assoc ps (sign n mark.Comma ∷ xs) zs) v)
+    (λ deep. let shorter : length i ≡ suc (length r) = ap length is in let lengths = rest_length r xs rest e in elim deep [ inl a ↦ inl (omega arith) | inr b ↦ inr (omega arith) ]))
+    (λ xs v. viable_under DeclaredNames ps (sign n mark.Comma ∷ xs)
+    (viable_as Declared (λ y zs. DeclaredNames y (ps ++ sign n mark.Comma ∷ zs)) xs v (λ y zs h. (all ++ y ∷ [], names_push n names h))))
+    (λ deep. let shorter : length i ≡ suc (length r) = ap length is in inr (omega arith))))
     (λ other. right_pure (subst (λ (z : List Spot). DeclaredNames all z) (sym (append-nil ps)) names))
 
 pub right_declared_names : (d : ℕ) (i : List Spot) → Right (λ z zs rest. DeclaredNames z zs) (Viable DeclaredNames) (d ≤ length i) i (declared_names d i)
 unfolding declared_names
 right_declared_names d i =
-  then (right_declared d i)
+    then (right_declared d i)
     (λ x xs rest h e. right_as (right_more_declared d d (x ∷ []) xs rest (grammar.one h)) (λ z zs end q. q) (λ zs v. v)
-      (λ deep. let lengths = rest_length i xs rest e in elim deep [ inl a ↦ omega arith | inr b ↦ omega arith ]))
+    (λ deep. let lengths = rest_length i xs rest e in elim deep [ inl a ↦ omega arith | inr b ↦ omega arith ]))
     (λ xs v. viable_as Declared DeclaredNames xs v (λ y zs h. (y ∷ [], grammar.one h)))
     (λ deep. deep)

@@ -149,11 +149,12 @@ ends_more k j rest le e = record { operator = λ o is. let h : level_of o < k = 
 pub apart_at_binary : (n : ℕ) (m : Mark) (o : BinaryOperator) (r : List Spot) → binary_operator m ≡ Some o → Ends (suc (level_of o)) (sign n m ∷ r)
 unfolding first
 apart_at_binary n m o r is =
-  let a = binary_apart m o is in
-  record {
-    operator = λ p e. let same : level_of p ≡ level_of o = ap level_or (sym e ∙ is) in omega arith;
-    assign = a.assign;
-    apart = record { suffix = a.suffix; call = a.call } }
+    let a = binary_apart m o is in
+    record {
+      operator = λ p e. let same : level_of p ≡ level_of o = ap level_or (sym e ∙ is) in omega arith;
+      assign = a.assign;
+      apart = record { suffix = a.suffix; call = a.call };
+    }
   where
     level_or : Option BinaryOperator → ℕ
     level_or (Some p) = level_of p
@@ -171,7 +172,8 @@ unfolding first
 ends_at k n m r e = record {
   operator = λ o is. cc;
   assign = e.assign;
-  apart = record { suffix = e.suffix; call = e.call } }
+  apart = record { suffix = e.suffix; call = e.call };
+}
 
 pub close_ends : IsEnd mark.Close
 unfolding same_mark

@@ -39,7 +39,7 @@ module _ (d e : ℕ) (le : d ≤ e) (inner outer : ℕ → Parser PlainExpr) (lo
   local_arguments_from zero t' lt before = local_deep (arguments_from e outer t' before)
   local_arguments_from (suc t) zero lt before = absurd (omega arith)
   local_arguments_from (suc t) (suc t') lt before =
-    local_bind (local 0) (λ x. local_after_argument (arguments_from d inner t) (arguments_from e outer t') (λ all. local_arguments_from t t' (omega arith) all) (joined_exprs before (tree.more_exprs x tree.no_expr)))
+      local_bind (local 0) (λ x. local_after_argument (arguments_from d inner t) (arguments_from e outer t') (λ all. local_arguments_from t t' (omega arith) all) (joined_exprs before (tree.more_exprs x tree.no_expr)))
 
   local_arguments : Local (arguments d inner) (arguments e outer)
   unfolding arguments
@@ -76,7 +76,7 @@ module _ (d e : ℕ) (le : d ≤ e) (inner outer : ℕ → Parser PlainExpr) (lo
   local_operation o x = local_bind local_take (λ n. local_bind (local (level_of o + 1)) (λ y. local_pure (tree.binary n o x y)))
 
   local_climb_by : (p q : PlainExpr → Parser PlainExpr) → ((x : PlainExpr) → Local (p x) (q x)) → (least : ℕ) (x : PlainExpr) (o : Option BinaryOperator)
-    → Local (climb_by d inner p least x o) (climb_by e outer q least x o)
+      → Local (climb_by d inner p least x o) (climb_by e outer q least x o)
   local_climb_by p q l least x None = local_pure x
   local_climb_by p q l least x (Some o) = local_branch (nat_lt (level_of o) least) (local_pure x) (local_bind (local_operation o x) l)
 
@@ -98,5 +98,5 @@ unfolding level
 local_level zero e le least = local_deep (level e least)
 local_level (suc d) zero le least = absurd (omega arith)
 local_level (suc d) (suc e) le least =
-  let less : d ≤ e = omega arith in
-  local_bind (local_prefix d e less (level d) (level e) (λ k. local_level d e less k)) (λ x. local_after_first d e less (level d) (level e) (λ k. local_level d e less k) least x)
+    let less : d ≤ e = omega arith in
+    local_bind (local_prefix d e less (level d) (level e) (λ k. local_level d e less k)) (λ x. local_after_first d e less (level d) (level e) (λ k. local_level d e less k) least x)

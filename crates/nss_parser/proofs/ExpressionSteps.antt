@@ -50,7 +50,7 @@ module _ (d : ℕ) (inner : ℕ → Parser PlainExpr) where
   call_empty_step n m k f rest = refl
 
   pub call_step : (n m : ℕ) (f : List ℕ) (i rest : List Spot) (all : PlainExprs) → arguments d inner i ≡ Got all rest
-    → primary d inner (at n (symbol.Name f) ∷ sign m mark.Open ∷ i) ≡ Got (tree.call n f all) rest
+      → primary d inner (at n (symbol.Name f) ∷ sign m mark.Open ∷ i) ≡ Got (tree.call n f all) rest
   unfolding primary after_name first take same_mark
   call_step n m f i rest all e = rw e refl
 
@@ -63,26 +63,26 @@ module _ (d : ℕ) (inner : ℕ → Parser PlainExpr) where
   parenthesized_step m k x i rest e = rw e refl
 
   pub last_argument : (t k : ℕ) (before : PlainExprs) (x : PlainExpr) (i rest : List Spot) → inner 0 i ≡ Got x (sign k mark.Close ∷ rest)
-    → arguments_from d inner (suc t) before i ≡ Got (joined_exprs before (tree.more_exprs x tree.no_expr)) rest
+      → arguments_from d inner (suc t) before i ≡ Got (joined_exprs before (tree.more_exprs x tree.no_expr)) rest
   unfolding first take same_mark
   last_argument t k before x i rest e = rw e refl
 
   pub next_argument : (t n : ℕ) (before : PlainExprs) (x : PlainExpr) (i j : List Spot) → inner 0 i ≡ Got x (sign n mark.Comma ∷ j)
-    → arguments_from d inner (suc t) before i ≡ arguments_from d inner t (joined_exprs before (tree.more_exprs x tree.no_expr)) j
+      → arguments_from d inner (suc t) before i ≡ arguments_from d inner t (joined_exprs before (tree.more_exprs x tree.no_expr)) j
   unfolding first take same_mark
   next_argument t n before x i j e = rw e refl
 
   -- a turn of the loop over arguments, by what its three calls gave
   pub argument_more : (t n : ℕ) (before : PlainExprs) (x : PlainExpr) (i j r : List Spot) → inner 0 i ≡ Got x j → sees mark.Comma j ≡ true → take j ≡ Got n r
-    → arguments_from d inner (suc t) before i ≡ arguments_from d inner t (joined_exprs before (tree.more_exprs x tree.no_expr)) r
+      → arguments_from d inner (suc t) before i ≡ arguments_from d inner t (joined_exprs before (tree.more_exprs x tree.no_expr)) r
   argument_more t n before x i j r e comma taken =
-    let all = joined_exprs before (tree.more_exprs x tree.no_expr) in
-    ap (λ (z : Outcome PlainExpr). and_then z (λ y. after_argument d inner (arguments_from d inner t) (joined_exprs before (tree.more_exprs y tree.no_expr)))) e
-    ∙ ap (λ (b : Bool). branch b (λ k. and_then (take k) (λ m. arguments_from d inner t all)) (λ k. and_then (expect mark.Close k) (λ m z. Got all z)) j) comma
-    ∙ ap (λ (z : Outcome ℕ). and_then z (λ m. arguments_from d inner t all)) taken
+      let all = joined_exprs before (tree.more_exprs x tree.no_expr) in
+      ap (λ (z : Outcome PlainExpr). and_then z (λ y. after_argument d inner (arguments_from d inner t) (joined_exprs before (tree.more_exprs y tree.no_expr)))) e
+      ∙ ap (λ (b : Bool). branch b (λ k. and_then (take k) (λ m. arguments_from d inner t all)) (λ k. and_then (expect mark.Close k) (λ m z. Got all z)) j) comma
+      ∙ ap (λ (z : Outcome ℕ). and_then z (λ m. arguments_from d inner t all)) taken
 
   pub prefix_step : (n : ℕ) (m : Mark) (o : PrefixOperator) (x : PlainExpr) (i rest : List Spot) → prefix_operator m ≡ Some o → inner unary_level i ≡ Got x rest
-    → prefix d inner (sign n m ∷ i) ≡ Got (tree.prefix n o x) rest
+      → prefix d inner (sign n m ∷ i) ≡ Got (tree.prefix n o x) rest
   unfolding prefix first take
   prefix_step n m o x i rest is e = ap (λ (z : Option PrefixOperator). prefix_by d inner z (sign n m ∷ i)) is ∙ ap (λ (z : Outcome PlainExpr). and_then z (λ y. λ r. Got (tree.prefix n o y) r)) e
 
@@ -91,12 +91,12 @@ module _ (d : ℕ) (inner : ℕ → Parser PlainExpr) where
   no_prefix_step i e = ap (λ (z : Option PrefixOperator). prefix_by d inner z i) e
 
   pub operation_step : (t n least : ℕ) (m : Mark) (o : BinaryOperator) (x y : PlainExpr) (i rest : List Spot) → binary_operator m ≡ Some o → nat_lt (level_of o) least ≡ false
-    → inner (level_of o + 1) i ≡ Got y rest → climb d inner (suc t) least x (sign n m ∷ i) ≡ climb d inner t least (tree.binary n o x y) rest
+      → inner (level_of o + 1) i ≡ Got y rest → climb d inner (suc t) least x (sign n m ∷ i) ≡ climb d inner t least (tree.binary n o x y) rest
   unfolding first take operation
   operation_step t n least m o x y i rest is tight e =
-    ap (λ (z : Option BinaryOperator). climb_by d inner (climb d inner t least) least x z (sign n m ∷ i)) is
-    ∙ ap (λ (b : Bool). branch b (λ j. Got x j) (operation d inner o x >>= climb d inner t least) (sign n m ∷ i)) tight
-    ∙ ap (λ (z : Outcome PlainExpr). and_then (and_then z (λ y j. Got (tree.binary n o x y) j)) (climb d inner t least)) e
+      ap (λ (z : Option BinaryOperator). climb_by d inner (climb d inner t least) least x z (sign n m ∷ i)) is
+      ∙ ap (λ (b : Bool). branch b (λ j. Got x j) (operation d inner o x >>= climb d inner t least) (sign n m ∷ i)) tight
+      ∙ ap (λ (z : Outcome PlainExpr). and_then (and_then z (λ y j. Got (tree.binary n o x y) j)) (climb d inner t least)) e
 
   -- the operators end before a looser one, or where none comes
   pub climb_ends : (t least : ℕ) (x : PlainExpr) (rest : List Spot) → NoOperator least rest → climb d inner (suc t) least x rest ≡ Got x rest
@@ -107,11 +107,11 @@ module _ (d : ℕ) (inner : ℕ → Parser PlainExpr) where
       by_operator (Some o) e = ap (λ (b : Bool). branch b (λ j. Got x j) (operation d inner o x >>= climb d inner t least) rest) (lt-ltb (level_of o) least (h o e))
 
   pub assign_step : (n : ℕ) (m : Mark) (o : AssignOperator) (x y : PlainExpr) (i rest : List Spot) → assign_operator m ≡ Some o → inner 0 i ≡ Got y rest
-    → after_first d inner 0 x (sign n m ∷ i) ≡ Got (tree.assign n o x y) rest
+      → after_first d inner 0 x (sign n m ∷ i) ≡ Got (tree.assign n o x y) rest
   unfolding after_first assigned first take
   assign_step n m o x y i rest is e =
-    ap (λ (z : Option AssignOperator). assigned_by d inner x z (sign n m ∷ i)) is
-    ∙ ap (λ (z : Outcome PlainExpr). and_then z (λ y j. Got (tree.assign n o x y) j)) e
+      ap (λ (z : Option AssignOperator). assigned_by d inner x z (sign n m ∷ i)) is
+      ∙ ap (λ (z : Outcome PlainExpr). and_then z (λ y j. Got (tree.assign n o x y) j)) e
 
   pub first_climbs : (least : ℕ) (x : PlainExpr) (rest : List Spot) → ((least == 0) ≡ true → assign_of (first rest) ≡ None) → after_first d inner least x rest ≡ climb d inner d least x rest
   unfolding after_first assigned
@@ -126,7 +126,7 @@ unfolding first take suffix
 member_step t n k f x rest = refl
 
 pub step_step : (t n : ℕ) (m : Mark) (o : PostfixOperator) (x : PlainExpr) (rest : List Spot) → suffix_of (Some (symbol.Sign m)) ≡ Some (Step o)
-  → suffixes (suc t) x (sign n m ∷ rest) ≡ suffixes t (tree.postfix n o x) rest
+    → suffixes (suc t) x (sign n m ∷ rest) ≡ suffixes t (tree.postfix n o x) rest
 unfolding first take suffix
 step_step t n m o x rest is = ap (λ (z : Option Suffix). suffixes_by (suffixes t) x z (sign n m ∷ rest)) is
 

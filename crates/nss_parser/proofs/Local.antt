@@ -58,17 +58,23 @@ pub local_take : Local take take
 local_take = record { at = take_at }
 
 bind_more : {A B : Type 0} (i xs rest : List Spot) (x : A) (q : Parser A) (g : A → Parser B) (o : Outcome B) → i ≡ xs ++ rest
-  → ((other : List Spot) → next other ≡ next rest → q (xs ++ other) ≡ Got x other) → Same rest o (g x) → Same i o (q >>= g)
-bind_more i xs rest x q g (Got y end) e h (ys, e', h') =
-  (xs ++ ys, e ∙ ap (λ r. xs ++ r) e' ∙ sym (append_assoc xs ys end), λ other n.
-    ap (λ l. and_then (q l) g) (append_assoc xs ys other)
-    ∙ ap (λ o. and_then o g) (h (ys ++ other) (next_append ys other end n ∙ ap next (sym e')))
-    ∙ h' other n)
-bind_more i xs rest x q g (Stuck left) e h (ys, e', h') =
-  (xs ++ ys, e ∙ ap (λ r. xs ++ r) e' ∙ sym (append_assoc xs ys left), λ other n.
-    ap (λ l. and_then (q l) g) (append_assoc xs ys other)
-    ∙ ap (λ o. and_then o g) (h (ys ++ other) (next_append ys other left n ∙ ap next (sym e')))
-    ∙ h' other n)
+    → ((other : List Spot) → next other ≡ next rest → q (xs ++ other) ≡ Got x other) → Same rest o (g x) → Same i o (q >>= g)
+bind_more i xs rest x q g (Got y end) e h (ys, e', h') = (
+  xs ++ ys,
+  e ∙ ap (λ r. xs ++ r) e' ∙ sym (append_assoc xs ys end),
+  λ other n.
+      ap (λ l. and_then (q l) g) (append_assoc xs ys other)
+      ∙ ap (λ o. and_then o g) (h (ys ++ other) (next_append ys other end n ∙ ap next (sym e')))
+      ∙ h' other n,
+)
+bind_more i xs rest x q g (Stuck left) e h (ys, e', h') = (
+  xs ++ ys,
+  e ∙ ap (λ r. xs ++ r) e' ∙ sym (append_assoc xs ys left),
+  λ other n.
+      ap (λ l. and_then (q l) g) (append_assoc xs ys other)
+      ∙ ap (λ o. and_then o g) (h (ys ++ other) (next_append ys other left n ∙ ap next (sym e')))
+      ∙ h' other n,
+)
 bind_more i xs rest x q g Deep e h u = tt
 
 bind_at : {A B : Type 0} (i : List Spot) (q : Parser A) (f g : A → Parser B) (o : Outcome A) → ((x : A) → Local (f x) (g x)) → Same i o q → Same i (and_then o f) (q >>= g)

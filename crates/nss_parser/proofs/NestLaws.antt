@@ -72,10 +72,11 @@ goes_on ms i before mark after s t so h after-is t-is small =
     let t' : t ≡ changed before mark (head_of (drop (i + 1) ms)) s = t-is ∙ ap (λ a. changed before mark a s) after-is in
     let here = from_here ms i before mark s so h in
     record {
-        rest = ap (λ u. nests_from mark u (drop (i + 1) ms)) t' ∙ sym (rest_at (all ms) i _ _ here);
-        next = after-is;
-        under = λ k below. under_at k below t' here;
-        small = small }
+      rest = ap (λ u. nests_from mark u (drop (i + 1) ms)) t' ∙ sym (rest_at (all ms) i _ _ here);
+      next = after-is;
+      under = λ k below. under_at k below t' here;
+      small = small;
+    }
   where
     under_at : (k : ℕ) → k < i + 1 → t ≡ changed before mark (head_of (drop (i + 1) ms)) s
         → drop i (all ms) ≡ total (changed before mark (head_of (drop (i + 1) ms)) s) ∷ nests_from mark (changed before mark (head_of (drop (i + 1) ms)) s) (drop (i + 1) ms)
@@ -89,8 +90,9 @@ passes tokens i before mark after s t so h after-is t-is over =
     let ms = map mark_in tokens in
     let t' : t ≡ changed before mark (head_of (drop (i + 1) ms)) s = t-is ∙ ap (λ a. changed before mark a s) after-is in
     record {
-        over = subst (λ n. 256 < n) (ap total t' ∙ sym (get_at (all ms) i _ _ (from_here ms i before mark s so h))) over;
-        before = so.under }
+      over = subst (λ n. 256 < n) (ap total t' ∙ sym (get_at (all ms) i _ _ (from_here ms i before mark s so h))) over;
+      before = so.under;
+    }
 
 pub all_within : (tokens : List Symbol) (i : ℕ) (before mark : Option Mark) (s : State) → SoFar (map mark_in tokens) i before mark s → length (map mark_in tokens) ≤ i → IsWithinNest tokens
 unfolding nests

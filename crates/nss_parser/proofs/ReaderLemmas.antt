@@ -33,15 +33,15 @@ got_of xs d x v rest e h = whole.whole_got (map plain_symbol xs) d x rest (ap (i
 pub stuck_of : (xs : List Seen) (d : ℕ) (v left : List Spot) → v ≡ spots 0 (map plain_symbol xs) → length xs + 1 < d → items d (entries d (statement d) false) v ≡ Stuck left → IsPlace (map plain_symbol xs) (length xs - length left)
 unfolding unit
 stuck_of xs d v left e lt h =
-  let count = count_is xs in
-  subst (λ (k : ℕ). IsPlace (map plain_symbol xs) (k - length left)) count
+    let count = count_is xs in
+    subst (λ (k : ℕ). IsPlace (map plain_symbol xs) (k - length left)) count
     (whole.whole_stuck (map plain_symbol xs) d left (omega arith) (ap (items d (entries d (statement d) false)) (sym e) ∙ h))
 
 pub left_of : (xs : List Seen) (d : ℕ) (v left : List Spot) → v ≡ spots 0 (map plain_symbol xs) → items d (entries d (statement d) false) v ≡ Stuck left → length left ≤ length xs
 unfolding unit
 left_of xs d v left e h =
-  let count = count_is xs in
-  let within = whole.whole_left (map plain_symbol xs) d left (ap (items d (entries d (statement d) false)) (sym e) ∙ h) in omega arith
+    let count = count_is xs in
+    let within = whole.whole_left (map plain_symbol xs) d left (ap (items d (entries d (statement d) false)) (sym e) ∙ h) in omega arith
 
 pub deep_of : (xs : List Seen) (d : ℕ) (v : List Spot) → v ≡ spots 0 (map plain_symbol xs) → length xs + 1 < d → items d (entries d (statement d) false) v ≡ Deep → ⊥
 unfolding unit

@@ -27,14 +27,15 @@ pub next_token : (tokens : List Token) (i : ℕ) (d : Token) → i < length toke
 next_token tokens i d h all = (subst (λ (l : List Token). AllByRecursion IsToken l) (drop-cons tokens i d h) all).0
 
 pub seen_more : (all : List Seen) (tokens : List Token) (i : ℕ) (d : Token) (s : Seen) → i < length tokens → plain_symbol s ≡ symbol_of (get_or tokens i d) → IsSound s
-  → SeenSoFar all tokens i → SeenSoFar (all ++ s ∷ []) tokens (i + 1)
+    → SeenSoFar all tokens i → SeenSoFar (all ++ s ∷ []) tokens (i + 1)
 seen_more all tokens i d s h e k so =
-  let split : drop i tokens ≡ get_or tokens i d ∷ drop (i + 1) tokens = drop-cons tokens i d h ∙ ap (λ (n : ℕ). get_or tokens i d ∷ drop n tokens) (sym (add-one i)) in
-  record {
-    same = map_push all s (symbols_of (drop (i + 1) tokens)) ∙ ap (λ (z : Symbol). map plain_symbol all ++ z ∷ symbols_of (drop (i + 1) tokens)) e
-      ∙ ap (λ (l : List Token). map plain_symbol all ++ symbols_of l) (sym split) ∙ so.same;
-    sound = sound_push all s so.sound k;
-    left = (subst (λ (l : List Token). AllByRecursion IsToken l) split so.left).1 }
+    let split : drop i tokens ≡ get_or tokens i d ∷ drop (i + 1) tokens = drop-cons tokens i d h ∙ ap (λ (n : ℕ). get_or tokens i d ∷ drop n tokens) (sym (add-one i)) in
+    record {
+      same = map_push all s (symbols_of (drop (i + 1) tokens)) ∙ ap (λ (z : Symbol). map plain_symbol all ++ z ∷ symbols_of (drop (i + 1) tokens)) e
+          ∙ ap (λ (l : List Token). map plain_symbol all ++ symbols_of l) (sym split) ∙ so.same;
+      sound = sound_push all s so.sound k;
+      left = (subst (λ (l : List Token). AllByRecursion IsToken l) split so.left).1;
+    }
 
 pub seen_end : (all : List Seen) (tokens : List Token) (i : ℕ) → length tokens ≤ i → SeenSoFar all tokens i → map plain_symbol all ≡ symbols_of tokens
 seen_end all tokens i h so = sym (lists.append-nil (map plain_symbol all)) ∙ ap (λ (l : List Token). map plain_symbol all ++ symbols_of l) (sym (drop_of_length-le tokens h)) ∙ so.same

@@ -225,7 +225,7 @@ not_else_close = refl
 no_else_entries : {labels : Bool} {all : PlainStmts} {xs : List Spot} → Entries labels all xs → (k : ℕ) (r : List Spot) → sees mark.Else (xs ++ sign k mark.CloseBrace ∷ r) ≡ false
 no_else_entries grammar.none k r = no_else_at mark.CloseBrace k r not_else_close
 no_else_entries (grammar.more {xs = xs} {ys = ys} e es) k r =
-  no_sign begins_entry mark.Else refl ((xs ++ ys) ++ sign k mark.CloseBrace ∷ r)
+    no_sign begins_entry mark.Else refl ((xs ++ ys) ++ sign k mark.CloseBrace ∷ r)
     (starts_append begins_entry (xs ++ ys) (sign k mark.CloseBrace ∷ r) (starts_append begins_entry xs ys (starts_entry e)))
 
 -- The steps of each production.
@@ -242,7 +242,7 @@ unfolding optional
 present_step d m x i rest e h = rw (e, h) refl
 
 declaration_step : (d n k : ℕ) (t : TypeName) (all : List PlainDeclared) (i j rest : List Spot) → typed i ≡ Got (n, t) j → declared_names d j ≡ Got all (sign k mark.Semicolon ∷ rest)
-  → declaration d i ≡ Got (stmt.declaration n t all) rest
+    → declaration d i ≡ Got (stmt.declaration n t all) rest
 unfolding declaration first take same_mark
 declaration_step d n k t all i j rest e h = rw (e, h) refl
 
@@ -255,7 +255,7 @@ unfolding default_label first take same_mark
 default_step n k rest = refl
 
 expression_step : (d n k : ℕ) (s : Symbol) (x : PlainExpr) (i rest : List Spot) → level d 0 (at n s ∷ i) ≡ Got x (sign k mark.Semicolon ∷ rest)
-  → expression_statement d (at n s ∷ i) ≡ Got (stmt.expression n x) rest
+    → expression_statement d (at n s ∷ i) ≡ Got (stmt.expression n x) rest
 unfolding expression_statement here first take same_mark
 expression_step d n k s x i rest e = rw e refl
 
@@ -282,7 +282,7 @@ module _ (d : ℕ) (inner : Parser PlainStmt) where
   last_entry labels t k before rest = refl
 
   next_entry : (labels : Bool) (t : ℕ) (before : PlainStmts) (s : PlainStmt) (i j : List Spot) → sees mark.CloseBrace i ≡ false → entry d inner labels i ≡ Got s j
-    → entries_from d inner labels (suc t) before i ≡ entries_from d inner labels t (joined_stmts before (stmt.more_stmts s stmt.no_stmt)) j
+      → entries_from d inner labels (suc t) before i ≡ entries_from d inner labels t (joined_stmts before (stmt.more_stmts s stmt.no_stmt)) j
   next_entry labels t before s i j e h = rw (e, h) refl
 
   block_step : (n : ℕ) (all : PlainStmts) (i rest : List Spot) → entries d inner false i ≡ Got all rest → some_statement d inner (sign n mark.OpenBrace ∷ i) ≡ Got (stmt.block n all) rest
@@ -298,7 +298,7 @@ module _ (d : ℕ) (inner : Parser PlainStmt) where
   expression_statement_step n s i rest v e h = ap (λ (p : Parser PlainStmt). p (at n s ∷ i)) (by_expression d inner s e) ∙ h
 
   if_step : (n : ℕ) (x : PlainExpr) (s v : PlainStmt) (i j k rest : List Spot) → condition d i ≡ Got x j → inner j ≡ Got s k → after_then d inner n x s k ≡ Got v rest
-    → some_statement d inner (sign n mark.If ∷ i) ≡ Got v rest
+      → some_statement d inner (sign n mark.If ∷ i) ≡ Got v rest
   unfolding some_statement if_statement first take
   if_step n x s v i j k rest e f g = rw (e, f, g) refl
 
@@ -315,18 +315,18 @@ module _ (d : ℕ) (inner : Parser PlainStmt) where
   while_step n x s i j rest e f = rw (e, f) refl
 
   do_step : (n a k : ℕ) (x : PlainExpr) (s : PlainStmt) (i j rest : List Spot) → inner i ≡ Got s (sign a mark.While ∷ j) → condition d j ≡ Got x (sign k mark.Semicolon ∷ rest)
-    → some_statement d inner (sign n mark.Do ∷ i) ≡ Got (stmt.do_loop n s x) rest
+      → some_statement d inner (sign n mark.Do ∷ i) ≡ Got (stmt.do_loop n s x) rest
   unfolding some_statement do_statement first take same_mark
   do_step n a k x s i j rest e f = rw (e, f) refl
 
   for_step : (n a b c f : ℕ) (x y z : Option PlainExpr) (s : PlainStmt) (i j k l rest : List Spot) → optional d mark.Semicolon i ≡ Got x (sign b mark.Semicolon ∷ j)
-    → optional d mark.Semicolon j ≡ Got y (sign c mark.Semicolon ∷ k) → optional d mark.Close k ≡ Got z (sign f mark.Close ∷ l) → inner l ≡ Got s rest
-    → some_statement d inner (sign n mark.For ∷ sign a mark.Open ∷ i) ≡ Got (stmt.for_loop n x y z s) rest
+      → optional d mark.Semicolon j ≡ Got y (sign c mark.Semicolon ∷ k) → optional d mark.Close k ≡ Got z (sign f mark.Close ∷ l) → inner l ≡ Got s rest
+      → some_statement d inner (sign n mark.For ∷ sign a mark.Open ∷ i) ≡ Got (stmt.for_loop n x y z s) rest
   unfolding some_statement for_statement first take same_mark
   for_step n a b c f x y z s i j k l rest e g h m = rw (e, g, h, m) refl
 
   switch_step : (n c : ℕ) (x : PlainExpr) (all : PlainStmts) (i j rest : List Spot) → condition d i ≡ Got x (sign c mark.OpenBrace ∷ j) → entries d inner true j ≡ Got all rest
-    → some_statement d inner (sign n mark.Switch ∷ i) ≡ Got (stmt.switch n x all) rest
+      → some_statement d inner (sign n mark.Switch ∷ i) ≡ Got (stmt.switch n x all) rest
   unfolding some_statement switch_statement first take same_mark
   switch_step n c x all i j rest e f = rw (e, f) refl
 
@@ -361,16 +361,16 @@ joined_next stmt.no_stmt b s = refl
 joined_next (stmt.more_stmts r a) b s = ap (stmt.more_stmts r) (joined_next a b s)
 
 in_braces : (e : ℕ) (labels : Bool) (all : PlainStmts) (xs : List Spot) (k : ℕ) (rest : List Spot) → entries_from e (statement e) labels e stmt.no_stmt (xs ++ sign k mark.CloseBrace ∷ rest) ≡ Got all rest
-  → entries e (statement e) labels ((xs ++ sign k mark.CloseBrace ∷ []) ++ rest) ≡ Got all rest
+    → entries e (statement e) labels ((xs ++ sign k mark.CloseBrace ∷ []) ++ rest) ≡ Got all rest
 unfolding entries
 in_braces e labels all xs k rest h = ap (entries_from e (statement e) labels e stmt.no_stmt) (append_assoc xs (sign k mark.CloseBrace ∷ []) rest) ∙ h
 
 complete_condition : {x : PlainExpr} {xs : List Spot} → Expression x xs → (e a b : ℕ) (tail rest : List Spot) → length ((xs ++ sign b mark.Close ∷ tail) ++ rest) < e
-  → condition e (sign a mark.Open ∷ ((xs ++ sign b mark.Close ∷ tail) ++ rest)) ≡ Got x (tail ++ rest)
+    → condition e (sign a mark.Open ∷ ((xs ++ sign b mark.Close ∷ tail) ++ rest)) ≡ Got x (tail ++ rest)
 complete_condition {x} {xs} h e a b tail rest lt =
-  let regroup = append_assoc xs (sign b mark.Close ∷ tail) rest in
-  let again = ap length regroup in
-  condition_step e a b x ((xs ++ sign b mark.Close ∷ tail) ++ rest) (tail ++ rest)
+    let regroup = append_assoc xs (sign b mark.Close ∷ tail) rest in
+    let again = ap length regroup in
+    condition_step e a b x ((xs ++ sign b mark.Close ∷ tail) ++ rest) (tail ++ rest)
     (ap (level e 0) regroup ∙ complete_expression h e (sign b mark.Close ∷ (tail ++ rest)) (ends_at 0 b mark.Close (tail ++ rest) close_ends) (omega (arith, again)))
 
 -- a token that may end an optional expression
@@ -392,74 +392,74 @@ unfolding first
 sees_first m n r e = e
 
 complete_optional : {x : Option PlainExpr} {xs : List Spot} → Optional x xs → (m : Mark) → EndsOptional m → (e b : ℕ) (tail rest : List Spot) → length ((xs ++ sign b m ∷ tail) ++ rest) < e
-  → optional e m ((xs ++ sign b m ∷ tail) ++ rest) ≡ Got x (sign b m ∷ (tail ++ rest))
+    → optional e m ((xs ++ sign b m ∷ tail) ++ rest) ≡ Got x (sign b m ∷ (tail ++ rest))
 complete_optional grammar.absent m end e b tail rest lt = absent_step e m (sign b m ∷ (tail ++ rest)) (sees_first m b (tail ++ rest) end.same)
 complete_optional (grammar.present {x = x} {xs = xs} h) m end e b tail rest lt =
-  let regroup = append_assoc xs (sign b m ∷ tail) rest in
-  let again = ap length regroup in
-  ap (optional e m) regroup
-  ∙ present_step e m x (xs ++ sign b m ∷ (tail ++ rest)) (sign b m ∷ (tail ++ rest))
+    let regroup = append_assoc xs (sign b m ∷ tail) rest in
+    let again = ap length regroup in
+    ap (optional e m) regroup
+    ∙ present_step e m x (xs ++ sign b m ∷ (tail ++ rest)) (sign b m ∷ (tail ++ rest))
     (no_mark m end.never (xs ++ sign b m ∷ (tail ++ rest)) (starts_append begins_expression xs (sign b m ∷ (tail ++ rest)) (starts_expression h)))
     (complete_expression h e (sign b m ∷ (tail ++ rest)) (ends_at 0 b m (tail ++ rest) end.ends) (omega (arith, again)))
 
 names_whole : {all : List PlainDeclared} {xs : List Spot} → DeclaredNames all xs → (e k : ℕ) (rest : List Spot) → length (xs ++ sign k mark.Semicolon ∷ rest) < e
-  → declared_names e (xs ++ sign k mark.Semicolon ∷ rest) ≡ Got all (sign k mark.Semicolon ∷ rest)
+    → declared_names e (xs ++ sign k mark.Semicolon ∷ rest) ≡ Got all (sign k mark.Semicolon ∷ rest)
 unfolding declared_names
 names_whole h e k rest lt = complete_names h e e [] k rest lt (omega arith)
 
 mutual
   pub complete_statement : {s : PlainStmt} {xs : List Spot} → Statement s xs → (d : ℕ) (rest : List Spot) → Closed s rest → suc (length (xs ++ rest)) < d → statement d (xs ++ rest) ≡ Got s rest
   complete_statement (grammar.block {all = all} {xs = xs} n k es) d rest closed lt =
-    deeply d (sign n mark.OpenBrace ∷ ((xs ++ sign k mark.CloseBrace ∷ []) ++ rest)) (Got (stmt.block n all) rest) lt (λ e le.
+      deeply d (sign n mark.OpenBrace ∷ ((xs ++ sign k mark.CloseBrace ∷ []) ++ rest)) (Got (stmt.block n all) rest) lt (λ e le.
       let again = ap length (append_assoc xs (sign k mark.CloseBrace ∷ []) rest) in
       block_step e (statement e) n all ((xs ++ sign k mark.CloseBrace ∷ []) ++ rest) rest
-        (in_braces e false all xs k rest (complete_entries es e e stmt.no_stmt k rest (omega (arith, again)) (omega (arith, again)))))
+      (in_braces e false all xs k rest (complete_entries es e e stmt.no_stmt k rest (omega (arith, again)) (omega (arith, again)))))
   complete_statement (grammar.empty n) d rest closed lt =
-    deeply d (sign n mark.Semicolon ∷ rest) (Got (stmt.empty n) rest) lt (λ e le. empty_step e (statement e) n rest)
+      deeply d (sign n mark.Semicolon ∷ rest) (Got (stmt.empty n) rest) lt (λ e le. empty_step e (statement e) n rest)
   complete_statement (grammar.expression {x = x} {xs = xs} n k s h) d rest closed lt =
-    deeply d (at n s ∷ ((xs ++ sign k mark.Semicolon ∷ []) ++ rest)) (Got (stmt.expression n x) rest) lt (λ e le.
+      deeply d (at n s ∷ ((xs ++ sign k mark.Semicolon ∷ []) ++ rest)) (Got (stmt.expression n x) rest) lt (λ e le.
       let regroup = append_assoc xs (sign k mark.Semicolon ∷ []) rest in
       let again = ap length regroup in
       expression_statement_step e (statement e) n s ((xs ++ sign k mark.Semicolon ∷ []) ++ rest) rest (stmt.expression n x) (starts_expression h)
-        (expression_step e n k s x ((xs ++ sign k mark.Semicolon ∷ []) ++ rest) rest
-          (ap (λ (z : List Spot). level e 0 (at n s ∷ z)) regroup ∙ complete_expression h e (sign k mark.Semicolon ∷ rest) (ends_at 0 k mark.Semicolon rest semicolon_ends) (omega (arith, again)))))
+      (expression_step e n k s x ((xs ++ sign k mark.Semicolon ∷ []) ++ rest) rest
+      (ap (λ (z : List Spot). level e 0 (at n s ∷ z)) regroup ∙ complete_expression h e (sign k mark.Semicolon ∷ rest) (ends_at 0 k mark.Semicolon rest semicolon_ends) (omega (arith, again)))))
   complete_statement (grammar.if_only {x = x} {s = s} {xs = xs} {ss = ss} n a b h t) d rest closed lt =
-    deeply d (sign n mark.If ∷ sign a mark.Open ∷ ((xs ++ sign b mark.Close ∷ ss) ++ rest)) (Got (stmt.if_only n x s) rest) lt (λ e le.
+      deeply d (sign n mark.If ∷ sign a mark.Open ∷ ((xs ++ sign b mark.Close ∷ ss) ++ rest)) (Got (stmt.if_only n x s) rest) lt (λ e le.
       let again = ap length (append_assoc xs (sign b mark.Close ∷ ss) rest) in
       let long = length-append xs (sign b mark.Close ∷ (ss ++ rest)) in
       if_step e (statement e) n x s (stmt.if_only n x s) (sign a mark.Open ∷ ((xs ++ sign b mark.Close ∷ ss) ++ rest)) (ss ++ rest) rest rest
-        (complete_condition h e a b ss rest (omega arith))
-        (complete_statement t e rest (λ z. closed refl) (omega (arith, again, long)))
-        (no_else_step e (statement e) n x s rest (closed refl)))
+      (complete_condition h e a b ss rest (omega arith))
+      (complete_statement t e rest (λ z. closed refl) (omega (arith, again, long)))
+      (no_else_step e (statement e) n x s rest (closed refl)))
   complete_statement (grammar.if_else {x = x} {s = s} {t = t} {xs = xs} {ss = ss} {ts = ts} n a b c h p shut q) d rest closed lt =
-    deeply d (sign n mark.If ∷ sign a mark.Open ∷ ((xs ++ sign b mark.Close ∷ (ss ++ sign c mark.Else ∷ ts)) ++ rest)) (Got (stmt.if_else n x s t) rest) lt (λ e le.
+      deeply d (sign n mark.If ∷ sign a mark.Open ∷ ((xs ++ sign b mark.Close ∷ (ss ++ sign c mark.Else ∷ ts)) ++ rest)) (Got (stmt.if_else n x s t) rest) lt (λ e le.
       let again = ap length (append_assoc xs (sign b mark.Close ∷ (ss ++ sign c mark.Else ∷ ts)) rest) in
       let long = length-append xs (sign b mark.Close ∷ ((ss ++ sign c mark.Else ∷ ts) ++ rest)) in
       let regroup = append_assoc ss (sign c mark.Else ∷ ts) rest in
       let inside = ap length regroup in
       let part = length-append ss (sign c mark.Else ∷ (ts ++ rest)) in
       if_step e (statement e) n x s (stmt.if_else n x s t) (sign a mark.Open ∷ ((xs ++ sign b mark.Close ∷ (ss ++ sign c mark.Else ∷ ts)) ++ rest)) ((ss ++ sign c mark.Else ∷ ts) ++ rest) (sign c mark.Else ∷ (ts ++ rest)) rest
-        (complete_condition h e a b (ss ++ sign c mark.Else ∷ ts) rest (omega arith))
-        (ap (statement e) regroup ∙ complete_statement p e (sign c mark.Else ∷ (ts ++ rest)) (λ z. let bad : true ≡ false = sym z ∙ shut in cc) (omega (arith, again, long, inside)))
-        (else_step e (statement e) n c x s t (ts ++ rest) rest (complete_statement q e rest closed (omega (arith, again, long, inside, part)))))
+      (complete_condition h e a b (ss ++ sign c mark.Else ∷ ts) rest (omega arith))
+      (ap (statement e) regroup ∙ complete_statement p e (sign c mark.Else ∷ (ts ++ rest)) (λ z. let bad : true ≡ false = sym z ∙ shut in cc) (omega (arith, again, long, inside)))
+      (else_step e (statement e) n c x s t (ts ++ rest) rest (complete_statement q e rest closed (omega (arith, again, long, inside, part)))))
   complete_statement (grammar.while_loop {x = x} {s = s} {xs = xs} {ss = ss} n a b h t) d rest closed lt =
-    deeply d (sign n mark.While ∷ sign a mark.Open ∷ ((xs ++ sign b mark.Close ∷ ss) ++ rest)) (Got (stmt.while_loop n x s) rest) lt (λ e le.
+      deeply d (sign n mark.While ∷ sign a mark.Open ∷ ((xs ++ sign b mark.Close ∷ ss) ++ rest)) (Got (stmt.while_loop n x s) rest) lt (λ e le.
       let again = ap length (append_assoc xs (sign b mark.Close ∷ ss) rest) in
       let long = length-append xs (sign b mark.Close ∷ (ss ++ rest)) in
       while_step e (statement e) n x s (sign a mark.Open ∷ ((xs ++ sign b mark.Close ∷ ss) ++ rest)) (ss ++ rest) rest
-        (complete_condition h e a b ss rest (omega arith))
-        (complete_statement t e rest closed (omega (arith, again, long))))
+      (complete_condition h e a b ss rest (omega arith))
+      (complete_statement t e rest closed (omega (arith, again, long))))
   complete_statement (grammar.do_loop {x = x} {s = s} {xs = xs} {ss = ss} n a b c f t h) d rest closed lt =
-    deeply d (sign n mark.Do ∷ ((ss ++ sign a mark.While ∷ sign b mark.Open ∷ (xs ++ sign c mark.Close ∷ sign f mark.Semicolon ∷ [])) ++ rest)) (Got (stmt.do_loop n s x) rest) lt (λ e le.
+      deeply d (sign n mark.Do ∷ ((ss ++ sign a mark.While ∷ sign b mark.Open ∷ (xs ++ sign c mark.Close ∷ sign f mark.Semicolon ∷ [])) ++ rest)) (Got (stmt.do_loop n s x) rest) lt (λ e le.
       let regroup = append_assoc ss (sign a mark.While ∷ sign b mark.Open ∷ (xs ++ sign c mark.Close ∷ sign f mark.Semicolon ∷ [])) rest in
       let again = ap length regroup in
       let long = length-append ss (sign a mark.While ∷ sign b mark.Open ∷ ((xs ++ sign c mark.Close ∷ sign f mark.Semicolon ∷ []) ++ rest)) in
       do_step e (statement e) n a f x s ((ss ++ sign a mark.While ∷ sign b mark.Open ∷ (xs ++ sign c mark.Close ∷ sign f mark.Semicolon ∷ [])) ++ rest) (sign b mark.Open ∷ ((xs ++ sign c mark.Close ∷ sign f mark.Semicolon ∷ []) ++ rest)) rest
-        (ap (statement e) regroup ∙ complete_statement t e (sign a mark.While ∷ sign b mark.Open ∷ ((xs ++ sign c mark.Close ∷ sign f mark.Semicolon ∷ []) ++ rest))
-          (λ z. no_else_at mark.While a (sign b mark.Open ∷ ((xs ++ sign c mark.Close ∷ sign f mark.Semicolon ∷ []) ++ rest)) not_else_while) (omega (arith, again)))
-        (complete_condition h e b c (sign f mark.Semicolon ∷ []) rest (omega (arith, again, long))))
+      (ap (statement e) regroup ∙ complete_statement t e (sign a mark.While ∷ sign b mark.Open ∷ ((xs ++ sign c mark.Close ∷ sign f mark.Semicolon ∷ []) ++ rest))
+      (λ z. no_else_at mark.While a (sign b mark.Open ∷ ((xs ++ sign c mark.Close ∷ sign f mark.Semicolon ∷ []) ++ rest)) not_else_while) (omega (arith, again)))
+      (complete_condition h e b c (sign f mark.Semicolon ∷ []) rest (omega (arith, again, long))))
   complete_statement (grammar.for_loop {x = x} {y = y} {z = z} {s = s} {xs = xs} {ys = ys} {zs = zs} {ss = ss} n a b c f hx hy hz t) d rest closed lt =
-    deeply d (sign n mark.For ∷ sign a mark.Open ∷ ((xs ++ sign b mark.Semicolon ∷ (ys ++ sign c mark.Semicolon ∷ (zs ++ sign f mark.Close ∷ ss))) ++ rest)) (Got (stmt.for_loop n x y z s) rest) lt (λ e le.
+      deeply d (sign n mark.For ∷ sign a mark.Open ∷ ((xs ++ sign b mark.Semicolon ∷ (ys ++ sign c mark.Semicolon ∷ (zs ++ sign f mark.Close ∷ ss))) ++ rest)) (Got (stmt.for_loop n x y z s) rest) lt (λ e le.
       let third = (zs ++ sign f mark.Close ∷ ss) in
       let second = (ys ++ sign c mark.Semicolon ∷ (zs ++ sign f mark.Close ∷ ss)) in
       let again = ap length (append_assoc xs (sign b mark.Semicolon ∷ (ys ++ sign c mark.Semicolon ∷ (zs ++ sign f mark.Close ∷ ss))) rest) in
@@ -469,60 +469,60 @@ mutual
       let again3 = ap length (append_assoc zs (sign f mark.Close ∷ ss) rest) in
       let long3 = length-append zs (sign f mark.Close ∷ (ss ++ rest)) in
       for_step e (statement e) n a b c f x y z s ((xs ++ sign b mark.Semicolon ∷ second) ++ rest) (second ++ rest) (third ++ rest) (ss ++ rest) rest
-        (complete_optional hx mark.Semicolon semicolon_optional e b second rest (omega arith))
-        (complete_optional hy mark.Semicolon semicolon_optional e c third rest (omega (arith, again, long)))
-        (complete_optional hz mark.Close close_optional e f ss rest (omega (arith, again, long, again2, long2)))
-        (complete_statement t e rest closed (omega (arith, again, long, again2, long2, again3, long3))))
+      (complete_optional hx mark.Semicolon semicolon_optional e b second rest (omega arith))
+      (complete_optional hy mark.Semicolon semicolon_optional e c third rest (omega (arith, again, long)))
+      (complete_optional hz mark.Close close_optional e f ss rest (omega (arith, again, long, again2, long2)))
+      (complete_statement t e rest closed (omega (arith, again, long, again2, long2, again3, long3))))
   complete_statement (grammar.switch {x = x} {all = all} {xs = xs} {ys = ys} n a b c f h es) d rest closed lt =
-    deeply d (sign n mark.Switch ∷ sign a mark.Open ∷ ((xs ++ sign b mark.Close ∷ sign c mark.OpenBrace ∷ (ys ++ sign f mark.CloseBrace ∷ [])) ++ rest)) (Got (stmt.switch n x all) rest) lt (λ e le.
+      deeply d (sign n mark.Switch ∷ sign a mark.Open ∷ ((xs ++ sign b mark.Close ∷ sign c mark.OpenBrace ∷ (ys ++ sign f mark.CloseBrace ∷ [])) ++ rest)) (Got (stmt.switch n x all) rest) lt (λ e le.
       let again = ap length (append_assoc xs (sign b mark.Close ∷ sign c mark.OpenBrace ∷ (ys ++ sign f mark.CloseBrace ∷ [])) rest) in
       let long = length-append xs (sign b mark.Close ∷ sign c mark.OpenBrace ∷ ((ys ++ sign f mark.CloseBrace ∷ []) ++ rest)) in
       let inside = ap length (append_assoc ys (sign f mark.CloseBrace ∷ []) rest) in
       switch_step e (statement e) n c x all (sign a mark.Open ∷ ((xs ++ sign b mark.Close ∷ sign c mark.OpenBrace ∷ (ys ++ sign f mark.CloseBrace ∷ [])) ++ rest)) ((ys ++ sign f mark.CloseBrace ∷ []) ++ rest) rest
-        (complete_condition h e a b (sign c mark.OpenBrace ∷ (ys ++ sign f mark.CloseBrace ∷ [])) rest (omega arith))
-        (in_braces e true all ys f rest (complete_entries es e e stmt.no_stmt f rest (omega (arith, again, long, inside)) (omega (arith, again, long, inside)))))
+      (complete_condition h e a b (sign c mark.OpenBrace ∷ (ys ++ sign f mark.CloseBrace ∷ [])) rest (omega arith))
+      (in_braces e true all ys f rest (complete_entries es e e stmt.no_stmt f rest (omega (arith, again, long, inside)) (omega (arith, again, long, inside)))))
   complete_statement (grammar.break_off n k) d rest closed lt =
-    deeply d (sign n mark.Break ∷ sign k mark.Semicolon ∷ rest) (Got (stmt.break_off n) rest) lt (λ e le. break_step e (statement e) n k rest)
+      deeply d (sign n mark.Break ∷ sign k mark.Semicolon ∷ rest) (Got (stmt.break_off n) rest) lt (λ e le. break_step e (statement e) n k rest)
   complete_statement (grammar.continue_on n k) d rest closed lt =
-    deeply d (sign n mark.Continue ∷ sign k mark.Semicolon ∷ rest) (Got (stmt.continue_on n) rest) lt (λ e le. continue_step e (statement e) n k rest)
+      deeply d (sign n mark.Continue ∷ sign k mark.Semicolon ∷ rest) (Got (stmt.continue_on n) rest) lt (λ e le. continue_step e (statement e) n k rest)
   complete_statement (grammar.return_from {x = x} {xs = xs} n k h) d rest closed lt =
-    deeply d (sign n mark.Return ∷ ((xs ++ sign k mark.Semicolon ∷ []) ++ rest)) (Got (stmt.return_from n x) rest) lt (λ e le.
+      deeply d (sign n mark.Return ∷ ((xs ++ sign k mark.Semicolon ∷ []) ++ rest)) (Got (stmt.return_from n x) rest) lt (λ e le.
       return_step e (statement e) n k x ((xs ++ sign k mark.Semicolon ∷ []) ++ rest) rest (complete_optional h mark.Semicolon semicolon_optional e k [] rest (omega arith)))
 
   complete_entry : {labels : Bool} {s : PlainStmt} {xs : List Spot} → Entry labels s xs → (e : ℕ) (rest : List Spot) → sees mark.Else rest ≡ false → suc (length (xs ++ rest)) < e → entry e (statement e) labels (xs ++ rest) ≡ Got s rest
   complete_entry (grammar.statement {labels = labels} {s = s} {ss = ss} h) e rest shut lt =
-    let starts = starts_append begins_statement ss rest (starts_statement h) in
-    entry_statement_step e (statement e) labels (ss ++ rest) rest s (no_type_first (ss ++ rest) starts)
+      let starts = starts_append begins_statement ss rest (starts_statement h) in
+      entry_statement_step e (statement e) labels (ss ++ rest) rest s (no_type_first (ss ++ rest) starts)
       (no_sign begins_statement mark.Case refl (ss ++ rest) starts) (no_sign begins_statement mark.Default refl (ss ++ rest) starts) (complete_statement h e rest (λ z. shut) lt)
   complete_entry (grammar.declaration {labels = labels} {t = t} {all = all} {ts = ts} {xs = xs} n k h names) e rest shut lt =
-    let regroup = append_assoc ts (xs ++ sign k mark.Semicolon ∷ []) rest ∙ ap (λ (z : List Spot). ts ++ z) (append_assoc xs (sign k mark.Semicolon ∷ []) rest) in
-    let again = ap length regroup in
-    let long = length-append ts (xs ++ sign k mark.Semicolon ∷ rest) in
-    ap (entry e (statement e) labels) regroup
-    ∙ entry_declaration_step e (statement e) labels (ts ++ (xs ++ sign k mark.Semicolon ∷ rest)) rest (stmt.declaration n t all) (type_first h (xs ++ sign k mark.Semicolon ∷ rest))
+      let regroup = append_assoc ts (xs ++ sign k mark.Semicolon ∷ []) rest ∙ ap (λ (z : List Spot). ts ++ z) (append_assoc xs (sign k mark.Semicolon ∷ []) rest) in
+      let again = ap length regroup in
+      let long = length-append ts (xs ++ sign k mark.Semicolon ∷ rest) in
+      ap (entry e (statement e) labels) regroup
+      ∙ entry_declaration_step e (statement e) labels (ts ++ (xs ++ sign k mark.Semicolon ∷ rest)) rest (stmt.declaration n t all) (type_first h (xs ++ sign k mark.Semicolon ∷ rest))
       (declaration_step e n k t all (ts ++ (xs ++ sign k mark.Semicolon ∷ rest)) (xs ++ sign k mark.Semicolon ∷ rest) rest (complete_typed h (xs ++ sign k mark.Semicolon ∷ rest))
-        (names_whole names e k rest (omega (arith, again, long))))
+      (names_whole names e k rest (omega (arith, again, long))))
   complete_entry (grammar.case_label {c = c} {cs = cs} n k h) e rest shut lt =
-    entry_case_step e (statement e) n ((cs ++ sign k mark.Colon ∷ []) ++ rest) rest (stmt.case_label n c)
+      entry_case_step e (statement e) n ((cs ++ sign k mark.Colon ∷ []) ++ rest) rest (stmt.case_label n c)
       (case_step n k c ((cs ++ sign k mark.Colon ∷ []) ++ rest) rest (ap constant_value (append_assoc cs (sign k mark.Colon ∷ []) rest) ∙ complete_constant h (sign k mark.Colon ∷ rest)))
   complete_entry (grammar.default_label n k) e rest shut lt =
-    entry_default_step e (statement e) n (sign k mark.Colon ∷ rest) rest (stmt.default_label n) (default_step n k rest)
+      entry_default_step e (statement e) n (sign k mark.Colon ∷ rest) rest (stmt.default_label n) (default_step n k rest)
 
   pub complete_entries : {labels : Bool} {all : PlainStmts} {xs : List Spot} → Entries labels all xs → (e t : ℕ) (before : PlainStmts) (k : ℕ) (rest : List Spot)
-    → suc (length (xs ++ sign k mark.CloseBrace ∷ rest)) < e → length (xs ++ sign k mark.CloseBrace ∷ rest) ≤ t
-    → entries_from e (statement e) labels t before (xs ++ sign k mark.CloseBrace ∷ rest) ≡ Got (joined_stmts before all) rest
+      → suc (length (xs ++ sign k mark.CloseBrace ∷ rest)) < e → length (xs ++ sign k mark.CloseBrace ∷ rest) ≤ t
+      → entries_from e (statement e) labels t before (xs ++ sign k mark.CloseBrace ∷ rest) ≡ Got (joined_stmts before all) rest
   complete_entries (grammar.none {labels = labels}) e t before k rest le lt =
-    entry_turn e labels t before (sign k mark.CloseBrace ∷ rest) (Got (joined_stmts before stmt.no_stmt) rest) (omega arith) (λ t' more.
+      entry_turn e labels t before (sign k mark.CloseBrace ∷ rest) (Got (joined_stmts before stmt.no_stmt) rest) (omega arith) (λ t' more.
       last_entry e (statement e) labels t' k before rest ∙ ap (λ (z : PlainStmts). Got z rest) (sym (joined_none before)))
   complete_entries (grammar.more {labels = labels} {s = s} {all = all} {xs = xs} {ys = ys} h es) e t before k rest le lt =
-    let regroup = append_assoc xs ys (sign k mark.CloseBrace ∷ rest) in
-    let again = ap length regroup in
-    let long = length-append xs (ys ++ sign k mark.CloseBrace ∷ rest) in
-    let some : 0 < length xs = starts_length begins_entry xs (starts_entry h) in
-    ap (entries_from e (statement e) labels t before) regroup
-    ∙ entry_turn e labels t before (xs ++ (ys ++ sign k mark.CloseBrace ∷ rest)) (Got (joined_stmts before (stmt.more_stmts s all)) rest) (omega (arith, again, long)) (λ t' more.
+      let regroup = append_assoc xs ys (sign k mark.CloseBrace ∷ rest) in
+      let again = ap length regroup in
+      let long = length-append xs (ys ++ sign k mark.CloseBrace ∷ rest) in
+      let some : 0 < length xs = starts_length begins_entry xs (starts_entry h) in
+      ap (entries_from e (statement e) labels t before) regroup
+      ∙ entry_turn e labels t before (xs ++ (ys ++ sign k mark.CloseBrace ∷ rest)) (Got (joined_stmts before (stmt.more_stmts s all)) rest) (omega (arith, again, long)) (λ t' more.
       next_entry e (statement e) labels t' before s (xs ++ (ys ++ sign k mark.CloseBrace ∷ rest)) (ys ++ sign k mark.CloseBrace ∷ rest)
-        (no_sign begins_entry mark.CloseBrace refl (xs ++ (ys ++ sign k mark.CloseBrace ∷ rest)) (starts_append begins_entry xs (ys ++ sign k mark.CloseBrace ∷ rest) (starts_entry h)))
-        (complete_entry h e (ys ++ sign k mark.CloseBrace ∷ rest) (no_else_entries es k rest) (omega (arith, again)))
+      (no_sign begins_entry mark.CloseBrace refl (xs ++ (ys ++ sign k mark.CloseBrace ∷ rest)) (starts_append begins_entry xs (ys ++ sign k mark.CloseBrace ∷ rest) (starts_entry h)))
+      (complete_entry h e (ys ++ sign k mark.CloseBrace ∷ rest) (no_else_entries es k rest) (omega (arith, again)))
       ∙ complete_entries es e t' (joined_stmts before (stmt.more_stmts s stmt.no_stmt)) k rest (omega (arith, again, long)) (omega (arith, again, long))
       ∙ ap (λ (z : PlainStmts). Got z rest) (joined_next before all s))

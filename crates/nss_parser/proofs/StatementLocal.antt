@@ -63,7 +63,7 @@ module _ (d e : ℕ) (le : d ≤ e) where
     local_entries_from labels zero t' lt before = local_deep (entries_from e outer labels t' before)
     local_entries_from labels (suc t) zero lt before = absurd (omega arith)
     local_entries_from labels (suc t) (suc t') lt before =
-      local_choice (is_sign mark.CloseBrace) (local_bind local_take (λ k. local_pure before))
+        local_choice (is_sign mark.CloseBrace) (local_bind local_take (λ k. local_pure before))
         (local_bind (local_entry labels) (λ s. local_entries_from labels t t' (omega arith) (joined_stmts before (stmt.more_stmts s stmt.no_stmt))))
 
     pub local_entries : (labels : Bool) → Local (entries d inner labels) (entries e outer labels)
@@ -93,10 +93,10 @@ module _ (d e : ℕ) (le : d ≤ e) where
     local_for : Local (for_statement d inner) (for_statement e outer)
     unfolding for_statement
     local_for = local_bind local_take (λ n. local_bind (local_expect mark.Open) (λ a.
-      local_bind (local_optional mark.Semicolon) (λ x. local_bind (local_expect mark.Semicolon) (λ b.
-      local_bind (local_optional mark.Semicolon) (λ y. local_bind (local_expect mark.Semicolon) (λ c.
-      local_bind (local_optional mark.Close) (λ z. local_bind (local_expect mark.Close) (λ f.
-      local_bind local (λ s. local_pure (stmt.for_loop n x y z s))))))))))
+        local_bind (local_optional mark.Semicolon) (λ x. local_bind (local_expect mark.Semicolon) (λ b.
+        local_bind (local_optional mark.Semicolon) (λ y. local_bind (local_expect mark.Semicolon) (λ c.
+        local_bind (local_optional mark.Close) (λ z. local_bind (local_expect mark.Close) (λ f.
+        local_bind local (λ s. local_pure (stmt.for_loop n x y z s))))))))))
 
     local_switch : Local (switch_statement d inner) (switch_statement e outer)
     unfolding switch_statement

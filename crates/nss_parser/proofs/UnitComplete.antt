@@ -41,30 +41,30 @@ unfolding first take same_mark
 fields_more t n all i = refl
 
 field_turn : (t n : ℕ) (all : List Identifier) (i : List Spot) (o : Outcome (List Identifier)) → length i < t
-  → ((t' : ℕ) → length i ≤ t' → and_then (identifier i) (λ x. more_fields t' (all ++ x ∷ [])) ≡ o) → more_fields t all (sign n mark.Comma ∷ i) ≡ o
+    → ((t' : ℕ) → length i ≤ t' → and_then (identifier i) (λ x. more_fields t' (all ++ x ∷ [])) ≡ o) → more_fields t all (sign n mark.Comma ∷ i) ≡ o
 field_turn zero n all i o lt h = absurd (omega arith)
 field_turn (suc t) n all i o lt h = fields_more t n all i ∙ h t (omega arith)
 
 complete_field_names : {all : List Identifier} {xs : List Spot} → FieldNames all xs → (t : ℕ) (before : List Identifier) (k : ℕ) (rest : List Spot)
-  → length (xs ++ sign k mark.Semicolon ∷ rest) ≤ t
-  → and_then (identifier (xs ++ sign k mark.Semicolon ∷ rest)) (λ x. more_fields t (before ++ x ∷ [])) ≡ Got (before ++ all) (sign k mark.Semicolon ∷ rest)
+    → length (xs ++ sign k mark.Semicolon ∷ rest) ≤ t
+    → and_then (identifier (xs ++ sign k mark.Semicolon ∷ rest)) (λ x. more_fields t (before ++ x ∷ [])) ≡ Got (before ++ all) (sign k mark.Semicolon ∷ rest)
 complete_field_names (spelled.one n f) t before k rest lt =
-  ap (λ (z : Outcome Identifier). and_then z (λ x. more_fields t (before ++ x ∷ []))) (identifier_step n f (sign k mark.Semicolon ∷ rest))
-  ∙ fields_end t k (before ++ record { token = n; name = f } ∷ []) rest (omega arith)
+    ap (λ (z : Outcome Identifier). and_then z (λ x. more_fields t (before ++ x ∷ []))) (identifier_step n f (sign k mark.Semicolon ∷ rest))
+    ∙ fields_end t k (before ++ record { token = n; name = f } ∷ []) rest (omega arith)
 complete_field_names (spelled.more {all = all} {xs = xs} n c f hs) t before k rest lt =
-  ap (λ (z : Outcome Identifier). and_then z (λ x. more_fields t (before ++ x ∷ []))) (identifier_step n f (sign c mark.Comma ∷ (xs ++ sign k mark.Semicolon ∷ rest)))
-  ∙ field_turn t c (before ++ record { token = n; name = f } ∷ []) (xs ++ sign k mark.Semicolon ∷ rest) (Got (before ++ record { token = n; name = f } ∷ all) (sign k mark.Semicolon ∷ rest)) (omega arith) (λ t' le.
-      complete_field_names hs t' (before ++ record { token = n; name = f } ∷ []) k rest le
-      ∙ ap (λ (z : List Identifier). Got z (sign k mark.Semicolon ∷ rest)) (append_assoc before (record { token = n; name = f } ∷ []) all))
+    ap (λ (z : Outcome Identifier). and_then z (λ x. more_fields t (before ++ x ∷ []))) (identifier_step n f (sign c mark.Comma ∷ (xs ++ sign k mark.Semicolon ∷ rest)))
+    ∙ field_turn t c (before ++ record { token = n; name = f } ∷ []) (xs ++ sign k mark.Semicolon ∷ rest) (Got (before ++ record { token = n; name = f } ∷ all) (sign k mark.Semicolon ∷ rest)) (omega arith) (λ t' le.
+    complete_field_names hs t' (before ++ record { token = n; name = f } ∷ []) k rest le
+    ∙ ap (λ (z : List Identifier). Got z (sign k mark.Semicolon ∷ rest)) (append_assoc before (record { token = n; name = f } ∷ []) all))
 
 field_step : (d n k : ℕ) (t : TypeName) (names : List Identifier) (i j rest : List Spot) → typed i ≡ Got (n, t) j
-  → and_then (identifier j) (λ x. more_fields d (x ∷ [])) ≡ Got names (sign k mark.Semicolon ∷ rest)
-  → field d i ≡ Got (record { token = n; ty = t; names = names }) rest
+    → and_then (identifier j) (λ x. more_fields d (x ∷ [])) ≡ Got names (sign k mark.Semicolon ∷ rest)
+    → field d i ≡ Got (record { token = n; ty = t; names = names }) rest
 unfolding field first take same_mark
 field_step d n k t names i j rest typed_is names_are =
-  ap (λ (z : Outcome (ℕ × TypeName)). and_then z (λ p. identifier >>= λ x. more_fields d (x ∷ []) >>= λ names. expect mark.Semicolon >>= λ k. pure (record { token = p.0; ty = p.1; names = names }))) typed_is
-  ∙ bind_assoc (identifier j) (λ x. more_fields d (x ∷ [])) (λ names. expect mark.Semicolon >>= λ k. pure (record { token = n; ty = t; names = names }))
-  ∙ ap (λ (z : Outcome (List Identifier)). and_then z (λ names. expect mark.Semicolon >>= λ k. pure (record { token = n; ty = t; names = names }))) names_are
+    ap (λ (z : Outcome (ℕ × TypeName)). and_then z (λ p. identifier >>= λ x. more_fields d (x ∷ []) >>= λ names. expect mark.Semicolon >>= λ k. pure (record { token = p.0; ty = p.1; names = names }))) typed_is
+    ∙ bind_assoc (identifier j) (λ x. more_fields d (x ∷ [])) (λ names. expect mark.Semicolon >>= λ k. pure (record { token = n; ty = t; names = names }))
+    ∙ ap (λ (z : Outcome (List Identifier)). and_then z (λ names. expect mark.Semicolon >>= λ k. pure (record { token = n; ty = t; names = names }))) names_are
 
 -- a list after a type is no longer than the whole
 after_length : (ts j : List Spot) → length j ≤ length (ts ++ j)
@@ -72,14 +72,14 @@ after_length ts j = omega (arith, length-append ts j)
 
 complete_field : {f : FieldLine} {xs : List Spot} → Field f xs → (d : ℕ) (rest : List Spot) → length (xs ++ rest) ≤ d → field d (xs ++ rest) ≡ Got f rest
 complete_field (spelled.line {t = t} {names = names} {ts = ts} {ns = ns} n k typ hs) d rest le =
-  let regroup : (ts ++ (ns ++ sign k mark.Semicolon ∷ [])) ++ rest ≡ ts ++ (ns ++ sign k mark.Semicolon ∷ rest) =
-        append_assoc ts (ns ++ sign k mark.Semicolon ∷ []) rest ∙ ap (λ z. ts ++ z) (append_assoc ns (sign k mark.Semicolon ∷ []) rest) in
-  let again : length ((ts ++ (ns ++ sign k mark.Semicolon ∷ [])) ++ rest) ≡ length (ts ++ (ns ++ sign k mark.Semicolon ∷ rest)) = ap length regroup in
-  let shorter = after_length ts (ns ++ sign k mark.Semicolon ∷ rest) in
-  ap (field d) regroup
-  ∙ field_step d n k t names (ts ++ (ns ++ sign k mark.Semicolon ∷ rest)) (ns ++ sign k mark.Semicolon ∷ rest) rest
-      (complete_typed typ (ns ++ sign k mark.Semicolon ∷ rest))
-      (complete_field_names hs d [] k rest (omega arith))
+    let regroup : (ts ++ (ns ++ sign k mark.Semicolon ∷ [])) ++ rest ≡ ts ++ (ns ++ sign k mark.Semicolon ∷ rest) =
+    append_assoc ts (ns ++ sign k mark.Semicolon ∷ []) rest ∙ ap (λ z. ts ++ z) (append_assoc ns (sign k mark.Semicolon ∷ []) rest) in
+    let again : length ((ts ++ (ns ++ sign k mark.Semicolon ∷ [])) ++ rest) ≡ length (ts ++ (ns ++ sign k mark.Semicolon ∷ rest)) = ap length regroup in
+    let shorter = after_length ts (ns ++ sign k mark.Semicolon ∷ rest) in
+    ap (field d) regroup
+    ∙ field_step d n k t names (ts ++ (ns ++ sign k mark.Semicolon ∷ rest)) (ns ++ sign k mark.Semicolon ∷ rest) rest
+    (complete_typed typ (ns ++ sign k mark.Semicolon ∷ rest))
+    (complete_field_names hs d [] k rest (omega arith))
 
 starts_field : {f : FieldLine} {xs : List Spot} → Field f xs → Starts begins_type xs
 starts_field (spelled.line {ts = ts} {ns = ns} n k typ hs) = starts_append begins_type ts (ns ++ sign k mark.Semicolon ∷ []) (starts_type typ)
@@ -100,26 +100,26 @@ fields_turn d zero before i o lt h = absurd (omega arith)
 fields_turn d (suc t) before i o lt h = h t (omega arith)
 
 complete_fields : {all : List FieldLine} {xs : List Spot} → Fields all xs → (d t : ℕ) (before : List FieldLine) (k : ℕ) (rest : List Spot)
-  → length (xs ++ sign k mark.CloseBrace ∷ rest) ≤ d → length (xs ++ sign k mark.CloseBrace ∷ rest) < t
-  → fields_from d t before (xs ++ sign k mark.CloseBrace ∷ rest) ≡ Got (before ++ all) rest
+    → length (xs ++ sign k mark.CloseBrace ∷ rest) ≤ d → length (xs ++ sign k mark.CloseBrace ∷ rest) < t
+    → fields_from d t before (xs ++ sign k mark.CloseBrace ∷ rest) ≡ Got (before ++ all) rest
 complete_fields (spelled.one {f = f} {xs = xs} h) d t before k rest ld lt =
-  fields_turn d t before (xs ++ sign k mark.CloseBrace ∷ rest) (Got (before ++ f ∷ []) rest) lt (λ t' le.
+    fields_turn d t before (xs ++ sign k mark.CloseBrace ∷ rest) (Got (before ++ f ∷ []) rest) lt (λ t' le.
     last_field d t' k before f (xs ++ sign k mark.CloseBrace ∷ rest) rest (complete_field h d (sign k mark.CloseBrace ∷ rest) ld))
 complete_fields (spelled.more {f = f} {all = all} {xs = xs} {ys = ys} h hs) d t before k rest ld lt =
-  let regroup = append_assoc xs ys (sign k mark.CloseBrace ∷ rest) in
-  let again : length ((xs ++ ys) ++ sign k mark.CloseBrace ∷ rest) ≡ length xs + length (ys ++ sign k mark.CloseBrace ∷ rest) = ap length regroup ∙ length-append xs (ys ++ sign k mark.CloseBrace ∷ rest) in
-  let whole : length (xs ++ (ys ++ sign k mark.CloseBrace ∷ rest)) ≡ length xs + length (ys ++ sign k mark.CloseBrace ∷ rest) = length-append xs (ys ++ sign k mark.CloseBrace ∷ rest) in
-  let some = starts_length begins_type xs (starts_field h) in
-  ap (fields_from d t before) regroup
-  ∙ fields_turn d t before (xs ++ (ys ++ sign k mark.CloseBrace ∷ rest)) (Got (before ++ f ∷ all) rest) (omega arith) (λ t' le.
-      next_field d t' before f (xs ++ (ys ++ sign k mark.CloseBrace ∷ rest)) (ys ++ sign k mark.CloseBrace ∷ rest)
-        (complete_field h d (ys ++ sign k mark.CloseBrace ∷ rest) (omega arith))
-        (no_sign begins_type mark.CloseBrace refl (ys ++ sign k mark.CloseBrace ∷ rest) (starts_append begins_type ys (sign k mark.CloseBrace ∷ rest) (starts_fields hs)))
-      ∙ complete_fields hs d t' (before ++ f ∷ []) k rest (omega arith) (omega arith)
-      ∙ ap (λ (z : List FieldLine). Got z rest) (append_assoc before (f ∷ []) all))
+    let regroup = append_assoc xs ys (sign k mark.CloseBrace ∷ rest) in
+    let again : length ((xs ++ ys) ++ sign k mark.CloseBrace ∷ rest) ≡ length xs + length (ys ++ sign k mark.CloseBrace ∷ rest) = ap length regroup ∙ length-append xs (ys ++ sign k mark.CloseBrace ∷ rest) in
+    let whole : length (xs ++ (ys ++ sign k mark.CloseBrace ∷ rest)) ≡ length xs + length (ys ++ sign k mark.CloseBrace ∷ rest) = length-append xs (ys ++ sign k mark.CloseBrace ∷ rest) in
+    let some = starts_length begins_type xs (starts_field h) in
+    ap (fields_from d t before) regroup
+    ∙ fields_turn d t before (xs ++ (ys ++ sign k mark.CloseBrace ∷ rest)) (Got (before ++ f ∷ all) rest) (omega arith) (λ t' le.
+    next_field d t' before f (xs ++ (ys ++ sign k mark.CloseBrace ∷ rest)) (ys ++ sign k mark.CloseBrace ∷ rest)
+    (complete_field h d (ys ++ sign k mark.CloseBrace ∷ rest) (omega arith))
+    (no_sign begins_type mark.CloseBrace refl (ys ++ sign k mark.CloseBrace ∷ rest) (starts_append begins_type ys (sign k mark.CloseBrace ∷ rest) (starts_fields hs)))
+    ∙ complete_fields hs d t' (before ++ f ∷ []) k rest (omega arith) (omega arith)
+    ∙ ap (λ (z : List FieldLine). Got z rest) (append_assoc before (f ∷ []) all))
 
 structure_step : (d b k : ℕ) (x : Identifier) (all : List FieldLine) (i rest : List Spot) → fields_from d d [] i ≡ Got all (sign k mark.Semicolon ∷ rest)
-  → structure d x (sign b mark.OpenBrace ∷ i) ≡ Got (unit.structure x.token x.name all) rest
+    → structure d x (sign b mark.OpenBrace ∷ i) ≡ Got (unit.structure x.token x.name all) rest
 unfolding structure first take same_mark
 structure_step d b k x all i rest e = rw e refl
 
@@ -129,7 +129,7 @@ unfolding default
 default_bare n t f rest e = rw e refl
 
 default_valued : (n a : ℕ) (t : TypeName) (f : List ℕ) (c : Constant) (i rest : List Spot) → constant_value i ≡ Got c rest
-  → default n t f (sign a mark.Assign ∷ i) ≡ Got (record { token = n; ty = t; name = f; default = Some c }) rest
+    → default n t f (sign a mark.Assign ∷ i) ≡ Got (record { token = n; ty = t; name = f; default = Some c }) rest
 unfolding default first take same_mark
 default_valued n a t f c i rest e = rw e refl
 
@@ -139,13 +139,13 @@ parameter_step n k t f i j e = rw e refl
 
 complete_parameter : {p : Parameter} {xs : List Spot} → ParameterTokens p xs → (rest : List Spot) → sees mark.Assign rest ≡ false → parameter (xs ++ rest) ≡ Got p rest
 complete_parameter (spelled.bare {t = t} {ts = ts} n k f typ) rest absent =
-  ap parameter (append_assoc ts (at k (symbol.Name f) ∷ []) rest)
-  ∙ parameter_step n k t f (ts ++ at k (symbol.Name f) ∷ rest) rest (complete_typed typ (at k (symbol.Name f) ∷ rest))
-  ∙ default_bare n t f rest absent
+    ap parameter (append_assoc ts (at k (symbol.Name f) ∷ []) rest)
+    ∙ parameter_step n k t f (ts ++ at k (symbol.Name f) ∷ rest) rest (complete_typed typ (at k (symbol.Name f) ∷ rest))
+    ∙ default_bare n t f rest absent
 complete_parameter (spelled.valued {t = t} {c = c} {ts = ts} {cs = cs} n k a f typ h) rest absent =
-  ap parameter (append_assoc ts (at k (symbol.Name f) ∷ sign a mark.Assign ∷ cs) rest)
-  ∙ parameter_step n k t f (ts ++ at k (symbol.Name f) ∷ sign a mark.Assign ∷ (cs ++ rest)) (sign a mark.Assign ∷ (cs ++ rest)) (complete_typed typ (at k (symbol.Name f) ∷ sign a mark.Assign ∷ (cs ++ rest)))
-  ∙ default_valued n a t f c (cs ++ rest) rest (complete_constant h rest)
+    ap parameter (append_assoc ts (at k (symbol.Name f) ∷ sign a mark.Assign ∷ cs) rest)
+    ∙ parameter_step n k t f (ts ++ at k (symbol.Name f) ∷ sign a mark.Assign ∷ (cs ++ rest)) (sign a mark.Assign ∷ (cs ++ rest)) (complete_typed typ (at k (symbol.Name f) ∷ sign a mark.Assign ∷ (cs ++ rest)))
+    ∙ default_valued n a t f c (cs ++ rest) rest (complete_constant h rest)
 
 starts_parameter : {p : Parameter} {xs : List Spot} → ParameterTokens p xs → Starts begins_type xs
 starts_parameter (spelled.bare {ts = ts} n k f typ) = starts_append begins_type ts (at k (symbol.Name f) ∷ []) (starts_type typ)
@@ -176,20 +176,20 @@ unfolding first same_mark
 no_assign_comma k rest = refl
 
 complete_parameters : {all : List Parameter} {xs : List Spot} → ParameterList all xs → (t : ℕ) (before : List Parameter) (k : ℕ) (rest : List Spot)
-  → length (xs ++ sign k mark.Close ∷ rest) < t → parameters_from t before (xs ++ sign k mark.Close ∷ rest) ≡ Got (before ++ all) rest
+    → length (xs ++ sign k mark.Close ∷ rest) < t → parameters_from t before (xs ++ sign k mark.Close ∷ rest) ≡ Got (before ++ all) rest
 complete_parameters (spelled.one {p = p} {xs = xs} h) t before k rest lt =
-  parameter_turn t before (xs ++ sign k mark.Close ∷ rest) (Got (before ++ p ∷ []) rest) lt (λ t' le.
+    parameter_turn t before (xs ++ sign k mark.Close ∷ rest) (Got (before ++ p ∷ []) rest) lt (λ t' le.
     last_parameter t' k before p (xs ++ sign k mark.Close ∷ rest) rest (complete_parameter h (sign k mark.Close ∷ rest) (no_assign_close k rest)))
 complete_parameters (spelled.more {p = p} {all = all} {xs = xs} {ys = ys} n h hs) t before k rest lt =
-  let regroup = append_assoc xs (sign n mark.Comma ∷ ys) (sign k mark.Close ∷ rest) in
-  let again : length ((xs ++ sign n mark.Comma ∷ ys) ++ sign k mark.Close ∷ rest) ≡ length xs + (length (ys ++ sign k mark.Close ∷ rest) + 1) = ap length regroup ∙ tail_length xs (ys ++ sign k mark.Close ∷ rest) (sign n mark.Comma) in
-  let whole : length (xs ++ sign n mark.Comma ∷ (ys ++ sign k mark.Close ∷ rest)) ≡ length xs + (length (ys ++ sign k mark.Close ∷ rest) + 1) = tail_length xs (ys ++ sign k mark.Close ∷ rest) (sign n mark.Comma) in
-  ap (parameters_from t before) regroup
-  ∙ parameter_turn t before (xs ++ sign n mark.Comma ∷ (ys ++ sign k mark.Close ∷ rest)) (Got (before ++ p ∷ all) rest) (omega arith) (λ t' le.
-      next_parameter t' n before p (xs ++ sign n mark.Comma ∷ (ys ++ sign k mark.Close ∷ rest)) (ys ++ sign k mark.Close ∷ rest)
-        (complete_parameter h (sign n mark.Comma ∷ (ys ++ sign k mark.Close ∷ rest)) (no_assign_comma n (ys ++ sign k mark.Close ∷ rest)))
-      ∙ complete_parameters hs t' (before ++ p ∷ []) k rest (omega arith)
-      ∙ ap (λ (z : List Parameter). Got z rest) (append_assoc before (p ∷ []) all))
+    let regroup = append_assoc xs (sign n mark.Comma ∷ ys) (sign k mark.Close ∷ rest) in
+    let again : length ((xs ++ sign n mark.Comma ∷ ys) ++ sign k mark.Close ∷ rest) ≡ length xs + (length (ys ++ sign k mark.Close ∷ rest) + 1) = ap length regroup ∙ tail_length xs (ys ++ sign k mark.Close ∷ rest) (sign n mark.Comma) in
+    let whole : length (xs ++ sign n mark.Comma ∷ (ys ++ sign k mark.Close ∷ rest)) ≡ length xs + (length (ys ++ sign k mark.Close ∷ rest) + 1) = tail_length xs (ys ++ sign k mark.Close ∷ rest) (sign n mark.Comma) in
+    ap (parameters_from t before) regroup
+    ∙ parameter_turn t before (xs ++ sign n mark.Comma ∷ (ys ++ sign k mark.Close ∷ rest)) (Got (before ++ p ∷ all) rest) (omega arith) (λ t' le.
+    next_parameter t' n before p (xs ++ sign n mark.Comma ∷ (ys ++ sign k mark.Close ∷ rest)) (ys ++ sign k mark.Close ∷ rest)
+    (complete_parameter h (sign n mark.Comma ∷ (ys ++ sign k mark.Close ∷ rest)) (no_assign_comma n (ys ++ sign k mark.Close ∷ rest)))
+    ∙ complete_parameters hs t' (before ++ p ∷ []) k rest (omega arith)
+    ∙ ap (λ (z : List Parameter). Got z rest) (append_assoc before (p ∷ []) all))
 
 no_parameters : (d k : ℕ) (rest : List Spot) → parameters d (sign k mark.Close ∷ rest) ≡ Got [] rest
 unfolding parameters first take same_mark
@@ -200,38 +200,38 @@ unfolding parameters
 some_parameters d i e = rw e refl
 
 complete_parameter_list : {all : List Parameter} {xs : List Spot} → Parameters all xs → (d k : ℕ) (rest : List Spot)
-  → length (xs ++ sign k mark.Close ∷ rest) < d → parameters d (xs ++ sign k mark.Close ∷ rest) ≡ Got all rest
+    → length (xs ++ sign k mark.Close ∷ rest) < d → parameters d (xs ++ sign k mark.Close ∷ rest) ≡ Got all rest
 complete_parameter_list spelled.absent d k rest lt = no_parameters d k rest
 complete_parameter_list (spelled.present {all = all} {xs = xs} hs) d k rest lt =
-  some_parameters d (xs ++ sign k mark.Close ∷ rest) (no_sign begins_type mark.Close refl (xs ++ sign k mark.Close ∷ rest) (starts_append begins_type xs (sign k mark.Close ∷ rest) (starts_parameters hs)))
-  ∙ complete_parameters hs d [] k rest lt
+    some_parameters d (xs ++ sign k mark.Close ∷ rest) (no_sign begins_type mark.Close refl (xs ++ sign k mark.Close ∷ rest) (starts_append begins_type xs (sign k mark.Close ∷ rest) (starts_parameters hs)))
+    ∙ complete_parameters hs d [] k rest lt
 
 constant_step : (a n k b : ℕ) (t : TypeName) (f : List ℕ) (c : Constant) (i j rest : List Spot) (e : ℕ) → typed i ≡ Got (n, t) (at k (symbol.Name f) ∷ sign b mark.Assign ∷ j)
-  → constant_value j ≡ Got c (sign e mark.Semicolon ∷ rest) → constant_line (sign a mark.Const ∷ i) ≡ Got (unit.constant n t (record { token = k; name = f }) c) rest
+    → constant_value j ≡ Got c (sign e mark.Semicolon ∷ rest) → constant_line (sign a mark.Const ∷ i) ≡ Got (unit.constant n t (record { token = k; name = f }) c) rest
 unfolding constant_line first take same_mark
 constant_step a n k b t f c i j rest e typed_is value_is = rw (typed_is, identifier_step k f (sign b mark.Assign ∷ j), value_is) refl
 
 -- a declared name's list begins with its name, and no `(` follows that
 open_declared : {x : PlainDeclared} {xs : List Spot} → Declared x xs → (m : Mark) (k : ℕ) (rest : List Spot) → same_mark mark.Open m ≡ false
-  → (n : ℕ) × (f : List ℕ) × (z : List Spot) × (xs ++ sign k m ∷ rest ≡ at n (symbol.Name f) ∷ z) × (sees mark.Open z ≡ false)
+    → (n : ℕ) × (f : List ℕ) × (z : List Spot) × (xs ++ sign k m ∷ rest ≡ at n (symbol.Name f) ∷ z) × (sees mark.Open z ≡ false)
 unfolding first same_mark
 open_declared (grammar.bare n f) m k rest absent = (n, f, sign k m ∷ rest, refl, absent)
 open_declared (grammar.valued {xs = xs} n a f e) m k rest absent = (n, f, sign a mark.Assign ∷ (xs ++ sign k m ∷ rest), refl, refl)
 
 open_names : {all : List PlainDeclared} {xs : List Spot} → DeclaredNames all xs → (k : ℕ) (rest : List Spot)
-  → (n : ℕ) × (f : List ℕ) × (z : List Spot) × (xs ++ sign k mark.Semicolon ∷ rest ≡ at n (symbol.Name f) ∷ z) × (sees mark.Open z ≡ false)
+    → (n : ℕ) × (f : List ℕ) × (z : List Spot) × (xs ++ sign k mark.Semicolon ∷ rest ≡ at n (symbol.Name f) ∷ z) × (sees mark.Open z ≡ false)
 unfolding same_mark
 open_names (grammar.one h) k rest = open_declared h mark.Semicolon k rest refl
 open_names (grammar.more {xs = xs} {ys = ys} c h hs) k rest =
-  let (n, f, z, is, absent) = open_declared h mark.Comma c (ys ++ sign k mark.Semicolon ∷ rest) refl in
-  (n, f, z, append_assoc xs (sign c mark.Comma ∷ ys) (sign k mark.Semicolon ∷ rest) ∙ is, absent)
+    let (n, f, z, is, absent) = open_declared h mark.Comma c (ys ++ sign k mark.Semicolon ∷ rest) refl in
+    (n, f, z, append_assoc xs (sign c mark.Comma ∷ ys) (sign k mark.Semicolon ∷ rest) ∙ is, absent)
 
 global_step : (d n k : ℕ) (t : TypeName) (x : Identifier) (all : List PlainDeclared) (z rest : List Spot)
-  → and_then (declared_after d x z) (λ y. more_declared d d (y ∷ [])) ≡ Got all (sign k mark.Semicolon ∷ rest) → global d n t x z ≡ Got (unit.global n t all) rest
+    → and_then (declared_after d x z) (λ y. more_declared d d (y ∷ [])) ≡ Got all (sign k mark.Semicolon ∷ rest) → global d n t x z ≡ Got (unit.global n t all) rest
 unfolding global first take same_mark
 global_step d n k t x all z rest e =
-  bind_assoc (declared_after d x z) (λ y. more_declared d d (y ∷ [])) (λ all. expect mark.Semicolon >>= λ k. pure (unit.global n t all))
-  ∙ ap (λ (w : Outcome (List PlainDeclared)). and_then w (λ all. expect mark.Semicolon >>= λ k. pure (unit.global n t all))) e
+    bind_assoc (declared_after d x z) (λ y. more_declared d d (y ∷ [])) (λ all. expect mark.Semicolon >>= λ k. pure (unit.global n t all))
+    ∙ ap (λ (w : Outcome (List PlainDeclared)). and_then w (λ all. expect mark.Semicolon >>= λ k. pure (unit.global n t all))) e
 
 -- words of types alone
 abbrev begins_word : Symbol → Bool
@@ -240,7 +240,7 @@ begins_word _ = false
 
 module _ (d safe : ℕ) (fits : safe ≤ d) (entries : Parser PlainStmts)
     (complete_entries : (all : PlainStmts) (xs : List Spot) → Entries false all xs → (k : ℕ) (rest : List Spot)
-      → length (xs ++ sign k mark.CloseBrace ∷ rest) < safe → entries (xs ++ sign k mark.CloseBrace ∷ rest) ≡ Got all rest) where
+    → length (xs ++ sign k mark.CloseBrace ∷ rest) < safe → entries (xs ++ sign k mark.CloseBrace ∷ rest) ≡ Got all rest) where
   prototype_step : (k : ℕ) (rest : List Spot) → body d entries (sign k mark.Semicolon ∷ rest) ≡ Got None rest
   unfolding body first take same_mark
   prototype_step k rest = refl
@@ -252,17 +252,17 @@ module _ (d safe : ℕ) (fits : safe ≤ d) (entries : Parser PlainStmts)
   complete_body : {b : Option PlainStmts} {bs : List Spot} → Body b bs → (rest : List Spot) → length (bs ++ rest) ≤ safe → body d entries (bs ++ rest) ≡ Got b rest
   complete_body (spelled.prototype k) rest le = prototype_step k rest
   complete_body (spelled.block {all = all} {xs = xs} n k h) rest le =
-    let regroup = append_assoc xs (sign k mark.CloseBrace ∷ []) rest in
-    let again : length ((xs ++ sign k mark.CloseBrace ∷ []) ++ rest) ≡ length (xs ++ sign k mark.CloseBrace ∷ rest) = ap length regroup in
-    block_step n all ((xs ++ sign k mark.CloseBrace ∷ []) ++ rest) rest (ap entries regroup ∙ complete_entries all xs h k rest (omega arith))
+      let regroup = append_assoc xs (sign k mark.CloseBrace ∷ []) rest in
+      let again : length ((xs ++ sign k mark.CloseBrace ∷ []) ++ rest) ≡ length (xs ++ sign k mark.CloseBrace ∷ rest) = ap length regroup in
+      block_step n all ((xs ++ sign k mark.CloseBrace ∷ []) ++ rest) rest (ap entries regroup ∙ complete_entries all xs h k rest (omega arith))
 
   function_step : (a : ℕ) (t : TypeName) (x : Identifier) (all : List Parameter) (b : Option PlainStmts) (i j rest : List Spot) → parameters d i ≡ Got all j → body d entries j ≡ Got b rest
-    → function d entries t x (sign a mark.Open ∷ i) ≡ Got (unit.function x.token t x.name all b) rest
+      → function d entries t x (sign a mark.Open ∷ i) ≡ Got (unit.function x.token t x.name all b) rest
   unfolding function take
   function_step a t x all b i j rest ps bs = rw (ps, bs) refl
 
   opens_function : (n k a : ℕ) (t : TypeName) (f : List ℕ) (i : List Spot)
-    → after_type d entries n t (at k (symbol.Name f) ∷ sign a mark.Open ∷ i) ≡ function d entries t (record { token = k; name = f }) (sign a mark.Open ∷ i)
+      → after_type d entries n t (at k (symbol.Name f) ∷ sign a mark.Open ∷ i) ≡ function d entries t (record { token = k; name = f }) (sign a mark.Open ∷ i)
   unfolding after_type first same_mark
   opens_function n k a t f i = rw (identifier_step k f (sign a mark.Open ∷ i)) refl
 
@@ -272,14 +272,14 @@ module _ (d safe : ℕ) (fits : safe ≤ d) (entries : Parser PlainStmts)
 
   -- an item that begins with a type
   type_item : {n : ℕ} {t : TypeName} {ts : List Spot} → TypeTokens n t ts → (k : ℕ) (f : List ℕ) (z : List Spot)
-    → item d entries (ts ++ at k (symbol.Name f) ∷ z) ≡ after_type d entries n t (at k (symbol.Name f) ∷ z)
+      → item d entries (ts ++ at k (symbol.Name f) ∷ z) ≡ after_type d entries n t (at k (symbol.Name f) ∷ z)
   unfolding item after_struct first take same_mark
   type_item (grammar.word n m t is) k f z =
-    let no_struct = no_sign begins_word mark.Struct refl (sign n m ∷ at k (symbol.Name f) ∷ z) (ap is_type is) in
-    let no_const = no_sign begins_word mark.Const refl (sign n m ∷ at k (symbol.Name f) ∷ z) (ap is_type is) in
-    ap (λ (b : Bool). branch b (after_struct d entries) (λ i. branch (sees mark.Const i) constant_line (typed >>= λ p. after_type d entries p.0 p.1) i) (sign n m ∷ at k (symbol.Name f) ∷ z)) no_struct
-    ∙ ap (λ (b : Bool). branch b constant_line (typed >>= λ p. after_type d entries p.0 p.1) (sign n m ∷ at k (symbol.Name f) ∷ z)) no_const
-    ∙ ap (λ (o : Outcome (ℕ × TypeName)). and_then o (λ p. after_type d entries p.0 p.1)) (complete_typed (grammar.word n m t is) (at k (symbol.Name f) ∷ z))
+      let no_struct = no_sign begins_word mark.Struct refl (sign n m ∷ at k (symbol.Name f) ∷ z) (ap is_type is) in
+      let no_const = no_sign begins_word mark.Const refl (sign n m ∷ at k (symbol.Name f) ∷ z) (ap is_type is) in
+      ap (λ (b : Bool). branch b (after_struct d entries) (λ i. branch (sees mark.Const i) constant_line (typed >>= λ p. after_type d entries p.0 p.1) i) (sign n m ∷ at k (symbol.Name f) ∷ z)) no_struct
+      ∙ ap (λ (b : Bool). branch b constant_line (typed >>= λ p. after_type d entries p.0 p.1) (sign n m ∷ at k (symbol.Name f) ∷ z)) no_const
+      ∙ ap (λ (o : Outcome (ℕ × TypeName)). and_then o (λ p. after_type d entries p.0 p.1)) (complete_typed (grammar.word n m t is) (at k (symbol.Name f) ∷ z))
   type_item (grammar.structure n m g) k f z = rw (identifier_step m g (at k (symbol.Name f) ∷ z)) refl
 
   struct_item : (a n b : ℕ) (f : List ℕ) (i : List Spot) → item d entries (sign a mark.Struct ∷ at n (symbol.Name f) ∷ sign b mark.OpenBrace ∷ i) ≡ structure d (record { token = n; name = f }) (sign b mark.OpenBrace ∷ i)
@@ -291,50 +291,50 @@ module _ (d safe : ℕ) (fits : safe ≤ d) (entries : Parser PlainStmts)
   const_item a i = refl
 
   complete_global : (n k : ℕ) (t : TypeName) {ts : List Spot} {all : List PlainDeclared} {xs : List Spot} → TypeTokens n t ts → DeclaredNames all xs → (rest : List Spot)
-    → length (xs ++ sign k mark.Semicolon ∷ rest) < d → item d entries (ts ++ (xs ++ sign k mark.Semicolon ∷ rest)) ≡ Got (unit.global n t all) rest
+      → length (xs ++ sign k mark.Semicolon ∷ rest) < d → item d entries (ts ++ (xs ++ sign k mark.Semicolon ∷ rest)) ≡ Got (unit.global n t all) rest
   complete_global n k t {ts = ts} {all = all} {xs = xs} typ h rest lt =
-    let (m, f, z, is, absent) = open_names h k rest in
-    let names : and_then (declared d (at m (symbol.Name f) ∷ z)) (λ y. more_declared d d (y ∷ [])) ≡ Got all (sign k mark.Semicolon ∷ rest) =
-          subst (λ (w : List Spot). and_then (declared d w) (λ y. more_declared d d (y ∷ [])) ≡ Got all (sign k mark.Semicolon ∷ rest)) is (complete_names h d d [] k rest lt (omega arith)) in
-    ap (λ (w : List Spot). item d entries (ts ++ w)) is
-    ∙ type_item typ m f z
-    ∙ opens_global n m t f z absent
-    ∙ global_step d n k t (record { token = m; name = f }) all z rest
-        (sym (ap (λ (o : Outcome PlainDeclared). and_then o (λ y. more_declared d d (y ∷ []))) (declared_step d m f z)) ∙ names)
+      let (m, f, z, is, absent) = open_names h k rest in
+      let names : and_then (declared d (at m (symbol.Name f) ∷ z)) (λ y. more_declared d d (y ∷ [])) ≡ Got all (sign k mark.Semicolon ∷ rest) =
+      subst (λ (w : List Spot). and_then (declared d w) (λ y. more_declared d d (y ∷ [])) ≡ Got all (sign k mark.Semicolon ∷ rest)) is (complete_names h d d [] k rest lt (omega arith)) in
+      ap (λ (w : List Spot). item d entries (ts ++ w)) is
+      ∙ type_item typ m f z
+      ∙ opens_global n m t f z absent
+      ∙ global_step d n k t (record { token = m; name = f }) all z rest
+      (sym (ap (λ (o : Outcome PlainDeclared). and_then o (λ y. more_declared d d (y ∷ []))) (declared_step d m f z)) ∙ names)
 
   pub complete_item : {x : PlainItem} {xs : List Spot} → Item x xs → (rest : List Spot) → length (xs ++ rest) < safe → item d entries (xs ++ rest) ≡ Got x rest
   complete_item (spelled.structure {all = all} {xs = xs} a n b c e f h) rest lt =
-    let regroup = append_assoc xs (sign c mark.CloseBrace ∷ sign e mark.Semicolon ∷ []) rest in
-    let again : length ((xs ++ sign c mark.CloseBrace ∷ sign e mark.Semicolon ∷ []) ++ rest) ≡ length (xs ++ sign c mark.CloseBrace ∷ sign e mark.Semicolon ∷ rest) = ap length regroup in
-    struct_item a n b f ((xs ++ sign c mark.CloseBrace ∷ sign e mark.Semicolon ∷ []) ++ rest)
-    ∙ structure_step d b e (record { token = n; name = f }) all ((xs ++ sign c mark.CloseBrace ∷ sign e mark.Semicolon ∷ []) ++ rest) rest
-        (ap (fields_from d d []) regroup ∙ complete_fields h d d [] c (sign e mark.Semicolon ∷ rest) (omega arith) (omega arith))
+      let regroup = append_assoc xs (sign c mark.CloseBrace ∷ sign e mark.Semicolon ∷ []) rest in
+      let again : length ((xs ++ sign c mark.CloseBrace ∷ sign e mark.Semicolon ∷ []) ++ rest) ≡ length (xs ++ sign c mark.CloseBrace ∷ sign e mark.Semicolon ∷ rest) = ap length regroup in
+      struct_item a n b f ((xs ++ sign c mark.CloseBrace ∷ sign e mark.Semicolon ∷ []) ++ rest)
+      ∙ structure_step d b e (record { token = n; name = f }) all ((xs ++ sign c mark.CloseBrace ∷ sign e mark.Semicolon ∷ []) ++ rest) rest
+      (ap (fields_from d d []) regroup ∙ complete_fields h d d [] c (sign e mark.Semicolon ∷ rest) (omega arith) (omega arith))
   complete_item (spelled.constant {t = t} {c = c} {ts = ts} {cs = cs} a n k b e f typ h) rest lt =
-    let inner = append_assoc cs (sign e mark.Semicolon ∷ []) rest in
-    let regroup : (ts ++ at k (symbol.Name f) ∷ sign b mark.Assign ∷ (cs ++ sign e mark.Semicolon ∷ [])) ++ rest ≡ ts ++ at k (symbol.Name f) ∷ sign b mark.Assign ∷ (cs ++ sign e mark.Semicolon ∷ rest) =
-          append_assoc ts (at k (symbol.Name f) ∷ sign b mark.Assign ∷ (cs ++ sign e mark.Semicolon ∷ [])) rest ∙ ap (λ z. ts ++ at k (symbol.Name f) ∷ sign b mark.Assign ∷ z) inner in
-    const_item a ((ts ++ at k (symbol.Name f) ∷ sign b mark.Assign ∷ (cs ++ sign e mark.Semicolon ∷ [])) ++ rest)
-    ∙ ap (λ z. constant_line (sign a mark.Const ∷ z)) regroup
-    ∙ constant_step a n k b t f c (ts ++ at k (symbol.Name f) ∷ sign b mark.Assign ∷ (cs ++ sign e mark.Semicolon ∷ rest)) (cs ++ sign e mark.Semicolon ∷ rest) rest e
-        (complete_typed typ (at k (symbol.Name f) ∷ sign b mark.Assign ∷ (cs ++ sign e mark.Semicolon ∷ rest))) (complete_constant h (sign e mark.Semicolon ∷ rest))
+      let inner = append_assoc cs (sign e mark.Semicolon ∷ []) rest in
+      let regroup : (ts ++ at k (symbol.Name f) ∷ sign b mark.Assign ∷ (cs ++ sign e mark.Semicolon ∷ [])) ++ rest ≡ ts ++ at k (symbol.Name f) ∷ sign b mark.Assign ∷ (cs ++ sign e mark.Semicolon ∷ rest) =
+      append_assoc ts (at k (symbol.Name f) ∷ sign b mark.Assign ∷ (cs ++ sign e mark.Semicolon ∷ [])) rest ∙ ap (λ z. ts ++ at k (symbol.Name f) ∷ sign b mark.Assign ∷ z) inner in
+      const_item a ((ts ++ at k (symbol.Name f) ∷ sign b mark.Assign ∷ (cs ++ sign e mark.Semicolon ∷ [])) ++ rest)
+      ∙ ap (λ z. constant_line (sign a mark.Const ∷ z)) regroup
+      ∙ constant_step a n k b t f c (ts ++ at k (symbol.Name f) ∷ sign b mark.Assign ∷ (cs ++ sign e mark.Semicolon ∷ rest)) (cs ++ sign e mark.Semicolon ∷ rest) rest e
+      (complete_typed typ (at k (symbol.Name f) ∷ sign b mark.Assign ∷ (cs ++ sign e mark.Semicolon ∷ rest))) (complete_constant h (sign e mark.Semicolon ∷ rest))
   complete_item (spelled.global {t = t} {all = all} {ts = ts} {xs = xs} n k typ h) rest lt =
-    let regroup : (ts ++ (xs ++ sign k mark.Semicolon ∷ [])) ++ rest ≡ ts ++ (xs ++ sign k mark.Semicolon ∷ rest) =
-          append_assoc ts (xs ++ sign k mark.Semicolon ∷ []) rest ∙ ap (λ z. ts ++ z) (append_assoc xs (sign k mark.Semicolon ∷ []) rest) in
-    let again : length ((ts ++ (xs ++ sign k mark.Semicolon ∷ [])) ++ rest) ≡ length (ts ++ (xs ++ sign k mark.Semicolon ∷ rest)) = ap length regroup in
-    let shorter = after_length ts (xs ++ sign k mark.Semicolon ∷ rest) in
-    ap (item d entries) regroup ∙ complete_global n k t typ h rest (omega arith)
+      let regroup : (ts ++ (xs ++ sign k mark.Semicolon ∷ [])) ++ rest ≡ ts ++ (xs ++ sign k mark.Semicolon ∷ rest) =
+      append_assoc ts (xs ++ sign k mark.Semicolon ∷ []) rest ∙ ap (λ z. ts ++ z) (append_assoc xs (sign k mark.Semicolon ∷ []) rest) in
+      let again : length ((ts ++ (xs ++ sign k mark.Semicolon ∷ [])) ++ rest) ≡ length (ts ++ (xs ++ sign k mark.Semicolon ∷ rest)) = ap length regroup in
+      let shorter = after_length ts (xs ++ sign k mark.Semicolon ∷ rest) in
+      ap (item d entries) regroup ∙ complete_global n k t typ h rest (omega arith)
   complete_item (spelled.function {t = t} {all = all} {body = b} {ts = ts} {xs = xs} {bs = bs} n k a c f typ ps h) rest lt =
-    let inner : (xs ++ sign c mark.Close ∷ bs) ++ rest ≡ xs ++ sign c mark.Close ∷ (bs ++ rest) = append_assoc xs (sign c mark.Close ∷ bs) rest in
-    let regroup : (ts ++ at k (symbol.Name f) ∷ sign a mark.Open ∷ (xs ++ sign c mark.Close ∷ bs)) ++ rest ≡ ts ++ at k (symbol.Name f) ∷ sign a mark.Open ∷ (xs ++ sign c mark.Close ∷ (bs ++ rest)) =
-          append_assoc ts (at k (symbol.Name f) ∷ sign a mark.Open ∷ (xs ++ sign c mark.Close ∷ bs)) rest ∙ ap (λ z. ts ++ at k (symbol.Name f) ∷ sign a mark.Open ∷ z) inner in
-    let again : length ((ts ++ at k (symbol.Name f) ∷ sign a mark.Open ∷ (xs ++ sign c mark.Close ∷ bs)) ++ rest) ≡ length (ts ++ at k (symbol.Name f) ∷ sign a mark.Open ∷ (xs ++ sign c mark.Close ∷ (bs ++ rest))) = ap length regroup in
-    let shorter = after_length ts (at k (symbol.Name f) ∷ sign a mark.Open ∷ (xs ++ sign c mark.Close ∷ (bs ++ rest))) in
-    let body_shorter = after_length xs (sign c mark.Close ∷ (bs ++ rest)) in
-    ap (item d entries) regroup
-    ∙ type_item typ k f (sign a mark.Open ∷ (xs ++ sign c mark.Close ∷ (bs ++ rest)))
-    ∙ opens_function n k a t f (xs ++ sign c mark.Close ∷ (bs ++ rest))
-    ∙ function_step a t (record { token = k; name = f }) all b (xs ++ sign c mark.Close ∷ (bs ++ rest)) (bs ++ rest) rest
-        (complete_parameter_list ps d c (bs ++ rest) (omega arith)) (complete_body h rest (omega arith))
+      let inner : (xs ++ sign c mark.Close ∷ bs) ++ rest ≡ xs ++ sign c mark.Close ∷ (bs ++ rest) = append_assoc xs (sign c mark.Close ∷ bs) rest in
+      let regroup : (ts ++ at k (symbol.Name f) ∷ sign a mark.Open ∷ (xs ++ sign c mark.Close ∷ bs)) ++ rest ≡ ts ++ at k (symbol.Name f) ∷ sign a mark.Open ∷ (xs ++ sign c mark.Close ∷ (bs ++ rest)) =
+      append_assoc ts (at k (symbol.Name f) ∷ sign a mark.Open ∷ (xs ++ sign c mark.Close ∷ bs)) rest ∙ ap (λ z. ts ++ at k (symbol.Name f) ∷ sign a mark.Open ∷ z) inner in
+      let again : length ((ts ++ at k (symbol.Name f) ∷ sign a mark.Open ∷ (xs ++ sign c mark.Close ∷ bs)) ++ rest) ≡ length (ts ++ at k (symbol.Name f) ∷ sign a mark.Open ∷ (xs ++ sign c mark.Close ∷ (bs ++ rest))) = ap length regroup in
+      let shorter = after_length ts (at k (symbol.Name f) ∷ sign a mark.Open ∷ (xs ++ sign c mark.Close ∷ (bs ++ rest))) in
+      let body_shorter = after_length xs (sign c mark.Close ∷ (bs ++ rest)) in
+      ap (item d entries) regroup
+      ∙ type_item typ k f (sign a mark.Open ∷ (xs ++ sign c mark.Close ∷ (bs ++ rest)))
+      ∙ opens_function n k a t f (xs ++ sign c mark.Close ∷ (bs ++ rest))
+      ∙ function_step a t (record { token = k; name = f }) all b (xs ++ sign c mark.Close ∷ (bs ++ rest)) (bs ++ rest) rest
+      (complete_parameter_list ps d c (bs ++ rest) (omega arith)) (complete_body h rest (omega arith))
 
   -- an item has tokens
   some_item : {x : PlainItem} {xs : List Spot} → Item x xs → (s : Spot) × (r : List Spot) × (xs ≡ s ∷ r)
@@ -356,7 +356,7 @@ module _ (d safe : ℕ) (fits : safe ≤ d) (entries : Parser PlainStmts)
   items_end t before = refl
 
   items_more : (t : ℕ) (before : PlainTree) (s : Spot) (r : List Spot) (x : PlainItem) (rest : List Spot) → item d entries (s ∷ r) ≡ Got x rest
-    → items_from d entries (suc t) before (s ∷ r) ≡ items_from d entries t (before ++ x ∷ []) rest
+      → items_from d entries (suc t) before (s ∷ r) ≡ items_from d entries t (before ++ x ∷ []) rest
   unfolding first
   items_more t before s r x rest e = rw e refl
 
@@ -367,11 +367,11 @@ module _ (d safe : ℕ) (fits : safe ≤ d) (entries : Parser PlainStmts)
   complete_items_from : {all : PlainTree} {xs : List Spot} → Items all xs → (t : ℕ) (before : PlainTree) → length xs < safe → length xs < t → items_from d entries t before xs ≡ Got (before ++ all) []
   complete_items_from spelled.none t before ls lt = items_turn t before [] (Got (before ++ []) []) lt (λ t' le. items_end t' before ∙ ap (λ (z : PlainTree). Got z []) (sym (append-nil before)))
   complete_items_from (spelled.more {x = x} {all = all} {xs = xs} {ys = ys} h hs) t before ls lt =
-    let (s, r, is) = some_item h in
-    let begins : xs ++ ys ≡ s ∷ (r ++ ys) = ap (λ (z : List Spot). z ++ ys) is in
-    let one_more : length xs ≡ suc (length r) = ap length is in
-    let whole = length-append xs ys in
-    items_turn t before (xs ++ ys) (Got (before ++ x ∷ all) []) lt (λ t' le.
+      let (s, r, is) = some_item h in
+      let begins : xs ++ ys ≡ s ∷ (r ++ ys) = ap (λ (z : List Spot). z ++ ys) is in
+      let one_more : length xs ≡ suc (length r) = ap length is in
+      let whole = length-append xs ys in
+      items_turn t before (xs ++ ys) (Got (before ++ x ∷ all) []) lt (λ t' le.
       ap (items_from d entries (suc t') before) begins
       ∙ items_more t' before s (r ++ ys) x ys (sym (ap (item d entries) begins) ∙ complete_item h ys ls)
       ∙ complete_items_from hs t' (before ++ x ∷ []) (omega arith) (omega arith)

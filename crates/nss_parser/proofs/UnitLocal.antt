@@ -22,13 +22,13 @@ local_more_fields (suc t) (suc t') lt all = local_choice (is_sign mark.Comma) (l
 local_field : (d e : ℕ) → d ≤ e → Local (field d) (field e)
 unfolding field
 local_field d e le =
-  local_bind local_typed (λ p. local_bind local_identifier (λ x. local_bind (local_more_fields d e le (x ∷ [])) (λ names. local_bind (local_expect mark.Semicolon) (λ k. local_pure _))))
+    local_bind local_typed (λ p. local_bind local_identifier (λ x. local_bind (local_more_fields d e le (x ∷ [])) (λ names. local_bind (local_expect mark.Semicolon) (λ k. local_pure _))))
 
 local_fields_from : (d e : ℕ) → d ≤ e → (t t' : ℕ) → t ≤ t' → (all : List FieldLine) → Local (fields_from d t all) (fields_from e t' all)
 local_fields_from d e le zero t' lt all = local_deep (fields_from e t' all)
 local_fields_from d e le (suc t) zero lt all = absurd (omega arith)
 local_fields_from d e le (suc t) (suc t') lt all =
-  local_bind (local_field d e le) (λ x. local_choice (is_sign mark.CloseBrace) (local_bind local_take (λ k. local_pure _)) (local_fields_from d e le t t' (omega arith) (all ++ x ∷ [])))
+    local_bind (local_field d e le) (λ x. local_choice (is_sign mark.CloseBrace) (local_bind local_take (λ k. local_pure _)) (local_fields_from d e le t t' (omega arith) (all ++ x ∷ [])))
 
 local_structure : (d e : ℕ) → d ≤ e → (x : Identifier) → Local (structure d x) (structure e x)
 unfolding structure
@@ -37,7 +37,7 @@ local_structure d e le x = local_bind local_take (λ b. local_bind (local_fields
 local_constant_line : Local constant_line constant_line
 unfolding constant_line
 local_constant_line =
-  local_bind local_take (λ a. local_bind local_typed (λ p. local_bind local_identifier (λ x. local_bind (local_expect mark.Assign) (λ b. local_bind local_constant (λ c. local_bind (local_expect mark.Semicolon) (λ k. local_pure _))))))
+    local_bind local_take (λ a. local_bind local_typed (λ p. local_bind local_identifier (λ x. local_bind (local_expect mark.Assign) (λ b. local_bind local_constant (λ c. local_bind (local_expect mark.Semicolon) (λ k. local_pure _))))))
 
 local_default : (n : ℕ) (t : TypeName) (f : List ℕ) → Local (default n t f) (default n t f)
 unfolding default
@@ -51,7 +51,7 @@ local_parameters_from : (t t' : ℕ) → t ≤ t' → (all : List Parameter) →
 local_parameters_from zero t' lt all = local_deep (parameters_from t' all)
 local_parameters_from (suc t) zero lt all = absurd (omega arith)
 local_parameters_from (suc t) (suc t') lt all =
-  local_bind local_parameter (λ x. local_choice (is_sign mark.Comma) (local_bind local_take (λ n. local_parameters_from t t' (omega arith) (all ++ x ∷ []))) (local_bind (local_expect mark.Close) (λ k. local_pure _)))
+    local_bind local_parameter (λ x. local_choice (is_sign mark.Comma) (local_bind local_take (λ n. local_parameters_from t t' (omega arith) (all ++ x ∷ []))) (local_bind (local_expect mark.Close) (λ k. local_pure _)))
 
 local_parameters : (d e : ℕ) → d ≤ e → Local (parameters d) (parameters e)
 unfolding parameters
@@ -60,7 +60,7 @@ local_parameters d e le = local_choice (is_sign mark.Close) (local_bind local_ta
 local_global : (d e : ℕ) → d ≤ e → (n : ℕ) (t : TypeName) (x : Identifier) → Local (global d n t x) (global e n t x)
 unfolding global
 local_global d e le n t x =
-  local_bind (local_declared_after d e le x) (λ y. local_bind (local_more_declared d e le d e le (y ∷ [])) (λ all. local_bind (local_expect mark.Semicolon) (λ k. local_pure _)))
+    local_bind (local_declared_after d e le x) (λ y. local_bind (local_more_declared d e le d e le (y ∷ [])) (λ all. local_bind (local_expect mark.Semicolon) (λ k. local_pure _)))
 
 module _ (d e : ℕ) (le : d ≤ e) (inner outer : Parser PlainStmts) (local : Local inner outer) where
   local_body : Local (body d inner) (body e outer)

@@ -29,10 +29,10 @@ use Rattle.nss_parser.proofs.DeclarationRight.{then_identifier, then_typed, righ
 
 -- a type that must come next, where every type is a front
 then_type : {A B : Type 0} {Q : A → List Spot → List Spot → Type 0} {E : Type 0} (N : B → List Spot → Type 0) (f : ℕ × TypeName → Parser A) (i : List Spot)
-  → ((n : ℕ) (t : TypeName) (ts rest : List Spot) → TypeTokens n t ts → i ≡ ts ++ rest → Right (λ y ys end. Q y (ts ++ ys) end) (λ ys. Viable N (ts ++ ys)) E rest (f (n, t) rest))
-  → ((n : ℕ) (t : TypeName) (ts : List Spot) → TypeTokens n t ts → Viable N ts) → Right Q (Viable N) E i (and_then (typed i) f)
+    → ((n : ℕ) (t : TypeName) (ts rest : List Spot) → TypeTokens n t ts → i ≡ ts ++ rest → Right (λ y ys end. Q y (ts ++ ys) end) (λ ys. Viable N (ts ++ ys)) E rest (f (n, t) rest))
+    → ((n : ℕ) (t : TypeName) (ts : List Spot) → TypeTokens n t ts → Viable N ts) → Right Q (Viable N) E i (and_then (typed i) f)
 then_type {Q = Q} {E = E} N f i go front =
-  then_typed {Q = Q} {W = Viable N} {E = E} f i go
+    then_typed {Q = Q} {W = Viable N} {E = E} f i go
     (λ j. let (more, x, p) = front j type.Int (sign j mark.Int ∷ []) (grammar.word j mark.Int type.Int refl) (j + 1) in (symbol.Sign mark.Int ∷ more, x, p))
     (λ n. λ j. let (more, x, p) = front n (type.Struct []) (sign n mark.Struct ∷ at j (symbol.Name []) ∷ []) (grammar.structure n j []) (j + 1) in (symbol.Name [] ∷ more, x, p))
 
@@ -42,31 +42,31 @@ fields_push (spelled.one m g) c n f = spelled.more m c g (spelled.one n f)
 fields_push (spelled.more m b g hs) c n f = spelled.more m b g (fields_push hs c n f)
 
 right_more_fields : (t : ℕ) (all : List Identifier) (ps i : List Spot) → FieldNames all ps
-  → Right (λ z zs rest. FieldNames z (ps ++ zs)) (λ zs. Viable FieldNames (ps ++ zs)) (t ≤ length i) i (more_fields t all i)
+    → Right (λ z zs rest. FieldNames z (ps ++ zs)) (λ zs. Viable FieldNames (ps ++ zs)) (t ≤ length i) i (more_fields t all i)
 right_more_fields zero all ps i names = right_deep (omega arith)
 right_more_fields (suc t) all ps i names =
-  right_choice mark.Comma i _ _
+    right_choice mark.Comma i _ _
     (λ n r is. after_take (λ n. identifier >>= λ x. more_fields t (all ++ x ∷ [])) n (symbol.Sign mark.Comma) r is
-      (then_identifier (λ x. more_fields t (all ++ x ∷ [])) r
-        (λ k f z is'. right_as (right_more_fields t (all ++ record { token = k; name = f } ∷ []) (ps ++ sign n mark.Comma ∷ at k (symbol.Name f) ∷ []) z (fields_push names n k f))
-          (λ y ys end q. subst (λ (w : List Spot). FieldNames y w) (append_assoc ps (sign n mark.Comma ∷ at k (symbol.Name f) ∷ []) ys) q)
-          (λ ys v. subst (λ (w : List Spot). Viable FieldNames w) (append_assoc ps (sign n mark.Comma ∷ at k (symbol.Name f) ∷ []) ys) v)
-          (λ deep. let one : length i ≡ suc (length r) = ap length is in let two : length r ≡ suc (length z) = ap length is' in omega arith))
-        (viable_under FieldNames ps (sign n mark.Comma ∷ []) (λ j. (symbol.Name [] ∷ [], all ++ record { token = j; name = [] } ∷ [], fields_push names n j [])))))
+    (then_identifier (λ x. more_fields t (all ++ x ∷ [])) r
+    (λ k f z is'. right_as (right_more_fields t (all ++ record { token = k; name = f } ∷ []) (ps ++ sign n mark.Comma ∷ at k (symbol.Name f) ∷ []) z (fields_push names n k f))
+    (λ y ys end q. subst (λ (w : List Spot). FieldNames y w) (append_assoc ps (sign n mark.Comma ∷ at k (symbol.Name f) ∷ []) ys) q)
+    (λ ys v. subst (λ (w : List Spot). Viable FieldNames w) (append_assoc ps (sign n mark.Comma ∷ at k (symbol.Name f) ∷ []) ys) v)
+    (λ deep. let one : length i ≡ suc (length r) = ap length is in let two : length r ≡ suc (length z) = ap length is' in omega arith))
+    (viable_under FieldNames ps (sign n mark.Comma ∷ []) (λ j. (symbol.Name [] ∷ [], all ++ record { token = j; name = [] } ∷ [], fields_push names n j [])))))
     (λ other. right_pure (subst (λ (z : List Spot). FieldNames all z) (sym (append-nil ps)) names))
 
 right_field : (d : ℕ) (i : List Spot) → Right (λ f xs rest. Field f xs) (Viable Field) (d ≤ length i) i (field d i)
 unfolding field
 right_field d i =
-  then_type Field (λ p. identifier >>= λ x. more_fields d (x ∷ []) >>= λ names. expect mark.Semicolon >>= λ k. pure (record { token = p.0; ty = p.1; names = names })) i
+    then_type Field (λ p. identifier >>= λ x. more_fields d (x ∷ []) >>= λ names. expect mark.Semicolon >>= λ k. pure (record { token = p.0; ty = p.1; names = names })) i
     (λ n t ts rest typ e. then_identifier (λ x. more_fields d (x ∷ []) >>= λ names. expect mark.Semicolon >>= λ k. pure (record { token = n; ty = t; names = names })) rest
-      (λ k f r is. then_sign mark.Semicolon (right_more_fields d (record { token = k; name = f } ∷ []) (at k (symbol.Name f) ∷ []) r (spelled.one k f))
-        (λ names ns rest' m z h is' e'. right_pure (spelled.line n m typ h))
-        (λ names ns rest' h. viable_done FieldNames names (at k (symbol.Name f) ∷ ns) h)
-        (λ ns v. viable_under Field ts (at k (symbol.Name f) ∷ ns)
-          (viable_then FieldNames (λ y zs. Field y (ts ++ zs)) (at k (symbol.Name f) ∷ ns) (symbol.Sign mark.Semicolon ∷ []) v (λ names zs m h. (record { token = n; ty = t; names = names }, spelled.line n m typ h))))
-        (λ deep. let one : length rest ≡ suc (length r) = ap length is in omega (arith, rest_length i ts rest e)))
-      (viable_under Field ts [] (λ j. (symbol.Name [] ∷ symbol.Sign mark.Semicolon ∷ [], record { token = n; ty = t; names = record { token = j; name = [] } ∷ [] }, spelled.line n (j + 1) typ (spelled.one j [])))))
+    (λ k f r is. then_sign mark.Semicolon (right_more_fields d (record { token = k; name = f } ∷ []) (at k (symbol.Name f) ∷ []) r (spelled.one k f))
+    (λ names ns rest' m z h is' e'. right_pure (spelled.line n m typ h))
+    (λ names ns rest' h. viable_done FieldNames names (at k (symbol.Name f) ∷ ns) h)
+    (λ ns v. viable_under Field ts (at k (symbol.Name f) ∷ ns)
+    (viable_then FieldNames (λ y zs. Field y (ts ++ zs)) (at k (symbol.Name f) ∷ ns) (symbol.Sign mark.Semicolon ∷ []) v (λ names zs m h. (record { token = n; ty = t; names = names }, spelled.line n m typ h))))
+    (λ deep. let one : length rest ≡ suc (length r) = ap length is in omega (arith, rest_length i ts rest e)))
+    (viable_under Field ts [] (λ j. (symbol.Name [] ∷ symbol.Sign mark.Semicolon ∷ [], record { token = n; ty = t; names = record { token = j; name = [] } ∷ [] }, spelled.line n (j + 1) typ (spelled.one j [])))))
     (λ n t ts typ j. (symbol.Name [] ∷ symbol.Sign mark.Semicolon ∷ [], record { token = n; ty = t; names = record { token = j; name = [] } ∷ [] }, spelled.line n (j + 1) typ (spelled.one j [])))
 
 some_field : {f : FieldLine} {xs : List Spot} → Field f xs → 0 < length xs
@@ -81,83 +81,92 @@ abbrev Until : {A : Type 0} → (List A → List Spot → Type 0) → Mark → L
 Until {A} N m before all xs = (more : List A) × (all ≡ before ++ more) × Closed N m more xs
 
 right_fields_from : (d t : ℕ) (before : List FieldLine) (i : List Spot)
-  → Right (λ all xs rest. Until Fields mark.CloseBrace before all xs) (Viable (Closed Fields mark.CloseBrace)) ((t ≤ length i) ⊎ (d ≤ length i)) i (fields_from d t before i)
+    → Right (λ all xs rest. Until Fields mark.CloseBrace before all xs) (Viable (Closed Fields mark.CloseBrace)) ((t ≤ length i) ⊎ (d ≤ length i)) i (fields_from d t before i)
 right_fields_from d zero before i = right_deep (inl (omega arith))
 right_fields_from d (suc t) before i =
-  then (right_field d i)
+    then (right_field d i)
     (λ f xs rest h e. right_choice mark.CloseBrace rest _ _
-      (λ k r is. after_take (λ k. pure (before ++ f ∷ [])) k (symbol.Sign mark.CloseBrace) r is
-        (right_pure (f ∷ [], refl, record { tokens = xs; number = k; is = refl; holds = spelled.one h })))
-      (λ other. right_as (right_fields_from d t (before ++ f ∷ []) rest)
-        (λ all ys end q. let (more, is, c) = q in (f ∷ more, is ∙ append_assoc before (f ∷ []) more, closed_after xs (f ∷ more) (λ zs hs. spelled.more h hs) c))
-        (λ ys v. viable_under (Closed Fields mark.CloseBrace) xs ys
-          (viable_as (Closed Fields mark.CloseBrace) (λ all zs. Closed Fields mark.CloseBrace all (xs ++ zs)) ys v (λ all zs c. (f ∷ all, closed_after xs (f ∷ all) (λ ws hs. spelled.more h hs) c))))
-        (λ deep. let some = some_field h in let lengths = rest_length i xs rest e in elim deep [ inl a ↦ inl (omega arith) | inr b ↦ inr (omega arith) ])))
+    (λ k r is. after_take (λ k. pure (before ++ f ∷ [])) k (symbol.Sign mark.CloseBrace) r is
+    (right_pure (f ∷ [], refl, record { tokens = xs; number = k; is = refl; holds = spelled.one h })))
+    (λ other. right_as (right_fields_from d t (before ++ f ∷ []) rest)
+    (λ all ys end q. let (more, is, c) = q in (f ∷ more, is ∙ append_assoc before (f ∷ []) more, closed_after xs (f ∷ more) (λ zs hs. spelled.more h hs) c))
+    (λ ys v. viable_under (Closed Fields mark.CloseBrace) xs ys
+    (viable_as (Closed Fields mark.CloseBrace) (λ all zs. Closed Fields mark.CloseBrace all (xs ++ zs)) ys v (λ all zs c. (f ∷ all, closed_after xs (f ∷ all) (λ ws hs. spelled.more h hs) c))))
+    (λ deep. let some = some_field h in let lengths = rest_length i xs rest e in elim deep [ inl a ↦ inl (omega arith) | inr b ↦ inr (omega arith) ])))
     (λ xs v. closed_front Field Fields mark.CloseBrace xs v (λ f ys h. (f ∷ [], spelled.one h)))
     (λ deep. inr deep)
 
 struct_spelled : (a n b m : ℕ) (f : List ℕ) {all : List FieldLine} {xs : List Spot} → Closed Fields mark.CloseBrace all xs
-  → Item (unit.structure n f all) (sign a mark.Struct ∷ at n (symbol.Name f) ∷ sign b mark.OpenBrace ∷ (xs ++ sign m mark.Semicolon ∷ []))
+    → Item (unit.structure n f all) (sign a mark.Struct ∷ at n (symbol.Name f) ∷ sign b mark.OpenBrace ∷ (xs ++ sign m mark.Semicolon ∷ []))
 struct_spelled a n b m f {all = all} c =
-  subst (λ (z : List Spot). Item (unit.structure n f all) (sign a mark.Struct ∷ at n (symbol.Name f) ∷ sign b mark.OpenBrace ∷ z))
+    subst (λ (z : List Spot). Item (unit.structure n f all) (sign a mark.Struct ∷ at n (symbol.Name f) ∷ sign b mark.OpenBrace ∷ z))
     (sym (ap (λ z. z ++ sign m mark.Semicolon ∷ []) c.is ∙ append_assoc c.tokens (sign c.number mark.CloseBrace ∷ []) (sign m mark.Semicolon ∷ [])))
     (spelled.structure a n b c.number m f c.holds)
 
 right_structure : (d a n b : ℕ) (f : List ℕ) (i r : List Spot) → i ≡ sign b mark.OpenBrace ∷ r
-  → Right (λ y ys rest. Item y (sign a mark.Struct ∷ at n (symbol.Name f) ∷ ys)) (λ ys. Viable Item (sign a mark.Struct ∷ at n (symbol.Name f) ∷ ys)) (d ≤ suc (length i)) i (structure d (record { token = n; name = f }) i)
+    → Right (λ y ys rest. Item y (sign a mark.Struct ∷ at n (symbol.Name f) ∷ ys)) (λ ys. Viable Item (sign a mark.Struct ∷ at n (symbol.Name f) ∷ ys)) (d ≤ suc (length i)) i (structure d (record { token = n; name = f }) i)
 unfolding structure
 right_structure d a n b f i r is =
-  after_take (λ b. fields_from d d [] >>= λ all. expect mark.Semicolon >>= λ k. pure (unit.structure n f all)) b (symbol.Sign mark.OpenBrace) r is
+    after_take (λ b. fields_from d d [] >>= λ all. expect mark.Semicolon >>= λ k. pure (unit.structure n f all)) b (symbol.Sign mark.OpenBrace) r is
     (then_sign mark.Semicolon (right_fields_from d d [] r)
-      (λ all xs rest m z h is' e. let (more, same, c) = h in right_pure (subst (λ (w : List FieldLine). Item (unit.structure n f w) (sign a mark.Struct ∷ at n (symbol.Name f) ∷ sign b mark.OpenBrace ∷ (xs ++ sign m mark.Semicolon ∷ []))) (sym same) (struct_spelled a n b m f c)))
-      (λ all xs rest h. let (more, same, c) = h in viable_done (Closed Fields mark.CloseBrace) more xs c)
-      (λ xs v. viable_then (Closed Fields mark.CloseBrace) (λ y zs. Item y (sign a mark.Struct ∷ at n (symbol.Name f) ∷ sign b mark.OpenBrace ∷ zs)) xs (symbol.Sign mark.Semicolon ∷ []) v
-        (λ all zs m c. (unit.structure n f all, struct_spelled a n b m f c)))
-      (λ deep. let one : length i ≡ suc (length r) = ap length is in elim deep [ inl x ↦ omega arith | inr y ↦ omega arith ]))
+    (λ all xs rest m z h is' e. let (more, same, c) = h in right_pure (subst (λ (w : List FieldLine). Item (unit.structure n f w) (sign a mark.Struct ∷ at n (symbol.Name f) ∷ sign b mark.OpenBrace ∷ (xs ++ sign m mark.Semicolon ∷ []))) (sym same) (struct_spelled a n b m f c)))
+    (λ all xs rest h. let (more, same, c) = h in viable_done (Closed Fields mark.CloseBrace) more xs c)
+    (λ xs v. viable_then (Closed Fields mark.CloseBrace) (λ y zs. Item y (sign a mark.Struct ∷ at n (symbol.Name f) ∷ sign b mark.OpenBrace ∷ zs)) xs (symbol.Sign mark.Semicolon ∷ []) v
+    (λ all zs m c. (unit.structure n f all, struct_spelled a n b m f c)))
+    (λ deep. let one : length i ≡ suc (length r) = ap length is in elim deep [ inl x ↦ omega arith | inr y ↦ omega arith ]))
 
 right_constant_line : (a : ℕ) (i r : List Spot) (E : Type 0) → i ≡ sign a mark.Const ∷ r → Right (λ y ys rest. Item y ys) (Viable Item) E i (constant_line i)
 unfolding constant_line
 right_constant_line a i r E is =
-  after_take (λ a. typed >>= λ p. identifier >>= λ x. expect mark.Assign >>= λ b. constant_value >>= λ c. expect mark.Semicolon >>= λ k. pure (unit.constant p.0 p.1 x c)) a (symbol.Sign mark.Const) r is
+    after_take (λ a. typed >>= λ p. identifier >>= λ x. expect mark.Assign >>= λ b. constant_value >>= λ c. expect mark.Semicolon >>= λ k. pure (unit.constant p.0 p.1 x c)) a (symbol.Sign mark.Const) r is
     (then_type (λ x ys. Item x (sign a mark.Const ∷ ys)) (λ p. identifier >>= λ x. expect mark.Assign >>= λ b. constant_value >>= λ c. expect mark.Semicolon >>= λ k. pure (unit.constant p.0 p.1 x c)) r
-      (λ n t ts rest typ e. then_identifier (λ x. expect mark.Assign >>= λ b. constant_value >>= λ c. expect mark.Semicolon >>= λ k. pure (unit.constant n t x c)) rest
-        (λ k f z is'. then_expect mark.Assign z
-          (λ b w is''. then_sign mark.Semicolon (right_constant w)
-            (λ c cs rest' m u h e' e''. right_pure (spelled.constant a n k b m f typ h))
-            (λ c cs rest' h. viable_done ConstantTokens c cs h)
-            (λ cs v. viable_under (λ x ys. Item x (sign a mark.Const ∷ ys)) ts (at k (symbol.Name f) ∷ sign b mark.Assign ∷ cs)
-              (viable_then ConstantTokens (λ y zs. Item y (sign a mark.Const ∷ (ts ++ at k (symbol.Name f) ∷ sign b mark.Assign ∷ zs))) cs (symbol.Sign mark.Semicolon ∷ []) v
-                (λ c zs m h. (unit.constant n t (record { token = k; name = f }) c, spelled.constant a n k b m f typ h))))
-            (λ deep. absurd deep))
-          (viable_under (λ x ys. Item x (sign a mark.Const ∷ ys)) ts (at k (symbol.Name f) ∷ [])
-            (λ j. (symbol.Sign mark.Assign ∷ symbol.Int 0 ∷ symbol.Sign mark.Semicolon ∷ [], unit.constant n t (record { token = k; name = f }) (constant.Int (j + 1) false (cast_signed w32 0)),
-              spelled.constant a n k j (j + 1 + 1) f typ (grammar.int (j + 1) 0)))))
-        (viable_under (λ x ys. Item x (sign a mark.Const ∷ ys)) ts []
-          (λ j. (symbol.Name [] ∷ symbol.Sign mark.Assign ∷ symbol.Int 0 ∷ symbol.Sign mark.Semicolon ∷ [], unit.constant n t (record { token = j; name = [] }) (constant.Int (j + 1 + 1) false (cast_signed w32 0)),
-            spelled.constant a n j (j + 1) (j + 1 + 1 + 1) [] typ (grammar.int (j + 1 + 1) 0)))))
-      (λ n t ts typ j. (symbol.Name [] ∷ symbol.Sign mark.Assign ∷ symbol.Int 0 ∷ symbol.Sign mark.Semicolon ∷ [], unit.constant n t (record { token = j; name = [] }) (constant.Int (j + 1 + 1) false (cast_signed w32 0)),
-        spelled.constant a n j (j + 1) (j + 1 + 1 + 1) [] typ (grammar.int (j + 1 + 1) 0))))
+    (λ n t ts rest typ e. then_identifier (λ x. expect mark.Assign >>= λ b. constant_value >>= λ c. expect mark.Semicolon >>= λ k. pure (unit.constant n t x c)) rest
+    (λ k f z is'. then_expect mark.Assign z
+    (λ b w is''. then_sign mark.Semicolon (right_constant w)
+    (λ c cs rest' m u h e' e''. right_pure (spelled.constant a n k b m f typ h))
+    (λ c cs rest' h. viable_done ConstantTokens c cs h)
+    (λ cs v. viable_under (λ x ys. Item x (sign a mark.Const ∷ ys)) ts (at k (symbol.Name f) ∷ sign b mark.Assign ∷ cs)
+    (viable_then ConstantTokens (λ y zs. Item y (sign a mark.Const ∷ (ts ++ at k (symbol.Name f) ∷ sign b mark.Assign ∷ zs))) cs (symbol.Sign mark.Semicolon ∷ []) v
+    (λ c zs m h. (unit.constant n t (record { token = k; name = f }) c, spelled.constant a n k b m f typ h))))
+    (λ deep. absurd deep))
+    (viable_under (λ x ys. Item x (sign a mark.Const ∷ ys)) ts (at k (symbol.Name f) ∷ [])
+    (λ j. (
+      symbol.Sign mark.Assign ∷ symbol.Int 0 ∷ symbol.Sign mark.Semicolon ∷ [],
+      unit.constant n t (record { token = k; name = f }) (constant.Int (j + 1) false (cast_signed w32 0)),
+      spelled.constant a n k j (j + 1 + 1) f typ (grammar.int (j + 1) 0),
+    ))))
+    (viable_under (λ x ys. Item x (sign a mark.Const ∷ ys)) ts []
+    (λ j. (
+      symbol.Name [] ∷ symbol.Sign mark.Assign ∷ symbol.Int 0 ∷ symbol.Sign mark.Semicolon ∷ [],
+      unit.constant n t (record { token = j; name = [] }) (constant.Int (j + 1 + 1) false (cast_signed w32 0)),
+      spelled.constant a n j (j + 1) (j + 1 + 1 + 1) [] typ (grammar.int (j + 1 + 1) 0),
+    ))))
+    (λ n t ts typ j. (
+      symbol.Name [] ∷ symbol.Sign mark.Assign ∷ symbol.Int 0 ∷ symbol.Sign mark.Semicolon ∷ [],
+      unit.constant n t (record { token = j; name = [] }) (constant.Int (j + 1 + 1) false (cast_signed w32 0)),
+      spelled.constant a n j (j + 1) (j + 1 + 1 + 1) [] typ (grammar.int (j + 1 + 1) 0),
+    )))
 
 -- a parameter, whose type and name were read
 right_default : (n k : ℕ) (t : TypeName) (f : List ℕ) (ts i : List Spot) → TypeTokens n t ts
-  → Right (λ p ys rest. ParameterTokens p (ts ++ at k (symbol.Name f) ∷ ys)) (λ ys. Viable ParameterTokens (ts ++ at k (symbol.Name f) ∷ ys)) ⊥ i (default n t f i)
+    → Right (λ p ys rest. ParameterTokens p (ts ++ at k (symbol.Name f) ∷ ys)) (λ ys. Viable ParameterTokens (ts ++ at k (symbol.Name f) ∷ ys)) ⊥ i (default n t f i)
 unfolding default
 right_default n k t f ts i typ =
-  right_choice mark.Assign i _ _
+    right_choice mark.Assign i _ _
     (λ a r is. after_take (λ a. constant_value >>= λ c. pure (record { token = n; ty = t; name = f; default = Some c })) a (symbol.Sign mark.Assign) r is
-      (then (right_constant r)
-        (λ c cs rest h e. right_pure (subst (λ (z : List Spot). ParameterTokens (record { token = n; ty = t; name = f; default = Some c }) (ts ++ at k (symbol.Name f) ∷ sign a mark.Assign ∷ z)) (sym (append-nil cs)) (spelled.valued n k a f typ h)))
-        (λ cs v. viable_under ParameterTokens ts (at k (symbol.Name f) ∷ sign a mark.Assign ∷ cs)
-          (viable_as ConstantTokens (λ y zs. ParameterTokens y (ts ++ at k (symbol.Name f) ∷ sign a mark.Assign ∷ zs)) cs v (λ c zs h. (record { token = n; ty = t; name = f; default = Some c }, spelled.valued n k a f typ h))))
-        (λ deep. absurd deep)))
+    (then (right_constant r)
+    (λ c cs rest h e. right_pure (subst (λ (z : List Spot). ParameterTokens (record { token = n; ty = t; name = f; default = Some c }) (ts ++ at k (symbol.Name f) ∷ sign a mark.Assign ∷ z)) (sym (append-nil cs)) (spelled.valued n k a f typ h)))
+    (λ cs v. viable_under ParameterTokens ts (at k (symbol.Name f) ∷ sign a mark.Assign ∷ cs)
+    (viable_as ConstantTokens (λ y zs. ParameterTokens y (ts ++ at k (symbol.Name f) ∷ sign a mark.Assign ∷ zs)) cs v (λ c zs h. (record { token = n; ty = t; name = f; default = Some c }, spelled.valued n k a f typ h))))
+    (λ deep. absurd deep)))
     (λ other. right_pure (spelled.bare n k f typ))
 
 right_parameter : (i : List Spot) → Right (λ p xs rest. ParameterTokens p xs) (Viable ParameterTokens) ⊥ i (parameter i)
 unfolding parameter
 right_parameter i =
-  then_type ParameterTokens (λ p. name >>= λ f. default p.0 p.1 f) i
+    then_type ParameterTokens (λ p. name >>= λ f. default p.0 p.1 f) i
     (λ n t ts rest typ e. then_name rest (λ k f r is. right_default n k t f ts r typ)
-      (viable_under ParameterTokens ts [] (λ j. (symbol.Name [] ∷ [], record { token = n; ty = t; name = []; default = None }, spelled.bare n j [] typ))))
+    (viable_under ParameterTokens ts [] (λ j. (symbol.Name [] ∷ [], record { token = n; ty = t; name = []; default = None }, spelled.bare n j [] typ))))
     (λ n t ts typ j. (symbol.Name [] ∷ [], record { token = n; ty = t; name = []; default = None }, spelled.bare n j [] typ))
 
 some_parameter : {p : Parameter} {xs : List Spot} → ParameterTokens p xs → 0 < length xs
@@ -173,61 +182,65 @@ some_parameter (spelled.valued {ts = ts} {cs = cs} n k a f typ h) = type_some ty
     type_some (grammar.structure n k f) r = omega arith
 
 right_parameters_from : (t : ℕ) (before : List Parameter) (i : List Spot)
-  → Right (λ all xs rest. Until ParameterList mark.Close before all xs) (Viable (Closed ParameterList mark.Close)) (t ≤ length i) i (parameters_from t before i)
+    → Right (λ all xs rest. Until ParameterList mark.Close before all xs) (Viable (Closed ParameterList mark.Close)) (t ≤ length i) i (parameters_from t before i)
 right_parameters_from zero before i = right_deep (omega arith)
 right_parameters_from (suc t) before i =
-  then (right_parameter i)
+    then (right_parameter i)
     (λ p xs rest h e. right_choice mark.Comma rest _ _
-      (λ n r is. after_take (λ n. parameters_from t (before ++ p ∷ [])) n (symbol.Sign mark.Comma) r is
-        (right_as (right_parameters_from t (before ++ p ∷ []) r)
-          (λ all ys end q. let (more, same, c) = q in
-            (p ∷ more, same ∙ append_assoc before (p ∷ []) more,
-              subst (λ (z : List Spot). Closed ParameterList mark.Close (p ∷ more) z) (append_assoc xs (sign n mark.Comma ∷ []) ys)
-                (closed_after (xs ++ sign n mark.Comma ∷ []) (p ∷ more) (λ zs hs. subst (λ (z : List Spot). ParameterList (p ∷ more) z) (sym (append_assoc xs (sign n mark.Comma ∷ []) zs)) (spelled.more n h hs)) c)))
-          (λ ys v. viable_under (Closed ParameterList mark.Close) xs (sign n mark.Comma ∷ ys)
-            (viable_as (Closed ParameterList mark.Close) (λ all zs. Closed ParameterList mark.Close all (xs ++ sign n mark.Comma ∷ zs)) ys v (λ all zs c.
-              (p ∷ all, subst (λ (z : List Spot). Closed ParameterList mark.Close (p ∷ all) z) (append_assoc xs (sign n mark.Comma ∷ []) zs)
-                (closed_after (xs ++ sign n mark.Comma ∷ []) (p ∷ all) (λ ws hs. subst (λ (z : List Spot). ParameterList (p ∷ all) z) (sym (append_assoc xs (sign n mark.Comma ∷ []) ws)) (spelled.more n h hs)) c)))))
-          (λ deep. let one : length rest ≡ suc (length r) = ap length is in omega (arith, rest_length i xs rest e))))
-      (λ other. then_expect mark.Close rest
-        (λ k r is. right_pure (p ∷ [], refl, record { tokens = xs; number = k; is = refl; holds = spelled.one h }))
-        (subst (λ (z : List Spot). Viable (Closed ParameterList mark.Close) z) (sym (append-nil xs))
-          (closed_front ParameterTokens ParameterList mark.Close xs (viable_done ParameterTokens p xs h) (λ q ys h'. (q ∷ [], spelled.one h'))))))
+    (λ n r is. after_take (λ n. parameters_from t (before ++ p ∷ [])) n (symbol.Sign mark.Comma) r is
+    (right_as (right_parameters_from t (before ++ p ∷ []) r)
+    (λ all ys end q. let (more, same, c) = q in (
+      p ∷ more,
+      same ∙ append_assoc before (p ∷ []) more,
+      subst (λ (z : List Spot). Closed ParameterList mark.Close (p ∷ more) z) (append_assoc xs (sign n mark.Comma ∷ []) ys)
+          (closed_after (xs ++ sign n mark.Comma ∷ []) (p ∷ more) (λ zs hs. subst (λ (z : List Spot). ParameterList (p ∷ more) z) (sym (append_assoc xs (sign n mark.Comma ∷ []) zs)) (spelled.more n h hs)) c),
+    ))
+    (λ ys v. viable_under (Closed ParameterList mark.Close) xs (sign n mark.Comma ∷ ys)
+    (viable_as (Closed ParameterList mark.Close) (λ all zs. Closed ParameterList mark.Close all (xs ++ sign n mark.Comma ∷ zs)) ys v (λ all zs c. (
+      p ∷ all,
+      subst (λ (z : List Spot). Closed ParameterList mark.Close (p ∷ all) z) (append_assoc xs (sign n mark.Comma ∷ []) zs)
+          (closed_after (xs ++ sign n mark.Comma ∷ []) (p ∷ all) (λ ws hs. subst (λ (z : List Spot). ParameterList (p ∷ all) z) (sym (append_assoc xs (sign n mark.Comma ∷ []) ws)) (spelled.more n h hs)) c),
+    ))))
+    (λ deep. let one : length rest ≡ suc (length r) = ap length is in omega (arith, rest_length i xs rest e))))
+    (λ other. then_expect mark.Close rest
+    (λ k r is. right_pure (p ∷ [], refl, record { tokens = xs; number = k; is = refl; holds = spelled.one h }))
+    (subst (λ (z : List Spot). Viable (Closed ParameterList mark.Close) z) (sym (append-nil xs))
+    (closed_front ParameterTokens ParameterList mark.Close xs (viable_done ParameterTokens p xs h) (λ q ys h'. (q ∷ [], spelled.one h'))))))
     (λ xs v. closed_front ParameterTokens ParameterList mark.Close xs v (λ q ys h. (q ∷ [], spelled.one h)))
     (λ deep. absurd deep)
 
 right_parameters : (d : ℕ) (i : List Spot) → Right (λ all xs rest. Closed Parameters mark.Close all xs) (Viable (Closed Parameters mark.Close)) (d ≤ length i) i (parameters d i)
 unfolding parameters
 right_parameters d i =
-  right_choice mark.Close i _ _
+    right_choice mark.Close i _ _
     (λ k r is. after_take (λ k. pure []) k (symbol.Sign mark.Close) r is (right_pure (record { tokens = []; number = k; is = refl; holds = spelled.absent })))
     (λ other. right_as (right_parameters_from d [] i)
-      (λ all xs rest q. let (more, same, c) = q in subst (λ (w : List Parameter). Closed Parameters mark.Close w xs) (sym same) (record { tokens = c.tokens; number = c.number; is = c.is; holds = spelled.present c.holds }))
-      (λ xs v. viable_as (Closed ParameterList mark.Close) (Closed Parameters mark.Close) xs v (λ all ys c. (all, record { tokens = c.tokens; number = c.number; is = c.is; holds = spelled.present c.holds })))
-      (λ deep. deep))
+    (λ all xs rest q. let (more, same, c) = q in subst (λ (w : List Parameter). Closed Parameters mark.Close w xs) (sym same) (record { tokens = c.tokens; number = c.number; is = c.is; holds = spelled.present c.holds }))
+    (λ xs v. viable_as (Closed ParameterList mark.Close) (Closed Parameters mark.Close) xs v (λ all ys c. (all, record { tokens = c.tokens; number = c.number; is = c.is; holds = spelled.present c.holds })))
+    (λ deep. deep))
 
 function_spelled : (n k a : ℕ) (t : TypeName) (f : List ℕ) {ts : List Spot} {all : List Parameter} {b : Option PlainStmts} {xs bs : List Spot} → TypeTokens n t ts → Closed Parameters mark.Close all xs → Body b bs
-  → Item (unit.function k t f all b) (ts ++ at k (symbol.Name f) ∷ sign a mark.Open ∷ (xs ++ bs))
+    → Item (unit.function k t f all b) (ts ++ at k (symbol.Name f) ∷ sign a mark.Open ∷ (xs ++ bs))
 function_spelled n k a t f {ts = ts} {all = all} {b = b} {bs = bs} typ c h =
-  subst (λ (z : List Spot). Item (unit.function k t f all b) (ts ++ at k (symbol.Name f) ∷ sign a mark.Open ∷ z))
+    subst (λ (z : List Spot). Item (unit.function k t f all b) (ts ++ at k (symbol.Name f) ∷ sign a mark.Open ∷ z))
     (sym (ap (λ z. z ++ bs) c.is ∙ append_assoc c.tokens (sign c.number mark.Close ∷ []) bs))
     (spelled.function n k a c.number f typ c.holds h)
 
 -- a global's line, whose type and first name were read
 right_global : (d n k : ℕ) (t : TypeName) (f : List ℕ) (ts i : List Spot) → TypeTokens n t ts
-  → Right (λ y ys rest. Item y (ts ++ at k (symbol.Name f) ∷ ys)) (λ ys. Viable Item (ts ++ at k (symbol.Name f) ∷ ys)) (d ≤ suc (length i)) i (global d n t (record { token = k; name = f }) i)
+    → Right (λ y ys rest. Item y (ts ++ at k (symbol.Name f) ∷ ys)) (λ ys. Viable Item (ts ++ at k (symbol.Name f) ∷ ys)) (d ≤ suc (length i)) i (global d n t (record { token = k; name = f }) i)
 unfolding global
 right_global d n k t f ts i typ =
-  then (right_declared_after d k f i)
+    then (right_declared_after d k f i)
     (λ y ys rest h e. then_sign mark.Semicolon (right_more_declared d d (y ∷ []) (at k (symbol.Name f) ∷ ys) rest (grammar.one h))
-      (λ all zs rest' m r names is e'. right_pure
-        (subst (λ (w : List Spot). Item (unit.global n t all) (ts ++ at k (symbol.Name f) ∷ w)) (append_assoc ys zs (sign m mark.Semicolon ∷ [])) (spelled.global n m typ names)))
-      (λ all zs rest' names. viable_done DeclaredNames all (at k (symbol.Name f) ∷ (ys ++ zs)) names)
-      (λ zs v. viable_under Item ts (at k (symbol.Name f) ∷ (ys ++ zs))
-        (viable_then DeclaredNames (λ x ws. Item x (ts ++ ws)) (at k (symbol.Name f) ∷ (ys ++ zs)) (symbol.Sign mark.Semicolon ∷ []) v (λ all ws m names. (unit.global n t all, spelled.global n m typ names))))
-      (λ deep. let lengths = rest_length i ys rest e in elim deep [ inl a ↦ omega arith | inr b ↦ omega arith ]))
+    (λ all zs rest' m r names is e'. right_pure
+    (subst (λ (w : List Spot). Item (unit.global n t all) (ts ++ at k (symbol.Name f) ∷ w)) (append_assoc ys zs (sign m mark.Semicolon ∷ [])) (spelled.global n m typ names)))
+    (λ all zs rest' names. viable_done DeclaredNames all (at k (symbol.Name f) ∷ (ys ++ zs)) names)
+    (λ zs v. viable_under Item ts (at k (symbol.Name f) ∷ (ys ++ zs))
+    (viable_then DeclaredNames (λ x ws. Item x (ts ++ ws)) (at k (symbol.Name f) ∷ (ys ++ zs)) (symbol.Sign mark.Semicolon ∷ []) v (λ all ws m names. (unit.global n t all, spelled.global n m typ names))))
+    (λ deep. let lengths = rest_length i ys rest e in elim deep [ inl a ↦ omega arith | inr b ↦ omega arith ]))
     (λ ys v. viable_under Item ts (at k (symbol.Name f) ∷ ys)
-      (viable_then Declared (λ x ws. Item x (ts ++ ws)) (at k (symbol.Name f) ∷ ys) (symbol.Sign mark.Semicolon ∷ []) v (λ y ws m h. (unit.global n t (y ∷ []), spelled.global n m typ (grammar.one h)))))
+    (viable_then Declared (λ x ws. Item x (ts ++ ws)) (at k (symbol.Name f) ∷ ys) (symbol.Sign mark.Semicolon ∷ []) v (λ y ws m h. (unit.global n t (y ∷ []), spelled.global n m typ (grammar.one h)))))
     (λ deep. omega arith)
 
 module _ (d : ℕ) (entries : Parser PlainStmts)
@@ -238,68 +251,71 @@ module _ (d : ℕ) (entries : Parser PlainStmts)
   right_body : (i : List Spot) → Right (λ b bs rest. Body b bs) (Viable Body) (d ≤ suc (length i)) i (body d entries i)
   unfolding body
   right_body i =
-    right_choice mark.Semicolon i _ _
+      right_choice mark.Semicolon i _ _
       (λ k r is. after_take (λ k. pure None) k (symbol.Sign mark.Semicolon) r is (right_pure (spelled.prototype k)))
       (λ other. then_expect mark.OpenBrace i
-        (λ n r is. then (right_entries r)
-          (λ all xs rest c e. right_pure (subst (λ (z : List Spot). Body (Some all) (sign n mark.OpenBrace ∷ z)) (sym (append-nil xs)) (block_spelled n all xs c)))
-          (λ xs v. viable_as (Closed (Entries false) mark.CloseBrace) (λ b zs. Body b (sign n mark.OpenBrace ∷ zs)) xs v (λ all zs c. (Some all, block_spelled n all zs c)))
-          (λ deep. let one : length i ≡ suc (length r) = ap length is in omega arith))
-        (λ j. (symbol.Sign mark.Semicolon ∷ [], None, spelled.prototype j)))
+      (λ n r is. then (right_entries r)
+      (λ all xs rest c e. right_pure (subst (λ (z : List Spot). Body (Some all) (sign n mark.OpenBrace ∷ z)) (sym (append-nil xs)) (block_spelled n all xs c)))
+      (λ xs v. viable_as (Closed (Entries false) mark.CloseBrace) (λ b zs. Body b (sign n mark.OpenBrace ∷ zs)) xs v (λ all zs c. (Some all, block_spelled n all zs c)))
+      (λ deep. let one : length i ≡ suc (length r) = ap length is in omega arith))
+      (λ j. (symbol.Sign mark.Semicolon ∷ [], None, spelled.prototype j)))
 
   right_function : (n k a : ℕ) (t : TypeName) (f : List ℕ) (ts i r : List Spot) → TypeTokens n t ts → i ≡ sign a mark.Open ∷ r
-    → Right (λ y ys rest. Item y (ts ++ at k (symbol.Name f) ∷ ys)) (λ ys. Viable Item (ts ++ at k (symbol.Name f) ∷ ys)) (d ≤ suc (length i)) i (function d entries t (record { token = k; name = f }) i)
+      → Right (λ y ys rest. Item y (ts ++ at k (symbol.Name f) ∷ ys)) (λ ys. Viable Item (ts ++ at k (symbol.Name f) ∷ ys)) (d ≤ suc (length i)) i (function d entries t (record { token = k; name = f }) i)
   unfolding function
   right_function n k a t f ts i r typ is =
-    after_take (λ a. parameters d >>= λ all. body d entries >>= λ b. pure (unit.function k t f all b)) a (symbol.Sign mark.Open) r is
+      after_take (λ a. parameters d >>= λ all. body d entries >>= λ b. pure (unit.function k t f all b)) a (symbol.Sign mark.Open) r is
       (then (right_parameters d r)
-        (λ all xs rest c e. then (right_body rest)
-          (λ b bs rest' h e'. right_pure (subst (λ (z : List Spot). Item (unit.function k t f all b) (ts ++ at k (symbol.Name f) ∷ sign a mark.Open ∷ (xs ++ z))) (sym (append-nil bs)) (function_spelled n k a t f typ c h)))
-          (λ bs v. viable_under Item ts (at k (symbol.Name f) ∷ sign a mark.Open ∷ (xs ++ bs))
-            (viable_under (λ x ws. Item x (ts ++ at k (symbol.Name f) ∷ sign a mark.Open ∷ ws)) xs bs
-              (viable_as Body (λ x ws. Item x (ts ++ at k (symbol.Name f) ∷ sign a mark.Open ∷ (xs ++ ws))) bs v (λ b ws h. (unit.function k t f all b, function_spelled n k a t f typ c h)))))
-          (λ deep. let one : length i ≡ suc (length r) = ap length is in omega (arith, rest_length r xs rest e)))
-        (λ xs v. viable_under Item ts (at k (symbol.Name f) ∷ sign a mark.Open ∷ xs)
-          (viable_then (Closed Parameters mark.Close) (λ x ws. Item x (ts ++ at k (symbol.Name f) ∷ sign a mark.Open ∷ ws)) xs (symbol.Sign mark.Semicolon ∷ []) v
-            (λ all ws m c. (unit.function k t f all None, function_spelled n k a t f typ c (spelled.prototype m)))))
-        (λ deep. let one : length i ≡ suc (length r) = ap length is in omega arith))
+      (λ all xs rest c e. then (right_body rest)
+      (λ b bs rest' h e'. right_pure (subst (λ (z : List Spot). Item (unit.function k t f all b) (ts ++ at k (symbol.Name f) ∷ sign a mark.Open ∷ (xs ++ z))) (sym (append-nil bs)) (function_spelled n k a t f typ c h)))
+      (λ bs v. viable_under Item ts (at k (symbol.Name f) ∷ sign a mark.Open ∷ (xs ++ bs))
+      (viable_under (λ x ws. Item x (ts ++ at k (symbol.Name f) ∷ sign a mark.Open ∷ ws)) xs bs
+      (viable_as Body (λ x ws. Item x (ts ++ at k (symbol.Name f) ∷ sign a mark.Open ∷ (xs ++ ws))) bs v (λ b ws h. (unit.function k t f all b, function_spelled n k a t f typ c h)))))
+      (λ deep. let one : length i ≡ suc (length r) = ap length is in omega (arith, rest_length r xs rest e)))
+      (λ xs v. viable_under Item ts (at k (symbol.Name f) ∷ sign a mark.Open ∷ xs)
+      (viable_then (Closed Parameters mark.Close) (λ x ws. Item x (ts ++ at k (symbol.Name f) ∷ sign a mark.Open ∷ ws)) xs (symbol.Sign mark.Semicolon ∷ []) v
+      (λ all ws m c. (unit.function k t f all None, function_spelled n k a t f typ c (spelled.prototype m)))))
+      (λ deep. let one : length i ≡ suc (length r) = ap length is in omega arith))
 
   right_after_type : (n : ℕ) (t : TypeName) (ts i : List Spot) → TypeTokens n t ts
-    → Right (λ y ys rest. Item y (ts ++ ys)) (λ ys. Viable Item (ts ++ ys)) (d ≤ suc (length i)) i (after_type d entries n t i)
+      → Right (λ y ys rest. Item y (ts ++ ys)) (λ ys. Viable Item (ts ++ ys)) (d ≤ suc (length i)) i (after_type d entries n t i)
   unfolding after_type
   right_after_type n t ts i typ =
-    then_identifier (λ x. choice (is_sign mark.Open) (function d entries t x) (global d n t x)) i
+      then_identifier (λ x. choice (is_sign mark.Open) (function d entries t x) (global d n t x)) i
       (λ k f r is. right_as
-        (right_choice mark.Open r (function d entries t (record { token = k; name = f })) (global d n t (record { token = k; name = f }))
-          (λ a z is'. right_function n k a t f ts r z typ is')
-          (λ other. right_global d n k t f ts r typ))
-        (λ y ys rest q. q) (λ ys v. v) (λ deep. let one : length i ≡ suc (length r) = ap length is in omega arith))
+      (right_choice mark.Open r (function d entries t (record { token = k; name = f })) (global d n t (record { token = k; name = f }))
+      (λ a z is'. right_function n k a t f ts r z typ is')
+      (λ other. right_global d n k t f ts r typ))
+      (λ y ys rest q. q) (λ ys v. v) (λ deep. let one : length i ≡ suc (length r) = ap length is in omega arith))
       (viable_under Item ts [] (λ j. (symbol.Name [] ∷ symbol.Sign mark.Semicolon ∷ [], unit.global n t (record { token = j; name = []; value = None } ∷ []), spelled.global n (j + 1) typ (grammar.one (grammar.bare j [])))))
 
   right_after_struct : (a : ℕ) (i r : List Spot) → i ≡ sign a mark.Struct ∷ r → Right (λ y ys rest. Item y ys) (Viable Item) (d ≤ suc (length i)) i (after_struct d entries i)
   unfolding after_struct
   right_after_struct a i r is =
-    after_take (λ a. identifier >>= λ x. choice (is_sign mark.OpenBrace) (structure d x) (after_type d entries a (type.Struct x.name))) a (symbol.Sign mark.Struct) r is
+      after_take (λ a. identifier >>= λ x. choice (is_sign mark.OpenBrace) (structure d x) (after_type d entries a (type.Struct x.name))) a (symbol.Sign mark.Struct) r is
       (then_identifier (λ x. choice (is_sign mark.OpenBrace) (structure d x) (after_type d entries a (type.Struct x.name))) r
-        (λ n f z is'. right_as
-          (right_choice mark.OpenBrace z (structure d (record { token = n; name = f })) (after_type d entries a (type.Struct f))
-            (λ b w is''. right_structure d a n b f z w is'')
-            (λ other. right_after_type a (type.Struct f) (sign a mark.Struct ∷ at n (symbol.Name f) ∷ []) z (grammar.structure a n f)))
-          (λ y ys rest q. q) (λ ys v. v)
-          (λ deep. let one : length i ≡ suc (length r) = ap length is in let two : length r ≡ suc (length z) = ap length is' in omega arith))
-        (λ j. (symbol.Name [] ∷ symbol.Name [] ∷ symbol.Sign mark.Semicolon ∷ [], unit.global a (type.Struct []) (record { token = j + 1; name = []; value = None } ∷ []),
-          spelled.global a (j + 1 + 1) (grammar.structure a j []) (grammar.one (grammar.bare (j + 1) [])))))
+      (λ n f z is'. right_as
+      (right_choice mark.OpenBrace z (structure d (record { token = n; name = f })) (after_type d entries a (type.Struct f))
+      (λ b w is''. right_structure d a n b f z w is'')
+      (λ other. right_after_type a (type.Struct f) (sign a mark.Struct ∷ at n (symbol.Name f) ∷ []) z (grammar.structure a n f)))
+      (λ y ys rest q. q) (λ ys v. v)
+      (λ deep. let one : length i ≡ suc (length r) = ap length is in let two : length r ≡ suc (length z) = ap length is' in omega arith))
+      (λ j. (
+        symbol.Name [] ∷ symbol.Name [] ∷ symbol.Sign mark.Semicolon ∷ [],
+        unit.global a (type.Struct []) (record { token = j + 1; name = []; value = None } ∷ []),
+        spelled.global a (j + 1 + 1) (grammar.structure a j []) (grammar.one (grammar.bare (j + 1) [])),
+      )))
 
   pub right_item : (i : List Spot) → Right (λ y ys rest. Item y ys) (Viable Item) (d ≤ suc (length i)) i (item d entries i)
   unfolding item
   right_item i =
-    right_choice mark.Struct i (after_struct d entries) (choice (is_sign mark.Const) constant_line (typed >>= λ p. after_type d entries p.0 p.1))
+      right_choice mark.Struct i (after_struct d entries) (choice (is_sign mark.Const) constant_line (typed >>= λ p. after_type d entries p.0 p.1))
       (λ a r is. right_after_struct a i r is)
       (λ other. right_choice mark.Const i constant_line (typed >>= λ p. after_type d entries p.0 p.1)
-        (λ a r is. right_constant_line a i r (d ≤ suc (length i)) is)
-        (λ other'. then_type Item (λ p. after_type d entries p.0 p.1) i
-          (λ n t ts rest typ e. right_as (right_after_type n t ts rest typ) (λ y ys end q. q) (λ ys v. v) (λ deep. omega (arith, rest_length i ts rest e)))
-          (λ n t ts typ j. (symbol.Name [] ∷ symbol.Sign mark.Semicolon ∷ [], unit.global n t (record { token = j; name = []; value = None } ∷ []), spelled.global n (j + 1) typ (grammar.one (grammar.bare j []))))))
+      (λ a r is. right_constant_line a i r (d ≤ suc (length i)) is)
+      (λ other'. then_type Item (λ p. after_type d entries p.0 p.1) i
+      (λ n t ts rest typ e. right_as (right_after_type n t ts rest typ) (λ y ys end q. q) (λ ys v. v) (λ deep. omega (arith, rest_length i ts rest e)))
+      (λ n t ts typ j. (symbol.Name [] ∷ symbol.Sign mark.Semicolon ∷ [], unit.global n t (record { token = j; name = []; value = None } ∷ []), spelled.global n (j + 1) typ (grammar.one (grammar.bare j []))))))
 
   some_tokens : {x : PlainItem} {xs : List Spot} → Item x xs → 0 < length xs
   some_tokens (spelled.structure a n b c e f h) = omega arith
@@ -319,16 +335,16 @@ module _ (d : ℕ) (entries : Parser PlainStmts)
   one_item {x = x} {ys = ys} h = subst (λ (z : List Spot). Items (x ∷ []) z) (append-nil ys) (spelled.more h spelled.none)
 
   right_items_from : (t : ℕ) (before : PlainTree) (i : List Spot)
-    → Right (λ all xs rest. (more : PlainTree) × (all ≡ before ++ more) × (rest ≡ []) × Items more xs) (Viable Items) ((t ≤ length i) ⊎ (d ≤ suc (length i))) i (items_from d entries t before i)
+      → Right (λ all xs rest. (more : PlainTree) × (all ≡ before ++ more) × (rest ≡ []) × Items more xs) (Viable Items) ((t ≤ length i) ⊎ (d ≤ suc (length i))) i (items_from d entries t before i)
   unfolding first
   right_items_from zero before i = right_deep (inl (omega arith))
   right_items_from (suc t) before [] = right_pure ([], sym (append-nil before), refl, spelled.none)
   right_items_from (suc t) before (s ∷ r) =
-    then (right_item (s ∷ r))
+      then (right_item (s ∷ r))
       (λ x xs rest h e. right_as (right_items_from t (before ++ x ∷ []) rest)
-        (λ all ys end q. let (more, same, ended, hs) = q in (x ∷ more, same ∙ append_assoc before (x ∷ []) more, ended, spelled.more h hs))
-        (λ ys v. viable_under Items xs ys (viable_as Items (λ all zs. Items all (xs ++ zs)) ys v (λ all zs hs. (x ∷ all, spelled.more h hs))))
-        (λ deep. let some = some_tokens h in let lengths = rest_length (s ∷ r) xs rest e in elim deep [ inl a ↦ inl (omega arith) | inr b ↦ inr (omega arith) ]))
+      (λ all ys end q. let (more, same, ended, hs) = q in (x ∷ more, same ∙ append_assoc before (x ∷ []) more, ended, spelled.more h hs))
+      (λ ys v. viable_under Items xs ys (viable_as Items (λ all zs. Items all (xs ++ zs)) ys v (λ all zs hs. (x ∷ all, spelled.more h hs))))
+      (λ deep. let some = some_tokens h in let lengths = rest_length (s ∷ r) xs rest e in elim deep [ inl a ↦ inl (omega arith) | inr b ↦ inr (omega arith) ]))
       (λ xs v. viable_as Item Items xs v (λ x ys h. (x ∷ [], one_item h)))
       (λ deep. inr deep)
 
@@ -336,7 +352,7 @@ module _ (d : ℕ) (entries : Parser PlainStmts)
   pub right_items : (i : List Spot) → Right (λ all xs rest. Items all xs × (rest ≡ [])) (Viable Items) (d ≤ suc (length i)) i (items d entries i)
   unfolding items
   right_items i =
-    right_as (right_items_from d [] i)
+      right_as (right_items_from d [] i)
       (λ all xs rest q. let (more, same, ended, hs) = q in (subst (λ (w : PlainTree). Items w xs) (sym same) hs, ended))
       (λ xs v. v)
       (λ deep. elim deep [ inl a ↦ omega arith | inr b ↦ b ])

@@ -24,7 +24,6 @@ and_then (Stuck left) f = Stuck left
 and_then Deep f = Deep
 
 infixr 20 ◌>>=◌
-
 abbrev pub ◌>>=◌ : {A B : Type 0} → Parser A → (A → Parser B) → Parser B
 ◌>>=◌ p f = λ i. and_then (p i) f
 

@@ -58,7 +58,7 @@ pub data Item : PlainItem → List Spot → Type 0 where
       → Item (unit.structure n f all) (sign a mark.Struct ∷ at n (symbol.Name f) ∷ sign b mark.OpenBrace ∷ (xs ++ sign c mark.CloseBrace ∷ sign d mark.Semicolon ∷ []))
   constant : {t : TypeName} {c : Constant} {ts cs : List Spot} (a n k b d : ℕ) (f : List ℕ) → TypeTokens n t ts → ConstantTokens c cs
       → Item (unit.constant n t (record { token = k; name = f }) c)
-          (sign a mark.Const ∷ (ts ++ at k (symbol.Name f) ∷ sign b mark.Assign ∷ (cs ++ sign d mark.Semicolon ∷ [])))
+      (sign a mark.Const ∷ (ts ++ at k (symbol.Name f) ∷ sign b mark.Assign ∷ (cs ++ sign d mark.Semicolon ∷ [])))
   global : {t : TypeName} {all : List PlainDeclared} {ts xs : List Spot} (n k : ℕ) → TypeTokens n t ts → DeclaredNames all xs
       → Item (unit.global n t all) (ts ++ (xs ++ sign k mark.Semicolon ∷ []))
   function : {t : TypeName} {all : List Parameter} {body : Option PlainStmts} {ts xs bs : List Spot} (n k a b : ℕ) (f : List ℕ)

@@ -67,11 +67,7 @@ fn push_expr(all: &mut Items<Expr>, next: Expr) -> Result<(), NoMemory>
 
 /// The arguments of a call up to `)`, of which there is one at least.
 #[cycle(level)]
-fn some_arguments(
-    alloc: Global,
-    tokens: &mut Cursor<'_>,
-    depth: usize,
-) -> Result<Items<Expr>, Stop>
+fn some_arguments(alloc: Global, tokens: &mut Cursor<'_>, depth: usize) -> Result<Items<Expr>, Stop>
     ensures { Reads plain_exprs (read.arguments_from depth (read.level depth) depth tree.no_expr tokens.old) result tokens.new }
 {
     let mut all = no_exprs(alloc);
@@ -229,12 +225,7 @@ fn climb(
 /// An assignment to what was read, or the operators after it.
 #[cycle(level)]
 #[tactic(auto, unfolding(crate::specs::ReadExpression::assigned))]
-fn assigned(
-    alloc: Global,
-    tokens: &mut Cursor<'_>,
-    depth: usize,
-    left: Expr,
-) -> Result<Expr, Stop>
+fn assigned(alloc: Global, tokens: &mut Cursor<'_>, depth: usize, left: Expr) -> Result<Expr, Stop>
     ensures { Reads plain_expr (read.assigned depth (read.level depth) (plain_expr left) tokens.old) result tokens.new }
 {
     match assign_of(tokens.peek()) {
@@ -269,12 +260,7 @@ fn after_first(
 /// An expression of a level: 0 may be an assignment, then come the levels of operators, and the last is unary.
 #[cycle(level)]
 #[tactic(auto, unfolding(crate::specs::ReadExpression::level))]
-pub fn level(
-    alloc: Global,
-    tokens: &mut Cursor<'_>,
-    depth: usize,
-    least: u32,
-) -> Result<Expr, Stop>
+pub fn level(alloc: Global, tokens: &mut Cursor<'_>, depth: usize, least: u32) -> Result<Expr, Stop>
     ensures { Reads plain_expr (read.level depth least tokens.old) result tokens.new }
 {
     if depth == 0 {

@@ -5,5 +5,4 @@ ghost use Rattle.nss_parser.specs.Sentence.{OneTree};
 /// A list of tokens has at most one tree.
 pub fn one_tree()
     ensures { OneTree }
-{
-}
+{}

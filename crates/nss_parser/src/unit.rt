@@ -49,11 +49,7 @@ fn field(alloc: Global, tokens: &mut Cursor<'_>, depth: usize) -> Result<FieldLi
 }
 
 /// The lines of a struct through its `}`, of which there is one at least.
-fn fields(
-    alloc: Global,
-    tokens: &mut Cursor<'_>,
-    depth: usize,
-) -> Result<Items<FieldLine>, Stop>
+fn fields(alloc: Global, tokens: &mut Cursor<'_>, depth: usize) -> Result<Items<FieldLine>, Stop>
     ensures { Reads (λ lines. lines) (read.fields_from depth depth [] tokens.old) result tokens.new }
 {
     let mut lines = Items::new(alloc);
@@ -197,11 +193,7 @@ fn global(
 
 /// The body of a function, or the `;` of a prototype.
 #[tactic(auto, unfolding(crate::specs::ReadUnit::body))]
-fn body(
-    alloc: Global,
-    tokens: &mut Cursor<'_>,
-    depth: usize,
-) -> Result<Option<Items<Stmt>>, Stop>
+fn body(alloc: Global, tokens: &mut Cursor<'_>, depth: usize) -> Result<Option<Items<Stmt>>, Stop>
     ensures { Reads (option_map plain_stmts) (read.body depth (statements.entries depth (statements.statement depth) false) tokens.old) result tokens.new }
 {
     if tokens.sees(Mark::Semicolon) {
