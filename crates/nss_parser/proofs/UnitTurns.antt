@@ -1,5 +1,5 @@
 -- A turn of each loop over a list, by what its calls gave.
-use Rattle.std.proofs.Common.{◌≡◌, ◌∙◌, ℕ, suc, Bool, true, false, List, [], ◌∷◌, ◌++◌, Option, None, Some, refl, ap}
+use Rattle.std.proofs.Common.{◌≡◌, ◌∙◌, ℕ, suc, Bool, true, false, List, [], ◌∷◌, ◌++◌, Option, None, Some, refl, sym, ap}
 use Rattle.nss_tree.specs.declared.units.Identifier.{Identifier}
 use Rattle.nss_tree.specs.declared.units.FieldLine.{FieldLine}
 use Rattle.nss_tree.specs.declared.units.Parameter.{Parameter}
@@ -9,7 +9,7 @@ use Rattle.nss_parser.specs.declared.mark.Mark.TheVariants as mark
 use Rattle.nss_parser.specs.Symbols.{Symbol, Spot}
 use Rattle.nss_parser.specs.Outcome.{Outcome, Got, Parser, and_then, branch, sees, first, take, expect}
 use Rattle.nss_parser.specs.ReadDeclaration.{identifier}
-use Rattle.nss_parser.specs.ReadUnit.{more_fields, field, fields_from, parameter, parameters_from, is_end, item, items_by, items_from}
+use Rattle.nss_parser.specs.ReadUnit.{more_fields, field, fields_from, parameter, parameters_from, is_end, item, items_by, items_from, after_struct, constant_line, typed_item}
 
 pub field_more : (t n : ℕ) (all : List Identifier) (x : Identifier) (i j r : List Spot) → sees mark.Comma i ≡ true → take i ≡ Got n j → identifier j ≡ Got x r
     → more_fields (suc t) all i ≡ more_fields t (all ++ x ∷ []) r
@@ -57,3 +57,10 @@ end_by d t entries all (Some s) i e = cc
 
 pub items_end : (d t : ℕ) (entries : Parser PlainStmts) (all : PlainTree) (i : List Spot) → is_end (first i) ≡ true → items_from d entries (suc t) all i ≡ Got all i
 items_end d t entries all i e = end_by d t entries all (first i) i e
+
+-- neither a struct nor a const line
+pub item_typed : (d : ℕ) (entries : Parser PlainStmts) (i : List Spot) → sees mark.Struct i ≡ false → sees mark.Const i ≡ false → typed_item d entries i ≡ item d entries i
+unfolding item
+item_typed d entries i struct const =
+    sym (ap (λ (b : Bool). branch b (after_struct d entries) (λ k. branch (sees mark.Const k) constant_line (typed_item d entries) k) i) struct
+    ∙ ap (λ (b : Bool). branch b constant_line (typed_item d entries) i) const)
