@@ -87,3 +87,8 @@ pub data IsUnit (contents : Contents) (script : List ℕ) : List Lexeme → List
       → contents (file_name script) ≡ Some bytes → length bytes ≤ 16777216
       → Unfolds contents 0 0 (source (file_name script) bytes ∷ []) 0 tokens files total ending
       → IsUnit contents script tokens files ending
+
+-- a script has one unit, or one first fault
+abbrev pub OneUnit : Type 0
+OneUnit = (contents : Contents) (script : List ℕ) (ts us : List Lexeme) (fs gs : List Source) (x y : Option GatherFault)
+    → IsUnit contents script ts fs x → IsUnit contents script us gs y → (ts ≡ us) × (fs ≡ gs) × (x ≡ y)
