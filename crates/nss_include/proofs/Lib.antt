@@ -1,3 +1,4 @@
 mod StepLemmas
 mod UnitLemmas
 mod ProgressLemmas
+mod OneUnit

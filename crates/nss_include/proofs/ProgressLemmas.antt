@@ -1,4 +1,4 @@
-use Rattle.std.proofs.Common.{◌≡◌, ℕ, ◌+◌, ◌-◌, ◌<◌, ◌≤◌, Bool, true, false, nat_lt, nat_le, List, [], ◌∷◌, ◌++◌, length, Option, Some, None, IsSomeAnd, IsTrue, take, refl, sym, ap, subst, ◌∙◌, arith, append_assoc, append-nil, length-append, lit<, zero, suc, get_or, map, ◌&&◌, codes}
+use Rattle.std.proofs.Common.{◌≡◌, ℕ, ◌+◌, ◌<◌, ◌≤◌, Bool, true, false, nat_lt, nat_le, List, [], ◌∷◌, ◌++◌, length, Option, Some, None, IsSomeAnd, IsTrue, take, refl, sym, ap, subst, ◌∙◌, arith, append_assoc, append-nil, length-append, lit<, zero, suc, get_or, map, ◌&&◌, codes}
 use Rattle.std.proofs.lemmas.Bool.Decides.{nat_tests}
 use Rattle.std.proofs.lemmas.Option.{same_Some, none-some}
 use Rattle.std.proofs.lemmas.List.{take_all, length-map}
@@ -23,7 +23,7 @@ use Rattle.nss_include.specs.Steps.{IsStep, IsWithin, lexeme_in}
 use Rattle.nss_include.specs.Units.{Contents, Unfolds, step_fault, reading_fault, is_among, source, ends, fails, gives, again, breaks_off, includes, IsUnit, unread, is_read}
 use Rattle.nss_include.specs.View.{lexeme_of, bytes_of}
 use Rattle.nss_include.proofs.UnitLemmas.{bytes_stay, all_map}
-use Rattle.nss_include.specs.Gather.{HoldsFiles, Claims, Gathers}
+use Rattle.nss_include.specs.Gather.{HoldsFiles, Claims}
 use Rattle.nss_include.specs.Progress.{Rest, closed, stops, goes, Ends, Leads, Stops, HasStep, Explains, ExplainsRead, IsReadFault, Includes, IsOpen, IsReady, Begins, ComesTo, reopened}
 
 -- an open file at a place

@@ -1,8 +1,6 @@
-use Rattle.std.proofs.Common.{◌≡◌, ℕ, ◌+◌, ◌-◌, ◌<◌, ◌≤◌, ◌≢◌, Bool, true, false, ◌&&◌, cond, List, [], ◌∷◌, length, take, drop, Option, Some, None, nat_lt, nat_le, refl, sym, ap, ◌∙◌, arith, ◌⊎◌, inl, inr, subst}
+use Rattle.std.proofs.Common.{◌≡◌, ℕ, ◌-◌, ◌<◌, ◌≤◌, Bool, true, false, cond, List, length, take, drop, Some, None, nat_le, refl, sym, ap, ◌∙◌, arith, ◌⊎◌, inl, inr, subst}
 use Rattle.std.proofs.lemmas.List.{take_all, length-take}
 use Rattle.std.proofs.lemmas.Bool.Decides.{nat_tests}
-use Rattle.std.specs.List.{list_all}
-use Rattle.nss_lexer.specs.Bytes.{is_name_byte}
 use Rattle.nss_lexer.specs.Strings.{string_value}
 use Rattle.nss_include.specs.declared.step.Step.{Step}
 use Rattle.nss_include.specs.declared.step.Step.TheVariants.{Gives, Mentions, Misses}

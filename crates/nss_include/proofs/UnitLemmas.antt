@@ -1,9 +1,9 @@
-use Rattle.std.proofs.Common.{◌≡◌, ℕ, ◌+◌, ◌-◌, ◌<◌, ◌≤◌, suc, zero, List, [], ◌∷◌, ◌++◌, length, get_or, take, drop, map, Option, Some, None, refl, sym, ap, subst, ◌∙◌, arith, length-append}
+use Rattle.std.proofs.Common.{◌≡◌, ℕ, ◌+◌, ◌<◌, ◌≤◌, suc, zero, List, [], ◌∷◌, ◌++◌, length, get_or, take, map, refl, sym, ap, subst, ◌∙◌, arith, length-append}
 use Rattle.std.proofs.lemmas.List.{take_more, map-append}
 use Rattle.std.specs.List.{AllByRecursion, slice_get}
 use Rattle.nss_lexer.specs.declared.token.Token.{Token}
-use Rattle.nss_lexer.specs.Lexemes.{IsToken, IsLexeme}
-use Rattle.nss_lexer.specs.Splitting.{Lexeme, plain}
+use Rattle.nss_lexer.specs.Lexemes.{IsLexeme}
+use Rattle.nss_lexer.specs.Splitting.{plain}
 use Rattle.nss_include.specs.declared.file.Source.{Source}
 use Rattle.nss_include.specs.declared.step.Span.{Span}
 use Rattle.nss_include.specs.Steps.{lexeme_in}

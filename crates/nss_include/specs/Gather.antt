@@ -1,5 +1,5 @@
 -- What is answered of a unit, of whichever files.
-use Rattle.std.specs.Prelude.{◌≡◌, ℕ, List, Option, Some, None, Result, Ok, Err}
+use Rattle.std.specs.Prelude.{◌≡◌, ℕ, List, Some, None, Result, Ok, Err}
 use Rattle.std.specs.List.{AllByRecursion}
 use Rattle.nwq_outside.specs.Outside.{Rose}
 use Rattle.nss_lexer.specs.Splitting.{Lexeme}

@@ -10,7 +10,6 @@ use Rattle.nss_include.specs.declared.reading.Reading.{Reading}
 use Rattle.nss_include.specs.declared.step.Step.{Step}
 use Rattle.nss_include.specs.Names.{file_name}
 use Rattle.nss_include.specs.Steps.{IsStep, IsWithin}
-use Rattle.nss_include.specs.Gather.{HoldsFiles}
 use Rattle.nss_include.specs.Units.{Contents, Unfolds, source}
 use Rattle.nss_include.specs.View.{Gathered, bytes_of}
 

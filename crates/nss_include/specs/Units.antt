@@ -1,6 +1,6 @@
 -- The unit of a script: the tokens of its file, with each include replaced by the tokens of the file that it names,
 -- at the first mention, and by nothing later.
-use Rattle.std.specs.Prelude.{◌≡◌, ℕ, ◌+◌, ◌<◌, ◌≤◌, Bool, true, false, nat_lt, nat_le, if◌then◌else◌, List, [], ◌∷◌, ◌++◌, length, take, bytes_eq, slice_get, Option, Some, None}
+use Rattle.std.specs.Prelude.{◌≡◌, ℕ, ◌+◌, ◌≤◌, Bool, true, false, nat_lt, nat_le, if◌then◌else◌, List, [], ◌∷◌, ◌++◌, length, take, bytes_eq, slice_get, Option, Some, None}
 use Rattle.std.specs.List.{list_any}
 use Rattle.nss_lexer.specs.Splitting.{Lexeme}
 use Rattle.nss_include.specs.declared.fault.GatherFault.{GatherFault}
@@ -87,3 +87,8 @@ pub data IsUnit (contents : Contents) (script : List ℕ) : List Lexeme → List
       → contents (file_name script) ≡ Some bytes → length bytes ≤ 16777216
       → Unfolds contents 0 0 (source (file_name script) bytes ∷ []) 0 tokens files total ending
       → IsUnit contents script tokens files ending
+
+-- a script has one unit, or one first fault
+abbrev pub OneUnit : Type 0
+OneUnit = (contents : Contents) (script : List ℕ) (ts us : List Lexeme) (fs gs : List Source) (x y : Option GatherFault)
+    → IsUnit contents script ts fs x → IsUnit contents script us gs y → (ts ≡ us) × (fs ≡ gs) × (x ≡ y)

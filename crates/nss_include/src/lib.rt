@@ -7,6 +7,7 @@
 
 pub mod fault;
 mod file;
+pub mod laws;
 mod opened;
 mod reading;
 mod step;

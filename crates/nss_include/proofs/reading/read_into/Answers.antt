@@ -1,5 +1,4 @@
 use Rattle.std.proofs.Common.{ℕ, List, ◌≡◌, ◌++◌, ◌∷◌, [], ap, ◌∙◌}
-use Rattle.std.specs.FinMap as map
 use Rattle.nss_include.specs.Units.{source}
 use Rattle.nss_include.specs.View.{Gathered}
 use Rattle.nss_include.proofs.reading.read_into.Goals as goal

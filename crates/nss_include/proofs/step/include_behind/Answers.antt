@@ -1,6 +1,6 @@
-use Rattle.std.proofs.Common.{◌≡◌, sym, ◌∙◌, refl}
+use Rattle.std.proofs.Common.{sym, ◌∙◌, refl}
 use Rattle.nss_lexer.specs.Splitting.{Found, AtEnd, BadAt, plain}
-use Rattle.nss_include.specs.Steps.{Behind, no_hash, no_include, include}
+use Rattle.nss_include.specs.Steps.{no_hash, no_include, include}
 use Rattle.nss_include.proofs.step.include_behind.Goals as goal
 
 pub returns-then-not-reads-clause-behind : goal.returns-then-not-reads-clause-behind

@@ -1,4 +1,4 @@
-use Rattle.std.proofs.Common.{◌≡◌, take, ap, sym, ◌∙◌}
+use Rattle.std.proofs.Common.{ap, sym, ◌∙◌}
 use Rattle.nss_include.proofs.StepLemmas.{names, names_not}
 use Rattle.nss_include.specs.Names.{is_include_name}
 use Rattle.nss_include.proofs.step.named.Goals as goal

@@ -1,5 +1,4 @@
-use Rattle.std.proofs.Common.{refl}
-use Rattle.nss_lexer.specs.Splitting.{Found, AtEnd, BadAt, plain}
+use Rattle.nss_lexer.specs.Splitting.{plain}
 use Rattle.nss_include.proofs.StepLemmas.{token_step, begins_step}
 use Rattle.nss_include.specs.Steps.{ends, breaks}
 use Rattle.nss_include.proofs.step.next_step.Goals as goal

@@ -1,4 +1,4 @@
-use Rattle.std.proofs.Common.{◌≡◌, ◌+◌, ◌<◌, arith, refl}
+use Rattle.std.proofs.Common.{◌<◌, arith, refl}
 use Rattle.nss_include.proofs.ProgressLemmas.{stops-gives, leads-gives}
 use Rattle.nss_include.proofs.reading.Reading.give.Goals as goal
 

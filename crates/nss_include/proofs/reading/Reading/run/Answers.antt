@@ -1,10 +1,10 @@
-use Rattle.std.proofs.Common.{ℕ, ◌≡◌, List, ◌∷◌, ap, subst, arith, ◌∙◌}
+use Rattle.std.proofs.Common.{◌≡◌, List, ◌∷◌, ap, subst, arith, ◌∙◌}
 use Rattle.std.specs.FinMap as map
 use Rattle.nss_include.specs.declared.opened.Open.{Open}
 use Rattle.nss_include.specs.declared.reading.Reading.{Reading}
 use Rattle.nss_include.specs.Gather.{HoldsFiles}
 use Rattle.nss_include.specs.Units.{Contents}
-use Rattle.nss_include.specs.Progress.{Explains, reopened}
+use Rattle.nss_include.specs.Progress.{Explains}
 use Rattle.nss_include.proofs.ProgressLemmas.{run-more, run-stops, run-whole}
 use Rattle.nss_include.proofs.reading.Reading.run.Goals as goal
 

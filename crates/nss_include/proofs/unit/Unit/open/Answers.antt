@@ -1,4 +1,4 @@
-use Rattle.std.proofs.Common.{◌≡◌, ◌∷◌, [], ◌++◌, List, ap}
+use Rattle.std.proofs.Common.{◌∷◌, [], ◌++◌, List, ap}
 use Rattle.nss_lexer.specs.Splitting.{Lexeme}
 use Rattle.nss_include.specs.Units.{source}
 use Rattle.nss_include.specs.View.{Gathered}

@@ -1,0 +1,12 @@
+//! A law about the definitions, as the contract of a function that does nothing.
+
+ghost use Rattle.nss_include.specs.Units.{OneUnit};
+
+use nss_lexer::laws::one_first;
+
+/// A script has one unit, or one first fault.
+pub fn one_unit()
+    ensures { OneUnit }
+{
+    one_first();
+}
