@@ -5,12 +5,12 @@ use Rattle.nss_tree.specs.declared.constants.Constant.{Constant}
 use Rattle.nss_tree.specs.declared.units.Identifier.{Identifier}
 use Rattle.nss_tree.specs.Expressions.{PlainExpr}
 use Rattle.nss_tree.specs.Statements.{PlainDeclared}
-use Rattle.nss_parser.specs.declared.mark.Mark.{Mark}
-use Rattle.nss_parser.specs.declared.mark.Mark.TheVariants as mark
-use Rattle.nss_parser.specs.Symbols as symbol
-use Rattle.nss_parser.specs.Symbols.{Symbol, Spot, at, sign}
+use Rattle.nss_symbols.specs.declared.mark.Mark.{Mark}
+use Rattle.nss_symbols.specs.declared.mark.Mark.TheVariants as mark
+use Rattle.nss_symbols.specs.Symbols as symbol
+use Rattle.nss_symbols.specs.Symbols.{Symbol, Spot, at, sign}
 use Rattle.nss_parser.specs.Operators.{type_word}
-use Rattle.nss_parser.specs.Outcome.{Outcome, Got, Parser, and_then, same_mark, is_sign, sees, first, here, take, name}
+use Rattle.nss_symbols.specs.Outcome.{Outcome, Got, Parser, and_then, same_mark, is_sign, sees, first, here, take, name}
 use Rattle.nss_parser.specs.Grammar.{Expression, TypeTokens, ConstantTokens, Declared, DeclaredNames}
 use Rattle.nss_parser.specs.Grammar as grammar
 use Rattle.nss_parser.specs.ReadExpression.{level}

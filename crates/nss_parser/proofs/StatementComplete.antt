@@ -5,12 +5,12 @@ use Rattle.nss_tree.specs.declared.constants.Constant.{Constant}
 use Rattle.nss_tree.specs.Expressions.{PlainExpr}
 use Rattle.nss_tree.specs.Statements as stmt
 use Rattle.nss_tree.specs.Statements.{PlainStmt, PlainStmts, PlainDeclared, joined_stmts}
-use Rattle.nss_parser.specs.declared.mark.Mark.{Mark}
-use Rattle.nss_parser.specs.declared.mark.Mark.TheVariants as mark
-use Rattle.nss_parser.specs.Symbols as symbol
-use Rattle.nss_parser.specs.Symbols.{Symbol, Spot, at, sign}
+use Rattle.nss_symbols.specs.declared.mark.Mark.{Mark}
+use Rattle.nss_symbols.specs.declared.mark.Mark.TheVariants as mark
+use Rattle.nss_symbols.specs.Symbols as symbol
+use Rattle.nss_symbols.specs.Symbols.{Symbol, Spot, at, sign}
 use Rattle.nss_parser.specs.Operators.{type_word}
-use Rattle.nss_parser.specs.Outcome.{Outcome, Got, Stuck, Deep, Parser, and_then, branch, same_mark, is_sign, sees, first, take, here, expect}
+use Rattle.nss_symbols.specs.Outcome.{Outcome, Got, Stuck, Deep, Parser, and_then, branch, same_mark, is_sign, sees, first, take, here, expect}
 use Rattle.nss_parser.specs.ReadExpression.{level}
 use Rattle.nss_parser.specs.ReadDeclaration.{typed, constant_value, declared, more_declared, declared_names}
 use Rattle.nss_parser.specs.ReadStatement.{is_some_type, type_begins, condition, optional, declaration, case_label, default_label, expression_statement, break_statement, continue_statement, return_statement, labelled, entry, entries_from, entries, block, after_then, if_statement, while_statement, do_statement, for_statement, switch_statement, statement_by, some_statement, statement}

@@ -9,12 +9,12 @@ use Rattle.nss_tree.specs.declared.units.Parameter.{Parameter}
 use Rattle.nss_tree.specs.Statements.{PlainDeclared, PlainStmts}
 use Rattle.nss_tree.specs.Units as unit
 use Rattle.nss_tree.specs.Units.{PlainItem, PlainTree}
-use Rattle.nss_parser.specs.declared.mark.Mark.{Mark}
-use Rattle.nss_parser.specs.declared.mark.Mark.TheVariants as mark
-use Rattle.nss_parser.specs.Symbols as symbol
-use Rattle.nss_parser.specs.Symbols.{Symbol, Spot, at, sign}
+use Rattle.nss_symbols.specs.declared.mark.Mark.{Mark}
+use Rattle.nss_symbols.specs.declared.mark.Mark.TheVariants as mark
+use Rattle.nss_symbols.specs.Symbols as symbol
+use Rattle.nss_symbols.specs.Symbols.{Symbol, Spot, at, sign}
 use Rattle.nss_parser.specs.Operators.{type_word}
-use Rattle.nss_parser.specs.Outcome.{Outcome, Got, Stuck, Deep, Parser, and_then, ◌>>=◌, same_mark, is_sign, sees, first, take, expect, pure, branch}
+use Rattle.nss_symbols.specs.Outcome.{Outcome, Got, Stuck, Deep, Parser, and_then, ◌>>=◌, same_mark, is_sign, sees, first, take, expect, pure, branch}
 use Rattle.nss_parser.specs.Grammar.{TypeTokens, ConstantTokens, Declared, DeclaredNames, Entries}
 use Rattle.nss_parser.specs.Grammar as grammar
 use Rattle.nss_parser.specs.Unit.{FieldNames, Field, Fields, ParameterTokens, ParameterList, Parameters, Body, Item, Items}

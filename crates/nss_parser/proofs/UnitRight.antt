@@ -12,11 +12,11 @@ use Rattle.nss_tree.specs.Statements as stmt
 use Rattle.nss_tree.specs.Statements.{PlainDeclared, PlainStmts}
 use Rattle.nss_tree.specs.Units as unit
 use Rattle.nss_tree.specs.Units.{PlainItem, PlainTree}
-use Rattle.nss_parser.specs.declared.mark.Mark.{Mark}
-use Rattle.nss_parser.specs.declared.mark.Mark.TheVariants as mark
-use Rattle.nss_parser.specs.Symbols as symbol
-use Rattle.nss_parser.specs.Symbols.{Symbol, Spot, at, sign, spots}
-use Rattle.nss_parser.specs.Outcome.{Outcome, Got, Parser, and_then, ◌>>=◌, is_sign, sees, first, choice, expect, pure, take, name}
+use Rattle.nss_symbols.specs.declared.mark.Mark.{Mark}
+use Rattle.nss_symbols.specs.declared.mark.Mark.TheVariants as mark
+use Rattle.nss_symbols.specs.Symbols as symbol
+use Rattle.nss_symbols.specs.Symbols.{Symbol, Spot, at, sign, spots}
+use Rattle.nss_symbols.specs.Outcome.{Outcome, Got, Parser, and_then, ◌>>=◌, is_sign, sees, first, choice, expect, pure, take, name}
 use Rattle.nss_parser.specs.Grammar.{TypeTokens, ConstantTokens, Declared, DeclaredNames, Entries}
 use Rattle.nss_parser.specs.Grammar as grammar
 use Rattle.nss_parser.specs.Unit.{FieldNames, Field, Fields, ParameterTokens, ParameterList, Parameters, Body, Item, Items}

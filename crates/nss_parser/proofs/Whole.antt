@@ -4,9 +4,9 @@ use Rattle.std.proofs.lemmas.List.{append_cancel_right}
 use Rattle.nss_tree.specs.Statements as stmt
 use Rattle.nss_tree.specs.Statements.{PlainStmts}
 use Rattle.nss_tree.specs.Units.{PlainTree}
-use Rattle.nss_parser.specs.declared.mark.Mark.TheVariants as mark
-use Rattle.nss_parser.specs.Symbols.{Symbol, Spot, at, sign, spots}
-use Rattle.nss_parser.specs.Outcome.{Outcome, Got, Stuck, Deep, next}
+use Rattle.nss_symbols.specs.declared.mark.Mark.TheVariants as mark
+use Rattle.nss_symbols.specs.Symbols.{Symbol, Spot, at, sign, spots}
+use Rattle.nss_symbols.specs.Outcome.{Outcome, Got, Stuck, Deep, next}
 use Rattle.nss_parser.specs.Grammar.{Entries}
 use Rattle.nss_parser.specs.Unit.{Items}
 use Rattle.nss_parser.specs.ReadStatement.{entries, statement}

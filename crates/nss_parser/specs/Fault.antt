@@ -2,8 +2,8 @@
 use Rattle.std.specs.Prelude.{ℕ, List}
 use Rattle.nss_parser.specs.declared.fault.ParseFault.{ParseFault}
 use Rattle.nss_parser.specs.declared.fault.ParseFault.TheVariants.{Nested, Syntax, NoMemory}
-use Rattle.nss_parser.specs.Symbols.{Symbol}
-use Rattle.nss_parser.specs.Nest.{IsFirstOver, IsWithinNest}
+use Rattle.nss_symbols.specs.Symbols.{Symbol}
+use Rattle.nss_symbols.specs.Nest.{IsFirstOver, IsWithinNest}
 use Rattle.nss_parser.specs.Sentence.{IsPlace}
 
 -- The first token whose nest passes the limit stands before a fault of syntax, also where the latter comes earlier.

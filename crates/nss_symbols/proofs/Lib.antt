@@ -1,0 +1,5 @@
+pub mod CursorLemmas
+pub mod MarkLemmas
+pub mod NestLaws
+pub mod NameLemmas
+pub mod SeenLemmas
