@@ -1,5 +1,5 @@
 -- Why a list of tokens is refused.
-use Rattle.std.specs.Prelude.{◌≡◌, ◌≢◌, ℕ, List}
+use Rattle.std.specs.Prelude.{◌≡◌, ◌≢◌, List}
 use Rattle.nss_tree.specs.Units.{PlainTree}
 use Rattle.nss_parser.specs.declared.fault.ParseFault.{ParseFault}
 use Rattle.nss_parser.specs.declared.fault.ParseFault.TheVariants.{Nested, Syntax, NoMemory}
