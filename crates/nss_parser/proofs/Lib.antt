@@ -21,4 +21,5 @@ pub mod StatementLocal
 pub mod StatementComplete
 pub mod StatementRight
 pub mod Whole
+pub mod OneRefusal
 pub mod ReaderLemmas
