@@ -16,5 +16,5 @@ pub mod symbol;
 
 pub use cursor::{Cursor, Stop};
 pub use mark::Mark;
-pub use nest::{NEST, first_over};
+pub use nest::first_over;
 pub use symbol::{Seen, name_text, seen_all};

@@ -286,7 +286,7 @@ fn mark_at(symbols: &[Seen<'_>], at: usize) -> Option<Mark>
     }
 }
 
-/// The number of the first token whose nest passes [`NEST`], counted from 0.
+/// The number of the first token whose nest passes the limit of 256, counted from 0.
 pub fn first_over(alloc: Global, symbols: &[Seen<'_>]) -> Result<Option<u32>, NoMemory>
     requires { length symbols.now < 2 ^ 32 }
     ensures { IfOk result (IsNestAnswer (map plain_symbol symbols.now)) }
