@@ -10,12 +10,15 @@ mod encode;
 mod fault;
 mod flat;
 mod flatten;
+mod labels;
 mod put;
 mod sections;
+mod size;
 mod writing;
 
 pub use fault::WriteFault;
-pub use writing::{size, write};
+pub use size::size;
+pub use writing::write;
 
 #[cfg(test)]
 mod tests;
