@@ -53,11 +53,11 @@ pub fn label_table(alloc: Global, rows: &[Row]) -> Result<Labels, NoMemory>
 }
 
 /// The bytes of the labels, one after the other.
-pub fn label_bytes(alloc: Global, table: &Labels) -> Result<Items<u8>, NoMemory>
-    ensures { IfOk result (λ bytes. bytes ≡ joined table.now.keys) }
+pub fn label_bytes(alloc: Global, table: &[LabelRow]) -> Result<Items<u8>, NoMemory>
+    ensures { IfOk result (λ bytes. bytes ≡ joined table.now) }
 {
     let mut bytes = Items::new(alloc);
-    for label in table.as_slice() {
+    for label in table {
         bytes.extend(label.as_slice())?;
     }
     Ok(bytes)

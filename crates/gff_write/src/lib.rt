@@ -11,13 +11,13 @@ mod fault;
 mod flat;
 mod flatten;
 mod labels;
+mod measure;
 mod put;
 mod sections;
-mod size;
 mod writing;
 
 pub use fault::WriteFault;
-pub use size::size;
+pub use measure::size;
 pub use writing::write;
 
 #[cfg(test)]

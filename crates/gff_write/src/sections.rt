@@ -166,6 +166,6 @@ fn body(
 pub fn sections_of(alloc: Global, rows: &[Row], table: &Labels) -> Result<Sections, NoMemory>
     ensures { IfOk result (λ sections. sections ≡ parts_with table.now.keys (joined table.now.keys) rows.now) }
 {
-    let labels = label_bytes(alloc, table)?;
+    let labels = label_bytes(alloc, table.as_slice())?;
     body(alloc, rows, table, labels)
 }

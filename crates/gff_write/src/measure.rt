@@ -1,36 +1,46 @@
 //! How many bytes the file of a tree has, counted over the tree without memory.
 
 ghost use Rattle.std.specs.Prelude.{◌≡◌, ◌+◌, ◌-◌, ◌^◌, min, length, []};
+ghost use Rattle.std.specs.List.{flat_map};
 ghost use Rattle.gff_tree.specs.Tree.{plain_node, plain_leaf, fields_list};
 ghost use Rattle.gff_tree.specs.Whole.{plain_gff};
-ghost use Rattle.gff_write.specs.Flat.{localized_bytes, padded, rows_of};
+ghost use Rattle.gff_write.specs.Flat.{padded, part_bytes, rows_of};
 ghost use Rattle.gff_write.specs.File.{joined, row_labels, written};
 ghost use Rattle.gff_write.specs.Size.{capped, index_bytes, node_bytes, leaf_bytes, own_labels, node_labels, leaf_labels, comes_before, nearer, next_label};
 
 use crate::encode::filled;
 use crate::labels::LabelRow;
-use gff_tree::{Field, Gff, Label, Leaf, Loc, Node};
+use gff_tree::{Field, Gff, Label, Leaf, LocPart, Node};
 use std::cmp::Ordering;
 
+/// The bytes of the header: the file type and what follows it.
+fn header_size(file_type: &[u8; 4]) -> u64
+    ensures { result ≡ length file_type.now + 52 }
+{
+    file_type.as_slice().len() as u64 + 52
+}
+
 /// A sum, which stays at the greatest number.
+#[tactic(auto, unfolding(crate::specs::Size::capped))]
 fn plus(a: u64, b: u64) -> u64
     ensures { result ≡ capped (a + b) }
 {
     a.saturating_add(b)
 }
 
-/// The bytes of a localized string, with its total size.
-fn localized_size(loc: &Loc) -> u64
-    ensures { result ≡ capped (length (localized_bytes loc.now)) }
+/// The bytes of a localized string with these texts.
+fn parts_size(parts: &[LocPart]) -> u64
+    ensures { result ≡ capped (12 + length (flat_map part_bytes parts.now)) }
 {
     let mut total = 12;
-    for part in loc.parts.as_slice() {
+    for part in parts {
         total = plus(plus(total, 8), part.text.len() as u64);
     }
     total
 }
 
 /// The field indices of a struct of so many fields.
+#[tactic(auto, unfolding(crate::specs::Size::capped))]
 fn index_size(count: u64) -> u64
     ensures { result ≡ capped (index_bytes count) }
 {
@@ -55,16 +65,17 @@ fn node_size(node: &Node) -> u64
 
 /// What a field holds, behind the field's row and without labels.
 #[cycle(size)]
+#[tactic(auto, using(crate::proofs::CountLemmas::plain_list_is), unfolding(crate::specs::Size::capped))]
 fn leaf_size(leaf: &Leaf) -> u64
     ensures { result ≡ capped (leaf_bytes (plain_leaf leaf.now)) }
 {
     match leaf {
         Leaf::Dword64(_) => 8,
         Leaf::Int64(_) => 8,
-        Leaf::Double(bits) => bits.len() as u64,
+        Leaf::Double(bits) => plus(0, bits.as_slice().len() as u64),
         Leaf::Str(text) => plus(4, text.len() as u64),
         Leaf::Res(name) => plus(1, name.len() as u64),
-        Leaf::Loc(loc) => localized_size(loc),
+        Leaf::Loc(loc) => parts_size(loc.parts.as_slice()),
         Leaf::Void(bytes) => plus(4, bytes.len() as u64),
         Leaf::Struct(node) => node_size(node),
         Leaf::List(nodes) => {
@@ -139,6 +150,14 @@ fn next_below(leaf: &Leaf, past: Option<LabelRow>, best: Option<LabelRow>) -> Op
     }
 }
 
+/// The bytes of a label in the file.
+fn row_size(row: &LabelRow) -> u64
+    ensures size { result ≡ length row.now }
+    ensures sixteen { result ≡ 16 }
+{
+    row.as_slice().len() as u64
+}
+
 /// The labels of a tree once each. They are met from the least to the greatest, each by a walk over the tree.
 fn labels_size(top: &Node) -> u64
     ensures { result ≡ capped (length (joined (row_labels [] (rows_of 0 (plain_node top.now))))) }
@@ -149,8 +168,8 @@ fn labels_size(top: &Node) -> u64
         match next_in(top, past, None) {
             None => return total,
             Some(label) => {
+                total = plus(total, row_size(&label));
                 past = Some(label);
-                total = plus(total, label.len() as u64);
             }
         }
     }
@@ -163,5 +182,6 @@ fn labels_size(top: &Node) -> u64
 pub fn size(tree: &Gff) -> u64
     ensures { result ≡ min (length (written (plain_gff tree.now))) (2 ^ 64 - 1) }
 {
-    plus(plus(56, node_size(&tree.top)), labels_size(&tree.top))
+    let structs = plus(header_size(&tree.file_type), node_size(&tree.top));
+    plus(structs, labels_size(&tree.top))
 }
