@@ -59,8 +59,13 @@ word_length n = refl
 
 part_length : (part : LocPart) → length (part_bytes part) ≡ 8 + length part.text
 part_length part =
-    omega (arith, length-append (word (cast_unsigned w32 part.id)) (counted part.text), length-append (word (length part.text)) part.text,
-    word_length (cast_unsigned w32 part.id), word_length (length part.text))
+    omega (
+      arith,
+      length-append (word (cast_unsigned w32 part.id)) (counted part.text),
+      length-append (word (length part.text)) part.text,
+      word_length (cast_unsigned w32 part.id),
+      word_length (length part.text),
+    )
 
 pub parts_turn : (total mid now whole i : ℕ) (items : List LocPart) (item : LocPart) → i < length items → item ≡ get_or items i item
     → capped (total + length (flat_map part_bytes (drop i items))) ≡ whole → mid ≡ capped (total + 8) → now ≡ capped (mid + length item.text)
@@ -74,8 +79,15 @@ parts_turn total mid now whole i items item lt is before first third =
 pub localized_length : (loc : Loc) → length (localized_bytes loc) ≡ 12 + length (flat_map part_bytes loc.parts)
 localized_length loc =
     let body : List ℕ = word loc.str_ref ++ word (length loc.parts) ++ flat_map part_bytes loc.parts in
-    omega (arith, length-append (word (length body)) body, length-append (word loc.str_ref ++ word (length loc.parts)) (flat_map part_bytes loc.parts),
-    length-append (word loc.str_ref) (word (length loc.parts)), word_length (length body), word_length loc.str_ref, word_length (length loc.parts))
+    omega (
+      arith,
+      length-append (word (length body)) body,
+      length-append (word loc.str_ref ++ word (length loc.parts)) (flat_map part_bytes loc.parts),
+      length-append (word loc.str_ref) (word (length loc.parts)),
+      word_length (length body),
+      word_length loc.str_ref,
+      word_length (length loc.parts),
+    )
 
 pub eight : (n : ℕ) → 8 ≡ capped (length (wide n))
 unfolding wide capped

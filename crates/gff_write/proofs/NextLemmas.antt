@@ -106,6 +106,7 @@ has_label_is table x m = ap (λ (t : List (List ℕ)). has t m) (with_is table x
     there true b h = refl
     there false true h = h refl
     there false false h = refl
+
     by : (b : Bool) → has table x ≡ b → has (if b then table else table ++ x ∷ []) m ≡ (has table m || bytes_eq m x)
     by true is = there (has table m) (bytes_eq m x) (λ e. ap (has table) (same_is m x e) ∙ is)
     by false is = has_one table x m
@@ -162,6 +163,7 @@ once_label m table x once = subst (OnceIn m) (sym (with_is table x)) (by (has ta
     added true false h = omega arith
     added false true h = omega arith
     added false false h = refl
+
     by : (b : Bool) → has table x ≡ b → OnceIn m (if b then table else table ++ x ∷ [])
     by true is = once
     by false is =
@@ -206,6 +208,7 @@ after_own past best x p = by (is_nearer best x) refl
   where
     at : (b : Bool) → is_nearer best x ≡ b → nearer past best x ≡ (if b then Some x else best)
     at b is = ap (λ (a : Bool). if a && is_nearer best x then Some x else best) p ∙ ap (λ (c : Bool). if c then Some x else best) is
+
     by : (b : Bool) → is_nearer best x ≡ b → is_nearer (nearer past best x) x ≡ false
     by true is = ap (λ (o : Option (List ℕ)). is_nearer o x) (at true is) ∙ before_itself x
     by false is = ap (λ (o : Option (List ℕ)). is_nearer o x) (at false is) ∙ is
@@ -242,6 +245,7 @@ parted past m x far low = by (bytes_eq m x) refl
     two true false p q e = absurd (true≢false (sym (subst (λ (y : List ℕ). bytes_eq m y ≡ true) (before_total m x q (low p)) (nat_list_eq_equiv.refl m)) ∙ e))
     two false true p q e = absurd (true≢false (sym (past_more past m x far q) ∙ p))
     two false false p q e = refl
+
     by : (b : Bool) → bytes_eq m x ≡ b → past_bytes past x ≡ past_bytes (Some m) x + (if b then length m else 0)
     by true is =
         let same = same_is m x is in

@@ -29,23 +29,37 @@ rows_total (row ∷ rows) = 12 + index_bytes (length row.fields) + entries_total
 
 entry_length : (table : List (List ℕ)) (d l : ℕ) (entry : Entry) → length (entry_bytes table d l entry) ≡ 12
 entry_length table d l entry =
-    omega (arith, length-append (word entry.kind ++ word (place_of table entry.label)) (word (third_of d l entry.content)),
-    length-append (word entry.kind) (word (place_of table entry.label)),
-    word_length entry.kind, word_length (place_of table entry.label), word_length (third_of d l entry.content))
+    omega (
+      arith,
+      length-append (word entry.kind ++ word (place_of table entry.label)) (word (third_of d l entry.content)),
+      length-append (word entry.kind) (word (place_of table entry.label)),
+      word_length entry.kind,
+      word_length (place_of table entry.label),
+      word_length (third_of d l entry.content),
+    )
 
 entries_length : (table : List (List ℕ)) (d l : ℕ) (entries : List Entry) → length (entries_bytes table d l entries) + length (entries_data entries) + length (entries_lists entries) ≡ entries_total entries
 entries_length table d l [] = refl
 entries_length table d l (entry ∷ entries) =
-    omega (arith, entry_length table d l entry,
-    length-append (entry_bytes table d l entry) (entries_bytes table (d + length (data_of entry.content)) (l + length (list_of entry.content)) entries),
-    length-append (data_of entry.content) (entries_data entries), length-append (list_of entry.content) (entries_lists entries),
-    entries_length table (d + length (data_of entry.content)) (l + length (list_of entry.content)) entries)
+    omega (
+      arith,
+      entry_length table d l entry,
+      length-append (entry_bytes table d l entry) (entries_bytes table (d + length (data_of entry.content)) (l + length (list_of entry.content)) entries),
+      length-append (data_of entry.content) (entries_data entries),
+      length-append (list_of entry.content) (entries_lists entries),
+      entries_length table (d + length (data_of entry.content)) (l + length (list_of entry.content)) entries,
+    )
 
 row_length : (first index : ℕ) (row : Row) → length (row_bytes first index row) ≡ 12
 row_length first index row =
-    omega (arith, length-append (word row.kind ++ word (second_of first index (length row.fields))) (word (length row.fields)),
-    length-append (word row.kind) (word (second_of first index (length row.fields))),
-    word_length row.kind, word_length (second_of first index (length row.fields)), word_length (length row.fields))
+    omega (
+      arith,
+      length-append (word row.kind ++ word (second_of first index (length row.fields))) (word (length row.fields)),
+      length-append (word row.kind) (word (second_of first index (length row.fields))),
+      word_length row.kind,
+      word_length (second_of first index (length row.fields)),
+      word_length (length row.fields),
+    )
 
 up_length : (first count : ℕ) → length (words_up first count) ≡ 4 * count
 up_length first zero = refl
@@ -62,13 +76,18 @@ sections_length : (table : List (List ℕ)) (first index d l : ℕ) (rows : List
     length (rows_structs first index rows) + length (rows_fields table d l rows) + length (rows_data rows) + length (rows_indices first rows) + length (rows_lists rows) ≡ rows_total rows
 sections_length table first index d l [] = refl
 sections_length table first index d l (row ∷ rows) =
-    omega (arith, row_length first index row, indices_length first (length row.fields), entries_length table d l row.fields,
-    length-append (row_bytes first index row) (rows_structs (first + length row.fields) (index + length (indices_of first (length row.fields))) rows),
-    length-append (entries_bytes table d l row.fields) (rows_fields table (d + length (entries_data row.fields)) (l + length (entries_lists row.fields)) rows),
-    length-append (entries_data row.fields) (rows_data rows),
-    length-append (indices_of first (length row.fields)) (rows_indices (first + length row.fields) rows),
-    length-append (entries_lists row.fields) (rows_lists rows),
-    sections_length table (first + length row.fields) (index + length (indices_of first (length row.fields))) (d + length (entries_data row.fields)) (l + length (entries_lists row.fields)) rows)
+    omega (
+      arith,
+      row_length first index row,
+      indices_length first (length row.fields),
+      entries_length table d l row.fields,
+      length-append (row_bytes first index row) (rows_structs (first + length row.fields) (index + length (indices_of first (length row.fields))) rows),
+      length-append (entries_bytes table d l row.fields) (rows_fields table (d + length (entries_data row.fields)) (l + length (entries_lists row.fields)) rows),
+      length-append (entries_data row.fields) (rows_data rows),
+      length-append (indices_of first (length row.fields)) (rows_indices (first + length row.fields) rows),
+      length-append (entries_lists row.fields) (rows_lists rows),
+      sections_length table (first + length row.fields) (index + length (indices_of first (length row.fields))) (d + length (entries_data row.fields)) (l + length (entries_lists row.fields)) rows,
+    )
 
 total_append : (front rows : List Row) → rows_total (front ++ rows) ≡ rows_total front + rows_total rows
 total_append [] rows = omega arith
@@ -112,8 +131,14 @@ mutual
   list_total : (n : ℕ) (nodes : PlainNodes) → length (flat_map word (numbers_from n nodes)) + rows_total (list_rows n nodes) ≡ nodes_bytes nodes
   list_total n NoNode = refl
   list_total n (MoreNodes node rest) =
-      omega (arith, length-append (word n) (flat_map word (numbers_from (n + node_count node) rest)), word_length n, node_total n node,
-      total_append (rows_of n node) (list_rows (n + node_count node) rest), list_total (n + node_count node) rest)
+      omega (
+        arith,
+        length-append (word n) (flat_map word (numbers_from (n + node_count node) rest)),
+        word_length n,
+        node_total n node,
+        total_append (rows_of n node) (list_rows (n + node_count node) rest),
+        list_total (n + node_count node) rest,
+      )
 
 -- ---- the whole file
 
@@ -126,10 +151,17 @@ unfolding written_rows
 rows_length file_type rows =
     let s : Sections = parts_of rows in
     let head : List ℕ = header_of file_type s (length rows) (field_count rows) (length (row_labels [] rows)) in
-    omega (arith, length-append head (body_of s), header_length file_type s (length rows) (field_count rows) (length (row_labels [] rows)),
-    length-append (s.structs ++ s.fields ++ s.labels ++ s.data_bytes ++ s.indices) s.lists, length-append (s.structs ++ s.fields ++ s.labels ++ s.data_bytes) s.indices,
-    length-append (s.structs ++ s.fields ++ s.labels) s.data_bytes, length-append (s.structs ++ s.fields) s.labels, length-append s.structs s.fields,
-    sections_length (row_labels [] rows) 0 0 0 0 rows)
+    omega (
+      arith,
+      length-append head (body_of s),
+      header_length file_type s (length rows) (field_count rows) (length (row_labels [] rows)),
+      length-append (s.structs ++ s.fields ++ s.labels ++ s.data_bytes ++ s.indices) s.lists,
+      length-append (s.structs ++ s.fields ++ s.labels ++ s.data_bytes) s.indices,
+      length-append (s.structs ++ s.fields ++ s.labels) s.data_bytes,
+      length-append (s.structs ++ s.fields) s.labels,
+      length-append s.structs s.fields,
+      sections_length (row_labels [] rows) 0 0 0 0 rows,
+    )
 
 pub written_length : (gff : PlainGff) → length (written gff) ≡ length gff.file_type + 52 + node_bytes gff.top + length (joined (row_labels [] (rows_of 0 gff.top)))
 written_length gff = omega (arith, rows_length gff.file_type (rows_of 0 gff.top), node_total 0 gff.top)

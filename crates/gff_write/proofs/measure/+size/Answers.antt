@@ -67,4 +67,3 @@ node_size-loop-field-init t c = record {
 pub leaf_size-returns-in-Loc : goal.leaf_size-returns-in-Loc
 leaf_size-returns-in-Loc t c =
     rw c.in-Loc.is (c.parts_size.ensures ∙ (ap (λ ps. capped (12 + length (flat_map part_bytes ps))) c.as_slice-in-Loc.ensures ∙ localized_size c.in-Loc.loc))
-
