@@ -3,3 +3,4 @@ pub mod MarkLemmas
 pub mod NestLaws
 pub mod NameLemmas
 pub mod SeenLemmas
+pub mod MarksRead

@@ -1,5 +1,5 @@
 -- How the words and signs of the language are written.
-use Rattle.std.specs.Prelude.{ℕ, List, [], ◌∷◌, Option, None, Some, codes, bytes_eq, if◌then◌else◌}
+use Rattle.std.specs.Prelude.{◌≡◌, ℕ, List, [], ◌∷◌, Option, None, Some, codes, bytes_eq, if◌then◌else◌}
 use Rattle.nss_symbols.specs.declared.mark.Mark.{Mark}
 use Rattle.nss_symbols.specs.declared.mark.Mark.TheVariants as mark
 use Rattle.nss_symbols.specs.declared.mark.TheConstants.{MARKS}
@@ -88,3 +88,11 @@ among (m ∷ ms) text = if bytes_eq (spelling m) text then Some m else among ms 
 -- the word or sign that is written so
 unfoldable pub mark_of : List ℕ → Option Mark
 mark_of text = among MARKS text
+
+-- Each word and sign is read as itself from how it is written.
+abbrev pub EachIsRead : Type 0
+EachIsRead = (mark : Mark) → mark_of (spelling mark) ≡ Some mark
+
+-- What is read as a word or sign is written so.
+abbrev pub IsWrittenSo : Type 0
+IsWrittenSo = (text : List ℕ) (mark : Mark) → mark_of text ≡ Some mark → text ≡ spelling mark

@@ -10,6 +10,7 @@
 #![tactic(auto)]
 
 pub mod cursor;
+pub mod laws;
 pub mod mark;
 mod nest;
 pub mod symbol;
