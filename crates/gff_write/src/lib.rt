@@ -10,11 +10,14 @@ mod encode;
 mod fault;
 mod flat;
 mod flatten;
+mod laws;
 mod put;
+mod ranges;
 mod sections;
 mod writing;
 
 pub use fault::WriteFault;
+pub use laws::written_stands;
 pub use writing::{size, write};
 
 #[cfg(test)]

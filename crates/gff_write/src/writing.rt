@@ -1,7 +1,8 @@
 //! The writing of a tree.
 
 ghost use Rattle.std.specs.Prelude.{◌≡◌, ◌++◌, length, IfOk, OnOk};
-ghost use Rattle.gff_tree.specs.Whole.{plain_gff};
+ghost use Rattle.gff_tree.specs.Whole.{PlainGff, plain_gff};
+ghost use Rattle.gff_tree.specs.Stands.{Stands};
 ghost use Rattle.gff_tree.specs.Tree.{plain_node};
 ghost use Rattle.gff_write.specs.Flat.{rows_of};
 ghost use Rattle.gff_write.specs.File.{Gives, field_count, section_words, header_of, body_of, written_rows, written, outcome_of};
@@ -11,6 +12,7 @@ use crate::fault::WriteFault;
 use crate::flat::Row;
 use crate::flatten::flatten_node;
 use crate::put::put_word;
+use crate::ranges::node_ranges;
 use crate::sections::{Sections, label_count, sections_of};
 use gff_bytes::FILE_BYTES;
 use gff_tree::Gff;
@@ -128,8 +130,14 @@ pub fn size(alloc: Global, tree: &Gff) -> Result<u64, NoMemory>
 
 /// The one file of a tree, or its size where it has more than 16,777,216 bytes.
 pub fn write(alloc: Global, tree: &Gff) -> Result<Vec<u8>, WriteFault>
-    ensures { Gives (λ v. v.items) result (outcome_of (written (plain_gff tree.now))) }
+    ensures exact { Gives (λ v. v.items) result (outcome_of (written (plain_gff tree.now))) }
+    // The bytes stand for the tree.
+    ensures stands { IfOk result (λ v. Stands v.items (plain_gff tree.now)) }
+    // Reading the bytes gives the tree again: they stand for no other.
+    ensures again { IfOk result (λ v. (other : PlainGff) → Stands v.items other → other ≡ plain_gff tree.now) }
 {
+    let top = &tree.top;
+    node_ranges(top);
     let rows = rows_in(alloc, tree)?;
     let bytes = file(alloc, &tree.file_type, rows.as_slice())?;
     bounded(bytes)
