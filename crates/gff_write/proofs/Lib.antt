@@ -1,2 +1,5 @@
 pub mod CountLemmas
 pub mod FlatLemmas
+pub mod PlaceLemmas
+pub mod SectionLemmas
+pub mod RowLemmas
