@@ -3,3 +3,7 @@ pub mod FlatLemmas
 pub mod PlaceLemmas
 pub mod SectionLemmas
 pub mod RowLemmas
+pub mod LabelLemmas
+pub mod ScalarLemmas
+pub mod TreeStands
+pub mod WrittenLaws

@@ -32,8 +32,8 @@ behind_at {bytes = bytes} {place = place} xs ys s = record {
 pub next_at : {bytes : List ℕ} {place : ℕ} (now : ℕ) (xs ys : List ℕ) → place + length xs ≡ now → At bytes place (xs ++ ys) → At bytes now ys
 next_at now xs ys same s = moved now same (behind_at xs ys s)
 
-pub take_at : {bytes : List ℕ} {place : ℕ} (count : ℕ) (xs : List ℕ) → length xs ≡ count → At bytes place xs → take count (drop place bytes) ≡ xs
-take_at {bytes = bytes} {place = place} count xs long s =
+pub taken_at : {bytes : List ℕ} {place : ℕ} (count : ℕ) (xs : List ℕ) → length xs ≡ count → At bytes place xs → take count (drop place bytes) ≡ xs
+taken_at {bytes = bytes} {place = place} count xs long s =
     ap (λ (n : ℕ). take n (drop place bytes)) (sym long) ∙ (ap (take (length xs)) s.is ∙ take-append_seam xs s.rest)
 
 pub word_length : (n : ℕ) → length (word n) ≡ 4

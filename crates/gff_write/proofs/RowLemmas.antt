@@ -17,7 +17,7 @@ use Rattle.gff_write.specs.declared.flat.Row.{Row}
 use Rattle.gff_write.specs.Flat.{word}
 use Rattle.gff_write.specs.File as file
 use Rattle.gff_write.specs.File.{place_of, data_of, list_of, third_of, entry_bytes, entries_data, entries_lists, entries_bytes, rows_data, rows_lists, rows_fields, words_up, indices_of, second_of, rows_indices, rows_structs, field_count}
-use Rattle.gff_write.proofs.PlaceLemmas.{At, front_at, behind_at, next_at, moved, take_at, word_length, word_stands, words_stand, low_is}
+use Rattle.gff_write.proofs.PlaceLemmas.{At, front_at, behind_at, next_at, moved, taken_at, word_length, word_stands, words_stand, low_is}
 
 -- these bytes stand in a section that counts bytes, from an offset on
 pub record In (bytes : List ℕ) (which : Part) (offset : ℕ) (xs : List ℕ) : Type 0 where

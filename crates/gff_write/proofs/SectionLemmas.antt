@@ -11,7 +11,7 @@ use Rattle.gff_bytes.specs.File.{word_at, header_place, row_bytes, start_of, cou
 use Rattle.gff_write.specs.declared.sections.Sections.{Sections}
 use Rattle.gff_write.specs.Flat.{word}
 use Rattle.gff_write.specs.File.{section_words, header_of, body_of}
-use Rattle.gff_write.proofs.PlaceLemmas.{At, whole_at, front_at, next_at, moved, take_at, word_length, word_stands, low_is}
+use Rattle.gff_write.proofs.PlaceLemmas.{At, whole_at, front_at, next_at, moved, taken_at, word_length, word_stands, low_is}
 
 -- a section of so many rows lies inside the file
 pub record Lies (bytes : List ℕ) (which : Part) (count : ℕ) (xs : List ℕ) : Type 0 where
@@ -31,7 +31,8 @@ lies {bytes = bytes} which offset count xs head s inside small few =
     record { counted = counted; at = moved (start_of bytes which) (sym start) s; inside = omega (arith, start) }
 
 -- the six sections of a file with these numbers of structs, fields and labels
-pub record Laid (bytes : List ℕ) (s : Sections) (structs fields labels : ℕ) : Type 0 where
+pub record Laid (bytes file_type : List ℕ) (s : Sections) (structs fields labels : ℕ) : Type 0 where
+  pub kind : At bytes 0 file_type
   pub version : At bytes 4 (codes "V3.2")
   pub struct_part : Lies bytes part.Struct structs s.structs
   pub field_part : Lies bytes part.Field fields s.fields
@@ -41,7 +42,8 @@ pub record Laid (bytes : List ℕ) (s : Sections) (structs fields labels : ℕ) 
   pub list_part : Lies bytes part.List (length s.lists) s.lists
 
 -- eight parts of a header, one after the other
-record Heads (bytes v a b c d e f : List ℕ) : Type 0 where
+record Heads (bytes t v a b c d e f : List ℕ) : Type 0 where
+  kind : At bytes 0 t
   version : At bytes 4 v
   structs : At bytes 8 a
   fields : At bytes 16 b
@@ -51,7 +53,7 @@ record Heads (bytes v a b c d e f : List ℕ) : Type 0 where
   lists : At bytes 48 f
 
 heads : {bytes : List ℕ} (t v a b c d e f : List ℕ) → length t ≡ 4 → length v ≡ 4 → length a ≡ 8 → length b ≡ 8 → length c ≡ 8 → length d ≡ 8 → length e ≡ 8 →
-    At bytes 0 (t ++ v ++ a ++ b ++ c ++ d ++ e ++ f) → Heads bytes v a b c d e f
+    At bytes 0 (t ++ v ++ a ++ b ++ c ++ d ++ e ++ f) → Heads bytes t v a b c d e f
 heads t v a b c d e f lt lv la lb lc ld le s =
     let l1 : length (t ++ v) ≡ 8 = omega (arith, length-append t v) in
     let l2 : length (t ++ v ++ a) ≡ 16 = omega (arith, length-append (t ++ v) a) in
@@ -66,6 +68,7 @@ heads t v a b c d e f lt lv la lb lc ld le s =
     let s2 = front_at (t ++ v ++ a) b s3 in
     let s1 = front_at (t ++ v) a s2 in
     record {
+      kind = front_at t v s1;
       version = next_at 4 t v (omega arith) s1;
       structs = next_at 8 (t ++ v) a (omega arith) s2;
       fields = next_at 16 (t ++ v ++ a) b (omega arith) s3;
@@ -106,7 +109,7 @@ bodies {place = place} a b c d e f s =
       long = omega (arith, l2, l3, l4, l5, l6);
     }
 
-header_length : (file_type : List ℕ) (s : Sections) (structs fields labels : ℕ) → length file_type ≡ 4 → length (header_of file_type s structs fields labels) ≡ 56
+pub header_length : (file_type : List ℕ) (s : Sections) (structs fields labels : ℕ) → length file_type ≡ 4 → length (header_of file_type s structs fields labels) ≡ 56
 unfolding header_of
 header_length file_type s structs fields labels four = all file_type (codes "V3.2") (section_words 56 structs) _ _ _ _ _ four refl (section_length _ _) (section_length _ _) (section_length _ _) (section_length _ _) (section_length _ _) (section_length _ _)
   where
@@ -125,7 +128,7 @@ header_length file_type s structs fields labels four = all file_type (codes "V3.
         )
 
 pub laid : (file_type : List ℕ) (s : Sections) (structs fields labels : ℕ) → length file_type ≡ 4 → structs ≤ 16777216 → fields ≤ 16777216 → labels ≤ 16777216 →
-    length (header_of file_type s structs fields labels ++ body_of s) ≤ 16777216 → Laid (header_of file_type s structs fields labels ++ body_of s) s structs fields labels
+    length (header_of file_type s structs fields labels ++ body_of s) ≤ 16777216 → Laid (header_of file_type s structs fields labels ++ body_of s) file_type s structs fields labels
 unfolding header_of
 laid file_type s structs fields labels four few_structs few_fields few_labels small =
     let header = header_of file_type s structs fields labels in
@@ -141,6 +144,7 @@ laid file_type s structs fields labels four few_structs few_fields few_labels sm
     let body = bodies s.structs s.fields s.labels s.data_bytes s.indices s.lists (next_at {place = 0} 56 header (body_of s) (omega (arith, long)) all) in
     let sum = body.long in
     record {
+      kind = head.kind;
       version = head.version;
       struct_part = lies part.Struct 56 structs s.structs head.structs body.structs (omega (arith, long, size, sum)) small few_structs;
       field_part = lies part.Field _ fields s.fields head.fields body.fields (omega (arith, long, size, sum)) small few_fields;
@@ -164,11 +168,11 @@ ends {bytes = bytes} which count xs long s =
     le-ltb (length bytes) (row_place bytes which (count_of bytes which)) (omega (arith, same, s.inside))
 
 -- a laid file opens
-pub opens : {bytes : List ℕ} (s : Sections) (structs fields labels : ℕ) → 56 ≤ length bytes → length s.structs ≡ 12 * structs → length s.fields ≡ 12 * fields → length s.labels ≡ 16 * labels →
-    Laid bytes s structs fields labels → open_fault bytes ≡ None
+pub opens : {bytes : List ℕ} (file_type : List ℕ) (s : Sections) (structs fields labels : ℕ) → 56 ≤ length bytes → length s.structs ≡ 12 * structs → length s.fields ≡ 12 * fields → length s.labels ≡ 16 * labels →
+    Laid bytes file_type s structs fields labels → open_fault bytes ≡ None
 unfolding open_fault
-opens {bytes = bytes} s structs fields labels head long_structs long_fields long_labels l =
-    let version : has_version bytes ≡ true = ap (λ (v : List ℕ). bytes_eq v (codes "V3.2")) (take_at 4 (codes "V3.2") refl l.version) in
+opens {bytes = bytes} file_type s structs fields labels head long_structs long_fields long_labels l =
+    let version : has_version bytes ≡ true = ap (λ (v : List ℕ). bytes_eq v (codes "V3.2")) (taken_at 4 (codes "V3.2") refl l.version) in
     clear _ _ _ (le-ltb (length bytes) 56 head) (held _ _ _ version
     (clear _ _ _ (ends part.Struct structs s.structs long_structs l.struct_part)
     (clear _ _ _ (ends part.Field fields s.fields long_fields l.field_part)
@@ -176,3 +180,29 @@ opens {bytes = bytes} s structs fields labels head long_structs long_fields long
     (clear _ _ _ (ends part.Data (length s.data_bytes) s.data_bytes (omega arith) l.data_part)
     (clear _ _ _ (ends part.Index (length s.indices) s.indices (omega arith) l.index_part)
     (clear _ _ _ (ends part.List (length s.lists) s.lists (omega arith) l.list_part) refl)))))))
+
+-- each count of a laid file is small
+pub counts_small : {bytes : List ℕ} (file_type : List ℕ) (s : Sections) (structs fields labels : ℕ) → Laid bytes file_type s structs fields labels → structs ≤ 16777216 → fields ≤ 16777216 → labels ≤ 16777216 →
+    length bytes ≤ 16777216 → (which : Part) → count_of bytes which < 4294967296
+counts_small file_type s structs fields labels l a b c small part.Struct = let count = l.struct_part.counted in omega arith
+counts_small file_type s structs fields labels l a b c small part.Field = let count = l.field_part.counted in omega arith
+counts_small file_type s structs fields labels l a b c small part.Label = let count = l.label_part.counted in omega arith
+counts_small file_type s structs fields labels l a b c small part.Data = let count = l.data_part.counted in let inside = l.data_part.inside in omega arith
+counts_small file_type s structs fields labels l a b c small part.Index = let count = l.index_part.counted in let inside = l.index_part.inside in omega arith
+counts_small file_type s structs fields labels l a b c small part.List = let count = l.list_part.counted in let inside = l.list_part.inside in omega arith
+
+-- no section is longer than the file
+pub record AreWithin (s : Sections) (size : ℕ) : Type 0 where
+  pub structs : length s.structs ≤ size
+  pub fields : length s.fields ≤ size
+  pub labels : length s.labels ≤ size
+
+pub sections_within : (header : List ℕ) (s : Sections) → AreWithin s (length (header ++ body_of s))
+sections_within header s =
+    let all = length-append header (body_of s) in
+    let l2 = length-append s.structs s.fields in
+    let l3 = length-append (s.structs ++ s.fields) s.labels in
+    let l4 = length-append (s.structs ++ s.fields ++ s.labels) s.data_bytes in
+    let l5 = length-append (s.structs ++ s.fields ++ s.labels ++ s.data_bytes) s.indices in
+    let l6 = length-append (s.structs ++ s.fields ++ s.labels ++ s.data_bytes ++ s.indices) s.lists in
+    record { structs = omega (arith, all, l2, l3, l4, l5, l6); fields = omega (arith, all, l2, l3, l4, l5, l6); labels = omega (arith, all, l2, l3, l4, l5, l6) }

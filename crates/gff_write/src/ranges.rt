@@ -2,13 +2,22 @@
 
 ghost use Rattle.std.specs.Prelude.{◌≡◌, length};
 ghost use Rattle.gff_tree.specs.Tree.{plain_node, plain_leaf};
-ghost use Rattle.gff_write.specs.Laws.{IsNode, IsLeaf, AreBytes, AreParts};
+ghost use Rattle.gff_tree.specs.Whole.{plain_gff};
+ghost use Rattle.gff_write.specs.Laws.{IsTree, IsNode, IsLeaf, AreBytes, AreParts};
 
-use gff_tree::{Leaf, LocPart, Node};
+use gff_tree::{Gff, Leaf, LocPart, Node};
+
+/// A tree of a program is one: its types keep the ranges.
+pub fn tree_ranges(tree: &Gff)
+    ensures { IsTree (plain_gff tree.now) }
+{
+    type_length(&tree.file_type);
+    node_ranges(&tree.top);
+}
 
 /// Each number of a struct, and of all below it, is in the range of its type.
 #[cycle(ranges)]
-pub fn node_ranges(node: &Node)
+fn node_ranges(node: &Node)
     ensures { IsNode (plain_node node.now) }
 {
     let _kind = node.kind;
@@ -18,17 +27,30 @@ pub fn node_ranges(node: &Node)
     }
 }
 
-fn float_range(bits: &[u8; 4])
+fn byte_ranges(bytes: &[u8])
+    ensures { AreBytes bytes.now }
+{
+    let _count = bytes.len();
+}
+
+fn float_ranges(bits: &[u8; 4])
     ensures length { length bits.now ≡ 4 }
     ensures bytes { AreBytes bits.now }
+{
+    let bytes = bits.as_slice();
+    byte_ranges(bytes);
+}
+
+fn double_length(bits: &[u8; 8])
+    ensures { length bits.now ≡ 8 }
 {
     let _bits = *bits;
 }
 
-fn double_range(bits: &[u8; 8])
-    ensures { length bits.now ≡ 8 }
+fn type_length(file_type: &[u8; 4])
+    ensures { length file_type.now ≡ 4 }
 {
-    let _bits = *bits;
+    let _file_type = *file_type;
 }
 
 fn part_ranges(parts: &[LocPart])
@@ -40,7 +62,7 @@ fn part_ranges(parts: &[LocPart])
 }
 
 #[cycle(ranges)]
-pub fn leaf_ranges(leaf: &Leaf)
+fn leaf_ranges(leaf: &Leaf)
     ensures { IsLeaf (plain_leaf leaf.now) }
 {
     match leaf {
@@ -68,8 +90,8 @@ pub fn leaf_ranges(leaf: &Leaf)
         Leaf::Int64(n) => {
             let _n = *n;
         }
-        Leaf::Float(bits) => float_range(bits),
-        Leaf::Double(bits) => double_range(bits),
+        Leaf::Float(bits) => float_ranges(bits),
+        Leaf::Double(bits) => double_length(bits),
         Leaf::Loc(loc) => {
             let _str_ref = loc.str_ref;
             part_ranges(loc.parts.as_slice());

@@ -12,7 +12,7 @@ use crate::fault::WriteFault;
 use crate::flat::Row;
 use crate::flatten::flatten_node;
 use crate::put::put_word;
-use crate::ranges::node_ranges;
+use crate::ranges::tree_ranges;
 use crate::sections::{Sections, label_count, sections_of};
 use gff_bytes::FILE_BYTES;
 use gff_tree::Gff;
@@ -128,6 +128,15 @@ pub fn size(alloc: Global, tree: &Gff) -> Result<u64, NoMemory>
     Ok(bytes.len() as u64)
 }
 
+/// The file of a tree, unless it is too large.
+fn outcome(alloc: Global, tree: &Gff) -> Result<Vec<u8>, WriteFault>
+    ensures { Gives (λ v. v.items) result (outcome_of (written (plain_gff tree.now))) }
+{
+    let rows = rows_in(alloc, tree)?;
+    let bytes = file(alloc, &tree.file_type, rows.as_slice())?;
+    bounded(bytes)
+}
+
 /// The one file of a tree, or its size where it has more than 16,777,216 bytes.
 pub fn write(alloc: Global, tree: &Gff) -> Result<Vec<u8>, WriteFault>
     ensures exact { Gives (λ v. v.items) result (outcome_of (written (plain_gff tree.now))) }
@@ -136,9 +145,6 @@ pub fn write(alloc: Global, tree: &Gff) -> Result<Vec<u8>, WriteFault>
     // Reading the bytes gives the tree again: they stand for no other.
     ensures again { IfOk result (λ v. (other : PlainGff) → Stands v.items other → other ≡ plain_gff tree.now) }
 {
-    let top = &tree.top;
-    node_ranges(top);
-    let rows = rows_in(alloc, tree)?;
-    let bytes = file(alloc, &tree.file_type, rows.as_slice())?;
-    bounded(bytes)
+    tree_ranges(tree);
+    outcome(alloc, tree)
 }
