@@ -1,7 +1,6 @@
 -- The labels of a written file: each stands once in the table, in sixteen bytes, and is read again.
-use Rattle.std.proofs.Common.{◌≡◌, ◌≤◌, ◌<◌, ◌+◌, ◌-◌, ◌*◌, ◌%◌, ℕ, zero, suc, Bool, true, false, List, [], ◌∷◌, ◌++◌, length, replicate, Ok, refl, sym, ap, subst, ◌∙◌, ⊎_elim, arith}
+use Rattle.std.proofs.Common.{◌≡◌, ◌≤◌, ◌<◌, ◌+◌, ◌-◌, ◌*◌, ◌%◌, ℕ, zero, suc, true, false, List, [], ◌∷◌, ◌++◌, length, replicate, Ok, refl, sym, ap, subst, ◌∙◌, ⊎_elim, arith}
 use Rattle.std.specs.Prelude.{nat_lt, ◌==◌}
-use Rattle.std.specs.List.{list_any}
 use Rattle.std.specs.Str.{bytes_eq}
 use Rattle.std.proofs.lemmas.Bool.{lt-ltb, ltb-true, cases_Bool, cond-true, cond-false, or_parts}
 use Rattle.std.proofs.lemmas.List.{length-append, length-replicate}
@@ -12,7 +11,7 @@ use Rattle.gff_tree.specs.Label.{has_zero, label_text}
 use Rattle.gff_tree.specs.Tree.{PlainNode, PlainFields, PlainLeaf, PlainNodes, Struct, NoField, MoreFields, Holds, Child, Children, NoNode, MoreNodes}
 use Rattle.gff_write.specs.declared.flat.Entry.{Entry}
 use Rattle.gff_write.specs.declared.flat.Row.{Row}
-use Rattle.gff_write.specs.Flat.{padded, node_count, leaf_count, leaf_kind, leaf_content, entries_from, rows_of, rows_below, leaf_rows, list_rows}
+use Rattle.gff_write.specs.Flat.{padded, node_count, leaf_count, entries_from, rows_of, rows_below, leaf_rows, list_rows}
 use Rattle.gff_write.specs.File.{place_of, with_label, entry_labels, row_labels, joined}
 use Rattle.gff_write.specs.Laws.{IsLabel, IsNode, AreFields, IsLeaf, AreNodes}
 use Rattle.gff_write.proofs.PlaceLemmas.{At, front_at, next_at, moved, taken_at, low_is}

@@ -1,5 +1,5 @@
 -- Each struct of a written file stands in its row, with its fields, their labels and what they hold.
-use Rattle.std.proofs.Common.{◌≡◌, ◌≤◌, ◌<◌, ◌+◌, ◌-◌, ◌*◌, ◌%◌, ℕ, zero, suc, Bool, true, false, cond, List, [], ◌∷◌, ◌++◌, length, take, drop, Result, Ok, Err, refl, sym, ap, subst, ◌∙◌, append_assoc, ⊎_elim, arith}
+use Rattle.std.proofs.Common.{◌≡◌, ◌≤◌, ◌<◌, ◌+◌, ◌*◌, ◌%◌, ℕ, zero, suc, true, false, List, [], ◌∷◌, ◌++◌, length, Ok, refl, sym, ap, subst, ◌∙◌, ⊎_elim, arith}
 use Rattle.std.specs.Prelude.{nat_lt, nat_le, ◌==◌}
 use Rattle.std.specs.List.{flat_map}
 use Rattle.std.proofs.lemmas.Bool.{lt-ltb, le-ltb, le-leb, eq-eqb, ne_eqb, cases_lt, cond-true, cond-false}
@@ -8,7 +8,7 @@ use Rattle.gff_bytes.specs.declared.rows.Part.{Part}
 use Rattle.gff_bytes.specs.declared.rows.Part.TheVariants as part
 use Rattle.gff_bytes.specs.declared.rows.StructRow.{StructRow}
 use Rattle.gff_bytes.specs.declared.rows.FieldRow.{FieldRow}
-use Rattle.gff_bytes.specs.File.{word_at, start_of, count_of, row_place, struct_row, field_row, label_row, index_at, list_word, data_at}
+use Rattle.gff_bytes.specs.File.{word_at, start_of, count_of, row_place, struct_row, field_row, label_row, index_at}
 use Rattle.gff_tree.specs.Rows.{field_number}
 use Rattle.gff_write.specs.declared.flat.Content.{Content}
 use Rattle.gff_write.specs.declared.flat.Content.TheVariants.{Small, Data, Number, Numbers}
@@ -17,7 +17,7 @@ use Rattle.gff_write.specs.declared.flat.Row.{Row}
 use Rattle.gff_write.specs.Flat.{word}
 use Rattle.gff_write.specs.File as file
 use Rattle.gff_write.specs.File.{place_of, data_of, list_of, third_of, entry_bytes, entries_data, entries_lists, entries_bytes, rows_data, rows_lists, rows_fields, words_up, indices_of, second_of, rows_indices, rows_structs, field_count}
-use Rattle.gff_write.proofs.PlaceLemmas.{At, front_at, behind_at, next_at, moved, taken_at, word_length, word_stands, words_stand, low_is}
+use Rattle.gff_write.proofs.PlaceLemmas.{At, front_at, next_at, word_length, word_stands, words_stand, low_is}
 
 -- these bytes stand in a section that counts bytes, from an offset on
 pub record In (bytes : List ℕ) (which : Part) (offset : ℕ) (xs : List ℕ) : Type 0 where

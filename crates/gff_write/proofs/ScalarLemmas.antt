@@ -1,7 +1,7 @@
 -- A value that holds no struct stands where it is written.
-use Rattle.std.proofs.Common.{◌≡◌, ◌≤◌, ◌<◌, ◌+◌, ◌-◌, ◌*◌, ◌%◌, ℕ, zero, suc, Bool, true, false, List, [], ◌∷◌, ◌++◌, length, take, drop, Ok, Some, refl, sym, ap, subst, ◌∙◌, append_assoc, arith}
-use Rattle.std.specs.Prelude.{ℤ, slice_get, slice_index, nat_le}
-use Rattle.std.specs.Int.{w8, w16, w32, w64, cast_signed, cast_unsigned, to_le_bytes, from_le_bytes}
+use Rattle.std.proofs.Common.{◌≡◌, ◌≤◌, ◌<◌, ◌+◌, ◌%◌, ℕ, true, List, [], ◌∷◌, ◌++◌, length, take, drop, Ok, Some, refl, sym, ap, subst, ◌∙◌, append_assoc, arith}
+use Rattle.std.specs.Prelude.{ℤ, slice_get, nat_le}
+use Rattle.std.specs.Int.{w8, w16, w32, w64, cast_signed, cast_unsigned, from_le_bytes}
 use Rattle.std.specs.Int.RustNames.{FitsSigned}
 use Rattle.std.specs.List.{flat_map}
 use Rattle.std.proofs.Math.Nat.{mod-eq_of_lt}
@@ -11,7 +11,7 @@ use Rattle.std.proofs.lemmas.Int.{to_z-of_z, ints}
 use Rattle.std.proofs.lemmas.List.{append-nil, drop_at, length-append}
 use Rattle.std.proofs.lemmas.Nat.{le_bytes_4}
 use Rattle.gff_bytes.specs.declared.rows.Part.TheVariants as part
-use Rattle.gff_bytes.specs.File.{data_at, start_of, count_of}
+use Rattle.gff_bytes.specs.File.{data_at, count_of}
 use Rattle.gff_tree.specs.declared.kind.Kind.{Kind}
 use Rattle.gff_tree.specs.declared.kind.Kind.TheVariants as kind
 use Rattle.gff_tree.specs.declared.tree.Loc.{Loc}
@@ -20,9 +20,9 @@ use Rattle.gff_tree.specs.Rows.{number_in, kinds}
 use Rattle.gff_tree.specs.Stands.{CountedStands, PartsStand, LocalizedStands, ScalarStands}
 use Rattle.gff_tree.specs.Tree as tree
 use Rattle.gff_tree.specs.Tree.{Scalar, is_sound_scalar}
-use Rattle.gff_write.specs.Flat.{word, wide, counted, named, part_bytes, localized_bytes, scalar_kind, scalar_content}
+use Rattle.gff_write.specs.Flat.{word, wide, counted, named, part_bytes, scalar_kind, scalar_content}
 use Rattle.gff_write.specs.Laws.{AreBytes, AreParts, IsScalar}
-use Rattle.gff_write.proofs.PlaceLemmas.{At, taken_at, word_length, wide_length, word_reads, wide_reads, low_is}
+use Rattle.gff_write.proofs.PlaceLemmas.{taken_at, word_length, wide_length, word_reads, wide_reads, low_is}
 use Rattle.gff_write.proofs.RowLemmas.{In, front_in, next_in, Small_counts, ContentAt}
 
 abbrev pub kind_for : Scalar → Kind

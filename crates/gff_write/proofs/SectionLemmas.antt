@@ -1,5 +1,5 @@
 -- The six sections of a written file lie where its header says.
-use Rattle.std.proofs.Common.{◌≡◌, ◌≤◌, ◌<◌, ◌+◌, ◌*◌, ◌%◌, ℕ, Bool, true, false, cond, List, [], ◌∷◌, ◌++◌, length, take, drop, Option, Some, None, refl, sym, ap, subst, ◌∙◌, append_assoc, arith}
+use Rattle.std.proofs.Common.{◌≡◌, ◌≤◌, ◌<◌, ◌+◌, ◌*◌, ℕ, Bool, true, false, cond, List, ◌++◌, length, Option, Some, None, refl, sym, ap, ◌∙◌, arith}
 use Rattle.std.specs.Prelude.{codes}
 use Rattle.std.proofs.lemmas.Bool.{le-ltb}
 use Rattle.std.proofs.lemmas.List.{length-append}
@@ -7,7 +7,7 @@ use Rattle.std.specs.Str.{bytes_eq}
 use Rattle.gff_bytes.specs.declared.rows.OpenFault.{OpenFault}
 use Rattle.gff_bytes.specs.declared.rows.Part.{Part}
 use Rattle.gff_bytes.specs.declared.rows.Part.TheVariants as part
-use Rattle.gff_bytes.specs.File.{word_at, header_place, row_bytes, start_of, count_of, row_place, passes_end, section_fault, has_version, open_fault}
+use Rattle.gff_bytes.specs.File.{header_place, row_bytes, start_of, count_of, row_place, passes_end, has_version, open_fault}
 use Rattle.gff_write.specs.declared.sections.Sections.{Sections}
 use Rattle.gff_write.specs.Flat.{word}
 use Rattle.gff_write.specs.File.{section_words, header_of, body_of}

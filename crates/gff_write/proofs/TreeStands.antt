@@ -1,26 +1,24 @@
 -- The rows of a tree's structs stand for the tree, each struct by its number in preorder.
-use Rattle.std.proofs.Common.{◌≡◌, ◌≤◌, ◌<◌, ◌+◌, ◌*◌, ◌%◌, ℕ, zero, suc, Bool, true, false, not, ◌&&◌, List, [], ◌∷◌, ◌++◌, map, length, Ok, Some, refl, sym, ap, subst, ◌∙◌, arith}
+use Rattle.std.proofs.Common.{◌≡◌, ◌≤◌, ◌<◌, ◌+◌, ◌%◌, ℕ, zero, suc, true, false, not, List, [], ◌∷◌, ◌++◌, map, length, Ok, Some, refl, sym, ap, subst, ◌∙◌, arith}
 use Rattle.std.specs.Prelude.{nat_eq, nat_le, slice_get}
 use Rattle.std.specs.List.{list_any, flat_map}
 use Rattle.std.specs.Str.{bytes_eq}
 use Rattle.std.proofs.lemmas.Bool.{le-leb, ne_eqb, cond-true, and_parts, and_from, or_from, not_from_false}
-use Rattle.std.proofs.lemmas.List.{append-nil, length-append}
 use Rattle.gff_bytes.specs.declared.rows.Part.TheVariants as part
 use Rattle.gff_bytes.specs.declared.rows.StructRow.{StructRow}
-use Rattle.gff_bytes.specs.File.{count_of, list_word, start_of}
+use Rattle.gff_bytes.specs.File.{count_of, list_word}
 use Rattle.gff_tree.specs.declared.kind.Kind.{Kind}
 use Rattle.gff_tree.specs.declared.kind.Kind.TheVariants as kind
 use Rattle.gff_tree.specs.Rows.{PlainShape, PlainRow, Value, One, Many, kinds, field_number}
 use Rattle.gff_tree.specs.Stands.{ShapeStands, WordsStand, RowStands, RowsStand, NodesStand, LeafStands, FieldsStand, NodeStands}
-use Rattle.gff_tree.specs.Tree.{Scalar, PlainNode, PlainFields, PlainLeaf, PlainNodes, Struct, NoField, MoreFields, Holds, Child, Children, NoNode, MoreNodes, differ_after, are_distinct, labels_of, is_sound_node, are_sound_fields, is_sound_leaf, are_sound_nodes}
-use Rattle.gff_write.specs.declared.flat.Entry.{Entry}
+use Rattle.gff_tree.specs.Tree.{PlainNode, PlainFields, PlainLeaf, PlainNodes, Struct, NoField, MoreFields, Holds, Child, Children, NoNode, MoreNodes, differ_after, are_distinct, labels_of, is_sound_node, are_sound_fields, is_sound_leaf, are_sound_nodes}
 use Rattle.gff_write.specs.declared.flat.Row.{Row}
 use Rattle.gff_write.specs.Flat.{word, node_count, fields_count, leaf_count, nodes_count, padded, leaf_kind, leaf_content, numbers_from, entries_from, rows_of, rows_below, leaf_rows, list_rows}
 use Rattle.gff_write.specs.Laws.{IsLabel, IsNode, AreFields, IsLeaf, AreNodes}
 use Rattle.gff_write.proofs.FlatLemmas.{rows_length, leaf_length}
 use Rattle.gff_write.proofs.LabelLemmas.{padded_text}
 use Rattle.gff_write.proofs.PlaceLemmas.{word_length, word_stands, low_is}
-use Rattle.gff_write.proofs.RowLemmas.{In, front_in, next_in, Small_counts, ContentAt, EntryAt, EntriesAt, RowAt, RowsAt}
+use Rattle.gff_write.proofs.RowLemmas.{In, front_in, next_in, Small_counts, ContentAt, EntryAt, EntriesAt, RowsAt}
 use Rattle.gff_write.proofs.ScalarLemmas.{kind_for, kind_read, scalar_stands}
 
 -- so many numbers in a row

@@ -1,20 +1,20 @@
 -- The file of a tree stands for the tree, and for no other.
-use Rattle.std.proofs.Common.{◌≡◌, ◌≤◌, ◌<◌, ◌+◌, ◌*◌, ℕ, Bool, true, false, cond, List, [], ◌++◌, length, Result, Ok, Err, refl, sym, ap, subst, ◌∙◌, arith}
+use Rattle.std.proofs.Common.{◌≡◌, ◌≤◌, ◌+◌, ◌*◌, ℕ, Bool, true, false, cond, List, [], length, Result, Ok, Err, refl, sym, subst, arith}
 use Rattle.std.specs.Prelude.{nat_lt, IfOk}
 use Rattle.std.specs.declared.vec.Vec.{Vec}
 use Rattle.std.specs.declared.alloc.Global.{Global}
 use Rattle.std.proofs.lemmas.Bool.{ltb-false}
 use Rattle.std.proofs.lemmas.List.{length-append}
 use Rattle.gff_bytes.specs.declared.rows.Part.TheVariants as part
-use Rattle.gff_bytes.specs.File.{start_of, count_of}
+use Rattle.gff_bytes.specs.File.{start_of}
 use Rattle.gff_tree.specs.Stands.{Stands}
-use Rattle.gff_tree.specs.Tree.{is_sound, is_sound_node}
+use Rattle.gff_tree.specs.Tree.{is_sound}
 use Rattle.gff_tree.specs.Whole.{PlainGff}
 use Rattle.gff_tree.proofs.TreeLaws.{one_tree}
 use Rattle.gff_write.specs.declared.fault.WriteFault.{WriteFault}
 use Rattle.gff_write.specs.declared.fault.WriteFault.TheVariants as fault
 use Rattle.gff_write.specs.Flat.{node_count, rows_of}
-use Rattle.gff_write.specs.File.{row_labels, parts_of, header_of, body_of, field_count, joined, written_rows, written, outcome_of, Gives, rows_structs, rows_fields, rows_data, rows_lists, rows_indices}
+use Rattle.gff_write.specs.File.{row_labels, parts_of, header_of, body_of, field_count, written_rows, written, outcome_of, Gives}
 use Rattle.gff_write.specs.Laws.{IsTree, WrittenStands}
 use Rattle.gff_write.proofs.FlatLemmas.{rows_length}
 use Rattle.gff_write.proofs.PlaceLemmas.{At, moved, taken_at}

@@ -7,7 +7,8 @@ ghost use Rattle.gff_write.specs.Laws.{IsTree, IsNode, IsLeaf, AreBytes, ArePart
 
 use gff_tree::{Gff, Leaf, LocPart, Node};
 
-/// A tree of a program is one: its types keep the ranges.
+/// Tells the proof what the types keep: a tree of a program is in the ranges that the law of the writing asks for. The
+/// walk reads each number, which is how its range becomes known; it computes nothing and changes nothing.
 pub fn tree_ranges(tree: &Gff)
     ensures { IsTree (plain_gff tree.now) }
 {

@@ -1,6 +1,6 @@
 use Rattle.std.proofs.Common.{◌≡◌, ◌<◌, [], sym, subst, drop, arith}
 use Rattle.std.proofs.lemmas.List.{drop_all}
-use Rattle.gff_tree.specs.Tree.{PlainLeaf, PlainNode, plain_node, plain_leaf, nodes_list, fields_list}
+use Rattle.gff_tree.specs.Tree.{nodes_list, fields_list}
 use Rattle.gff_tree.specs.declared.tree.Node.{out-Node}
 use Rattle.gff_write.specs.Laws.{IsNode, IsLeaf, AreNodes, AreFields}
 use Rattle.gff_write.proofs.CountLemmas.{plain_node_out, plain_list_is}
