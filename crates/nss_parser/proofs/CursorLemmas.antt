@@ -1,7 +1,7 @@
 -- What the cursor's view is by the tokens ahead.
-use Rattle.std.proofs.Common.{◌≡◌, ℕ, zero, suc, ◌+◌, ◌<◌, ◌≤◌, List, [], ◌∷◌, length, map, get_or, drop, Option, None, Some, refl, sym, ap, subst, ◌∙◌, arith}
+use Rattle.std.proofs.Common.{◌≡◌, ℕ, suc, ◌+◌, ◌<◌, ◌≤◌, List, [], ◌∷◌, length, map, get_or, drop, None, Some, refl, sym, ap, subst, ◌∙◌, arith}
 use Rattle.nss_parser.specs.declared.symbol.Seen.{Seen}
-use Rattle.nss_parser.specs.Symbols.{Symbol, Spot, spots}
+use Rattle.nss_parser.specs.Symbols.{Spot, spots}
 use Rattle.nss_parser.specs.Outcome.{Got, Stuck, first, here, take}
 use Rattle.nss_parser.specs.Cursor.{plain_symbol}
 

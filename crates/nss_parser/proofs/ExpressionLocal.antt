@@ -1,12 +1,11 @@
 -- Reading of expressions depends on the tokens that it passes and the next one, and more depth changes nothing.
-use Rattle.std.proofs.Common.{◌≡◌, ℕ, zero, suc, ◌+◌, ◌<◌, ◌≤◌, Bool, true, false, List, [], ◌∷◌, Option, None, Some, arith, nat_lt}
+use Rattle.std.proofs.Common.{ℕ, zero, suc, ◌+◌, ◌≤◌, List, Option, None, Some, arith, nat_lt}
 use Rattle.std.specs.Prelude.{◌==◌}
 use Rattle.nss_tree.specs.declared.operators.PrefixOperator.{PrefixOperator}
 use Rattle.nss_tree.specs.declared.operators.BinaryOperator.{BinaryOperator}
 use Rattle.nss_tree.specs.declared.operators.AssignOperator.{AssignOperator}
 use Rattle.nss_tree.specs.Expressions as tree
 use Rattle.nss_tree.specs.Expressions.{PlainExpr, PlainExprs, joined_exprs}
-use Rattle.nss_parser.specs.declared.mark.Mark.{Mark}
 use Rattle.nss_parser.specs.declared.mark.Mark.TheVariants as mark
 use Rattle.nss_parser.specs.declared.operator.Suffix.{Suffix}
 use Rattle.nss_parser.specs.declared.operator.Suffix.TheVariants.{Member, Step}

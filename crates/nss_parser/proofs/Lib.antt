@@ -25,5 +25,6 @@ pub mod StatementLocal
 pub mod StatementComplete
 pub mod StatementRight
 pub mod Whole
+pub mod OneRefusal
 pub mod ReaderLemmas
 pub mod SeenLemmas

@@ -1,5 +1,5 @@
 -- Reading depends on the tokens that it passes and on the next one alone, and more depth changes nothing.
-use Rattle.std.proofs.Common.{◌≡◌, ℕ, Bool, true, false, List, [], ◌∷◌, ◌++◌, Option, None, Some, refl, sym, ap, ◌∙◌, append_assoc}
+use Rattle.std.proofs.Common.{◌≡◌, Bool, true, false, List, [], ◌∷◌, ◌++◌, Option, None, Some, refl, sym, ap, ◌∙◌, append_assoc}
 use Rattle.nss_parser.specs.Symbols as symbol
 use Rattle.nss_parser.specs.Symbols.{Symbol, Spot}
 use Rattle.nss_parser.specs.declared.mark.Mark.{Mark}

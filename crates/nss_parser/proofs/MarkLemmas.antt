@@ -1,6 +1,5 @@
 -- Finding a mark, a step at a time.
-use Rattle.std.proofs.Common.{◌≡◌, ℕ, ◌+◌, ◌<◌, ◌≤◌, Bool, true, false, List, [], ◌∷◌, None, Some, length, get_or, drop, refl, ap, ◌∙◌, add-one, drop-cons, drop_of_length-le}
-use Rattle.std.specs.Bool.{if◌then◌else◌}
+use Rattle.std.proofs.Common.{◌≡◌, ℕ, ◌+◌, ◌<◌, ◌≤◌, true, false, List, None, Some, length, get_or, drop, refl, ap, add-one, drop-cons, drop_of_length-le}
 use Rattle.std.specs.Str.{bytes_eq}
 use Rattle.nss_parser.specs.declared.mark.Mark.{Mark}
 use Rattle.nss_parser.specs.Marks.{among, spelling}

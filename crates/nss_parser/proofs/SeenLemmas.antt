@@ -1,5 +1,5 @@
 -- One token more of those that the parser sees.
-use Rattle.std.proofs.Common.{◌≡◌, ◌∙◌, ℕ, suc, ◌+◌, ◌<◌, ◌≤◌, List, [], ◌∷◌, ◌++◌, length, map, take, drop, get_or, refl, sym, ap, subst, arith, add-one, drop-cons, drop_of_length-le}
+use Rattle.std.proofs.Common.{◌≡◌, ◌∙◌, ℕ, ◌+◌, ◌<◌, ◌≤◌, List, [], ◌∷◌, ◌++◌, length, map, drop, get_or, refl, sym, ap, subst, add-one, drop-cons, drop_of_length-le}
 use Rattle.std.proofs.lemmas.List as lists
 use Rattle.std.specs.List.{AllByRecursion}
 use Rattle.nss_lexer.specs.declared.token.Token.{Token}

@@ -1,12 +1,12 @@
 -- Reading of units depends on the tokens that it passes and the next one, and more depth changes nothing.
-use Rattle.std.proofs.Common.{ℕ, zero, suc, ◌+◌, ◌≤◌, List, [], ◌∷◌, ◌++◌, Option, None, Some, arith}
+use Rattle.std.proofs.Common.{ℕ, zero, suc, ◌≤◌, List, [], ◌∷◌, ◌++◌, Option, None, Some, arith}
 use Rattle.nss_tree.specs.declared.constants.TypeName.{TypeName}
 use Rattle.nss_tree.specs.declared.constants.TypeName.TheVariants as type
 use Rattle.nss_tree.specs.declared.units.Identifier.{Identifier}
 use Rattle.nss_tree.specs.declared.units.FieldLine.{FieldLine}
 use Rattle.nss_tree.specs.declared.units.Parameter.{Parameter}
 use Rattle.nss_tree.specs.Statements.{PlainStmts}
-use Rattle.nss_tree.specs.Units.{PlainItem, PlainTree}
+use Rattle.nss_tree.specs.Units.{PlainTree}
 use Rattle.nss_parser.specs.declared.mark.Mark.TheVariants as mark
 use Rattle.nss_parser.specs.Symbols.{Symbol}
 use Rattle.nss_parser.specs.Outcome.{Parser, is_sign}

@@ -1,5 +1,5 @@
 -- A list of tokens has at most one tree, reading gives it, and where reading stops is the exact place.
-use Rattle.std.proofs.Common.{◌≡◌, ℕ, zero, suc, ◌+◌, ◌-◌, ◌<◌, ◌≤◌, Bool, true, false, List, [], ◌∷◌, ◌++◌, length, take, refl, sym, ap, subst, ◌∙◌, arith, append_assoc, append-nil, length-append}
+use Rattle.std.proofs.Common.{◌≡◌, ℕ, suc, ◌+◌, ◌-◌, ◌<◌, ◌≤◌, false, List, [], ◌∷◌, ◌++◌, length, take, refl, sym, ap, subst, ◌∙◌, arith, append_assoc, append-nil, length-append}
 use Rattle.std.proofs.lemmas.List.{append_cancel_right}
 use Rattle.nss_tree.specs.Statements as stmt
 use Rattle.nss_tree.specs.Statements.{PlainStmts}
@@ -10,7 +10,6 @@ use Rattle.nss_parser.specs.Outcome.{Outcome, Got, Stuck, Deep, next}
 use Rattle.nss_parser.specs.Grammar.{Entries}
 use Rattle.nss_parser.specs.Unit.{Items}
 use Rattle.nss_parser.specs.ReadStatement.{entries, statement}
-use Rattle.nss_parser.specs.ReadUnit.{items}
 use Rattle.nss_parser.specs.ReadWhole.{unit}
 use Rattle.nss_parser.specs.Sentence.{Parses, IsFront, IsPlace, OneTree}
 use Rattle.nss_parser.proofs.Local.{Local, Same}

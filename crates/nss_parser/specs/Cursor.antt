@@ -1,5 +1,5 @@
 -- How code sees tokens while it reads, and what a reader in code gives by the reader on lists.
-use Rattle.std.specs.Prelude.{◌≡◌, ℕ, ◌≤◌, List, [], ◌∷◌, length, take, Result, Ok, Err}
+use Rattle.std.specs.Prelude.{◌≡◌, ◌≤◌, List, [], ◌∷◌, length, take, Result, Ok, Err}
 use Rattle.nwq_value.specs.declared.text.TheConstants.{TEXT_BYTES}
 use Rattle.nss_lexer.specs.Strings.{IsString, string_value}
 use Rattle.nss_parser.specs.declared.symbol.Seen.{Seen}

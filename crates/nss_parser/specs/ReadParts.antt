@@ -1,5 +1,5 @@
 -- Parts of statements that code reads at once, so that it holds no statement while it reads on.
-use Rattle.std.specs.Prelude.{ℕ, List, Option, None, Some}
+use Rattle.std.specs.Prelude.{ℕ, Option, None, Some}
 use Rattle.nss_tree.specs.Expressions.{PlainExpr}
 use Rattle.nss_tree.specs.Statements as stmt
 use Rattle.nss_tree.specs.Statements.{PlainStmt}

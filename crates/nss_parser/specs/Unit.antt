@@ -1,5 +1,5 @@
 -- The grammar of a unit: structs, consts, globals and functions.
-use Rattle.std.specs.Prelude.{◌≡◌, ℕ, List, [], ◌∷◌, ◌++◌, false, Option, None, Some}
+use Rattle.std.specs.Prelude.{ℕ, List, [], ◌∷◌, ◌++◌, false, Option, None, Some}
 use Rattle.nss_tree.specs.declared.constants.TypeName.{TypeName}
 use Rattle.nss_tree.specs.declared.constants.Constant.{Constant}
 use Rattle.nss_tree.specs.declared.units.Identifier.{Identifier}

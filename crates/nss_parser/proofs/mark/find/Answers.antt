@@ -1,4 +1,4 @@
-use Rattle.std.proofs.Common.{rules, ◌≡◌, ◌∙◌, sym, true, false, ap, get_or}
+use Rattle.std.proofs.Common.{◌≡◌, ◌∙◌, sym, true, false, ap, get_or}
 use Rattle.std.specs.Str.{bytes_eq}
 use Rattle.nss_parser.specs.Marks.{spelling}
 use Rattle.nss_parser.specs.declared.mark.Mark.TheVariants.{Void}

@@ -1,4 +1,4 @@
-use Rattle.std.proofs.Common.{rules, ◌≡◌, ◌∙◌, ap}
+use Rattle.std.proofs.Common.{◌∙◌, ap}
 use Rattle.nss_parser.specs.Marks.{mark_of, among}
 use Rattle.nss_parser.proofs.mark.mark_of.Goals as goal
 

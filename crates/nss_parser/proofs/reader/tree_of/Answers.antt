@@ -1,4 +1,4 @@
-use Rattle.std.proofs.Common.{◌≡◌, ℕ, ◌+◌, ◌-◌, ◌<◌, ◌≤◌, length, map, sym, subst, arith, false}
+use Rattle.std.proofs.Common.{ℕ, ◌+◌, ◌-◌, ◌≤◌, length, map, sym, subst, arith, false}
 use Rattle.nss_tree.specs.Reading.{plain_tree}
 use Rattle.nss_parser.specs.Sentence.{IsPlace}
 use Rattle.nss_parser.specs.Cursor.{plain_symbol}

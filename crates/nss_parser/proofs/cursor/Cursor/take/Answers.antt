@@ -1,4 +1,4 @@
-use Rattle.std.proofs.Common.{rules, ◌≡◌, ◌∙◌, ◌+◌, sym, ap, arith, List, map}
+use Rattle.std.proofs.Common.{◌∙◌, ◌+◌, sym, ap, List, map}
 use Rattle.nss_parser.specs.declared.symbol.Seen.{Seen}
 use Rattle.nss_parser.specs.Symbols.{spots}
 use Rattle.nss_parser.specs.Outcome.{Got}
