@@ -3,7 +3,13 @@ pub mod FlatLemmas
 pub mod PlaceLemmas
 pub mod SectionLemmas
 pub mod RowLemmas
-pub mod LabelLemmas
+pub mod LabelStands
 pub mod ScalarLemmas
 pub mod TreeStands
 pub mod WrittenLaws
+pub mod LabelLemmas
+pub mod SizeLemmas
+pub mod CapLemmas
+pub mod NextLemmas
+pub mod WalkLemmas
+pub mod TableLemmas

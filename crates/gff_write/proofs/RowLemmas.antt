@@ -17,6 +17,7 @@ use Rattle.gff_write.specs.declared.flat.Row.{Row}
 use Rattle.gff_write.specs.Flat.{word}
 use Rattle.gff_write.specs.File as file
 use Rattle.gff_write.specs.File.{place_of, data_of, list_of, third_of, entry_bytes, entries_data, entries_lists, entries_bytes, rows_data, rows_lists, rows_fields, words_up, indices_of, second_of, rows_indices, rows_structs, field_count}
+use Rattle.gff_write.proofs.SizeLemmas.{entry_length, row_length, up_length}
 use Rattle.gff_write.proofs.PlaceLemmas.{At, front_at, next_at, word_length, word_stands, words_stand, low_is}
 
 -- these bytes stand in a section that counts bytes, from an offset on
@@ -27,7 +28,8 @@ pub record In (bytes : List ℕ) (which : Part) (offset : ℕ) (xs : List ℕ) :
 pub front_in : {bytes : List ℕ} {which : Part} {offset : ℕ} (xs ys : List ℕ) → In bytes which offset (xs ++ ys) → In bytes which offset xs
 front_in xs ys s = let long = length-append xs ys in let room = s.room in record { at = front_at xs ys s.at; room = omega arith }
 
-pub next_in : {bytes : List ℕ} {which : Part} {offset : ℕ} (now : ℕ) (xs ys : List ℕ) → offset + length xs ≡ now → In bytes which offset (xs ++ ys) → In bytes which now ys
+pub next_in : {bytes : List ℕ} {which : Part} {offset : ℕ} (now : ℕ) (xs ys : List ℕ) → offset + length xs ≡ now →
+    In bytes which offset (xs ++ ys) → In bytes which now ys
 next_in now xs ys same s =
     let long = length-append xs ys in
     let room = s.room in
@@ -85,20 +87,14 @@ AllLabelsAt bytes table (row ∷ rows) = LabelsAt bytes table row.fields × AllL
 offset_low : {bytes : List ℕ} {which : Part} (offset : ℕ) (xs : List ℕ) → Small_counts bytes → In bytes which offset xs → offset % 4294967296 ≡ offset
 offset_low {which = which} offset xs small s = let room = s.room in let few = small which in omega arith
 
-content_at : {bytes : List ℕ} (datum list third : ℕ) (content : Content) → Small_counts bytes → In bytes part.Data datum (data_of content) → In bytes part.List list (list_of content) →
+content_at : {bytes : List ℕ} (datum list third : ℕ) (content : Content) → Small_counts bytes → In bytes part.Data datum (data_of content) →
+    In bytes part.List list (list_of content) →
     third ≡ third_of datum list content % 4294967296 → ContentAt bytes third content
 content_at datum list third (Small n) small d l is = is
 content_at {bytes = bytes} datum list third (Data xs) small d l is = subst (λ (o : ℕ). In bytes part.Data o xs) (sym (is ∙ offset_low datum xs small d)) d
 content_at datum list third (Number n) small d l is = is
 content_at {bytes = bytes} datum list third (Numbers ns) small d l is =
     subst (λ (o : ℕ). In bytes part.List o (word (length ns) ++ flat_map word ns)) (sym (is ∙ offset_low list (word (length ns) ++ flat_map word ns) small l)) l
-
-entry_length : (table : List (List ℕ)) (datum list : ℕ) (entry : Entry) → length (entry_bytes table datum list entry) ≡ 12
-entry_length table datum list entry =
-    let k = word entry.kind in
-    let p = word (place_of table entry.label) in
-    let t = word (third_of datum list entry.content) in
-    omega (arith, length-append (k ++ p) t, length-append k p, word_length entry.kind, word_length (place_of table entry.label), word_length (third_of datum list entry.content))
 
 entry_at : {bytes : List ℕ} (table : List (List ℕ)) (field datum list : ℕ) (entry : Entry) → Small_counts bytes → LabelAt bytes table entry.label →
     At bytes (start_of bytes part.Field + 12 * field) (entry_bytes table datum list entry) → field < count_of bytes part.Field →
@@ -116,7 +112,8 @@ entry_at {bytes = bytes} table field datum list entry small labelled s inside d 
       content = content_at datum list (word_at bytes (place + 8)) entry.content small d l words.2;
     }
 
-pub entries_at : {bytes : List ℕ} (table : List (List ℕ)) (field datum list : ℕ) (entries : List Entry) → Small_counts bytes → LabelsAt bytes table entries →
+pub entries_at : {bytes : List ℕ} (table : List (List ℕ)) (field datum list : ℕ) (entries : List Entry) → Small_counts bytes →
+    LabelsAt bytes table entries →
     At bytes (start_of bytes part.Field + 12 * field) (entries_bytes table datum list entries) → field + length entries ≤ count_of bytes part.Field →
     In bytes part.Data datum (entries_data entries) → In bytes part.List list (entries_lists entries) → EntriesAt bytes field entries
 entries_at table field datum list [] small labelled s inside d l = tt
@@ -132,7 +129,8 @@ entries_at {bytes = bytes} table field datum list (entry ∷ entries) small labe
     )
 
 -- the numbers in a row
-word_up : {bytes : List ℕ} (place first count i : ℕ) → i < count → At bytes place (words_up first count) → word_at bytes (place + 4 * i) ≡ (first + i) % 4294967296
+word_up : {bytes : List ℕ} (place first count i : ℕ) → i < count → At bytes place (words_up first count) →
+    word_at bytes (place + 4 * i) ≡ (first + i) % 4294967296
 word_up place first zero i inside s = absurd (omega arith)
 word_up {bytes = bytes} place first (suc count) zero inside s =
     let same : first ≡ first + 0 = omega arith in
@@ -144,10 +142,6 @@ word_up {bytes = bytes} place first (suc count) (suc i) inside s =
     let spot : place + 4 * suc i ≡ place + 4 + 4 * i = omega arith in
     let same : first + suc i ≡ first + 1 + i = omega arith in
     ap (word_at bytes) spot ∙ (rest ∙ ap (λ (n : ℕ). n % 4294967296) (sym same))
-
-words_length : (first count : ℕ) → length (words_up first count) ≡ 4 * count
-words_length first zero = refl
-words_length first (suc count) = omega (arith, length-append (word first) (words_up (first + 1) count), word_length first, words_length (first + 1) count)
 
 second_one : (first index count : ℕ) → count ≡ 1 → second_of first index count ≡ first
 second_one first index count one = ap (second_of first index) one
@@ -161,24 +155,28 @@ second_more first index count more =
 indices_more : (first count : ℕ) → 2 ≤ count → indices_of first count ≡ words_up first count
 indices_more first count more = cond-false _ _ _ (le-ltb count 2 more)
 
-numbered_one : (bytes : List ℕ) (entry : StructRow) (first i : ℕ) → entry.count ≡ 1 → entry.word ≡ first + i → field_number bytes entry i ≡ Ok (first + i)
+numbered_one : (bytes : List ℕ) (entry : StructRow) (first i : ℕ) → entry.count ≡ 1 → entry.word ≡ first + i →
+    field_number bytes entry i ≡ Ok (first + i)
 unfolding field_number
 numbered_one bytes entry first i one is = cond-true _ _ _ (eq-eqb entry.count 1 one) ∙ ap Ok is
 
-numbered_more : {bytes : List ℕ} (entry : StructRow) (first index count i : ℕ) → i < count → 2 ≤ count → entry.count ≡ count → entry.word ≡ index → first + i < 4294967296 →
+numbered_more : {bytes : List ℕ} (entry : StructRow) (first index count i : ℕ) → i < count → 2 ≤ count → entry.count ≡ count →
+    entry.word ≡ index → first + i < 4294967296 →
     In bytes part.Index index (words_up first count) → field_number bytes entry i ≡ Ok (first + i)
 unfolding field_number index_at
 numbered_more {bytes = bytes} entry first index count i inside more counted is low s =
     let many : (entry.count == 1) ≡ false = ne_eqb entry.count 1 (λ e. omega arith) in
-    let long = words_length first count in
+    let long = up_length first count in
     let room = s.room in
     let test : nat_le (entry.word + 4 * i + 4) (count_of bytes part.Index) ≡ true = le-leb _ _ (omega arith) in
     let spot : start_of bytes part.Index + (entry.word + 4 * i) ≡ start_of bytes part.Index + index + 4 * i = omega arith in
     let read = word_up (start_of bytes part.Index + index) first count i inside s.at in
     cond-false _ _ _ many ∙ (cond-true _ _ _ test ∙ ap Ok (ap (word_at bytes) spot ∙ (read ∙ low_is (first + i) low)))
 
-numbered : {bytes : List ℕ} (entry : StructRow) (first index count : ℕ) → Small_counts bytes → entry.count ≡ count → entry.word ≡ second_of first index count % 4294967296 →
-    first + count ≤ count_of bytes part.Field → In bytes part.Index index (indices_of first count) → (i : ℕ) → i < count → field_number bytes entry i ≡ Ok (first + i)
+numbered : {bytes : List ℕ} (entry : StructRow) (first index count : ℕ) → Small_counts bytes → entry.count ≡ count →
+    entry.word ≡ second_of first index count % 4294967296 →
+    first + count ≤ count_of bytes part.Field → In bytes part.Index index (indices_of first count) → (i : ℕ) → i < count →
+    field_number bytes entry i ≡ Ok (first + i)
 numbered {bytes = bytes} entry first index count small counted is room s i inside =
     let few = small part.Field in
     let own = s.room in
@@ -193,17 +191,12 @@ numbered {bytes = bytes} entry first index count small counted is room s i insid
     numbered_more entry first index count i inside more counted word (omega arith) (subst (λ (xs : List ℕ). In bytes part.Index index xs) (indices_more first count more) s)))
     (cases_lt count 2)
 
-row_length : (first index : ℕ) (row : Row) → length (file.row_bytes first index row) ≡ 12
-row_length first index row =
-    let k = word row.kind in
-    let p = word (second_of first index (length row.fields)) in
-    let t = word (length row.fields) in
-    omega (arith, length-append (k ++ p) t, length-append k p, word_length row.kind, word_length (second_of first index (length row.fields)), word_length (length row.fields))
-
 row_at : {bytes : List ℕ} (table : List (List ℕ)) (n first index datum list : ℕ) (row : Row) → Small_counts bytes → LabelsAt bytes table row.fields →
     At bytes (start_of bytes part.Struct + 12 * n) (file.row_bytes first index row) → n < count_of bytes part.Struct →
-    At bytes (start_of bytes part.Field + 12 * first) (entries_bytes table datum list row.fields) → first + length row.fields ≤ count_of bytes part.Field →
-    In bytes part.Index index (indices_of first (length row.fields)) → In bytes part.Data datum (entries_data row.fields) → In bytes part.List list (entries_lists row.fields) → RowAt bytes n row
+    At bytes (start_of bytes part.Field + 12 * first) (entries_bytes table datum list row.fields) →
+    first + length row.fields ≤ count_of bytes part.Field →
+    In bytes part.Index index (indices_of first (length row.fields)) → In bytes part.Data datum (entries_data row.fields) →
+    In bytes part.List list (entries_lists row.fields) → RowAt bytes n row
 unfolding struct_row
 row_at {bytes = bytes} table n first index datum list row small labelled s inside f room x d l =
     let words = words_stand row.kind (second_of first index (length row.fields)) (length row.fields) s in
@@ -222,7 +215,8 @@ row_at {bytes = bytes} table n first index datum list row small labelled s insid
       fields = entries_at table first datum list row.fields small labelled f room d l;
     }
 
-entries_length : (table : List (List ℕ)) (datum list : ℕ) (entries : List Entry) → length (entries_bytes table datum list entries) ≡ 12 * length entries
+entries_length : (table : List (List ℕ)) (datum list : ℕ) (entries : List Entry) →
+    length (entries_bytes table datum list entries) ≡ 12 * length entries
 entries_length table datum list [] = refl
 entries_length table datum list (entry ∷ entries) =
     let head = entry_bytes table datum list entry in
@@ -234,10 +228,12 @@ entries_length table datum list (entry ∷ entries) =
       entries_length table (datum + length (data_of entry.content)) (list + length (list_of entry.content)) entries,
     )
 
-pub rows_at : {bytes : List ℕ} (table : List (List ℕ)) (n first index datum list : ℕ) (rows : List Row) → Small_counts bytes → AllLabelsAt bytes table rows →
+pub rows_at : {bytes : List ℕ} (table : List (List ℕ)) (n first index datum list : ℕ) (rows : List Row) → Small_counts bytes →
+    AllLabelsAt bytes table rows →
     At bytes (start_of bytes part.Struct + 12 * n) (rows_structs first index rows) → n + length rows ≤ count_of bytes part.Struct →
     At bytes (start_of bytes part.Field + 12 * first) (rows_fields table datum list rows) → first + field_count rows ≤ count_of bytes part.Field →
-    In bytes part.Index index (rows_indices first rows) → In bytes part.Data datum (rows_data rows) → In bytes part.List list (rows_lists rows) → RowsAt bytes n rows
+    In bytes part.Index index (rows_indices first rows) → In bytes part.Data datum (rows_data rows) →
+    In bytes part.List list (rows_lists rows) → RowsAt bytes n rows
 rows_at table n first index datum list [] small labelled s inside f room x d l = tt
 rows_at {bytes = bytes} table n first index datum list (row ∷ rows) small labelled s inside f room x d l =
     let count = length row.fields in

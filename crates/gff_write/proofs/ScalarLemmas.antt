@@ -79,14 +79,16 @@ low_number bound n third low small is = ap (λ (m : ℕ). m % bound) (is ∙ low
 word_number : (n : ℕ) → n < 4294967296 → number_in 4 (word n) ≡ n
 word_number n low = ap (number_in 4) (sym (append-nil (word n))) ∙ (word_reads n [] ∙ low_is n low)
 
-pub data_reads : {bytes : List ℕ} {offset : ℕ} (count : ℕ) (xs : List ℕ) → length xs ≡ count → In bytes part.Data offset xs → data_at bytes offset count ≡ Ok xs
+pub data_reads : {bytes : List ℕ} {offset : ℕ} (count : ℕ) (xs : List ℕ) → length xs ≡ count → In bytes part.Data offset xs →
+    data_at bytes offset count ≡ Ok xs
 unfolding data_at
 data_reads {bytes = bytes} {offset = offset} count xs long s =
     let room = s.room in
     let test : nat_le (offset + count) (count_of bytes part.Data) ≡ true = le-leb _ _ (omega arith) in
     cond-true _ _ _ test ∙ ap Ok (taken_at count xs long s.at)
 
-counted_stands : {bytes : List ℕ} {offset : ℕ} (text : List ℕ) → Small_counts bytes → In bytes part.Data offset (counted text) → CountedStands bytes offset 4 (length text) text
+counted_stands : {bytes : List ℕ} {offset : ℕ} (text : List ℕ) → Small_counts bytes → In bytes part.Data offset (counted text) →
+    CountedStands bytes offset 4 (length text) text
 counted_stands {offset = offset} text small s =
     let few = small part.Data in
     let room = s.room in
@@ -105,21 +107,16 @@ parts_stand (part ∷ parts) are short =
     let size = word (length text) in
     let rest = flat_map part_bytes parts in
     let bytes = (id ++ (size ++ text)) ++ rest in
-    let long : length bytes ≡ 8 + length text + length rest =
-    omega (
-      arith,
-      length-append (id ++ (size ++ text)) rest,
-      length-append id (size ++ text),
-      length-append size text,
-      word_length (cast_unsigned w32 part.id),
-      word_length (length text),
-    ) in
-    let own : length (id ++ (size ++ text)) ≡ 8 + length text = omega (arith, length-append id (size ++ text), length-append size text, word_length (cast_unsigned w32 part.id), word_length (length text)) in
+    let own : length (id ++ (size ++ text)) ≡ 8 + length text =
+    omega (arith, length-append id (size ++ text), length-append size text, word_length (cast_unsigned w32 part.id), word_length (length text)) in
+    let long : length bytes ≡ 8 + length text + length rest = omega (arith, length-append (id ++ (size ++ text)) rest, own) in
     let two : length (id ++ size) ≡ 8 = omega (arith, length-append id size, word_length (cast_unsigned w32 part.id), word_length (length text)) in
     let apart : bytes ≡ id ++ (size ++ (text ++ rest)) = simp append_assoc in
-    let behind : drop 8 bytes ≡ text ++ rest = ap (drop 8) (apart ∙ sym (append_assoc id size (text ++ rest))) ∙ drop_at (id ++ size) (text ++ rest) 8 two in
+    let behind : drop 8 bytes ≡ text ++ rest =
+    ap (drop 8) (apart ∙ sym (append_assoc id size (text ++ rest))) ∙ drop_at (id ++ size) (text ++ rest) 8 two in
     let fits : cast_unsigned w32 part.id < 4294967296 = low32 part.id are.0 in
-    let identity : number_in 4 bytes ≡ cast_unsigned w32 part.id = ap (number_in 4) apart ∙ (word_reads (cast_unsigned w32 part.id) (size ++ (text ++ rest)) ∙ low_is (cast_unsigned w32 part.id) fits) in
+    let identity : number_in 4 bytes ≡ cast_unsigned w32 part.id =
+    ap (number_in 4) apart ∙ (word_reads (cast_unsigned w32 part.id) (size ++ (text ++ rest)) ∙ low_is (cast_unsigned w32 part.id) fits) in
     let sized : number_in 4 (drop 4 bytes) ≡ length text =
     ap (λ (bs : List ℕ). number_in 4 (drop 4 bs)) apart
     ∙ (ap (number_in 4) (drop_at id (size ++ (text ++ rest)) 4 (word_length (cast_unsigned w32 part.id))) ∙ (word_reads (length text) (text ++ rest) ∙ low_is (length text) (omega (arith, long)))) in (
@@ -137,7 +134,8 @@ parts_length (part ∷ parts) =
     let id = word (cast_unsigned w32 part.id) in
     omega (arith, length-append (part_bytes part) (flat_map part_bytes parts), length-append id (counted part.text), word_length (cast_unsigned w32 part.id), parts_length parts)
 
-localized_stands : (loc : Loc) → loc.str_ref < 4294967296 → AreParts loc.parts → length (word loc.str_ref ++ word (length loc.parts) ++ flat_map part_bytes loc.parts) < 4294967296 →
+localized_stands : (loc : Loc) → loc.str_ref < 4294967296 → AreParts loc.parts →
+    length (word loc.str_ref ++ word (length loc.parts) ++ flat_map part_bytes loc.parts) < 4294967296 →
     LocalizedStands (word loc.str_ref ++ word (length loc.parts) ++ flat_map part_bytes loc.parts) loc
 localized_stands loc low are short =
     let first = word loc.str_ref in
@@ -163,7 +161,8 @@ byte_number : (n : ℕ) (rest : List ℕ) → number_in 1 (n ∷ rest) ≡ n
 unfolding number_in
 byte_number n rest = omega arith
 
-name_stands : {bytes : List ℕ} {offset : ℕ} (name : List ℕ) → length name ≤ 16 → In bytes part.Data offset (named name) → CountedStands bytes offset 1 (length name) name
+name_stands : {bytes : List ℕ} {offset : ℕ} (name : List ℕ) → length name ≤ 16 → In bytes part.Data offset (named name) →
+    CountedStands bytes offset 1 (length name) name
 name_stands {offset = offset} name short s =
     let head : List ℕ = (length name % 256) ∷ [] in
     let same : length name % 256 ≡ length name = omega arith in (
@@ -171,7 +170,8 @@ name_stands {offset = offset} name short s =
       data_reads (length name) name refl (next_in (offset + 1) head name refl s),
     )
 
-pub scalar_stands : (bytes : List ℕ) (third : ℕ) (s : Scalar) → Small_counts bytes → IsScalar s → is_sound_scalar s ≡ true → ContentAt bytes third (scalar_content s) → ScalarStands bytes (kind_for s) third s
+pub scalar_stands : (bytes : List ℕ) (third : ℕ) (s : Scalar) → Small_counts bytes → IsScalar s → is_sound_scalar s ≡ true →
+    ContentAt bytes third (scalar_content s) → ScalarStands bytes (kind_for s) third s
 scalar_stands bytes third (tree.Byte n) small is sound at = ap tree.Byte (sym (low_number 256 n third is (omega arith) at))
 scalar_stands bytes third (tree.Char n) small is sound at =
     ap tree.Char (sym (ap (cast_signed w8) (low_number 256 (cast_unsigned w8 n) third (low8 n is) (omega arith) at) ∙ to_z-of_z w8 n is))

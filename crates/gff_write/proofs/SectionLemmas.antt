@@ -22,7 +22,8 @@ pub record Lies (bytes : List ℕ) (which : Part) (count : ℕ) (xs : List ℕ) 
 section_length : (offset count : ℕ) → length (section_words offset count) ≡ 8
 section_length offset count = omega (arith, length-append (word offset) (word count), word_length offset, word_length count)
 
-lies : {bytes : List ℕ} (which : Part) (offset count : ℕ) (xs : List ℕ) → At bytes (header_place which) (section_words offset count) → At bytes offset xs →
+lies : {bytes : List ℕ} (which : Part) (offset count : ℕ) (xs : List ℕ) → At bytes (header_place which) (section_words offset count) →
+    At bytes offset xs →
     offset + length xs ≤ length bytes → length bytes ≤ 16777216 → count ≤ 16777216 → Lies bytes which count xs
 lies {bytes = bytes} which offset count xs head s inside small few =
     let start : start_of bytes which ≡ offset = word_stands offset (front_at (word offset) (word count) head) ∙ low_is offset (omega arith) in
@@ -52,7 +53,8 @@ record Heads (bytes t v a b c d e f : List ℕ) : Type 0 where
   indices : At bytes 40 e
   lists : At bytes 48 f
 
-heads : {bytes : List ℕ} (t v a b c d e f : List ℕ) → length t ≡ 4 → length v ≡ 4 → length a ≡ 8 → length b ≡ 8 → length c ≡ 8 → length d ≡ 8 → length e ≡ 8 →
+heads : {bytes : List ℕ} (t v a b c d e f : List ℕ) → length t ≡ 4 → length v ≡ 4 → length a ≡ 8 → length b ≡ 8 → length c ≡ 8 →
+    length d ≡ 8 → length e ≡ 8 →
     At bytes 0 (t ++ v ++ a ++ b ++ c ++ d ++ e ++ f) → Heads bytes t v a b c d e f
 heads t v a b c d e f lt lv la lb lc ld le s =
     let l1 : length (t ++ v) ≡ 8 = omega (arith, length-append t v) in
@@ -109,11 +111,15 @@ bodies {place = place} a b c d e f s =
       long = omega (arith, l2, l3, l4, l5, l6);
     }
 
-pub header_length : (file_type : List ℕ) (s : Sections) (structs fields labels : ℕ) → length file_type ≡ 4 → length (header_of file_type s structs fields labels) ≡ 56
+pub header_length : (file_type : List ℕ) (s : Sections) (structs fields labels : ℕ) → length file_type ≡ 4 →
+    length (header_of file_type s structs fields labels) ≡ 56
 unfolding header_of
-header_length file_type s structs fields labels four = all file_type (codes "V3.2") (section_words 56 structs) _ _ _ _ _ four refl (section_length _ _) (section_length _ _) (section_length _ _) (section_length _ _) (section_length _ _) (section_length _ _)
+header_length file_type s structs fields labels four =
+    all file_type (codes "V3.2") (section_words 56 structs) _ _ _ _ _ four refl (section_length _ _)
+    (section_length _ _) (section_length _ _) (section_length _ _) (section_length _ _) (section_length _ _)
   where
-    all : (t v a b c d e f : List ℕ) → length t ≡ 4 → length v ≡ 4 → length a ≡ 8 → length b ≡ 8 → length c ≡ 8 → length d ≡ 8 → length e ≡ 8 → length f ≡ 8 →
+    all : (t v a b c d e f : List ℕ) → length t ≡ 4 → length v ≡ 4 → length a ≡ 8 → length b ≡ 8 → length c ≡ 8 → length d ≡ 8 →
+        length e ≡ 8 → length f ≡ 8 →
         length (t ++ v ++ a ++ b ++ c ++ d ++ e ++ f) ≡ 56
     all t v a b c d e f lt lv la lb lc ld le lf =
         omega (
@@ -127,8 +133,10 @@ header_length file_type s structs fields labels four = all file_type (codes "V3.
           length-append (t ++ v ++ a ++ b ++ c ++ d ++ e) f,
         )
 
-pub laid : (file_type : List ℕ) (s : Sections) (structs fields labels : ℕ) → length file_type ≡ 4 → structs ≤ 16777216 → fields ≤ 16777216 → labels ≤ 16777216 →
-    length (header_of file_type s structs fields labels ++ body_of s) ≤ 16777216 → Laid (header_of file_type s structs fields labels ++ body_of s) file_type s structs fields labels
+pub laid : (file_type : List ℕ) (s : Sections) (structs fields labels : ℕ) → length file_type ≡ 4 → structs ≤ 16777216 → fields ≤ 16777216 →
+    labels ≤ 16777216 →
+    length (header_of file_type s structs fields labels ++ body_of s) ≤ 16777216 →
+    Laid (header_of file_type s structs fields labels ++ body_of s) file_type s structs fields labels
 unfolding header_of
 laid file_type s structs fields labels four few_structs few_fields few_labels small =
     let header = header_of file_type s structs fields labels in
@@ -162,13 +170,15 @@ held : (b : Bool) (fault : OpenFault) (more : Option OpenFault) → b ≡ true �
 held true fault more e none = none
 held false fault more e none = absurd cc
 
-ends : {bytes : List ℕ} (which : Part) (count : ℕ) (xs : List ℕ) → length xs ≡ row_bytes which * count → Lies bytes which count xs → passes_end bytes which ≡ false
+ends : {bytes : List ℕ} (which : Part) (count : ℕ) (xs : List ℕ) → length xs ≡ row_bytes which * count → Lies bytes which count xs →
+    passes_end bytes which ≡ false
 ends {bytes = bytes} which count xs long s =
     let same : row_bytes which * count_of bytes which ≡ length xs = ap (λ (n : ℕ). row_bytes which * n) s.counted ∙ sym long in
     le-ltb (length bytes) (row_place bytes which (count_of bytes which)) (omega (arith, same, s.inside))
 
 -- a laid file opens
-pub opens : {bytes : List ℕ} (file_type : List ℕ) (s : Sections) (structs fields labels : ℕ) → 56 ≤ length bytes → length s.structs ≡ 12 * structs → length s.fields ≡ 12 * fields → length s.labels ≡ 16 * labels →
+pub opens : {bytes : List ℕ} (file_type : List ℕ) (s : Sections) (structs fields labels : ℕ) → 56 ≤ length bytes →
+    length s.structs ≡ 12 * structs → length s.fields ≡ 12 * fields → length s.labels ≡ 16 * labels →
     Laid bytes file_type s structs fields labels → open_fault bytes ≡ None
 unfolding open_fault
 opens {bytes = bytes} file_type s structs fields labels head long_structs long_fields long_labels l =
@@ -182,7 +192,8 @@ opens {bytes = bytes} file_type s structs fields labels head long_structs long_f
     (clear _ _ _ (ends part.List (length s.lists) s.lists (omega arith) l.list_part) refl)))))))
 
 -- each count of a laid file is small
-pub counts_small : {bytes : List ℕ} (file_type : List ℕ) (s : Sections) (structs fields labels : ℕ) → Laid bytes file_type s structs fields labels → structs ≤ 16777216 → fields ≤ 16777216 → labels ≤ 16777216 →
+pub counts_small : {bytes : List ℕ} (file_type : List ℕ) (s : Sections) (structs fields labels : ℕ) →
+    Laid bytes file_type s structs fields labels → structs ≤ 16777216 → fields ≤ 16777216 → labels ≤ 16777216 →
     length bytes ≤ 16777216 → (which : Part) → count_of bytes which < 4294967296
 counts_small file_type s structs fields labels l a b c small part.Struct = let count = l.struct_part.counted in omega arith
 counts_small file_type s structs fields labels l a b c small part.Field = let count = l.field_part.counted in omega arith

@@ -16,7 +16,7 @@ use Rattle.gff_write.specs.declared.flat.Row.{Row}
 use Rattle.gff_write.specs.Flat.{word, node_count, fields_count, leaf_count, nodes_count, padded, leaf_kind, leaf_content, numbers_from, entries_from, rows_of, rows_below, leaf_rows, list_rows}
 use Rattle.gff_write.specs.Laws.{IsLabel, IsNode, AreFields, IsLeaf, AreNodes}
 use Rattle.gff_write.proofs.FlatLemmas.{rows_length, leaf_length}
-use Rattle.gff_write.proofs.LabelLemmas.{padded_text}
+use Rattle.gff_write.proofs.LabelStands.{padded_text}
 use Rattle.gff_write.proofs.PlaceLemmas.{word_length, word_stands, low_is}
 use Rattle.gff_write.proofs.RowLemmas.{In, front_in, next_in, Small_counts, ContentAt, EntryAt, EntriesAt, RowsAt}
 use Rattle.gff_write.proofs.ScalarLemmas.{kind_for, kind_read, scalar_stands}
@@ -113,7 +113,8 @@ numbers_stand offset (n ∷ ns) low s =
     let long = word_length n in
     (list_reads n low.0 (front_in (word n) (flat_map word ns) s), numbers_stand (offset + 4) ns low.1 (next_in (offset + 4) (word n) (flat_map word ns) (omega arith) s))
 
-shape_stands : (bytes : List ℕ) (small : Small_counts bytes) (depth n third : ℕ) (holds : PlainLeaf) → IsLeaf holds → is_sound_leaf depth holds ≡ true → n + leaf_count holds ≤ 16777216 → ContentAt bytes third (leaf_content n holds) →
+shape_stands : (bytes : List ℕ) (small : Small_counts bytes) (depth n third : ℕ) (holds : PlainLeaf) → IsLeaf holds →
+    is_sound_leaf depth holds ≡ true → n + leaf_count holds ≤ 16777216 → ContentAt bytes third (leaf_content n holds) →
     ShapeStands bytes (kind_of_leaf holds) third (shape_of n holds)
 shape_stands bytes small depth n third (Holds scalar) is sound room at = scalar_stands bytes third scalar small is sound at
 shape_stands bytes small depth n third (Child node) is sound room at =
@@ -128,7 +129,8 @@ shape_stands bytes small depth n third (Children nodes) is sound room at =
       numbers_stand (third + 4) numbers (numbers_low n nodes room) (next_in (third + 4) (word (length numbers)) (flat_map word numbers) (omega arith) at),
     )
 
-row_stands : (bytes : List ℕ) (small : Small_counts bytes) (depth n field : ℕ) (label : List ℕ) (holds : PlainLeaf) → IsLabel label → IsLeaf holds → is_sound_leaf depth holds ≡ true → n + leaf_count holds ≤ 16777216 →
+row_stands : (bytes : List ℕ) (small : Small_counts bytes) (depth n field : ℕ) (label : List ℕ) (holds : PlainLeaf) → IsLabel label →
+    IsLeaf holds → is_sound_leaf depth holds ≡ true → n + leaf_count holds ≤ 16777216 →
     EntryAt bytes field (record { label = padded label; kind = leaf_kind holds; content = leaf_content n holds }) → RowStands bytes field (record { label = label; shape = shape_of n holds })
 row_stands bytes small depth n field label holds labelled is sound room e = record {
   entry = e.row;
@@ -142,8 +144,10 @@ row_stands bytes small depth n field label holds labelled is sound room e = reco
 }
 
 -- the fields that a struct lists, from its i-th on
-rows_stand : (bytes : List ℕ) (small : Small_counts bytes) (entry : StructRow) (first total depth i n : ℕ) (fields : PlainFields) → AreFields fields → are_sound_fields depth fields ≡ true → n + fields_count fields ≤ 16777216 →
-    ((j : ℕ) → j < total → field_number bytes entry j ≡ Ok (first + j)) → i + length (entries_from n fields) ≡ total → EntriesAt bytes (first + i) (entries_from n fields) → RowsStand bytes entry i (plain_rows n fields)
+rows_stand : (bytes : List ℕ) (small : Small_counts bytes) (entry : StructRow) (first total depth i n : ℕ) (fields : PlainFields) →
+    AreFields fields → are_sound_fields depth fields ≡ true → n + fields_count fields ≤ 16777216 →
+    ((j : ℕ) → j < total → field_number bytes entry j ≡ Ok (first + j)) → i + length (entries_from n fields) ≡ total →
+    EntriesAt bytes (first + i) (entries_from n fields) → RowsStand bytes entry i (plain_rows n fields)
 rows_stand bytes small entry first total depth i n NoField are sound room numbered all at = tt
 rows_stand bytes small entry first total depth i n (MoreFields label holds rest) are sound room numbered all at =
     let sounds = and_parts (is_sound_leaf depth holds) (are_sound_fields depth rest) sound in
@@ -168,7 +172,8 @@ rows_after bytes n count xs ys long at = subst (λ (k : ℕ). RowsAt bytes (n + 
 
 -- the structs of a tree use the numbers from n on, as many as there are structs
 mutual
-  pub node_stands : (bytes : List ℕ) (small : Small_counts bytes) (depth n : ℕ) (node : PlainNode) → is_sound_node depth node ≡ true → IsNode node → n + node_count node ≤ 16777216 → RowsAt bytes n (rows_of n node) →
+  pub node_stands : (bytes : List ℕ) (small : Small_counts bytes) (depth n : ℕ) (node : PlainNode) → is_sound_node depth node ≡ true →
+      IsNode node → n + node_count node ≤ 16777216 → RowsAt bytes n (rows_of n node) →
       NodeStands depth bytes n node (upto n (node_count node))
   node_stands bytes small zero n (Struct kind fields) sound is room at = absurd cc
   node_stands bytes small (suc depth) n (Struct kind fields) sound is room at =
@@ -183,13 +188,15 @@ mutual
         entry-is = row.entry-is;
         kind-is = row.kind ∙ low_is kind is.0;
         count = rows_count (n + 1) fields ∙ sym row.count;
-        rows-stand = rows_stand bytes small row.entry row.first (length (entries_from (n + 1) fields)) depth 0 (n + 1) fields is.1 sounds.1 (omega arith) row.numbered (omega arith) (subst (λ (k : ℕ). EntriesAt bytes k (entries_from (n + 1) fields)) start row.fields);
+        rows-stand = rows_stand bytes small row.entry row.first (length (entries_from (n + 1) fields)) depth 0 (n + 1) fields is.1 sounds.1 (omega arith) row.numbered (omega arith)
+            (subst (λ (k : ℕ). EntriesAt bytes k (entries_from (n + 1) fields)) start row.fields);
         distinct = subst (λ (ls : List (List ℕ)). are_distinct bytes_eq ls ≡ true) (sym (rows_labels (n + 1) fields)) sounds.0;
         fields-stand = fields_stand bytes small depth (n + 1) fields sounds.1 is.1 (omega arith) at.1;
         uses-is = ap (upto n) same;
       }
 
-  pub fields_stand : (bytes : List ℕ) (small : Small_counts bytes) (depth n : ℕ) (fields : PlainFields) → are_sound_fields depth fields ≡ true → AreFields fields → n + fields_count fields ≤ 16777216 →
+  pub fields_stand : (bytes : List ℕ) (small : Small_counts bytes) (depth n : ℕ) (fields : PlainFields) →
+      are_sound_fields depth fields ≡ true → AreFields fields → n + fields_count fields ≤ 16777216 →
       RowsAt bytes n (rows_below n fields) → FieldsStand (NodeStands depth bytes) (plain_rows n fields) fields (upto n (fields_count fields))
   fields_stand bytes small depth n NoField sound are room at = refl
   fields_stand bytes small depth n (MoreFields label holds rest) sound are room at =
@@ -204,13 +211,15 @@ mutual
         upto_append n (leaf_count holds) (fields_count rest),
       )
 
-  pub leaf_stands : (bytes : List ℕ) (small : Small_counts bytes) (depth n : ℕ) (holds : PlainLeaf) → is_sound_leaf depth holds ≡ true → IsLeaf holds → n + leaf_count holds ≤ 16777216 →
+  pub leaf_stands : (bytes : List ℕ) (small : Small_counts bytes) (depth n : ℕ) (holds : PlainLeaf) → is_sound_leaf depth holds ≡ true →
+      IsLeaf holds → n + leaf_count holds ≤ 16777216 →
       RowsAt bytes n (leaf_rows n holds) → LeafStands (NodeStands depth bytes) (shape_of n holds) holds (upto n (leaf_count holds))
   leaf_stands bytes small depth n (Holds scalar) sound is room at = (refl, refl)
   leaf_stands bytes small depth n (Child node) sound is room at = node_stands bytes small depth n node sound is room at
   leaf_stands bytes small depth n (Children nodes) sound is room at = nodes_stand bytes small depth n nodes sound is room at
 
-  pub nodes_stand : (bytes : List ℕ) (small : Small_counts bytes) (depth n : ℕ) (nodes : PlainNodes) → are_sound_nodes depth nodes ≡ true → AreNodes nodes → n + nodes_count nodes ≤ 16777216 →
+  pub nodes_stand : (bytes : List ℕ) (small : Small_counts bytes) (depth n : ℕ) (nodes : PlainNodes) → are_sound_nodes depth nodes ≡ true →
+      AreNodes nodes → n + nodes_count nodes ≤ 16777216 →
       RowsAt bytes n (list_rows n nodes) → NodesStand (NodeStands depth bytes) (numbers_from n nodes) nodes (upto n (nodes_count nodes))
   nodes_stand bytes small depth n NoNode sound are room at = refl
   nodes_stand bytes small depth n (MoreNodes node rest) sound are room at =

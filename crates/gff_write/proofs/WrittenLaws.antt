@@ -20,7 +20,7 @@ use Rattle.gff_write.proofs.FlatLemmas.{rows_length}
 use Rattle.gff_write.proofs.PlaceLemmas.{At, moved, taken_at}
 use Rattle.gff_write.proofs.SectionLemmas.{Lies, Laid, laid, opens, counts_small, sections_within, header_length}
 use Rattle.gff_write.proofs.RowLemmas.{In, rows_at, structs_length, fields_length}
-use Rattle.gff_write.proofs.LabelLemmas.{AreFull, rows_has, full_rows, rows_full, joined_length, labels_at}
+use Rattle.gff_write.proofs.LabelStands.{AreFull, rows_has, full_rows, rows_full, joined_length, labels_at}
 use Rattle.gff_write.proofs.TreeStands.{upto, upto_distinct, node_stands}
 
 begins : {bytes : List ℕ} {place : ℕ} (rows : ℕ) (xs : List ℕ) → At bytes place xs → At bytes (place + rows * 0) xs
@@ -47,7 +47,8 @@ written_stands gff is small =
     let few_structs : length rows ≤ 16777216 = omega (arith, within.structs, small, long_structs) in
     let few_fields : field_count rows ≤ 16777216 = omega (arith, within.fields, small, long_fields) in
     let few_labels : length table ≤ 16777216 = omega (arith, within.labels, small, long_labels) in
-    let l : Laid bytes gff.file_type s (length rows) (field_count rows) (length table) = laid gff.file_type s (length rows) (field_count rows) (length table) is.file_type few_structs few_fields few_labels small in
+    let l : Laid bytes gff.file_type s (length rows) (field_count rows) (length table) =
+    laid gff.file_type s (length rows) (field_count rows) (length table) is.file_type few_structs few_fields few_labels small in
     let counts = counts_small gff.file_type s (length rows) (field_count rows) (length table) l few_structs few_fields few_labels small in
     let labelled = labels_at table rows l.label_part full few_labels (rows_full 0 gff.top is.ranges) (rows_has [] rows) in
     let at =
@@ -74,7 +75,8 @@ given true fault bytes found e = absurd cc
 given false fault bytes found e = (refl, cc)
 
 -- what is handed out stands for the tree
-pub written_ok : (gff : PlainGff) (r : Result (Vec ℕ Global) WriteFault) → IsTree gff → Gives (λ (v : Vec ℕ Global). v.items) r (outcome_of (written gff)) → IfOk r (λ (v : Vec ℕ Global). Stands v.items gff)
+pub written_ok : (gff : PlainGff) (r : Result (Vec ℕ Global) WriteFault) → IsTree gff →
+    Gives (λ (v : Vec ℕ Global). v.items) r (outcome_of (written gff)) → IfOk r (λ (v : Vec ℕ Global). Stands v.items gff)
 unfolding outcome_of
 written_ok gff (Ok v) is gives =
     let parts = given (nat_lt 16777216 (length (written gff))) (fault.Large (length (written gff))) (written gff) v.items gives in

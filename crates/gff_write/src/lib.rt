@@ -10,7 +10,9 @@ mod encode;
 mod fault;
 mod flat;
 mod flatten;
+mod labels;
 mod laws;
+mod measure;
 mod put;
 mod ranges;
 mod sections;
@@ -18,7 +20,8 @@ mod writing;
 
 pub use fault::WriteFault;
 pub use laws::written_stands;
-pub use writing::{size, write};
+pub use measure::size;
+pub use writing::write;
 
 #[cfg(test)]
 mod tests;
