@@ -1,15 +1,13 @@
 -- How many bytes each section has, summed over the tree.
-use Rattle.std.proofs.Common.{◌≡◌, ℕ, zero, suc, ◌+◌, ◌*◌, ◌≤◌, min, Bool, true, false, nat_lt, if◌then◌else◌, List, [], ◌∷◌, ◌++◌, length, refl, sym, ap, ◌∙◌, arith, length-append}
+use Rattle.std.proofs.Common.{◌≡◌, ℕ, zero, suc, ◌+◌, ◌*◌, min, Bool, true, false, nat_lt, if◌then◌else◌, List, [], ◌∷◌, ◌++◌, length, refl, ap, arith, length-append}
 use Rattle.std.specs.List.{flat_map}
-use Rattle.gff_tree.specs.declared.tree.Loc.{Loc}
-use Rattle.gff_tree.specs.declared.tree.LocPart.{LocPart}
 use Rattle.gff_tree.specs.Tree as tree
 use Rattle.gff_tree.specs.Tree.{Scalar, PlainNode, PlainFields, PlainLeaf, PlainNodes, Struct, NoField, MoreFields, Holds, Child, Children, NoNode, MoreNodes}
 use Rattle.gff_write.specs.declared.flat.Entry.{Entry}
 use Rattle.gff_tree.specs.Whole.{PlainGff}
 use Rattle.gff_write.specs.declared.flat.Row.{Row}
 use Rattle.gff_write.specs.declared.sections.Sections.{Sections}
-use Rattle.gff_write.specs.Flat.{word, wide, scalar_content, leaf_content, numbers_from, node_count, leaf_count, entries_from, rows_of, rows_below, leaf_rows, list_rows}
+use Rattle.gff_write.specs.Flat.{word, scalar_content, leaf_content, numbers_from, node_count, leaf_count, entries_from, rows_of, rows_below, leaf_rows, list_rows}
 use Rattle.gff_write.specs.File.{joined, row_labels, data_of, list_of, place_of, third_of, entry_bytes, entries_data, entries_lists, entries_bytes, rows_data, rows_lists, rows_fields, words_up, indices_of, second_of, row_bytes, rows_indices, rows_structs, field_count, header_of, parts_of, written_rows, body_of, written}
 use Rattle.gff_write.proofs.PlaceLemmas.{word_length}
 use Rattle.gff_write.specs.Size.{capped, index_bytes, own_count, node_bytes, fields_bytes, leaf_bytes, nodes_bytes}
