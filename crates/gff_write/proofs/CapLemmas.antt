@@ -1,5 +1,5 @@
 -- Sums that stay at the greatest number compose.
-use Rattle.std.proofs.Common.{◌≡◌, ℕ, suc, ◌+◌, ◌≤◌, ◌<◌, List, [], ◌∷◌, ◌++◌, length, drop, get_or, refl, sym, ap, subst, ◌∙◌, arith, add-one, drop-cons, length-append}
+use Rattle.std.proofs.Common.{◌≡◌, ℕ, suc, ◌+◌, ◌≤◌, ◌<◌, List, [], ◌∷◌, ◌++◌, length, drop, get_or, refl, sym, ap, subst, arith, add-one, drop-cons, length-append}
 use Rattle.std.specs.List.{flat_map}
 use Rattle.gff_tree.specs.declared.tree.Field.{Field}
 use Rattle.gff_tree.specs.declared.tree.Node.{Node}

@@ -1,13 +1,12 @@
 -- Trees of the program as plain trees.
-use Rattle.std.proofs.Common.{◌≡◌, ℕ, List, [], ◌∷◌, refl, ap, sym, ◌∙◌, rules}
+use Rattle.std.proofs.Common.{◌≡◌, ℕ, refl, ap, sym, ◌∙◌, rules}
 use Rattle.std.specs.declared.vec.Vec.{Vec}
 use Rattle.std.specs.declared.alloc.Global.{Global}
 use Rattle.gff_tree.specs.declared.tree.Field.{Field}
 use Rattle.gff_tree.specs.declared.tree.Node.{Node, out-Node, roll-Node, roll-out-Node, Row_of-Field, end_of-Field, more_of-Field, items-the_row-Field}
 use Rattle.gff_tree.specs.declared.tree.Leaf.{Leaf, Row_of-Node, end_of-Node, more_of-Node, items-the_row-Node}
 use Rattle.gff_tree.specs.declared.tree.Leaf.TheViews as views
-use Rattle.gff_write.specs.Flat.{node_count, fields_count, leaf_count, nodes_count}
-use Rattle.gff_tree.specs.Tree.{PlainNode, PlainFields, PlainLeaf, PlainNodes, Struct, NoField, MoreFields, Child, Children, NoNode, MoreNodes, plain_node, plain_fields, plain_leaf, plain_nodes, fields_list, nodes_list}
+use Rattle.gff_tree.specs.Tree.{Struct, MoreFields, Children, MoreNodes, plain_node, plain_fields, plain_leaf, plain_nodes, fields_list, nodes_list}
 
 plain_fields_items : {m : _} (es : Row_of-Field m) → plain_fields es ≡ fields_list (items-the_row-Field m es)
 plain_fields_items end_of-Field = refl

@@ -1,5 +1,12 @@
 pub mod CountLemmas
 pub mod FlatLemmas
+pub mod PlaceLemmas
+pub mod SectionLemmas
+pub mod RowLemmas
+pub mod LabelStands
+pub mod ScalarLemmas
+pub mod TreeStands
+pub mod WrittenLaws
 pub mod LabelLemmas
 pub mod SizeLemmas
 pub mod CapLemmas

@@ -1,21 +1,16 @@
 -- How many bytes each section has, summed over the tree.
-use Rattle.std.proofs.Common.{◌≡◌, ℕ, zero, suc, ◌+◌, ◌*◌, ◌≤◌, min, Bool, true, false, nat_lt, if◌then◌else◌, List, [], ◌∷◌, ◌++◌, length, refl, sym, ap, ◌∙◌, arith, length-append}
+use Rattle.std.proofs.Common.{◌≡◌, ℕ, zero, suc, ◌+◌, ◌*◌, min, Bool, true, false, nat_lt, if◌then◌else◌, List, [], ◌∷◌, ◌++◌, length, refl, ap, arith, length-append}
 use Rattle.std.specs.List.{flat_map}
-use Rattle.gff_tree.specs.declared.tree.Loc.{Loc}
-use Rattle.gff_tree.specs.declared.tree.LocPart.{LocPart}
 use Rattle.gff_tree.specs.Tree as tree
 use Rattle.gff_tree.specs.Tree.{Scalar, PlainNode, PlainFields, PlainLeaf, PlainNodes, Struct, NoField, MoreFields, Holds, Child, Children, NoNode, MoreNodes}
 use Rattle.gff_write.specs.declared.flat.Entry.{Entry}
 use Rattle.gff_tree.specs.Whole.{PlainGff}
 use Rattle.gff_write.specs.declared.flat.Row.{Row}
 use Rattle.gff_write.specs.declared.sections.Sections.{Sections}
-use Rattle.gff_write.specs.Flat.{word, wide, scalar_content, leaf_content, numbers_from, node_count, leaf_count, entries_from, rows_of, rows_below, leaf_rows, list_rows}
+use Rattle.gff_write.specs.Flat.{word, scalar_content, leaf_content, numbers_from, node_count, leaf_count, entries_from, rows_of, rows_below, leaf_rows, list_rows}
 use Rattle.gff_write.specs.File.{joined, row_labels, data_of, list_of, place_of, third_of, entry_bytes, entries_data, entries_lists, entries_bytes, rows_data, rows_lists, rows_fields, words_up, indices_of, second_of, row_bytes, rows_indices, rows_structs, field_count, header_of, parts_of, written_rows, body_of, written}
+use Rattle.gff_write.proofs.PlaceLemmas.{word_length}
 use Rattle.gff_write.specs.Size.{capped, index_bytes, own_count, node_bytes, fields_bytes, leaf_bytes, nodes_bytes}
-
-word_length : (n : ℕ) → length (word n) ≡ 4
-unfolding word
-word_length n = refl
 
 -- what fields put into the sections, labels aside
 abbrev entries_total : List Entry → ℕ
@@ -27,7 +22,7 @@ abbrev rows_total : List Row → ℕ
 rows_total [] = 0
 rows_total (row ∷ rows) = 12 + index_bytes (length row.fields) + entries_total row.fields + rows_total rows
 
-entry_length : (table : List (List ℕ)) (d l : ℕ) (entry : Entry) → length (entry_bytes table d l entry) ≡ 12
+pub entry_length : (table : List (List ℕ)) (d l : ℕ) (entry : Entry) → length (entry_bytes table d l entry) ≡ 12
 entry_length table d l entry =
     omega (
       arith,
@@ -50,7 +45,7 @@ entries_length table d l (entry ∷ entries) =
       entries_length table (d + length (data_of entry.content)) (l + length (list_of entry.content)) entries,
     )
 
-row_length : (first index : ℕ) (row : Row) → length (row_bytes first index row) ≡ 12
+pub row_length : (first index : ℕ) (row : Row) → length (row_bytes first index row) ≡ 12
 row_length first index row =
     omega (
       arith,
@@ -61,7 +56,7 @@ row_length first index row =
       word_length (length row.fields),
     )
 
-up_length : (first count : ℕ) → length (words_up first count) ≡ 4 * count
+pub up_length : (first count : ℕ) → length (words_up first count) ≡ 4 * count
 up_length first zero = refl
 up_length first (suc n) = omega (arith, length-append (word first) (words_up (first + 1) n), word_length first, up_length (first + 1) n)
 

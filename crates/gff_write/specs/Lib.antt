@@ -1,3 +1,4 @@
 pub mod Flat
 pub mod File
+pub mod Laws
 pub mod Size

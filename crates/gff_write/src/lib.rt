@@ -11,12 +11,15 @@ mod fault;
 mod flat;
 mod flatten;
 mod labels;
+mod laws;
 mod measure;
 mod put;
+mod ranges;
 mod sections;
 mod writing;
 
 pub use fault::WriteFault;
+pub use laws::written_stands;
 pub use measure::size;
 pub use writing::write;
 

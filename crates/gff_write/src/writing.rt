@@ -1,7 +1,8 @@
 //! The writing of a tree.
 
 ghost use Rattle.std.specs.Prelude.{◌≡◌, ◌++◌, length, IfOk, OnOk};
-ghost use Rattle.gff_tree.specs.Whole.{plain_gff};
+ghost use Rattle.gff_tree.specs.Whole.{PlainGff, plain_gff};
+ghost use Rattle.gff_tree.specs.Stands.{Stands};
 ghost use Rattle.gff_tree.specs.Tree.{plain_node};
 ghost use Rattle.gff_write.specs.Flat.{rows_of};
 ghost use Rattle.gff_write.specs.File.{Gives, field_count, section_words, header_of, body_of, written_rows, written, outcome_of};
@@ -12,6 +13,7 @@ use crate::flat::Row;
 use crate::flatten::flatten_node;
 use crate::labels::label_table;
 use crate::put::put_word;
+use crate::ranges::tree_ranges;
 use crate::sections::{Sections, sections_of};
 use gff_bytes::FILE_BYTES;
 use gff_tree::Gff;
@@ -118,11 +120,23 @@ fn bounded(bytes: Items<u8>) -> Result<Vec<u8>, WriteFault>
     Ok(bytes.into_vec())
 }
 
-/// The one file of a tree, or its size where it has more than 16,777,216 bytes.
-pub fn write(alloc: Global, tree: &Gff) -> Result<Vec<u8>, WriteFault>
+/// The file of a tree, unless it is too large.
+fn outcome(alloc: Global, tree: &Gff) -> Result<Vec<u8>, WriteFault>
     ensures { Gives (λ v. v.items) result (outcome_of (written (plain_gff tree.now))) }
 {
     let rows = rows_in(alloc, tree)?;
     let bytes = file(alloc, &tree.file_type, rows.as_slice())?;
     bounded(bytes)
+}
+
+/// The one file of a tree, or its size where it has more than 16,777,216 bytes.
+pub fn write(alloc: Global, tree: &Gff) -> Result<Vec<u8>, WriteFault>
+    ensures exact { Gives (λ v. v.items) result (outcome_of (written (plain_gff tree.now))) }
+    // The bytes stand for the tree.
+    ensures stands { IfOk result (λ v. Stands v.items (plain_gff tree.now)) }
+    // Reading the bytes gives the tree again: they stand for no other.
+    ensures again { IfOk result (λ v. (other : PlainGff) → Stands v.items other → other ≡ plain_gff tree.now) }
+{
+    tree_ranges(tree);
+    outcome(alloc, tree)
 }

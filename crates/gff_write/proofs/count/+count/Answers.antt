@@ -1,6 +1,6 @@
-use Rattle.std.proofs.Common.{◌≡◌, ◌+◌, ◌∙◌, [], sym, ap, drop, arith}
+use Rattle.std.proofs.Common.{◌≡◌, ◌+◌, [], ap, drop, arith}
 use Rattle.std.proofs.lemmas.List.{drop_all}
-use Rattle.gff_tree.specs.Tree.{plain_node, plain_leaf, fields_list, nodes_list}
+use Rattle.gff_tree.specs.Tree.{plain_leaf, fields_list, nodes_list}
 use Rattle.gff_write.specs.Flat.{node_count, fields_count, leaf_count, nodes_count}
 use Rattle.gff_write.proofs.CountLemmas.{plain_node_out, plain_list_is}
 use Rattle.gff_write.proofs.count.+count.Goals as goal

@@ -1,8 +1,8 @@
-use Rattle.std.proofs.Common.{◌≡◌, ◌+◌, ◌++◌, ◌∷◌, ◌∙◌, [], length, drop, sym, ap, subst, append_assoc, length-append, arith}
+use Rattle.std.proofs.Common.{◌≡◌, ◌+◌, ◌++◌, ◌∙◌, [], length, drop, sym, ap}
 use Rattle.std.proofs.lemmas.List.{drop_all, append-nil}
 use Rattle.gff_tree.specs.declared.tree.Node.{out-Node}
-use Rattle.gff_tree.specs.Tree.{Struct, plain_node, plain_leaf, fields_list, nodes_list}
-use Rattle.gff_write.specs.Flat.{rows_of, rows_below, leaf_rows, list_rows, entries_from}
+use Rattle.gff_tree.specs.Tree.{Struct, plain_leaf, fields_list, nodes_list}
+use Rattle.gff_write.specs.Flat.{rows_below, leaf_rows, list_rows, entries_from}
 use Rattle.gff_write.proofs.CountLemmas.{plain_node_out, plain_list_is}
 use Rattle.gff_write.proofs.FlatLemmas.{below_step, list_step, node_done}
 use Rattle.gff_write.proofs.flatten.+flatten.Goals as goal

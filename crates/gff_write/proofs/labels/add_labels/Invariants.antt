@@ -1,4 +1,4 @@
-use Rattle.std.proofs.Common.{◌≡◌, ◌+◌, ◌-◌, ◌<◌, ◌++◌, [], length, drop, true, false}
+use Rattle.std.proofs.Common.{◌≡◌, drop}
 use Rattle.gff_write.specs.File.{entry_labels}
 use Rattle.gff_write.proofs.labels.add_labels.Given as goal
 

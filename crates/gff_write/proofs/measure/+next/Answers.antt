@@ -1,13 +1,11 @@
-use Rattle.std.proofs.Common.{◌≡◌, ◌++◌, ◌∙◌, List, [], length, drop, sym, ap, subst}
+use Rattle.std.proofs.Common.{◌≡◌, ◌++◌, ◌∙◌, List, [], drop, sym, ap, subst}
 use Rattle.std.proofs.lemmas.List.{drop_all}
 use Rattle.gff_tree.specs.declared.tree.Field.{Field}
 use Rattle.gff_tree.specs.declared.tree.Node.{Node}
-use Rattle.gff_tree.specs.Tree.{Struct, plain_node, plain_leaf, fields_list, nodes_list}
+use Rattle.gff_tree.specs.Tree.{fields_list, nodes_list}
 use Rattle.gff_write.specs.Size.{next_label, own_labels, node_labels, labels_below, leaf_labels, list_labels}
 use Rattle.gff_write.proofs.CountLemmas.{plain_node_out, plain_list_is}
 use Rattle.gff_write.proofs.WalkLemmas.{next_append, fields_turn, nodes_turn}
-use Rattle.gff_write.proofs.NextLemmas.{none_left, some_next}
-use Rattle.gff_write.proofs.SizeLemmas.{node_total}
 use Rattle.gff_write.proofs.measure.+next.Goals as goal
 
 pub next_below-loop-node-preserved : goal.next_below-loop-node-preserved

@@ -1,8 +1,8 @@
-use Rattle.std.proofs.Common.{◌≡◌, ◌+◌, ◌≤◌, ◌∙◌, List, [], length, drop, sym, ap, subst, arith}
+use Rattle.std.proofs.Common.{◌≡◌, ◌+◌, ◌≤◌, ◌∙◌, List, [], length, drop, sym, ap, subst}
 use Rattle.std.proofs.lemmas.List.{drop_all}
 use Rattle.gff_tree.specs.declared.tree.Field.{Field}
-use Rattle.gff_tree.specs.declared.tree.Node.{Node, out-Node}
-use Rattle.gff_tree.specs.Tree.{Struct, plain_node, plain_leaf, fields_list, nodes_list}
+use Rattle.gff_tree.specs.declared.tree.Node.{Node}
+use Rattle.gff_tree.specs.Tree.{fields_list, nodes_list}
 use Rattle.std.specs.List.{flat_map}
 use Rattle.gff_write.specs.Flat.{part_bytes}
 use Rattle.gff_write.specs.Size.{capped, index_bytes, own_count, node_bytes, leaf_bytes, fields_bytes, nodes_bytes}

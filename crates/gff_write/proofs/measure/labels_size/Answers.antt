@@ -1,8 +1,7 @@
-use Rattle.std.proofs.Common.{◌≡◌, ◌+◌, ◌≤◌, ◌∙◌, [], length, sym, ap, subst, arith, None, Some}
+use Rattle.std.proofs.Common.{◌+◌, ◌≤◌, ◌∙◌, [], length, sym, ap, subst, arith, Some}
 use Rattle.gff_tree.specs.Tree.{plain_node}
-use Rattle.gff_write.specs.Flat.{rows_of}
-use Rattle.gff_write.specs.File.{joined, row_labels}
-use Rattle.gff_write.specs.Size.{capped, node_labels, next_label}
+use Rattle.gff_write.specs.File.{joined}
+use Rattle.gff_write.specs.Size.{capped, node_labels}
 use Rattle.gff_write.proofs.CapLemmas.{capped_small}
 use Rattle.gff_write.proofs.NextLemmas.{bytes_past, with_labels, all_past, none_left, some_next, round, all_counted, full}
 use Rattle.gff_write.proofs.TableLemmas.{node_table}

@@ -1,4 +1,3 @@
-use Rattle.std.proofs.Common.{◌≡◌, ◌+◌, length, min, arith}
 use Rattle.gff_tree.specs.Whole.{plain_gff}
 use Rattle.gff_write.proofs.SizeLemmas.{written_length, whole}
 use Rattle.gff_write.proofs.measure.size.Goals as goal

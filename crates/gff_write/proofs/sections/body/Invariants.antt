@@ -1,4 +1,4 @@
-use Rattle.std.proofs.Common.{◌≡◌, ◌+◌, ◌-◌, ◌<◌, ◌++◌, [], length, drop, true, false}
+use Rattle.std.proofs.Common.{◌≡◌, ◌++◌, length, drop}
 use Rattle.gff_write.specs.File.{rows_structs, rows_indices, rows_fields, rows_data, rows_lists}
 use Rattle.gff_write.proofs.sections.body.Given as goal
 

@@ -1,4 +1,4 @@
-use Rattle.std.proofs.Common.{◌≡◌, ◌+◌, ◌-◌, ◌<◌, ◌++◌, [], length, drop, true, false}
+use Rattle.std.proofs.Common.{◌≡◌, ◌++◌, length, drop}
 use Rattle.gff_write.specs.File.{entries_bytes, entries_data, entries_lists}
 use Rattle.gff_write.proofs.sections.put_entries.Given as goal
 

@@ -1,4 +1,4 @@
-use Rattle.std.proofs.Common.{◌+◌, ◌-◌, suc, arith}
+use Rattle.std.proofs.Common.{◌+◌, ◌-◌, arith}
 use Rattle.gff_write.proofs.FlatLemmas.{indices_step}
 use Rattle.gff_write.proofs.sections.put_indices.Goals as goal
 

@@ -1,4 +1,4 @@
-use Rattle.std.proofs.Common.{◌≡◌, ◌+◌, ◌-◌, ◌<◌, ◌++◌, [], length, drop, true, false}
+use Rattle.std.proofs.Common.{◌≡◌, ◌-◌, ◌++◌}
 use Rattle.gff_write.specs.File.{words_up}
 use Rattle.gff_write.proofs.sections.put_indices.Given as goal
 

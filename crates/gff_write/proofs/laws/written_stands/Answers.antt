@@ -1,0 +1,5 @@
+use Rattle.gff_write.proofs.WrittenLaws as laws
+use Rattle.gff_write.proofs.laws.written_stands.Goals as goal
+
+pub returns : goal.returns
+returns c = laws.written_stands
