@@ -21,10 +21,10 @@ use Rattle.nss_include.specs.declared.step.Step.TheVariants as step
 use Rattle.nss_include.specs.Names.{file_name, is_include_name, spot_in}
 use Rattle.nss_include.specs.Steps.{IsStep, IsWithin, lexeme_in}
 use Rattle.nss_include.specs.Units.{Contents, Unfolds, step_fault, reading_fault, is_among, source, ends, fails, gives, again, breaks_off, includes, IsUnit, unread, is_read}
-use Rattle.nss_include.specs.View.{lexeme_of, bytes_of}
+use Rattle.nss_include.specs.View.{Gathered, lexeme_of, bytes_of}
 use Rattle.nss_include.proofs.UnitLemmas.{bytes_stay, all_map}
-use Rattle.nss_include.specs.Gather.{HoldsFiles, Claims}
-use Rattle.nss_include.specs.Progress.{Rest, closed, stops, goes, Ends, Leads, Stops, HasStep, Explains, ExplainsRead, IsReadFault, Includes, IsOpen, IsReady, Begins, ComesTo, reopened}
+use Rattle.nss_include.specs.Gather.{HoldsFiles, Claims, HasScript}
+use Rattle.nss_include.specs.Progress.{Rest, closed, stops, goes, Ends, Leads, Stops, HasStep, Explains, ExplainsRead, IsReadFault, Includes, IsOpen, IsReady, Begins, ComesTo, Extends, reopened}
 
 -- an open file at a place
 abbrev pub file_at : ℕ → ℕ → Open
@@ -319,6 +319,7 @@ ready-includes old new here name after ready i place room =
             ),
           ));
       few = omega (arith, i.count, room);
+      counted = omega (arith, ap (λ u. length u.tokens) i.opens.is, i.count, ready.counted);
       paid = omega (arith, i.count, grown, ready.paid);
     }
 
@@ -371,13 +372,22 @@ pub record RunSoFar (tells : Bool) (outside : Contents) (first now : Reading) : 
   pub leads : (contents : Contents) → HoldsFiles contents now.unit.files → Leads contents first now
   pub keeps : (contents : Contents) → HoldsFiles contents now.unit.files → HoldsFiles contents first.unit.files
   pub holds : IsTrue tells → HoldsFiles outside first.unit.files → HoldsFiles outside now.unit.files
+  pub grows : Extends first.unit.files now.unit.files
+
+pub extends_more : (files more most : List Source) → Extends files more → Extends more most → Extends files most
+extends_more files more most (xs, is) (ys, so) = (xs ++ ys, so ∙ ap (λ fs. fs ++ ys) is ∙ append_assoc files xs ys)
+
+pub has_script : (r : Reading) (script : List ℕ) (files : List Source) → Begins r script → Extends r.unit.files files → HasScript files script
+has_script r script files begins (more, is) =
+    subst (λ fs. HasScript fs script) (sym (is ∙ ap (λ (u : Gathered). u.files ++ more) begins.unit)) refl
 
 pub run-more : (tells : Bool) (outside : Contents) (first now popped new : Reading) (here : Open) → RunSoFar tells outside first now
     → now ≡ reopened here popped → IsReady new
     → ((contents : Contents) → HoldsFiles contents new.unit.files → Leads contents (reopened here popped) new)
     → ((contents : Contents) → HoldsFiles contents new.unit.files → HoldsFiles contents popped.unit.files)
-    → (IsTrue tells → HoldsFiles outside popped.unit.files → HoldsFiles outside new.unit.files) → RunSoFar tells outside first new
-run-more tells outside first now popped new here so is ready leads keeps holds =
+    → (IsTrue tells → HoldsFiles outside popped.unit.files → HoldsFiles outside new.unit.files)
+    → Extends popped.unit.files new.unit.files → RunSoFar tells outside first new
+run-more tells outside first now popped new here so is ready leads keeps holds grows =
     let files : now.unit.files ≡ popped.unit.files = ap (λ r. r.unit.files) is
     in record {
       ready = ready;
@@ -386,6 +396,7 @@ run-more tells outside first now popped new here so is ready leads keeps holds =
           (subst (λ r. Ends contents r tokens last total ending) (sym is) (leads contents held tokens last total ending e));
       keeps = λ contents held. so.keeps contents (subst (HoldsFiles contents) (sym files) (keeps contents held));
       holds = λ told held. holds told (subst (HoldsFiles outside) files (so.holds told held));
+      grows = extends_more first.unit.files now.unit.files new.unit.files so.grows (subst (λ fs. Extends fs new.unit.files) (sym files) grows);
     }
 
 claims-map : (fault : GatherFault) (P Q : Type 0) → Claims fault P → (P → Q) → Claims fault Q

@@ -7,7 +7,7 @@ use Rattle.nss_lexer.specs.Splitting.{plain}
 use Rattle.nss_include.specs.declared.file.Source.{Source}
 use Rattle.nss_include.specs.declared.step.Span.{Span}
 use Rattle.nss_include.specs.Steps.{lexeme_in}
-use Rattle.nss_include.specs.View.{IsSpan, IsSound, lexeme_of, bytes_of}
+use Rattle.nss_include.specs.View.{IsSpan, StandsIn, IsSound, lexeme_of, bytes_of}
 
 -- what a list has at a place stays where the list grows
 pub slice_get-append : {A : Type 0} (xs ys : List A) (i : ℕ) → i < length xs → slice_get (xs ++ ys) i ≡ slice_get xs i
@@ -58,12 +58,14 @@ pub sound_more : (files : List Source) (spans : List Span) (file : Source) → I
 sound_more files spans file sound size few = record {
   sizes = all_push (λ f. length f.bytes ≤ 16777216) files file sound.sizes size;
   few = omega (arith, few, length-append files (file ∷ []));
+  short = sound.short;
   inside = all_map (IsSpan files) (IsSpan (files ++ file ∷ [])) spans (span_stays files (file ∷ [])) sound.inside;
 }
 
--- so does one more span
-pub sound_push : (files : List Source) (spans : List Span) (span : Span) → IsSound files spans → IsSpan files span → IsSound files (spans ++ span ∷ [])
-sound_push files spans span sound h = record { sizes = sound.sizes; few = sound.few; inside = all_push (IsSpan files) spans span sound.inside h }
+-- the tokens of spans of these files stand in them
+pub stand_in : (files : List Source) (spans : List Span) → AllByRecursion (IsSpan files) spans → AllByRecursion (StandsIn files) (map (lexeme_of files) spans)
+stand_in files [] h = tt
+stand_in files (span ∷ spans) h = (record { file = h.0.file; order = h.0.order; within = h.0.within }, stand_in files spans h.1)
 
 -- the tokens of one more span
 pub tokens_more : (files : List Source) (spans : List Span) (made : List Token) (i : ℕ) (d : Span) (t : Token) → i < length spans

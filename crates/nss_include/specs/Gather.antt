@@ -1,11 +1,12 @@
 -- What is answered of a unit, of whichever files.
-use Rattle.std.specs.Prelude.{◌≡◌, ℕ, List, Some, None, Result, Ok, Err}
+use Rattle.std.specs.Prelude.{◌≡◌, ℕ, List, [], ◌∷◌, Some, None, Result, Ok, Err}
 use Rattle.std.specs.List.{AllByRecursion}
 use Rattle.nwq_outside.specs.Outside.{Rose}
 use Rattle.nss_lexer.specs.Splitting.{Lexeme}
 use Rattle.nss_include.specs.declared.fault.GatherFault.{GatherFault}
 use Rattle.nss_include.specs.declared.fault.GatherFault.TheVariants.{Missing, Fault, Long, Bad, Tokens, Include, NoMemory}
 use Rattle.nss_include.specs.declared.file.Source.{Source}
+use Rattle.nss_include.specs.Names.{file_name}
 use Rattle.nss_include.specs.Units.{Contents, IsUnit}
 use Rattle.nss_include.specs.View.{Gathered}
 
@@ -32,6 +33,11 @@ IsCaused (Bad spot) absences absences' faults faults' longs longs' = Unit {0}
 IsCaused (Tokens spot) absences absences' faults faults' longs longs' = Unit {0}
 IsCaused (Include spot) absences absences' faults faults' longs longs' = Unit {0}
 IsCaused NoMemory absences absences' faults faults' longs longs' = Unit {0}
+
+-- the file of this script stands first
+abbrev pub HasScript : List Source → List ℕ → Type 0
+HasScript [] script = ⊥
+HasScript (file ∷ files) script = file.name ≡ file_name script
 
 -- the unit of this script, or its first fault
 abbrev pub Gathers : Contents → List ℕ → Result Gathered GatherFault → Type 0

@@ -52,11 +52,16 @@ pub record IsOpen (files : List Source) (here : Open) : Type 0 where
   pub file : here.file < length files
   pub place : here.at ≤ length (bytes_of (slice_get files here.file))
 
--- the open files are of the unit, and each file but the script was paid for by a directive
+-- the open files are of the unit, each of its tokens was counted, and each file but the script was paid for by a directive
 pub record IsReady (r : Reading) : Type 0 where
   pub places : AllByRecursion (IsOpen r.unit.files) r.stack
   pub few : r.count ≤ 100000
+  pub counted : length r.unit.tokens ≤ r.count
   pub paid : 3 * length r.unit.files ≤ r.count + 3
+
+-- these files are the others with some more behind them
+abbrev pub Extends : List Source → List Source → Type 0
+Extends old new = (more : List Source) × (new ≡ old ++ more)
 
 -- a reading with one more file open
 abbrev pub reopened : Open → Reading → Reading

@@ -27,8 +27,15 @@ pub record IsSpan (files : List Source) (span : Span) : Type 0 where
   pub within : span.end ≤ length (bytes_of (slice_get files span.file))
   pub lexeme : IsLexeme span.kind (lexeme_of files span).text
 
--- what every unit keeps: its files have the size of files, and its spans lie in them
+-- the token stands in one of these files
+pub record StandsIn (files : List Source) (t : Lexeme) : Type 0 where
+  pub file : t.file < length files
+  pub order : t.start ≤ t.end
+  pub within : t.end ≤ length (bytes_of (slice_get files t.file))
+
+-- what every unit keeps: its files have the size of files, its tokens are few, and its spans lie in its files
 pub record IsSound (files : List Source) (spans : List Span) : Type 0 where
   pub sizes : AllByRecursion (λ f. length f.bytes ≤ 16777216) files
   pub few : length files ≤ 65536
+  pub short : length spans ≤ 100000
   pub inside : AllByRecursion (IsSpan files) spans

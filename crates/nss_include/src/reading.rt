@@ -5,8 +5,8 @@ ghost use Rattle.std.specs.Str.{IsUtf8};
 ghost use Rattle.nss_include.specs.declared.step.Step.TheVariants as step;
 ghost use Rattle.nss_include.specs.Names.{file_name};
 ghost use Rattle.nss_include.specs.Units.{Contents, IsUnit};
-ghost use Rattle.nss_include.specs.Progress.{Opens, Opened, IsReadFault, ExplainsRead, IsOwnFault, Begins, ComesTo};
-ghost use Rattle.nss_include.specs.Gather.{IsCaused, HoldsFiles, Claims, Gathers};
+ghost use Rattle.nss_include.specs.Progress.{Opens, Opened, Extends, IsReadFault, ExplainsRead, IsOwnFault, Begins, ComesTo};
+ghost use Rattle.nss_include.specs.Gather.{IsCaused, HoldsFiles, Claims, HasScript, Gathers};
 
 use crate::fault::GatherFault;
 use crate::opened::{Open, OpenFiles};
@@ -159,6 +159,7 @@ impl Reading {
         ensures ready { OnOk result (IsReady self.new) }
         ensures leads { OnOk result ((contents : Contents) → HoldsFiles contents self.new.unit.files → Leads contents (reopened here self.old) self.new) }
         ensures keeps { OnOk result ((contents : Contents) → HoldsFiles contents self.new.unit.files → HoldsFiles contents self.old.unit.files) }
+        ensures grows { OnOk result (Extends self.old.unit.files self.new.unit.files) }
         ensures falls { OnOk result (steps_left self.new < steps_left (reopened here self.old)) }
         ensures holds { IsTrue F.tells → OnOk result (HoldsFiles (map.get (F.contents files.old)) self.old.unit.files → HoldsFiles (map.get (F.contents files.old)) self.new.unit.files) }
         ensures stops { IfErr result (λ fault. Claims fault ((contents : Contents) → Explains contents fault → Stops contents (reopened here self.old) fault)) }
@@ -206,6 +207,7 @@ impl Reading {
         ensures ready { OnOk result (IsReady self.new) }
         ensures leads { OnOk result ((contents : Contents) → HoldsFiles contents self.new.unit.files → Leads contents (reopened here self.old) self.new) }
         ensures keeps { OnOk result ((contents : Contents) → HoldsFiles contents self.new.unit.files → HoldsFiles contents self.old.unit.files) }
+        ensures grows { OnOk result (Extends self.old.unit.files self.new.unit.files) }
         ensures falls { OnOk result (steps_left self.new < steps_left (reopened here self.old)) }
         ensures holds { IsTrue F.tells → OnOk result (HoldsFiles (map.get (F.contents files.old)) self.old.unit.files → HoldsFiles (map.get (F.contents files.old)) self.new.unit.files) }
         ensures stops { IfErr result (λ fault. Claims fault ((contents : Contents) → Explains contents fault → Stops contents (reopened here self.old) fault)) }
@@ -241,6 +243,7 @@ impl Reading {
         requires { IsReady self.old }
         ensures whole { OnOk result ((contents : Contents) → HoldsFiles contents self.new.unit.files → Ends contents self.old self.new.unit.tokens self.new.unit.files self.new.count None) }
         ensures keeps { OnOk result ((contents : Contents) → HoldsFiles contents self.new.unit.files → HoldsFiles contents self.old.unit.files) }
+        ensures grows { OnOk result (Extends self.old.unit.files self.new.unit.files) }
         ensures holds { IsTrue F.tells → HoldsFiles (map.get (F.contents files.old)) self.old.unit.files → OnOk result (HoldsFiles (map.get (F.contents files.old)) self.new.unit.files) }
         ensures stops { IsTrue F.tells → HoldsFiles (map.get (F.contents files.old)) self.old.unit.files → IfErr result (λ fault. Claims fault (ComesTo (map.get (F.contents files.old)) self.old fault)) }
 
@@ -293,6 +296,7 @@ fn begin<F: Files>(alloc: Global, files: &mut F, script: &str) -> Result<Reading
 pub fn gather<F: Files>(alloc: Global, files: &mut F, name: &str) -> Result<Unit, GatherFault>
     // The unit is that of its files, whatever else there is.
     ensures unit { IfOk result (λ unit. (contents : Contents) → HoldsFiles contents unit.files → IsUnit contents name.now unit.tokens unit.files None) }
+    ensures script { IfOk result (λ unit. HasScript unit.files name.now) }
     ensures told { IsTrue F.tells → Gathers (map.get (F.contents files.old)) name.now result }
 
     ensures caused { IfErr result (λ fault. IsCaused fault (F.absences files.old) (F.absences files.new) (F.faults files.old) (F.faults files.new) (F.longs files.old) (F.longs files.new)) }

@@ -5,7 +5,7 @@ ghost use Rattle.nss_lexer.specs.Lexemes.{IsToken};
 ghost use Rattle.nss_lexer.specs.Splitting.{plain};
 ghost use Rattle.nss_include.specs.Names.{spot_in};
 ghost use Rattle.nss_include.specs.Units.{is_among, source};
-ghost use Rattle.nss_include.specs.View.{IsSpan, lexeme_of, bytes_of};
+ghost use Rattle.nss_include.specs.View.{IsSpan, StandsIn, lexeme_of, bytes_of};
 
 use crate::fault::Spot;
 use crate::file::Source;
@@ -45,10 +45,12 @@ impl Unit {
         }
     }
 
-    /// The tokens of the unit.
+    /// The tokens of the unit, at most 100,000.
     pub fn tokens(&self, alloc: Global) -> Result<Vec<Token<'_>>, NoMemory>
         ensures tokens { IfOk result (λ made. map plain made.items ≡ self.now.tokens) }
         ensures spelled { IfOk result (λ made. AllByRecursion IsToken made.items) }
+        ensures few { length self.now.tokens ≤ 100_000 }
+        ensures placed { AllByRecursion (StandsIn self.now.files) self.now.tokens }
     {
         tokens_of(alloc, self.files.as_slice(), self.spans.as_slice())
     }
@@ -102,7 +104,8 @@ impl Unit {
 
     /// Puts a token last.
     pub(crate) fn push(&mut self, span: Span) -> Result<(), NoMemory>
-        requires { IsSpan self.old.files span }
+        requires span { IsSpan self.old.files span }
+        requires short { length self.old.tokens < 100_000 }
         ensures ok { OnOk result (self.new ≡ record { files = self.old.files; tokens = self.old.tokens ++ lexeme_of self.old.files span ∷ [] }) }
         ensures err { OnErr result (self.new ≡ self.old) }
     {
@@ -110,8 +113,8 @@ impl Unit {
         Ok(())
     }
 
-    /// A place of a file.
-    pub(crate) fn spot(&self, alloc: Global, file: u16, at: u32) -> Result<Spot, NoMemory>
+    /// The place of the unit at this offset of a file: the file's name, the line there, and the offset.
+    pub fn spot(&self, alloc: Global, file: u16, at: u32) -> Result<Spot, NoMemory>
         requires file { file < length self.now.files }
         requires place { at ≤ length (bytes_of (slice_get self.now.files file)) }
         ensures { IfOk result (λ spot. option_map (λ f. spot_in f at) (slice_get self.now.files file) ≡ Some spot) }

@@ -17,7 +17,8 @@ loop-here-preserved g c =
       run-more _ _ c.args.self.now c.loop-here.self (at c.pop.new.self) c.advance.new.self c.in-Some.here c.loop-here.invariant.0 is
           c.in-Ok.ensures.ready c.in-Ok.ensures.leads c.in-Ok.ensures.keeps
           (λ told. subst (λ (o : Contents). HoldsFiles o c.loop-here.self.unit.files → HoldsFiles o c.advance.new.self.unit.files) outside
-          (c.in-Ok.ensures.holds told)),
+          (c.in-Ok.ensures.holds told))
+          c.in-Ok.ensures.grows,
       c.in-Ok.ensures.same ∙ c.loop-here.invariant.1,
       omega (arith, c.loop-here.invariant.2, c.in-Ok.ensures.faults_stay),
       omega (arith, c.loop-here.invariant.3, c.in-Ok.ensures.absences_stay),
