@@ -1,4 +1,4 @@
-ghost use Rattle.std.specs.Prelude.{◌≡◌, ◌<◌, ◌≤◌, ◌++◌, ◌⊎◌, List, ℕ, length, map, IsTrue, IfErr, IfOk, Some, Err};
+ghost use Rattle.std.specs.Prelude.{◌≡◌, ◌<◌, ◌≤◌, ◌++◌, ◌⊎◌, List, ℕ, length, map, slice_get, IsTrue, IfErr, IfOk, Some, Err};
 ghost use Rattle.std.specs.List.{AllByRecursion};
 ghost use Rattle.nwq_outside.specs.Outside.{Rose};
 ghost use Rattle.nss_lexer.specs.Lexemes.{IsToken};
@@ -91,19 +91,20 @@ fn refuse_gather<S: Sink>(alloc: Global, fault: GatherFault, out: &mut S) -> Sta
     }
 }
 
+fn token_at<'a>(tokens: &[Token<'a>], i: usize) -> Option<Token<'a>>
+    ensures { result ≡ slice_get tokens.now i }
+{
+    tokens.get(i).copied()
+}
+
 /// The place of token `i`, or, where there is none, the end of the script's file.
-fn spot_of(
-    alloc: Global,
-    unit: &Unit,
-    tokens: &[Token<'_>],
-    i: usize,
-) -> Result<Spot, NoMemory>
+fn spot_of(alloc: Global, unit: &Unit, tokens: &[Token<'_>], i: usize) -> Result<Spot, NoMemory>
     requires script { 0 < length unit.now.files }
     requires tokens { map plain tokens.now ≡ unit.now.tokens }
     requires placed { AllByRecursion (StandsIn unit.now.files) unit.now.tokens }
     ensures { IfOk result (λ spot. spot_at unit.now.files unit.now.tokens i ≡ Some spot) }
 {
-    match tokens.get(i) {
+    match token_at(tokens, i) {
         Some(token) => unit.spot(alloc, token.file, token.start),
         None => unit.spot(alloc, 0, unit.file_bytes(0).len() as u32),
     }
@@ -162,7 +163,12 @@ fn play_tokens<S: Sink>(
         Ok(Parsed::Whole(sums)) => put(text_of_play(alloc, sums.as_slice()), out),
         Ok(Parsed::Unfit(i)) => Err(refuse_token(alloc, unit, tokens, i, Cause::NotBuilt, out)),
         Ok(Parsed::Unfinished) => Err(refuse_token(
-            alloc, unit, tokens, tokens.len(), Cause::NotBuilt, out,
+            alloc,
+            unit,
+            tokens,
+            tokens.len(),
+            Cause::NotBuilt,
+            out,
         )),
     }
 }
