@@ -1,19 +1,17 @@
 -- The rows that are read are those that a struct's fields stand for, and the other way round.
-use Rattle.std.proofs.Common.{◌≡◌, ◌≤◌, ◌<◌, ◌+◌, ℕ, zero, suc, Bool, true, false, cond, not, ◌&&◌, List, [], ◌∷◌, ◌++◌, map, length, take, drop, Option, Some, None, Result, Ok, Err, refl, sym, ap, subst, ◌∙◌, append_assoc, arith}
+use Rattle.std.proofs.Common.{◌≡◌, ◌+◌, ℕ, zero, suc, Bool, true, false, not, ◌&&◌, List, [], ◌∷◌, ◌++◌, map, length, Option, Some, None, Result, Ok, refl, sym, ap, subst, ◌∙◌, append_assoc}
 use Rattle.std.specs.Prelude.{slice_get}
 use Rattle.std.specs.List.{list_any}
 use Rattle.std.specs.Str.{bytes_eq}
 use Rattle.std.proofs.lemmas.List.{append-nil, map_push}
 use Rattle.gff_bytes.specs.declared.rows.StructRow.{StructRow}
-use Rattle.gff_bytes.specs.declared.rows.FieldRow.{FieldRow}
 use Rattle.gff_bytes.specs.File.{field_row, label_row, list_word}
 use Rattle.gff_tree.specs.declared.fault.TreeFault.{TreeFault}
-use Rattle.gff_tree.specs.declared.fault.TreeFault.TheVariants as fault
 use Rattle.gff_tree.specs.declared.kind.Kind.{Kind}
 use Rattle.gff_tree.specs.declared.kind.Kind.TheVariants as kind
 use Rattle.gff_tree.specs.Label.{label_text}
-use Rattle.gff_tree.specs.Tree.{Scalar, PlainLeaf, Holds, Child, Children, differ_after}
-use Rattle.gff_tree.specs.Rows.{◌>>=◌, placed, kinds, of_kind, words_from, PlainShape, PlainRow, Value, One, Many, leaf_for, scalar_for, shape_for, has_label, row_for, field_number, rows_from, rows_of}
+use Rattle.gff_tree.specs.Tree.{Scalar, Holds, Child, Children, differ_after}
+use Rattle.gff_tree.specs.Rows.{◌>>=◌, placed, kinds, of_kind, words_from, PlainShape, PlainRow, Value, One, Many, leaf_for, scalar_for, shape_for, has_label, row_for, field_number, rows_from}
 use Rattle.gff_tree.specs.Stands.{ScalarStands, WordsStand, ShapeStands, RowStands, RowsStand}
 use Rattle.gff_tree.proofs.Steps.{bind_ok, guard_ok, ok_is, placed_ok}
 use Rattle.gff_tree.proofs.ScalarLaws.{scalar_stands, scalar_read}

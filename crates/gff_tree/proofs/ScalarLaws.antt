@@ -1,12 +1,11 @@
 -- A value that is read is one that its bytes stand for, and the other way round.
-use Rattle.std.proofs.Common.{◌≡◌, ◌≤◌, ◌<◌, ◌+◌, ◌%◌, ℕ, zero, suc, Bool, true, false, cond, ltb, List, [], ◌∷◌, ◌++◌, length, take, drop, Result, Ok, Err, refl, sym, ap, subst, ◌∙◌, arith}
+use Rattle.std.proofs.Common.{◌≡◌, ◌≤◌, ◌+◌, ℕ, zero, suc, false, cond, List, [], ◌∷◌, length, take, drop, Ok, refl, sym, ap, subst, ◌∙◌, arith}
 use Rattle.std.specs.Prelude.{nat_lt}
-use Rattle.std.specs.Int.{w8, w16, w32, w64, cast_signed, to_le_bytes}
+use Rattle.std.specs.Int.{w32, w64, cast_signed}
 use Rattle.std.proofs.lemmas.Bool.{ltb-false, le-ltb}
 use Rattle.gff_bytes.specs.File.{data_at}
 use Rattle.gff_tree.specs.declared.tree.Loc.{Loc}
 use Rattle.gff_tree.specs.declared.tree.LocPart.{LocPart}
-use Rattle.gff_tree.specs.declared.fault.TreeFault.{TreeFault}
 use Rattle.gff_tree.specs.declared.kind.Kind.{Kind}
 use Rattle.gff_tree.specs.declared.kind.Kind.TheVariants as kind
 use Rattle.gff_tree.specs.Tree as tree

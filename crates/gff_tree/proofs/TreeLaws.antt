@@ -1,14 +1,12 @@
 -- A file's tree is read exactly where its bytes stand for it, and they stand for no other.
-use Rattle.std.proofs.Common.{◌≡◌, ℕ, Bool, true, false, List, [], ◌∷◌, ◌++◌, take, replicate, Result, Ok, Err, refl, sym, ap, subst, ◌∙◌}
+use Rattle.std.proofs.Common.{◌≡◌, ℕ, true, false, List, [], take, replicate, Ok, refl, sym, subst, ◌∙◌}
 use Rattle.std.specs.Prelude.{None}
 use Rattle.gff_bytes.specs.File.{open_fault}
-use Rattle.gff_tree.specs.declared.fault.TreeFault.{TreeFault}
 use Rattle.gff_tree.specs.Tree.{PlainNode, is_sound}
 use Rattle.gff_tree.specs.Whole.{PlainGff}
-use Rattle.gff_tree.specs.Rows.{◌>>=◌, Gives}
 use Rattle.gff_tree.specs.Walk.{Marks, struct_count, node_at, tree_of}
-use Rattle.gff_tree.specs.Stands.{NodeStands, Stands, OneTree}
-use Rattle.gff_tree.proofs.Steps.{bind_ok, ok_is}
+use Rattle.gff_tree.specs.Stands.{Stands, OneTree}
+use Rattle.gff_tree.proofs.Steps.{ok_is}
 use Rattle.gff_tree.proofs.WalkLaws.{node_agrees, marked_none}
 use Rattle.gff_tree.proofs.SoundLaws.{top_sound}
 

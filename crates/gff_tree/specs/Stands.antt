@@ -1,5 +1,5 @@
 -- What it means that the bytes of a file stand for a tree, by the types of its fields.
-use Rattle.std.specs.Prelude.{◌≡◌, ℕ, zero, suc, ◌+◌, ◌*◌, ◌%◌, ◌≤◌, nat_eq, IsTrue, Bool, List, [], ◌∷◌, ◌++◌, map, length, take, drop, slice_get, Option, Some, None, Result, Ok, Err}
+use Rattle.std.specs.Prelude.{◌≡◌, ℕ, zero, suc, ◌+◌, ◌%◌, ◌≤◌, nat_eq, IsTrue, List, [], ◌∷◌, ◌++◌, map, length, take, drop, slice_get, Some, None, Ok}
 use Rattle.std.specs.Int.{w8, w16, w32, w64, cast_signed, to_le_bytes}
 use Rattle.std.specs.Str.{bytes_eq}
 use Rattle.gff_bytes.specs.declared.rows.StructRow.{StructRow}

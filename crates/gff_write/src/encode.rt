@@ -117,7 +117,7 @@ fn content_of(alloc: Global, leaf: &Leaf, first: u64) -> Result<Content, NoMemor
 }
 
 /// The bytes of a label, filled up with zero bytes.
-fn filled(label: &Label) -> [u8; 16]
+pub fn filled(label: &Label) -> [u8; 16]
     ensures { result ≡ padded label.now }
 {
     let mut row = [0; LABEL_BYTES];

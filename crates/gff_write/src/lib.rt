@@ -10,12 +10,15 @@ mod encode;
 mod fault;
 mod flat;
 mod flatten;
+mod labels;
+mod measure;
 mod put;
 mod sections;
 mod writing;
 
 pub use fault::WriteFault;
-pub use writing::{size, write};
+pub use measure::size;
+pub use writing::write;
 
 #[cfg(test)]
 mod tests;

@@ -1,16 +1,14 @@
 //! The sections of the file, from the structs in preorder.
 
-ghost use Rattle.std.specs.Prelude.{◌≡◌, ◌++◌, length, [], IfOk, OnOk};
-ghost use Rattle.gff_write.specs.File.{parts_with, parts_of, place_of, with_label, entry_labels, row_labels, data_of, list_of, third_of, entry_bytes, entries_data, entries_lists, entries_bytes, words_up, indices_of, row_bytes, joined};
+ghost use Rattle.std.specs.Prelude.{◌≡◌, ◌++◌, length, IfOk, OnOk};
+ghost use Rattle.gff_write.specs.File.{parts_with, data_of, list_of, third_of, entry_bytes, entries_data, entries_lists, entries_bytes, words_up, indices_of, row_bytes, joined};
 
 use crate::count::sum;
 use crate::flat::{Content, Entry, Row};
+use crate::labels::{Labels, label_bytes, place};
 use crate::put::put_word;
 use nwq_value::{Items, NoMemory};
 use std::alloc::Global;
-
-/// A label filled up with zero bytes.
-pub type LabelRow = [u8; 16];
 
 /// The six sections.
 #[derive(Debug, Drop)]
@@ -21,59 +19,6 @@ pub struct Sections {
     pub data_bytes: Items<u8>,
     pub indices: Items<u8>,
     pub lists: Items<u8>,
-}
-
-/// Where a label stands in the table, or the table's length.
-fn place(table: &[LabelRow], label: &LabelRow) -> usize
-    ensures { result ≡ place_of table.now label.now }
-{
-    for (i, row) in table.iter().enumerate() {
-        if row.as_slice() == label.as_slice() {
-            return i;
-        }
-    }
-    table.len()
-}
-
-/// Puts a label last in the table if it is new.
-fn add_label(table: &mut Items<LabelRow>, label: &LabelRow) -> Result<(), NoMemory>
-    ensures { OnOk result (table.new ≡ with_label table.old label.now) }
-{
-    if place(table.as_slice(), label) < table.len() {
-        return Ok(());
-    }
-    table.push(*label)
-}
-
-fn add_labels(table: &mut Items<LabelRow>, entries: &[Entry]) -> Result<(), NoMemory>
-    ensures { OnOk result (table.new ≡ entry_labels table.old entries.now) }
-{
-    for entry in entries {
-        add_label(table, &entry.label)?;
-    }
-    Ok(())
-}
-
-/// The labels of all fields once each, in the order of their first use.
-fn label_table(alloc: Global, rows: &[Row]) -> Result<Items<LabelRow>, NoMemory>
-    ensures { IfOk result (λ table. table ≡ row_labels [] rows.now) }
-{
-    let mut table = Items::new(alloc);
-    for row in rows {
-        add_labels(&mut table, row.fields.as_slice())?;
-    }
-    Ok(table)
-}
-
-/// The bytes of the labels, one after the other.
-fn label_bytes(alloc: Global, table: &[LabelRow]) -> Result<Items<u8>, NoMemory>
-    ensures { IfOk result (λ bytes. bytes ≡ joined table.now) }
-{
-    let mut bytes = Items::new(alloc);
-    for label in table {
-        bytes.extend(label.as_slice())?;
-    }
-    Ok(bytes)
 }
 
 /// Puts the numbers of a list's structs behind their count.
@@ -118,10 +63,10 @@ fn put_entry(
     fields: &mut Items<u8>,
     datum: &mut Items<u8>,
     lists: &mut Items<u8>,
-    table: &[LabelRow],
+    table: &Labels,
     entry: &Entry,
 ) -> Result<(), NoMemory>
-    ensures fields { OnOk result (fields.new ≡ fields.old ++ entry_bytes table.now (length datum.old) (length lists.old) entry.now) }
+    ensures fields { OnOk result (fields.new ≡ fields.old ++ entry_bytes table.now.keys (length datum.old) (length lists.old) entry.now) }
     ensures datum { OnOk result (datum.new ≡ datum.old ++ data_of entry.now.content) }
     ensures lists { OnOk result (lists.new ≡ lists.old ++ list_of entry.now.content) }
 {
@@ -136,10 +81,10 @@ fn put_entries(
     fields: &mut Items<u8>,
     datum: &mut Items<u8>,
     lists: &mut Items<u8>,
-    table: &[LabelRow],
+    table: &Labels,
     entries: &[Entry],
 ) -> Result<(), NoMemory>
-    ensures fields { OnOk result (fields.new ≡ fields.old ++ entries_bytes table.now (length datum.old) (length lists.old) entries.now) }
+    ensures fields { OnOk result (fields.new ≡ fields.old ++ entries_bytes table.now.keys (length datum.old) (length lists.old) entries.now) }
     ensures datum { OnOk result (datum.new ≡ datum.old ++ entries_data entries.now) }
     ensures lists { OnOk result (lists.new ≡ lists.old ++ entries_lists entries.now) }
 {
@@ -190,10 +135,10 @@ fn put_row(
 fn body(
     alloc: Global,
     rows: &[Row],
-    table: &[LabelRow],
+    table: &Labels,
     labels: Items<u8>,
 ) -> Result<Sections, NoMemory>
-    ensures { IfOk result (λ sections. sections ≡ parts_with table.now labels rows.now) }
+    ensures { IfOk result (λ sections. sections ≡ parts_with table.now.keys labels rows.now) }
 {
     let mut structs = Items::new(alloc);
     let mut fields = Items::new(alloc);
@@ -217,19 +162,10 @@ fn body(
     })
 }
 
-/// The sections of these structs.
-pub fn sections_of(alloc: Global, rows: &[Row]) -> Result<Sections, NoMemory>
-    ensures { IfOk result (λ sections. sections ≡ parts_of rows.now) }
+/// The sections of these structs, whose labels are given.
+pub fn sections_of(alloc: Global, rows: &[Row], table: &Labels) -> Result<Sections, NoMemory>
+    ensures { IfOk result (λ sections. sections ≡ parts_with table.now.keys (joined table.now.keys) rows.now) }
 {
-    let table = label_table(alloc, rows)?;
     let labels = label_bytes(alloc, table.as_slice())?;
-    body(alloc, rows, table.as_slice(), labels)
-}
-
-/// How many labels there are.
-pub fn label_count(alloc: Global, rows: &[Row]) -> Result<u64, NoMemory>
-    ensures { IfOk result (λ n. n ≡ length (row_labels [] rows.now)) }
-{
-    let table = label_table(alloc, rows)?;
-    Ok(table.len() as u64)
+    body(alloc, rows, table, labels)
 }

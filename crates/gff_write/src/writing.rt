@@ -10,8 +10,9 @@ use crate::count::sum;
 use crate::fault::WriteFault;
 use crate::flat::Row;
 use crate::flatten::flatten_node;
+use crate::labels::label_table;
 use crate::put::put_word;
-use crate::sections::{Sections, label_count, sections_of};
+use crate::sections::{Sections, sections_of};
 use gff_bytes::FILE_BYTES;
 use gff_tree::Gff;
 use nwq_value::{Items, NoMemory};
@@ -81,8 +82,8 @@ fn put_body(out: &mut Items<u8>, s: &Sections) -> Result<(), NoMemory>
 fn file(alloc: Global, file_type: &[u8; 4], rows: &[Row]) -> Result<Items<u8>, NoMemory>
     ensures { IfOk result (λ bytes. bytes ≡ written_rows file_type.now rows.now) }
 {
-    let sections = sections_of(alloc, rows)?;
-    let labels = label_count(alloc, rows)?;
+    let labels = label_table(alloc, rows)?;
+    let sections = sections_of(alloc, rows, &labels)?;
     let fields = count_fields(rows)?;
     let mut out = header(
         alloc,
@@ -90,7 +91,7 @@ fn file(alloc: Global, file_type: &[u8; 4], rows: &[Row]) -> Result<Items<u8>, N
         &sections,
         rows.len() as u64,
         fields,
-        labels,
+        labels.len() as u64,
     )?;
     put_body(&mut out, &sections)?;
     Ok(out)
@@ -115,15 +116,6 @@ fn bounded(bytes: Items<u8>) -> Result<Vec<u8>, WriteFault>
         return Err(WriteFault::Large(size as u64));
     }
     Ok(bytes.into_vec())
-}
-
-/// How many bytes the one file of a tree has, however many these are.
-pub fn size(alloc: Global, tree: &Gff) -> Result<u64, NoMemory>
-    ensures { IfOk result (λ n. n ≡ length (written (plain_gff tree.now))) }
-{
-    let rows = rows_in(alloc, tree)?;
-    let bytes = file(alloc, &tree.file_type, rows.as_slice())?;
-    Ok(bytes.len() as u64)
 }
 
 /// The one file of a tree, or its size where it has more than 16,777,216 bytes.

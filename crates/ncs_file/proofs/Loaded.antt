@@ -4,6 +4,7 @@ use Rattle.std.specs.Prelude.{is_some}
 use Rattle.std.specs.List.{AllByRecursion}
 use Rattle.std.proofs.lemmas.List.{length-append, length-drop, drop_at, get_or_past}
 use Rattle.std.proofs.lemmas.Bool.{cases_lt}
+use Rattle.ncs_code.specs.declared.fault.CodeFault.{CodeFault}
 use Rattle.ncs_code.specs.Plain.{PlainOp}
 use Rattle.ncs_code.specs.Spelling.{spelling, four, IsOp, fault_of}
 use Rattle.ncs_code.specs.File.{magic, spellings, file_bytes, file_length, first_bad, op_at, IsCode}
@@ -12,7 +13,7 @@ use Rattle.ncs_code.proofs.Readings.{none_begins_another}
 use Rattle.ncs_code.proofs.Sound.{sound}
 use Rattle.ncs_file.specs.declared.fault.LoadFault.{LoadFault}
 use Rattle.ncs_file.specs.declared.fault.LoadFault.TheVariants.{Magic, Length, At, Target, NoMemory}
-use Rattle.ncs_file.specs.Loading.{Fails}
+use Rattle.ncs_file.specs.Loading.{Fails, HasHeader, StopsAt}
 use Rattle.ncs_file.specs.Marks.{listing, IsLoaded, IsScanned}
 use Rattle.ncs_file.proofs.Places.{drop_header, length_file, length_marks, marked, found_at}
 use Rattle.ncs_file.proofs.Scanning.{listing_is}
@@ -127,18 +128,26 @@ header_is : (ops : List PlainOp) → take 13 (file_bytes ops) ≡ magic ++ four 
 unfolding four
 header_is ops = refl
 
+-- the bytes of instructions have their header
+pub has_header : (bytes : List ℕ) (ops : List PlainOp) → bytes ≡ file_bytes ops → HasHeader bytes
+has_header bytes ops is =
+    let size : file_length ops ≡ length bytes = sym (length_file ops) ∙ ap length (sym is) in
+    ap (take 13) is ∙ header_is ops ∙ ap (λ n. magic ++ four n) size
+
+-- in the bytes of instructions there is no place where none is spelled
+pub stops_nowhere : (place : ℕ) (why : CodeFault) (bytes : List ℕ) (ops : List PlainOp) → StopsAt place why bytes → AllByRecursion IsOp ops → bytes ≡ file_bytes ops → ⊥
+stops_nowhere place why bytes ops stops each is =
+    let same : spellings stops.ops ++ drop place bytes ≡ spellings ops = sym stops.before ∙ ap (drop 13) is ∙ drop_header ops in
+    let l = left stops.ops ops (drop place bytes) stops.each each same in
+    let none = no_fault (drop place bytes) l.ops l.each l.is (omega (arith, length-drop place bytes, stops.inside)) in
+    let none_some : None ≡ Some why = sym none ∙ stops.reason in
+    absurd cc
+
 -- a file is refused only for want of memory
 pub refused : (fault : LoadFault) (bytes : List ℕ) → Fails fault bytes → (ops : List PlainOp) → IsCode ops → bytes ≡ file_bytes ops → fault ≡ NoMemory
 refused Magic bytes fails ops code is = absurd (fails (ap (take 9) is))
-refused Length bytes fails ops code is =
-    let size : file_length ops ≡ length bytes = sym (length_file ops) ∙ ap length (sym is) in
-    absurd (fails.1 (ap (take 13) is ∙ header_is ops ∙ ap (λ n. magic ++ four n) size))
-refused (At place why) bytes fails ops code is =
-    let same : spellings fails.ops ++ drop place bytes ≡ spellings ops = sym fails.before ∙ ap (drop 13) is ∙ drop_header ops in
-    let l = left fails.ops ops (drop place bytes) fails.each code.each same in
-    let none = no_fault (drop place bytes) l.ops l.each l.is (omega (arith, length-drop place bytes, fails.inside)) in
-    let none_some : None ≡ Some why = sym none ∙ fails.reason in
-    absurd cc
+refused Length bytes fails ops code is = absurd (fails.1 (has_header bytes ops is))
+refused (At place why) bytes fails ops code is = absurd (stops_nowhere place why bytes ops fails code.each is)
 refused (Target place) bytes fails ops code is =
     let same : fails.ops ≡ ops = sym (listing_is bytes fails.ops fails.each fails.spelled) ∙ listing_is bytes ops code.each is in
     let none_some : None ≡ Some place = sym code.targets ∙ ap first_bad (sym same) ∙ fails.first in

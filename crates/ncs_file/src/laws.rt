@@ -1,4 +1,4 @@
-ghost use Rattle.ncs_file.specs.Laws.{NextBegins, TargetsBegin};
+ghost use Rattle.ncs_file.specs.Laws.{NextBegins, NoFaultInCode, OneFault, TargetsBegin};
 
 /// Each instruction of a file leads to beginnings of instructions.
 pub fn targets_begin()
@@ -8,4 +8,10 @@ pub fn targets_begin()
 /// Behind an instruction of a file the next one begins, or the file ends.
 pub fn next_begins()
     ensures { NextBegins }
+{}
+
+/// Bytes are refused for one reason, and those of a file for none, want of memory aside.
+pub fn one_fault()
+    ensures one { OneFault }
+    ensures none { NoFaultInCode }
 {}

@@ -14,7 +14,7 @@ mod scan;
 
 pub use code::{Code, load, store};
 pub use fault::LoadFault;
-pub use laws::{next_begins, targets_begin};
+pub use laws::{next_begins, one_fault, targets_begin};
 
 #[cfg(test)]
 mod tests;

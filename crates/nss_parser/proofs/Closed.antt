@@ -1,8 +1,8 @@
 -- A part and then its closing word or sign.
 use Rattle.std.proofs.Common.{◌≡◌, ◌∙◌, ℕ, List, [], ◌∷◌, ◌++◌, refl, sym, ap, append_assoc}
-use Rattle.nss_parser.specs.declared.mark.Mark.{Mark}
-use Rattle.nss_parser.specs.Symbols as symbol
-use Rattle.nss_parser.specs.Symbols.{Spot, sign}
+use Rattle.nss_symbols.specs.declared.mark.Mark.{Mark}
+use Rattle.nss_symbols.specs.Symbols as symbol
+use Rattle.nss_symbols.specs.Symbols.{Spot, sign}
 use Rattle.nss_parser.proofs.Fronts.{Viable, viable_then}
 
 pub record Closed {A : Type 0} (N : A → List Spot → Type 0) (m : Mark) (x : A) (xs : List Spot) : Type 0 where

@@ -1,22 +1,22 @@
 -- What types, constants and declared names spell is read as them.
-use Rattle.std.proofs.Common.{◌≡◌, ◌∙◌, ℕ, zero, suc, ◌+◌, ◌<◌, ◌≤◌, Bool, true, false, List, [], ◌∷◌, ◌++◌, length, length-append, append_assoc, Option, None, Some, refl, sym, ap, subst, arith}
+use Rattle.std.proofs.Common.{◌≡◌, ◌∙◌, ℕ, zero, suc, ◌+◌, ◌<◌, ◌≤◌, Bool, true, false, List, [], ◌∷◌, ◌++◌, length, length-append, append_assoc, Option, None, Some, refl, sym, ap, arith}
 use Rattle.nss_tree.specs.declared.constants.TypeName.{TypeName}
 use Rattle.nss_tree.specs.declared.constants.Constant.{Constant}
 use Rattle.nss_tree.specs.declared.units.Identifier.{Identifier}
 use Rattle.nss_tree.specs.Expressions.{PlainExpr}
 use Rattle.nss_tree.specs.Statements.{PlainDeclared}
-use Rattle.nss_parser.specs.declared.mark.Mark.{Mark}
-use Rattle.nss_parser.specs.declared.mark.Mark.TheVariants as mark
-use Rattle.nss_parser.specs.Symbols as symbol
-use Rattle.nss_parser.specs.Symbols.{Symbol, Spot, at, sign}
+use Rattle.nss_symbols.specs.declared.mark.Mark.{Mark}
+use Rattle.nss_symbols.specs.declared.mark.Mark.TheVariants as mark
+use Rattle.nss_symbols.specs.Symbols as symbol
+use Rattle.nss_symbols.specs.Symbols.{Symbol, Spot, at, sign}
 use Rattle.nss_parser.specs.Operators.{type_word}
-use Rattle.nss_parser.specs.Outcome.{Outcome, Got, Parser, and_then, same_mark, is_sign, sees, first, here, take, name}
+use Rattle.nss_symbols.specs.Outcome.{Outcome, Got, and_then, same_mark, is_sign, sees, first, here, take}
 use Rattle.nss_parser.specs.Grammar.{Expression, TypeTokens, ConstantTokens, Declared, DeclaredNames}
 use Rattle.nss_parser.specs.Grammar as grammar
 use Rattle.nss_parser.specs.ReadExpression.{level}
-use Rattle.nss_parser.specs.ReadDeclaration.{type_by, type_name, typed, constant_value, identifier, declared_after, declared, more_declared, declared_names}
+use Rattle.nss_parser.specs.ReadDeclaration.{type_by, type_name, typed, constant_value, identifier, declared_after, declared, more_declared}
 use Rattle.nss_parser.proofs.Fronts.{mark_same}
-use Rattle.nss_parser.proofs.ExpressionFacts.{Ends, IsEnd, ends_at, comma_ends, semicolon_ends, Starts, starts_append}
+use Rattle.nss_parser.proofs.ExpressionFacts.{Ends, ends_at, comma_ends, semicolon_ends, Starts}
 use Rattle.nss_parser.proofs.ExpressionComplete.{complete_expression}
 
 abbrev pub is_type : Option TypeName → Bool

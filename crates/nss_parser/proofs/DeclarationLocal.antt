@@ -1,14 +1,14 @@
 -- Reading of types, constants and declared names depends on the tokens that it passes and the next one, and more
 -- depth changes nothing.
-use Rattle.std.proofs.Common.{ℕ, zero, suc, ◌+◌, ◌≤◌, List, [], ◌∷◌, ◌++◌, Option, None, Some, arith}
+use Rattle.std.proofs.Common.{ℕ, zero, suc, ◌≤◌, List, [], ◌∷◌, ◌++◌, Option, None, Some, arith}
 use Rattle.nss_tree.specs.declared.constants.TypeName.{TypeName}
 use Rattle.nss_tree.specs.declared.constants.TypeName.TheVariants as type
 use Rattle.nss_tree.specs.declared.units.Identifier.{Identifier}
 use Rattle.nss_tree.specs.Statements.{PlainDeclared}
-use Rattle.nss_parser.specs.declared.mark.Mark.TheVariants as mark
-use Rattle.nss_parser.specs.Symbols as symbol
-use Rattle.nss_parser.specs.Symbols.{Symbol}
-use Rattle.nss_parser.specs.Outcome.{Parser, is_sign}
+use Rattle.nss_symbols.specs.declared.mark.Mark.TheVariants as mark
+use Rattle.nss_symbols.specs.Symbols as symbol
+use Rattle.nss_symbols.specs.Symbols.{Symbol}
+use Rattle.nss_symbols.specs.Outcome.{is_sign}
 use Rattle.nss_parser.specs.ReadDeclaration.{word_of, type_by, type_name, typed, negated_by, constant_by, constant_value, identifier, declared_after, declared, more_declared, declared_names}
 use Rattle.nss_parser.proofs.Local.{Local, local_pure, local_stuck, local_deep, local_take, local_bind, local_peek, local_here, local_choice, local_expect, local_name}
 use Rattle.nss_parser.proofs.ExpressionLocal.{local_level}

@@ -1,23 +1,22 @@
 -- What an expression's tree spells is read as that tree, whatever follows that can't go on with it.
-use Rattle.std.proofs.Common.{◌≡◌, ℕ, zero, suc, ◌+◌, ◌<◌, ◌≤◌, Bool, true, false, List, [], ◌∷◌, ◌++◌, length, Option, None, Some, refl, sym, ap, subst, ◌∙◌, arith, append_assoc, length-append, nat_lt, add-one}
+use Rattle.std.proofs.Common.{◌≡◌, ℕ, zero, suc, ◌+◌, ◌<◌, ◌≤◌, true, false, List, [], ◌∷◌, ◌++◌, length, None, Some, refl, sym, ap, subst, ◌∙◌, arith, append_assoc, length-append, add-one}
 use Rattle.std.specs.Prelude.{◌==◌}
-use Rattle.std.proofs.lemmas.Bool.{le-ltb, eqb-true}
-use Rattle.nss_tree.specs.declared.operators.PrefixOperator.{PrefixOperator}
+use Rattle.std.proofs.lemmas.Bool.{le-ltb}
 use Rattle.nss_tree.specs.declared.operators.BinaryOperator.{BinaryOperator}
 use Rattle.nss_tree.specs.declared.operators.AssignOperator.{AssignOperator}
 use Rattle.nss_tree.specs.declared.operators.PostfixOperator.{PostfixOperator}
 use Rattle.nss_tree.specs.Expressions as tree
 use Rattle.nss_tree.specs.Expressions.{PlainExpr, PlainExprs, joined_exprs}
-use Rattle.nss_parser.specs.declared.mark.Mark.{Mark}
-use Rattle.nss_parser.specs.declared.mark.Mark.TheVariants as mark
-use Rattle.nss_parser.specs.Symbols as symbol
-use Rattle.nss_parser.specs.Symbols.{Symbol, Spot, at, sign}
-use Rattle.nss_parser.specs.Operators.{binary_operator, level_of, unary_level, prefix_operator, assign_operator}
-use Rattle.nss_parser.specs.Outcome.{Outcome, Got, Stuck, Deep, Parser, and_then, same_mark, sees, first}
-use Rattle.nss_parser.specs.ReadExpression.{prefix_of, binary_of, assign_of, suffix_of, suffixes, arguments_from, arguments, primary, prefix, climb, level}
+use Rattle.nss_symbols.specs.declared.mark.Mark.{Mark}
+use Rattle.nss_symbols.specs.declared.mark.Mark.TheVariants as mark
+use Rattle.nss_symbols.specs.Symbols as symbol
+use Rattle.nss_symbols.specs.Symbols.{Symbol, Spot, at, sign}
+use Rattle.nss_parser.specs.Operators.{binary_operator, level_of, unary_level, assign_operator}
+use Rattle.nss_symbols.specs.Outcome.{Outcome, Got, and_then, same_mark, sees, first}
+use Rattle.nss_parser.specs.ReadExpression.{prefix_of, assign_of, suffix_of, suffixes, arguments_from, arguments, primary, prefix, climb, level}
 use Rattle.nss_parser.specs.Grammar.{Expression, Binary, Unary, Postfix, Primary, Expressions}
 use Rattle.nss_parser.specs.Grammar as grammar
-use Rattle.nss_parser.proofs.ExpressionFacts.{NoOperator, Apart, Ends, ends_more, apart_at_binary, assign_set, IsSet, IsStep, postfix_step, ends_at, close_ends, comma_ends, Starts, begins_expression, starts_append, starts_length, starts_expression, starts_binary, starts_unary, starts_postfix, starts_primary, starts_expressions, no_mark, level_below}
+use Rattle.nss_parser.proofs.ExpressionFacts.{NoOperator, Apart, Ends, ends_more, apart_at_binary, assign_set, IsSet, IsStep, postfix_step, ends_at, close_ends, comma_ends, Starts, begins_expression, starts_append, starts_length, starts_expression, starts_binary, starts_unary, starts_primary, starts_expressions, no_mark, level_below}
 use Rattle.nss_parser.proofs.ExpressionSteps as step
 
 -- what follows a part that isn't empty is shorter

@@ -1,20 +1,20 @@
 -- The tables of operators, what may follow an expression, and what an expression begins with.
-use Rattle.std.proofs.Common.{◌≡◌, ℕ, zero, suc, ◌+◌, ◌<◌, ◌≤◌, Bool, true, false, List, [], ◌∷◌, ◌++◌, length, Option, None, Some, refl, sym, ap, subst, ◌∙◌, arith, eqb, ltb, le-ltb, lt-ltb}
+use Rattle.std.proofs.Common.{◌≡◌, ℕ, suc, ◌<◌, ◌≤◌, Bool, true, false, List, [], ◌∷◌, ◌++◌, length, Option, None, Some, refl, sym, ap, ◌∙◌, arith}
 use Rattle.nss_tree.specs.declared.operators.PrefixOperator.{PrefixOperator}
 use Rattle.nss_tree.specs.declared.operators.PostfixOperator.{PostfixOperator}
 use Rattle.nss_tree.specs.declared.operators.BinaryOperator.{BinaryOperator}
 use Rattle.nss_tree.specs.declared.operators.BinaryOperator.TheVariants as binary
 use Rattle.nss_tree.specs.declared.operators.AssignOperator.{AssignOperator}
 use Rattle.nss_tree.specs.Expressions.{PlainExpr, PlainExprs}
-use Rattle.nss_parser.specs.declared.mark.Mark.{Mark}
-use Rattle.nss_parser.specs.declared.mark.Mark.TheVariants as mark
+use Rattle.nss_symbols.specs.declared.mark.Mark.{Mark}
+use Rattle.nss_symbols.specs.declared.mark.Mark.TheVariants as mark
 use Rattle.nss_parser.specs.declared.operator.Suffix.{Suffix}
-use Rattle.nss_parser.specs.declared.operator.Suffix.TheVariants.{Member, Step}
-use Rattle.nss_parser.specs.Symbols as symbol
-use Rattle.nss_parser.specs.Symbols.{Symbol, Spot, at, sign}
+use Rattle.nss_parser.specs.declared.operator.Suffix.TheVariants.{Step}
+use Rattle.nss_symbols.specs.Symbols as symbol
+use Rattle.nss_symbols.specs.Symbols.{Symbol, Spot, at, sign}
 use Rattle.nss_parser.specs.Operators.{binary_operator, level_of, unary_level, assign_operator, prefix_operator, postfix_operator}
-use Rattle.nss_parser.specs.Outcome.{same_mark, is_sign, sees, first}
-use Rattle.nss_parser.specs.ReadExpression.{prefix_of, binary_of, assign_of, suffix_of}
+use Rattle.nss_symbols.specs.Outcome.{same_mark, is_sign, sees, first}
+use Rattle.nss_parser.specs.ReadExpression.{binary_of, assign_of, suffix_of}
 use Rattle.nss_parser.specs.Grammar.{Expression, Binary, Unary, Postfix, Primary, Expressions}
 use Rattle.nss_parser.specs.Grammar as grammar
 use Rattle.nss_parser.proofs.Fronts.{mark_same}

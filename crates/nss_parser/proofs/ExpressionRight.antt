@@ -1,6 +1,5 @@
 -- What is read as an expression is spelled so, what stops is a front of one, and the depth lasts.
-use Rattle.std.proofs.Common.{◌≡◌, ℕ, zero, suc, ◌+◌, ◌-◌, ◌<◌, ◌≤◌, Bool, true, false, ◌⊎◌, inl, inr, List, [], ◌∷◌, ◌++◌, length, Option, None, Some, refl, sym, ap, subst, ◌∙◌, arith, append_assoc, append-nil, length-append, nat_lt, add-one}
-use Rattle.std.specs.Prelude.{◌==◌}
+use Rattle.std.proofs.Common.{◌≡◌, ℕ, zero, suc, ◌+◌, ◌-◌, ◌<◌, ◌≤◌, Bool, true, false, ◌⊎◌, inl, inr, List, [], ◌∷◌, ◌++◌, length, Option, None, Some, refl, sym, ap, subst, ◌∙◌, arith, append_assoc, append-nil, nat_lt, add-one}
 use Rattle.std.proofs.lemmas.Bool.{ltb-true, ltb-false, ne_eqb}
 use Rattle.std.specs.Int.{cast_signed, w32}
 use Rattle.nss_tree.specs.declared.operators.PrefixOperator.{PrefixOperator}
@@ -9,18 +8,18 @@ use Rattle.nss_tree.specs.declared.operators.BinaryOperator.{BinaryOperator}
 use Rattle.nss_tree.specs.declared.operators.AssignOperator.{AssignOperator}
 use Rattle.nss_tree.specs.Expressions as tree
 use Rattle.nss_tree.specs.Expressions.{PlainExpr, PlainExprs, joined_exprs}
-use Rattle.nss_parser.specs.declared.mark.Mark.{Mark}
-use Rattle.nss_parser.specs.declared.mark.Mark.TheVariants as mark
+use Rattle.nss_symbols.specs.declared.mark.Mark.{Mark}
+use Rattle.nss_symbols.specs.declared.mark.Mark.TheVariants as mark
 use Rattle.nss_parser.specs.declared.operator.Suffix.{Suffix}
 use Rattle.nss_parser.specs.declared.operator.Suffix.TheVariants.{Member, Step}
-use Rattle.nss_parser.specs.Symbols as symbol
-use Rattle.nss_parser.specs.Symbols.{Symbol, Spot, at, sign, spots}
+use Rattle.nss_symbols.specs.Symbols as symbol
+use Rattle.nss_symbols.specs.Symbols.{Symbol, Spot, at, sign, spots}
 use Rattle.nss_parser.specs.Operators.{binary_operator, level_of, unary_level, assign_operator, prefix_operator, postfix_operator}
-use Rattle.nss_parser.specs.Outcome.{Outcome, Got, Stuck, Deep, Parser, and_then, ◌>>=◌, branch, is_sign, sees, first, take}
-use Rattle.nss_parser.specs.ReadExpression.{prefix_of, binary_of, assign_of, suffix_of, step_of, suffix, suffixes, suffixes_by, after_argument, arguments_from, arguments, after_name, primary_by, primary, prefix, prefix_by, operation, climb, climb_by, assigned, assigned_by, after_first, level}
+use Rattle.nss_symbols.specs.Outcome.{Got, Parser, and_then, ◌>>=◌, branch, first, take}
+use Rattle.nss_parser.specs.ReadExpression.{prefix_of, binary_of, assign_of, suffix_of, step_of, suffix, suffixes, suffixes_by, arguments_from, arguments, after_name, primary_by, primary, prefix, prefix_by, operation, climb, climb_by, assigned, assigned_by, after_first, level}
 use Rattle.nss_parser.specs.Grammar.{Expression, Binary, Unary, Postfix, Primary, Expressions}
 use Rattle.nss_parser.specs.Grammar as grammar
-use Rattle.nss_parser.proofs.ExpressionFacts.{NoOperator, level_positive, level_below, Starts, begins_expression, starts_length, starts_expression, starts_binary, starts_unary, starts_postfix, starts_primary}
+use Rattle.nss_parser.proofs.ExpressionFacts.{NoOperator, level_positive, level_below, begins_expression, starts_length, starts_expression, starts_unary, starts_primary}
 use Rattle.nss_parser.proofs.ExpressionComplete.{joined_step}
 use Rattle.nss_parser.proofs.Fronts.{Right, right_got, right_pure, right_stuck, right_deep, further, then, then_sign, right_as, right_same, right_choice, after_take, then_expect, then_name, Viable, viable_then, viable_as, viable_done, viable_under, rest_length}
 

@@ -1,11 +1,11 @@
 -- What is read is spelled so, what stops is a front, and where the depth runs out.
-use Rattle.std.proofs.Common.{◌≡◌, ℕ, suc, ◌+◌, Bool, true, false, List, [], ◌∷◌, ◌++◌, length, Option, None, Some, refl, sym, ap, subst, ◌∙◌, append_assoc, append-nil, length-append, arith, rules}
+use Rattle.std.proofs.Common.{◌≡◌, ℕ, suc, ◌+◌, Bool, true, false, List, [], ◌∷◌, ◌++◌, length, Some, refl, sym, ap, subst, ◌∙◌, append_assoc, append-nil, length-append, arith, rules}
 use denote.Enum.Bare.{same_true}
-use Rattle.nss_parser.specs.contracts.mark.Mark.{the_type}
-use Rattle.nss_parser.specs.Symbols as symbol
-use Rattle.nss_parser.specs.Symbols.{Symbol, Spot, at, sign, spots}
-use Rattle.nss_parser.specs.declared.mark.Mark.{Mark}
-use Rattle.nss_parser.specs.Outcome.{Outcome, Got, Stuck, Deep, Parser, and_then, ◌>>=◌, pure, first, take, same_mark, is_sign, sees, peek, branch, choice, stuck, expect, name, name_by}
+use Rattle.nss_symbols.specs.contracts.mark.Mark.{the_type}
+use Rattle.nss_symbols.specs.Symbols as symbol
+use Rattle.nss_symbols.specs.Symbols.{Symbol, Spot, at, sign, spots}
+use Rattle.nss_symbols.specs.declared.mark.Mark.{Mark}
+use Rattle.nss_symbols.specs.Outcome.{Outcome, Got, Stuck, Deep, Parser, and_then, ◌>>=◌, first, take, same_mark, is_sign, sees, branch, choice, stuck, expect, name, name_by}
 
 -- P of what was read, its tokens and what follows; V of the tokens before the place that stopped; D where
 -- the depth ran out.

@@ -6,17 +6,13 @@ pub mod UnitLocal
 pub mod DeclarationRight
 pub mod DeclarationLocal
 pub mod DeclarationComplete
-pub mod NestLaws
 pub mod Local
 pub mod Fronts
-pub mod MarkLemmas
 pub mod ExpressionFacts
 pub mod ExpressionSteps
 pub mod ExpressionComplete
 pub mod ExpressionLocal
 pub mod ExpressionRight
-pub mod NameLemmas
-pub mod CursorLemmas
 pub mod Turns
 pub mod LoopTurns
 pub mod PartLaws
@@ -25,5 +21,5 @@ pub mod StatementLocal
 pub mod StatementComplete
 pub mod StatementRight
 pub mod Whole
+pub mod OneRefusal
 pub mod ReaderLemmas
-pub mod SeenLemmas

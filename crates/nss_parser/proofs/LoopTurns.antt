@@ -2,9 +2,9 @@
 use Rattle.std.proofs.Common.{◌≡◌, ℕ, suc, Bool, true, false, List, [], ◌∷◌, ◌++◌, ap, ◌∙◌}
 use Rattle.nss_tree.specs.Statements as stmt
 use Rattle.nss_tree.specs.Statements.{PlainDeclared, PlainStmt, PlainStmts, joined_stmts}
-use Rattle.nss_parser.specs.declared.mark.Mark.TheVariants as mark
-use Rattle.nss_parser.specs.Symbols.{Spot}
-use Rattle.nss_parser.specs.Outcome.{Outcome, Got, Parser, and_then, branch, sees, take}
+use Rattle.nss_symbols.specs.declared.mark.Mark.TheVariants as mark
+use Rattle.nss_symbols.specs.Symbols.{Spot}
+use Rattle.nss_symbols.specs.Outcome.{Outcome, Got, Parser, and_then, branch, sees, take}
 use Rattle.nss_parser.specs.ReadDeclaration.{declared, more_declared}
 use Rattle.nss_parser.specs.ReadStatement.{entry, entries_from}
 

@@ -1,13 +1,13 @@
 -- What the reader of a unit gives, by the definitions over the tokens.
-use Rattle.std.proofs.Common.{◌≡◌, ℕ, suc, ◌+◌, ◌-◌, ◌<◌, ◌≤◌, false, List, length, map, Result, Ok, Err, refl, sym, ap, subst, ◌∙◌, arith}
+use Rattle.std.proofs.Common.{◌≡◌, ℕ, ◌+◌, ◌-◌, ◌<◌, ◌≤◌, false, List, length, map, Result, Ok, Err, sym, ap, subst, ◌∙◌, arith}
 use Rattle.std.proofs.lemmas.List.{length-map}
 use Rattle.nss_tree.specs.Units.{PlainTree}
-use Rattle.nss_parser.specs.declared.symbol.Seen.{Seen}
-use Rattle.nss_parser.specs.Symbols.{Symbol, Spot, spots}
-use Rattle.nss_parser.specs.declared.cursor.Stop.{Stop}
-use Rattle.nss_parser.specs.declared.cursor.Stop.TheVariants.{Syntax, TooDeep}
-use Rattle.nss_parser.specs.Outcome.{Outcome, Got, Stuck, Deep}
-use Rattle.nss_parser.specs.Cursor.{plain_symbol, Reads}
+use Rattle.nss_symbols.specs.declared.symbol.Seen.{Seen}
+use Rattle.nss_symbols.specs.Symbols.{Spot, spots}
+use Rattle.nss_symbols.specs.declared.cursor.Stop.{Stop}
+use Rattle.nss_symbols.specs.declared.cursor.Stop.TheVariants.{Syntax, TooDeep}
+use Rattle.nss_symbols.specs.Outcome.{Outcome, Got, Stuck, Deep}
+use Rattle.nss_symbols.specs.Cursor.{plain_symbol, Reads}
 use Rattle.nss_parser.specs.ReadStatement.{entries, statement}
 use Rattle.nss_parser.specs.ReadUnit.{items}
 use Rattle.nss_parser.specs.ReadWhole.{unit}

@@ -1,24 +1,24 @@
 -- What a statement's tree spells is read as that tree, whatever follows that can't go on with it.
-use Rattle.std.proofs.Common.{◌≡◌, ℕ, zero, suc, ◌+◌, ◌<◌, ◌≤◌, Bool, true, false, List, [], ◌∷◌, ◌++◌, length, Option, None, Some, refl, sym, ap, subst, ◌∙◌, arith, append_assoc, append-nil, length-append}
+use Rattle.std.proofs.Common.{◌≡◌, ℕ, zero, suc, ◌<◌, ◌≤◌, Bool, true, false, List, [], ◌∷◌, ◌++◌, length, Option, None, Some, refl, sym, ap, ◌∙◌, arith, append_assoc, length-append}
 use Rattle.nss_tree.specs.declared.constants.TypeName.{TypeName}
 use Rattle.nss_tree.specs.declared.constants.Constant.{Constant}
 use Rattle.nss_tree.specs.Expressions.{PlainExpr}
 use Rattle.nss_tree.specs.Statements as stmt
 use Rattle.nss_tree.specs.Statements.{PlainStmt, PlainStmts, PlainDeclared, joined_stmts}
-use Rattle.nss_parser.specs.declared.mark.Mark.{Mark}
-use Rattle.nss_parser.specs.declared.mark.Mark.TheVariants as mark
-use Rattle.nss_parser.specs.Symbols as symbol
-use Rattle.nss_parser.specs.Symbols.{Symbol, Spot, at, sign}
+use Rattle.nss_symbols.specs.declared.mark.Mark.{Mark}
+use Rattle.nss_symbols.specs.declared.mark.Mark.TheVariants as mark
+use Rattle.nss_symbols.specs.Symbols as symbol
+use Rattle.nss_symbols.specs.Symbols.{Symbol, Spot, at, sign}
 use Rattle.nss_parser.specs.Operators.{type_word}
-use Rattle.nss_parser.specs.Outcome.{Outcome, Got, Stuck, Deep, Parser, and_then, branch, same_mark, is_sign, sees, first, take, here, expect}
+use Rattle.nss_symbols.specs.Outcome.{Outcome, Got, Parser, same_mark, sees, first, take, here}
 use Rattle.nss_parser.specs.ReadExpression.{level}
-use Rattle.nss_parser.specs.ReadDeclaration.{typed, constant_value, declared, more_declared, declared_names}
-use Rattle.nss_parser.specs.ReadStatement.{is_some_type, type_begins, condition, optional, declaration, case_label, default_label, expression_statement, break_statement, continue_statement, return_statement, labelled, entry, entries_from, entries, block, after_then, if_statement, while_statement, do_statement, for_statement, switch_statement, statement_by, some_statement, statement}
+use Rattle.nss_parser.specs.ReadDeclaration.{typed, constant_value, declared_names}
+use Rattle.nss_parser.specs.ReadStatement.{type_begins, condition, optional, declaration, case_label, default_label, expression_statement, break_statement, continue_statement, return_statement, labelled, entry, entries_from, entries, block, after_then, if_statement, while_statement, do_statement, for_statement, switch_statement, statement_by, some_statement, statement}
 use Rattle.nss_parser.specs.Grammar.{Expression, Optional, TypeTokens, ConstantTokens, DeclaredNames, ends_open, Statement, Entry, Entries}
 use Rattle.nss_parser.specs.Grammar as grammar
-use Rattle.nss_parser.proofs.ExpressionFacts.{IsEnd, Ends, ends_at, close_ends, semicolon_ends, Starts, begins_expression, starts_append, starts_length, starts_expression, no_mark}
+use Rattle.nss_parser.proofs.ExpressionFacts.{IsEnd, ends_at, close_ends, semicolon_ends, Starts, begins_expression, starts_append, starts_length, starts_expression, no_mark}
 use Rattle.nss_parser.proofs.ExpressionComplete.{complete_expression}
-use Rattle.nss_parser.proofs.DeclarationComplete.{no_sign, starts_type, complete_typed, complete_constant, complete_names}
+use Rattle.nss_parser.proofs.DeclarationComplete.{no_sign, complete_typed, complete_constant, complete_names}
 
 -- what a statement may begin with
 abbrev pub begins_statement : Symbol → Bool

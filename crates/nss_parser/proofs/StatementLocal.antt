@@ -1,15 +1,15 @@
 -- Reading of statements depends on the tokens that it passes and the next one, and more depth changes nothing.
-use Rattle.std.proofs.Common.{◌≡◌, ℕ, zero, suc, ◌<◌, ◌≤◌, Bool, true, false, Option, None, Some, arith}
+use Rattle.std.proofs.Common.{ℕ, zero, suc, ◌≤◌, Bool, true, false, Option, None, Some, arith}
 use Rattle.nss_tree.specs.Expressions.{PlainExpr}
 use Rattle.nss_tree.specs.Statements as stmt
 use Rattle.nss_tree.specs.Statements.{PlainStmt, PlainStmts, joined_stmts}
-use Rattle.nss_parser.specs.declared.mark.Mark.{Mark}
-use Rattle.nss_parser.specs.declared.mark.Mark.TheVariants as mark
-use Rattle.nss_parser.specs.Symbols as symbol
-use Rattle.nss_parser.specs.Symbols.{Symbol}
-use Rattle.nss_parser.specs.Outcome.{Parser, is_sign}
+use Rattle.nss_symbols.specs.declared.mark.Mark.{Mark}
+use Rattle.nss_symbols.specs.declared.mark.Mark.TheVariants as mark
+use Rattle.nss_symbols.specs.Symbols as symbol
+use Rattle.nss_symbols.specs.Symbols.{Symbol}
+use Rattle.nss_symbols.specs.Outcome.{Parser, is_sign}
 use Rattle.nss_parser.specs.ReadStatement.{type_begins, condition, optional, declaration, case_label, default_label, expression_statement, break_statement, continue_statement, return_statement, labelled, entry, entries_from, entries, block, after_then, if_statement, while_statement, do_statement, for_statement, switch_statement, statement_by, some_statement, statement}
-use Rattle.nss_parser.proofs.Local.{Local, local_pure, local_stuck, local_deep, local_take, local_here, local_bind, local_peek, local_branch, local_choice, local_expect}
+use Rattle.nss_parser.proofs.Local.{Local, local_pure, local_deep, local_take, local_here, local_bind, local_peek, local_branch, local_choice, local_expect}
 use Rattle.nss_parser.proofs.ExpressionLocal.{local_level}
 use Rattle.nss_parser.proofs.DeclarationLocal.{local_typed, local_constant, local_declared_names}
 

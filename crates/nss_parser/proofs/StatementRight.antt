@@ -1,29 +1,24 @@
 -- What is read as a statement is spelled so, what stops is a front of one, and the depth lasts.
-use Rattle.std.proofs.Common.{◌≡◌, ℕ, zero, suc, ◌+◌, ◌<◌, ◌≤◌, Bool, true, false, ◌⊎◌, inl, inr, List, [], ◌∷◌, ◌++◌, length, Option, None, Some, refl, sym, ap, subst, ◌∙◌, arith, append_assoc, append-nil, length-append}
+use Rattle.std.proofs.Common.{◌≡◌, ℕ, zero, suc, ◌+◌, ◌<◌, ◌≤◌, Bool, true, false, ◌⊎◌, inl, inr, List, [], ◌∷◌, ◌++◌, length, None, Some, refl, sym, ap, subst, ◌∙◌, arith, append_assoc, append-nil}
 use Rattle.std.specs.Int.{cast_signed, w32}
-use Rattle.nss_tree.specs.declared.constants.TypeName.{TypeName}
 use Rattle.nss_tree.specs.declared.constants.TypeName.TheVariants as type
-use Rattle.nss_tree.specs.declared.constants.Constant.{Constant}
-use Rattle.nss_tree.specs.declared.constants.Constant.TheVariants as constant
 use Rattle.nss_tree.specs.Expressions as tree
 use Rattle.nss_tree.specs.Expressions.{PlainExpr}
 use Rattle.nss_tree.specs.Statements as stmt
 use Rattle.nss_tree.specs.Statements.{PlainStmt, PlainStmts, PlainDeclared, joined_stmts}
-use Rattle.nss_parser.specs.declared.mark.Mark.{Mark}
-use Rattle.nss_parser.specs.declared.mark.Mark.TheVariants as mark
-use Rattle.nss_parser.specs.Symbols as symbol
-use Rattle.nss_parser.specs.Symbols.{Symbol, Spot, at, sign, spots}
-use Rattle.nss_parser.specs.Outcome.{Outcome, Got, Stuck, Deep, Parser, and_then, ◌>>=◌, branch, choice, same_mark, is_sign, sees, first, take, here, expect}
-use Rattle.nss_parser.specs.ReadExpression.{level}
-use Rattle.nss_parser.specs.ReadDeclaration.{typed, constant_value, declared_names}
+use Rattle.nss_symbols.specs.declared.mark.Mark.{Mark}
+use Rattle.nss_symbols.specs.declared.mark.Mark.TheVariants as mark
+use Rattle.nss_symbols.specs.Symbols as symbol
+use Rattle.nss_symbols.specs.Symbols.{Symbol, Spot, at, sign, spots}
+use Rattle.nss_symbols.specs.Outcome.{Parser, branch, same_mark, sees, first, take, here}
 use Rattle.nss_parser.specs.ReadStatement.{type_begins, condition, optional, declaration, case_label, default_label, expression_statement, break_statement, continue_statement, return_statement, labelled, entry, entries_from, entries, block, after_then, if_statement, while_statement, do_statement, for_statement, switch_statement, statement_by, some_statement, statement}
 use Rattle.nss_parser.specs.Grammar.{Expression, Optional, TypeTokens, ConstantTokens, DeclaredNames, ends_open, Statement, Entry, Entries}
 use Rattle.nss_parser.specs.Grammar as grammar
-use Rattle.nss_parser.proofs.ExpressionFacts.{NoOperator, Starts, begins_expression, starts_length, starts_expression}
-use Rattle.nss_parser.proofs.ExpressionRight.{LevelAt, right_level, zero_expression}
+use Rattle.nss_parser.proofs.ExpressionFacts.{starts_length, starts_expression}
+use Rattle.nss_parser.proofs.ExpressionRight.{right_level, zero_expression}
 use Rattle.nss_parser.proofs.DeclarationRight.{then_typed, right_constant, right_declared_names}
 use Rattle.nss_parser.proofs.StatementComplete.{begins_entry, starts_entry, joined_none, joined_next}
-use Rattle.nss_parser.proofs.Fronts.{Right, right_got, right_pure, right_stuck, right_deep, further, then, then_sign, right_as, right_same, right_choice, after_take, then_expect, Viable, viable_then, viable_as, viable_done, viable_under, rest_length}
+use Rattle.nss_parser.proofs.Fronts.{Right, right_got, right_pure, right_stuck, right_deep, then, then_sign, right_as, right_choice, after_take, then_expect, Viable, viable_then, viable_as, viable_done, viable_under, rest_length}
 
 -- A statement that ends in an `if` without `else` is not followed by `else`: reading takes each that it sees.
 abbrev pub ElseFree : PlainStmt → List Spot → Type 0

@@ -1,7 +1,6 @@
 -- What structs, const lines, globals, functions and units spell is read as them.
-use Rattle.std.proofs.Common.{◌≡◌, ◌∙◌, ℕ, zero, suc, ◌+◌, ◌<◌, ◌≤◌, Bool, true, false, List, [], ◌∷◌, ◌++◌, length, length-append, append_assoc, append-nil, Option, None, Some, refl, sym, ap, subst, arith}
+use Rattle.std.proofs.Common.{◌≡◌, ◌∙◌, ℕ, zero, suc, ◌+◌, ◌<◌, ◌≤◌, Bool, false, List, [], ◌∷◌, ◌++◌, length, length-append, append_assoc, append-nil, Option, None, Some, refl, sym, ap, subst, arith}
 use Rattle.nss_tree.specs.declared.constants.TypeName.{TypeName}
-use Rattle.nss_tree.specs.declared.constants.TypeName.TheVariants as type
 use Rattle.nss_tree.specs.declared.constants.Constant.{Constant}
 use Rattle.nss_tree.specs.declared.units.Identifier.{Identifier}
 use Rattle.nss_tree.specs.declared.units.FieldLine.{FieldLine}
@@ -9,18 +8,18 @@ use Rattle.nss_tree.specs.declared.units.Parameter.{Parameter}
 use Rattle.nss_tree.specs.Statements.{PlainDeclared, PlainStmts}
 use Rattle.nss_tree.specs.Units as unit
 use Rattle.nss_tree.specs.Units.{PlainItem, PlainTree}
-use Rattle.nss_parser.specs.declared.mark.Mark.{Mark}
-use Rattle.nss_parser.specs.declared.mark.Mark.TheVariants as mark
-use Rattle.nss_parser.specs.Symbols as symbol
-use Rattle.nss_parser.specs.Symbols.{Symbol, Spot, at, sign}
+use Rattle.nss_symbols.specs.declared.mark.Mark.{Mark}
+use Rattle.nss_symbols.specs.declared.mark.Mark.TheVariants as mark
+use Rattle.nss_symbols.specs.Symbols as symbol
+use Rattle.nss_symbols.specs.Symbols.{Symbol, Spot, at, sign}
 use Rattle.nss_parser.specs.Operators.{type_word}
-use Rattle.nss_parser.specs.Outcome.{Outcome, Got, Stuck, Deep, Parser, and_then, ◌>>=◌, same_mark, is_sign, sees, first, take, expect, pure, branch}
+use Rattle.nss_symbols.specs.Outcome.{Outcome, Got, Stuck, Deep, Parser, and_then, ◌>>=◌, same_mark, sees, first, take, expect, pure, branch}
 use Rattle.nss_parser.specs.Grammar.{TypeTokens, ConstantTokens, Declared, DeclaredNames, Entries}
 use Rattle.nss_parser.specs.Grammar as grammar
 use Rattle.nss_parser.specs.Unit.{FieldNames, Field, Fields, ParameterTokens, ParameterList, Parameters, Body, Item, Items}
 use Rattle.nss_parser.specs.Unit as spelled
 use Rattle.nss_parser.specs.ReadDeclaration.{typed, constant_value, identifier, declared_after, declared, more_declared}
-use Rattle.nss_parser.specs.ReadUnit.{more_fields, field, fields_from, structure, constant_line, default, parameter, parameters_from, parameters, global, body, function, after_type, after_struct, item, items_by, items_from, items}
+use Rattle.nss_parser.specs.ReadUnit.{more_fields, field, fields_from, structure, constant_line, default, parameter, parameters_from, parameters, global, body, function, after_type, after_struct, item, items_from, items}
 use Rattle.nss_parser.proofs.ExpressionFacts.{Starts, starts_append, starts_length}
 use Rattle.nss_parser.proofs.DeclarationComplete.{begins_type, is_type, starts_type, no_sign, complete_typed, complete_constant, identifier_step, declared_step, complete_names, tail_length}
 

@@ -1,15 +1,15 @@
 -- Reading of units depends on the tokens that it passes and the next one, and more depth changes nothing.
-use Rattle.std.proofs.Common.{ℕ, zero, suc, ◌+◌, ◌≤◌, List, [], ◌∷◌, ◌++◌, Option, None, Some, arith}
+use Rattle.std.proofs.Common.{ℕ, zero, suc, ◌≤◌, List, [], ◌∷◌, ◌++◌, Option, None, Some, arith}
 use Rattle.nss_tree.specs.declared.constants.TypeName.{TypeName}
 use Rattle.nss_tree.specs.declared.constants.TypeName.TheVariants as type
 use Rattle.nss_tree.specs.declared.units.Identifier.{Identifier}
 use Rattle.nss_tree.specs.declared.units.FieldLine.{FieldLine}
 use Rattle.nss_tree.specs.declared.units.Parameter.{Parameter}
 use Rattle.nss_tree.specs.Statements.{PlainStmts}
-use Rattle.nss_tree.specs.Units.{PlainItem, PlainTree}
-use Rattle.nss_parser.specs.declared.mark.Mark.TheVariants as mark
-use Rattle.nss_parser.specs.Symbols.{Symbol}
-use Rattle.nss_parser.specs.Outcome.{Parser, is_sign}
+use Rattle.nss_tree.specs.Units.{PlainTree}
+use Rattle.nss_symbols.specs.declared.mark.Mark.TheVariants as mark
+use Rattle.nss_symbols.specs.Symbols.{Symbol}
+use Rattle.nss_symbols.specs.Outcome.{Parser, is_sign}
 use Rattle.nss_parser.specs.ReadUnit.{more_fields, field, fields_from, structure, constant_line, default, parameter, parameters_from, parameters, global, body, function, after_type, after_struct, item, items_by, items_from, items}
 use Rattle.nss_parser.proofs.Local.{Local, local_pure, local_deep, local_take, local_bind, local_peek, local_choice, local_expect, local_name}
 use Rattle.nss_parser.proofs.DeclarationLocal.{local_typed, local_constant, local_identifier, local_declared_after, local_more_declared}

@@ -1,29 +1,27 @@
 -- What is read as an item of a unit is spelled so, what stops is a front, and the depth lasts.
-use Rattle.std.proofs.Common.{◌≡◌, ◌∙◌, ℕ, zero, suc, ◌+◌, ◌<◌, ◌≤◌, Bool, true, false, ◌⊎◌, inl, inr, List, [], ◌∷◌, ◌++◌, length, append_assoc, append-nil, Option, None, Some, refl, sym, ap, subst, arith}
+use Rattle.std.proofs.Common.{◌≡◌, ◌∙◌, ℕ, zero, suc, ◌+◌, ◌<◌, ◌≤◌, false, ◌⊎◌, inl, inr, List, [], ◌∷◌, ◌++◌, length, append_assoc, append-nil, Option, None, Some, refl, sym, ap, subst, arith}
 use Rattle.std.specs.Int.{cast_signed, w32}
 use Rattle.nss_tree.specs.declared.constants.TypeName.{TypeName}
 use Rattle.nss_tree.specs.declared.constants.TypeName.TheVariants as type
-use Rattle.nss_tree.specs.declared.constants.Constant.{Constant}
 use Rattle.nss_tree.specs.declared.constants.Constant.TheVariants as constant
 use Rattle.nss_tree.specs.declared.units.Identifier.{Identifier}
 use Rattle.nss_tree.specs.declared.units.FieldLine.{FieldLine}
 use Rattle.nss_tree.specs.declared.units.Parameter.{Parameter}
-use Rattle.nss_tree.specs.Statements as stmt
-use Rattle.nss_tree.specs.Statements.{PlainDeclared, PlainStmts}
+use Rattle.nss_tree.specs.Statements.{PlainStmts}
 use Rattle.nss_tree.specs.Units as unit
 use Rattle.nss_tree.specs.Units.{PlainItem, PlainTree}
-use Rattle.nss_parser.specs.declared.mark.Mark.{Mark}
-use Rattle.nss_parser.specs.declared.mark.Mark.TheVariants as mark
-use Rattle.nss_parser.specs.Symbols as symbol
-use Rattle.nss_parser.specs.Symbols.{Symbol, Spot, at, sign, spots}
-use Rattle.nss_parser.specs.Outcome.{Outcome, Got, Parser, and_then, ◌>>=◌, is_sign, sees, first, choice, expect, pure, take, name}
+use Rattle.nss_symbols.specs.declared.mark.Mark.{Mark}
+use Rattle.nss_symbols.specs.declared.mark.Mark.TheVariants as mark
+use Rattle.nss_symbols.specs.Symbols as symbol
+use Rattle.nss_symbols.specs.Symbols.{Symbol, Spot, at, sign, spots}
+use Rattle.nss_symbols.specs.Outcome.{Parser, and_then, ◌>>=◌, is_sign, first, choice, expect, pure, name}
 use Rattle.nss_parser.specs.Grammar.{TypeTokens, ConstantTokens, Declared, DeclaredNames, Entries}
 use Rattle.nss_parser.specs.Grammar as grammar
 use Rattle.nss_parser.specs.Unit.{FieldNames, Field, Fields, ParameterTokens, ParameterList, Parameters, Body, Item, Items}
 use Rattle.nss_parser.specs.Unit as spelled
-use Rattle.nss_parser.specs.ReadDeclaration.{typed, constant_value, identifier, declared_after, more_declared}
-use Rattle.nss_parser.specs.ReadUnit.{more_fields, field, fields_from, structure, constant_line, default, parameter, parameters_from, parameters, global, body, function, after_type, after_struct, item, items_by, items_from, items}
-use Rattle.nss_parser.proofs.Fronts.{Right, right_pure, right_stuck, right_deep, then, then_sign, then_expect, then_name, right_as, right_choice, after_take, Viable, viable_then, viable_as, viable_done, viable_under, rest_length}
+use Rattle.nss_parser.specs.ReadDeclaration.{typed, constant_value, identifier}
+use Rattle.nss_parser.specs.ReadUnit.{more_fields, field, fields_from, structure, constant_line, default, parameter, parameters_from, parameters, global, body, function, after_type, after_struct, item, items_from, items}
+use Rattle.nss_parser.proofs.Fronts.{Right, right_pure, right_deep, then, then_sign, then_expect, then_name, right_as, right_choice, after_take, Viable, viable_then, viable_as, viable_done, viable_under, rest_length}
 use Rattle.nss_parser.proofs.Closed.{Closed, closed_front, closed_after}
 use Rattle.nss_parser.proofs.DeclarationRight.{then_identifier, then_typed, right_constant, right_declared_after, right_more_declared}
 

@@ -5,9 +5,9 @@ use Rattle.nss_tree.specs.declared.units.FieldLine.{FieldLine}
 use Rattle.nss_tree.specs.declared.units.Parameter.{Parameter}
 use Rattle.nss_tree.specs.Statements.{PlainStmts}
 use Rattle.nss_tree.specs.Units.{PlainItem, PlainTree}
-use Rattle.nss_parser.specs.declared.mark.Mark.TheVariants as mark
-use Rattle.nss_parser.specs.Symbols.{Symbol, Spot}
-use Rattle.nss_parser.specs.Outcome.{Outcome, Got, Parser, and_then, branch, sees, first, take, expect}
+use Rattle.nss_symbols.specs.declared.mark.Mark.TheVariants as mark
+use Rattle.nss_symbols.specs.Symbols.{Symbol, Spot}
+use Rattle.nss_symbols.specs.Outcome.{Outcome, Got, Parser, and_then, branch, sees, first, take, expect}
 use Rattle.nss_parser.specs.ReadDeclaration.{identifier}
 use Rattle.nss_parser.specs.ReadUnit.{more_fields, field, fields_from, parameter, parameters_from, is_end, item, items_by, items_from, after_struct, constant_line, typed_item}
 

@@ -1,16 +1,15 @@
 -- A list of tokens has at most one tree, reading gives it, and where reading stops is the exact place.
-use Rattle.std.proofs.Common.{◌≡◌, ℕ, zero, suc, ◌+◌, ◌-◌, ◌<◌, ◌≤◌, Bool, true, false, List, [], ◌∷◌, ◌++◌, length, take, refl, sym, ap, subst, ◌∙◌, arith, append_assoc, append-nil, length-append}
+use Rattle.std.proofs.Common.{◌≡◌, ℕ, suc, ◌+◌, ◌-◌, ◌<◌, ◌≤◌, false, List, [], ◌∷◌, ◌++◌, length, take, refl, sym, ap, subst, ◌∙◌, arith, append_assoc, append-nil, length-append}
 use Rattle.std.proofs.lemmas.List.{append_cancel_right}
 use Rattle.nss_tree.specs.Statements as stmt
 use Rattle.nss_tree.specs.Statements.{PlainStmts}
 use Rattle.nss_tree.specs.Units.{PlainTree}
-use Rattle.nss_parser.specs.declared.mark.Mark.TheVariants as mark
-use Rattle.nss_parser.specs.Symbols.{Symbol, Spot, at, sign, spots}
-use Rattle.nss_parser.specs.Outcome.{Outcome, Got, Stuck, Deep, next}
+use Rattle.nss_symbols.specs.declared.mark.Mark.TheVariants as mark
+use Rattle.nss_symbols.specs.Symbols.{Symbol, Spot, at, sign, spots}
+use Rattle.nss_symbols.specs.Outcome.{Outcome, Got, Stuck, Deep, next}
 use Rattle.nss_parser.specs.Grammar.{Entries}
 use Rattle.nss_parser.specs.Unit.{Items}
 use Rattle.nss_parser.specs.ReadStatement.{entries, statement}
-use Rattle.nss_parser.specs.ReadUnit.{items}
 use Rattle.nss_parser.specs.ReadWhole.{unit}
 use Rattle.nss_parser.specs.Sentence.{Parses, IsFront, IsPlace, OneTree}
 use Rattle.nss_parser.proofs.Local.{Local, Same}

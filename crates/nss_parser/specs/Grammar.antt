@@ -1,6 +1,6 @@
 -- The grammar of expressions and statements: which tree a list of tokens spells. One constructor is one
 -- production, and an operator's level is a number.
-use Rattle.std.specs.Prelude.{◌≡◌, ℕ, suc, ◌+◌, Bool, true, false, List, [], ◌∷◌, ◌++◌, Option, None, Some}
+use Rattle.std.specs.Prelude.{◌≡◌, ℕ, suc, Bool, true, false, List, [], ◌∷◌, ◌++◌, Option, None, Some}
 use Rattle.std.specs.Int.{cast_signed, w32}
 use Rattle.nss_tree.specs.declared.operators.PrefixOperator.{PrefixOperator}
 use Rattle.nss_tree.specs.declared.operators.PostfixOperator.{PostfixOperator}
@@ -14,10 +14,10 @@ use Rattle.nss_tree.specs.Expressions as tree
 use Rattle.nss_tree.specs.Expressions.{PlainExpr, PlainExprs}
 use Rattle.nss_tree.specs.Statements as stmt
 use Rattle.nss_tree.specs.Statements.{PlainDeclared, PlainStmt, PlainStmts}
-use Rattle.nss_parser.specs.declared.mark.Mark.{Mark}
-use Rattle.nss_parser.specs.declared.mark.Mark.TheVariants as mark
-use Rattle.nss_parser.specs.Symbols as symbol
-use Rattle.nss_parser.specs.Symbols.{Symbol, Spot, at, sign}
+use Rattle.nss_symbols.specs.declared.mark.Mark.{Mark}
+use Rattle.nss_symbols.specs.declared.mark.Mark.TheVariants as mark
+use Rattle.nss_symbols.specs.Symbols as symbol
+use Rattle.nss_symbols.specs.Symbols.{Symbol, Spot, at, sign}
 use Rattle.nss_parser.specs.Operators.{binary_operator, level_of, unary_level, assign_operator, prefix_operator, postfix_operator, type_word}
 
 -- An int literal's number is taken as a signed one of 32 bits.

@@ -1,17 +1,11 @@
 pub mod ReadDeclaration
 pub mod ReadUnit
-pub mod Symbols
-pub mod Marks
-pub mod Tokens
 pub mod Operators
 pub mod Grammar
 pub mod Unit
 pub mod Sentence
-pub mod Nest
 pub mod Fault
-pub mod Outcome
 pub mod ReadExpression
-pub mod Cursor
 pub mod ReadStatement
 pub mod ReadWhole
 pub mod ReadParts

@@ -1,5 +1,5 @@
 -- Reading of types, constants and declared names.
-use Rattle.std.specs.Prelude.{ℕ, zero, suc, Bool, true, false, List, [], ◌∷◌, ◌++◌, Option, None, Some}
+use Rattle.std.specs.Prelude.{ℕ, zero, suc, true, false, List, [], ◌∷◌, ◌++◌, Option, None, Some}
 use Rattle.std.specs.Int.{cast_signed, w32}
 use Rattle.nss_tree.specs.declared.constants.TypeName.{TypeName}
 use Rattle.nss_tree.specs.declared.constants.TypeName.TheVariants as type
@@ -7,11 +7,11 @@ use Rattle.nss_tree.specs.declared.constants.Constant.{Constant}
 use Rattle.nss_tree.specs.declared.constants.Constant.TheVariants as constant
 use Rattle.nss_tree.specs.declared.units.Identifier.{Identifier}
 use Rattle.nss_tree.specs.Statements.{PlainDeclared}
-use Rattle.nss_parser.specs.declared.mark.Mark.TheVariants as mark
-use Rattle.nss_parser.specs.Symbols as symbol
-use Rattle.nss_parser.specs.Symbols.{Symbol}
+use Rattle.nss_symbols.specs.declared.mark.Mark.TheVariants as mark
+use Rattle.nss_symbols.specs.Symbols as symbol
+use Rattle.nss_symbols.specs.Symbols.{Symbol}
 use Rattle.nss_parser.specs.Operators.{type_word}
-use Rattle.nss_parser.specs.Outcome.{Parser, ◌>>=◌, pure, stuck, deep, here, take, peek, choice, is_sign, expect, name}
+use Rattle.nss_symbols.specs.Outcome.{Parser, ◌>>=◌, pure, stuck, deep, here, take, peek, choice, is_sign, expect, name}
 use Rattle.nss_parser.specs.ReadExpression.{level}
 
 -- the type that the next token is, where it is one by itself

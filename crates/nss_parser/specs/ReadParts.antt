@@ -1,10 +1,10 @@
 -- Parts of statements that code reads at once, so that it holds no statement while it reads on.
-use Rattle.std.specs.Prelude.{ℕ, List, Option, None, Some}
+use Rattle.std.specs.Prelude.{ℕ, Option, None, Some}
 use Rattle.nss_tree.specs.Expressions.{PlainExpr}
 use Rattle.nss_tree.specs.Statements as stmt
 use Rattle.nss_tree.specs.Statements.{PlainStmt}
-use Rattle.nss_parser.specs.declared.mark.Mark.TheVariants as mark
-use Rattle.nss_parser.specs.Outcome.{Parser, ◌>>=◌, pure, take, choice, is_sign, expect}
+use Rattle.nss_symbols.specs.declared.mark.Mark.TheVariants as mark
+use Rattle.nss_symbols.specs.Outcome.{Parser, ◌>>=◌, pure, take, choice, is_sign, expect}
 use Rattle.nss_parser.specs.ReadStatement.{condition}
 
 -- `else` and its statement, where one comes next

@@ -1,15 +1,15 @@
 -- Reading of statements, written as the code is, with a depth that falls.
-use Rattle.std.specs.Prelude.{ℕ, zero, suc, Bool, true, false, List, Option, None, Some}
+use Rattle.std.specs.Prelude.{ℕ, zero, suc, Bool, true, false, Option, None, Some}
 use Rattle.nss_tree.specs.declared.constants.TypeName.{TypeName}
 use Rattle.nss_tree.specs.Expressions.{PlainExpr}
 use Rattle.nss_tree.specs.Statements as stmt
 use Rattle.nss_tree.specs.Statements.{PlainStmt, PlainStmts, joined_stmts}
-use Rattle.nss_parser.specs.declared.mark.Mark.{Mark}
-use Rattle.nss_parser.specs.declared.mark.Mark.TheVariants as mark
-use Rattle.nss_parser.specs.Symbols as symbol
-use Rattle.nss_parser.specs.Symbols.{Symbol}
+use Rattle.nss_symbols.specs.declared.mark.Mark.{Mark}
+use Rattle.nss_symbols.specs.declared.mark.Mark.TheVariants as mark
+use Rattle.nss_symbols.specs.Symbols as symbol
+use Rattle.nss_symbols.specs.Symbols.{Symbol}
 use Rattle.nss_parser.specs.Operators.{type_word}
-use Rattle.nss_parser.specs.Outcome.{Parser, ◌>>=◌, pure, deep, here, take, peek, branch, choice, is_sign, expect}
+use Rattle.nss_symbols.specs.Outcome.{Parser, ◌>>=◌, pure, deep, here, take, peek, branch, choice, is_sign, expect}
 use Rattle.nss_parser.specs.ReadExpression.{level}
 use Rattle.nss_parser.specs.ReadDeclaration.{typed, constant_value, declared_names}
 

@@ -6,13 +6,12 @@ use Rattle.nss_tree.specs.declared.constants.TypeName.TheVariants as type
 use Rattle.nss_tree.specs.declared.units.Identifier.{Identifier}
 use Rattle.nss_tree.specs.declared.units.FieldLine.{FieldLine}
 use Rattle.nss_tree.specs.declared.units.Parameter.{Parameter}
-use Rattle.nss_tree.specs.Statements.{PlainDeclared, PlainStmts}
+use Rattle.nss_tree.specs.Statements.{PlainStmts}
 use Rattle.nss_tree.specs.Units as unit
 use Rattle.nss_tree.specs.Units.{PlainItem, PlainTree}
-use Rattle.nss_parser.specs.declared.mark.Mark.TheVariants as mark
-use Rattle.nss_parser.specs.Symbols as symbol
-use Rattle.nss_parser.specs.Symbols.{Symbol}
-use Rattle.nss_parser.specs.Outcome.{Parser, ◌>>=◌, pure, deep, take, peek, choice, is_sign, expect, name}
+use Rattle.nss_symbols.specs.declared.mark.Mark.TheVariants as mark
+use Rattle.nss_symbols.specs.Symbols.{Symbol}
+use Rattle.nss_symbols.specs.Outcome.{Parser, ◌>>=◌, pure, deep, take, peek, choice, is_sign, expect, name}
 use Rattle.nss_parser.specs.ReadDeclaration.{typed, identifier, constant_value, declared_after, more_declared}
 
 -- further names of fields, each after a comma, in so many turns

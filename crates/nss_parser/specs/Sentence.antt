@@ -1,7 +1,7 @@
 -- What it is for a list of tokens to have a tree, and the exact place where none is possible any more.
 use Rattle.std.specs.Prelude.{◌≡◌, ℕ, ◌+◌, ◌<◌, ◌≤◌, List, ◌++◌, length, take}
 use Rattle.nss_tree.specs.Units.{PlainTree}
-use Rattle.nss_parser.specs.Symbols.{Symbol, spots}
+use Rattle.nss_symbols.specs.Symbols.{Symbol, spots}
 use Rattle.nss_parser.specs.Unit.{Items}
 
 -- the tokens have this tree, whose nodes have the numbers of their tokens

@@ -1,5 +1,5 @@
 -- The grammar of a unit: structs, consts, globals and functions.
-use Rattle.std.specs.Prelude.{◌≡◌, ℕ, List, [], ◌∷◌, ◌++◌, false, Option, None, Some}
+use Rattle.std.specs.Prelude.{ℕ, List, [], ◌∷◌, ◌++◌, false, Option, None, Some}
 use Rattle.nss_tree.specs.declared.constants.TypeName.{TypeName}
 use Rattle.nss_tree.specs.declared.constants.Constant.{Constant}
 use Rattle.nss_tree.specs.declared.units.Identifier.{Identifier}
@@ -8,9 +8,9 @@ use Rattle.nss_tree.specs.declared.units.Parameter.{Parameter}
 use Rattle.nss_tree.specs.Statements.{PlainDeclared, PlainStmts}
 use Rattle.nss_tree.specs.Units as unit
 use Rattle.nss_tree.specs.Units.{PlainItem, PlainTree}
-use Rattle.nss_parser.specs.declared.mark.Mark.TheVariants as mark
-use Rattle.nss_parser.specs.Symbols as symbol
-use Rattle.nss_parser.specs.Symbols.{Spot, at, sign}
+use Rattle.nss_symbols.specs.declared.mark.Mark.TheVariants as mark
+use Rattle.nss_symbols.specs.Symbols as symbol
+use Rattle.nss_symbols.specs.Symbols.{Spot, at, sign}
 use Rattle.nss_parser.specs.Grammar.{TypeTokens, ConstantTokens, DeclaredNames, Entries}
 
 -- names of fields, with commas between

@@ -4,14 +4,12 @@ ghost use Rattle.nss_tree.specs.Reading.{plain_name, plain_names};
 ghost use Rattle.nss_parser.specs.Operators as table;
 ghost use Rattle.nss_parser.specs.ReadDeclaration as read;
 ghost use Rattle.nss_parser.specs.ReadStatement.{is_some_type, type_begins};
-ghost use Rattle.nss_parser.specs.Outcome as outcome;
-ghost use Rattle.nss_parser.specs.Cursor.{plain_symbol, Reads};
+ghost use Rattle.nss_symbols.specs.Outcome as outcome;
+ghost use Rattle.nss_symbols.specs.Cursor.{plain_symbol, Reads};
 
-use crate::cursor::{Cursor, Stop};
 use crate::expression::expression;
-use crate::mark::Mark;
-use crate::symbol::{Seen, name_text};
 use nss_lexer::literal;
+use nss_symbols::{Cursor, Mark, Seen, Stop, name_text};
 use nss_tree::{Constant, DeclaredName, Identifier, TypeName};
 use nwq_value::{Items, NoMemory};
 use std::alloc::Global;

@@ -2,13 +2,11 @@ ghost use Rattle.std.specs.Prelude.{◌≡◌, IfOk};
 ghost use Rattle.nss_tree.specs.Expressions as tree;
 ghost use Rattle.nss_tree.specs.Reading.{plain_expr, plain_exprs};
 ghost use Rattle.nss_parser.specs.ReadExpression as read;
-ghost use Rattle.nss_parser.specs.Cursor.{Reads};
+ghost use Rattle.nss_symbols.specs.Cursor.{Reads};
 
-use crate::cursor::{Cursor, Stop};
-use crate::mark::Mark;
 use crate::operator::{Suffix, assign_of, binary_of, level_of, prefix_of, suffix_of};
-use crate::symbol::{Seen, name_text};
 use nss_lexer::literal;
+use nss_symbols::{Cursor, Mark, Seen, Stop, name_text};
 use nss_tree::{BinaryOperator, Expr};
 use nwq_value::{Items, NoMemory, Text};
 use std::alloc::Global;

@@ -1,8 +1,16 @@
 //! Laws of the grammar, each the contract of a function that does nothing.
 
+ghost use Rattle.nss_parser.specs.Fault.{NoRefusalOfTrees, OneRefusal};
 ghost use Rattle.nss_parser.specs.Sentence.{OneTree};
 
 /// A list of tokens has at most one tree.
 pub fn one_tree()
     ensures { OneTree }
+{}
+
+/// A list of tokens is refused for one reason, and one that has a tree and nests within the limit for none, want of
+/// memory aside.
+pub fn one_refusal()
+    ensures one { OneRefusal }
+    ensures none { NoRefusalOfTrees }
 {}

@@ -2,20 +2,17 @@
 //!
 //! [`parse`] answers the one tree that the grammar gives the tokens, or why there is none: the first token that
 //! nests too deep, or else the exact place where the tokens stop being the front of a unit. The grammar stands in
-//! `specs/Grammar.antt` and `specs/Unit.antt`, the nest in `specs/Nest.antt`, places in `specs/Sentence.antt`.
+//! `specs/Grammar.antt` and `specs/Unit.antt`, places in `specs/Sentence.antt`; what the grammar sees of a token, and
+//! the nest, are those of `nss_symbols`.
 #![tactic(auto)]
 
-mod cursor;
 mod declaration;
 mod expression;
 pub mod fault;
 pub mod laws;
-pub mod mark;
-mod nest;
 mod operator;
 pub mod reader;
 mod statement;
-mod symbol;
 mod unit;
 
 pub use fault::ParseFault;

@@ -2,10 +2,9 @@ ghost use Rattle.std.specs.Prelude.{◌≡◌};
 ghost use Rattle.std.specs.Option.{option_map};
 ghost use Rattle.nss_parser.specs.Operators as table;
 ghost use Rattle.nss_parser.specs.ReadExpression as read;
-ghost use Rattle.nss_parser.specs.Cursor.{plain_symbol};
+ghost use Rattle.nss_symbols.specs.Cursor.{plain_symbol};
 
-use crate::mark::Mark;
-use crate::symbol::Seen;
+use nss_symbols::{Mark, Seen};
 use nss_tree::{AssignOperator, BinaryOperator, PostfixOperator, PrefixOperator};
 
 /// What may go on an expression after it: a `.` with a name, or an operator.

@@ -2,18 +2,16 @@ ghost use Rattle.std.specs.Prelude.{◌^◌, ◌<◌, length, map, IfOk, IfErr};
 ghost use Rattle.std.specs.List.{AllByRecursion};
 ghost use Rattle.nss_lexer.specs.Lexemes.{IsToken};
 ghost use Rattle.nss_tree.specs.Reading.{plain_tree};
-ghost use Rattle.nss_parser.specs.Tokens.{symbols_of};
-ghost use Rattle.nss_parser.specs.Cursor.{plain_symbol, AreSound};
+ghost use Rattle.nss_symbols.specs.Tokens.{symbols_of};
+ghost use Rattle.nss_symbols.specs.Cursor.{plain_symbol, AreSound};
 ghost use Rattle.nss_parser.specs.Sentence.{Parses};
-ghost use Rattle.nss_parser.specs.Nest.{IsWithinNest};
+ghost use Rattle.nss_symbols.specs.Nest.{IsWithinNest};
 ghost use Rattle.nss_parser.specs.Fault.{Refuses, Misreads};
 
-use crate::cursor::{Cursor, Stop};
 use crate::fault::ParseFault;
-use crate::nest::first_over;
-use crate::symbol::{Seen, seen_all};
 use crate::unit::unit;
 use nss_lexer::Token;
+use nss_symbols::{Cursor, Seen, Stop, first_over, seen_all};
 use nss_tree::Tree;
 use std::alloc::Global;
 

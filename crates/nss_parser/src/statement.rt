@@ -4,13 +4,11 @@ ghost use Rattle.nss_tree.specs.Statements as tree;
 ghost use Rattle.nss_tree.specs.Reading.{plain_expr, plain_stmt, plain_stmts};
 ghost use Rattle.nss_parser.specs.ReadStatement as read;
 ghost use Rattle.nss_parser.specs.ReadParts as parts;
-ghost use Rattle.nss_parser.specs.Cursor.{Reads};
+ghost use Rattle.nss_symbols.specs.Cursor.{Reads};
 
-use crate::cursor::{Cursor, Stop};
 use crate::declaration::{begins_type, constant_value, declared_names, typed};
 use crate::expression::expression;
-use crate::mark::Mark;
-use crate::symbol::Seen;
+use nss_symbols::{Cursor, Mark, Seen, Stop};
 use nss_tree::{Expr, Stmt};
 use nwq_value::{Items, NoMemory};
 use std::alloc::Global;

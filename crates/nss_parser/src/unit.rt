@@ -3,13 +3,12 @@ ghost use Rattle.std.specs.Option.{option_map};
 ghost use Rattle.nss_tree.specs.Reading.{plain_item, plain_name, plain_stmts, plain_tree};
 ghost use Rattle.nss_parser.specs.ReadStatement as statements;
 ghost use Rattle.nss_parser.specs.ReadUnit as read;
-ghost use Rattle.nss_parser.specs.Outcome.{first};
-ghost use Rattle.nss_parser.specs.Cursor.{Reads};
+ghost use Rattle.nss_symbols.specs.Outcome.{first};
+ghost use Rattle.nss_symbols.specs.Cursor.{Reads};
 
-use crate::cursor::{Cursor, Stop};
 use crate::declaration::{constant_value, declared_after, identifier, more_declared, typed};
-use crate::mark::Mark;
 use crate::statement::entries;
+use nss_symbols::{Cursor, Mark, Stop};
 use nss_tree::{FieldLine, Identifier, Item, Parameter, Stmt, Tree, TypeName};
 use nwq_value::{Items, NoMemory, Text};
 use std::alloc::Global;

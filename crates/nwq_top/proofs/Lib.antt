@@ -4,7 +4,6 @@ mod MachineLemmas
 mod StepLemmas
 mod ParseLemmas
 mod TextLemmas
-mod FrontLemmas
 mod OneSentence
 mod OneRun
 mod OneWork

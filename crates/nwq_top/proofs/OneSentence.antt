@@ -1,15 +1,24 @@
 -- Tokens are a sentence of one list of sums, or none with one place where that shows.
-use Rattle.std.proofs.Common.{◌≡◌, ℕ, ◌+◌, ◌≤◌, ◌<◌, ◌⊎◌, inl, inr, List, [], ◌++◌, length, take, drop, refl, sym, ◌∙◌, subst, arith}
+use Rattle.std.proofs.Common.{◌≡◌, ℕ, zero, suc, ◌+◌, ◌≤◌, ◌<◌, ◌⊎◌, inl, inr, List, [], ◌∷◌, ◌++◌, length, take, drop, refl, sym, ap, ◌∙◌, subst, arith, append_assoc}
 use Rattle.std.proofs.lemmas.Bool.{cases_lt}
-use Rattle.std.proofs.lemmas.List.{append-nil}
+use Rattle.std.proofs.lemmas.List.{append-nil, take-append-drop}
 use Rattle.nwq_top.specs.declared.symbol.Symbol.{Symbol}
 use Rattle.nwq_top.specs.declared.sentence.Parsed.{Parsed}
 use Rattle.nwq_top.specs.declared.sentence.Parsed.TheVariants.{Whole, Unfit, Unfinished}
 use Rattle.nwq_top.specs.Sentence.{IsSentence, IsFront, IsFirstUnfit, IsNoSentence, unfit, unfinished}
 use Rattle.nwq_top.specs.Reading.{fresh, parse}
 use Rattle.nwq_top.specs.Laws.{OneSentence}
-use Rattle.nwq_top.proofs.FrontLemmas.{parted, take_less}
 use Rattle.nwq_top.proofs.ParseLemmas.{Means, parse_meant, sentence_parsed}
+
+-- a list is its front, and what follows it
+parted : {A : Type 0} (n : ℕ) (xs more : List A) → take n xs ++ (drop n xs ++ more) ≡ xs ++ more
+parted n xs more = sym (append_assoc (take n xs) (drop n xs) more) ∙ ap (λ ys. ys ++ more) (take-append-drop n xs)
+
+take_less : {A : Type 0} (n m : ℕ) (xs : List A) → n ≤ m → take n (take m xs) ≡ take n xs
+take_less zero m xs h = refl
+take_less (suc n) zero xs h = absurd (omega arith)
+take_less (suc n) (suc m) [] h = refl
+take_less (suc n) (suc m) (x ∷ xs) h = let less : n ≤ m = omega arith in ap (λ ys. x ∷ ys) (take_less n m xs less)
 
 -- a front of a front is a front
 front_of : (tokens : List Symbol) (n : ℕ) → IsFront tokens → IsFront (take n tokens)

@@ -1,13 +1,14 @@
 -- What the files hold decides the work of each form of words.
-use Rattle.std.proofs.Common.{◌≡◌, ℕ, ◌+◌, ◌≤◌, ◌<◌, ◌⊎◌, inl, inr, ℤ, List, ◌++◌, take, drop, length, Option, Some, None, refl, sym, ap, ◌∙◌, subst, arith}
-use Rattle.std.proofs.lemmas.Bool.{cases_lt}
+use Rattle.std.proofs.Common.{◌≡◌, ◌≢◌, ℕ, List, ◌++◌, Option, Some, None, refl, sym, ap, ◌∙◌, subst, arith}
 use Rattle.std.specs.FinMap as fin_map
 use Rattle.nwq_outside.specs.Outside as outside
 use Rattle.nss_lexer.specs.Splitting.{Lexeme}
 use Rattle.nss_tree.specs.Units.{PlainTree}
-use Rattle.nss_parser.specs.Symbols as grammar
-use Rattle.nss_parser.specs.Nest.{nests, IsFirstOver, IsWithinNest}
-use Rattle.nss_parser.specs.Sentence.{IsFront, IsPlace, Parses}
+use Rattle.nss_symbols.specs.Symbols as grammar
+use Rattle.nss_symbols.specs.Nest.{IsFirstOver, IsWithinNest}
+use Rattle.nss_parser.specs.Sentence.{IsPlace, Parses}
+use Rattle.nss_parser.specs.declared.fault.ParseFault.TheVariants.{Nested, Syntax, NoMemory}
+use Rattle.nss_parser.specs.Fault.{OneRefusal}
 use Rattle.nss_include.specs.declared.fault.GatherFault.{GatherFault}
 use Rattle.nss_include.specs.declared.fault.GatherFault.TheVariants as fault
 use Rattle.nss_include.specs.declared.fault.Spot.{Spot}
@@ -30,37 +31,27 @@ use Rattle.nwq_top.specs.Machine.{RunsTo}
 use Rattle.nwq_top.specs.Command as command
 use Rattle.nwq_top.specs.Command.{IsPlay, IsWorkOf}
 use Rattle.nwq_top.specs.Laws.{OneWork}
-use Rattle.nwq_top.proofs.FrontLemmas.{parted, take_less}
 use Rattle.nwq_top.proofs.OneSentence.{one_list, one_place, not_both}
 use Rattle.nwq_top.proofs.OneRun.{one_run}
 
--- the place of a fault of syntax
-front_of : (tokens : List grammar.Symbol) (n : ℕ) → IsFront tokens → IsFront (take n tokens)
-front_of tokens n f = (drop n tokens ++ f.0, f.1, subst (λ ts. Parses ts f.1) (sym (parted n tokens f.0)) f.2)
+-- the first token whose nest passes the limit, and the place of a fault of syntax
+nested_same : (i j : ℕ) → Nested i ≡ Nested j → i ≡ j
+nested_same i j e = cc
 
-shorter_front : (tokens : List grammar.Symbol) (n m : ℕ) → n ≤ m → IsFront (take m tokens) → IsFront (take n tokens)
-shorter_front tokens n m h f = subst IsFront (take_less n m tokens h) (front_of (take m tokens) n f)
+syntax_same : (i j : ℕ) → Syntax i ≡ Syntax j → i ≡ j
+syntax_same i j e = cc
 
-not_before : (tokens : List grammar.Symbol) (i j : ℕ) → IsPlace tokens i → IsPlace tokens j → i < j → ⊥
-not_before tokens i j a b less =
-    let within : j ≤ length tokens = b.within in
-    a.through (omega arith) (shorter_front tokens (i + 1) j (omega arith) b.front)
+nested_not : (i : ℕ) → Nested i ≢ NoMemory
+nested_not i e = cc
 
-by_order : (i j : ℕ) → (i < j → ⊥) → (j < i → ⊥) → (i < j) ⊎ (j ≤ i) → (j < i) ⊎ (i ≤ j) → i ≡ j
-by_order i j a b (inl less) second = absurd (a less)
-by_order i j a b (inr more) (inl less) = absurd (b less)
-by_order i j a b (inr more) (inr other) = omega arith
+syntax_not : (i : ℕ) → Syntax i ≢ NoMemory
+syntax_not i e = cc
 
-same_number : (i j : ℕ) → (i < j → ⊥) → (j < i → ⊥) → i ≡ j
-same_number i j a b = by_order i j a b (cases_lt i j) (cases_lt j i)
+one_over : OneRefusal → (tokens : List grammar.Symbol) (i j : ℕ) → IsFirstOver tokens i → IsFirstOver tokens j → i ≡ j
+one_over one tokens i j a b = nested_same i j (one tokens (Nested i) (Nested j) a b (nested_not i) (nested_not j))
 
-one_syntax : (tokens : List grammar.Symbol) (i j : ℕ) → IsPlace tokens i → IsPlace tokens j → i ≡ j
-one_syntax tokens i j a b = same_number i j (not_before tokens i j a b) (not_before tokens j i b a)
-
--- the first token whose nest passes the limit
-one_over : (tokens : List grammar.Symbol) (i j : ℕ) → IsFirstOver tokens i → IsFirstOver tokens j → i ≡ j
-one_over tokens i j a b =
-    same_number i j (λ less. omega (arith, a.over, b.before i less)) (λ less. omega (arith, b.over, a.before j less))
+one_syntax : OneRefusal → (tokens : List grammar.Symbol) (i j : ℕ) → IsWithinNest tokens → IsPlace tokens i → IsPlace tokens j → i ≡ j
+one_syntax one tokens i j within a b = syntax_same i j (one tokens (Syntax i) (Syntax j) (within, a) (within, b) (syntax_not i) (syntax_not j))
 
 over_within : (tokens : List grammar.Symbol) (i : ℕ) → IsFirstOver tokens i → IsWithinNest tokens → ⊥
 over_within tokens i a within = omega (arith, a.over, within i)
@@ -87,6 +78,7 @@ module _ (tokens : List Lexeme) (files : List Source) where
         → IsSentence (symbols tokens) sums → RunsTo (code_of sums) count (prints_of sums)
         → Whole (play_work sums count)
 
+module _ (one : OneRefusal) (tokens : List Lexeme) (files : List Source) where
   same_line : (kind : Cause) (i j : ℕ) (a b : Spot) → i ≡ j → spot_at files tokens i ≡ Some a → spot_at files tokens j ≡ Some b
       → refusal_work kind a ≡ refusal_work kind b
   same_line kind i j a b e p q = ap (refusal_work kind) (spot_same a b (spot_at files tokens i) p (ap (spot_at files tokens) e ∙ q))
@@ -97,13 +89,13 @@ module _ (tokens : List Lexeme) (files : List Source) where
       let counts : n ≡ m = (one_run a m (prints_of sums) (subst (λ s. RunsTo (code_of s) m (prints_of s)) (sym e) b)).0 in
       ap (λ s. play_work s n) e ∙ ap (play_work more) counts
 
-  one_whole : {a b : Work Finished} → Whole a → Whole b → a ≡ b
-  one_whole (nested i s x e) (nested j r y f) = same_line cause.Nested i j s r (one_over _ i j x y) e f
+  one_whole : {a b : Work Finished} → Whole tokens files a → Whole tokens files b → a ≡ b
+  one_whole (nested i s x e) (nested j r y f) = same_line cause.Nested i j s r (one_over one _ i j x y) e f
   one_whole (nested i s x e) (syntax j r w y f) = absurd (over_within _ i x w)
   one_whole (nested i s x e) (not_built u j r w p y f) = absurd (over_within _ i x w)
   one_whole (nested i s x e) (plays u sums n w p y f) = absurd (over_within _ i x w)
   one_whole (syntax i s w x e) (nested j r y f) = absurd (over_within _ j y w)
-  one_whole (syntax i s w x e) (syntax j r v y f) = same_line cause.Syntax i j s r (one_syntax _ i j x y) e f
+  one_whole (syntax i s w x e) (syntax j r v y f) = same_line cause.Syntax i j s r (one_syntax one _ i j w x y) e f
   one_whole (syntax i s w x e) (not_built u j r v p y f) = absurd (x.none u p)
   one_whole (syntax i s w x e) (plays u sums n v p y f) = absurd (x.none u p)
   one_whole (not_built v i s w q x e) (nested j r y f) = absurd (over_within _ j y w)
@@ -126,16 +118,16 @@ Comes tokens files (Some fault.Fault) work = ⊥
 Comes tokens files (Some fault.NoMemory) work = ⊥
 Comes tokens files None work = Whole tokens files work
 
-one_comes : (tokens : List Lexeme) (files : List Source) (ending : Option GatherFault) (a b : Work Finished) → Comes tokens files ending a
+one_comes : OneRefusal → (tokens : List Lexeme) (files : List Source) (ending : Option GatherFault) (a b : Work Finished) → Comes tokens files ending a
     → Comes tokens files ending b → a ≡ b
-one_comes tokens files (Some (fault.Missing name)) a b p q = p ∙ sym q
-one_comes tokens files (Some (fault.Long name)) a b p q = p ∙ sym q
-one_comes tokens files (Some (fault.Bad spot)) a b p q = p ∙ sym q
-one_comes tokens files (Some (fault.Tokens spot)) a b p q = p ∙ sym q
-one_comes tokens files (Some (fault.Include spot)) a b p q = p ∙ sym q
-one_comes tokens files (Some fault.Fault) a b p q = absurd p
-one_comes tokens files (Some fault.NoMemory) a b p q = absurd p
-one_comes tokens files None a b p q = one_whole tokens files p q
+one_comes one tokens files (Some (fault.Missing name)) a b p q = p ∙ sym q
+one_comes one tokens files (Some (fault.Long name)) a b p q = p ∙ sym q
+one_comes one tokens files (Some (fault.Bad spot)) a b p q = p ∙ sym q
+one_comes one tokens files (Some (fault.Tokens spot)) a b p q = p ∙ sym q
+one_comes one tokens files (Some (fault.Include spot)) a b p q = p ∙ sym q
+one_comes one tokens files (Some fault.Fault) a b p q = absurd p
+one_comes one tokens files (Some fault.NoMemory) a b p q = absurd p
+one_comes one tokens files None a b p q = one_whole one tokens files p q
 
 record Fate (contents : Contents) (script : List ℕ) (work : Work Finished) : Type 0 where
   tokens : List Lexeme
@@ -166,15 +158,15 @@ fate c script decided (command.refuses kind spot is) = refused_fate (fin_map.get
 fate c script decided (command.plays tokens files tree sums count is sentence runs) =
     record { tokens = tokens; files = files; ending = None; unit = is.unit; comes = plays tree sums count is.nest is.parses sentence runs }
 
-one_fate : OneUnit → (contents : Contents) (script : List ℕ) (a b : Work Finished) → Fate contents script a → Fate contents script b → a ≡ b
-one_fate one contents script a b x y =
-    let same = one contents script x.tokens y.tokens x.files y.files x.ending y.ending x.unit y.unit in
-    one_comes y.tokens y.files y.ending a b
+one_fate : OneUnit → OneRefusal → (contents : Contents) (script : List ℕ) (a b : Work Finished) → Fate contents script a → Fate contents script b → a ≡ b
+one_fate unit refusal contents script a b x y =
+    let same = unit contents script x.tokens y.tokens x.files y.files x.ending y.ending x.unit y.unit in
+    one_comes refusal y.tokens y.files y.ending a b
     (subst (λ ts. Comes ts y.files y.ending a) same.0 (subst (λ fs. Comes x.tokens fs y.ending a) same.1 (subst (λ e. Comes x.tokens x.files e a) same.2 x.comes))) y.comes
 
-work_by : OneUnit → (c : outside.Contents) {form : Form} {a b : Work Finished} → IsDecided a → IsDecided b → IsWorkOf c form a → IsWorkOf c form b → a ≡ b
-work_by one c p q command.no_form command.no_form = refl
-work_by one c p q (command.run script a x) (command.run other b y) = one_fate one (fin_map.get c) script a b (fate c script p x) (fate c script q y)
+work_by : OneUnit → OneRefusal → (c : outside.Contents) {form : Form} {a b : Work Finished} → IsDecided a → IsDecided b → IsWorkOf c form a → IsWorkOf c form b → a ≡ b
+work_by unit refusal c p q command.no_form command.no_form = refl
+work_by unit refusal c p q (command.run script a x) (command.run other b y) = one_fate unit refusal (fin_map.get c) script a b (fate c script p x) (fate c script q y)
 
-pub one_work : OneUnit → OneWork
-one_work one c form a b p q x y = work_by one c p q x y
+pub one_work : OneUnit → OneRefusal → OneWork
+one_work unit refusal c form a b p q x y = work_by unit refusal c p q x y

@@ -5,7 +5,7 @@ use Rattle.std.specs.Option.{option_map}
 use Rattle.nwq_value.specs.declared.memory.NoMemory.{NoMemory}
 use Rattle.nss_lexer.specs.declared.token.Token.{Token}
 use Rattle.nss_lexer.specs.Splitting.{Lexeme, plain}
-use Rattle.nss_parser.specs.Tokens.{symbol_of, symbols_of}
+use Rattle.nss_symbols.specs.Tokens.{symbol_of, symbols_of}
 use Rattle.nss_include.specs.declared.fault.Spot.{Spot}
 use Rattle.nss_include.specs.declared.file.Source.{Source}
 use Rattle.nss_include.specs.Names.{spot_in}

@@ -6,8 +6,8 @@ use Rattle.nwq_outside.specs.Outside.{Contents}
 use Rattle.nss_lexer.specs.declared.token.Token.{Token}
 use Rattle.nss_lexer.specs.Splitting.{Lexeme, plain}
 use Rattle.nss_tree.specs.Units.{PlainTree}
-use Rattle.nss_parser.specs.Tokens.{symbols_of}
-use Rattle.nss_parser.specs.Nest.{IsFirstOver, IsWithinNest}
+use Rattle.nss_symbols.specs.Tokens.{symbols_of}
+use Rattle.nss_symbols.specs.Nest.{IsFirstOver, IsWithinNest}
 use Rattle.nss_parser.specs.Sentence.{IsPlace, Parses}
 use Rattle.nss_include.specs.declared.fault.GatherFault.{GatherFault}
 use Rattle.nss_include.specs.declared.fault.GatherFault.TheVariants as fault

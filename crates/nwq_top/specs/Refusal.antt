@@ -2,7 +2,7 @@
 use Rattle.std.specs.Prelude.{◌≡◌, ℕ, List, Some, None}
 use Rattle.nss_lexer.specs.Splitting.{Lexeme}
 use Rattle.nss_tree.specs.Units.{PlainTree}
-use Rattle.nss_parser.specs.Nest.{IsFirstOver, IsWithinNest}
+use Rattle.nss_symbols.specs.Nest.{IsFirstOver, IsWithinNest}
 use Rattle.nss_parser.specs.Sentence.{IsPlace}
 use Rattle.nss_include.specs.declared.fault.GatherFault.TheVariants.{Bad, Tokens, Include}
 use Rattle.nss_include.specs.declared.fault.Spot.{Spot}

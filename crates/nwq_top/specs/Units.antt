@@ -2,9 +2,9 @@
 use Rattle.std.specs.Prelude.{◌≡◌, ℕ, List, length, map, slice_get, Option, Some, None, option_map}
 use Rattle.nss_lexer.specs.Splitting.{Lexeme}
 use Rattle.nss_tree.specs.Units.{PlainTree}
-use Rattle.nss_parser.specs.Symbols as grammar
-use Rattle.nss_parser.specs.Tokens.{of_kind}
-use Rattle.nss_parser.specs.Nest.{IsWithinNest}
+use Rattle.nss_symbols.specs.Symbols as grammar
+use Rattle.nss_symbols.specs.Tokens.{of_kind}
+use Rattle.nss_symbols.specs.Nest.{IsWithinNest}
 use Rattle.nss_parser.specs.Sentence.{Parses}
 use Rattle.nss_include.specs.declared.fault.Spot.{Spot}
 use Rattle.nss_include.specs.declared.file.Source.{Source}

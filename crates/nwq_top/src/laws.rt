@@ -3,7 +3,7 @@
 ghost use Rattle.nwq_top.specs.Laws.{CodeDoesWhatIsMeant, OneRun, OneSentence, OneWork};
 
 use nss_include::laws::one_unit;
-use nss_parser::laws::one_tree;
+use nss_parser::laws::one_refusal;
 
 /// The machine, run on the code of a sentence, prints what the sentence means, in as many instructions as the code has.
 pub fn code_does_what_is_meant()
@@ -25,5 +25,5 @@ pub fn one_work()
     ensures { OneWork }
 {
     one_unit();
-    one_tree();
+    one_refusal();
 }

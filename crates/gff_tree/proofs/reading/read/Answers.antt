@@ -1,6 +1,3 @@
-use Rattle.std.proofs.Common.{◌≡◌, ◌∙◌, ap, subst, Ok}
-use Rattle.gff_tree.specs.Whole.{plain_gff}
-use Rattle.gff_tree.specs.Rows.{Gives}
 use Rattle.gff_tree.proofs.TreeLaws.{tree_is}
 use Rattle.gff_tree.proofs.reading.read.Goals as goal
 

@@ -1,4 +1,4 @@
-use Rattle.std.proofs.Common.{◌≡◌, ◌∙◌}
+use Rattle.std.proofs.Common.{◌∙◌}
 use Rattle.gff_tree.proofs.TreeLaws.{read_sound, stands_read}
 use Rattle.gff_tree.proofs.reading.read_within.Goals as goal
 

@@ -1,4 +1,4 @@
-use Rattle.std.proofs.Common.{◌+◌, ◌-◌, suc, arith}
+use Rattle.std.proofs.Common.{◌+◌, ◌-◌, arith}
 use Rattle.std.proofs.lemmas.Result.{err_from_is_err_and}
 use Rattle.gff_tree.proofs.RowLemmas.{words_step, words_end}
 use Rattle.gff_tree.proofs.row.read_words.Goals as goal

@@ -1,4 +1,4 @@
-use Rattle.std.proofs.Common.{◌≡◌, ◌-◌, ◌≤◌, ◌+◌, ◌*◌}
+use Rattle.std.proofs.Common.{◌≡◌, ◌-◌, ◌≤◌}
 use Rattle.gff_tree.specs.Rows.{words_from}
 use Rattle.gff_tree.proofs.RowLemmas.{with_front}
 use Rattle.gff_tree.proofs.row.read_words.Given as goal

@@ -1,4 +1,4 @@
-use Rattle.std.proofs.Common.{◌+◌, ◌-◌, suc, arith}
+use Rattle.std.proofs.Common.{◌+◌, ◌-◌, arith}
 use Rattle.gff_tree.proofs.RowLemmas.{parts_step}
 use Rattle.gff_tree.proofs.scalar.parts_of.Goals as goal
 

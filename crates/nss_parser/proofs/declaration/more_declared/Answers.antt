@@ -1,4 +1,4 @@
-use Rattle.std.proofs.Common.{◌≡◌, List, ◌+◌, ◌-◌, sym, ap, ◌∙◌}
+use Rattle.std.proofs.Common.{List, ◌+◌, ◌-◌, sym, ap, ◌∙◌}
 use Rattle.nss_tree.specs.Statements.{PlainDeclared}
 use Rattle.nss_tree.specs.Reading.{plain_name, plain_names}
 use Rattle.nss_parser.specs.ReadDeclaration as read

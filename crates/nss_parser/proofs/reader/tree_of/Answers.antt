@@ -1,7 +1,7 @@
-use Rattle.std.proofs.Common.{◌≡◌, ℕ, ◌+◌, ◌-◌, ◌<◌, ◌≤◌, length, map, sym, subst, arith, false}
+use Rattle.std.proofs.Common.{ℕ, ◌+◌, ◌-◌, ◌≤◌, length, map, sym, subst, arith, false}
 use Rattle.nss_tree.specs.Reading.{plain_tree}
 use Rattle.nss_parser.specs.Sentence.{IsPlace}
-use Rattle.nss_parser.specs.Cursor.{plain_symbol}
+use Rattle.nss_symbols.specs.Cursor.{plain_symbol}
 use Rattle.nss_parser.specs.ReadStatement.{entries, statement}
 use Rattle.nss_parser.specs.ReadUnit.{items}
 use Rattle.nss_parser.proofs.ReaderLemmas.{reads_ok, reads_syntax, reads_deep, got_of, stuck_of, left_of, deep_of}

@@ -1,4 +1,4 @@
-use Rattle.std.proofs.Common.{◌≡◌, ◌-◌, [], ◌∷◌}
+use Rattle.std.proofs.Common.{◌≡◌, ◌-◌, []}
 use Rattle.nss_parser.specs.ReadUnit as read
 use Rattle.nss_parser.proofs.unit.fields.Given as goal
 

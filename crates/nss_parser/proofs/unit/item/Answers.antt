@@ -1,6 +1,6 @@
 use Rattle.std.proofs.Common.{false, subst, sym, ◌∙◌}
 use Rattle.nss_tree.specs.Reading.{plain_item}
-use Rattle.nss_parser.specs.Cursor.{Reads}
+use Rattle.nss_symbols.specs.Cursor.{Reads}
 use Rattle.nss_parser.specs.ReadStatement as statements
 use Rattle.nss_parser.proofs.UnitTurns.{item_typed}
 use Rattle.nss_parser.proofs.unit.item.Goals as goal

@@ -1,4 +1,4 @@
-use Rattle.std.proofs.Common.{◌≡◌, List, ◌+◌, ◌-◌, sym, ap, ◌∙◌}
+use Rattle.std.proofs.Common.{List, ◌+◌, ◌-◌, sym, ap, ◌∙◌}
 use Rattle.nss_tree.specs.declared.units.Identifier.{Identifier}
 use Rattle.nss_parser.specs.ReadUnit as read
 use Rattle.nss_parser.proofs.Turns.{one_more}

@@ -1,11 +1,10 @@
-use Rattle.std.proofs.Common.{◌≡◌, List, ◌+◌, ◌-◌, [], ◌∷◌, map, false, sym, ap, ◌∙◌, rules, arith}
-use Rattle.std.proofs.lemmas.Grind.{common_steps}
+use Rattle.std.proofs.Common.{◌+◌, ◌-◌, map, false, sym, ap, ◌∙◌}
 use Rattle.nss_tree.specs.Reading.{plain_item}
 use Rattle.nss_tree.specs.Units.{PlainTree}
 use Rattle.nss_parser.specs.ReadStatement as statements
 use Rattle.nss_parser.specs.ReadUnit as read
 use Rattle.nss_parser.proofs.Turns.{one_more}
-use Rattle.nss_parser.proofs.UnitTurns.{items_end, items_more, items_on}
+use Rattle.nss_parser.proofs.UnitTurns.{items_more}
 use Rattle.nss_parser.proofs.unit.unit.Goals as goal
 
 pub loop-turn-preserved : goal.loop-turn-preserved

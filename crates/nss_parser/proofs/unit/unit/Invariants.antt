@@ -1,4 +1,4 @@
-use Rattle.std.proofs.Common.{◌≡◌, ◌-◌, [], ◌∷◌, map, false}
+use Rattle.std.proofs.Common.{◌≡◌, ◌-◌, [], map, false}
 use Rattle.nss_parser.specs.ReadUnit as read
 use Rattle.nss_tree.specs.Reading.{plain_item}
 use Rattle.nss_parser.specs.ReadStatement as statements

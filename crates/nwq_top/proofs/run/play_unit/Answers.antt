@@ -1,6 +1,6 @@
 use Rattle.std.proofs.Common.{refl, subst}
 use Rattle.nss_tree.specs.Reading.{plain_tree}
-use Rattle.nss_parser.specs.Nest.{IsFirstOver, IsWithinNest}
+use Rattle.nss_symbols.specs.Nest.{IsFirstOver, IsWithinNest}
 use Rattle.nss_parser.specs.Sentence.{IsPlace}
 use Rattle.nwq_top.specs.declared.status.Status.TheVariants.{Memory}
 use Rattle.nwq_top.proofs.PlaceLemmas.{seen_same}

@@ -1,5 +1,0 @@
-use Rattle.nss_parser.proofs.CursorLemmas.{left_of}
-use Rattle.nss_parser.proofs.cursor.Cursor.left.Goals as goal
-
-pub returns : goal.returns
-returns c = left_of c.self.inside.number c.self.inside.ahead.now c.args.self.now c.self.view_is

@@ -1,8 +1,0 @@
-use Rattle.std.proofs.Common.{map}
-use Rattle.nss_parser.specs.Cursor.{plain_symbol}
-use Rattle.nss_parser.specs.Nest.{mark_in}
-use Rattle.nss_parser.proofs.NestLaws.{SoFar}
-use Rattle.nss_parser.proofs.nest.first_over.Given as goal
-
-abbrev pub invariant-loop-i : goal.invariant-loop-i
-invariant-loop-i l = SoFar (map mark_in (map plain_symbol l.symbols)) l.i l.before l.mark l.nest

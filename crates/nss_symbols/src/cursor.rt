@@ -1,0 +1,151 @@
+ghost use Rattle.std.specs.Prelude.{◌≡◌, ◌^◌, ◌<◌, ◌≤◌, length, drop, map, IfSome};
+ghost use Rattle.std.specs.Option.{option_map};
+ghost use Rattle.nss_symbols.specs.Symbols.{spots};
+ghost use Rattle.nss_symbols.specs.Outcome as read;
+ghost use Rattle.nss_symbols.specs.Cursor.{plain_symbol, IsSound, AreSound, Reads};
+
+use crate::mark::Mark;
+use crate::symbol::{Seen, name_text};
+use nwq_value::{NoMemory, Text};
+use std::alloc::{AllocError, Global};
+use std::marker::Model;
+
+/// Why reading stopped. At `Syntax` the cursor stands at the token that can't stand there.
+#[derive(Clone, Copy, Debug, PartialEq, Eq)]
+pub enum Stop {
+    /// memory ran out
+    NoMemory,
+    /// the next token can't stand there, or there is none
+    Syntax,
+    /// the depth that the reader was given ran out
+    TooDeep,
+}
+
+impl From<NoMemory> for Stop {
+    ghost use Rattle.nss_symbols.specs.declared.cursor.Stop.TheVariants as stop;
+
+    ghost from_gives = { λ _ e. e ≡ stop.NoMemory };
+
+    fn from(_error: NoMemory) -> Stop {
+        Stop::NoMemory
+    }
+}
+
+/// The tokens that are still to be read. Contracts see them as a list of tokens with their numbers.
+#[derive(Debug, Drop)]
+pub struct Cursor<'a> {
+    ahead: &'a [Seen<'a>],
+    number: u32,
+}
+
+impl<'a> Model for Cursor<'a> {
+    ghost use Rattle.std.specs.Prelude.{List, ◌+◌, ◌^◌, ◌<◌, length, map};
+    ghost use Rattle.nss_symbols.specs.Symbols.{Spot, spots};
+    ghost use Rattle.nss_symbols.specs.Cursor.{plain_symbol, AreSound};
+
+    ghost Value = { List Spot };
+
+    ghost view = { λ c. spots c.number (map plain_symbol c.ahead.now) };
+
+    ghost invariant = { λ c. (c.number + length c.ahead.now < 2 ^ 32) × AreSound c.ahead.now };
+}
+
+/// All but the first.
+fn tail<'a>(symbols: &'a [Seen<'a>]) -> &'a [Seen<'a>]
+    requires { 1 ≤ length symbols.now }
+    ensures { result.now ≡ drop 1 symbols.now }
+{
+    &symbols[1..]
+}
+
+impl<'a> Cursor<'a> {
+    /// All tokens, the first with the number 0.
+    pub fn new(symbols: &'a [Seen<'a>]) -> Cursor<'a>
+        requires count { length symbols.now < 2 ^ 32 }
+        requires sound { AreSound symbols.now }
+        ensures { result ≡ spots 0 (map plain_symbol symbols.now) }
+    {
+        Cursor {
+            ahead: symbols,
+            number: 0,
+        }
+    }
+
+    /// How many tokens are left.
+    pub fn left(&self) -> usize
+        ensures { result ≡ length self.now }
+    {
+        self.ahead.len()
+    }
+
+    /// The next token, which stays.
+    pub fn peek(&self) -> Option<Seen<'a>>
+        ensures same { option_map plain_symbol result ≡ read.first self.now }
+        ensures sound { IfSome result IsSound }
+    {
+        match self.ahead {
+            [] => None,
+            [next, ..] => Some(*next),
+        }
+    }
+
+    /// The number of the next token, which stays.
+    pub fn here(&self) -> Result<u32, Stop>
+        ensures { Reads (λ n. n) (read.here self.now) result self.now }
+    {
+        match self.ahead {
+            [] => Err(Stop::Syntax),
+            [_, ..] => Ok(self.number),
+        }
+    }
+
+    /// Passes the next token, and gives its number.
+    pub fn take(&mut self) -> Result<u32, Stop>
+        ensures { Reads (λ n. n) (read.take self.old) result self.new }
+    {
+        match self.ahead {
+            [] => Err(Stop::Syntax),
+            [_, ..] => {
+                let number = self.number;
+                self.ahead = tail(self.ahead);
+                self.number += 1;
+                Ok(number)
+            }
+        }
+    }
+
+    /// Whether this word or sign comes next.
+    #[tactic(auto, unfolding(crate::specs::Outcome::same_mark))]
+    pub fn sees(&self, mark: Mark) -> bool
+        ensures { result ≡ read.sees mark self.now }
+    {
+        match self.peek() {
+            Some(Seen::Sign(next)) => mark == next,
+            _ => false,
+        }
+    }
+
+    /// Passes this word or sign.
+    pub fn expect(&mut self, mark: Mark) -> Result<u32, Stop>
+        ensures { Reads (λ n. n) (read.expect mark self.old) result self.new }
+    {
+        if self.sees(mark) {
+            self.take()
+        } else {
+            Err(Stop::Syntax)
+        }
+    }
+
+    /// Passes a name.
+    pub fn name(&mut self, alloc: Global) -> Result<Text, Stop>
+        ensures { Reads (λ bytes. bytes) (read.name self.old) result self.new }
+    {
+        match self.peek() {
+            Some(Seen::Name(bytes)) => {
+                self.take()?;
+                Ok(name_text(alloc, bytes)?)
+            }
+            _ => Err(Stop::Syntax),
+        }
+    }
+}

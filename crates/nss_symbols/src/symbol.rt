@@ -1,0 +1,76 @@
+ghost use Rattle.std.specs.Prelude.{◌≡◌, ◌≤◌, length, map, IfOk};
+ghost use Rattle.std.specs.List.{AllByRecursion};
+ghost use Rattle.nss_lexer.specs.Lexemes.{IsToken};
+ghost use Rattle.nss_symbols.specs.Marks as table;
+ghost use Rattle.nss_symbols.specs.Tokens.{of_mark, symbol_of, symbols_of};
+ghost use Rattle.nss_symbols.specs.Cursor.{plain_symbol, IsSound, AreSound};
+
+use crate::mark::{Mark, mark_of};
+use nss_lexer::{Kind, Token};
+use nwq_value::{NoMemory, Text};
+use std::alloc::Global;
+
+/// What the grammar sees of a token.
+#[derive(Clone, Copy, Debug)]
+pub enum Seen<'a> {
+    /// a name's bytes, 255 at most
+    Name(&'a [u8]),
+    /// an int literal's value
+    Int(u32),
+    /// a float literal, without its value
+    Float,
+    /// a string with its quotes
+    Text(&'a [u8]),
+    /// a word, an operator or another sign
+    Sign(Mark),
+    /// what is spelled as no word and no sign
+    Unknown,
+}
+
+/// A name's bytes as a text.
+#[tactic(auto, using(crate::proofs::NameLemmas::take_name))]
+pub fn name_text(alloc: Global, bytes: &[u8]) -> Result<Text, NoMemory>
+    requires { length bytes.now ≤ 255 }
+    ensures { IfOk result (λ text. text ≡ bytes.now) }
+{
+    Text::of(alloc, bytes)
+}
+
+/// A word or a sign by its bytes.
+fn spelled<'a>(text: &[u8]) -> Seen<'a>
+    ensures same { plain_symbol result ≡ of_mark (table.mark_of text.now) }
+    ensures sound { IsSound result }
+{
+    match mark_of(text) {
+        Some(mark) => Seen::Sign(mark),
+        None => Seen::Unknown,
+    }
+}
+
+/// What the grammar sees of one token.
+fn seen_of<'a>(token: &Token<'a>) -> Seen<'a>
+    requires { IsToken token.now }
+    ensures same { plain_symbol result ≡ symbol_of token.now }
+    ensures sound { IsSound result }
+{
+    match token.kind {
+        Kind::Name => Seen::Name(token.text),
+        Kind::Word | Kind::Sign => spelled(token.text),
+        Kind::Int(value) => Seen::Int(value),
+        Kind::Float => Seen::Float,
+        Kind::Text => Seen::Text(token.text),
+    }
+}
+
+/// What the grammar sees of a unit's tokens.
+pub fn seen_all<'a>(alloc: Global, tokens: &[Token<'a>]) -> Result<Vec<Seen<'a>>, NoMemory>
+    requires { AllByRecursion IsToken tokens.now }
+    ensures same { IfOk result (λ all. map plain_symbol all.items ≡ symbols_of tokens.now) }
+    ensures sound { IfOk result (λ all. AreSound all.items) }
+{
+    let mut all = Vec::new(alloc);
+    for token in tokens {
+        all.push(seen_of(token))?;
+    }
+    Ok(all)
+}
