@@ -159,14 +159,14 @@ fate c script decided (command.plays tokens files tree sums count is sentence ru
     record { tokens = tokens; files = files; ending = None; unit = is.unit; comes = plays tree sums count is.nest is.parses sentence runs }
 
 one_fate : OneUnit → OneRefusal → (contents : Contents) (script : List ℕ) (a b : Work Finished) → Fate contents script a → Fate contents script b → a ≡ b
-one_fate unit refusal contents script a b x y =
-    let same = unit contents script x.tokens y.tokens x.files y.files x.ending y.ending x.unit y.unit in
-    one_comes refusal y.tokens y.files y.ending a b
+one_fate gathering parsing contents script a b x y =
+    let same = gathering contents script x.tokens y.tokens x.files y.files x.ending y.ending x.unit y.unit in
+    one_comes parsing y.tokens y.files y.ending a b
     (subst (λ ts. Comes ts y.files y.ending a) same.0 (subst (λ fs. Comes x.tokens fs y.ending a) same.1 (subst (λ e. Comes x.tokens x.files e a) same.2 x.comes))) y.comes
 
 work_by : OneUnit → OneRefusal → (c : outside.Contents) {form : Form} {a b : Work Finished} → IsDecided a → IsDecided b → IsWorkOf c form a → IsWorkOf c form b → a ≡ b
-work_by unit refusal c p q command.no_form command.no_form = refl
-work_by unit refusal c p q (command.run script a x) (command.run other b y) = one_fate unit refusal (fin_map.get c) script a b (fate c script p x) (fate c script q y)
+work_by gathering parsing c p q command.no_form command.no_form = refl
+work_by gathering parsing c p q (command.run script a x) (command.run other b y) = one_fate gathering parsing (fin_map.get c) script a b (fate c script p x) (fate c script q y)
 
 pub one_work : OneUnit → OneRefusal → OneWork
-one_work unit refusal c form a b p q x y = work_by unit refusal c p q x y
+one_work gathering parsing c form a b p q x y = work_by gathering parsing c p q x y

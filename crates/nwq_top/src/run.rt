@@ -72,10 +72,13 @@ fn refuse_at<S: Sink>(alloc: Global, cause: Cause, spot: &Spot, out: &mut S) -> 
 /// Refuses a script that has no unit.
 fn refuse_gather<S: Sink>(alloc: Global, fault: GatherFault, out: &mut S) -> Status
     ensures does { IsTrue S.tells → RunsFault fault (S.taken out.old) result (S.taken out.new) }
-    ensures missing { result ≡ Status.Missing → (a a' f f' l l' : ℕ) → IsCaused fault a a' f f' l l' → Rose a a' }
-    ensures long { result ≡ Status.Long → (a a' f f' l l' : ℕ) → IsCaused fault a a' f f' l l' → Rose l l' }
-    ensures fault { result ≡ Status.Fault → (a a' f f' l l' : ℕ) → IsCaused fault a a' f f' l l' →
-        Rose f f' ⊎ Rose (S.faults out.old) (S.faults out.new) }
+    // Each count before and now, where the fault came with them.
+    ensures missing { result ≡ Status.Missing → (absent absent' failed failed' long long' : ℕ) →
+        IsCaused fault absent absent' failed failed' long long' → Rose absent absent' }
+    ensures long { result ≡ Status.Long → (absent absent' failed failed' long long' : ℕ) →
+        IsCaused fault absent absent' failed failed' long long' → Rose long long' }
+    ensures fault { result ≡ Status.Fault → (absent absent' failed failed' long long' : ℕ) →
+        IsCaused fault absent absent' failed failed' long long' → Rose failed failed' ⊎ Rose (S.faults out.old) (S.faults out.new) }
     ensures only { StopsRun result }
 {
     match fault {
