@@ -4,8 +4,8 @@ use Rattle.std.proofs.Common.{◌≡◌, ℕ, suc, ◌+◌, ◌≤◌, ◌<◌, 
 use Rattle.std.proofs.lemmas.List.{append-nil}
 use Rattle.std.proofs.lemmas.Grind.{flat_map-append}
 use Rattle.std.proofs.lemmas.Bool.Decides.{nat_tests}
-use Rattle.nwq_top.specs.declared.tokens.Symbol.{Symbol}
-use Rattle.nwq_top.specs.declared.tokens.Symbol.TheVariants.{Void, Main, PrintInteger, Int, Open, Close, OpenBrace, CloseBrace, Semicolon, Plus}
+use Rattle.nwq_top.specs.declared.symbol.Symbol.{Symbol}
+use Rattle.nwq_top.specs.declared.symbol.Symbol.TheVariants.{Void, Main, PrintInteger, Int, Open, Close, OpenBrace, CloseBrace, Semicolon, Plus}
 use Rattle.nwq_top.specs.declared.sentence.Stage.{Stage}
 use Rattle.nwq_top.specs.declared.sentence.Stage.TheVariants.{AtVoid, AtMain, AtOpen, AtClose, AtBrace, AtPrint, AtArgument, AtFirstInt, AtPlus, AtNextInt, AtSemicolon, AtEnd}
 use Rattle.nwq_top.specs.declared.sentence.Reader.{Reader}

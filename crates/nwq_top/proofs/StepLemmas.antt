@@ -13,8 +13,8 @@ use Rattle.nwq_top.specs.declared.machine.Machine.{Machine}
 use Rattle.nwq_top.specs.declared.machine.Next.{Next}
 use Rattle.nwq_top.specs.declared.machine.Next.TheVariants.{Goes, Ends}
 use Rattle.nwq_top.specs.Sentence.{AreSums, spelled, spelled_sum, spelled_print}
-use Rattle.nwq_top.specs.declared.tokens.Symbol.TheVariants.{Plus}
-use Rattle.nwq_top.specs.declared.tokens.Symbol.TheVariants as symbol
+use Rattle.nwq_top.specs.declared.symbol.Symbol.TheVariants.{Plus}
+use Rattle.nwq_top.specs.declared.symbol.Symbol.TheVariants as symbol
 use Rattle.nwq_top.specs.Meaning.{prints_of}
 use Rattle.nwq_top.specs.Emission.{push, adds, print_code, code_of, bytes_of, file_start, file_of}
 use Rattle.nwq_top.specs.Machine.{Code, laid, After, GoesOn, HasEnded, Stuck, step_of, Runs, ends, goes, entry}

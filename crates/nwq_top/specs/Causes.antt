@@ -23,24 +23,17 @@ IsRefusal Fault = ⊥
 IsRefusal Memory = ⊥
 IsRefusal _ = Unit {0}
 
--- what stops a put, the work on a source, the reading of a file, and a run
+-- what stops a put, the play of a unit, a run, and a command
 abbrev pub StopsPut : Status → Type 0
 StopsPut Fault = Unit {0}
 StopsPut Memory = Unit {0}
 StopsPut _ = ⊥
 
-abbrev pub StopsSource : Status → Type 0
-StopsSource Script = Unit {0}
-StopsSource Fault = Unit {0}
-StopsSource Memory = Unit {0}
-StopsSource _ = ⊥
-
-abbrev pub StopsRead : Status → Type 0
-StopsRead Missing = Unit {0}
-StopsRead Long = Unit {0}
-StopsRead Fault = Unit {0}
-StopsRead Memory = Unit {0}
-StopsRead _ = ⊥
+abbrev pub StopsPlay : Status → Type 0
+StopsPlay Script = Unit {0}
+StopsPlay Fault = Unit {0}
+StopsPlay Memory = Unit {0}
+StopsPlay _ = ⊥
 
 abbrev pub StopsRun : Status → Type 0
 StopsRun Script = Unit {0}

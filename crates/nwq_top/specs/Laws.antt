@@ -1,13 +1,14 @@
 -- Statements about the definitions alone. Each stands on the contract of a function of `laws`.
 use Rattle.std.specs.Prelude.{◌≡◌, ℕ, ℤ, ◌⊎◌, List, length}
+use Rattle.nwq_outside.specs.Outside.{Contents}
 use Rattle.ncs_code.specs.Plain.{PlainOp}
-use Rattle.nwq_top.specs.Sentence.{AreSums}
-use Rattle.nwq_top.specs.Source.{IsSource, IsNotBuilt}
+use Rattle.nwq_top.specs.declared.symbol.Symbol.{Symbol}
+use Rattle.nwq_top.specs.Sentence.{AreSums, IsSentence, IsNoSentence}
 use Rattle.nwq_top.specs.Meaning.{prints_of}
 use Rattle.nwq_top.specs.Emission.{code_of}
 use Rattle.nwq_top.specs.Machine.{RunsTo}
 use Rattle.nwq_top.specs.Words.{Form}
-use Rattle.nwq_top.specs.Work.{Work, Finished}
+use Rattle.nwq_top.specs.Work.{Work, IsDecided, Finished}
 use Rattle.nwq_top.specs.Command.{IsWorkOf}
 
 abbrev pub CodeDoesWhatIsMeant : Type 0
@@ -16,12 +17,13 @@ CodeDoesWhatIsMeant = (sums : List (List ℕ)) → AreSums sums → RunsTo (code
 abbrev pub OneRun : Type 0
 OneRun = (ops : List PlainOp) (n m : ℕ) (out other : List ℤ) → RunsTo ops n out → RunsTo ops m other → (n ≡ m) × (out ≡ other)
 
--- every file is built or refused, with one list of sums or at one place, and not both
-pub record OneReading : Type 0 where
-  pub some : (file : List ℕ) → ((sums : List (List ℕ)) × IsSource file sums) ⊎ ((place : ℕ) × IsNotBuilt file place)
-  pub one_source : (file : List ℕ) (a b : List (List ℕ)) → IsSource file a → IsSource file b → a ≡ b
-  pub one_place : (file : List ℕ) (a b : ℕ) → IsNotBuilt file a → IsNotBuilt file b → a ≡ b
-  pub not_both : (file : List ℕ) (sums : List (List ℕ)) (place : ℕ) → IsSource file sums → IsNotBuilt file place → ⊥
+-- tokens are a sentence of one list of sums, or none with one place where that shows, and not both
+pub record OneSentence : Type 0 where
+  pub some : (tokens : List Symbol) → ((sums : List (List ℕ)) × IsSentence tokens sums) ⊎ ((i : ℕ) × IsNoSentence tokens i)
+  pub one_list : (tokens : List Symbol) (a b : List (List ℕ)) → IsSentence tokens a → IsSentence tokens b → a ≡ b
+  pub one_place : (tokens : List Symbol) (i j : ℕ) → IsNoSentence tokens i → IsNoSentence tokens j → i ≡ j
+  pub not_both : (tokens : List Symbol) (sums : List (List ℕ)) (i : ℕ) → IsSentence tokens sums → IsNoSentence tokens i → ⊥
 
+-- what files hold decides the work of each form of words
 abbrev pub OneWork : Type 0
-OneWork = (form : Form) → (work : Work Finished) × IsWorkOf form work
+OneWork = (c : Contents) (form : Form) (a b : Work Finished) → IsDecided a → IsDecided b → IsWorkOf c form a → IsWorkOf c form b → a ≡ b

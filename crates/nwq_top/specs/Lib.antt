@@ -1,9 +1,10 @@
 pub mod Texts
 pub mod Words
 pub mod Work
-pub mod Tokens
+pub mod Symbols
 pub mod Sentence
-pub mod Source
+pub mod Units
+pub mod Refusal
 pub mod Meaning
 pub mod Emission
 pub mod Machine

@@ -1,17 +1,17 @@
--- The work of a run by the reading functions, for private clauses.
-use Rattle.std.specs.Prelude.{◌≡◌, ℕ, ◌⊎◌, List, ◌++◌, length, Result, Ok, Err}
-use Rattle.nwq_outside.specs.Outside.{TookFront}
-use Rattle.nwq_text.specs.Line.{line_number}
+-- The parts of a play, for private clauses.
+use Rattle.std.specs.Prelude.{◌≡◌, ℕ, ◌⊎◌, List, ◌++◌, None, Result, Ok, Err}
+use Rattle.std.specs.FinMap as map
+use Rattle.nwq_outside.specs.Outside.{Contents, TookFront}
+use Rattle.nss_tree.specs.Units.{PlainTree}
+use Rattle.nss_include.specs.declared.fault.GatherFault.{GatherFault}
+use Rattle.nss_include.specs.Units.{IsUnit}
+use Rattle.nss_include.specs.View.{Gathered}
+use Rattle.nss_include.specs.Gather.{Gathers}
 use Rattle.nwq_top.specs.declared.status.Status.{Status}
-use Rattle.nwq_top.specs.declared.status.Status.TheVariants.{Script}
-use Rattle.nwq_top.specs.declared.source.Reading.{Reading}
-use Rattle.nwq_top.specs.declared.source.Reading.TheVariants.{Built, NotBuilt}
-use Rattle.nwq_top.specs.Work.{Work, Gives, Ends, Reads, Puts, Finished, CutsShort}
-use Rattle.nwq_top.specs.Texts.{notbuilt_line, trace_text, end_text}
-use Rattle.nwq_top.specs.Meaning.{prints_of}
-use Rattle.nwq_top.specs.Emission.{code_of}
-use Rattle.nwq_top.specs.Reading.{reading_of}
-use Rattle.nwq_top.specs.Command.{source_name}
+use Rattle.nwq_top.specs.Work.{Finished, CutsShort}
+use Rattle.nwq_top.specs.Words.{Run}
+use Rattle.nwq_top.specs.Units.{IsParsed}
+use Rattle.nwq_top.specs.Command.{DoesWorkOf}
 
 -- a line is put and the status answered, or the work is cut with a front of the line taken
 abbrev pub Refuses : List ℕ → Status → List ℕ → Status → List ℕ → Type 0
@@ -22,12 +22,18 @@ abbrev pub PutsWhole : List ℕ → List ℕ → Result Finished Status → List
 PutsWhole text t (Ok done) t' = t' ≡ t ++ text
 PutsWhole text t (Err cut) t' = CutsShort cut × TookFront text t t'
 
-abbrev pub work_on : List ℕ → List ℕ → Reading → Work Finished
-work_on name file (Built sums) = Puts (trace_text (prints_of sums) ++ end_text (length (code_of sums))) (Gives tt)
-work_on name file (NotBuilt place) = Puts (notbuilt_line name (line_number file place) place) (Ends Script)
+-- whatever script has this fault, its run is done
+abbrev pub RunsFault : GatherFault → List ℕ → Status → List ℕ → Type 0
+RunsFault fault t answer t' =
+    (c : Contents) (script : List ℕ) → Gathers (map.get c) script (Err fault) → DoesWorkOf (Run script) c t (Err answer) c t'
 
-abbrev pub play_work : List ℕ → List ℕ → Work Finished
-play_work name file = work_on name file (reading_of file)
+-- whatever script has this unit, its run is done
+abbrev pub RunsUnit : Gathered → List ℕ → Result Finished Status → List ℕ → Type 0
+RunsUnit unit t r t' =
+    (c : Contents) (script : List ℕ) → IsUnit (map.get c) script unit.tokens unit.files None → DoesWorkOf (Run script) c t r c t'
 
-abbrev pub run_work : List ℕ → Work Finished
-run_work script = Reads (source_name script) (play_work (source_name script))
+-- the same of a unit that was parsed
+abbrev pub RunsParsed : Gathered → List ℕ → Result Finished Status → List ℕ → Type 0
+RunsParsed unit t r t' =
+    (c : Contents) (script : List ℕ) (tree : PlainTree) → IsParsed (map.get c) script unit.tokens unit.files tree
+    → DoesWorkOf (Run script) c t r c t'

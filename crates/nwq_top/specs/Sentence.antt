@@ -1,8 +1,8 @@
 -- The sentences of this stage: `void main ( ) { {print} }` with `print = PrintInteger ( int { + int } ) ;`. A sentence is a list of
 -- sums, a sum the list of its ints.
 use Rattle.std.specs.Prelude.{◌≡◌, ℕ, ◌+◌, ◌<◌, ◌≤◌, List, [], ◌∷◌, ◌++◌, length, take, flat_map}
-use Rattle.nwq_top.specs.declared.tokens.Symbol.{Symbol}
-use Rattle.nwq_top.specs.declared.tokens.Symbol.TheVariants.{Void, Main, PrintInteger, Int, Open, Close, OpenBrace, CloseBrace, Semicolon, Plus}
+use Rattle.nwq_top.specs.declared.symbol.Symbol.{Symbol}
+use Rattle.nwq_top.specs.declared.symbol.Symbol.TheVariants.{Void, Main, PrintInteger, Int, Open, Close, OpenBrace, CloseBrace, Semicolon, Plus}
 
 -- the ints of a sum, parted by `+`
 abbrev pub spelled_sum : List ℕ → List Symbol
@@ -38,3 +38,9 @@ pub record IsFirstUnfit (tokens : List Symbol) (i : ℕ) : Type 0 where
 pub record IsUnfinished (tokens : List Symbol) : Type 0 where
   pub front : IsFront tokens
   pub none : (sums : List (List ℕ)) → IsSentence tokens sums → ⊥
+
+-- The tokens are no sentence, and this is where that shows: the first with which they are no front of one, or their count, where all of
+-- them are such a front.
+pub data IsNoSentence (tokens : List Symbol) : ℕ → Type 0 where
+  unfit : (i : ℕ) → IsFirstUnfit tokens i → IsNoSentence tokens i
+  unfinished : IsUnfinished tokens → IsNoSentence tokens (length tokens)

@@ -3,11 +3,13 @@ use Rattle.std.specs.Prelude.{◌≡◌, ℕ, Bool, cond, ◌&&◌, ◌||◌, �
 use Rattle.std.specs.List.{list_all}
 use Rattle.nwq_top.specs.declared.words.Command.{Command}
 use Rattle.nwq_top.specs.declared.words.Command.TheVariants as command
-use Rattle.nwq_top.specs.Tokens.{is_between}
 
 pub data Form : Type 0 where
   Run : (script : List ℕ) → Form  -- with the built-in header
   NoForm : Form
+
+abbrev pub is_between : ℕ → ℕ → ℕ → Bool
+is_between low high b = nat_le low b && nat_le b high
 
 -- a to z, 0 to 9 and the underscore
 abbrev pub is_script_byte : ℕ → Bool

@@ -1,26 +1,34 @@
 -- The work of a command in order, and what it is to do it. A further command is one more value of this.
-use Rattle.std.specs.Prelude.{◌≡◌, ℕ, ◌⊎◌, List, ◌++◌, length, nat_lt, MatchOption, MatchBool, Result, Ok, Err}
+use Rattle.std.specs.Prelude.{◌≡◌, ℕ, ◌⊎◌, List, ◌++◌, Result, Ok, Err}
 use Rattle.std.specs.FinMap as map
 use Rattle.nwq_outside.specs.Outside.{Contents, KeepsOthers, TookFront}
 use Rattle.nwq_top.specs.declared.status.Status.{Status}
-use Rattle.nwq_top.specs.declared.status.Status.TheVariants.{Done, Missing, Fault, Memory, Long}
-use Rattle.nwq_top.specs.Texts.{missing_line, long_line}
+use Rattle.nwq_top.specs.declared.status.Status.TheVariants.{Done, Fault, Memory}
 
--- the work of a command, or of a part of one that gives an A. What is read decides what comes next
+-- The work of a command, or of a part of one that gives an A. What is read is no part of it: that decides which work it is. `Stops` is
+-- the work of a call that was cut before what it read had decided.
 pub data Work (A : Type 0) : Type 0 where
   Gives : (a : A) → Work A
   Ends : (status : Status) → Work A
-  Reads : (name : List ℕ) → (next : List ℕ → Work A) → Work A
   Writes : (name bytes : List ℕ) → Work A → Work A
   Puts : (text : List ℕ) → Work A → Work A
+  Stops : Work A
 
 -- one part after another; where the first ends, so does the whole
 abbrev pub then : {A B : Type 0} → Work A → (A → Work B) → Work B
 then (Gives a) f = f a
 then (Ends status) f = Ends status
-then (Reads name next) f = Reads name (λ bytes. then (next bytes) f)
 then (Writes name bytes rest) f = Writes name bytes (then rest f)
 then (Puts text rest) f = Puts text (then rest f)
+then Stops f = Stops
+
+-- the work was not cut before it was decided
+abbrev pub IsDecided : {A : Type 0} → Work A → Type 0
+IsDecided (Gives a) = Unit {0}
+IsDecided (Ends status) = Unit {0}
+IsDecided (Writes name bytes rest) = IsDecided rest
+IsDecided (Puts text rest) = IsDecided rest
+IsDecided Stops = ⊥
 
 -- the two statuses that may come at any point: a call outside failed, or memory was wanted
 abbrev pub CutsShort : Status → Type 0
@@ -36,23 +44,15 @@ IsCut (Err status) = CutsShort status
 abbrev pub Stays : Contents → Contents → List ℕ → List ℕ → Type 0
 Stays c c' t t' = (c' ≡ c) × (t' ≡ t)
 
--- the contents stay, and this text is put and the answer is that status, or the work is cut with a front of the text taken
-abbrev pub EndsWith : {A : Type 0} → List ℕ → Status → Contents → List ℕ → Result A Status → Contents → List ℕ → Type 0
-EndsWith text status c t r c' t' =
-    ((r ≡ Err status) × (c' ≡ c) × (t' ≡ t ++ text)) ⊎ (IsCut r × (c' ≡ c) × TookFront text t t')
-
--- from contents c and taken bytes t the work answers r and leaves c' and t'
+-- From contents c and taken bytes t the work answers r and leaves c' and t'. Every work may be cut as it begins.
 abbrev pub Does : {A : Type 0} → Work A → Contents → List ℕ → Result A Status → Contents → List ℕ → Type 0
 Does (Gives a) c t r c' t' = ((r ≡ Ok a) ⊎ IsCut r) × Stays c c' t t'
 Does (Ends status) c t r c' t' = ((r ≡ Err status) ⊎ IsCut r) × Stays c c' t t'
-Does (Reads name next) c t r c' t' =
-    (IsCut r × Stays c c' t t')
-    ⊎ MatchOption (map.get c name) (EndsWith (missing_line name) Missing c t r c' t')
-    (λ bytes. MatchBool (nat_lt 16777216 (length bytes)) (EndsWith (long_line name) Long c t r c' t') (Does (next bytes) c t r c' t'))
 Does (Writes name bytes rest) c t r c' t' =
     (IsCut r × KeepsOthers name c c' × (t' ≡ t)) ⊎ Does rest (map.insert c name bytes) t r c' t'
 Does (Puts text rest) c t r c' t' =
     (IsCut r × (c' ≡ c) × TookFront text t t') ⊎ Does rest c (t ++ text) r c' t'
+Does Stops c t r c' t' = IsCut r × Stays c c' t t'
 
 -- a whole command gives nothing but that it is done
 abbrev pub Finished : Type 0

@@ -1,6 +1,9 @@
 //! Laws that join the definitions: what is proved of them for all inputs, beside what the calls promise.
 
-ghost use Rattle.nwq_top.specs.Laws.{CodeDoesWhatIsMeant, OneRun, OneReading, OneWork};
+ghost use Rattle.nwq_top.specs.Laws.{CodeDoesWhatIsMeant, OneRun, OneSentence, OneWork};
+
+use nss_include::laws::one_unit;
+use nss_parser::laws::one_refusal;
 
 /// The machine, run on the code of a sentence, prints what the sentence means, in as many instructions as the code has.
 pub fn code_does_what_is_meant()
@@ -12,12 +15,15 @@ pub fn one_run()
     ensures { OneRun }
 {}
 
-/// A file is the source of one list of sums, or is refused at one place, and never both.
-pub fn one_reading()
-    ensures { OneReading }
+/// Tokens are a sentence of one list of sums, or none with one place where that shows, and never both.
+pub fn one_sentence()
+    ensures { OneSentence }
 {}
 
-/// Each form of words has its work.
+/// What the files hold decides the work of each form of words.
 pub fn one_work()
     ensures { OneWork }
-{}
+{
+    one_unit();
+    one_refusal();
+}

@@ -1,11 +1,13 @@
 //! The top call: what the words of a command do with files and a sink, in order, and how it ends.
 //!
 //! [`nwq_main`] is the whole program but for the real files, the real sink and the words. What a command does is a value of
-//! `specs/Work.antt`, one for each form of words (`specs/Command.antt`), and the clause `does` says that the call did that work. What a
-//! source is (`Tokens`, `Sentence`, `Source`), what it means (`Meaning`), its code (`Emission`) and the machine that runs the code
-//! (`Machine`) are definitions that know nothing of one another; laws join them.
+//! `specs/Work.antt`, decided by the form of the words and by what the files hold (`specs/Command.antt`), and the clause `does` says that
+//! the call did that work. Which units are refused, and where, stands in `specs/Refusal.antt`. What a sentence is (`Sentence`), what it
+//! means (`Meaning`), its code (`Emission`) and the machine that runs the code (`Machine`) are definitions that know nothing of one
+//! another; laws join them.
 #![tactic(auto)]
 
+mod cause;
 mod command;
 mod emission;
 pub mod laws;
@@ -13,12 +15,11 @@ mod machine;
 mod pile;
 mod run;
 mod sentence;
-mod source;
 mod status;
+mod symbol;
 #[cfg(test)]
 mod tests;
 mod texts;
-mod tokens;
 mod words;
 
 ghost use Rattle.std.specs.Prelude.{◌≡◌, ◌⊎◌, map, string_bytes, IsTrue};

@@ -1,21 +1,30 @@
-ghost use Rattle.std.specs.Prelude.{◌≡◌, ◌≤◌, ◌++◌, ◌⊎◌, List, ℕ, length, string_bytes, IsTrue, IfErr, IfOk, Ok, Err};
-ghost use Rattle.nwq_outside.specs.Outside.{Contents, Rose};
-ghost use Rattle.nwq_top.specs.Work.{Reads, Gives, Does};
-ghost use Rattle.nwq_top.specs.Causes.{IsRefusal, StopsPut, StopsSource, StopsRead, StopsRun};
-ghost use Rattle.nwq_top.specs.Command.{source_name};
-ghost use Rattle.nwq_text.specs.Line.{line_number};
-ghost use Rattle.nwq_top.specs.Texts.{notbuilt_line, trace_text, end_text};
+ghost use Rattle.std.specs.Prelude.{◌≡◌, ◌<◌, ◌≤◌, ◌++◌, ◌⊎◌, List, ℕ, length, map, slice_get, IsTrue, IfErr, IfOk, Some, Err};
+ghost use Rattle.std.specs.List.{AllByRecursion};
+ghost use Rattle.nwq_outside.specs.Outside.{Rose};
+ghost use Rattle.nss_lexer.specs.Lexemes.{IsToken};
+ghost use Rattle.nss_lexer.specs.Splitting.{plain};
+ghost use Rattle.nss_include.specs.declared.fault.Spot.{Spot};
+ghost use Rattle.nss_include.specs.View.{StandsIn};
+ghost use Rattle.nss_include.specs.Gather.{IsCaused};
+ghost use Rattle.nwq_top.specs.Words.{Run};
+ghost use Rattle.nwq_top.specs.Texts.{refusal_line, trace_text, end_text};
 ghost use Rattle.nwq_top.specs.Sentence.{AreSums, spelled};
+ghost use Rattle.nwq_top.specs.Units.{spot_at};
 ghost use Rattle.nwq_top.specs.Meaning.{prints_of};
 ghost use Rattle.nwq_top.specs.Emission.{code_of};
-ghost use Rattle.nwq_top.specs.Playing.{PutsWhole, Refuses, play_work, run_work};
+ghost use Rattle.nwq_top.specs.Command.{DoesWorkOf};
+ghost use Rattle.nwq_top.specs.Causes.{IsRefusal, StopsPut, StopsPlay, StopsRun};
+ghost use Rattle.nwq_top.specs.Playing.{PutsWhole, Refuses, RunsFault, RunsUnit, RunsParsed};
 
+use crate::cause::Cause;
 use crate::machine::play;
-use crate::source::{Reading, read_source};
+use crate::sentence::{Parsed, read_sentence};
 use crate::status::Status;
-use crate::texts::{long_text, missing_text, notbuilt_text, played_text};
-use nwq_outside::{Done, Files, Read, Sink};
-use nwq_text::line_of;
+use crate::texts::{long_text, missing_text, played_text, refusal_text};
+use nss_include::{GatherFault, Spot, Unit, gather};
+use nss_lexer::Token;
+use nss_parser::{ParseFault, parse};
+use nwq_outside::{Done, Files, Sink};
 use nwq_value::{Items, NoMemory};
 use std::alloc::Global;
 
@@ -50,53 +59,81 @@ pub fn refuse<S: Sink>(text: Result<Vec<u8>, NoMemory>, status: Status, out: &mu
     }
 }
 
-/// What is under the name, or the status where it can't be had, with its line put.
-pub fn read_file<F: Files, S: Sink>(
-    alloc: Global,
-    name: &str,
-    files: &mut F,
-    out: &mut S,
-) -> Result<Items<u8>, Status>
-    ensures does { IsTrue F.tells → IsTrue S.tells →
-        Does (Reads name.now Gives) (F.contents files.old) (S.taken out.old) result (F.contents files.new) (S.taken out.new) }
-    ensures same { F.contents files.new ≡ F.contents files.old }
-    ensures size { IfOk result (λ file. length file ≤ 16_777_216) }
-    ensures missing { result ≡ Err Status.Missing → Rose (F.absences files.old) (F.absences files.new) }
-    ensures long { result ≡ Err Status.Long → Rose (F.longs files.old) (F.longs files.new) }
-    ensures fault { result ≡ Err Status.Fault → Rose (F.faults files.old) (F.faults files.new) ⊎ Rose (S.faults out.old) (S.faults out.new) }
-    ensures only { IfErr result StopsRead }
-    ensures faults_stay { F.faults files.old ≤ F.faults files.new }
-    ensures sink { IfOk result (λ _. S.faults out.new ≡ S.faults out.old) }
+/// Refuses a unit at this place.
+fn refuse_at<S: Sink>(alloc: Global, cause: Cause, spot: &Spot, out: &mut S) -> Status
+    ensures does { IsTrue S.tells →
+        Refuses (refusal_line cause spot.now) Status.Script (S.taken out.old) result (S.taken out.new) }
+    ensures fault { result ≡ Status.Fault → Rose (S.faults out.old) (S.faults out.new) }
+    ensures only { StopsPlay result }
 {
-    match files.read(alloc, name) {
-        Read::Bytes(bytes) => Ok(Items::of_vec(bytes)),
-        Read::Missing => Err(refuse(missing_text(alloc, name), Status::Missing, out)),
-        Read::Long => Err(refuse(long_text(alloc, name), Status::Long, out)),
-        Read::Failed => Err(Status::Fault),
-        Read::NoMemory => Err(Status::Memory),
+    refuse(refusal_text(alloc, cause, spot), Status::Script, out)
+}
+
+/// Refuses a script that has no unit.
+fn refuse_gather<S: Sink>(alloc: Global, fault: GatherFault, out: &mut S) -> Status
+    ensures does { IsTrue S.tells → RunsFault fault (S.taken out.old) result (S.taken out.new) }
+    // Each count before and now, where the fault came with them.
+    ensures missing { result ≡ Status.Missing → (absent absent' failed failed' long long' : ℕ) →
+        IsCaused fault absent absent' failed failed' long long' → Rose absent absent' }
+    ensures long { result ≡ Status.Long → (absent absent' failed failed' long long' : ℕ) →
+        IsCaused fault absent absent' failed failed' long long' → Rose long long' }
+    ensures fault { result ≡ Status.Fault → (absent absent' failed failed' long long' : ℕ) →
+        IsCaused fault absent absent' failed failed' long long' → Rose failed failed' ⊎ Rose (S.faults out.old) (S.faults out.new) }
+    ensures only { StopsRun result }
+{
+    match fault {
+        GatherFault::Missing(name) => {
+            refuse(missing_text(alloc, name.bytes()), Status::Missing, out)
+        }
+        GatherFault::Long(name) => refuse(long_text(alloc, name.bytes()), Status::Long, out),
+        GatherFault::Bad(spot) => refuse_at(alloc, Cause::Bad, &spot, out),
+        GatherFault::Tokens(spot) => refuse_at(alloc, Cause::Tokens, &spot, out),
+        GatherFault::Include(spot) => refuse_at(alloc, Cause::Include, &spot, out),
+        GatherFault::Fault => Status::Fault,
+        GatherFault::NoMemory => Status::Memory,
     }
 }
 
-/// The name of the file of a script's source.
-fn name_of_source(alloc: Global, script: &str) -> Result<String, NoMemory>
-    ensures { IfOk result (λ name. string_bytes name ≡ source_name script.now) }
+fn token_at<'a>(tokens: &[Token<'a>], i: usize) -> Option<Token<'a>>
+    ensures { result ≡ slice_get tokens.now i }
 {
-    let mut name = String::from_str(alloc, script)?;
-    name.push_str(".nss")?;
-    Ok(name)
+    tokens.get(i).copied()
 }
 
-/// Refuses a source at this place.
-fn refuse_source<S: Sink>(alloc: Global, name: &str, file: &[u8], place: u32, out: &mut S) -> Status
-    requires size { length file.now ≤ 16_777_216 }
-    requires place { place ≤ length file.now }
-    ensures does { IsTrue S.tells →
-        Refuses (notbuilt_line name.now (line_number file.now place) place) Status.Script (S.taken out.old) result (S.taken out.new) }
-    ensures fault { result ≡ Status.Fault → Rose (S.faults out.old) (S.faults out.new) }
-    ensures only { StopsSource result }
+/// The place of token `i`, or, where there is none, the end of the script's file.
+fn spot_of(alloc: Global, unit: &Unit, tokens: &[Token<'_>], i: usize) -> Result<Spot, NoMemory>
+    requires script { 0 < length unit.now.files }
+    requires tokens { map plain tokens.now ≡ unit.now.tokens }
+    requires placed { AllByRecursion (StandsIn unit.now.files) unit.now.tokens }
+    ensures { IfOk result (λ spot. spot_at unit.now.files unit.now.tokens i ≡ Some spot) }
 {
-    let line = line_of(file, place);
-    refuse(notbuilt_text(alloc, name, line, place), Status::Script, out)
+    match token_at(tokens, i) {
+        Some(token) => unit.spot(alloc, token.file, token.start),
+        None => unit.spot(alloc, 0, unit.file_bytes(0).len() as u32),
+    }
+}
+
+/// Refuses a unit at token `i`, or, where there is none, at the end of the script's file.
+fn refuse_token<S: Sink>(
+    alloc: Global,
+    unit: &Unit,
+    tokens: &[Token<'_>],
+    i: usize,
+    cause: Cause,
+    out: &mut S,
+) -> Status
+    requires script { 0 < length unit.now.files }
+    requires tokens { map plain tokens.now ≡ unit.now.tokens }
+    requires placed { AllByRecursion (StandsIn unit.now.files) unit.now.tokens }
+    ensures does { IsTrue S.tells → (spot : Spot) → spot_at unit.now.files unit.now.tokens i ≡ Some spot →
+        Refuses (refusal_line cause spot) Status.Script (S.taken out.old) result (S.taken out.new) }
+    ensures fault { result ≡ Status.Fault → Rose (S.faults out.old) (S.faults out.new) }
+    ensures only { StopsPlay result }
+{
+    match spot_of(alloc, unit, tokens, i) {
+        Err(_) => Status::Memory,
+        Ok(spot) => refuse_at(alloc, cause, &spot, out),
+    }
 }
 
 /// The text of a sentence's play.
@@ -109,18 +146,61 @@ fn text_of_play(alloc: Global, sums: &[Items<u32>]) -> Result<Vec<u8>, NoMemory>
     played_text(alloc, &played)
 }
 
-/// Plays a source that was read.
-fn play_source<S: Sink>(alloc: Global, name: &str, file: &[u8], out: &mut S) -> Result<(), Status>
-    requires { length file.now ≤ 16_777_216 }
-    ensures does { IsTrue S.tells → (c : Contents) →
-        Does (play_work name.now file.now) c (S.taken out.old) result c (S.taken out.new) }
+/// Plays a unit that has a tree.
+fn play_tokens<S: Sink>(
+    alloc: Global,
+    unit: &Unit,
+    tokens: &[Token<'_>],
+    out: &mut S,
+) -> Result<(), Status>
+    requires script { 0 < length unit.now.files }
+    requires tokens { map plain tokens.now ≡ unit.now.tokens }
+    requires placed { AllByRecursion (StandsIn unit.now.files) unit.now.tokens }
+    requires few { length unit.now.tokens ≤ 100_000 }
+    ensures does { IsTrue S.tells → RunsParsed unit.now (S.taken out.old) result (S.taken out.new) }
     ensures fault { result ≡ Err Status.Fault → Rose (S.faults out.old) (S.faults out.new) }
-    ensures only { IfErr result StopsSource }
+    ensures only { IfErr result StopsPlay }
 {
-    match read_source(alloc, file) {
+    match read_sentence(alloc, tokens) {
         Err(_) => Err(Status::Memory),
-        Ok(Reading::NotBuilt(place)) => { Err(refuse_source(alloc, name, file, place as u32, out)) }
-        Ok(Reading::Built(sums)) => put(text_of_play(alloc, sums.as_slice()), out),
+        Ok(Parsed::Whole(sums)) => put(text_of_play(alloc, sums.as_slice()), out),
+        Ok(Parsed::Unfit(i)) => Err(refuse_token(alloc, unit, tokens, i, Cause::NotBuilt, out)),
+        Ok(Parsed::Unfinished) => Err(refuse_token(
+            alloc,
+            unit,
+            tokens,
+            tokens.len(),
+            Cause::NotBuilt,
+            out,
+        )),
+    }
+}
+
+/// Plays a unit, whose tokens these are.
+fn play_unit<S: Sink>(
+    alloc: Global,
+    unit: &Unit,
+    tokens: &[Token<'_>],
+    out: &mut S,
+) -> Result<(), Status>
+    requires script { 0 < length unit.now.files }
+    requires tokens { map plain tokens.now ≡ unit.now.tokens }
+    requires spelled { AllByRecursion IsToken tokens.now }
+    requires placed { AllByRecursion (StandsIn unit.now.files) unit.now.tokens }
+    requires few { length unit.now.tokens ≤ 100_000 }
+    ensures does { IsTrue S.tells → RunsUnit unit.now (S.taken out.old) result (S.taken out.new) }
+    ensures fault { result ≡ Err Status.Fault → Rose (S.faults out.old) (S.faults out.new) }
+    ensures only { IfErr result StopsPlay }
+{
+    match parse(alloc, tokens) {
+        Ok(_tree) => play_tokens(alloc, unit, tokens, out),
+        Err(ParseFault::Nested(i)) => {
+            Err(refuse_token(alloc, unit, tokens, i as usize, Cause::Nested, out))
+        }
+        Err(ParseFault::Syntax(i)) => {
+            Err(refuse_token(alloc, unit, tokens, i as usize, Cause::Syntax, out))
+        }
+        Err(ParseFault::NoMemory) => Err(Status::Memory),
     }
 }
 
@@ -132,19 +212,18 @@ pub fn run<F: Files, S: Sink>(
     out: &mut S,
 ) -> Result<(), Status>
     ensures does { IsTrue F.tells → IsTrue S.tells →
-        Does (run_work script.now) (F.contents files.old) (S.taken out.old) result (F.contents files.new) (S.taken out.new) }
+        DoesWorkOf (Run script.now) (F.contents files.old) (S.taken out.old) result (F.contents files.new) (S.taken out.new) }
     ensures same { F.contents files.new ≡ F.contents files.old }
     ensures missing { result ≡ Err Status.Missing → Rose (F.absences files.old) (F.absences files.new) }
     ensures long { result ≡ Err Status.Long → Rose (F.longs files.old) (F.longs files.new) }
     ensures fault { result ≡ Err Status.Fault → Rose (F.faults files.old) (F.faults files.new) ⊎ Rose (S.faults out.old) (S.faults out.new) }
     ensures only { IfErr result StopsRun }
 {
-    let name = match name_of_source(alloc, script) {
-        Err(_) => return Err(Status::Memory),
-        Ok(name) => name,
-    };
-    match read_file(alloc, name.as_str(), files, out) {
-        Err(status) => Err(status),
-        Ok(file) => play_source(alloc, name.as_str(), file.as_slice(), out),
+    match gather(alloc, files, script) {
+        Err(fault) => Err(refuse_gather(alloc, fault, out)),
+        Ok(unit) => match unit.tokens(alloc) {
+            Err(_) => Err(Status::Memory),
+            Ok(tokens) => play_unit(alloc, &unit, tokens.as_slice(), out),
+        },
     }
 }

@@ -1,8 +1,10 @@
-ghost use Rattle.std.specs.Prelude.{◌≡◌, ◌++◌, [], ◌∷◌, length, nat_lt, option_map, Some, None, OnOk, IfOk, MatchBool};
-ghost use Rattle.nwq_top.specs.Tokens.{symbols};
+ghost use Rattle.std.specs.Prelude.{◌≡◌, ◌++◌, [], ◌∷◌, length, map, nat_lt, option_map, Some, None, OnOk, IfOk, MatchBool};
+ghost use Rattle.nss_lexer.specs.Splitting.{plain};
+ghost use Rattle.nwq_top.specs.Symbols.{symbols};
 ghost use Rattle.nwq_top.specs.Reading.{next_stage, kept, goes, fresh, at_end, parse};
 
-use crate::tokens::{Placed, Symbol};
+use crate::symbol::Symbol;
+use nss_lexer::Token;
 use nwq_value::{Items, NoMemory};
 use std::alloc::Global;
 use std::mem;
@@ -115,12 +117,12 @@ impl Reader {
 }
 
 /// What these tokens are.
-pub fn parse_tokens(alloc: Global, tokens: &[Placed]) -> Result<Parsed, NoMemory>
-    ensures { IfOk result (λ parsed. parsed ≡ parse fresh 0 (symbols tokens.now)) }
+pub fn read_sentence(alloc: Global, tokens: &[Token<'_>]) -> Result<Parsed, NoMemory>
+    ensures { IfOk result (λ parsed. parsed ≡ parse fresh 0 (symbols (map plain tokens.now))) }
 {
     let mut reader = Reader::new(alloc);
     for (i, token) in tokens.iter().enumerate() {
-        if !reader.take(alloc, token.symbol)? {
+        if !reader.take(alloc, Symbol::of(token))? {
             return Ok(Parsed::Unfit(i));
         }
     }

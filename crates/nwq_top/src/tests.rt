@@ -8,15 +8,16 @@ use std::test::Fail;
 #[derive(Clone, Copy, PartialEq, Eq)]
 enum Failing {
     Nothing,
-    Read,
+    /// The read of this number, counted from 0.
+    Read(u64),
     Put,
 }
 
-/// What the words do where this is `p.nss`, if anything is: the status, and the sink.
+/// What the words do over these files: the status, and the sink.
 fn outcome(
     alloc: Global,
     words: &[&str],
-    source: Option<&[u8]>,
+    sources: &[(&str, &[u8])],
     failing: Failing,
 ) -> Result<(Status, MemSink), NoMemory> {
     let mut owned: Vec<String> = Vec::new(alloc);
@@ -24,28 +25,27 @@ fn outcome(
         owned.push(String::from_str(alloc, word)?)?;
     }
     let mut files = MemFiles::new(alloc);
-    if let Some(bytes) = source {
-        files.add("p.nss", bytes)?;
+    for (name, bytes) in sources {
+        files.add(name, bytes)?;
     }
     let mut out = MemSink::new(alloc);
-    if failing == Failing::Read {
-        files.fail_at(0)?;
-    }
-    if failing == Failing::Put {
-        out.fail_at(0)?;
+    match failing {
+        Failing::Nothing => {}
+        Failing::Read(number) => files.fail_at(number)?,
+        Failing::Put => out.fail_at(0)?,
     }
     let status = nwq_main(alloc, owned.as_slice(), &mut files, &mut out);
     Ok((status, out))
 }
 
-/// Whether `run - p` on this source has this status and text.
-fn plays(alloc: Global, source: &str, status: Status, text: &str) -> Result<bool, NoMemory> {
-    let (found, out) = outcome(
-        alloc,
-        &["run", "-", "p"],
-        Some(source.as_bytes()),
-        Failing::Nothing,
-    )?;
+/// Whether `run - p` over these files has this status and text.
+fn plays(
+    alloc: Global,
+    sources: &[(&str, &[u8])],
+    status: Status,
+    text: &str,
+) -> Result<bool, NoMemory> {
+    let (found, out) = outcome(alloc, &["run", "-", "p"], sources, Failing::Nothing)?;
     Ok(found == status && out.bytes() == text.as_bytes())
 }
 
@@ -68,39 +68,22 @@ fn sums(rt: HostRuntime) -> Result<(), Fail> {
             "void main() { // in order\nPrintInteger(0x7fffFFFF+1); /* then */ PrintInteger(7); }",
             "0 #0 print -2147483648\n0 #0 print 7\nend done clock 0 entries 1 instructions 9\n",
         ),
+        (
+            "#include \"P\"\nvoid main() {}",
+            "end done clock 0 entries 1 instructions 3\n",
+        ),
+        (
+            "#include \"head\"\n{ PrintInteger(1+2); #include \"HEAD\"\n }",
+            "0 #0 print 3\nend done clock 0 entries 1 instructions 7\n",
+        ),
     ];
     for (source, text) in rows {
-        assert!(rt; plays(rt.alloc(), source, Status::Done, text)?, "{source}");
-    }
-    Ok(())
-}
-
-#[test]
-fn refusals(rt: HostRuntime) -> Result<(), Fail> {
-    let rows = [
-        (
-            "void main() { PrintInteger(1-2); }",
-            "refused p.nss 1 28 notbuilt\n",
-        ),
-        (
-            "void main() {\n PrintInteger(4294967296); }",
-            "refused p.nss 2 28 notbuilt\n",
-        ),
-        (
-            "void main() { PrintInteger(1++2); }",
-            "refused p.nss 1 29 notbuilt\n",
-        ),
-        (
-            "void main() { PrintInteger(1); } x",
-            "refused p.nss 1 33 notbuilt\n",
-        ),
-        ("void main() { /* open", "refused p.nss 1 14 notbuilt\n"),
-        ("void main()", "refused p.nss 1 11 notbuilt\n"),
-        ("", "refused p.nss 1 0 notbuilt\n"),
-    ];
-    for (source, text) in rows {
+        let files = [
+            ("p.nss", source.as_bytes()),
+            ("head.nss", b"void main()".as_slice()),
+        ];
         assert!(rt;
-            plays(rt.alloc(), source, Status::Script, text)?,
+            plays(rt.alloc(), files.as_slice(), Status::Done, text)?,
             "{source}"
         );
     }
@@ -108,65 +91,195 @@ fn refusals(rt: HostRuntime) -> Result<(), Fail> {
 }
 
 #[test]
-fn other_statuses(rt: HostRuntime) -> Result<(), Fail> {
-    let source = Some(b"void main() {}".as_slice());
+fn refusals(rt: HostRuntime) -> Result<(), Fail> {
+    let rows = [
+        ("", "refused p.nss 1 0 notbuilt\n"),
+        ("#include \"none\"\n", "refused p.nss 2 16 notbuilt\n"),
+        ("int a;", "refused p.nss 1 0 notbuilt\n"),
+        (
+            "void main() { PrintInteger(1-2); }",
+            "refused p.nss 1 28 notbuilt\n",
+        ),
+        (
+            "void main() { if (1) if (0) ; else ; }",
+            "refused p.nss 1 14 notbuilt\n",
+        ),
+        (
+            "void main() { PrintInteger(1++2); }",
+            "refused p.nss 1 30 syntax\n",
+        ),
+        (
+            "void main() { PrintInteger(1); } x",
+            "refused p.nss 1 33 syntax\n",
+        ),
+        ("void main() { int 5; }", "refused p.nss 1 18 syntax\n"),
+        (
+            "void main() { int a; a + 1 = 2; }",
+            "refused p.nss 1 27 syntax\n",
+        ),
+        ("void main() { else; }", "refused p.nss 1 14 syntax\n"),
+        ("void main() {", "refused p.nss 1 13 syntax\n"),
+        (
+            "void main()\n#include \"none\"",
+            "refused p.nss 2 27 syntax\n",
+        ),
+        (
+            "#include \"head\"\nvoid main() {}",
+            "refused head.nss 2 11 syntax\n",
+        ),
+        (
+            "void main() {\n PrintInteger(4294967296); }",
+            "refused p.nss 2 28 bad\n",
+        ),
+        ("void main() { \"a", "refused p.nss 1 14 bad\n"),
+        ("void main() { /* open", "refused p.nss 1 14 bad\n"),
+        ("#include foo", "refused p.nss 1 0 include\n"),
+    ];
+    for (source, text) in rows {
+        let files = [
+            ("p.nss", source.as_bytes()),
+            ("none.nss", b"// nothing\n".as_slice()),
+            ("head.nss", b"int a;\nint 5;".as_slice()),
+        ];
+        assert!(rt;
+            plays(rt.alloc(), files.as_slice(), Status::Script, text)?,
+            "{source}"
+        );
+    }
+    Ok(())
+}
+
+/// A front, so many of these bytes, and a rest.
+fn repeated(
+    alloc: Global,
+    front: &[u8],
+    byte: u8,
+    count: usize,
+    rest: &[u8],
+) -> Result<Vec<u8>, NoMemory> {
+    let mut bytes = Vec::from_slice(alloc, front)?;
+    let middle = vec![in alloc; byte; count]?;
+    bytes.extend_from_slice(middle.as_slice())?;
+    bytes.extend_from_slice(rest)?;
+    Ok(bytes)
+}
+
+#[test]
+fn limits(rt: HostRuntime) -> Result<(), Fail> {
+    let main = b"void main() {".as_slice();
     let rows = [
         (
-            ["run", "-", "p"].as_slice(),
-            None,
+            b"".as_slice(),
+            b'(',
+            257,
+            b"".as_slice(),
+            "refused p.nss 1 256 nested\n",
+        ),
+        (
+            main,
+            b'~',
+            255,
+            b"1; }".as_slice(),
+            "refused p.nss 1 13 notbuilt\n",
+        ),
+        (
+            main,
+            b'~',
+            256,
+            b"1; }".as_slice(),
+            "refused p.nss 1 268 nested\n",
+        ),
+        (
+            main,
+            b';',
+            99_994,
+            b"}".as_slice(),
+            "refused p.nss 1 13 notbuilt\n",
+        ),
+        (
+            main,
+            b';',
+            99_995,
+            b"}".as_slice(),
+            "refused p.nss 1 100008 tokens\n",
+        ),
+    ];
+    for (front, byte, count, rest, text) in rows {
+        let source = repeated(rt.alloc(), front, byte, count, rest)?;
+        assert!(rt;
+            plays(
+                rt.alloc(),
+                &[("p.nss", source.as_slice())],
+                Status::Script,
+                text
+            )?,
+            "{text}"
+        );
+    }
+    Ok(())
+}
+
+#[test]
+fn other_statuses(rt: HostRuntime) -> Result<(), Fail> {
+    let run = ["run", "-", "p"].as_slice();
+    let rows = [
+        (
+            run,
+            "x.nss",
             Failing::Nothing,
             Status::Missing,
             "missing p.nss\n",
         ),
         (
+            run,
+            "p.nss",
+            Failing::Nothing,
+            Status::Missing,
+            "missing nope.nss\n",
+        ),
+        (run, "p.nss", Failing::Read(0), Status::Fault, ""),
+        (run, "p.nss", Failing::Read(1), Status::Fault, ""),
+        (run, "p.nss", Failing::Put, Status::Fault, ""),
+        (
             ["run", "-"].as_slice(),
-            source,
+            "p.nss",
             Failing::Nothing,
             Status::Words,
             "refused words\n",
         ),
         (
             ["run", "-", "P"].as_slice(),
-            source,
+            "p.nss",
             Failing::Nothing,
             Status::Words,
             "refused words\n",
         ),
         (
             ["run", "h", "p"].as_slice(),
-            source,
+            "p.nss",
             Failing::Nothing,
             Status::Words,
             "refused words\n",
         ),
-        (
-            ["run", "-", "p"].as_slice(),
-            source,
-            Failing::Read,
-            Status::Fault,
-            "",
-        ),
-        (
-            ["run", "-", "p"].as_slice(),
-            source,
-            Failing::Put,
-            Status::Fault,
-            "",
-        ),
     ];
-    for (words, source, failing, status, text) in rows {
-        let (found, out) = outcome(rt.alloc(), words, source, failing)?;
+    for (words, name, failing, status, text) in rows {
+        let files = [(name, b"#include \"nope\"".as_slice())];
+        let (found, out) = outcome(rt.alloc(), words, files.as_slice(), failing)?;
         assert_eq!(rt; found, status);
         assert_eq!(rt; out.bytes(), text.as_bytes());
     }
     let long = vec![in rt.alloc(); b' '; 16_777_217]?;
-    let (found, out) = outcome(
-        rt.alloc(),
-        &["run", "-", "p"],
-        Some(long.as_slice()),
-        Failing::Nothing,
-    )?;
-    assert_eq!(rt; found, Status::Long);
-    assert_eq!(rt; out.bytes(), b"long p.nss\n".as_slice());
+    let files = [
+        ("p.nss", b"#include \"long\"".as_slice()),
+        ("long.nss", long.as_slice()),
+    ];
+    assert!(rt;
+        plays(
+            rt.alloc(),
+            files.as_slice(),
+            Status::Long,
+            "long long.nss\n"
+        )?
+    );
     Ok(())
 }

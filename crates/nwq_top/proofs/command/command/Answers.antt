@@ -2,9 +2,7 @@ use Rattle.std.proofs.Common.{Err, sym, subst}
 use Rattle.nwq_top.specs.declared.status.Status.TheVariants.{Words}
 use Rattle.nwq_top.specs.Texts.{words_line}
 use Rattle.nwq_top.specs.Command.{DoesWorkOf, no_form}
-use Rattle.nwq_top.specs.Playing.{run_work}
 use Rattle.nwq_top.proofs.WorkLemmas.{refuses}
-use Rattle.nwq_top.proofs.CommandLemmas.{run_is}
 use Rattle.nwq_top.proofs.command.command.Goals as goal
 
 pub returns-in-NoForm-clause-does : goal.returns-in-NoForm-clause-does
@@ -17,9 +15,3 @@ returns-in-NoForm-clause-does g c = λ told told_too.
       does = refuses words_line Words c.refuse.result (g.F.Files.contents c.args.files.now) (g.S.Sink.taken c.args.out.now) (g.S.Sink.taken c.refuse.new.out)
           (c.refuse.ensures.does told_too words_line c.words_text.ensures);
     })
-
-pub returns-in-Run-clause-does : goal.returns-in-Run-clause-does
-returns-in-Run-clause-does g c = λ told told_too.
-    subst (λ form. DoesWorkOf form (g.F.Files.contents c.args.files.now) (g.S.Sink.taken c.args.out.now) c.run.result (g.F.Files.contents c.run.new.files) (g.S.Sink.taken c.run.new.out))
-    (sym c.in-Run.ensures)
-    (record { work = run_work c.in-Run.script.now; is = run_is c.in-Run.script.now; does = c.run.ensures.does told told_too })

@@ -1,4 +1,4 @@
-use Rattle.nwq_top.proofs.CommandLemmas.{one_run}
+use Rattle.nwq_top.proofs.OneRun.{one_run}
 use Rattle.nwq_top.proofs.laws.one_run.Goals as goal
 
 pub returns : goal.returns

@@ -1,0 +1,3 @@
+// The head of each script of this module.
+#include "greet"
+void main()
