@@ -1,0 +1,4 @@
+mod Lists
+mod Places
+mod Resuming
+mod Views
