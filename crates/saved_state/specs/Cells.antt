@@ -1,7 +1,7 @@
 -- Stacks as plain data, and what a captured state holds.
 use Rattle.std.specs.Prelude.{ℕ, ◌-◌, List, [], ◌∷◌, ◌++◌, length, take, drop, reverse, Option, Some, None, ◌==◌, if◌then◌else◌}
 use Rattle.saved_state.specs.declared.cell.Cell.{Cell}
-use Rattle.saved_state.specs.declared.cell.Cell.TheVariants.{Value, Base}
+use Rattle.saved_state.specs.declared.cell.Cell.TheVariants.{Base}
 use Rattle.saved_state.specs.declared.cell.Saved.{Saved}
 
 -- A stack: its cells, the top first, and BP, which is the place of the newest base cell.
@@ -22,12 +22,6 @@ with_cell (cell ∷ others) place new = if place == length others then new ∷ o
 -- the cells beneath a place
 abbrev pub cells_beneath : ℕ → List Cell → List Cell
 cells_beneath place cells = drop (length cells - place) cells
-
--- No base cell is among the cells.
-abbrev pub AreValues : List Cell → Type 0
-AreValues [] = Unit {0}
-AreValues (Value value ∷ others) = AreValues others
-AreValues (Base bp ∷ others) = ⊥
 
 -- what is captured of a stack: so many cells right beneath BP and so many on top, each in the order of their places
 abbrev pub captured : ℕ → ℕ → ℕ → ℕ → StackView → Saved

@@ -16,3 +16,6 @@ mod stack;
 pub use cell::{Cell, Cells, Saved};
 pub use laws::{captured_values, captures_again, resumed_values};
 pub use stack::{Stack, resume};
+
+#[cfg(test)]
+mod tests;

@@ -1,5 +1,5 @@
-ghost use Rattle.std.specs.Prelude.{◌≡◌, ◌<◌, ◌≤◌, Some, [], ◌∷◌, length, take, drop, OnOk, OnErr, IfOk};
-ghost use Rattle.saved_state.specs.Cells.{AreValues, cells_beneath, cell_at, with_cell, captured, resumed};
+ghost use Rattle.std.specs.Prelude.{◌≡◌, ◌<◌, ◌≤◌, Some, [], ◌∷◌, length, drop, OnOk, OnErr, IfOk};
+ghost use Rattle.saved_state.specs.Cells.{cell_at, with_cell, captured, resumed};
 ghost use Rattle.saved_state.specs.declared.cell.Cell.TheVariants.{Value as ValueCell};
 
 use crate::cell::{Cell, Cells, Saved};
@@ -93,7 +93,8 @@ impl Stack {
     }
 
     /// The state of a script that is to resume at a place of its code, with copies of the `globals` cells
-    /// right beneath BP and of the `locals` topmost cells.
+    /// right beneath BP and of the `locals` topmost cells. A base cell among them is copied like any other;
+    /// code that a compiler made keeps none there.
     pub fn capture(
         &self,
         alloc: Global,
@@ -105,8 +106,6 @@ impl Stack {
         requires bp { self.now.bp ≤ length self.now.cells }
         requires globals { globals ≤ self.now.bp }
         requires locals { locals ≤ length self.now.cells }
-        requires global_values { AreValues (take globals (cells_beneath self.now.bp self.now.cells)) }
-        requires local_values { AreValues (take locals self.now.cells) }
         ensures { IfOk result (λ saved. saved ≡ captured script place globals locals self.now) }
     {
         let cells = self.cells.as_slice();
