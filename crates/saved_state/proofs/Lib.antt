@@ -1,4 +1,4 @@
-mod Lists
-mod Places
+pub mod Lists
+pub mod Places
 mod Resuming
 mod Views

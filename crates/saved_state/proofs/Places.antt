@@ -1,5 +1,5 @@
 -- A stack's cells are kept from the bottom up: where the cells of a list stand once it is seen from the top.
-use Rattle.std.proofs.Common.{◌≡◌, ◌<◌, ◌≤◌, ◌+◌, ◌-◌, ◌++◌, ◌∷◌, [], ℕ, suc, List, length, take, drop, reverse, get_or, set, slice_get, Option, Some, Bool, true, false, if◌then◌else◌, eqb, refl, sym, ap, ◌∙◌, arith}
+use Rattle.std.proofs.Common.{◌≡◌, ◌<◌, ◌≤◌, ◌+◌, ◌-◌, ◌++◌, ◌∷◌, [], ℕ, suc, List, length, take, drop, reverse, get_or, set, slice_get, Some, Bool, if◌then◌else◌, refl, sym, ap, ◌∙◌, arith}
 use Rattle.std.proofs.lemmas.Bool.{ne_eqb, eq-eqb}
 use Rattle.std.proofs.lemmas.List.{length-reverse, length-take-le, length-append, take-append-drop, drop_more, drop-take, set_split}
 use Rattle.std.proofs.lemmas.Option.{slice_get-get_or}
@@ -10,10 +10,12 @@ use Rattle.saved_state.proofs.Lists.{reverse_joined, drop_reversed, take_reverse
 -- ---- one cell
 
 cell_here : (over beneath : List Cell) (cell : Cell) → cell_at (over ++ cell ∷ beneath) (length beneath) ≡ Some cell
-cell_here [] beneath cell = ap (λ (t : Bool). if t then Some cell else cell_at beneath (length beneath)) (eq-eqb (length beneath) (length beneath) refl)
+cell_here [] beneath cell =
+    ap (λ (t : Bool). if t then Some cell else cell_at beneath (length beneath)) (eq-eqb (length beneath) (length beneath) refl)
 cell_here (c ∷ over) beneath cell =
     let size : length (over ++ cell ∷ beneath) ≡ length over + suc (length beneath) = length-append over (cell ∷ beneath) in
-    ap (λ (t : Bool). if t then Some c else cell_at (over ++ cell ∷ beneath) (length beneath)) (ne_eqb (length beneath) (length (over ++ cell ∷ beneath)) (λ same. omega arith))
+    let lower = ne_eqb (length beneath) (length (over ++ cell ∷ beneath)) (λ same. omega arith) in
+    ap (λ (t : Bool). if t then Some c else cell_at (over ++ cell ∷ beneath) (length beneath)) lower
     ∙ cell_here over beneath cell
 
 put_here : (over beneath : List Cell) (cell new : Cell) → with_cell (over ++ cell ∷ beneath) (length beneath) new ≡ over ++ new ∷ beneath
@@ -21,7 +23,8 @@ put_here [] beneath cell new =
     ap (λ (t : Bool). if t then new ∷ beneath else cell ∷ with_cell beneath (length beneath) new) (eq-eqb (length beneath) (length beneath) refl)
 put_here (c ∷ over) beneath cell new =
     let size : length (over ++ cell ∷ beneath) ≡ length over + suc (length beneath) = length-append over (cell ∷ beneath) in
-    ap (λ (t : Bool). if t then new ∷ (over ++ cell ∷ beneath) else c ∷ with_cell (over ++ cell ∷ beneath) (length beneath) new) (ne_eqb (length beneath) (length (over ++ cell ∷ beneath)) (λ same. omega arith))
+    let lower = ne_eqb (length beneath) (length (over ++ cell ∷ beneath)) (λ same. omega arith) in
+    ap (λ (t : Bool). if t then new ∷ (over ++ cell ∷ beneath) else c ∷ with_cell (over ++ cell ∷ beneath) (length beneath) new) lower
     ∙ ap (λ (t : List Cell). c ∷ t) (put_here over beneath cell new)
 
 -- the list around one of its cells
@@ -51,7 +54,8 @@ put_is cells i new less =
     let cell = get_or cells i new in
     let same : suc i ≡ i + 1 = omega arith in
     let written : set cells i new ≡ front ++ new ∷ back = set_split cells i new less ∙ ap (λ k. front ++ new ∷ drop k cells) same in
-    let seen : reverse cells ≡ reverse back ++ cell ∷ reverse front = ap reverse (split_at cells i new less) ∙ reverse_joined front cell back in
+    let seen : reverse cells ≡ reverse back ++ cell ∷ reverse front =
+    ap reverse (split_at cells i new less) ∙ reverse_joined front cell back in
     ap reverse written
     ∙ reverse_joined front new back
     ∙ sym (put_here (reverse back) (reverse front) cell new)
@@ -70,7 +74,8 @@ pub top_is : (cells : List Cell) (n : ℕ) → n ≤ length cells → reverse (t
 top_is cells n less = take_reversed cells (length cells - n) n (omega arith)
 
 -- so many cells beneath a place
-pub part_is : (cells : List Cell) (place n : ℕ) → place ≤ length cells → n ≤ place → reverse (take n (cells_beneath place (reverse cells))) ≡ take n (drop (place - n) cells)
+pub part_is : (cells : List Cell) (place n : ℕ) → place ≤ length cells → n ≤ place
+    → reverse (take n (cells_beneath place (reverse cells))) ≡ take n (drop (place - n) cells)
 part_is cells place n inside less =
     let first = place - n in
     let whole : first + n ≡ place = omega arith in

@@ -1,10 +1,10 @@
 -- What stands where in a captured state and in the stack that resumes it.
-use Rattle.std.proofs.Common.{◌≡◌, ◌<◌, ◌≤◌, ◌+◌, ◌-◌, ◌++◌, ◌∷◌, [], ℕ, suc, List, length, take, drop, reverse, slice_get, refl, sym, ap, subst, ◌∙◌, arith, append_assoc}
+use Rattle.std.proofs.Common.{◌≡◌, ◌<◌, ◌≤◌, ◌+◌, ◌-◌, ◌++◌, ◌∷◌, [], ℕ, suc, List, length, take, drop, reverse, slice_get, sym, ap, subst, ◌∙◌, arith, append_assoc}
 use Rattle.std.proofs.lemmas.List.{reverse-reverse, length-reverse, length-append, take_at, drop_at, take_all}
 use Rattle.saved_state.specs.declared.cell.Cell.{Cell}
 use Rattle.saved_state.specs.declared.cell.Cell.TheVariants.{Base}
 use Rattle.saved_state.specs.declared.cell.Saved.{Saved}
-use Rattle.saved_state.specs.Cells.{StackView, cell_at, cells_beneath, captured, resumed}
+use Rattle.saved_state.specs.Cells.{cell_at, cells_beneath, resumed}
 use Rattle.saved_state.specs.Laws.{CapturedValues, CapturesAgain, ResumedValues}
 use Rattle.saved_state.proofs.Lists.{reverse_joined, get_dropped, get_taken, get_front, get_behind}
 use Rattle.saved_state.proofs.Places.{cell_got, top_is, part_is}
@@ -38,7 +38,8 @@ are_captured stack script place globals locals i inside globals_fit locals_fit =
     let cells = reverse stack.cells in
     let again : reverse cells ≡ stack.cells = reverse-reverse stack.cells in
     let size : length cells ≡ length stack.cells = length-reverse stack.cells in (
-      (λ less. subst (λ t. GlobalsGot t stack.bp globals i) again (global_got cells stack.bp globals i (omega (arith, size)) globals_fit less)),
+      (λ less.
+          subst (λ t. GlobalsGot t stack.bp globals i) again (global_got cells stack.bp globals i (omega (arith, size)) globals_fit less)),
       (λ less.
           subst (λ k. LocalsGot stack.cells k locals i) size (
           subst (λ t. LocalsGot t (length cells) locals i) again (local_got cells locals i (omega (arith, size)) less))),
@@ -69,7 +70,8 @@ are_resumed saved i =
 
 -- ---- captured again
 
-globals_again : (globals locals : List Cell) → reverse (take (length globals) (cells_beneath (length globals) (reverse locals ++ Base 0 ∷ reverse globals))) ≡ globals
+globals_again : (globals locals : List Cell)
+    → reverse (take (length globals) (cells_beneath (length globals) (reverse locals ++ Base 0 ∷ reverse globals))) ≡ globals
 globals_again globals locals =
     let over = reverse locals ++ Base 0 ∷ [] in
     let cells = reverse locals ++ Base 0 ∷ reverse globals in

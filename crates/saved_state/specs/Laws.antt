@@ -6,7 +6,8 @@ use Rattle.saved_state.specs.Cells.{StackView, cell_at, captured, resumed}
 -- The captured globals are the cells whose places end at BP, and the captured locals those whose places end at the top.
 abbrev pub CapturedValues : Type 0
 CapturedValues =
-    (stack : StackView) (script place globals locals i : ℕ) → stack.bp ≤ length stack.cells → globals ≤ stack.bp → locals ≤ length stack.cells →
+    (stack : StackView) (script place globals locals i : ℕ)
+    → stack.bp ≤ length stack.cells → globals ≤ stack.bp → locals ≤ length stack.cells →
     (i < globals → slice_get (captured script place globals locals stack).globals i ≡ cell_at stack.cells (stack.bp - globals + i))
     × (i < locals → slice_get (captured script place globals locals stack).locals i ≡ cell_at stack.cells (length stack.cells - locals + i))
 

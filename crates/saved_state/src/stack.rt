@@ -94,7 +94,7 @@ impl Stack {
 
     /// The state of a script that is to resume at a place of its code, with copies of the `globals` cells
     /// right beneath BP and of the `locals` topmost cells. A base cell among them is copied like any other;
-    /// code that a compiler made keeps none there.
+    /// compiled code asks for none.
     pub fn capture(
         &self,
         alloc: Global,

@@ -1,4 +1,4 @@
-use Rattle.std.proofs.Common.{◌≡◌, ◌<◌, length, Some, sym, ap, ◌∙◌, arith}
+use Rattle.std.proofs.Common.{◌<◌, length, Some, sym, ap, ◌∙◌, arith}
 use Rattle.saved_state.specs.Cells.{StackView, cell_at}
 use Rattle.saved_state.proofs.Places.{cell_is}
 use Rattle.saved_state.proofs.Views.{height}

@@ -1,4 +1,4 @@
-use Rattle.std.proofs.Common.{◌≡◌, ◌<◌, length, arith}
+use Rattle.std.proofs.Common.{◌<◌, length, arith}
 use Rattle.saved_state.specs.declared.cell.Cell.TheVariants.{Value as ValueCell}
 use Rattle.saved_state.proofs.Views.{height, written_view}
 use Rattle.saved_state.proofs.stack.Stack.set.Goals as goal
