@@ -4,7 +4,7 @@ use Rattle.saved_state.specs.declared.cell.Cell.{Cell}
 use Rattle.saved_state.specs.declared.cell.Cell.TheVariants.{Base}
 use Rattle.saved_state.specs.declared.cell.Saved.{Saved}
 
--- A stack: its cells, the top first, and BP, which is the place of the newest base cell.
+-- A stack: its cells, the top first, and BP, the place right beneath which the globals lie.
 pub record StackView : Type 0 where
   pub cells : List Cell
   pub bp : ℕ

@@ -7,7 +7,7 @@ use nwq_value::{NoMemory, Value};
 use std::alloc::Global;
 use std::marker::Model;
 
-/// The cells of a running script, and BP, the place of the newest base cell.
+/// The cells of a running script, and BP, the place right beneath which its globals lie.
 ///
 /// Places count the cells beneath, from 0 at the bottom.
 #[derive(Drop)]
