@@ -1,0 +1,4 @@
+pub mod Lists
+pub mod Places
+mod Resuming
+mod Views

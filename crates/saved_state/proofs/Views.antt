@@ -1,0 +1,54 @@
+-- The view of a stack whose cells are dropped, written or copied.
+use Rattle.std.proofs.Common.{◌≡◌, ◌<◌, ◌≤◌, ◌+◌, ◌-◌, ℕ, List, length, take, drop, reverse, set, sym, ap, ◌∙◌, arith}
+use Rattle.std.proofs.lemmas.List.{length-reverse, take_rest}
+use Rattle.saved_state.specs.declared.cell.Cell.{Cell}
+use Rattle.saved_state.specs.declared.cell.Saved.{Saved}
+use Rattle.saved_state.specs.Cells.{StackView, with_cell, cells_beneath, captured}
+use Rattle.saved_state.proofs.Lists.{drop_reversed}
+use Rattle.saved_state.proofs.Places.{part_is, put_is, top_is}
+
+abbrev seen : List Cell → ℕ → StackView
+seen cells bp = record { cells = reverse cells; bp = bp }
+
+abbrev made : ℕ → ℕ → List Cell → List Cell → Saved
+made script place globals locals = record { script = script; place = place; globals = globals; locals = locals }
+
+pub height : (cells : List Cell) (bp : ℕ) (stack : StackView) → seen cells bp ≡ stack → length stack.cells ≡ length cells
+height cells bp stack is = ap (λ (s : StackView). length s.cells) (sym is) ∙ length-reverse cells
+
+pub dropped_view : (cells left : List Cell) (bp m n : ℕ) (stack : StackView)
+    → seen cells bp ≡ stack → m + n ≡ length cells → left ≡ take m cells
+    → seen left bp ≡ record stack { cells = drop n stack.cells }
+dropped_view cells left bp m n stack is whole kept =
+    let top : reverse left ≡ drop n (reverse cells) = ap reverse kept ∙ sym (drop_reversed cells m n whole) in
+    let now : seen left bp ≡ record (seen cells bp) { cells = drop n (reverse cells) } = (λ k. record { cells = top k; bp = bp }) in
+    now ∙ ap (λ (s : StackView). record s { cells = drop n s.cells }) is
+
+pub written_view : (cells : List Cell) (bp place : ℕ) (new : Cell) (stack : StackView) → seen cells bp ≡ stack → place < length cells
+    → seen (set cells place new) bp ≡ record stack { cells = with_cell stack.cells place new }
+written_view cells bp place new stack is less =
+    let put = put_is cells place new less in
+    let now : seen (set cells place new) bp ≡ record (seen cells bp) { cells = with_cell (reverse cells) place new } =
+    (λ k. record { cells = put k; bp = bp }) in
+    now ∙ ap (λ (s : StackView). record s { cells = with_cell s.cells place new }) is
+
+-- what is captured, from the copies of the two parts
+pub captured_view : (cells : List Cell) (bp script place globals locals : ℕ) (global_cells local_cells : List Cell) (stack : StackView)
+    → seen cells bp ≡ stack
+    → stack.bp ≤ length stack.cells → globals ≤ stack.bp → locals ≤ length stack.cells
+    → global_cells ≡ take (bp - (bp - globals)) (drop (bp - globals) cells)
+    → local_cells ≡ take (length cells - (length cells - locals)) (drop (length cells - locals) cells)
+    → made script place global_cells local_cells ≡ captured script place globals locals stack
+captured_view cells bp script place globals locals global_cells local_cells stack is inside fits local_fits global_is local_is =
+    let size = height cells bp stack is in
+    let based : bp ≡ stack.bp = ap (λ (s : StackView). s.bp) is in
+    let count : bp - (bp - globals) ≡ globals = omega (arith, based) in
+    let beneath : global_cells ≡ reverse (take globals (cells_beneath bp (reverse cells))) =
+    global_is
+    ∙ ap (λ k. take k (drop (bp - globals) cells)) count
+    ∙ sym (part_is cells bp globals (omega (arith, size, based)) (omega (arith, based))) in
+    let top : local_cells ≡ reverse (take locals (reverse cells)) =
+    local_is ∙ take_rest cells (length cells - locals) ∙ sym (top_is cells locals (omega (arith, size))) in
+    let now : made script place global_cells local_cells ≡ captured script place globals locals (seen cells bp) =
+    (λ k. made script place (beneath k) (top k)) in
+    now ∙ ap (captured script place globals locals) is

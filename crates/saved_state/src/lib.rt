@@ -1,0 +1,21 @@
+//! The stack of a machine that runs NCS code, and the states that STORE_STATE captures of it.
+//!
+//! Contracts see a [`Stack`] as a record of its cells, the top first, and BP (`specs/Cells.antt`). A place
+//! is the number of cells beneath it, so it doesn't move when others are pushed or dropped over it. The
+//! lists of a [`Saved`] state stand in the order of their places, the lowest cell first.
+//!
+//! Promised: each call changes just what its clause says, [`Stack::capture`] gives copies that no later
+//! write or drop reaches, and [`resume`] makes the stack with which a captured state begins to run. Want of
+//! memory is the one error, and leaves a stack as it was.
+#![tactic(auto)]
+
+mod cell;
+mod laws;
+mod stack;
+
+pub use cell::{Cell, Cells, Saved};
+pub use laws::{captured_values, captures_again, resumed_values};
+pub use stack::{Stack, resume};
+
+#[cfg(test)]
+mod tests;
