@@ -11,7 +11,7 @@ use std::marker::Model;
 pub enum Item<X> {
     /// Stored code, as ActionDoCommand leaves it.
     Do(X),
-    /// A wait of this many milliseconds, as ActionWait leaves it; a negative number waits no time.
+    /// A wait of this many milliseconds, as ActionWait leaves it.
     Wait(i32),
     /// A text to be spoken, as ActionSpeakString leaves it.
     Speak(Text),
@@ -63,10 +63,10 @@ impl<X> Queue<X> {
     }
 
     /// Sets the busy mark; the actions stay.
-    pub fn set_busy(&mut self, b: bool)
-        ensures { self.new ≡ record self.old { busy = b } }
+    pub fn set_busy(&mut self, busy: bool)
+        ensures { self.new ≡ record self.old { busy = busy } }
     {
-        self.busy = b;
+        self.busy = busy;
     }
 
     /// The action at place `i`, counted from 0, the next one; `None` exactly from the count of actions on.
@@ -79,11 +79,11 @@ impl<X> Queue<X> {
 
 impl<X: Drop> Queue<X> {
     /// Puts an action last. After `NoMemory` it is dropped and the queue is as before.
-    pub fn append(&mut self, i: Item<X>) -> Result<(), NoMemory>
-        ensures ok { OnOk result (self.new ≡ record self.old { actions = self.old.actions ++ i ∷ [] }) }
+    pub fn append(&mut self, item: Item<X>) -> Result<(), NoMemory>
+        ensures ok { OnOk result (self.new ≡ record self.old { actions = self.old.actions ++ item ∷ [] }) }
         ensures err { OnErr result (self.new ≡ self.old) }
     {
-        self.waiting.push_back(i)?;
+        self.waiting.push_back(item)?;
         Ok(())
     }
 

@@ -1,5 +1,5 @@
 -- The order in which entries are taken, and what every agenda keeps of its list.
-use Rattle.std.specs.Prelude.{◌≡◌, ◌≢◌, ◌<◌, ◌≤◌, ℕ, Bool, true, false, List, [], ◌∷◌, Option, None, Some, nat_eq, nat_lt, slice_get, if◌then◌else◌}
+use Rattle.std.specs.Prelude.{◌≡◌, ◌≢◌, ◌<◌, ◌≤◌, ◌⊎◌, ℕ, Bool, true, false, List, [], ◌∷◌, Option, None, Some, nat_eq, nat_lt, slice_get, if◌then◌else◌}
 use Rattle.delay_agenda.specs.declared.agenda.Entry.{Entry}
 
 -- a is taken before b: it is due earlier, or at the same time with a lesser number

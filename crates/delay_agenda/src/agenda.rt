@@ -30,7 +30,7 @@ pub struct Entry<X> {
 
 impl<X> Entry<X> {
     /// Whether this entry is taken before the other: it is due earlier, or at one time was posted earlier.
-    pub fn comes_before(&self, other: &Entry<X>) -> bool
+    fn comes_before(&self, other: &Entry<X>) -> bool
         ensures { result ≡ is_before self.now other.now }
     {
         self.due < other.due || self.due == other.due && self.number < other.number
@@ -63,7 +63,10 @@ fn place_of<X>(entry: &Entry<X>, waiting: &VecDeque<Entry<X>>) -> usize
     ensures place { insert waiting.now.items result entry.now ≡ put_entry entry.now waiting.now.items }
 {
     let mut at = 0;
-    while at < waiting.len() && waiting[at].comes_before(entry) {
+    while at < waiting.len() {
+        if !waiting[at].comes_before(entry) {
+            return at;
+        }
         at += 1;
     }
     at
