@@ -1,0 +1,11 @@
+//! The action queue of an object: what the object is to do, one action after another.
+//!
+//! Contracts see a [`Queue`] as the list of its actions, the next one first, and a busy mark.
+#![tactic(auto)]
+
+pub mod queue;
+
+pub use queue::{Item, Queue};
+
+#[cfg(test)]
+mod tests;

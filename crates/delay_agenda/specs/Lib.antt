@@ -1,0 +1,3 @@
+pub mod Order
+pub mod Posted
+pub mod Laws

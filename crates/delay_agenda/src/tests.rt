@@ -1,0 +1,45 @@
+use crate::*;
+use nwq_value::Text;
+use std::test::Fail;
+
+/// Due time and number of an entry, and its object.
+fn told(entry: Option<Entry<u32>>) -> Option<(u64, u64, u32)> {
+    match entry {
+        None => None,
+        Some(entry) => Some((entry.due, entry.number, object_of(&entry.kind))),
+    }
+}
+
+fn object_of(kind: &Kind<u32>) -> u32 {
+    match kind {
+        Kind::Event { object, .. } => *object,
+        Kind::Stored { object, .. } => *object,
+        Kind::Turn { object } => *object,
+        Kind::Unapply { object } => *object,
+    }
+}
+
+#[test]
+fn ties_go_by_number(rt: HostRuntime) -> Result<(), Fail> {
+    let alloc = rt.alloc();
+    let mut agenda = Agenda::new(alloc);
+    let script = Text::of(alloc, b"on_open")?;
+    agenda.reserve(4)?;
+    agenda.post(5, Kind::Turn { object: 9 });
+    agenda.post(5, Kind::Unapply { object: 1 });
+    agenda.post(0, Kind::Event { object: 3, script });
+    agenda.post(
+        7,
+        Kind::Stored {
+            object: 2,
+            action: 0u32,
+        },
+    );
+    assert_eq!(rt; agenda.next_due(), Some(0));
+    assert_eq!(rt; told(agenda.take()), Some((0, 2, 3)));
+    assert_eq!(rt; told(agenda.take()), Some((5, 0, 9)));
+    assert_eq!(rt; told(agenda.take()), Some((5, 1, 1)));
+    assert_eq!(rt; told(agenda.take()), Some((7, 3, 2)));
+    assert!(rt; agenda.take().is_none() && agenda.next_due().is_none());
+    Ok(())
+}
