@@ -8,8 +8,7 @@ use Rattle.nwq_value.specs.declared.value.Ty.TheVariants as ty
 use Rattle.nwq_value.specs.declared.engine.Const.{Const}
 use Rattle.nwq_value.specs.declared.engine.Const.TheVariants as const
 use Rattle.nwq_value.specs.declared.engine.Param.{Param}
-use Rattle.nwq_value.specs.Engine.{Constant, constant_named, const_type}
-use Rattle.nwq_value.specs.Roles.{ty_eq}
+use Rattle.nwq_value.specs.Engine.{Constant, constant_named}
 use Rattle.engine_table.specs.declared.symbol.Word.{Word}
 use Rattle.engine_table.specs.declared.symbol.Word.TheVariants as word
 use Rattle.engine_table.specs.declared.symbol.Sign.{Sign}
@@ -79,9 +78,16 @@ has_constants ty.Text = true
 has_constants ty.Object = true
 has_constants _ = false
 
+abbrev pub has_type : Const → Ty → Bool
+has_type (const.Int n) ty.Int = true
+has_type (const.Text bytes) ty.Text = true
+has_type const.SelfObject ty.Object = true
+has_type const.InvalidObject ty.Object = true
+has_type c t = false
+
 abbrev pub of_type : Ty → Option Const → Option Const
 of_type t None = None
-of_type t (Some c) = if ty_eq (const_type c) t then Some c else None
+of_type t (Some c) = if has_type c t then Some c else None
 
 -- the constant of a type that a token is by itself: a literal, or the name of an earlier constant of that type
 abbrev pub constant_in : List Constant → Ty → Symbol → Option Const

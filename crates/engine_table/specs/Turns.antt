@@ -219,8 +219,13 @@ KeepsDeclaration k (IsConstant d c) = (constant_fault k d ≡ None) × (value_fa
 KeepsDeclaration k (IsFunction f) = IsOpen k f × (length f.params ≤ 255)
 KeepsDeclaration k _ = Unit {0}
 
+-- something of a line stands there
+abbrev pub HasBegun : Stage → Type 0
+HasBegun stage.Start = ⊥
+HasBegun _ = Unit {0}
+
 abbrev pub KeepsTurn : Known → Turn → Type 0
-KeepsTurn k (Goes s) = KeepsStage k s
+KeepsTurn k (Goes s) = KeepsStage k s × HasBegun s
 KeepsTurn k (Gives d) = KeepsDeclaration k d
 
 -- ---- many tokens

@@ -1,6 +1,5 @@
 ghost use Rattle.std.specs.Prelude.{◌≡◌, ◌==◌, if◌then◌else◌, ◌<◌, ◌≤◌, ◌+◌, [], ◌∷◌, ◌++◌, length, Option, Some, None, IsTrue, IfOk, IfSome, OnOk};
-ghost use Rattle.nwq_value.specs.Engine.{constant_named, IsNoStruct, FitsType};
-ghost use Rattle.nwq_value.specs.Roles.{ty_eq};
+ghost use Rattle.nwq_value.specs.Engine.{constant_named};
 ghost use Rattle.engine_table.specs.declared.symbol.Symbol.TheVariants as symbol;
 ghost use Rattle.engine_table.specs.declared.declaration.Declaration.TheVariants as declaration;
 ghost use Rattle.engine_table.specs.declared.stage.Owner.TheVariants as owner;
@@ -54,6 +53,17 @@ fn has_constants(ty: Ty) -> bool
     ensures { result ≡ grammar.has_constants ty }
 {
     matches!(ty, Ty::Int | Ty::Text | Ty::Object)
+}
+
+/// Whether the constant has this type.
+fn has_type(constant: &Const, ty: Ty) -> bool
+    ensures { result ≡ grammar.has_type constant.now ty }
+{
+    match constant {
+        Const::Int(_) => matches!(ty, Ty::Int),
+        Const::Text(_) => matches!(ty, Ty::Text),
+        Const::SelfObject | Const::InvalidObject => matches!(ty, Ty::Object),
+    }
 }
 
 /// The number that one decimal digit writes.
@@ -174,7 +184,7 @@ fn end_or(depth: u32, inside: u32) -> Option<u32>
 fn negative(number: u32) -> Const
     ensures { result ≡ grammar.negative number }
 {
-    Const::Int((number as i32).wrapping_neg())
+    Const::Int(number.cast_signed().wrapping_neg())
 }
 
 /// Whether the constants are equal.
@@ -559,7 +569,7 @@ impl Known {
         match self.table.constant(name) {
             None => Ok(None),
             Some(constant) => {
-                if constant.ty() == ty {
+                if has_type(constant, ty) {
                     Ok(Some(constant.copy(alloc)?))
                 } else {
                     Ok(None)
@@ -580,7 +590,7 @@ impl Known {
         match symbol {
             Symbol::Name(name) => self.named_constant(alloc, ty, name.bytes()),
             Symbol::Int(number) => Ok(match ty {
-                Ty::Int => Some(Const::Int(number as i32)),
+                Ty::Int => Some(Const::Int(number.cast_signed())),
                 _ => None,
             }),
             Symbol::Text(text) => Ok(match ty {

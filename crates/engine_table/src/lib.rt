@@ -18,3 +18,6 @@ mod words;
 
 pub use fault::HeaderFault;
 pub use reader::{built_in, read_header};
+
+#[cfg(test)]
+mod tests;

@@ -9,6 +9,7 @@ use crate::fault::HeaderFault;
 use crate::known::Known;
 use crate::stage::{Stage, Turn};
 use crate::symbol::{Symbol, symbol_of};
+use nss_lexer::laws::one_first;
 use nss_lexer::{Lexed, SOURCE_BYTES, next};
 use nwq_value::header::built_in_is_the_header;
 use nwq_value::{BUILT_IN, NoMemory, Table};
@@ -57,9 +58,13 @@ impl Reader {
         ensures fails { IfErr result (λ fault. Answers (turn self.old.known self.old.stage place symbol) (Err fault)) }
     {
         let stage = mem::replace(&mut self.stage, Stage::Start);
-        let turn = self.known.turn(alloc, stage, place, symbol)?;
-        self.go(turn)?;
-        Ok(())
+        match self.known.turn(alloc, stage, place, symbol) {
+            Err(fault) => Err(fault),
+            Ok(turn) => {
+                self.go(turn)?;
+                Ok(())
+            }
+        }
     }
 
     /// The table, where no line is left open.
@@ -96,6 +101,7 @@ fn read_tokens(alloc: Global, bytes: &[u8]) -> Result<Table, HeaderFault>
     ensures table { IfOk result (HasTable bytes.now) }
     ensures refused { IfErr result (IsRefused bytes.now) }
 {
+    one_first();
     let mut reader = Reader::new(alloc);
     let mut at = 0;
     loop {
@@ -104,8 +110,10 @@ fn read_tokens(alloc: Global, bytes: &[u8]) -> Result<Table, HeaderFault>
             Lexed::Bad(_) => unreachable!(),
             Lexed::Token(token) => {
                 let symbol = symbol_of(alloc, &token)?;
-                reader.take(alloc, token.start, symbol)?;
-                at = token.end;
+                match reader.take(alloc, token.start, symbol) {
+                    Err(fault) => return Err(fault),
+                    Ok(()) => at = token.end,
+                }
             }
         }
     }

@@ -32,7 +32,6 @@ impl Words {
     }
 
     /// Whether the name is a type word.
-    #[tactic(auto, using(crate::proofs::NameLemmas::named_among))]
     pub fn has(&self, name: &[u8]) -> bool
         ensures { result ≡ is_among name.now self.now }
     {
