@@ -78,9 +78,9 @@ owned_front k o c xs vs (progress.constant b d hs e h free) is =
     fronted k ((hs ++ sign_at e sign.Equals ∷ []) ++ vs) (sign_at 0 sign.Semicolon ∷ []) _ (IsConstant d c)
     (ap (λ (z : List Spot). z ++ sign_at 0 sign.Semicolon ∷ []) (two hs (sign_at e sign.Equals) vs) ∙ three hs (sign_at e sign.Equals) vs (sign_at 0 sign.Semicolon ∷ []))
     (grammar.constant b d c hs vs e 0 h is)
-owned_front k o c xs vs (progress.parameter f t as bs e before type) is =
-    front_as k _ _ (append_assoc as (bs ++ sign_at e sign.Equals ∷ []) vs ∙ ap (λ (z : List Spot). as ++ z) (two bs (sign_at e sign.Equals) vs))
-    (listed_front k _ _ (join k f (record { ty = t; default = c }) as (bs ++ sign_at e sign.Equals ∷ vs) before (grammar.optional t c bs vs e type is)))
+owned_front k o c xs vs (progress.parameter f t us ws e before type) is =
+    front_as k _ _ (append_assoc us (ws ++ sign_at e sign.Equals ∷ []) vs ∙ ap (λ (z : List Spot). us ++ z) (two ws (sign_at e sign.Equals) vs))
+    (listed_front k _ _ (join k f (record { ty = t; default = c }) us (ws ++ sign_at e sign.Equals ∷ vs) before (grammar.optional t c ws vs e type is)))
 
 value_front : (k : Known) (o : Owner) (xs : List Spot) → Owned k o xs → IsFront k xs
 value_front k o xs own = let v = some_value k.table.constants (type_of o) in front_less k xs v.tokens (owned_front k o v.constant xs v.tokens own v.is)
@@ -114,7 +114,8 @@ int_type : (k : Known) → ParameterType k ty.Int (at 0 (symbol.Word word.Int) �
 int_type k = grammar.bare ty.Int 0 (symbol.Word word.Int) refl
 
 pub begun_front : (k : Known) (s : Stage) (xs : List Spot) → Begun k s xs → IsFront k xs
-begun_front k s xs progress.start = front_less k [] _ (definition_front k 0 0 0 [])
+begun_front k s xs progress.start =
+    front_less k [] (sign_at 0 sign.Hash ∷ at 0 (symbol.Name (codes "define")) ∷ at 0 (symbol.Name []) ∷ []) (definition_front k 0 0 0 [])
 begun_front k s xs (progress.hash h) = front_less k (sign_at h sign.Hash ∷ []) (at 0 (symbol.Name (codes "define")) ∷ at 0 (symbol.Name []) ∷ []) (definition_front k h 0 0 [])
 begun_front k s xs (progress.define h d) =
     front_less k (sign_at h sign.Hash ∷ at d (symbol.Name (codes "define")) ∷ []) (at 0 (symbol.Name []) ∷ []) (definition_front k h d 0 [])
@@ -132,11 +133,13 @@ begun_front k s xs (progress.minus o ys p own int) = minus_front k o ys p own in
 begun_front k s xs (progress.loose o d ys vs own has is) = loose_front k o d ys vs own has is
 begun_front k s xs (progress.valued o c ys vs own is none) = owned_front k o c ys vs own is
 begun_front k s xs (progress.opened d hs o h free) =
-    front_less k (hs ++ sign_at o sign.Open ∷ []) _ (parameter_front k _ ty.Int _ _ (progress.first d hs o h free) (int_type k))
-begun_front k s xs (progress.param f ys before) = front_less k ys _ (parameter_front k f ty.Int ys _ before (int_type k))
-begun_front k s xs (progress.param_type f t ys p x before is) = parameter_front k f t ys _ before (grammar.bare t p x is)
+    front_less k (hs ++ sign_at o sign.Open ∷ []) (at 0 (symbol.Word word.Int) ∷ [])
+    (parameter_front k (record { head = d; params = [] }) ty.Int (hs ++ sign_at o sign.Open ∷ []) (at 0 (symbol.Word word.Int) ∷ []) (progress.first d hs o h free) (int_type k))
+begun_front k s xs (progress.param f ys before) =
+    front_less k ys (at 0 (symbol.Word word.Int) ∷ []) (parameter_front k f ty.Int ys (at 0 (symbol.Word word.Int) ∷ []) before (int_type k))
+begun_front k s xs (progress.param_type f t ys p x before is) = parameter_front k f t ys (at p x ∷ []) before (grammar.bare t p x is)
 begun_front k s xs (progress.param_name f t ys zs before type) = parameter_front k f t ys zs before type
 begun_front k s xs (progress.closed d ps hs ys o c h free are) =
-    fronted k _ (sign_at 0 sign.Semicolon ∷ []) _ (IsFunction (record { head = d; params = ps }))
+    fronted k (hs ++ sign_at o sign.Open ∷ (ys ++ sign_at c sign.Close ∷ [])) (sign_at 0 sign.Semicolon ∷ []) _ (IsFunction (record { head = d; params = ps }))
     (four hs (sign_at o sign.Open) ys (sign_at c sign.Close) (sign_at 0 sign.Semicolon ∷ []))
     (grammar.function d ps hs ys o c 0 h are)

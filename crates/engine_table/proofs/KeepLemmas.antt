@@ -158,29 +158,29 @@ named_keeps k b d p x t h e = absurd (no_turn _ t e)
 -- ---- values
 
 params_more : (ps : List Param) (u : Ty) (c : Option Const) → AreParams ps → IsNoStruct u → FitsType c u → AreParams (ps ++ record { ty = u; default = c } ∷ [])
-params_more [] u c h no fits = (no, fits, tt)
-params_more (p ∷ ps) u c h no fits = (h.0, h.1, params_more ps u c h.2 no fits)
+params_more [] u c h plain fits = (plain, fits, tt)
+params_more (p ∷ ps) u c h plain fits = (h.0, h.1, params_more ps u c h.2 plain fits)
 
 abbrev with_one : Function → Ty → Option Const → Function
 with_one f u c = record f { params = f.params ++ record { ty = u; default = c } ∷ [] }
 
 open_more : (k : Known) (f : Function) (u : Ty) (c : Option Const) → IsOpen k f → IsNoStruct u → FitsType c u → IsOpen k (with_one f u c)
-open_more k f u c h no fits = record { free = h.free; result = h.result; params = params_more f.params u c h.params no fits }
+open_more k f u c h plain fits = record { free = h.free; result = h.result; params = params_more f.params u c h.params plain fits }
 
 one_longer : (ps : List Param) (p : Param) → length (ps ++ p ∷ []) ≡ length ps + 1
 one_longer ps p = length-append ps (p ∷ [])
 
 param_keeps : (k : Known) (f : Function) (u : Ty) (c : Option Const) (p : ℕ) (x : Symbol) (t : Turn) → IsOpen k f → length f.params < 255 → IsNoStruct u → FitsType c u
     → param_turn f (record { ty = u; default = c }) p x ≡ Ok t → KeepsTurn k t
-param_keeps k f u c p (symbol.Sign sign.Comma) t h few no fits e =
+param_keeps k f u c p (symbol.Sign sign.Comma) t h few plain fits e =
     choose (KeepsTurn k t) (nat_lt (length f.params + 1) 255) (goes (stage.Param (with_one f u c))) (misfit p) t
-    (λ room is. is_turn k (Goes (stage.Param (with_one f u c))) t is ((open_more k f u c h no fits, fewer f.params (record { ty = u; default = c }) room), tt))
+    (λ room is. is_turn k (Goes (stage.Param (with_one f u c))) t is ((open_more k f u c h plain fits, fewer f.params (record { ty = u; default = c }) room), tt))
     (λ room is. absurd (no_turn _ t is)) e where
       fewer : (ps : List Param) (p : Param) → nat_lt (length ps + 1) 255 ≡ true → length (ps ++ p ∷ []) < 255
       fewer ps p room = let n = one_longer ps p in let m : length ps + 1 < 255 = grind (arith, nat_tests) in omega (arith, n, m)
-param_keeps k f u c p (symbol.Sign sign.Close) t h few no fits e =
-    is_turn k (Goes (stage.Closed (with_one f u c))) t e ((open_more k f u c h no fits, (let n = one_longer f.params (record { ty = u; default = c }) in omega (arith, n, few))), tt)
-param_keeps k f u c p x t h few no fits e = absurd (no_turn _ t e)
+param_keeps k f u c p (symbol.Sign sign.Close) t h few plain fits e =
+    is_turn k (Goes (stage.Closed (with_one f u c))) t e ((open_more k f u c h plain fits, (let n = one_longer f.params (record { ty = u; default = c }) in omega (arith, n, few))), tt)
+param_keeps k f u c p x t h few plain fits e = absurd (no_turn _ t e)
 
 end_keeps : (k : Known) (d : Declared) (c : Option Const) (p : ℕ) (x : Symbol) (t : Turn) → constant_fault k d ≡ None → value_fault k d c ≡ None
     → constant_end d c p x ≡ Ok t → KeepsTurn k t
@@ -260,13 +260,13 @@ params_keeps k f p x t h none e =
     typed_keeps k (stage.ParamType f) (type_in k.words x) p t (λ u is. ((h, (let n = ap length none in omega (arith, n)), no_struct k.words x u is), tt)) e
 
 behind_keeps : (k : Known) (f : Function) (u : Ty) (p : ℕ) (x : Symbol) (t : Turn) → IsOpen k f → length f.params < 255 → IsNoStruct u → behind_turn f u p x ≡ Ok t → KeepsTurn k t
-behind_keeps k f u p (symbol.Sign sign.Equals) t h few no e = is_turn k (Goes (stage.Value (owner.Parameter f u))) t e ((h, few, no), tt)
-behind_keeps k f u p x t h few no e = param_keeps k f u None p x t h few no tt e
+behind_keeps k f u p (symbol.Sign sign.Equals) t h few plain e = is_turn k (Goes (stage.Value (owner.Parameter f u))) t e ((h, few, plain), tt)
+behind_keeps k f u p x t h few plain e = param_keeps k f u None p x t h few plain tt e
 
 param_type_keeps : (k : Known) (f : Function) (u : Ty) (p : ℕ) (x : Symbol) (t : Turn) → IsOpen k f → length f.params < 255 → IsNoStruct u → param_type_turn f u p x ≡ Ok t
     → KeepsTurn k t
-param_type_keeps k f u p (symbol.Name n) t h few no e = is_turn k (Goes (stage.ParamName f u)) t e ((h, few, no), tt)
-param_type_keeps k f u p x t h few no e = behind_keeps k f u p x t h few no e
+param_type_keeps k f u p (symbol.Name n) t h few plain e = is_turn k (Goes (stage.ParamName f u)) t e ((h, few, plain), tt)
+param_type_keeps k f u p x t h few plain e = behind_keeps k f u p x t h few plain e
 
 closed_keeps : (k : Known) (f : Function) (p : ℕ) (x : Symbol) (t : Turn) → IsOpen k f → length f.params ≤ 255 → closed_turn f p x ≡ Ok t → KeepsTurn k t
 closed_keeps k f p (symbol.Sign sign.Semicolon) t h few e = is_turn k (Gives (IsFunction f)) t e (h, few)

@@ -52,7 +52,7 @@ moved P a b e h = subst P (sym e) h
 pub data Before (k : Known) : Function → List Spot → Type 0 where
   first : (d : Declared) (hs : List Spot) (o : ℕ) → Heading k false d hs → function_fault k d ≡ None
       → Before k (record { head = d; params = [] }) (hs ++ sign_at o sign.Open ∷ [])
-  next : (d : Declared) (ps : List Param) (hs xs : List Spot) (o c : ℕ) → Heading k false d hs → function_fault k d ≡ None → Parameters k ps xs
+  following : (d : Declared) (ps : List Param) (hs xs : List Spot) (o c : ℕ) → Heading k false d hs → function_fault k d ≡ None → Parameters k ps xs
       → length ps < 255 → Before k (record { head = d; params = ps }) (hs ++ sign_at o sign.Open ∷ (xs ++ sign_at c sign.Comma ∷ []))
 
 -- a function with its parameters, the last of them whole
@@ -103,13 +103,13 @@ with_param f p = record f { params = f.params ++ p ∷ [] }
 
 pub join : (k : Known) (f : Function) (p : Param) (xs ys : List Spot) → Before k f xs → Parameter k p ys → Listed k (with_param f p) (xs ++ ys)
 join k f p xs ys (first d hs o h free) is = moved (Listed k (record { head = d; params = p ∷ [] })) _ _ (two hs (sign_at o sign.Open) ys) (listed d (p ∷ []) hs ys o h free (grammar.one p ys is))
-join k f p xs ys (next d ps hs zs o c h free are few) is =
+join k f p xs ys (following d ps hs zs o c h free are few) is =
     moved (Listed k (record { head = d; params = ps ++ p ∷ [] })) _ _ (four hs (sign_at o sign.Open) zs (sign_at c sign.Comma) ys)
     (listed d (ps ++ p ∷ []) hs (zs ++ sign_at c sign.Comma ∷ ys) o h free (grammar.more ps p zs ys c are few is))
 
 next_of : (k : Known) (g : Function) (ws : List Spot) (c : ℕ) → Listed k g ws → length g.params < 255 → Before k g (ws ++ sign_at c sign.Comma ∷ [])
 next_of k g ws c (listed d ps hs xs o h free are) few =
-    moved (Before k (record { head = d; params = ps })) _ _ (three hs (sign_at o sign.Open) xs (sign_at c sign.Comma ∷ [])) (next d ps hs xs o c h free are few)
+    moved (Before k (record { head = d; params = ps })) _ _ (three hs (sign_at o sign.Open) xs (sign_at c sign.Comma ∷ [])) (following d ps hs xs o c h free are few)
 
 closed_of : (k : Known) (g : Function) (ws : List Spot) (c : ℕ) → Listed k g ws → Begun k (stage.Closed g) (ws ++ sign_at c sign.Close ∷ [])
 closed_of k g ws c (listed d ps hs xs o h free are) =
@@ -200,18 +200,19 @@ named_step k b d hs p s h = inl refl
 
 -- ---- values
 
+value_clash : (k : Known) (o : Owner) (c : Const) (f : HeaderFault) (xs vs : List Spot) → Owned k o xs → has_constants (type_of o) ≡ true
+    → Value k.table.constants (type_of o) (Some c) vs → owner_fault k o (Some c) ≡ Some f → Clashes k f (xs ++ vs)
+value_clash k o c f xs vs (constant b d hs e h free) has is fault =
+    moved (Clashes k f) _ _ (two hs (sign_at e sign.Equals) vs) (header.value b d (Some c) f hs vs e h free has is fault)
+value_clash k o c f xs vs (parameter g t us ws e before type) has is fault = absurd (none-some f fault)
+
 -- a value of a type with constants was read with this token
 checked_step : (k : Known) (o : Owner) (c : Const) (xs vs zs : List Spot) (x : Spot) → Owned k o xs → has_constants (type_of o) ≡ true
     → Value k.table.constants (type_of o) (Some c) vs → zs ++ x ∷ [] ≡ xs ++ vs → After k zs x (checked k o (Some c) (goes (stage.Valued o (Some c))))
 checked_step k o c xs vs zs x own has is same =
     unless (After k zs x) (owner_fault k o (Some c)) (goes (stage.Valued o (Some c)))
     (λ none. moved (Begun k (stage.Valued o (Some c))) _ _ same (valued o (Some c) xs vs own is none))
-    (λ f fault. inr (moved (Clashes k f) _ _ same (clash o f own has is fault))) where
-      clash : (o : Owner) (f : HeaderFault) → Owned k o xs → has_constants (type_of o) ≡ true → Value k.table.constants (type_of o) (Some c) vs
-          → owner_fault k o (Some c) ≡ Some f → Clashes k f (xs ++ vs)
-      clash o f (constant b d hs e h free) has is fault =
-          moved (Clashes k f) _ _ (two hs (sign_at e sign.Equals) vs) (header.value b d (Some c) f hs vs e h free has is fault)
-      clash o f (parameter g t as bs e before type) has is fault = absurd (none-some f fault)
+    (λ f fault. inr (moved (Clashes k f) _ _ same (value_clash k o c f xs vs own has is fault)))
 
 -- behind a parameter
 list_step : (k : Known) (f : Function) (x : Param) (ws : List Spot) (p : ℕ) (s : Symbol) → Listed k (with_param f x) ws → After k ws (at p s) (param_turn f x p s)
@@ -234,12 +235,19 @@ end_step : (k : Known) (o : Owner) (c : Option Const) (xs vs : List Spot) (p : �
     → owner_fault k o c ≡ None → After k (xs ++ vs) (at p s) (valued_turn o c p s)
 end_step k o c xs vs p s (constant b d hs e h free) is none =
     moved (λ (z : List Spot). After k z (at p s) (constant_end d c p s)) _ _ (two hs (sign_at e sign.Equals) vs) (constant_end_step k b d c hs vs e p s h is free none)
-end_step k o c xs vs p s (parameter f t as bs e before type) is none =
-    let ends : (as ++ (bs ++ sign_at e sign.Equals ∷ [])) ++ vs ≡ as ++ (bs ++ sign_at e sign.Equals ∷ vs)
-        = append_assoc as (bs ++ sign_at e sign.Equals ∷ []) vs ∙ ap (λ (z : List Spot). as ++ z) (two bs (sign_at e sign.Equals) vs) in
+end_step k o c xs vs p s (parameter f t us ws e before type) is none =
+    let ends : (us ++ (ws ++ sign_at e sign.Equals ∷ [])) ++ vs ≡ us ++ (ws ++ sign_at e sign.Equals ∷ vs)
+        = append_assoc us (ws ++ sign_at e sign.Equals ∷ []) vs ∙ ap (λ (z : List Spot). us ++ z) (two ws (sign_at e sign.Equals) vs) in
     moved (λ (z : List Spot). After k z (at p s) (param_turn f (record { ty = t; default = c }) p s)) _ _ ends
-    (list_step k f (record { ty = t; default = c }) (as ++ (bs ++ sign_at e sign.Equals ∷ vs)) p s
-    (join k f (record { ty = t; default = c }) as (bs ++ sign_at e sign.Equals ∷ vs) before (grammar.optional t c bs vs e type is)))
+    (list_step k f (record { ty = t; default = c }) (us ++ (ws ++ sign_at e sign.Equals ∷ vs)) p s
+    (join k f (record { ty = t; default = c }) us (ws ++ sign_at e sign.Equals ∷ vs) before (grammar.optional t c ws vs e type is)))
+
+loose_clash : (k : Known) (o : Owner) (f : HeaderFault) (xs vs : List Spot) (p : ℕ) (s : Symbol) → Owned k o xs → has_constants (type_of o) ≡ false
+    → Loose zero vs → brackets zero s ≡ None → owner_fault k o None ≡ Some f → Clashes k f ((xs ++ vs) ++ at p s ∷ [])
+loose_clash k o f xs vs p s (constant b d hs e h free) has is ends fault =
+    moved (Clashes k f) _ _ (ap (λ (z : List Spot). z ++ at p s ∷ []) (two hs (sign_at e sign.Equals) vs) ∙ three hs (sign_at e sign.Equals) vs (at p s ∷ []))
+    (header.loose b d f hs vs e p s h free has is ends fault)
+loose_clash k o f xs vs p s (parameter g t us ws e before type) has is ends fault = absurd (none-some f fault)
 
 -- the token that ends a value of a type without constants
 loose_end_step : (k : Known) (o : Owner) (xs vs : List Spot) (p : ℕ) (s : Symbol) → Owned k o xs → has_constants (type_of o) ≡ false → Loose zero vs
@@ -247,13 +255,7 @@ loose_end_step : (k : Known) (o : Owner) (xs vs : List Spot) (p : ℕ) (s : Symb
 loose_end_step k o xs vs p s own has is ends =
     unless (After k (xs ++ vs) (at p s)) (owner_fault k o None) (valued_turn o None p s)
     (λ none. end_step k o None xs vs p s own (grammar.other (type_of o) vs has is) none)
-    (λ f fault. inr (clash o f own has fault)) where
-      clash : (o : Owner) (f : HeaderFault) → Owned k o xs → has_constants (type_of o) ≡ false → owner_fault k o None ≡ Some f
-          → Clashes k f ((xs ++ vs) ++ at p s ∷ [])
-      clash o f (constant b d hs e h free) has fault =
-          moved (Clashes k f) _ _ (ap (λ (z : List Spot). z ++ at p s ∷ []) (two hs (sign_at e sign.Equals) vs) ∙ three hs (sign_at e sign.Equals) vs (at p s ∷ []))
-          (header.loose b d f hs vs e p s h free has is ends fault)
-      clash o f (parameter g t as bs e before type) has fault = absurd (none-some f fault)
+    (λ f fault. inr (loose_clash k o f xs vs p s own has is ends fault))
 
 ended_depth : (d : ℕ) (s : Symbol) → brackets d s ≡ None → d ≡ zero
 ended_depth zero s e = refl

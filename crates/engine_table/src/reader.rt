@@ -3,7 +3,7 @@ ghost use Rattle.nwq_value.specs.Header.{header_text};
 ghost use Rattle.engine_table.specs.declared.stage.Stage.TheVariants as stage;
 ghost use Rattle.engine_table.specs.Symbols.{Spot, at as spot};
 ghost use Rattle.engine_table.specs.Headers.{HasTable, IsRefused, nothing};
-ghost use Rattle.engine_table.specs.Turns.{Answers, KeepsStage, KeepsTurn, Leads, Follows, HasTokens, HasTokensUpTo, ended, turn};
+ghost use Rattle.engine_table.specs.Turns.{Answers, KeepsStage, KeepsTurn, Leads, Follows, HasTokens, HasTokensUpTo, ended, turn_at};
 
 use crate::fault::HeaderFault;
 use crate::known::Known;
@@ -55,7 +55,7 @@ impl Reader {
         requires { KeepsStage self.old.known self.old.stage }
         ensures keeps { OnOk result (KeepsStage self.new.known self.new.stage) }
         ensures goes { OnOk result (Follows self.old.known self.old.stage (spot place symbol) self.new.known self.new.stage) }
-        ensures fails { IfErr result (λ fault. Answers (turn self.old.known self.old.stage place symbol) (Err fault)) }
+        ensures fails { IfErr result (λ fault. Answers (turn_at self.old.known self.old.stage (spot place symbol)) (Err fault)) }
     {
         let stage = mem::replace(&mut self.stage, Stage::Start);
         match self.known.turn(alloc, stage, place, symbol) {
