@@ -1,7 +1,9 @@
 ghost use Rattle.std.specs.Prelude.{◌≡◌, ◌≤◌, ◌∷◌, List, ℕ, length, MatchOption, IfOk, IfErr, OnOk, Err};
 ghost use Rattle.nwq_value.specs.Header.{header_text};
 ghost use Rattle.engine_table.specs.declared.stage.Stage.TheVariants as stage;
-ghost use Rattle.engine_table.specs.Symbols.{Spot, at as spot};
+ghost use Rattle.nss_lexer.specs.Lexemes.{IsToken};
+ghost use Rattle.nss_lexer.specs.Splitting.{plain};
+ghost use Rattle.engine_table.specs.Symbols.{at as spot, spot_of};
 ghost use Rattle.engine_table.specs.Headers.{HasTable, IsRefused, nothing};
 ghost use Rattle.engine_table.specs.Turns.{Answers, KeepsStage, KeepsTurn, Leads, Follows, HasTokens, HasTokensUpTo, ended, turn_at};
 
@@ -10,7 +12,7 @@ use crate::known::Known;
 use crate::stage::{Stage, Turn};
 use crate::symbol::{Symbol, symbol_of};
 use nss_lexer::laws::one_first;
-use nss_lexer::{Lexed, SOURCE_BYTES, next};
+use nss_lexer::{Lexed, SOURCE_BYTES, Token, next};
 use nwq_value::header::built_in_is_the_header;
 use nwq_value::{BUILT_IN, NoMemory, Table};
 use std::alloc::Global;
@@ -67,6 +69,21 @@ impl Reader {
         }
     }
 
+    /// Takes one token more, as the grammar sees it.
+    fn read(&mut self, alloc: Global, token: &Token<'_>) -> Result<(), HeaderFault>
+        requires keeps { KeepsStage self.old.known self.old.stage }
+        requires token { IsToken token.now }
+        ensures keeps { OnOk result (KeepsStage self.new.known self.new.stage) }
+        ensures goes { OnOk result (Follows self.old.known self.old.stage (spot_of (plain token.now)) self.new.known self.new.stage) }
+        ensures fails { IfErr result (λ fault. Answers (turn_at self.old.known self.old.stage (spot_of (plain token.now))) (Err fault)) }
+    {
+        let symbol = symbol_of(alloc, token)?;
+        match self.take(alloc, token.start, symbol) {
+            Err(fault) => Err(fault),
+            Ok(()) => Ok(()),
+        }
+    }
+
     /// The table, where no line is left open.
     fn finish(self, end: u32) -> Result<Table, HeaderFault>
         ensures { result ≡ ended end self.known self.stage }
@@ -109,8 +126,7 @@ fn read_tokens(alloc: Global, bytes: &[u8]) -> Result<Table, HeaderFault>
             Lexed::End => return reader.finish(bytes.len() as u32),
             Lexed::Bad(_) => unreachable!(),
             Lexed::Token(token) => {
-                let symbol = symbol_of(alloc, &token)?;
-                match reader.take(alloc, token.start, symbol) {
+                match reader.read(alloc, &token) {
                     Err(fault) => return Err(fault),
                     Ok(()) => at = token.end,
                 }

@@ -1,8 +1,7 @@
-use Rattle.std.proofs.Common.{sym, subst}
 use Rattle.engine_table.proofs.KeepLemmas.{turn_keeps}
 use Rattle.engine_table.proofs.reader.Reader.take.Goals as goal
 
 pub go-requires : goal.go-requires
 go-requires c =
     turn_keeps c.args.self.now.known c.args.self.now.stage c.args.place c.args.symbol c.in-Ok.turn c.requires
-    (first_of (c.in-Ok.ensures, rw c.replace-stage.ensures.value at c.in-Ok.ensures))
+    (let value = c.replace-stage.ensures.value in let is = c.in-Ok.ensures in cc)
