@@ -6,3 +6,4 @@ pub mod Fronts
 pub mod Complete
 pub mod Whole
 pub mod TokenLemmas
+mod Rows

@@ -237,7 +237,7 @@ end_step k o c xs vs p s (constant b d hs e h free) is none =
     moved (λ (z : List Spot). After k z (at p s) (constant_end d c p s)) _ _ (two hs (sign_at e sign.Equals) vs) (constant_end_step k b d c hs vs e p s h is free none)
 end_step k o c xs vs p s (parameter f t us ws e before type) is none =
     let ends : (us ++ (ws ++ sign_at e sign.Equals ∷ [])) ++ vs ≡ us ++ (ws ++ sign_at e sign.Equals ∷ vs)
-        = append_assoc us (ws ++ sign_at e sign.Equals ∷ []) vs ∙ ap (λ (z : List Spot). us ++ z) (two ws (sign_at e sign.Equals) vs) in
+    = append_assoc us (ws ++ sign_at e sign.Equals ∷ []) vs ∙ ap (λ (z : List Spot). us ++ z) (two ws (sign_at e sign.Equals) vs) in
     moved (λ (z : List Spot). After k z (at p s) (param_turn f (record { ty = t; default = c }) p s)) _ _ ends
     (list_step k f (record { ty = t; default = c }) (us ++ (ws ++ sign_at e sign.Equals ∷ vs)) p s
     (join k f (record { ty = t; default = c }) us (ws ++ sign_at e sign.Equals ∷ vs) before (grammar.optional t c ws vs e type is)))

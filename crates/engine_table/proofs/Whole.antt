@@ -222,7 +222,7 @@ inside_by end k xs inside (reached to begun e) = record { to = to; begun = begun
 inside_by end k xs inside (whole d ys zs same is clear e) =
     let (more, g, other) = inside.front in
     let none : zs ++ more ≡ [] = got_rest k g d (xs ++ more) [] (zs ++ more) end other
-        (ap (line end k stage.Start) (append-nil (xs ++ more) ∙ regroup xs ys zs more same) ∙ e (zs ++ more)) in
+    (ap (line end k stage.Start) (append-nil (xs ++ more) ∙ regroup xs ys zs more same) ∙ e (zs ++ more)) in
     let all : xs ≡ ys = same ∙ ap (λ (z : List Spot). ys ++ z) (no_rest zs more none) ∙ append-nil ys in
     absurd (inside.no_line d (subst (Line k d) (sym all) is))
 inside_by end k xs inside (broke to ys x zs f same begun (inl misfit) e) =

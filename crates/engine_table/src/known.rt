@@ -246,10 +246,7 @@ fn typed_turn(constant: bool, ty: Ty, place: u32, symbol: Symbol) -> Result<Turn
     ensures { result ≡ turns.typed_turn constant ty place symbol }
 {
     match symbol {
-        Symbol::Name(name) => Ok(Turn::Goes(Stage::Named(
-            constant,
-            Declared { ty, place, name },
-        ))),
+        Symbol::Name(name) => Ok(Turn::Goes(Stage::Named(constant, Declared { ty, place, name }))),
         _ => misfit(place),
     }
 }
@@ -328,12 +325,7 @@ fn valued_turn(
 }
 
 /// A token behind the type and the name of a parameter.
-fn behind_turn(
-    function: Function,
-    ty: Ty,
-    place: u32,
-    symbol: Symbol,
-) -> Result<Turn, HeaderFault>
+fn behind_turn(function: Function, ty: Ty, place: u32, symbol: Symbol) -> Result<Turn, HeaderFault>
     ensures { Answers (turns.behind_turn function ty place symbol) result }
 {
     match symbol {
@@ -558,12 +550,7 @@ impl Known {
     }
 
     /// The constant of this type that a name stands for.
-    fn named_constant(
-        &self,
-        alloc: Global,
-        ty: Ty,
-        name: &[u8],
-    ) -> Result<Option<Const>, NoMemory>
+    fn named_constant(&self, alloc: Global, ty: Ty, name: &[u8]) -> Result<Option<Const>, NoMemory>
         ensures { IfOk result (λ value. value ≡ grammar.of_type ty (constant_named name.now self.now.table.constants)) }
     {
         match self.table.constant(name) {
@@ -579,12 +566,7 @@ impl Known {
     }
 
     /// The constant of this type that a token is by itself.
-    fn constant_in(
-        &self,
-        alloc: Global,
-        ty: Ty,
-        symbol: Symbol,
-    ) -> Result<Option<Const>, NoMemory>
+    fn constant_in(&self, alloc: Global, ty: Ty, symbol: Symbol) -> Result<Option<Const>, NoMemory>
         ensures { IfOk result (λ value. value ≡ grammar.constant_in self.now.table.constants ty symbol) }
     {
         match symbol {
@@ -737,11 +719,7 @@ impl Known {
     }
 
     /// Takes a constant into the table, where it has a value.
-    fn declare_constant(
-        &mut self,
-        head: Declared,
-        value: Option<Const>,
-    ) -> Result<(), NoMemory>
+    fn declare_constant(&mut self, head: Declared, value: Option<Const>) -> Result<(), NoMemory>
         requires { header.constant_fault self.old head ≡ None }
         ensures { OnOk result (self.new ≡ header.after self.old (declaration.Constant head value)) }
     {

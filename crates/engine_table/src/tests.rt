@@ -94,8 +94,14 @@ fn with_params(alloc: Global, count: usize) -> Result<Vec<u8>, NoMemory> {
 #[test]
 fn parameters(rt: HostRuntime) -> Result<(), Fail> {
     let whole = with_params(rt.alloc(), 255)?;
-    assert_eq!(rt; fault_of(rt.alloc(), whole.as_slice()), HeaderFault::NoMemory);
+    assert_eq!(rt;
+        fault_of(rt.alloc(), whole.as_slice()),
+        HeaderFault::NoMemory
+    );
     let long = with_params(rt.alloc(), 256)?;
-    assert_eq!(rt; fault_of(rt.alloc(), long.as_slice()), HeaderFault::Header(1025));
+    assert_eq!(rt;
+        fault_of(rt.alloc(), long.as_slice()),
+        HeaderFault::Header(1025)
+    );
     Ok(())
 }
