@@ -7,3 +7,4 @@ pub mod Complete
 pub mod Whole
 pub mod TokenLemmas
 mod Rows
+pub mod BuiltIn

@@ -1,5 +1,6 @@
 ghost use Rattle.std.specs.Prelude.{◌≡◌, ◌≤◌, ◌∷◌, List, ℕ, length, MatchOption, IfOk, IfErr, OnOk, Err};
 ghost use Rattle.nwq_value.specs.Header.{header_text};
+ghost use Rattle.engine_table.specs.declared.fault.HeaderFault.TheVariants as fault;
 ghost use Rattle.engine_table.specs.declared.stage.Stage.TheVariants as stage;
 ghost use Rattle.nss_lexer.specs.Lexemes.{IsToken};
 ghost use Rattle.nss_lexer.specs.Splitting.{plain};
@@ -147,6 +148,16 @@ pub fn read_header(alloc: Global, bytes: &[u8]) -> Result<Table, HeaderFault>
     }
 }
 
+/// The one fault that a header can have.
+fn want_of_memory(met: HeaderFault) -> NoMemory
+    requires { met ≡ fault.NoMemory }
+{
+    match met {
+        HeaderFault::NoMemory => NoMemory,
+        _ => unreachable!(),
+    }
+}
+
 /// The table of the built-in header.
 pub fn built_in(alloc: Global) -> Result<Table, NoMemory>
     ensures { IfOk result (HasTable header_text) }
@@ -154,6 +165,6 @@ pub fn built_in(alloc: Global) -> Result<Table, NoMemory>
     built_in_is_the_header();
     match read_header(alloc, BUILT_IN) {
         Ok(table) => Ok(table),
-        Err(_) => Err(NoMemory),
+        Err(fault) => Err(want_of_memory(fault)),
     }
 }
