@@ -1,19 +1,17 @@
 -- Reading of one line, and that every line of the grammar is read as its declaration, or clashes.
-use Rattle.std.proofs.Common.{◌≡◌, ◌⊎◌, inl, inr, ℕ, zero, suc, ◌+◌, ◌<◌, Bool, true, false, if◌then◌else◌, nat_lt, List, [], ◌∷◌, ◌++◌, length, codes, Option, Some, None, is_some, Result, Ok, Err, refl, sym, ap, subst, ◌∙◌, arith, append_assoc, length-append, true≢false}
+use Rattle.std.proofs.Common.{◌≡◌, ℕ, zero, ◌+◌, ◌<◌, Bool, true, false, if◌then◌else◌, nat_lt, List, [], ◌∷◌, ◌++◌, length, codes, Option, Some, None, Ok, Err, refl, sym, ap, subst, ◌∙◌, arith, length-append, true≢false}
 use Rattle.std.proofs.lemmas.Bool.Decides.{nat_tests}
-use Rattle.std.proofs.lemmas.Option.{same_Some, none-some}
+use Rattle.std.proofs.lemmas.Option.{none-some}
 use Rattle.nwq_value.specs.declared.value.Ty.{Ty}
 use Rattle.nwq_value.specs.declared.value.Ty.TheVariants as ty
 use Rattle.nwq_value.specs.declared.engine.Const.{Const}
 use Rattle.nwq_value.specs.declared.engine.Param.{Param}
-use Rattle.nwq_value.specs.Engine.{Constant, routine_named, constant_named}
 use Rattle.engine_table.specs.declared.known.Known.{Known}
 use Rattle.engine_table.specs.declared.declaration.Declared.{Declared}
 use Rattle.engine_table.specs.declared.declaration.Function.{Function}
 use Rattle.engine_table.specs.declared.declaration.Declaration.{Declaration}
-use Rattle.engine_table.specs.declared.declaration.Declaration.TheVariants.{Passed, TypeWord, Constant as IsConstant, Function as IsFunction}
 use Rattle.engine_table.specs.declared.fault.HeaderFault.{HeaderFault}
-use Rattle.engine_table.specs.declared.fault.HeaderFault.TheVariants.{Bad, Header, Twice, Many, NoMemory}
+use Rattle.engine_table.specs.declared.fault.HeaderFault.TheVariants.{Header}
 use Rattle.engine_table.specs.declared.symbol.Word.TheVariants as word
 use Rattle.engine_table.specs.declared.symbol.Sign.{Sign}
 use Rattle.engine_table.specs.declared.symbol.Sign.TheVariants as sign
@@ -29,7 +27,7 @@ use Rattle.engine_table.specs.Grammar as grammar
 use Rattle.engine_table.specs.Grammar.{sign_at, type_in, structure_of, defined, has_constants, constant_in, negative, brackets, Loose, Value, Heading, ParameterType, Parameter, Parameters, ParameterList, Line}
 use Rattle.engine_table.specs.Headers as header
 use Rattle.engine_table.specs.Headers.{function_fault, constant_fault, value_fault, differs, fault_unless, same_const, IsClear, Clashes}
-use Rattle.engine_table.specs.Turns.{Next, goes, misfit, unless_fault, typed, start_turn, given, type_of, param_turn, valued_turn, owner_fault, checked, got, is_minus_of_int, constant_turn, loose_by, value_by, params_turn, behind_turn, turn, turn_at}
+use Rattle.engine_table.specs.Turns.{Next, goes, misfit, unless_fault, typed, start_turn, given, type_of, param_turn, valued_turn, owner_fault, got, is_minus_of_int, loose_by, value_by, params_turn, behind_turn, turn}
 use Rattle.engine_table.proofs.Progress.{two, three, four}
 
 -- a line was read, with the tokens behind it, or it broke at a token or at the end

@@ -1,10 +1,8 @@
 -- However far a line has come, some tokens more make it whole.
-use Rattle.std.proofs.Common.{◌≡◌, ℕ, zero, suc, ◌+◌, ◌<◌, Bool, true, false, List, [], ◌∷◌, ◌++◌, length, codes, Option, Some, None, refl, sym, ap, subst, ◌∙◌, append_assoc, append-nil}
+use Rattle.std.proofs.Common.{◌≡◌, ℕ, zero, suc, Bool, true, false, List, [], ◌∷◌, ◌++◌, codes, Option, Some, None, refl, sym, ap, subst, ◌∙◌, append_assoc, append-nil}
 use Rattle.nwq_value.specs.declared.value.Ty.{Ty}
 use Rattle.nwq_value.specs.declared.value.Ty.TheVariants as ty
 use Rattle.nwq_value.specs.declared.engine.Const.{Const}
-use Rattle.nwq_value.specs.declared.engine.Const.TheVariants as const
-use Rattle.nwq_value.specs.declared.engine.Param.{Param}
 use Rattle.nwq_value.specs.Engine.{Constant}
 use Rattle.engine_table.specs.declared.known.Known.{Known}
 use Rattle.engine_table.specs.declared.declaration.Declared.{Declared}
@@ -13,15 +11,13 @@ use Rattle.engine_table.specs.declared.declaration.Declaration.{Declaration}
 use Rattle.engine_table.specs.declared.declaration.Declaration.TheVariants.{Passed, Constant as IsConstant, Function as IsFunction}
 use Rattle.engine_table.specs.declared.symbol.Word.TheVariants as word
 use Rattle.engine_table.specs.declared.symbol.Sign.TheVariants as sign
-use Rattle.engine_table.specs.declared.symbol.Symbol.{Symbol}
 use Rattle.engine_table.specs.declared.symbol.Symbol.TheVariants as symbol
 use Rattle.engine_table.specs.declared.stage.Owner.{Owner}
-use Rattle.engine_table.specs.declared.stage.Owner.TheVariants as owner
 use Rattle.engine_table.specs.declared.stage.Stage.{Stage}
 use Rattle.engine_table.specs.Symbols.{Spot, at}
 use Rattle.engine_table.specs.Grammar as grammar
 use Rattle.engine_table.specs.Grammar.{sign_at, type_in, structure_of, defined, has_constants, negative, brackets, Loose, Value, Heading, ParameterType, Line}
-use Rattle.engine_table.specs.Headers.{function_fault, IsFront}
+use Rattle.engine_table.specs.Headers.{IsFront}
 use Rattle.engine_table.specs.Turns.{type_of}
 use Rattle.engine_table.proofs.Progress as progress
 use Rattle.engine_table.proofs.Progress.{two, three, four, moved, with_param, join, Before, Listed, Owned, Begun}

@@ -1,5 +1,5 @@
 -- Names of constants, as type words.
-use Rattle.std.proofs.Common.{◌≡◌, ℕ, Bool, true, false, cond, ◌||◌, List, [], ◌∷◌, ◌++◌, map, Option, Some, None, is_some, bytes_eq, Bor, refl, sym, ap, ◌∙◌}
+use Rattle.std.proofs.Common.{◌≡◌, ℕ, Bool, true, false, cond, ◌||◌, List, [], ◌∷◌, map, Option, Some, None, is_some, bytes_eq, Bor, refl, ◌∙◌}
 use Rattle.nwq_value.specs.declared.engine.Const.{Const}
 use Rattle.std.specs.Option.{option_copied}
 use Rattle.nwq_value.specs.declared.engine.Routine.{Routine}

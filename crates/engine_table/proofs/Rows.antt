@@ -1,5 +1,5 @@
 -- Texts by their tokens, and what they come to.
-use Rattle.std.proofs.Common.{◌≡◌, ℕ, List, [], ◌∷◌, codes, pos, Ok, Err, refl}
+use Rattle.std.proofs.Common.{◌≡◌, ℕ, [], ◌∷◌, codes, pos, Ok, Err, refl}
 use Rattle.nwq_value.specs.declared.engine.Const.TheVariants as const
 use Rattle.nwq_value.specs.Engine.{routine_named, constant_named}
 use Rattle.engine_table.specs.declared.fault.HeaderFault.TheVariants.{Header, Twice}

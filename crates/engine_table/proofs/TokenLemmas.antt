@@ -1,7 +1,7 @@
 -- The tokens of a text, one after another.
-use Rattle.std.proofs.Common.{◌≡◌, ◌≢◌, ◌⊎◌, ℕ, ◌+◌, ◌-◌, ◌<◌, ◌≤◌, List, [], ◌∷◌, length, Option, Some, None, Result, Ok, Err, IfOk, IfErr, refl, sym, ap, subst, ◌∙◌, arith}
-use Rattle.std.proofs.lemmas.Option.{same_Some, none-some}
-use Rattle.nss_lexer.specs.Splitting.{Lexeme, First, Found, AtEnd, BadAt, IsFirst, IsFirstToken, Splits, AreTokens, whole, broken, token}
+use Rattle.std.proofs.Common.{◌≡◌, ℕ, ◌-◌, ◌<◌, ◌≤◌, List, [], ◌∷◌, length, Option, Some, None, Result, Ok, Err, IfOk, IfErr, refl, sym, ap, subst, ◌∙◌, arith}
+use Rattle.std.proofs.lemmas.Option.{none-some}
+use Rattle.nss_lexer.specs.Splitting.{Lexeme, First, Found, AtEnd, BadAt, IsFirst, Splits, AreTokens, whole, broken, token}
 use Rattle.nwq_value.specs.Engine.{EngineTable}
 use Rattle.engine_table.specs.declared.known.Known.{Known}
 use Rattle.engine_table.specs.declared.fault.HeaderFault.{HeaderFault}
@@ -14,7 +14,7 @@ use Rattle.engine_table.specs.declared.stage.Turn.TheVariants.{Goes, Gives}
 use Rattle.engine_table.specs.Symbols.{Spot, at, spot_of, spots_of}
 use Rattle.engine_table.specs.Headers as header
 use Rattle.engine_table.specs.Headers.{Fails, Comes, HasTable, IsFaulty, IsRefused, after, nothing}
-use Rattle.engine_table.specs.Turns.{Next, turn, turn_at, ended, run_by, run, Leads, Follows, Answers, KeepsStage, HasTokens, HasTokensUpTo}
+use Rattle.engine_table.specs.Turns.{Next, turn_at, ended, run_by, run, Leads, Follows, Answers, KeepsStage, HasTokens, HasTokensUpTo}
 use Rattle.engine_table.proofs.Whole.{right, IsClash, clash_is}
 
 abbrev pub OneFirst : Type 0

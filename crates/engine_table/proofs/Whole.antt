@@ -1,5 +1,5 @@
 -- Whole texts: what reading comes to is what the grammar has, and the grammar has one answer.
-use Rattle.std.proofs.Common.{◌≡◌, ◌≢◌, ◌⊎◌, inl, inr, ℕ, zero, suc, ◌+◌, ◌<◌, ◌≤◌, Bool, true, false, if◌then◌else◌, nat_lt, List, [], ◌∷◌, ◌++◌, length, Option, Some, None, is_some, Result, Ok, Err, refl, sym, ap, subst, ◌∙◌, arith, append_assoc, append-nil, true≢false}
+use Rattle.std.proofs.Common.{◌≡◌, ◌≢◌, ◌⊎◌, inl, inr, ℕ, zero, suc, ◌<◌, Bool, true, false, if◌then◌else◌, nat_lt, List, [], ◌∷◌, ◌++◌, length, Option, Some, None, is_some, Result, Ok, Err, refl, sym, ap, subst, ◌∙◌, arith, append_assoc, append-nil, true≢false}
 use Rattle.std.proofs.lemmas.Option.{same_Some, none-some}
 use Rattle.nss_lexer.specs.Splitting.{Lexeme, Splits}
 use Rattle.nwq_value.specs.declared.value.Ty.{Ty}
@@ -8,14 +8,14 @@ use Rattle.nwq_value.specs.Engine.{Constant, EngineTable, routine_named, constan
 use Rattle.engine_table.specs.declared.known.Known.{Known}
 use Rattle.engine_table.specs.declared.declaration.Declared.{Declared}
 use Rattle.engine_table.specs.declared.declaration.Declaration.{Declaration}
-use Rattle.engine_table.specs.declared.declaration.Declaration.TheVariants.{Passed, TypeWord, Constant as IsConstant, Function as IsFunction}
+use Rattle.engine_table.specs.declared.declaration.Declaration.TheVariants.{Constant as IsConstant, Function as IsFunction}
 use Rattle.engine_table.specs.declared.fault.HeaderFault.{HeaderFault}
 use Rattle.engine_table.specs.declared.fault.HeaderFault.TheVariants.{Bad, Header, Twice, Many, NoMemory}
 use Rattle.engine_table.specs.declared.symbol.Sign.TheVariants as sign
 use Rattle.engine_table.specs.declared.stage.Stage.{Stage}
 use Rattle.engine_table.specs.declared.stage.Stage.TheVariants as stage
 use Rattle.engine_table.specs.declared.stage.Turn.TheVariants.{Goes, Gives}
-use Rattle.engine_table.specs.Symbols.{Spot, at, spots_of}
+use Rattle.engine_table.specs.Symbols.{Spot, spots_of}
 use Rattle.engine_table.specs.Grammar as grammar
 use Rattle.engine_table.specs.Grammar.{sign_at, structure_of, has_constants, Loose, Value, Heading, Line}
 use Rattle.engine_table.specs.Headers as header
@@ -24,7 +24,7 @@ use Rattle.engine_table.specs.Turns.{Next, turn, ended, run_by, run, HasBegun}
 use Rattle.engine_table.proofs.Progress as progress
 use Rattle.engine_table.proofs.Progress.{two, three, four, moved, Begun, After, step, clear_made}
 use Rattle.engine_table.proofs.Fronts.{begun_front}
-use Rattle.engine_table.proofs.Complete.{Outcome, Got, Broke, line_by, line, by_turn, line_got, clash_breaks}
+use Rattle.engine_table.proofs.Complete.{Got, Broke, line_by, line, by_turn, line_got, clash_breaks}
 
 -- ---- clashes are no misfits
 

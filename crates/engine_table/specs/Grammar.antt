@@ -1,6 +1,6 @@
 -- The grammar of a header, line by line. What a line may be depends on what the lines before it made known: the names that defines
 -- made type words, and the constants in sight.
-use Rattle.std.specs.Prelude.{◌≡◌, ℕ, zero, suc, ◌+◌, ◌-◌, ◌<◌, Bool, true, false, ◌||◌, ◌==◌, nat_lt, List, [], ◌∷◌, ◌++◌, length, take, drop, codes, bytes_eq, Option, None, Some, if◌then◌else◌}
+use Rattle.std.specs.Prelude.{◌≡◌, ℕ, zero, suc, ◌+◌, ◌-◌, ◌<◌, Bool, true, false, ◌==◌, nat_lt, List, [], ◌∷◌, ◌++◌, length, take, drop, codes, bytes_eq, Option, None, Some, if◌then◌else◌}
 use Rattle.std.specs.Int.{cast_signed, w32, int_wrapping_neg}
 use Rattle.nss_lexer.specs.Bytes.{is_decimal}
 use Rattle.nwq_value.specs.declared.value.Ty.{Ty}
@@ -16,7 +16,6 @@ use Rattle.engine_table.specs.declared.symbol.Sign.TheVariants as sign
 use Rattle.engine_table.specs.declared.symbol.Symbol.{Symbol}
 use Rattle.engine_table.specs.declared.symbol.Symbol.TheVariants as symbol
 use Rattle.engine_table.specs.declared.declaration.Declared.{Declared}
-use Rattle.engine_table.specs.declared.declaration.Function.{Function}
 use Rattle.engine_table.specs.declared.declaration.Declaration.{Declaration}
 use Rattle.engine_table.specs.declared.declaration.Declaration.TheVariants.{Passed, TypeWord, Constant as IsConstant, Function as IsFunction}
 use Rattle.engine_table.specs.declared.known.Known.{Known}

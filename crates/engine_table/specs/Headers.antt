@@ -1,10 +1,10 @@
 -- The table of a header, and the first place where a text is none.
-use Rattle.std.specs.Prelude.{◌≡◌, ◌≢◌, ℕ, zero, ◌+◌, ◌<◌, Bool, true, false, ◌==◌, nat_lt, List, [], ◌∷◌, ◌++◌, length, bytes_eq, Option, None, Some, is_some, if◌then◌else◌, Result, Ok, Err}
+use Rattle.std.specs.Prelude.{◌≡◌, ◌≢◌, ℕ, zero, Bool, true, false, nat_lt, List, [], ◌∷◌, ◌++◌, length, bytes_eq, Option, None, Some, is_some, if◌then◌else◌, Result, Ok, Err}
 use Rattle.std.specs.Ordering.{int_eq}
 use Rattle.nwq_value.specs.declared.engine.Const.{Const}
 use Rattle.nwq_value.specs.declared.engine.Const.TheVariants as const
 use Rattle.nwq_value.specs.declared.engine.Routine.{Routine}
-use Rattle.nwq_value.specs.Engine.{Constant, EngineTable, routine_named, constant_named}
+use Rattle.nwq_value.specs.Engine.{EngineTable, routine_named, constant_named}
 use Rattle.nwq_value.specs.Roles.{engine_role, types_of}
 use Rattle.nss_lexer.specs.Splitting.{Lexeme, AreTokens, AreTokensUpTo}
 use Rattle.engine_table.specs.declared.symbol.Symbol.{Symbol}
@@ -17,7 +17,7 @@ use Rattle.engine_table.specs.declared.declaration.Declaration.{Declaration}
 use Rattle.engine_table.specs.declared.declaration.Declaration.TheVariants.{Passed, TypeWord, Constant as IsConstant, Function as IsFunction}
 use Rattle.engine_table.specs.Symbols.{Spot, at, spots_of}
 use Rattle.engine_table.specs.declared.known.Known.{Known}
-use Rattle.engine_table.specs.Names.{is_among, with_word}
+use Rattle.engine_table.specs.Names.{with_word}
 use Rattle.engine_table.specs.Grammar.{sign_at, has_constants, brackets, Loose, Value, Heading, Line}
 
 -- ---- what a line adds

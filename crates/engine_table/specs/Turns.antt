@@ -15,7 +15,7 @@ use Rattle.engine_table.specs.declared.fault.HeaderFault.TheVariants.{Bad, Heade
 use Rattle.engine_table.specs.declared.declaration.Declared.{Declared}
 use Rattle.engine_table.specs.declared.declaration.Function.{Function}
 use Rattle.engine_table.specs.declared.declaration.Declaration.{Declaration}
-use Rattle.engine_table.specs.declared.declaration.Declaration.TheVariants.{Passed, TypeWord, Constant as IsConstant, Function as IsFunction}
+use Rattle.engine_table.specs.declared.declaration.Declaration.TheVariants.{Constant as IsConstant, Function as IsFunction}
 use Rattle.engine_table.specs.declared.stage.Owner.{Owner}
 use Rattle.engine_table.specs.declared.stage.Owner.TheVariants as owner
 use Rattle.engine_table.specs.declared.stage.Stage.{Stage}

@@ -1,4 +1,4 @@
-use Rattle.std.proofs.Common.{sym, ap, ◌∙◌, subst}
+use Rattle.std.proofs.Common.{sym, ap, ◌∙◌}
 use Rattle.engine_table.specs.Names.{is_among}
 use Rattle.engine_table.proofs.NameLemmas.{not_among, no_routines}
 use Rattle.engine_table.proofs.words.Words.add.Goals as goal

@@ -1,4 +1,4 @@
-use Rattle.std.proofs.Common.{is_some, sym, ap, ◌∙◌}
+use Rattle.std.proofs.Common.{is_some, ap, ◌∙◌}
 use Rattle.engine_table.specs.Names.{is_among}
 use Rattle.engine_table.proofs.NameLemmas.{named_among, is_some-copied}
 use Rattle.engine_table.proofs.words.Words.has.Goals as goal
