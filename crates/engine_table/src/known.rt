@@ -1,0 +1,781 @@
+ghost use Rattle.std.specs.Prelude.{◌≡◌, ◌==◌, if◌then◌else◌, ◌<◌, ◌≤◌, ◌+◌, [], ◌∷◌, ◌++◌, length, Option, Some, None, IsTrue, IfOk, IfSome, OnOk};
+ghost use Rattle.nwq_value.specs.Engine.{constant_named};
+ghost use Rattle.engine_table.specs.declared.symbol.Symbol.TheVariants as symbol;
+ghost use Rattle.engine_table.specs.declared.declaration.Declaration.TheVariants as declaration;
+ghost use Rattle.engine_table.specs.declared.stage.Owner.TheVariants as owner;
+ghost use Rattle.engine_table.specs.declared.stage.Stage.TheVariants as stage;
+ghost use Rattle.engine_table.specs.Grammar as grammar;
+ghost use Rattle.engine_table.specs.Headers as header;
+ghost use Rattle.engine_table.specs.Turns as turns;
+ghost use Rattle.engine_table.specs.Turns.{Answers, IsOpen, KeepsOwner, KeepsValue, KeepsStage, KeepsDeclaration, KeepsTurn};
+
+use crate::declaration::{Declaration, Declared, Function};
+use crate::fault::HeaderFault;
+use crate::stage::{Owner, Stage, Turn};
+use crate::symbol::{Sign, Symbol, Word};
+use crate::words::Words;
+use nwq_value::{Const, NoMemory, Param, Params, Routine, Table, Text, Ty, role_of};
+use std::alloc::Global;
+
+/// How many functions a header has at most.
+const MOST_FUNCTIONS: usize = 65_535;
+
+/// How many parameters a function has at most.
+const MOST_PARAMETERS: usize = 255;
+
+/// What the lines so far have made known: the names that are type words, and the table.
+#[derive(Drop)]
+pub struct Known {
+    pub words: Words,
+    pub table: Table,
+}
+
+// ---- what tokens are by themselves
+
+/// The type that a word is.
+fn word_type(word: Word) -> Option<Ty>
+    ensures { result ≡ grammar.word_type word }
+{
+    match word {
+        Word::Void => Some(Ty::Void),
+        Word::Int => Some(Ty::Int),
+        Word::String => Some(Ty::Text),
+        Word::Object => Some(Ty::Object),
+        Word::Effect => Some(Ty::Effect),
+        Word::Action => Some(Ty::Action),
+        Word::Event | Word::OtherType => Some(Ty::Refused),
+        Word::Const | Word::ObjectSelf | Word::ObjectInvalid | Word::Other => None,
+    }
+}
+
+/// Whether the type has constants.
+fn has_constants(ty: Ty) -> bool
+    ensures { result ≡ grammar.has_constants ty }
+{
+    matches!(ty, Ty::Int | Ty::Text | Ty::Object)
+}
+
+/// Whether the constant has this type.
+fn has_type(constant: &Const, ty: Ty) -> bool
+    ensures { result ≡ grammar.has_type constant.now ty }
+{
+    match constant {
+        Const::Int(_) => matches!(ty, Ty::Int),
+        Const::Text(_) => matches!(ty, Ty::Text),
+        Const::SelfObject | Const::InvalidObject => matches!(ty, Ty::Object),
+    }
+}
+
+/// The number that one decimal digit writes.
+fn digit_of(bytes: &[u8]) -> Option<u8>
+    ensures { result ≡ grammar.digit_of bytes.now }
+{
+    match bytes {
+        [digit] => {
+            if *digit >= b'0' && *digit <= b'9' {
+                Some(*digit - b'0')
+            } else {
+                None
+            }
+        }
+        _ => None,
+    }
+}
+
+/// The number of the engine's structure that a define of this name speaks of.
+#[tactic(auto, unfolding(crate::specs::Grammar::structure_of))]
+fn structure_of(name: &[u8]) -> Option<u8>
+    ensures { result ≡ grammar.structure_of name.now }
+{
+    if name.len() < 17 {
+        return None;
+    }
+    let (front, back) = name.split_at(17);
+    if front == b"ENGINE_STRUCTURE_".as_slice() {
+        digit_of(back)
+    } else {
+        None
+    }
+}
+
+/// What a define with a name as its value declares.
+fn defined_name(structure: Option<u8>, name: Text) -> Option<Declaration>
+    ensures { result ≡ grammar.defined structure (symbol.Name name) }
+{
+    match structure {
+        None => Some(Declaration::Passed),
+        Some(number) => {
+            if number > 1 {
+                Some(Declaration::TypeWord(name))
+            } else {
+                None
+            }
+        }
+    }
+}
+
+/// Whether a define may have this word as its value.
+fn may_define(structure: Option<u8>, word: Word) -> bool
+    ensures { grammar.defined structure (symbol.Word word) ≡ (if result then Some declaration.Passed else None) }
+{
+    match structure {
+        None => true,
+        Some(number) => match word {
+            Word::Effect => number == 0,
+            Word::Event => number == 1,
+            _ => true,
+        },
+    }
+}
+
+/// What a define with this value declares; `None` where it can't have it.
+fn defined(structure: Option<u8>, value: Symbol) -> Option<Declaration>
+    ensures { result ≡ grammar.defined structure value }
+{
+    match value {
+        Symbol::Name(name) => defined_name(structure, name),
+        Symbol::Word(word) => {
+            if may_define(structure, word) {
+                Some(Declaration::Passed)
+            } else {
+                None
+            }
+        }
+        Symbol::Int(_) => Some(Declaration::Passed),
+        _ => None,
+    }
+}
+
+/// How many brackets are open behind a token of a loose value, inside so many; `None` where it ends the value.
+/// That more are open than a `u32` counts is want of memory.
+fn brackets(depth: u32, symbol: &Symbol) -> Result<Option<u32>, NoMemory>
+    ensures { IfOk result (λ inside. inside ≡ grammar.brackets depth symbol.now) }
+{
+    match symbol {
+        Symbol::Sign(sign) => brackets_by(depth, *sign),
+        _ => Ok(Some(depth)),
+    }
+}
+
+/// The same for a sign.
+fn brackets_by(depth: u32, sign: Sign) -> Result<Option<u32>, NoMemory>
+    ensures { IfOk result (λ inside. inside ≡ grammar.brackets depth (symbol.Sign sign)) }
+{
+    match sign {
+        Sign::Open | Sign::Opening => match depth.checked_add(1) {
+            Some(more) => Ok(Some(more)),
+            None => Err(NoMemory),
+        },
+        Sign::Close => Ok(end_or(depth, depth.saturating_sub(1))),
+        Sign::Closing => Ok(Some(depth.saturating_sub(1))),
+        Sign::Comma | Sign::Semicolon => Ok(end_or(depth, depth)),
+        _ => Ok(Some(depth)),
+    }
+}
+
+/// The end of a value outside brackets, and else so many of them.
+fn end_or(depth: u32, inside: u32) -> Option<u32>
+    ensures { result ≡ (if depth == 0 then None else Some inside) }
+{
+    if depth == 0 { None } else { Some(inside) }
+}
+
+/// The int that a `-` before a literal of this number makes.
+fn negative(number: u32) -> Const
+    ensures { result ≡ grammar.negative number }
+{
+    Const::Int(number.cast_signed().wrapping_neg())
+}
+
+/// Whether the constants are equal.
+#[tactic(auto, unfolding(crate::specs::Headers::same_const))]
+fn same(a: &Const, b: &Const) -> bool
+    ensures { result ≡ header.same_const a.now b.now }
+{
+    match (a, b) {
+        (Const::Int(a), Const::Int(b)) => *a == *b,
+        (Const::Text(a), Const::Text(b)) => a.bytes() == b.bytes(),
+        (Const::SelfObject, Const::SelfObject) => true,
+        (Const::InvalidObject, Const::InvalidObject) => true,
+        _ => false,
+    }
+}
+
+// ---- turns that depend on nothing known
+
+fn misfit(place: u32) -> Result<Turn, HeaderFault>
+    ensures { result ≡ turns.misfit place }
+{
+    Err(HeaderFault::Header(place))
+}
+
+fn hash_turn(place: u32, symbol: Symbol) -> Result<Turn, HeaderFault>
+    ensures { result ≡ turns.hash_turn place symbol }
+{
+    match symbol {
+        Symbol::Name(name) => {
+            if name.bytes() == b"define".as_slice() {
+                Ok(Turn::Goes(Stage::Define))
+            } else {
+                misfit(place)
+            }
+        }
+        _ => misfit(place),
+    }
+}
+
+fn define_turn(place: u32, symbol: Symbol) -> Result<Turn, HeaderFault>
+    ensures { result ≡ turns.define_turn place symbol }
+{
+    match symbol {
+        Symbol::Name(name) => Ok(Turn::Goes(Stage::Defined(name))),
+        _ => misfit(place),
+    }
+}
+
+fn defined_turn(name: &[u8], place: u32, symbol: Symbol) -> Result<Turn, HeaderFault>
+    ensures turn { result ≡ turns.defined_turn name.now place symbol }
+{
+    match defined(structure_of(name), symbol) {
+        Some(declaration) => Ok(Turn::Gives(declaration)),
+        None => misfit(place),
+    }
+}
+
+fn typed_turn(constant: bool, ty: Ty, place: u32, symbol: Symbol) -> Result<Turn, HeaderFault>
+    ensures { result ≡ turns.typed_turn constant ty place symbol }
+{
+    match symbol {
+        Symbol::Name(name) => Ok(Turn::Goes(Stage::Named(constant, Declared { ty, place, name }))),
+        _ => misfit(place),
+    }
+}
+
+fn closed_turn(function: Function, place: u32, symbol: Symbol) -> Result<Turn, HeaderFault>
+    ensures { result ≡ turns.closed_turn function place symbol }
+{
+    match symbol {
+        Symbol::Sign(Sign::Semicolon) => Ok(Turn::Gives(Declaration::Function(function))),
+        _ => misfit(place),
+    }
+}
+
+/// A token behind the value of a constant.
+fn constant_end(
+    head: Declared,
+    value: Option<Const>,
+    place: u32,
+    symbol: Symbol,
+) -> Result<Turn, HeaderFault>
+    ensures { result ≡ turns.constant_end head value place symbol }
+{
+    match symbol {
+        Symbol::Sign(Sign::Semicolon) => Ok(Turn::Gives(Declaration::Constant(head, value))),
+        _ => misfit(place),
+    }
+}
+
+/// One more parameter at the function's end.
+fn with_param(function: Function, param: Param) -> Result<Function, NoMemory>
+    ensures { IfOk result (λ f. f ≡ record function { params = function.params ++ param ∷ [] }) }
+{
+    let Function { head, mut params } = function;
+    params.push(param)?;
+    Ok(Function { head, params })
+}
+
+/// A token behind a parameter.
+fn param_turn(
+    function: Function,
+    param: Param,
+    place: u32,
+    symbol: Symbol,
+) -> Result<Turn, HeaderFault>
+    ensures { Answers (turns.param_turn function param place symbol) result }
+{
+    match symbol {
+        Symbol::Sign(Sign::Comma) => {
+            if function.params.len() < MOST_PARAMETERS - 1 {
+                Ok(Turn::Goes(Stage::Param(with_param(function, param)?)))
+            } else {
+                misfit(place)
+            }
+        }
+        Symbol::Sign(Sign::Close) => Ok(Turn::Goes(Stage::Closed(with_param(function, param)?))),
+        _ => misfit(place),
+    }
+}
+
+/// A token behind a value.
+fn valued_turn(
+    owner: Owner,
+    value: Option<Const>,
+    place: u32,
+    symbol: Symbol,
+) -> Result<Turn, HeaderFault>
+    ensures { Answers (turns.valued_turn owner value place symbol) result }
+{
+    match owner {
+        Owner::Constant(head) => constant_end(head, value, place, symbol),
+        Owner::Parameter(function, ty) => {
+            let param = Param { ty, default: value };
+            param_turn(function, param, place, symbol)
+        }
+    }
+}
+
+/// A token behind the type and the name of a parameter.
+fn behind_turn(function: Function, ty: Ty, place: u32, symbol: Symbol) -> Result<Turn, HeaderFault>
+    ensures { Answers (turns.behind_turn function ty place symbol) result }
+{
+    match symbol {
+        Symbol::Sign(Sign::Equals) => {
+            Ok(Turn::Goes(Stage::Value(Owner::Parameter(function, ty))))
+        }
+        _ => {
+            let param = Param { ty, default: None };
+            param_turn(function, param, place, symbol)
+        }
+    }
+}
+
+/// A token behind the type of a parameter.
+fn param_type_turn(
+    function: Function,
+    ty: Ty,
+    place: u32,
+    symbol: Symbol,
+) -> Result<Turn, HeaderFault>
+    ensures { Answers (turns.param_type_turn function ty place symbol) result }
+{
+    match symbol {
+        Symbol::Name(_) => Ok(Turn::Goes(Stage::ParamName(function, ty))),
+        _ => behind_turn(function, ty, place, symbol),
+    }
+}
+
+// ---- turns that depend on what is known
+
+impl Known {
+    /// Nothing is known before the first line.
+    pub fn new(alloc: Global) -> Known
+        ensures { result ≡ header.nothing }
+    {
+        Known {
+            words: Words::new(alloc),
+            table: Table::new(alloc),
+        }
+    }
+
+    /// The type that a token is.
+    fn type_in(&self, symbol: &Symbol) -> Option<Ty>
+        ensures { result ≡ grammar.type_in self.now.words symbol.now }
+    {
+        match symbol {
+            Symbol::Word(word) => word_type(*word),
+            Symbol::Name(name) => {
+                if self.words.has(name.bytes()) {
+                    Some(Ty::Refused)
+                } else {
+                    None
+                }
+            }
+            _ => None,
+        }
+    }
+
+    /// A token where a line begins.
+    fn start_turn(&self, place: u32, symbol: &Symbol) -> Result<Turn, HeaderFault>
+        ensures { result ≡ turns.start_turn self.now.words place symbol.now }
+    {
+        match symbol {
+            Symbol::Sign(Sign::Hash) => Ok(Turn::Goes(Stage::Hash)),
+            Symbol::Word(Word::Const) => Ok(Turn::Goes(Stage::Const)),
+            _ => self.type_turn(false, place, symbol),
+        }
+    }
+
+    /// The type of a line.
+    fn type_turn(&self, constant: bool, place: u32, symbol: &Symbol) -> Result<Turn, HeaderFault>
+        ensures { result ≡ turns.typed (stage.Typed constant) (grammar.type_in self.now.words symbol.now) place }
+    {
+        match self.type_in(symbol) {
+            Some(ty) => Ok(Turn::Goes(Stage::Typed(constant, ty))),
+            None => misfit(place),
+        }
+    }
+
+    /// The type of a parameter.
+    fn param_start(
+        &self,
+        function: Function,
+        place: u32,
+        symbol: &Symbol,
+    ) -> Result<Turn, HeaderFault>
+        ensures { result ≡ turns.typed (stage.ParamType function) (grammar.type_in self.now.words symbol.now) place }
+    {
+        match self.type_in(symbol) {
+            Some(ty) => Ok(Turn::Goes(Stage::ParamType(function, ty))),
+            None => misfit(place),
+        }
+    }
+
+    /// A token behind a function's `(`.
+    fn params_turn(
+        &self,
+        function: Function,
+        place: u32,
+        symbol: &Symbol,
+    ) -> Result<Turn, HeaderFault>
+        ensures { result ≡ turns.params_turn self.now.words function place symbol.now }
+    {
+        match symbol {
+            Symbol::Sign(Sign::Close) => Ok(Turn::Goes(Stage::Closed(function))),
+            _ => self.param_start(function, place, symbol),
+        }
+    }
+
+    /// What is wrong with a function of this name.
+    #[tactic(auto, unfolding(crate::specs::Headers::function_fault))]
+    fn function_fault(&self, head: &Declared) -> Option<HeaderFault>
+        ensures { result ≡ header.function_fault self.now head.now }
+    {
+        if self.table.by_name(head.name.bytes()).is_some() {
+            Some(HeaderFault::Twice(head.place))
+        } else if self.table.constant(head.name.bytes()).is_some() {
+            Some(HeaderFault::Twice(head.place))
+        } else if self.table.count() < MOST_FUNCTIONS {
+            None
+        } else {
+            Some(HeaderFault::Many(head.place))
+        }
+    }
+
+    /// What is wrong with a constant of this name, whatever its value.
+    #[tactic(auto, unfolding(crate::specs::Headers::constant_fault))]
+    fn constant_fault(&self, head: &Declared) -> Option<HeaderFault>
+        ensures { result ≡ header.constant_fault self.now head.now }
+    {
+        if self.table.by_name(head.name.bytes()).is_some() {
+            Some(HeaderFault::Twice(head.place))
+        } else {
+            None
+        }
+    }
+
+    /// What is wrong with a constant of this name and this value.
+    #[tactic(auto, unfolding(crate::specs::Headers::value_fault))]
+    fn value_fault(&self, head: &Declared, value: &Option<Const>) -> Option<HeaderFault>
+        ensures { result ≡ header.value_fault self.now head.now value.now }
+    {
+        match self.table.constant(head.name.bytes()) {
+            None => None,
+            Some(old) => match value {
+                None => Some(HeaderFault::Twice(head.place)),
+                Some(new) => {
+                    if same(old, new) {
+                        None
+                    } else {
+                        Some(HeaderFault::Twice(head.place))
+                    }
+                }
+            },
+        }
+    }
+
+    /// A token behind a type and a name.
+    fn named_turn(
+        &self,
+        alloc: Global,
+        constant: bool,
+        head: Declared,
+        place: u32,
+        symbol: Symbol,
+    ) -> Result<Turn, HeaderFault>
+        ensures { result ≡ turns.named_turn self.now constant head place symbol }
+    {
+        match symbol {
+            Symbol::Sign(Sign::Equals) => self.open_constant(head),
+            Symbol::Sign(Sign::Open) => {
+                if constant {
+                    misfit(place)
+                } else {
+                    self.open_function(alloc, head)
+                }
+            }
+            _ => misfit(place),
+        }
+    }
+
+    fn open_constant(&self, head: Declared) -> Result<Turn, HeaderFault>
+        ensures { result ≡ turns.unless_fault (header.constant_fault self.now head) (turns.goes (stage.Value (owner.Constant head))) }
+    {
+        match self.constant_fault(&head) {
+            Some(fault) => Err(fault),
+            None => Ok(Turn::Goes(Stage::Value(Owner::Constant(head)))),
+        }
+    }
+
+    fn open_function(&self, alloc: Global, head: Declared) -> Result<Turn, HeaderFault>
+        ensures { result ≡ turns.unless_fault (header.function_fault self.now head) (turns.goes (stage.Params (record { head = head; params = [] }))) }
+    {
+        match self.function_fault(&head) {
+            Some(fault) => Err(fault),
+            None => Ok(Turn::Goes(Stage::Params(Function {
+                head,
+                params: Params::new(alloc),
+            }))),
+        }
+    }
+
+    /// What is wrong with what a value is for.
+    fn owner_fault(&self, owner: &Owner, value: &Option<Const>) -> Option<HeaderFault>
+        ensures { result ≡ turns.owner_fault self.now owner.now value.now }
+    {
+        match owner {
+            Owner::Constant(head) => self.value_fault(head, value),
+            Owner::Parameter(_, _) => None,
+        }
+    }
+
+    /// A value was read.
+    fn got(&self, owner: Owner, value: Const) -> Result<Turn, HeaderFault>
+        ensures { result ≡ turns.checked self.now owner (Some value) (turns.goes (stage.Valued owner (Some value))) }
+    {
+        let value = Some(value);
+        match self.owner_fault(&owner, &value) {
+            Some(fault) => Err(fault),
+            None => Ok(Turn::Goes(Stage::Valued(owner, value))),
+        }
+    }
+
+    /// The constant of this type that a name stands for.
+    fn named_constant(&self, alloc: Global, ty: Ty, name: &[u8]) -> Result<Option<Const>, NoMemory>
+        ensures { IfOk result (λ value. value ≡ grammar.of_type ty (constant_named name.now self.now.table.constants)) }
+    {
+        match self.table.constant(name) {
+            None => Ok(None),
+            Some(constant) => {
+                if has_type(constant, ty) {
+                    Ok(Some(constant.copy(alloc)?))
+                } else {
+                    Ok(None)
+                }
+            }
+        }
+    }
+
+    /// The constant of this type that a token is by itself.
+    fn constant_in(&self, alloc: Global, ty: Ty, symbol: Symbol) -> Result<Option<Const>, NoMemory>
+        ensures { IfOk result (λ value. value ≡ grammar.constant_in self.now.table.constants ty symbol) }
+    {
+        match symbol {
+            Symbol::Name(name) => self.named_constant(alloc, ty, name.bytes()),
+            Symbol::Int(number) => Ok(match ty {
+                Ty::Int => Some(Const::Int(number.cast_signed())),
+                _ => None,
+            }),
+            Symbol::Text(text) => Ok(match ty {
+                Ty::Text => Some(Const::Text(text)),
+                _ => None,
+            }),
+            Symbol::Word(word) => Ok(object_of(ty, word)),
+            Symbol::Sign(_) | Symbol::Float => Ok(None),
+        }
+    }
+
+    /// The first token of a value of a type that has constants.
+    fn constant_turn(
+        &self,
+        alloc: Global,
+        owner: Owner,
+        ty: Ty,
+        place: u32,
+        symbol: Symbol,
+    ) -> Result<Turn, HeaderFault>
+        ensures { Answers (turns.constant_turn self.now owner ty place symbol) result }
+    {
+        if is_minus_of_int(ty, &symbol) {
+            return Ok(Turn::Goes(Stage::Minus(owner)));
+        }
+        match self.constant_in(alloc, ty, symbol)? {
+            Some(value) => self.got(owner, value),
+            None => misfit(place),
+        }
+    }
+
+    /// A token behind the `-` of an int.
+    fn minus_turn(&self, owner: Owner, place: u32, symbol: Symbol) -> Result<Turn, HeaderFault>
+        ensures { result ≡ turns.minus_turn self.now owner place symbol }
+    {
+        match symbol {
+            Symbol::Int(number) => self.got(owner, negative(number)),
+            _ => misfit(place),
+        }
+    }
+
+    /// A token in a value of a type that has no constants.
+    fn loose_turn(
+        &self,
+        owner: Owner,
+        depth: u32,
+        place: u32,
+        symbol: Symbol,
+    ) -> Result<Turn, HeaderFault>
+        ensures { Answers (turns.loose_turn self.now owner depth place symbol) result }
+    {
+        match brackets(depth, &symbol)? {
+            Some(inside) => Ok(Turn::Goes(Stage::Loose(owner, inside))),
+            None => self.loose_end(owner, place, symbol),
+        }
+    }
+
+    /// The token that ends such a value.
+    fn loose_end(&self, owner: Owner, place: u32, symbol: Symbol) -> Result<Turn, HeaderFault>
+        ensures { Answers (turns.checked self.now owner None (turns.valued_turn owner None place symbol)) result }
+    {
+        match self.owner_fault(&owner, &None) {
+            Some(fault) => Err(fault),
+            None => valued_turn(owner, None, place, symbol),
+        }
+    }
+
+    /// The first token of a value.
+    fn value_turn(
+        &self,
+        alloc: Global,
+        owner: Owner,
+        place: u32,
+        symbol: Symbol,
+    ) -> Result<Turn, HeaderFault>
+        ensures { Answers (turns.value_turn self.now owner place symbol) result }
+    {
+        let ty = type_of(&owner);
+        if has_constants(ty) {
+            self.constant_turn(alloc, owner, ty, place, symbol)
+        } else {
+            self.loose_turn(owner, 0, place, symbol)
+        }
+    }
+
+    /// What a token at this place does to a line that has come so far.
+    #[tactic(auto, unfolding(crate::specs::Turns::turn))]
+    pub fn turn(
+        &self,
+        alloc: Global,
+        stage: Stage,
+        place: u32,
+        symbol: Symbol,
+    ) -> Result<Turn, HeaderFault>
+        ensures { Answers (turns.turn self.now stage place symbol) result }
+    {
+        match stage {
+            Stage::Start => self.start_turn(place, &symbol),
+            Stage::Hash => hash_turn(place, symbol),
+            Stage::Define => define_turn(place, symbol),
+            Stage::Defined(name) => defined_turn(name.bytes(), place, symbol),
+            Stage::Const => self.type_turn(true, place, &symbol),
+            Stage::Typed(constant, ty) => typed_turn(constant, ty, place, symbol),
+            Stage::Named(constant, head) => self.named_turn(alloc, constant, head, place, symbol),
+            Stage::Value(owner) => self.value_turn(alloc, owner, place, symbol),
+            Stage::Minus(owner) => self.minus_turn(owner, place, symbol),
+            Stage::Loose(owner, depth) => self.loose_turn(owner, depth, place, symbol),
+            Stage::Valued(owner, value) => valued_turn(owner, value, place, symbol),
+            Stage::Params(function) => self.params_turn(function, place, &symbol),
+            Stage::Param(function) => self.param_start(function, place, &symbol),
+            Stage::ParamType(function, ty) => param_type_turn(function, ty, place, symbol),
+            Stage::ParamName(function, ty) => behind_turn(function, ty, place, symbol),
+            Stage::Closed(function) => closed_turn(function, place, symbol),
+        }
+    }
+
+    /// Takes a function into the table.
+    #[tactic(auto, using(crate::proofs::KeepLemmas::free_function))]
+    fn declare_function(&mut self, function: Function) -> Result<(), NoMemory>
+        requires open { IsOpen self.old function }
+        requires few { length function.params ≤ 255 }
+        ensures { OnOk result (self.new ≡ header.after self.old (declaration.Function function)) }
+    {
+        let Function { head, params } = function;
+        let role = role_of(head.name.bytes(), head.ty, params.as_slice());
+        self.table.push(Routine {
+            name: head.name,
+            result: head.ty,
+            params,
+            role,
+        })
+    }
+
+    /// Takes a constant into the table, unless one of its name is there.
+    #[tactic(auto, using(crate::proofs::KeepLemmas::free_constant))]
+    fn define(&mut self, head: Declared, value: Const) -> Result<(), NoMemory>
+        requires { header.constant_fault self.old head ≡ None }
+        ensures { OnOk result (self.new ≡ header.after self.old (declaration.Constant head (Some value))) }
+    {
+        if self.table.constant(head.name.bytes()).is_some() {
+            return Ok(());
+        }
+        self.table.define(head.name, value)
+    }
+
+    /// Takes a constant into the table, where it has a value.
+    fn declare_constant(&mut self, head: Declared, value: Option<Const>) -> Result<(), NoMemory>
+        requires { header.constant_fault self.old head ≡ None }
+        ensures { OnOk result (self.new ≡ header.after self.old (declaration.Constant head value)) }
+    {
+        match value {
+            Some(value) => self.define(head, value),
+            None => Ok(()),
+        }
+    }
+
+    /// Takes in what a line declares.
+    pub fn declare(&mut self, declared: Declaration) -> Result<(), NoMemory>
+        requires { KeepsDeclaration self.old declared }
+        ensures { OnOk result (self.new ≡ header.after self.old declared) }
+    {
+        match declared {
+            Declaration::Passed => Ok(()),
+            Declaration::TypeWord(name) => self.words.add(name),
+            Declaration::Constant(head, value) => self.declare_constant(head, value),
+            Declaration::Function(function) => self.declare_function(function),
+        }
+    }
+}
+
+/// The type of what a value is for.
+fn type_of(owner: &Owner) -> Ty
+    ensures { result ≡ turns.type_of owner.now }
+{
+    match owner {
+        Owner::Constant(head) => head.ty,
+        Owner::Parameter(_, ty) => *ty,
+    }
+}
+
+/// The object that a word stands for.
+fn object_of(ty: Ty, word: Word) -> Option<Const>
+    ensures { (constants : _) → result ≡ grammar.constant_in constants ty (symbol.Word word) }
+{
+    match ty {
+        Ty::Object => match word {
+            Word::ObjectSelf => Some(Const::SelfObject),
+            Word::ObjectInvalid => Some(Const::InvalidObject),
+            _ => None,
+        },
+        _ => None,
+    }
+}
+
+/// Whether this is the sign before an int.
+fn is_minus_of_int(ty: Ty, symbol: &Symbol) -> bool
+    ensures { result ≡ turns.is_minus_of_int ty symbol.now }
+{
+    match ty {
+        Ty::Int => match symbol {
+            Symbol::Sign(Sign::Minus) => true,
+            _ => false,
+        },
+        _ => false,
+    }
+}
