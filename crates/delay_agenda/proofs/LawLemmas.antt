@@ -46,7 +46,8 @@ adds_if : {X : Type 0} (b : Bool) (e x : Entry X) (rest more : List (Entry X))
 adds_if true e x rest more next = (suc next.0, (let within = next.1 in omega arith), ap (λ l. x ∷ l) next.2)
 adds_if false e x rest more next = (zero, omega arith, refl)
 
-pub put_adds_one : {X : Type 0} (e : Entry X) (es : List (Entry X)) → (n : ℕ) × (n ≤ length es) × (put_entry e es ≡ take n es ++ e ∷ drop n es)
+pub put_adds_one : {X : Type 0} (e : Entry X) (es : List (Entry X))
+    → (n : ℕ) × (n ≤ length es) × (put_entry e es ≡ take n es ++ e ∷ drop n es)
 put_adds_one e [] = (zero, omega arith, refl)
 put_adds_one e (x ∷ rest) = adds_if (is_before x e) e x rest (put_entry e rest) (put_adds_one e rest)
 
