@@ -1,0 +1,52 @@
+ghost use Rattle.std.specs.Prelude.{◌≡◌, ◌≤◌};
+ghost use Rattle.std.specs.Option.{option_map};
+ghost use Rattle.plan_text.specs.Fields.{cut_at, number_between, is_script_name, is_label};
+
+use nwq_text::read_number;
+
+/// How many bytes a script name and a label have at most.
+const MOST_NAME: usize = 16;
+
+/// What stands before the first such byte, and what follows it.
+pub fn cut(bytes: &[u8], at: u8) -> Option<(&[u8], &[u8])>
+    ensures { option_map (λ p. (p.0.now, p.1.now)) result ≡ cut_at at bytes.now }
+{
+    for (i, byte) in bytes.iter().enumerate() {
+        if *byte == at {
+            return Some((&bytes[..i], &bytes[i + 1..]));
+        }
+    }
+    None
+}
+
+/// The number that the digits write, where it is between the two.
+pub fn number_in(digits: &[u8], low: u64, high: u64) -> Option<u64>
+    ensures { result ≡ number_between low high digits.now }
+{
+    let number = read_number(digits)?;
+    if low <= number && number <= high {
+        Some(number)
+    } else {
+        None
+    }
+}
+
+/// Whether these are 1 to 16 of the characters a to z, 0 to 9 and `_`.
+#[tactic(auto, unfolding(crate::specs::Fields::is_script_name))]
+pub fn names_script(name: &[u8]) -> bool
+    ensures { result ≡ is_script_name name.now }
+{
+    !name.is_empty()
+        && name.len() <= MOST_NAME
+        && name
+            .iter()
+            .all(|b| b.is_ascii_lowercase() || b.is_ascii_digit() || *b == b'_')
+}
+
+/// Whether these are 1 to 16 bytes without a space.
+#[tactic(auto, unfolding(crate::specs::Fields::is_label))]
+pub fn labels(label: &[u8]) -> bool
+    ensures { result ≡ is_label label.now }
+{
+    !label.is_empty() && label.len() <= MOST_NAME && label.iter().all(|b| *b != b' ')
+}

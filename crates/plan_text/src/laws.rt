@@ -1,0 +1,8 @@
+//! A law about the definitions, as the contract of a function that does nothing.
+
+ghost use Rattle.plan_text.specs.Plans.{OnePlan};
+
+/// A text has one plan, or one first line without a reading.
+pub fn one_plan()
+    ensures { OnePlan }
+{}

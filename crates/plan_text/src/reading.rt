@@ -1,0 +1,68 @@
+ghost use Rattle.std.specs.Prelude.{◌≡◌, IfOk, IfErr, Ok, Err};
+ghost use Rattle.std.specs.Option.{option_map};
+ghost use Rattle.plan_text.specs.declared.fault.PlanFault.TheVariants.{NoMemory as OutOfMemory};
+ghost use Rattle.plan_text.specs.Plans.{HasPlan, IsFaulty, Comes, without_return};
+ghost use Rattle.plan_text.specs.Steps.{first_line, ReadsOn, StopsAt};
+
+use crate::draft::Draft;
+use crate::fault::PlanFault;
+use crate::fields::cut;
+use crate::plan::Plan;
+use nwq_value::NoMemory;
+use std::alloc::Global;
+
+/// A line without the carriage return at its end.
+fn trimmed(line: &[u8]) -> &[u8]
+    ensures { result.now ≡ without_return line.now }
+{
+    match line.split_last() {
+        Some((b'\r', front)) => front,
+        _ => line,
+    }
+}
+
+/// The first line of a text that isn't empty, and what follows it.
+#[tactic(auto, unfolding(crate::specs::Steps::first_line))]
+fn line_at(bytes: &[u8]) -> Option<(&[u8], &[u8])>
+    ensures { option_map (λ p. (p.0.now, p.1.now)) result ≡ first_line bytes.now }
+{
+    if bytes.is_empty() {
+        return None;
+    }
+    match cut(bytes, b'\n') {
+        None => Some((bytes, &bytes[bytes.len()..])),
+        Some((line, rest)) => Some((trimmed(line), rest)),
+    }
+}
+
+/// Reads the lines behind the first.
+fn read_lines(alloc: Global, bytes: &[u8]) -> Result<Draft, PlanFault>
+    ensures plan { IfOk result (λ draft. ReadsOn bytes.now draft) }
+    ensures fault { IfErr result (StopsAt bytes.now) }
+{
+    let mut draft = Draft::new(alloc);
+    let mut number = 1u64;
+    let mut rest = bytes;
+    while let Some((line, after)) = line_at(rest) {
+        number += 1;
+        if !draft.take(alloc, line)? {
+            return Err(PlanFault::Line(number));
+        }
+        rest = after;
+    }
+    Ok(draft)
+}
+
+/// The plan of a text, or the first line that has no reading.
+pub fn read_plan(alloc: Global, bytes: &[u8]) -> Result<Plan, PlanFault>
+    ensures plan { IfOk result (λ plan. HasPlan bytes.now plan) }
+    ensures fault { IfErr result (IsFaulty bytes.now) }
+{
+    match line_at(bytes) {
+        Some((line, rest)) if line == b"NWQ PLAN 1".as_slice() => {
+            let draft = read_lines(alloc, rest)?;
+            Ok(draft.plan())
+        }
+        _ => Err(PlanFault::Line(1)),
+    }
+}

@@ -1,0 +1,2 @@
+use crate::{PlanFault, read_plan};
+use std::test::Fail;
