@@ -7,6 +7,7 @@ use nwq_text::read_number;
 /// How many bytes a script name and a label have at most.
 const MOST_NAME: usize = 16;
 
+#[tactic(auto, using(crate::proofs::FieldLemmas::cut_end, crate::proofs::FieldLemmas::free_more))]
 /// What stands before the first such byte, and what follows it.
 pub fn cut(bytes: &[u8], at: u8) -> Option<(&[u8], &[u8])>
     ensures { option_map (λ p. (p.0.now, p.1.now)) result ≡ cut_at at bytes.now }
