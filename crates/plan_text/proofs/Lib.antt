@@ -1,1 +1,4 @@
 mod FieldLemmas
+mod WordLemmas
+mod LineLemmas
+mod PlannedLemmas

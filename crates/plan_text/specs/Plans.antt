@@ -11,7 +11,7 @@ use Rattle.plan_text.specs.declared.fault.PlanFault.TheVariants.{Line as BadLine
 use Rattle.plan_text.specs.declared.draft.Draft.{Draft}
 use Rattle.plan_text.specs.declared.words.Word.{Word}
 use Rattle.plan_text.specs.declared.words.Word.TheVariants as word
-use Rattle.plan_text.specs.Fields.{IsFree, number_between, is_script_name, is_label}
+use Rattle.plan_text.specs.Fields.{IsFree, parted, number_between, is_script_name, is_label}
 use Rattle.plan_text.specs.Words.{spelled}
 
 -- ---- lines of a text
@@ -51,7 +51,7 @@ one_more numbers digits = with_number numbers (number_between 0 4294967295 digit
 pub data Adds : List ℕ → List ℕ → List ℕ → Type 0 where
   one : (numbers digits after : List ℕ) → one_more numbers digits ≡ Some after → Adds numbers digits after
   more : (numbers digits between rest after : List ℕ) → one_more numbers digits ≡ Some between → Adds between rest after
-      → Adds numbers (digits ++ codes " " ++ rest) after
+      → Adds numbers (parted digits rest) after
 
 -- the text's escaped spelling is this
 pub record Spells (tag text : List ℕ) : Type 0 where
@@ -67,7 +67,7 @@ pub record IsEvent (rest : List ℕ) (line : Line) : Type 0 where
   pub at : ℕ
   pub number : ℕ
   pub text : List ℕ
-  pub spells : rest ≡ due ++ codes " " ++ nth ++ codes " " ++ label ++ codes " " ++ tag
+  pub spells : rest ≡ parted due (parted nth (parted label tag))
   pub time : number_between 0 4294967295 due ≡ Some at
   pub count : number_between 0 2147483647 nth ≡ Some number
   pub labels : IsTrue (is_label label)
@@ -83,7 +83,7 @@ pub record IsStart (rest : List ℕ) (line : Line) : Type 0 where
   pub at : ℕ
   pub number : ℕ
   pub text : List ℕ
-  pub spells : rest ≡ due ++ codes " " ++ nth ++ codes " " ++ name ++ codes " " ++ tag
+  pub spells : rest ≡ parted due (parted nth (parted name tag))
   pub time : number_between 0 4294967295 due ≡ Some at
   pub count : number_between 0 2147483647 nth ≡ Some number
   pub names : IsTrue (is_script_name name)
@@ -95,7 +95,7 @@ pub record IsFreeStart (rest : List ℕ) (line : Line) : Type 0 where
   pub due : List ℕ
   pub name : List ℕ
   pub at : ℕ
-  pub spells : rest ≡ due ++ codes " - " ++ name
+  pub spells : rest ≡ parted due (parted (codes "-") name)
   pub time : number_between 0 4294967295 due ≡ Some at
   pub names : IsTrue (is_script_name name)
   pub is : line ≡ Free at name
@@ -130,7 +130,7 @@ ReadsBehind word.Start d rest after = (line : Line) × (IsStart rest line ⊎ Is
 pub data Reads (d : Draft) : List ℕ → Draft → Type 0 where
   empty : Reads d [] d
   remark : (text : List ℕ) → Reads d (codes ";" ++ text) d
-  says : (w : Word) (rest : List ℕ) (after : Draft) → ReadsBehind w d rest after → Reads d (spelled w ++ codes " " ++ rest) after
+  says : (w : Word) (rest : List ℕ) (after : Draft) → ReadsBehind w d rest after → Reads d (parted (spelled w) rest) after
 
 -- no line goes on from here by this one
 abbrev pub Baffles : Draft → List ℕ → Type 0

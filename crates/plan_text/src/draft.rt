@@ -198,6 +198,7 @@ impl Draft {
         }
     }
 
+    #[tactic(auto, using(crate::proofs::WordLemmas::taken, crate::proofs::WordLemmas::baffled))]
     /// Goes on by a line, or answers that it has no reading; what is there after that is of no use.
     pub fn take(&mut self, alloc: Global, line: &[u8]) -> Result<bool, NoMemory>
         ensures { IfOk result (λ took. Took (Reads self.old line.now) took self.new) }

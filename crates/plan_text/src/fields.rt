@@ -1,6 +1,7 @@
-ghost use Rattle.std.specs.Prelude.{◌≡◌, ◌≤◌};
+ghost use Rattle.std.specs.Prelude.{◌≡◌, ◌≤◌, IfSome};
+ghost use Rattle.std.specs.List.{list_all};
 ghost use Rattle.std.specs.Option.{option_map};
-ghost use Rattle.plan_text.specs.Fields.{cut_at, number_between, is_script_name, is_label};
+ghost use Rattle.plan_text.specs.Fields.{cut_at, number_between, is_script_byte, is_script_name, is_spaceless, is_label};
 
 use nwq_text::read_number;
 
@@ -22,7 +23,8 @@ pub fn cut(bytes: &[u8], at: u8) -> Option<(&[u8], &[u8])>
 
 /// The number that the digits write, where it is between the two.
 pub fn number_in(digits: &[u8], low: u64, high: u64) -> Option<u64>
-    ensures { result ≡ number_between low high digits.now }
+    ensures number { result ≡ number_between low high digits.now }
+    ensures bound { IfSome result (λ number. number ≤ high) }
 {
     let number = read_number(digits)?;
     if low <= number && number <= high {
@@ -37,11 +39,22 @@ pub fn number_in(digits: &[u8], low: u64, high: u64) -> Option<u64>
 pub fn names_script(name: &[u8]) -> bool
     ensures { result ≡ is_script_name name.now }
 {
-    !name.is_empty()
-        && name.len() <= MOST_NAME
-        && name
-            .iter()
-            .all(|b| b.is_ascii_lowercase() || b.is_ascii_digit() || *b == b'_')
+    !name.is_empty() && name.len() <= MOST_NAME && are_script_bytes(name)
+}
+
+fn are_script_bytes(bytes: &[u8]) -> bool
+    ensures { result ≡ list_all is_script_byte bytes.now }
+{
+    bytes.iter().all(|byte| in_script_name(*byte))
+}
+
+fn in_script_name(byte: u8) -> bool
+    ensures { result ≡ is_script_byte byte }
+{
+    match byte {
+        b'a'..=b'z' | b'0'..=b'9' | b'_' => true,
+        _ => false,
+    }
 }
 
 /// Whether these are 1 to 16 bytes without a space.
@@ -49,5 +62,11 @@ pub fn names_script(name: &[u8]) -> bool
 pub fn labels(label: &[u8]) -> bool
     ensures { result ≡ is_label label.now }
 {
-    !label.is_empty() && label.len() <= MOST_NAME && label.iter().all(|b| *b != b' ')
+    !label.is_empty() && label.len() <= MOST_NAME && are_spaceless(label)
+}
+
+fn are_spaceless(bytes: &[u8]) -> bool
+    ensures { result ≡ list_all is_spaceless bytes.now }
+{
+    bytes.iter().all(|byte| *byte != b' ')
 }

@@ -1,4 +1,4 @@
-ghost use Rattle.std.specs.Prelude.{◌≡◌, ◌⊎◌, IfOk};
+ghost use Rattle.std.specs.Prelude.{◌≡◌, ◌≤◌, ◌⊎◌, IfOk, IfSome};
 ghost use Rattle.std.specs.Option.{option_map};
 ghost use Rattle.plan_text.specs.Plans.{IsEvent, IsStart, IsFreeStart};
 ghost use Rattle.plan_text.specs.Steps.{Found, number_field, four_fields, dash_fields};
@@ -18,7 +18,8 @@ const LAST_NTH: u64 = 2_147_483_647;
 /// The number up to `high` in the first field, and what follows the space.
 #[tactic(auto, unfolding(crate::specs::Steps::number_field))]
 fn number_first(bytes: &[u8], high: u64) -> Option<(u64, &[u8])>
-    ensures { option_map (λ p. (p.0, p.1.now)) result ≡ number_field high bytes.now }
+    ensures front { option_map (λ p. (p.0, p.1.now)) result ≡ number_field high bytes.now }
+    ensures bound { IfSome result (λ p. p.0 ≤ high) }
 {
     let (digits, rest) = cut(bytes, b' ')?;
     let number = number_in(digits, 0, high)?;
@@ -27,13 +28,13 @@ fn number_first(bytes: &[u8], high: u64) -> Option<(u64, &[u8])>
 
 /// The time, the number, the name and the tag's spelling of a line with four fields.
 #[tactic(auto, unfolding(crate::specs::Steps::four_fields))]
-fn fields(rest: &[u8]) -> Option<(u64, u64, &[u8], &[u8])>
+fn fields(rest: &[u8]) -> Option<(u64, u32, &[u8], &[u8])>
     ensures { option_map (λ p. (p.0, p.1, p.2.now, p.3.now)) result ≡ four_fields rest.now }
 {
     let (due, rest) = number_first(rest, LAST_TIME)?;
     let (nth, rest) = number_first(rest, LAST_NTH)?;
     let (name, tag) = cut(rest, b' ')?;
-    Some((due, nth, name, tag))
+    Some((due, nth as u32, name, tag))
 }
 
 /// The time and what follows a dash in the second field.
@@ -63,7 +64,6 @@ pub fn event_of(alloc: Global, rest: &[u8]) -> Result<Option<Line>, NoMemory>
     let Some(tag) = read_text(alloc, tag)? else {
         return Ok(None);
     };
-    let nth = nth as u32;
     let label = Text::of(alloc, label)?;
     Ok(Some(Line::Event {
         due,
@@ -86,7 +86,6 @@ fn aimed_start_of(alloc: Global, rest: &[u8]) -> Result<Option<Line>, NoMemory>
     let Some(tag) = read_text(alloc, tag)? else {
         return Ok(None);
     };
-    let nth = nth as u32;
     let name = Text::of(alloc, name)?;
     Ok(Some(Line::Start {
         due,
