@@ -2,3 +2,4 @@ mod FieldLemmas
 mod WordLemmas
 mod LineLemmas
 mod PlannedLemmas
+mod AddsLemmas

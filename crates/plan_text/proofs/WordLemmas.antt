@@ -88,7 +88,7 @@ baffled d line worded none after r = let s = said d line after worded r in none-
 pub taken : (d new : Draft) (line : List ℕ) (w : Word) (rest : List ℕ) (took : Bool) → IsWorded line → head_of line ≡ Some (w, rest)
     → Took (ReadsBehind w d rest) took new → Took (Reads d line) took new
 taken d new line w rest true worded head behind = subst (λ l. Reads d l new) (sym (head_is line w rest head)) (says w rest new behind)
-taken d new line w rest false worded head behind after r =
+taken d new line w rest false worded head behind = λ after r.
     let s = said d line after worded r
     in let same = parts s.w w s.rest rest (sym s.head ∙ head)
     in behind after (subst (λ v. ReadsBehind v d rest after) same.0 (subst (λ xs. ReadsBehind s.w d xs after) same.1 s.behind))

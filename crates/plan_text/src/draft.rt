@@ -51,7 +51,8 @@ fn add_numbers(random: &mut Randoms, numbers: &[u8]) -> Result<bool, NoMemory>
         }
         rest = after;
     }
-    add_number(random, rest)
+    let took = add_number(random, rest)?;
+    Ok(took)
 }
 
 /// Whether a script of this name is listed.
