@@ -1,6 +1,6 @@
-use Rattle.std.proofs.Common.{◌≡◌, ◌≢◌, ℕ, ◌+◌, ◌<◌, ◌≤◌, ◌==◌, length, Bool, true, false, cond, codes, List, [], ◌∷◌, ◌++◌, Option, Some, None, Result, Ok, Err, refl, sym, ap, ◌∙◌, subst, arith, length-append}
+use Rattle.std.proofs.Common.{◌≡◌, ◌≢◌, ℕ, ◌+◌, ◌<◌, ◌≤◌, ◌==◌, length, Bool, true, false, cond, codes, List, [], ◌∷◌, ◌++◌, Option, Some, None, Result, Ok, Err, refl, sym, ap, ◌∙◌, subst, arith, length-append, append-nil}
 use Rattle.std.proofs.lemmas.Bool.Decides.{nat_tests}
-use Rattle.std.proofs.lemmas.Option.{none-some}
+use Rattle.std.proofs.lemmas.Option.{none-some, some_pair_parts}
 use Rattle.plan_text.specs.declared.draft.Draft.{Draft}
 use Rattle.plan_text.specs.Fields.{cut_at, IsFree}
 use Rattle.plan_text.specs.Plans.{Lines, none, last, ended, without_return, Comes, whole, more, stops, Reads, Baffles, Gives, headed, headless, IsHeaded, nothing}
@@ -36,8 +36,8 @@ first_nothing = refl
 nil-cons : (b : ℕ) (bs : List ℕ) → b ∷ bs ≢ []
 nil-cons b bs e = cc
 
-pair : (a b x y : List ℕ) → Some (a, x) ≡ Some (b, y) → (a ≡ b) × (x ≡ y)
-pair a b x y e = (cc, cc)
+pair : (a b x y : List ℕ) → ◌≡◌ {A = Option (List ℕ × List ℕ)} (Some (a, x)) (Some (b, y)) → (a ≡ b) × (x ≡ y)
+pair a b x y e = some_pair_parts a b x y e
 
 -- the lines of nothing are none
 no_lines : (lines : List (List ℕ)) → Split [] lines → lines ≡ []
@@ -142,3 +142,20 @@ headless_by bytes other (line ∷ lines) s head = other s.0 (s.1 ∙ ap (λ l. S
 pub gives_headless : (bytes : List ℕ) → ((rest : List ℕ) → first_line bytes ≢ Some (codes "NWQ PLAN 1", rest)) → Gives bytes (Err 1)
 gives_headless bytes other =
     let lines = all_lines bytes in headless lines.0 lines.1 (headless_by bytes other lines.0 (split bytes lines.0 lines.1))
+
+-- ---- carriage returns
+
+cut_end : (b : ℕ) (t : Bool) → (b == 13) ≡ t → (front : List ℕ) → without_return (front ++ b ∷ []) ≡ front ++ cond t [] (b ∷ [])
+cut_end b t is [] = ap (λ s. cond s [] (b ∷ [])) is
+cut_end b t is (x ∷ []) = ap (λ s. x ∷ cond s [] (b ∷ [])) is
+cut_end b t is (x ∷ y ∷ ys) = ap (λ s. x ∷ s) (cut_end b t is (y ∷ ys))
+
+pub returned : (line front : List ℕ) (b : ℕ) → line ≡ front ++ b ∷ [] → (b == 13) ≡ true → front ≡ without_return line
+returned line front b is test = sym (ap without_return is ∙ cut_end b true test front ∙ append-nil front)
+
+pub unreturned : (line front : List ℕ) (b : ℕ) → line ≡ front ++ b ∷ [] → (b == 13) ≡ false → line ≡ without_return line
+unreturned line front b is test = is ∙ sym (ap without_return is ∙ cut_end b false test front)
+
+pub empty_line : (line : List ℕ) → length line ≡ 0 → line ≡ without_return line
+empty_line [] h = refl
+empty_line (b ∷ bs) h = absurd (omega arith)

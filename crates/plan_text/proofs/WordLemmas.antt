@@ -1,6 +1,7 @@
-use Rattle.std.proofs.Common.{◌≡◌, ◌≢◌, ℕ, Bool, true, false, cond, codes, List, [], ◌∷◌, ◌++◌, Option, Some, None, refl, sym, ap, ◌∙◌, subst, arith}
+use Rattle.std.proofs.Common.{◌≡◌, ◌≢◌, ℕ, ◌==◌, Bool, true, false, MatchBool, cond, codes, List, [], ◌∷◌, ◌++◌, Option, Some, None, refl, sym, ap, ◌∙◌, subst, arith}
+use Rattle.std.proofs.lemmas.Bool.Decides.{nat_tests}
 use Rattle.std.proofs.lemmas.Slice.Eq.{bytes_eq-Decides}
-use Rattle.std.proofs.lemmas.Option.{none-some}
+use Rattle.std.proofs.lemmas.Option.{none-some, some_pair_parts}
 use Rattle.std.specs.Option.{option_map}
 use Rattle.std.specs.Str.{bytes_eq}
 use Rattle.plan_text.specs.declared.draft.Draft.{Draft}
@@ -9,7 +10,7 @@ use Rattle.plan_text.specs.declared.words.Word.TheVariants.{Limit, Entries, Unti
 use Rattle.plan_text.specs.Fields.{cut_at, parted}
 use Rattle.plan_text.specs.Words.{spelled, word_named, named_in, head_of}
 use Rattle.plan_text.specs.Plans.{Reads, Baffles, ReadsBehind, empty, remark, says}
-use Rattle.plan_text.specs.Steps.{Took}
+use Rattle.plan_text.specs.Steps.{Took, IsWorded}
 use Rattle.plan_text.proofs.FieldLemmas.{CutParts, cut_parts}
 
 -- ---- words
@@ -43,11 +44,11 @@ head_spelled Binary rest = refl
 head_spelled Event rest = refl
 head_spelled Start rest = refl
 
-parts : (v w : Word) (x y : List ℕ) → Some (v, x) ≡ Some (w, y) → (v ≡ w) × (x ≡ y)
-parts v w x y e = (cc, cc)
+parts : (v w : Word) (x y : List ℕ) → ◌≡◌ {A = Option (Word × List ℕ)} (Some (v, x)) (Some (w, y)) → (v ≡ w) × (x ≡ y)
+parts v w x y e = some_pair_parts v w x y e
 
 named_is : (p : List ℕ × List ℕ) (o : Option Word) → word_named p.0 ≡ o → (w : Word) (rest : List ℕ)
-    → option_map (λ v. (v, p.1)) o ≡ Some (w, rest) → p.0 ++ 32 ∷ p.1 ≡ parted (spelled w) rest
+    → option_map {U = Word × List ℕ} (λ v. (v, p.1)) o ≡ Some (w, rest) → p.0 ++ 32 ∷ p.1 ≡ parted (spelled w) rest
 named_is p None is w rest e = absurd (none-some (w, rest) e)
 named_is p (Some v) is w rest e =
     let same = parts v w p.1 rest e
@@ -63,11 +64,6 @@ pub head_is : (line : List ℕ) (w : Word) (rest : List ℕ) → head_of line �
 head_is line w rest e = cut_is line (cut_at 32 line) (cut_parts 32 line) w rest e
 
 -- ---- whole lines
-
--- a line that is not passed over
-pub record IsWorded (line : List ℕ) : Type 0 where
-  pub some : line ≢ []
-  pub plain : (text : List ℕ) → line ≢ 59 ∷ text
 
 -- what a line with a word reads is read behind that
 pub record Said (d : Draft) (line : List ℕ) (after : Draft) : Type 0 where
@@ -92,3 +88,20 @@ taken d new line w rest false worded head behind = λ after r.
     let s = said d line after worded r
     in let same = parts s.w w s.rest rest (sym s.head ∙ head)
     in behind after (subst (λ v. ReadsBehind v d rest after) same.0 (subst (λ xs. ReadsBehind s.w d xs after) same.1 s.behind))
+
+pub reads_empty : (d : Draft) (line : List ℕ) → line ≡ [] → Reads d line d
+reads_empty d line is = subst (λ l. Reads d l d) (sym is) empty
+
+pub reads_remark : (d : Draft) (line text : List ℕ) (b : ℕ) → line ≡ b ∷ text → b ≡ 59 → Reads d line d
+reads_remark d line text b is semicolon = subst (λ l. Reads d l d) (sym (is ∙ ap (λ c. c ∷ text) semicolon)) (remark text)
+
+pub worded : (line rest : List ℕ) (b : ℕ) → line ≡ b ∷ rest → b ≢ 59 → IsWorded line
+worded line rest b is other = record {
+  some = λ e. let empty_is : b ∷ rest ≡ [] = sym is ∙ e in cc;
+  plain = λ text e. let same : b ∷ rest ≡ 59 ∷ text = sym is ∙ e in let semicolon : b ≡ 59 = cc in other semicolon;
+}
+
+pub passed_by : (line rest : List ℕ) (b : ℕ) (t : Bool) → (b == 59) ≡ t → line ≡ b ∷ rest
+    → MatchBool t ((d : Draft) → Reads d line d) (IsWorded line)
+passed_by line rest b true test is = λ d. let same : b ≡ 59 = grind (arith, nat_tests) in reads_remark d line rest b is same
+passed_by line rest b false test is = let other : b ≢ 59 = grind (arith, nat_tests) in worded line rest b is other

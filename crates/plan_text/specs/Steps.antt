@@ -73,3 +73,8 @@ ReadsOn bytes d = GoesOn 2 nothing bytes (Ok d)
 abbrev pub StopsAt : List ℕ → PlanFault → Type 0
 StopsAt bytes (Line n) = GoesOn 2 nothing bytes (Err n)
 StopsAt bytes NoMemory = Unit {0}
+
+-- a line that is not passed over
+pub record IsWorded (line : List ℕ) : Type 0 where
+  pub some : line ≢ []
+  pub plain : (text : List ℕ) → line ≢ 59 ∷ text

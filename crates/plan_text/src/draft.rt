@@ -1,7 +1,8 @@
-ghost use Rattle.std.specs.Prelude.{◌≡◌, ◌<◌, OnOk, OnErr, IfOk};
+ghost use Rattle.std.specs.Prelude.{◌≡◌, ◌<◌, OnOk, OnErr, IfOk, MatchBool};
+ghost use Rattle.plan_text.specs.declared.draft.Draft.{Draft as ThisDraft};
 ghost use Rattle.plan_text.specs.declared.words.Word.TheVariants as word;
 ghost use Rattle.plan_text.specs.Plans.{ReadsBehind, Reads, Plans, Lists, Adds, one_more, is_listed, nothing, plan_of};
-ghost use Rattle.plan_text.specs.Steps.{Took};
+ghost use Rattle.plan_text.specs.Steps.{Took, IsWorded};
 
 use crate::fields::{cut, names_script, number_in};
 use crate::plan::{Line, Listed, Plan, Planned, Script};
@@ -53,6 +54,16 @@ fn add_numbers(random: &mut Randoms, numbers: &[u8]) -> Result<bool, NoMemory>
     }
     let took = add_number(random, rest)?;
     Ok(took)
+}
+
+/// Whether a line says nothing: it is empty, or a remark.
+fn passes_over(line: &[u8]) -> bool
+    ensures { MatchBool result ((d : ThisDraft) → Reads d line.now d) (IsWorded line.now) }
+{
+    match line.split_first() {
+        None => true,
+        Some((first, _)) => *first == b';',
+    }
 }
 
 /// Whether a script of this name is listed.
@@ -204,12 +215,12 @@ impl Draft {
     pub fn take(&mut self, alloc: Global, line: &[u8]) -> Result<bool, NoMemory>
         ensures { IfOk result (λ took. Took (Reads self.old line.now) took self.new) }
     {
-        match line.first() {
-            None | Some(b';') => Ok(true),
-            Some(_) => match head(line) {
-                None => Ok(false),
-                Some((word, rest)) => self.take_behind(alloc, word, rest),
-            },
+        if passes_over(line) {
+            return Ok(true);
+        }
+        match head(line) {
+            None => Ok(false),
+            Some((word, rest)) => self.take_behind(alloc, word, rest),
         }
     }
 }

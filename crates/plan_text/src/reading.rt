@@ -11,13 +11,20 @@ use crate::plan::Plan;
 use nwq_value::NoMemory;
 use std::alloc::Global;
 
+#[tactic(auto, using(crate::proofs::LineLemmas::returned, crate::proofs::LineLemmas::unreturned, crate::proofs::LineLemmas::empty_line))]
 /// A line without the carriage return at its end.
 fn trimmed(line: &[u8]) -> &[u8]
     ensures { result.now ≡ without_return line.now }
 {
     match line.split_last() {
-        Some((b'\r', front)) => front,
-        _ => line,
+        None => line,
+        Some((last, front)) => {
+            if *last == b'\r' {
+                front
+            } else {
+                line
+            }
+        }
     }
 }
 
