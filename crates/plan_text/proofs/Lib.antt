@@ -3,3 +3,4 @@ mod WordLemmas
 mod LineLemmas
 mod PlannedLemmas
 mod AddsLemmas
+mod OnePlan

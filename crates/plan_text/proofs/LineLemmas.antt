@@ -1,10 +1,15 @@
 use Rattle.std.proofs.Common.{◌≡◌, ◌≢◌, ℕ, ◌+◌, ◌<◌, ◌≤◌, ◌==◌, length, Bool, true, false, cond, codes, List, [], ◌∷◌, ◌++◌, Option, Some, None, Result, Ok, Err, refl, sym, ap, ◌∙◌, subst, arith, length-append, append-nil}
 use Rattle.std.proofs.lemmas.Bool.Decides.{nat_tests}
 use Rattle.std.proofs.lemmas.Option.{none-some, some_pair_parts}
+use Rattle.std.proofs.lemmas.Slice.Eq.{bytes_eq-Decides}
+use Rattle.std.specs.Str.{bytes_eq}
 use Rattle.plan_text.specs.declared.draft.Draft.{Draft}
+use Rattle.plan_text.specs.declared.fault.PlanFault.{PlanFault}
+use Rattle.plan_text.specs.declared.fault.PlanFault.TheVariants.{Line as BadLine, NoMemory}
+use Rattle.plan_text.specs.declared.plan.Plan.{Plan}
 use Rattle.plan_text.specs.Fields.{cut_at, IsFree}
-use Rattle.plan_text.specs.Plans.{Lines, none, last, ended, without_return, Comes, whole, more, stops, Reads, Baffles, Gives, headed, headless, IsHeaded, nothing}
-use Rattle.plan_text.specs.Steps.{first_line, line_of_cut, GoesOn}
+use Rattle.plan_text.specs.Plans.{Lines, none, last, ended, without_return, Comes, whole, more, stops, Reads, Baffles, Gives, headed, headless, IsHeaded, nothing, HasPlan, IsFaulty, plan_of}
+use Rattle.plan_text.specs.Steps.{first_line, line_of_cut, GoesOn, ReadsOn, StopsAt}
 use Rattle.plan_text.proofs.FieldLemmas.{CutParts, cut_parts, cut_free, cut_none}
 
 -- ---- the first line
@@ -159,3 +164,25 @@ unreturned line front b is test = is ∙ sym (ap without_return is ∙ cut_end b
 pub empty_line : (line : List ℕ) → length line ≡ 0 → line ≡ without_return line
 empty_line [] h = refl
 empty_line (b ∷ bs) h = absurd (omega arith)
+
+pub headless_nothing : (bytes : List ℕ) → first_line bytes ≡ None → Gives bytes (Err 1)
+headless_nothing bytes e = gives_headless bytes (λ rest h. none-some (codes "NWQ PLAN 1", rest) (sym e ∙ h))
+
+pub headless_other : (bytes line rest : List ℕ) → first_line bytes ≡ Some (line, rest) → line ≢ codes "NWQ PLAN 1" → Gives bytes (Err 1)
+headless_other bytes line rest e other = gives_headless bytes (λ r h. other (pair line (codes "NWQ PLAN 1") rest r (sym e ∙ h)).0)
+
+-- a fault behind the first line is the text's
+pub faulty : (bytes line rest : List ℕ) (fault : PlanFault) → first_line bytes ≡ Some (line, rest) → line ≡ codes "NWQ PLAN 1" → StopsAt rest fault
+    → IsFaulty bytes fault
+faulty bytes line rest (BadLine n) e is stops_at = gives_headed bytes line rest (Err n) e is stops_at
+faulty bytes line rest NoMemory e is stops_at = tt
+
+pub has_plan : (bytes line rest : List ℕ) (d : Draft) (plan : Plan) → first_line bytes ≡ Some (line, rest) → line ≡ codes "NWQ PLAN 1" → ReadsOn rest d
+    → plan ≡ plan_of d → HasPlan bytes plan
+has_plan bytes line rest d plan e is on same = (d, gives_headed bytes line rest (Ok d) e is on, same)
+
+pub is_head : (line : List ℕ) → true ≡ bytes_eq line (codes "NWQ PLAN 1") → line ≡ codes "NWQ PLAN 1"
+is_head line e = (bytes_eq-Decides line (codes "NWQ PLAN 1")).0 (sym e)
+
+pub is_other : (line : List ℕ) → false ≡ bytes_eq line (codes "NWQ PLAN 1") → line ≢ codes "NWQ PLAN 1"
+is_other line e is = let t : true ≡ false = sym ((bytes_eq-Decides line (codes "NWQ PLAN 1")).1 is) ∙ sym e in cc

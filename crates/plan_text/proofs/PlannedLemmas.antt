@@ -161,10 +161,10 @@ four_is rest p e = four_due rest (number_field 4294967295 rest) refl p e
 
 -- ---- events
 
-event_four : (rest : List ℕ) (line : Line) (e : IsEvent rest line) → four_fields rest ≡ Some (e.at, e.number, e.label, e.tag)
+pub event_four : (rest : List ℕ) (line : Line) (e : IsEvent rest line) → four_fields rest ≡ Some (e.at, e.number, e.label, e.tag)
 event_four rest line e = ap four_fields e.spells ∙ four_at e.due e.nth e.label e.tag e.at e.number e.time e.count (label_free e.label e.labels)
 
-same_four : (a b : FourFields) → Some a ≡ Some b → a ≡ b
+pub same_four : (a b : FourFields) → Some a ≡ Some b → a ≡ b
 same_four a b e = cc
 
 pub event_none : (rest : List ℕ) → four_fields rest ≡ None → (line : Line) → IsEvent rest line → ⊥
@@ -192,7 +192,7 @@ event_is rest p name text is good same reads =
 
 -- ---- starts
 
-start_four : (rest : List ℕ) (line : Line) (e : IsStart rest line) → four_fields rest ≡ Some (e.at, e.number, e.name, e.tag)
+pub start_four : (rest : List ℕ) (line : Line) (e : IsStart rest line) → four_fields rest ≡ Some (e.at, e.number, e.name, e.tag)
 start_four rest line e = ap four_fields e.spells ∙ four_at e.due e.nth e.name e.tag e.at e.number e.time e.count (script_free e.name e.names)
 
 pub start_none : (rest : List ℕ) → four_fields rest ≡ None → (line : Line) → IsStart rest line → ⊥
@@ -231,7 +231,7 @@ dash_at due name d time =
 pub free_none : (rest : List ℕ) → dash_fields rest ≡ None → (line : Line) → IsFreeStart rest line → ⊥
 free_none rest none line e = none-some (e.at, e.name) (sym none ∙ ap dash_fields e.spells ∙ dash_at e.due e.name e.at e.time)
 
-same_two : (a b : ℕ × List ℕ) → Some a ≡ Some b → a ≡ b
+pub same_two : (a b : ℕ × List ℕ) → Some a ≡ Some b → a ≡ b
 same_two a b e = cc
 
 pub free_unnamed : (rest : List ℕ) (p : ℕ × List ℕ) → dash_fields rest ≡ Some p → is_script_name p.1 ≡ false → (line : Line) → IsFreeStart rest line → ⊥
@@ -300,3 +300,19 @@ pub either : {E : Type 0} (P Q : Line → Type 0) → ((l : Line) → Q l → �
 either P Q q (Ok None) h = neither P Q h q
 either P Q q (Ok (Some l)) h = inl h
 either P Q q (Err e) h = tt
+
+pub free_two : (rest : List ℕ) (line : Line) (e : IsFreeStart rest line) → dash_fields rest ≡ Some (e.at, e.name)
+free_two rest line e = ap dash_fields e.spells ∙ dash_at e.due e.name e.at e.time
+
+dash_number : (name : List ℕ) → number_field 2147483647 (parted (codes "-") name) ≡ None
+unfolding number_field cut_at number_of
+dash_number name = refl
+
+four_dash : (due name : List ℕ) (d : ℕ) → number_between 0 4294967295 due ≡ Some d → four_fields (parted due (parted (codes "-") name)) ≡ None
+unfolding four_fields
+four_dash due name d time = ap with_due (number_at 4294967295 due (parted (codes "-") name) d time) ∙ ap (with_nth d) (dash_number name)
+
+-- no line is a start for an object and one for none
+pub apart : (rest : List ℕ) (a b : Line) → IsStart rest a → IsFreeStart rest b → ⊥
+apart rest a b x y =
+    none-some (x.at, x.number, x.name, x.tag) (sym (four_dash y.due y.name y.at y.time) ∙ ap four_fields (sym y.spells) ∙ start_four rest a x)

@@ -1,14 +1,12 @@
-ghost use Rattle.std.specs.Prelude.{◌≡◌, IfOk, IfErr, Ok, Err};
+ghost use Rattle.std.specs.Prelude.{◌≡◌, IfOk, IfErr, bytes_eq, codes};
 ghost use Rattle.std.specs.Option.{option_map};
-ghost use Rattle.plan_text.specs.declared.fault.PlanFault.TheVariants.{NoMemory as OutOfMemory};
-ghost use Rattle.plan_text.specs.Plans.{HasPlan, IsFaulty, Comes, without_return};
+ghost use Rattle.plan_text.specs.Plans.{HasPlan, IsFaulty, without_return};
 ghost use Rattle.plan_text.specs.Steps.{first_line, ReadsOn, StopsAt};
 
 use crate::draft::Draft;
 use crate::fault::PlanFault;
 use crate::fields::cut;
 use crate::plan::Plan;
-use nwq_value::NoMemory;
 use std::alloc::Global;
 
 #[tactic(auto, using(crate::proofs::LineLemmas::returned, crate::proofs::LineLemmas::unreturned, crate::proofs::LineLemmas::empty_line))]
@@ -42,6 +40,13 @@ fn line_at(bytes: &[u8]) -> Option<(&[u8], &[u8])>
     }
 }
 
+/// Whether this is the line that a plan begins with.
+fn heads(line: &[u8]) -> bool
+    ensures { result ≡ bytes_eq line.now (codes "NWQ PLAN 1") }
+{
+    line == b"NWQ PLAN 1".as_slice()
+}
+
 /// Reads the lines behind the first.
 fn read_lines(alloc: Global, bytes: &[u8]) -> Result<Draft, PlanFault>
     ensures plan { IfOk result (λ draft. ReadsOn bytes.now draft) }
@@ -65,11 +70,14 @@ pub fn read_plan(alloc: Global, bytes: &[u8]) -> Result<Plan, PlanFault>
     ensures plan { IfOk result (λ plan. HasPlan bytes.now plan) }
     ensures fault { IfErr result (IsFaulty bytes.now) }
 {
-    match line_at(bytes) {
-        Some((line, rest)) if line == b"NWQ PLAN 1".as_slice() => {
-            let draft = read_lines(alloc, rest)?;
-            Ok(draft.plan())
-        }
-        _ => Err(PlanFault::Line(1)),
+    let Some((line, rest)) = line_at(bytes) else {
+        return Err(PlanFault::Line(1));
+    };
+    if !heads(line) {
+        return Err(PlanFault::Line(1));
+    }
+    match read_lines(alloc, rest) {
+        Err(fault) => Err(fault),
+        Ok(draft) => Ok(draft.plan()),
     }
 }
