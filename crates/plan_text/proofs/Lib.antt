@@ -1,0 +1,6 @@
+mod FieldLemmas
+mod WordLemmas
+mod LineLemmas
+mod PlannedLemmas
+mod AddsLemmas
+mod OnePlan
