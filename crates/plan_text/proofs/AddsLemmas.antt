@@ -71,5 +71,5 @@ one_adds numbers bytes a b (one n digits x h) y =
     same_between x b (one_more n digits) h (adds_cut n digits b None (cut_none 32 digits (added_free n digits x h)) y)
 one_adds numbers bytes a b (more n digits between rest x h on) y =
     let by : AddsBy n (parted digits rest) (Some (digits, rest)) b
-        = adds_cut n (parted digits rest) b (Some (digits, rest)) (cut_free 32 digits rest (added_free n digits between h)) y
+    = adds_cut n (parted digits rest) b (Some (digits, rest)) (cut_free 32 digits rest (added_free n digits between h)) y
     in one_adds between rest x b on (subst (λ m. Adds m rest b) (same_between by.0 between (one_more n digits) by.1 h) by.2)

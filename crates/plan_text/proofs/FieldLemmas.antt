@@ -33,7 +33,7 @@ unfolding cut_at
 cut_free at [] rest free = ap (λ t. cond t (Some ([], rest)) (in_front at (cut_at at rest))) (same_test at)
 cut_free at (b ∷ bs) rest free =
     ap (λ t. cond t (Some ([], bs ++ at ∷ rest)) (in_front b (cut_at at (bs ++ at ∷ rest)))) (other_test at b free.0)
-        ∙ ap (in_front b) (cut_free at bs rest free.1)
+    ∙ ap (in_front b) (cut_free at bs rest free.1)
 
 -- a free list isn't cut
 pub cut_none : (at : ℕ) (bytes : List ℕ) → IsFree at bytes → cut_at at bytes ≡ None
@@ -50,9 +50,9 @@ pub cut_here : (at : ℕ) (bytes : List ℕ) (i b : ℕ) → i < length bytes �
     → Some (take i bytes, take (length bytes - (i + 1)) (drop (i + 1) bytes)) ≡ cut_at at bytes
 cut_here at bytes i b inside is same free =
     let whole : bytes ≡ take i bytes ++ at ∷ drop (i + 1) bytes = sym (take-append-drop i bytes)
-        ∙ ap (λ xs. take i bytes ++ xs) (drop_more bytes i 0 inside ∙ ap (λ x. x ∷ drop (i + 1) bytes) (sym is ∙ same))
+    ∙ ap (λ xs. take i bytes ++ xs) (drop_more bytes i 0 inside ∙ ap (λ x. x ∷ drop (i + 1) bytes) (sym is ∙ same))
     in let rest : take (length bytes - (i + 1)) (drop (i + 1) bytes) ≡ drop (i + 1) bytes
-        = take_all (length bytes - (i + 1)) (drop (i + 1) bytes) (omega (arith, length-drop (i + 1) bytes))
+    = take_all (length bytes - (i + 1)) (drop (i + 1) bytes) (omega (arith, length-drop (i + 1) bytes))
     in sym (ap (cut_at at) whole ∙ cut_free at (take i bytes) (drop (i + 1) bytes) free ∙ ap (λ xs. Some (take i bytes, xs)) (sym rest))
 
 pub free_more : (at : ℕ) (bytes : List ℕ) (i b : ℕ) → i < length bytes → b ≡ get_or bytes i 0 → b ≢ at → IsFree at (take i bytes)

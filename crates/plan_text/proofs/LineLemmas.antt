@@ -100,9 +100,10 @@ longer line rest = omega (arith, length-append line (10 ∷ rest))
 first_of_cut : (b : ℕ) (bs : List ℕ) (cut : Option (List ℕ × List ℕ)) → CutParts 10 (b ∷ bs) cut → FirstParts (b ∷ bs) (Some (line_of_cut (b ∷ bs) cut))
 first_of_cut b bs None free =
     (λ lines l. subst (λ ls. Lines (b ∷ bs) ((b ∷ bs) ∷ ls)) (sym (no_lines lines (split [] lines l))) (last (b ∷ bs) (nil-cons b bs) free), omega arith)
-first_of_cut b bs (Some p) parts =
-    (λ lines l. subst (λ x. Lines x (without_return p.0 ∷ lines)) (sym parts.0) (ended p.0 p.1 lines parts.1 l),
-    subst (λ x. length p.1 < length x) (sym parts.0) (longer p.0 p.1))
+first_of_cut b bs (Some p) parts = (
+  λ lines l. subst (λ x. Lines x (without_return p.0 ∷ lines)) (sym parts.0) (ended p.0 p.1 lines parts.1 l),
+  subst (λ x. length p.1 < length x) (sym parts.0) (longer p.0 p.1),
+)
 
 first_parts : (bytes : List ℕ) → FirstParts bytes (first_line bytes)
 unfolding first_line

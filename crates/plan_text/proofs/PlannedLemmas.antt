@@ -131,7 +131,7 @@ four_at : (due nth name tag : List ℕ) (d n : ℕ) → number_between 0 4294967
 unfolding four_fields
 four_at due nth name tag d n time count free =
     ap with_due (number_at 4294967295 due (parted nth (parted name tag)) d time)
-        ∙ ap (with_nth d) (number_at 2147483647 nth (parted name tag) n count) ∙ ap (with_name d n) (cut_free 32 name tag free)
+    ∙ ap (with_nth d) (number_at 2147483647 nth (parted name tag) n count) ∙ ap (with_name d n) (cut_free 32 name tag free)
 
 four_name : (rest : List ℕ) (a b : ℕ × List ℕ) → Numbered 4294967295 rest a → Numbered 2147483647 a.1 b
     → (cut : Option (List ℕ × List ℕ)) → CutParts 32 b.1 cut → (p : FourFields) → with_name a.0 b.0 cut ≡ Some p → Four rest p
@@ -185,8 +185,18 @@ pub event_is : (rest : List ℕ) (p : FourFields) (name text : List ℕ) → fou
 event_is rest p name text is good same reads =
     let f = four_is rest p is
     in record {
-      due = f.due; nth = f.nth; label = p.2; tag = p.3; at = p.0; number = p.1; text = text; spells = f.spells; time = f.time; count = f.count;
-      labels = good; tags = record { textual = reads.0; is = reads.1 };
+      due = f.due;
+      nth = f.nth;
+      label = p.2;
+      tag = p.3;
+      at = p.0;
+      number = p.1;
+      text = text;
+      spells = f.spells;
+      time = f.time;
+      count = f.count;
+      labels = good;
+      tags = record { textual = reads.0; is = reads.1 };
       is = ap (λ l. Event p.0 p.1 l text) (same ∙ short p.2 (label p.2 good).few);
     }
 
@@ -213,8 +223,18 @@ pub start_is : (rest : List ℕ) (p : FourFields) (name text : List ℕ) → fou
 start_is rest p name text is good same reads =
     let f = four_is rest p is
     in record {
-      due = f.due; nth = f.nth; name = p.2; tag = p.3; at = p.0; number = p.1; text = text; spells = f.spells; time = f.time; count = f.count;
-      names = good; tags = record { textual = reads.0; is = reads.1 };
+      due = f.due;
+      nth = f.nth;
+      name = p.2;
+      tag = p.3;
+      at = p.0;
+      number = p.1;
+      text = text;
+      spells = f.spells;
+      time = f.time;
+      count = f.count;
+      names = good;
+      tags = record { textual = reads.0; is = reads.1 };
       is = ap (λ l. Start p.0 p.1 l text) (same ∙ short p.2 (script_name p.2 good).few);
     }
 
@@ -274,7 +294,12 @@ pub free_is : (rest : List ℕ) (p : ℕ × List ℕ) (name : List ℕ) → dash
 free_is rest p name is good same =
     let f = dash_is rest p is
     in record {
-      due = f.due; name = p.1; at = p.0; spells = f.spells; time = f.time; names = good;
+      due = f.due;
+      name = p.1;
+      at = p.0;
+      spells = f.spells;
+      time = f.time;
+      names = good;
       is = ap (λ l. Free p.0 l) (same ∙ short p.1 (script_name p.1 good).few);
     }
 

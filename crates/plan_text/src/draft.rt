@@ -12,9 +12,13 @@ use nwq_value::{NoMemory, Randoms, Text};
 use std::alloc::Global;
 
 const MOST_INSTRUCTIONS: u64 = 16_777_216;
+
 const MOST_ENTRIES: u64 = 1_000_000;
+
 const MOST_RANDOMS: usize = 65_536;
+
 const MOST_SCRIPTS: usize = 256;
+
 const MOST_EVENTS: usize = 65_536;
 
 /// What the lines so far have given.

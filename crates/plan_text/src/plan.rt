@@ -28,7 +28,10 @@ pub enum Line {
         tag: Text,
     },
     /// The start of a script for no object.
-    Free { due: u64, name: Text },
+    Free {
+        due: u64,
+        name: Text,
+    },
 }
 
 /// The scripts of a plan, no two of one name.

@@ -16,13 +16,7 @@ fn trimmed(line: &[u8]) -> &[u8]
 {
     match line.split_last() {
         None => line,
-        Some((last, front)) => {
-            if *last == b'\r' {
-                front
-            } else {
-                line
-            }
-        }
+        Some((last, front)) => { if *last == b'\r' { front } else { line } }
     }
 }
 

@@ -88,7 +88,14 @@ fn all_kinds_of_lines(rt: HostRuntime) -> Result<(), Fail> {
     assert!(rt; scripts[1].name.bytes() == b"b".as_slice() && scripts[1].binary);
     let mut lines = plan.events.as_slice().iter();
     match lines.next() {
-        Some(Line::Event { due: 1, nth: 2_147_483_647, label, tag }) => {
+        Some(
+            Line::Event {
+                due: 1,
+                nth: 2_147_483_647,
+                label,
+                tag,
+            },
+        ) => {
             assert_eq!(rt; label.bytes(), b"ScriptHeartbeat".as_slice());
             assert_eq!(rt; tag.bytes(), b"\\\n".as_slice());
         }
@@ -107,7 +114,10 @@ fn most_lines(rt: HostRuntime) -> Result<(), Fail> {
         let text = numbered(rt.alloc(), line, most)?;
         assert_eq!(rt; bad_line(rt.alloc(), text.as_slice())?, None);
         let text = numbered(rt.alloc(), line, most + 1)?;
-        assert_eq!(rt; bad_line(rt.alloc(), text.as_slice())?, Some(u64::from(most) + 2));
+        assert_eq!(rt;
+            bad_line(rt.alloc(), text.as_slice())?,
+            Some(u64::from(most) + 2)
+        );
     }
     Ok(())
 }

@@ -16,7 +16,7 @@ loop-line-smaller c = first_shorter _ _ _ (sym (c.in-Some.ensures {u = tt}))
 pub loop-line-preserved : goal.loop-line-preserved
 loop-line-preserved c =
     let shorter : length c.in-Some.after.now < length c.loop-line.rest.now
-        = first_shorter c.loop-line.rest.now c.in-Some.line.now c.in-Some.after.now (sym (c.in-Some.ensures {u = tt}))
+    = first_shorter c.loop-line.rest.now c.in-Some.line.now c.in-Some.after.now (sym (c.in-Some.ensures {u = tt}))
     in record {
       goes = λ end on. c.loop-line.invariant.goes end
           (goes_more (c.loop-line.number + 1) c.loop-line.draft c.take.new.self c.loop-line.rest.now c.in-Some.line.now c.in-Some.after.now end
