@@ -17,28 +17,28 @@ none = record { routines = []; constants = [] }
 
 -- -8 names the second cell from the top; the window has no third
 copy_second : rule none (ops.CpTopSp (negsuc 7) 4) (plain (Of Int ∷ Of Text ∷ [])) ≡ Some (plain (Of Text ∷ Of Int ∷ Of Text ∷ []))
-unfolding rule, trade_of, range_at, below, words
+unfolding rule trade_of range_at below words
 copy_second = refl
 
 copy_below : rule none (ops.CpTopSp (negsuc 11) 4) (plain (Of Int ∷ Of Text ∷ [])) ≡ None
-unfolding rule, trade_of, range_at, below, words
+unfolding rule trade_of range_at below words
 copy_below = refl
 
 copy_nothing : rule none (ops.CpTopSp (negsuc 7) 0) (plain (Of Int ∷ Of Text ∷ [])) ≡ None
-unfolding rule, trade_of, range_at, below, words
+unfolding rule trade_of range_at below words
 copy_nothing = refl
 
 -- of the three lowest cells of four on top, the lowest is kept
 keep_lowest : rule none (ops.Destruct 12 0 4) (plain (Of Int ∷ Of Text ∷ Of Object ∷ Of Int ∷ [])) ≡ Some (plain (Of Object ∷ Of Int ∷ []))
-unfolding rule, trade_of, kept, words
+unfolding rule trade_of kept words
 keep_lowest = refl
 
 keep_none : rule none (ops.Destruct 0 0 0) (plain []) ≡ Some (plain [])
-unfolding rule, trade_of, kept, words
+unfolding rule trade_of kept words
 keep_none = refl
 
 equal_runs : rule none (ops.Equal 0x24 8) (plain (Of Int ∷ Of Text ∷ Of Int ∷ Of Text ∷ [])) ≡ Some (plain (Of Int ∷ []))
-unfolding rule, trade_of, compared, words, tys_eq, ty_eq
+unfolding rule trade_of compared words tys_eq ty_eq
 equal_runs = refl
 
 restore : rule none ops.RestoreBp (record { cells = Base ∷ []; under = []; saved = (Of Int ∷ []) ∷ []; pending = 2 })
@@ -47,5 +47,5 @@ unfolding rule
 restore = refl
 
 drop_odd : rule none (ops.MovSp (negsuc 1)) (plain (Of Int ∷ [])) ≡ None
-unfolding rule, trade_of, below, words
+unfolding rule trade_of below words
 drop_odd = refl

@@ -1,4 +1,4 @@
-ghost use Rattle.std.specs.Prelude.{◌≡◌, ◌≤◌, IfOk, length, IsTrue};
+ghost use Rattle.std.specs.Prelude.{◌≡◌, ◌≤◌, ◌++◌, IfOk, length, IsTrue};
 ghost use Rattle.std.specs.List.{list_any};
 ghost use Rattle.std.specs.Option.{option_map};
 ghost use Rattle.nwq_value.specs.declared.engine.Param.{Param};
@@ -53,16 +53,29 @@ fn action_count(params: &[Param]) -> usize
     }
 }
 
-/// What a call takes from the cells, from the top.
+/// Puts last what a call with these parameters takes from the cells, from the top.
+fn put_arguments(types: &mut Tys, params: &[Param]) -> Result<(), NoMemory>
+    ensures { IfOk result (λ _. types.new ≡ types.old ++ argument_types params.now) }
+{
+    match params {
+        [] => Ok(()),
+        [param, params @ ..] => {
+            if is_action(param.ty) {
+                put_arguments(types, params)
+            } else {
+                types.push(param.ty)?;
+                put_arguments(types, params)
+            }
+        }
+    }
+}
+
+/// What a call with these parameters takes from the cells, from the top.
 fn argument_types(alloc: Global, params: &[Param]) -> Result<Tys, NoMemory>
     ensures { IfOk result (λ types. types ≡ argument_types params.now) }
 {
     let mut types = Tys::new(alloc);
-    for param in params {
-        if !is_action(param.ty) {
-            types.push(param.ty)?;
-        }
-    }
+    put_arguments(&mut types, params)?;
     Ok(types)
 }
 

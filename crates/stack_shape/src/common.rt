@@ -7,6 +7,7 @@ use nwq_value::NoMemory;
 use std::alloc::Global;
 
 /// How many slots from the top are the same in both lists.
+#[tactic(auto, using(crate::proofs::Tops::take_next))]
 fn common_count(a: &[Slot], b: &[Slot]) -> usize
     ensures first { result ≤ length a.now }
     ensures second { result ≤ length b.now }
@@ -21,6 +22,7 @@ fn common_count(a: &[Slot], b: &[Slot]) -> usize
 }
 
 /// The longest list that both lists end with.
+#[tactic(auto, using(crate::proofs::Tops::longest_is))]
 fn longest_suffix(alloc: Global, a: &[Slot], b: &[Slot]) -> Result<Slots, NoMemory>
     ensures { IfOk result (λ common. LongestSuffix a.now b.now common) }
 {

@@ -1,4 +1,4 @@
-ghost use Rattle.std.specs.Prelude.{◌≡◌};
+ghost use Rattle.std.specs.Prelude.{◌≡◌, ◌≤◌, IfSome};
 ghost use Rattle.stack_shape.specs.Ranges.{below, range_at, words};
 
 /// The cells that an instruction names by an offset and a size.
@@ -10,8 +10,10 @@ pub struct Range {
 }
 
 /// How many cells so many bytes are, where they are whole cells.
+#[tactic(auto, unfolding(crate::specs::Ranges::words))]
 pub fn words(bytes: u32) -> Option<usize>
-    ensures { result ≡ words bytes }
+    ensures words { result ≡ words bytes }
+    ensures bound { IfSome result (λ count. count ≤ bytes) }
 {
     if bytes % 4 == 0 {
         Some((bytes / 4) as usize)
@@ -21,6 +23,7 @@ pub fn words(bytes: u32) -> Option<usize>
 }
 
 /// How many cells lie from an offset to the end that it counts from.
+#[tactic(auto, unfolding(crate::specs::Ranges::below))]
 pub fn below(offset: i32) -> Option<usize>
     ensures { result ≡ below offset }
 {
@@ -32,17 +35,22 @@ pub fn below(offset: i32) -> Option<usize>
 }
 
 /// The cells at an offset.
+#[tactic(auto, unfolding(crate::specs::Ranges::range_at))]
 pub fn range_at(offset: i32, size: u16) -> Option<Range>
     ensures { result ≡ range_at offset size }
 {
-    let depth = below(offset)?;
-    let count = words(size as u32)?;
-    if 0 < count && count <= depth {
-        Some(Range {
-            above: depth - count,
-            count,
-        })
-    } else {
-        None
+    match (below(offset), words(size as u32)) {
+        (Some(depth), Some(count)) => {
+            if 0 < count && count <= depth {
+                Some(Range {
+                    above: depth - count,
+                    count,
+                })
+            } else {
+                None
+            }
+        }
+        (Some(_), None) => None,
+        (None, _) => None,
     }
 }

@@ -1,4 +1,4 @@
-ghost use Rattle.std.specs.Prelude.{◌≡◌, ◌↔◌, IsTrue, ◌∷◌, ◌++◌, [], IfOk, drop, map, reverse, slice_get, take, length, ◌≤◌, ◌-◌};
+ghost use Rattle.std.specs.Prelude.{◌≡◌, ◌↔◌, IsTrue, IfSome, ◌∷◌, ◌++◌, [], IfOk, drop, map, reverse, slice_get, take, length, ◌≤◌, ◌-◌};
 ghost use Rattle.nwq_value.specs.Roles.{tys_eq};
 ghost use Rattle.stack_shape.specs.Trades.{replaced, types_on};
 ghost use Rattle.stack_shape.specs.declared.shape.Slot.TheVariants.{Of};
@@ -20,15 +20,22 @@ pub fn slot_at(slots: &[Slot], depth: usize) -> Option<Slot>
 }
 
 /// The slots below the topmost `above`.
+#[tactic(auto, using(crate::proofs::Tops::lower_some, crate::proofs::Tops::lower_none))]
 pub fn lower(slots: &[Slot], above: usize) -> &[Slot]
     ensures { reverse result.now ≡ drop above (reverse slots.now) }
 {
-    &slots[..slots.len().saturating_sub(above)]
+    if above <= slots.len() {
+        &slots[..slots.len() - above]
+    } else {
+        &[]
+    }
 }
 
 /// The types of so many slots from the top, the top one first, where they are there and none is a base.
+#[tactic(auto, using(crate::proofs::Tops::so_far_none, crate::proofs::Tops::so_far_more, crate::proofs::Tops::so_far_base, crate::proofs::Tops::so_far_end, crate::proofs::Tops::so_far_all))]
 pub fn types_on(alloc: Global, slots: &[Slot], count: usize) -> Result<Option<Tys>, NoMemory>
-    ensures { IfOk result (λ types. types ≡ types_on count (reverse slots.now)) }
+    ensures types { IfOk result (λ types. types ≡ types_on count (reverse slots.now)) }
+    ensures length { IfOk result (λ types. IfSome types (λ types. length types ≡ count)) }
 {
     let mut types = Tys::new(alloc);
     for i in 0..count {
@@ -68,6 +75,7 @@ pub fn same_types(a: &[Ty], b: &[Ty]) -> bool
 }
 
 /// Puts values of these types on top, the last first.
+#[tactic(auto, using(crate::proofs::Tops::put_one, crate::proofs::Tops::last_put))]
 pub fn put_types(slots: &mut Slots, types: &[Ty]) -> Result<(), NoMemory>
     ensures { IfOk result (λ _. reverse slots.new ≡ map Of types.now ++ reverse slots.old) }
 {
