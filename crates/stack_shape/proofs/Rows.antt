@@ -9,6 +9,7 @@ use Rattle.stack_shape.specs.declared.shape.Slot.TheVariants.{Of, Base}
 use Rattle.stack_shape.specs.Rule.{Seen, rule}
 use Rattle.stack_shape.specs.Ranges.{range_at, below, words}
 use Rattle.stack_shape.specs.Trades.{trade_of, exchange, kept, reckoned, added, compared, type_of_both, type_of_one}
+
 plain : List Slot → Seen
 plain cells = record { cells = cells; under = []; saved = []; pending = 0 }
 

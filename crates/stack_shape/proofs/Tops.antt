@@ -1,7 +1,7 @@
 -- Lists of slots from their tops.
 use Rattle.std.proofs.Common.{rules, arith, ◌≡◌, ◌≢◌, ◌≤◌, ◌<◌, ◌+◌, ◌-◌, ℕ, zero, suc, List, [], ◌∷◌, ◌++◌, length, take, drop, reverse, map, slice_get, get_or, Option, Some, None, sym, subst, ◌∙◌, ap, refl}
 use Rattle.std.specs.Option.{option_map}
-use Rattle.std.proofs.lemmas.List.{reverse-reverse, length-reverse, reverse-append, length-append, append_assoc, append-nil, length-drop, drop_all, take-append-drop}
+use Rattle.std.proofs.lemmas.List.{reverse-reverse, length-reverse, reverse-append, length-append, append_assoc, append-nil, length-drop, drop_all, take_all, take-append-drop}
 use Rattle.std.proofs.Math.Seq.{drop-append_seam, take-append_seam}
 use Rattle.nwq_value.specs.declared.value.Ty.{Ty}
 use Rattle.stack_shape.specs.declared.shape.Slot.{Slot}
@@ -180,10 +180,10 @@ in_end xs end n (front, is) h = ap (λ l. slice_get l n) (ap reverse is ∙ reve
 end_below : (xs end : List Slot) → HasSuffix xs end → length end ≤ length xs
 end_below xs end (front, is) = omega (arith, ap length is, length-append front end)
 
-pub longest_is : (a b : List Slot) (n m : ℕ) → n ≤ length a → n ≤ length b → take n (reverse a) ≡ take n (reverse b)
+longest_end : (a b : List Slot) (n : ℕ) → n ≤ length a → n ≤ length b → take n (reverse a) ≡ take n (reverse b)
     → (n < length a → n < length b → slice_get (reverse a) n ≢ slice_get (reverse b) n)
-    → m ≡ length a - n → LongestSuffix a b (drop m a)
-longest_is a b n m ha hb same last e = subst (λ m. LongestSuffix a b (drop m a)) (sym e) (record {
+    → LongestSuffix a b (drop (length a - n) a)
+longest_end a b n ha hb same last = record {
   first = (take (length a - n) a, sym (take-append-drop (length a - n) a));
   second = (take (length b - n) b, sym (ap (λ l. take (length b - n) b ++ l) (upper a n ha ∙ ap reverse same ∙ sym (upper b n hb)) ∙ take-append-drop (length b - n) b));
   longest = λ end of_a of_b. omega (
@@ -194,4 +194,11 @@ longest_is a b n m ha hb same last e = subst (λ m. LongestSuffix a b (drop m a)
         last (omega (arith, h, end_below a end of_a)) (omega (arith, h, end_below b end of_b))
         (in_end a end n of_a h ∙ sym (in_end b end n of_b h))),
   );
-})
+}
+
+pub longest_is : (a b common : List Slot) (n : ℕ) → n ≤ length a → n ≤ length b → take n (reverse a) ≡ take n (reverse b)
+    → (n < length a → n < length b → slice_get (reverse a) n ≢ slice_get (reverse b) n)
+    → common ≡ take (length a - (length a - n)) (drop (length a - n) a) → LongestSuffix a b common
+longest_is a b common n ha hb same last e = subst (LongestSuffix a b)
+    (sym (e ∙ take_all (length a - (length a - n)) (drop (length a - n) a) (omega (arith, length-drop (length a - n) a))))
+    (longest_end a b n ha hb same last)
