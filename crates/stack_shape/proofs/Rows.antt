@@ -10,10 +10,10 @@ use Rattle.stack_shape.specs.Rule.{Seen, rule}
 use Rattle.stack_shape.specs.Ranges.{range_at, below, words}
 use Rattle.stack_shape.specs.Trades.{trade_of, exchange, kept, reckoned, added, compared, type_of_both, type_of_one}
 
-plain : List Slot → Seen
+abbrev plain : List Slot → Seen
 plain cells = record { cells = cells; under = []; saved = []; pending = 0 }
 
-none : EngineTable
+abbrev none : EngineTable
 none = record { routines = []; constants = [] }
 
 -- -8 names the second cell from the top; the window has no third

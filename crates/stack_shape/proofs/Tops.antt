@@ -47,6 +47,7 @@ last_saved xs x = reverse-append xs (x ∷ [])
 
 pub record SoFar (slots : List Slot) (count i : ℕ) (types : List Ty) : Type 0 where
   pub within : i ≤ count
+  pub size : length types ≡ i
   pub left : types_on count slots ≡ option_map (λ rest. types ++ rest) (types_on (count - i) (drop i slots))
 
 types_more : (slots : List Slot) (i n : ℕ) (t : Ty) → slice_get slots i ≡ Some (Of t)
@@ -96,12 +97,13 @@ start_is : (slots : List Slot) (count : ℕ)
 start_is slots count = ap (λ n. option_map (λ rest. [] ++ rest) (types_on n slots)) (no_less count)
 
 pub so_far_none : (slots : List Slot) (count : ℕ) → SoFar slots count 0 []
-so_far_none slots count = record { within = omega arith; left = same_map (types_on count slots) ∙ sym (start_is slots count) }
+so_far_none slots count = record { within = omega arith; size = refl; left = same_map (types_on count slots) ∙ sym (start_is slots count) }
 
 pub so_far_more : (slots : List Slot) (count i : ℕ) (types : List Ty) (t : Ty) → SoFar slots count i types → i < count
     → slice_get slots i ≡ Some (Of t) → SoFar slots count (i + 1) (types ++ t ∷ [])
 so_far_more slots count i types t h below is = record {
   within = omega (arith, below);
+  size = omega (arith, h.size, length-append types (t ∷ []));
   left = one_less slots count i (suc (count - (i + 1))) types h (less count i below)
       ∙ ap (option_map (λ rest. types ++ rest)) (types_more slots i (count - (i + 1)) t is)
       ∙ joined types t (types_on (count - (i + 1)) (drop (suc i) slots))
@@ -123,6 +125,9 @@ all_read count i h = omega (arith, h)
 
 pub so_far_all : (slots : List Slot) (count i : ℕ) (types : List Ty) → SoFar slots count i types → count ≤ i → Some types ≡ types_on count slots
 so_far_all slots count i types h past = sym (one_less slots count i 0 types h (all_read count i past) ∙ ap Some (append-nil types))
+
+pub so_far_size : (slots : List Slot) (count i : ℕ) (types : List Ty) → SoFar slots count i types → count ≤ i → length types ≡ count
+so_far_size slots count i types h past = omega (arith, h.size, h.within, past)
 
 -- ---- types put on top, the last first
 

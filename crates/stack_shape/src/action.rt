@@ -93,7 +93,8 @@ fn result_types(alloc: Global, ty: Ty) -> Result<Tys, NoMemory>
 /// Whether a call with this count fits the routine and the number of pending states.
 #[tactic(auto, unfolding(crate::specs::Rule::fits_call))]
 fn fits_call(routine: &Routine, count: u8, pending: u32) -> bool
-    ensures { result ≡ fits_call routine.now count pending }
+    ensures fits { result ≡ fits_call routine.now count pending }
+    ensures enough { IsTrue result → action_count routine.now.params ≤ pending }
 {
     is_callable(routine)
         && count as usize == routine.params.len()

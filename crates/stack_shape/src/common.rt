@@ -22,7 +22,6 @@ fn common_count(a: &[Slot], b: &[Slot]) -> usize
 }
 
 /// The longest list that both lists end with.
-#[tactic(auto, using(crate::proofs::Tops::longest_is))]
 fn longest_suffix(alloc: Global, a: &[Slot], b: &[Slot]) -> Result<Slots, NoMemory>
     ensures { IfOk result (λ common. LongestSuffix a.now b.now common) }
 {

@@ -32,7 +32,7 @@ pub fn lower(slots: &[Slot], above: usize) -> &[Slot]
 }
 
 /// The types of so many slots from the top, the top one first, where they are there and none is a base.
-#[tactic(auto, using(crate::proofs::Tops::so_far_none, crate::proofs::Tops::so_far_more, crate::proofs::Tops::so_far_base, crate::proofs::Tops::so_far_end, crate::proofs::Tops::so_far_all))]
+#[tactic(auto, using(crate::proofs::Tops::so_far_none, crate::proofs::Tops::so_far_more, crate::proofs::Tops::so_far_base, crate::proofs::Tops::so_far_end, crate::proofs::Tops::so_far_all, crate::proofs::Tops::so_far_size))]
 pub fn types_on(alloc: Global, slots: &[Slot], count: usize) -> Result<Option<Tys>, NoMemory>
     ensures types { IfOk result (λ types. types ≡ types_on count (reverse slots.now)) }
     ensures length { IfOk result (λ types. IfSome types (λ types. length types ≡ count)) }

@@ -1,4 +1,4 @@
-ghost use Rattle.std.specs.Prelude.{◌≡◌, ◌+◌, ◌<◌, ◌^◌, [], IfOk, drop, reverse};
+ghost use Rattle.std.specs.Prelude.{◌≡◌, ◌+◌, ◌<◌, ◌^◌, [], IfOk, IfSome, drop, reverse};
 ghost use Rattle.ncs_code.specs.Plain.{plain, plain_lit};
 ghost use Rattle.stack_shape.specs.Trades.{added, alike, compared, copied, counted, exchange, kept, kept_of, negated, one_int, pushed, reckoned, removed, runs, trade_of, two_alike, two_ints, type_of_both, type_of_lit, type_of_one, types_on, written};
 
@@ -187,6 +187,7 @@ fn kept(
 
 /// Two runs of so many cells are compared.
 fn runs(alloc: Global, count: Option<usize>, cells: &[Slot]) -> Result<Option<Trade>, NoMemory>
+    requires { IfSome count (λ n. n < 2 ^ 32) }
     ensures { IfOk result (λ trade. trade ≡ runs count (reverse cells.now)) }
 {
     match count {
