@@ -59,12 +59,12 @@ fn put_arguments(types: &mut Tys, params: &[Param]) -> Result<(), NoMemory>
 {
     match params {
         [] => Ok(()),
-        [param, params @ ..] => {
-            if is_action(param.ty) {
-                put_arguments(types, params)
+        [first, rest @ ..] => {
+            if is_action(first.ty) {
+                put_arguments(types, rest)
             } else {
-                types.push(param.ty)?;
-                put_arguments(types, params)
+                types.push(first.ty)?;
+                put_arguments(types, rest)
             }
         }
     }
