@@ -1,0 +1,4 @@
+pub mod Ranges
+pub mod Trades
+pub mod Rule
+pub mod Common
