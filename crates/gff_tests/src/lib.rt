@@ -1,0 +1,2 @@
+//! Tests of GFF files and what is read of them.
+#![tactic(auto)]

@@ -1,0 +1,2 @@
+//! Tests of NCS bytecode: instructions, whole files, labelled code.
+#![tactic(auto)]

@@ -1,0 +1,2 @@
+//! Tests of the front end: tokens, units, grammar, trees, engine headers.
+#![tactic(auto)]

@@ -1,0 +1,2 @@
+//! Tests of the base crates: values, texts, files and sink, plans.
+#![tactic(auto)]
