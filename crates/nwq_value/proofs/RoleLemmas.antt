@@ -2,7 +2,7 @@ use Rattle.std.proofs.Common.{◌≡◌, ◌↔◌, IsTrue, Bool, true, false, r
 use Rattle.std.specs.List.{list_any}
 use Rattle.nwq_value.specs.declared.engine.Param.{Param}
 use Rattle.nwq_value.specs.declared.value.Ty.{Ty}
-use Rattle.nwq_value.specs.declared.value.Ty.TheVariants.{Void, Int, Text, Object, Effect, Action, Struct, Refused}
+use Rattle.nwq_value.specs.declared.value.Ty.TheVariants.{Void, Int, Text, Object, Effect, Event, Action, Struct, Refused}
 use Rattle.nwq_value.specs.Roles.{ty_eq, is_barred_type, types_of}
 
 -- a test of the parameters' types is a test of the parameters
@@ -18,6 +18,7 @@ ty_eq-same Int Int e = refl
 ty_eq-same Text Text e = refl
 ty_eq-same Object Object e = refl
 ty_eq-same Effect Effect e = refl
+ty_eq-same Event Event e = refl
 ty_eq-same Action Action e = refl
 ty_eq-same (Struct m) (Struct n) e = ap Struct (eqb-true m n e)
 ty_eq-same Refused Refused e = refl
@@ -31,6 +32,7 @@ ty_eq-refl Int = refl
 ty_eq-refl Text = refl
 ty_eq-refl Object = refl
 ty_eq-refl Effect = refl
+ty_eq-refl Event = refl
 ty_eq-refl Action = refl
 ty_eq-refl Refused = refl
 

@@ -1,14 +1,14 @@
 -- Where the role of a row comes from.
-use Rattle.std.proofs.Common.{◌≡◌, ℕ, zero, suc, ◌+◌, Bool, true, false, ◌&&◌, ◌||◌, nat_eq, eqb-true, if◌then◌else◌, List, [], ◌∷◌, Option, None, Some, unwrap_or, slice_get, refl, sym, ap, subst, ◌∙◌, true≢false, zero-add, arith}
-use Rattle.std.specs.Cmp.Lexicographic.{bytes_decides}
+use Rattle.std.proofs.Common.{◌≡◌, ℕ, zero, suc, ◌+◌, Bool, true, false, not, ◌&&◌, ◌||◌, nat_eq, eqb-true, if◌then◌else◌, List, [], ◌∷◌, Option, None, Some, unwrap_or, slice_get, refl, sym, ap, subst, ◌∙◌, true≢false, zero-add, arith}
+use Rattle.std.specs.Cmp.Lexicographic.{nat_list_eq_equiv, bytes_decides}
 use Rattle.std.specs.List.{list_any}
 use Rattle.std.specs.Str.{bytes_eq}
 use Rattle.nwq_value.specs.declared.value.Ty.{Ty}
 use Rattle.nwq_value.specs.declared.engine.Role.{Role}
 use Rattle.nwq_value.specs.declared.engine.Role.TheVariants.{Built, Pure, World, Uncallable}
 use Rattle.nwq_value.specs.Header.{header_routines}
-use Rattle.nwq_value.specs.Roles.{Signature, ty_eq, tys_eq, has_signature, role_of_row, role_without_row, engine_role, header_signatures, is_barred_type, BuiltAsHeader, PureAsHeader, WorldIsCallable, UncallableIsBarred}
-use Rattle.nwq_value.proofs.RoleLemmas.{ty_eq-same}
+use Rattle.nwq_value.specs.Roles.{Signature, ty_eq, tys_eq, has_signature, role_of_row, role_without_row, engine_role, header_signatures, is_barred_type, BuiltAsHeader, PureAsHeader, HeaderAsRole, WorldIsCallable, UncallableIsBarred}
+use Rattle.nwq_value.proofs.RoleLemmas.{ty_eq-same, ty_eq-refl}
 
 both : (a b : Bool) → (a && b) ≡ true → (a ≡ true) × (b ≡ true)
 both true b e = (refl, e)
@@ -156,3 +156,65 @@ unfolding engine_role role_without_row is_number
 uncallable_is_barred name gives takes e =
     uncallable_row (role_of_row header_signatures name gives takes) (is_barred_type gives || list_any is_barred_type takes) e
     (no_such_row header_signatures name gives takes Uncallable header_numbered (λ i. refl))
+
+-- ---- the names of the rows differ, so each row is the first of its signature
+
+is_first_of_name : Signature → List Signature → Bool
+is_first_of_name s [] = true
+is_first_of_name s (t ∷ ts) = not (bytes_eq t.name s.name) && is_first_of_name s ts
+
+are_distinct : List Signature → Bool
+are_distinct [] = true
+are_distinct (s ∷ ss) = is_first_of_name s ss && are_distinct ss
+
+header_distinct : are_distinct header_signatures ≡ true
+unfolding header_routines are_distinct is_first_of_name
+header_distinct = refl
+
+other_name : (b : Bool) → not b ≡ true → b ≡ false
+other_name true e = absurd (true≢false (sym e))
+other_name false e = refl
+
+later_differs : (s : Signature) (ss : List Signature) (i : ℕ) (t : Signature) → is_first_of_name s ss ≡ true → slice_get ss i ≡ Some t
+    → bytes_eq t.name s.name ≡ false
+unfolding is_first_of_name
+later_differs s [] i t first at = cc
+later_differs s (x ∷ xs) zero t first at =
+    let is : x ≡ t = cc in
+    let p = both (not (bytes_eq x.name s.name)) (is_first_of_name s xs) first in
+    subst (λ y. bytes_eq y.name s.name ≡ false) is (other_name (bytes_eq x.name s.name) p.0)
+later_differs s (x ∷ xs) (suc i) t first at =
+    later_differs s xs i t (both (not (bytes_eq x.name s.name)) (is_first_of_name s xs) first).1 at
+
+tys_eq-refl : (ts : List Ty) → tys_eq ts ts ≡ true
+unfolding tys_eq
+tys_eq-refl [] = refl
+tys_eq-refl (t ∷ ts) = ap (λ b. b && tys_eq ts ts) (ty_eq-refl t) ∙ tys_eq-refl ts
+
+has_its_own : (s : Signature) → has_signature s.name s.gives s.takes s ≡ true
+unfolding has_signature
+has_its_own s =
+    ap (λ b. (b && ty_eq s.gives s.gives) && tys_eq s.takes s.takes) (nat_list_eq_equiv.refl s.name)
+    ∙ ap (λ b. b && tys_eq s.takes s.takes) (ty_eq-refl s.gives) ∙ tys_eq-refl s.takes
+
+has_no_other : (s t : Signature) → bytes_eq t.name s.name ≡ false → has_signature t.name t.gives t.takes s ≡ false
+unfolding has_signature
+has_no_other s t e = ap (λ b. (b && ty_eq t.gives s.gives) && tys_eq t.takes s.takes) e
+
+role_at : (ss : List Signature) (i : ℕ) (s : Signature) → are_distinct ss ≡ true → slice_get ss i ≡ Some s
+    → role_of_row ss s.name s.gives s.takes ≡ s.role
+unfolding are_distinct role_of_row
+role_at [] i s distinct at = cc
+role_at (x ∷ xs) zero s distinct at =
+    let is : x ≡ s = cc in
+    subst (λ y. role_of_row (y ∷ xs) s.name s.gives s.takes ≡ s.role) (sym is)
+    (ap (λ b. if b then s.role else role_of_row xs s.name s.gives s.takes) (has_its_own s))
+role_at (x ∷ xs) (suc i) s distinct at =
+    let p = both (is_first_of_name x xs) (are_distinct xs) distinct in
+    ap (λ b. if b then x.role else role_of_row xs s.name s.gives s.takes) (has_no_other x s (later_differs x xs i s p.0 at))
+    ∙ role_at xs i s p.1 at
+
+pub header_as_role : HeaderAsRole
+unfolding engine_role
+header_as_role n s at =
+    ap (λ o. unwrap_or o (role_without_row s.gives s.takes)) (role_at header_signatures n s header_distinct at)

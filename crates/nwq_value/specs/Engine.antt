@@ -9,6 +9,7 @@ use Rattle.nwq_value.specs.declared.engine.Const.{Const}
 use Rattle.nwq_value.specs.declared.engine.Const.TheVariants.{Int, Text, SelfObject, InvalidObject}
 use Rattle.nwq_value.specs.declared.engine.Param.{Param}
 use Rattle.nwq_value.specs.declared.engine.Routine.{Routine}
+use Rattle.nwq_value.specs.Limits.{parameter_limit, routine_limit}
 use Rattle.nwq_value.specs.Roles.{engine_role, types_of}
 
 -- a constant under its name
@@ -54,7 +55,7 @@ AreParams (p ∷ ps) = IsNoStruct p.ty × FitsType p.default p.ty × AreParams p
 
 -- what is kept of each routine
 pub record IsRoutine (r : Routine) : Type 0 where
-  pub few : length r.params ≤ 255
+  pub few : length r.params ≤ parameter_limit
   pub result_type : IsNoStruct r.result
   pub param_types : AreParams r.params
   pub role : r.role ≡ engine_role r.name r.result (types_of r.params)
@@ -70,7 +71,7 @@ AreApart (c ∷ cs) routines = (routine_named c.name routines ≡ None) × AreAp
 
 -- what every table keeps
 pub record IsTable (t : EngineTable) : Type 0 where
-  pub few : length t.routines ≤ 65535
+  pub few : length t.routines ≤ routine_limit
   pub routines : AreRoutines t.routines
   pub routine_names : IsDistinct bytes_eq (map (λ r. r.name) t.routines)
   pub constant_names : IsDistinct bytes_eq (map (λ c. c.name) t.constants)

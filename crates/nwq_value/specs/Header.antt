@@ -2,7 +2,7 @@
 use Prim.Native.String.{String}
 use Rattle.std.specs.Prelude.{ℕ, List, [], ◌∷◌, ◌++◌, Option, None, Some, codes, pos}
 use Rattle.nwq_value.specs.declared.value.Ty.{Ty}
-use Rattle.nwq_value.specs.declared.value.Ty.TheVariants.{Void as VoidTy, Int as IntTy, Text as TextTy, Object as ObjectTy, Effect as EffectTy, Action as ActionTy, Refused}
+use Rattle.nwq_value.specs.declared.value.Ty.TheVariants.{Void as VoidTy, Int as IntTy, Text as TextTy, Object as ObjectTy, Effect as EffectTy, Event as EventTy, Action as ActionTy, Refused}
 use Rattle.nwq_value.specs.declared.engine.Const.{Const}
 use Rattle.nwq_value.specs.declared.engine.Const.TheVariants.{Int as IntConst, SelfObject}
 use Rattle.nwq_value.specs.declared.engine.Role.{Role}
@@ -42,6 +42,9 @@ object = record { text = codes "object"; ty = ObjectTy }
 abbrev pub effect : Word
 effect = record { text = codes "effect"; ty = EffectTy }
 
+abbrev pub event : Word
+event = record { text = codes "event"; ty = EventTy }
+
 abbrev pub action : Word
 action = record { text = codes "action"; ty = ActionTy }
 
@@ -73,7 +76,7 @@ header_routines =
     routine void "PrintObject" (of object "oObject" ∷ []) (Some (Built 5)) ∷
     routine void "AssignCommand" (of object "oActionSubject" ∷ of action "aActionToAssign" ∷ []) (Some (Built 6)) ∷
     routine void "DelayCommand" (of int "nMilliseconds" ∷ of action "aActionToDelay" ∷ []) (Some (Built 7)) ∷
-    routine void "ExecuteScript" (of string "sScript" ∷ self_or "oTarget" ∷ []) None ∷
+    routine void "ExecuteScript" (of string "sScript" ∷ self_or "oTarget" ∷ []) (Some (Built 8)) ∷
     routine void "ClearAllActions" (int_or "nClearCombatState" "FALSE" 0 ∷ []) (Some (Built 9)) ∷
     routine void "ActionDoCommand" (of action "aActionToDo" ∷ []) (Some (Built 10)) ∷
     routine void "ActionWait" (of int "nMilliseconds" ∷ []) (Some (Built 11)) ∷
@@ -102,7 +105,10 @@ header_routines =
     routine string "GetStringRight" (of string "sString" ∷ of int "nCount" ∷ []) (Some (Pure 6)) ∷
     routine string "GetSubString" (of string "sString" ∷ of int "nStart" ∷ of int "nCount" ∷ []) (Some (Pure 7)) ∷
     routine string "InsertString" (of string "sDestination" ∷ of string "sString" ∷ of int "nPosition" ∷ []) (Some (Pure 8)) ∷
-    routine string "Get2DAString" (of string "s2DA" ∷ of string "sColumn" ∷ of int "nRow" ∷ []) None ∷
+    routine string "Get2DAString" (of string "s2DA" ∷ of string "sColumn" ∷ of int "nRow" ∷ []) (Some (Pure 9)) ∷
+    routine event "EventUserDefined" (of int "nUserDefinedEventNumber" ∷ []) (Some (Built 38)) ∷
+    routine void "SignalEvent" (of object "oObject" ∷ of event "evToRun" ∷ []) (Some (Built 39)) ∷
+    routine int "GetUserDefinedEventNumber" [] (Some (Built 40)) ∷
     []
 
 abbrev pub after_equals : Option Const → List ℕ → List ℕ

@@ -3,7 +3,7 @@ use Rattle.std.specs.Prelude.{◌≡◌, ◌+◌, slice_get, ℕ, Bool, true, fa
 use Rattle.std.specs.List.{list_any}
 use Rattle.std.specs.Str.{bytes_eq}
 use Rattle.nwq_value.specs.declared.value.Ty.{Ty}
-use Rattle.nwq_value.specs.declared.value.Ty.TheVariants.{Void, Int, Text, Object, Effect, Action, Struct, Refused}
+use Rattle.nwq_value.specs.declared.value.Ty.TheVariants.{Void, Int, Text, Object, Effect, Event, Action, Struct, Refused}
 use Rattle.nwq_value.specs.declared.engine.Param.{Param}
 use Rattle.nwq_value.specs.declared.engine.Role.{Role}
 use Rattle.nwq_value.specs.declared.engine.Role.TheVariants.{Built, Pure, World, Uncallable}
@@ -16,6 +16,7 @@ ty_eq Int Int = true
 ty_eq Text Text = true
 ty_eq Object Object = true
 ty_eq Effect Effect = true
+ty_eq Event Event = true
 ty_eq Action Action = true
 ty_eq (Struct m) (Struct n) = nat_eq m n
 ty_eq Refused Refused = true
@@ -78,6 +79,11 @@ BuiltAsHeader = (name : List ℕ) (gives : Ty) (takes : List Ty) (n : ℕ) → e
 abbrev pub PureAsHeader : Type 0
 PureAsHeader = (name : List ℕ) (gives : Ty) (takes : List Ty) (k : ℕ) → engine_role name gives takes ≡ Pure k
     → slice_get header_signatures (28 + k) ≡ Some (record { name = name; gives = gives; takes = takes; role = Some (Pure k) })
+
+-- a routine with the name and types of row n has that row's role, or where the row has none, the one that its types give
+abbrev pub HeaderAsRole : Type 0
+HeaderAsRole = (n : ℕ) (s : Signature) → slice_get header_signatures n ≡ Some s
+    → engine_role s.name s.gives s.takes ≡ unwrap_or s.role (role_without_row s.gives s.takes)
 
 -- a world function passes and gives values that a call can pass and give
 abbrev pub WorldIsCallable : Type 0

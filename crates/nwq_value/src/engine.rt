@@ -8,7 +8,7 @@ use crate::value::Ty;
 use std::alloc::Global;
 
 /// A constant of a header: the default of a parameter, or what a name stands for.
-#[derive(Debug, Drop)]
+#[derive(Drop)]
 pub enum Const {
     Int(i32),
     Text(Text),
@@ -19,7 +19,7 @@ pub enum Const {
 impl Const {
     /// The type of its value.
     pub fn ty(&self) -> Ty
-        ensures { result ≡ const_type self.now }
+        ensures ty { result ≡ const_type self.now }
     {
         match self {
             Const::Int(_) => Ty::Int,
@@ -30,7 +30,7 @@ impl Const {
 
     /// An equal constant.
     pub fn copy(&self, alloc: Global) -> Result<Const, NoMemory>
-        ensures { IfOk result (λ constant. constant ≡ self.now) }
+        ensures ok { IfOk result (λ constant. constant ≡ self.now) }
     {
         match self {
             Const::Int(n) => Ok(Const::Int(*n)),
@@ -42,7 +42,7 @@ impl Const {
 }
 
 /// A parameter of a routine.
-#[derive(Debug, Drop)]
+#[derive(Drop)]
 pub struct Param {
     pub ty: Ty,
     pub default: Option<Const>,
@@ -62,7 +62,7 @@ pub enum Role {
 }
 
 /// A routine of a header, under its number in the table.
-#[derive(Debug, Drop)]
+#[derive(Drop)]
 pub struct Routine {
     pub name: Text,
     pub result: Ty,

@@ -1,6 +1,6 @@
 ghost use Rattle.std.specs.Prelude.{◌≡◌};
 ghost use Rattle.nwq_value.specs.Header.{header_text};
-ghost use Rattle.nwq_value.specs.Roles.{BuiltAsHeader, PureAsHeader, UncallableIsBarred, WorldIsCallable};
+ghost use Rattle.nwq_value.specs.Roles.{BuiltAsHeader, HeaderAsRole, PureAsHeader, UncallableIsBarred, WorldIsCallable};
 
 /// The built-in header, as a script's header is written.
 pub static BUILT_IN: &[u8] = b"#define ENGINE_NUM_STRUCTURES 4\n\
@@ -50,18 +50,23 @@ string GetStringLeft(string sString, int nCount);\n\
 string GetStringRight(string sString, int nCount);\n\
 string GetSubString(string sString, int nStart, int nCount);\n\
 string InsertString(string sDestination, string sString, int nPosition);\n\
-string Get2DAString(string s2DA, string sColumn, int nRow);\n";
+string Get2DAString(string s2DA, string sColumn, int nRow);\n\
+event EventUserDefined(int nUserDefinedEventNumber);\n\
+void SignalEvent(object oObject, event evToRun);\n\
+int GetUserDefinedEventNumber();\n";
 
 /// The text is what the definition of the header writes.
 pub fn built_in_is_the_header()
-    ensures { BUILT_IN.now ≡ header_text }
+    ensures text { BUILT_IN.now ≡ header_text }
 {}
 
 /// What a role tells: `Built` and `Pure` come from the header's row of that number alone, with its name
-/// and its types; a world function has only values that a call can pass and give, an uncallable one has not.
+/// and its types, and each row gives its role; a world function has only values that a call can pass and
+/// give, an uncallable one has not.
 pub fn roles_tell()
     ensures built { BuiltAsHeader }
     ensures hooks { PureAsHeader }
+    ensures rows { HeaderAsRole }
     ensures world { WorldIsCallable }
     ensures uncallable { UncallableIsBarred }
 {}

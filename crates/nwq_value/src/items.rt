@@ -22,7 +22,7 @@ impl<T> Model for Items<T> {
 impl<T> Items<T> {
     /// The list without items.
     pub fn new(alloc: Global) -> Self
-        ensures { result ≡ [] }
+        ensures empty { result ≡ [] }
     {
         Items {
             all: Vec::new(alloc),
@@ -30,41 +30,41 @@ impl<T> Items<T> {
     }
 
     pub fn len(&self) -> usize
-        ensures { result ≡ length self.now }
+        ensures len { result ≡ length self.now }
     {
         self.all.len()
     }
 
     pub fn is_empty(&self) -> bool
-        ensures { IsTrue result ↔ (self.now ≡ []) }
+        ensures empty { IsTrue result ↔ (self.now ≡ []) }
     {
         self.all.is_empty()
     }
 
     /// The items, borrowed as a slice.
     pub fn as_slice(&self) -> &[T]
-        ensures { result.now ≡ self.now }
+        ensures items { result.now ≡ self.now }
     {
         self.all.as_slice()
     }
 
     /// The item at place `i`, counted from 0.
     pub fn get(&self, i: usize) -> Option<&T>
-        ensures { option_copied result ≡ slice_get self.now i }
+        ensures item { option_copied result ≡ slice_get self.now i }
     {
         self.all.get(i)
     }
 
     /// The list of a vector's items, which takes no memory.
     pub fn of_vec(all: Vec<T>) -> Self
-        ensures { result ≡ all.items }
+        ensures items { result ≡ all.items }
     {
         Items { all }
     }
 
     /// The vector of the items, which takes no memory.
     pub fn into_vec(self) -> Vec<T>
-        ensures { result.items ≡ self }
+        ensures items { result.items ≡ self }
     {
         let Items { all } = self;
         all
@@ -83,15 +83,15 @@ impl<T: Drop> Items<T> {
 
     /// Replaces the item at place `i`.
     pub fn set(&mut self, i: usize, x: T)
-        requires { i < length self.old }
-        ensures { self.new ≡ slice_set self.old i x }
+        requires inside { i < length self.old }
+        ensures set { self.new ≡ slice_set self.old i x }
     {
         self.all[i] = x;
     }
 
     /// Drops all items.
     pub fn clear(&mut self)
-        ensures { self.new ≡ [] }
+        ensures empty { self.new ≡ [] }
     {
         self.all.clear();
     }
@@ -100,7 +100,7 @@ impl<T: Drop> Items<T> {
 impl<T: Copy> Items<T> {
     /// The list of copies of a slice's items.
     pub fn of_slice(alloc: Global, items: &[T]) -> Result<Self, NoMemory>
-        ensures { IfOk result (λ all. all ≡ items.now) }
+        ensures ok { IfOk result (λ all. all ≡ items.now) }
     {
         Ok(Items {
             all: Vec::from_slice(alloc, items)?,

@@ -26,6 +26,3 @@ pub use roles::role_of;
 pub use table::Table;
 pub use text::Text;
 pub use value::{Args, Effect, Ints, Randoms, Ty, Tys, Value, start_of};
-
-#[cfg(test)]
-mod tests;

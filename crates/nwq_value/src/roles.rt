@@ -14,7 +14,7 @@ struct Row {
     role: Option<Role>,
 }
 
-static ROWS: [Row; 38] = [
+static ROWS: [Row; 41] = [
     Row {
         name: b"Random",
         gives: Ty::Int,
@@ -67,7 +67,7 @@ static ROWS: [Row; 38] = [
         name: b"ExecuteScript",
         gives: Ty::Void,
         takes: &[Ty::Text, Ty::Object],
-        role: None,
+        role: Some(Role::Built(8)),
     },
     Row {
         name: b"ClearAllActions",
@@ -241,7 +241,25 @@ static ROWS: [Row; 38] = [
         name: b"Get2DAString",
         gives: Ty::Text,
         takes: &[Ty::Text, Ty::Text, Ty::Int],
-        role: None,
+        role: Some(Role::Pure(9)),
+    },
+    Row {
+        name: b"EventUserDefined",
+        gives: Ty::Event,
+        takes: &[Ty::Int],
+        role: Some(Role::Built(38)),
+    },
+    Row {
+        name: b"SignalEvent",
+        gives: Ty::Void,
+        takes: &[Ty::Object, Ty::Event],
+        role: Some(Role::Built(39)),
+    },
+    Row {
+        name: b"GetUserDefinedEventNumber",
+        gives: Ty::Int,
+        takes: &[],
+        role: Some(Role::Built(40)),
     },
 ];
 
@@ -332,7 +350,7 @@ fn plain_role(gives: Ty, params: &[Param]) -> Role
 /// is refused or an action, and else `World`.
 #[tactic(auto, unfolding(crate::specs::Roles::engine_role))]
 pub fn role_of(name: &[u8], gives: Ty, params: &[Param]) -> Role
-    ensures { result ≡ engine_role name.now gives (types_of params.now) }
+    ensures role { result ≡ engine_role name.now gives (types_of params.now) }
 {
     match role_in(rows(), name, gives, params) {
         Some(role) => role,

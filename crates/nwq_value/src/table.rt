@@ -1,6 +1,7 @@
 ghost use Rattle.std.specs.Prelude.{◌≡◌, ◌<◌, ◌≤◌, ◌∷◌, [], ◌++◌, None, Some, length, slice_get, IfSome, OnOk, OnErr};
 ghost use Rattle.std.specs.Option.{option_copied};
 ghost use Rattle.nwq_value.specs.Engine.{routine_named, constant_named, AreParams, ConstantIsOfName, IsNoStruct, IsRoutine, IsTable, NoConstantNoName, NoNumberNoName, NumberIsOfName};
+ghost use Rattle.nwq_value.specs.Limits.{parameter_limit, routine_limit};
 ghost use Rattle.nwq_value.specs.Roles.{engine_role, types_of};
 
 use crate::engine::{Const, Routine};
@@ -30,13 +31,14 @@ impl Model for Table {
 
     ghost view = { λ t. table_of t.routines.entries t.constants.entries };
 
-    ghost invariant = { λ t. AreKeyed t.routines.entries × IsTable (table_of t.routines.entries t.constants.entries) };
+    ghost invariant = { λ t. AreKeyed t.routines.entries
+        × IsTable (table_of t.routines.entries t.constants.entries) };
 }
 
 impl Table {
     /// The table without routines and constants.
     pub fn new(alloc: Global) -> Table
-        ensures { result ≡ record { routines = []; constants = [] } }
+        ensures empty { result ≡ record { routines = []; constants = [] } }
     {
         Table {
             alloc,
@@ -49,8 +51,8 @@ impl Table {
     pub fn push(&mut self, routine: Routine) -> Result<(), NoMemory>
         requires no_routine { routine_named routine.name self.old.routines ≡ None }
         requires no_constant { constant_named routine.name self.old.constants ≡ None }
-        requires room { length self.old.routines < 65535 }
-        requires few { length routine.params ≤ 255 }
+        requires room { length self.old.routines < routine_limit }
+        requires few { length routine.params ≤ parameter_limit }
         requires result_type { IsNoStruct routine.result }
         requires param_types { AreParams routine.params }
         requires role { routine.role ≡ engine_role routine.name routine.result (types_of routine.params) }
@@ -66,7 +68,9 @@ impl Table {
     pub fn define(&mut self, name: Text, value: Const) -> Result<(), NoMemory>
         requires no_routine { routine_named name self.old.routines ≡ None }
         requires no_constant { constant_named name self.old.constants ≡ None }
-        ensures ok { OnOk result (self.new ≡ record self.old { constants = self.old.constants ++ record { name = name; value = value } ∷ [] }) }
+        ensures ok { OnOk result (self.new ≡ record self.old {
+          constants = self.old.constants ++ record { name = name; value = value } ∷ [];
+        }) }
         ensures err { OnErr result (self.new ≡ self.old) }
     {
         let name = Vec::from_slice(self.alloc, name.bytes())?;
@@ -77,7 +81,7 @@ impl Table {
     /// How many routines there are.
     pub fn count(&self) -> usize
         ensures count { result ≡ length self.now.routines }
-        ensures bound { result ≤ 65535 }
+        ensures bound { result ≤ routine_limit }
     {
         self.routines.len()
     }
@@ -115,7 +119,7 @@ impl Table {
 
     /// What every table keeps of its names and routines.
     pub fn keeps(&self)
-        ensures { IsTable self.now }
+        ensures table { IsTable self.now }
     {
         let _ = &self.routines;
     }

@@ -1,4 +1,5 @@
-ghost use Rattle.std.specs.Prelude.{◌≡◌, ◌++◌, ◌≤◌, ◌↔◌, [], length, take, IsTrue, IfOk};
+ghost use Rattle.std.specs.Prelude.{◌≡◌, ◌++◌, ◌≤◌, [], length, take, IfOk};
+ghost use Rattle.nwq_value.specs.Limits.{text_limit};
 
 use crate::memory::NoMemory;
 use std::alloc::Global;
@@ -15,17 +16,18 @@ pub struct Text {
 
 impl Model for Text {
     ghost use Rattle.std.specs.Prelude.{List, ℕ, ◌≤◌, length};
+    ghost use Rattle.nwq_value.specs.Limits.{text_limit};
 
     ghost Value = { List ℕ };
 
     ghost view = { λ a. a.bytes.items };
 
-    ghost invariant = { λ a. length a.bytes.items ≤ 8192 };
+    ghost invariant = { λ a. length a.bytes.items ≤ text_limit };
 }
 
 /// The first `n` bytes, or all where there are fewer.
 #[tactic(auto, using(crate::proofs::TextLemmas::take_all))]
-fn front(bytes: &[u8], n: usize) -> &[u8]
+fn prefix(bytes: &[u8], n: usize) -> &[u8]
     ensures kept { result.now ≡ take n bytes.now }
     ensures bound { length result.now ≤ n }
 {
@@ -35,7 +37,7 @@ fn front(bytes: &[u8], n: usize) -> &[u8]
 impl Text {
     /// The text without bytes; takes no memory.
     pub fn empty(alloc: Global) -> Text
-        ensures { result ≡ [] }
+        ensures empty { result ≡ [] }
     {
         Text {
             bytes: Vec::new(alloc),
@@ -44,23 +46,23 @@ impl Text {
 
     /// The first [`TEXT_BYTES`] of these bytes.
     pub fn of(alloc: Global, bytes: &[u8]) -> Result<Text, NoMemory>
-        ensures { IfOk result (λ text. text ≡ take TEXT_BYTES bytes.now) }
+        ensures ok { IfOk result (λ text. text ≡ take text_limit bytes.now) }
     {
         Ok(Text {
-            bytes: Vec::from_slice(alloc, front(bytes, TEXT_BYTES))?,
+            bytes: Vec::from_slice(alloc, prefix(bytes, TEXT_BYTES))?,
         })
     }
 
     pub fn bytes(&self) -> &[u8]
         ensures same { result.now ≡ self.now }
-        ensures bound { length self.now ≤ TEXT_BYTES }
+        ensures bound { length self.now ≤ text_limit }
     {
         self.bytes.as_slice()
     }
 
     /// An equal text.
     pub fn copy(&self, alloc: Global) -> Result<Text, NoMemory>
-        ensures { IfOk result (λ text. text ≡ self.now) }
+        ensures ok { IfOk result (λ text. text ≡ self.now) }
     {
         Ok(Text {
             bytes: Vec::from_slice(alloc, self.bytes.as_slice())?,
@@ -70,11 +72,11 @@ impl Text {
     /// The first [`TEXT_BYTES`] bytes of both texts in a row.
     #[tactic(auto, using(crate::proofs::TextLemmas::take_joined))]
     pub fn join(&self, alloc: Global, other: &Text) -> Result<Text, NoMemory>
-        ensures { IfOk result (λ text. text ≡ take TEXT_BYTES (self.now ++ other.now)) }
+        ensures ok { IfOk result (λ text. text ≡ take text_limit (self.now ++ other.now)) }
     {
         let room = TEXT_BYTES - self.bytes.len();
         let mut bytes = Vec::from_slice(alloc, self.bytes.as_slice())?;
-        bytes.extend_from_slice(front(other.bytes.as_slice(), room))?;
+        bytes.extend_from_slice(prefix(other.bytes.as_slice(), room))?;
         Ok(Text { bytes })
     }
 }

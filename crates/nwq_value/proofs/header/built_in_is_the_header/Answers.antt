@@ -4,4 +4,4 @@ use Rattle.nwq_value.proofs.header.built_in_is_the_header.Goals as goal
 
 pub returns : goal.returns
 unfolding header_text header_constants header_routines
-returns c = refl
+returns c = record { text = refl }

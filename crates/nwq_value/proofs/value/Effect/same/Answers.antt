@@ -7,4 +7,4 @@ pub returns-then-self-other : goal.returns-then-self-other
 returns-then-self-other c =
     let routine : c.args.self.now.routine ≡ c.args.other.now.routine = search rules in
     let ints : IsTrue c.eq.result ↔ (c.args.self.now.ints ≡ c.args.other.now.ints) = let h = c.eq.ensures in search (rules, signed_items) in
-    (λ t. same_effect _ _ routine (ints.0 t), λ e. ints.1 (ap (λ x. x.ints) e))
+    record { equal = (λ t. same_effect _ _ routine (ints.0 t), λ e. ints.1 (ap (λ x. x.ints) e)) }

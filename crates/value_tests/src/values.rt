@@ -1,4 +1,4 @@
-use crate::*;
+use nwq_value::*;
 use std::alloc::Global;
 use std::test::Fail;
 
@@ -54,13 +54,14 @@ fn values_are_equal_by_type_and_content(rt: HostRuntime) -> Result<(), Fail> {
     });
     assert!(rt; damage.same(&damage.copy(alloc)?));
     assert!(rt; !damage.same(&heal));
-    assert!(rt; start_of(alloc, Ty::Object).same(&Value::Object(0)));
+    assert!(rt; start_of(alloc, Ty::Event).same(&Value::Event(0)));
+    assert!(rt; !Value::Event(7).same(&Value::Int(7)));
     Ok(())
 }
 
 #[test]
 fn roles_follow_name_and_types(rt: HostRuntime) -> Result<(), Fail> {
-    let wanted: [(&[u8], Ty, &[Ty], Role); 10] = [
+    let wanted: [(&[u8], Ty, &[Ty], Role); 12] = [
         (b"Random", Ty::Int, &[Ty::Int], Role::Built(0)),
         (b"Random", Ty::Void, &[Ty::Int], Role::World),
         (b"random", Ty::Int, &[Ty::Int], Role::World),
@@ -72,10 +73,10 @@ fn roles_follow_name_and_types(rt: HostRuntime) -> Result<(), Fail> {
         ),
         (b"abs", Ty::Int, &[Ty::Int], Role::Pure(0)),
         (
-            b"InsertString",
+            b"Get2DAString",
             Ty::Text,
             &[Ty::Text, Ty::Text, Ty::Int],
-            Role::Pure(8),
+            Role::Pure(9),
         ),
         (
             b"AssignCommand",
@@ -93,8 +94,15 @@ fn roles_follow_name_and_types(rt: HostRuntime) -> Result<(), Fail> {
             b"ExecuteScript",
             Ty::Void,
             &[Ty::Text, Ty::Object],
-            Role::World,
+            Role::Built(8),
         ),
+        (
+            b"SignalEvent",
+            Ty::Void,
+            &[Ty::Object, Ty::Event],
+            Role::Built(39),
+        ),
+        (b"EventActivateItem", Ty::Event, &[Ty::Object], Role::World),
         (
             b"PrintFloat",
             Ty::Void,
