@@ -1,2 +1,5 @@
 //! Tests of the base crates: values, texts, files and sink, plans.
 #![tactic(auto)]
+
+#[cfg(test)]
+mod files;
