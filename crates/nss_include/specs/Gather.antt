@@ -1,7 +1,7 @@
 -- What is answered of a unit, of whichever files.
 use Rattle.std.specs.Prelude.{◌≡◌, ℕ, List, [], ◌∷◌, Some, None, Result, Ok, Err}
 use Rattle.std.specs.List.{AllByRecursion}
-use Rattle.nwq_outside.specs.Outside.{Rose}
+use Rattle.nwq_outside.specs.Outside.{FileCounts, NoneRises, FaultsRise, AbsencesRise, LongsRise}
 use Rattle.nss_lexer.specs.Splitting.{Lexeme}
 use Rattle.nss_include.specs.declared.fault.GatherFault.{GatherFault}
 use Rattle.nss_include.specs.declared.fault.GatherFault.TheVariants.{Missing, Fault, Long, Bad, Tokens, Include, NoMemory}
@@ -24,15 +24,16 @@ Claims (Tokens spot) P = P
 Claims (Include spot) P = P
 Claims NoMemory P = Unit {0}
 
--- A fault of the outside comes only where its count rose: absences, faults or longs, each before and now.
-abbrev pub IsCaused : GatherFault → ℕ → ℕ → ℕ → ℕ → ℕ → ℕ → Type 0
-IsCaused (Missing name) absences absences' faults faults' longs longs' = Rose absences absences'
-IsCaused (Long name) absences absences' faults faults' longs longs' = Rose longs longs'
-IsCaused Fault absences absences' faults faults' longs longs' = Rose faults faults'
-IsCaused (Bad spot) absences absences' faults faults' longs longs' = Unit {0}
-IsCaused (Tokens spot) absences absences' faults faults' longs longs' = Unit {0}
-IsCaused (Include spot) absences absences' faults faults' longs longs' = Unit {0}
-IsCaused NoMemory absences absences' faults faults' longs longs' = Unit {0}
+-- What the counts of files are after such an answer: none rose but that of the fault of the outside which it gives.
+abbrev pub CountsGathered : {A : Type 0} → Result A GatherFault → FileCounts → FileCounts → Type 0
+CountsGathered (Ok a) before now = NoneRises before now
+CountsGathered (Err (Missing name)) before now = AbsencesRise before now
+CountsGathered (Err (Long name)) before now = LongsRise before now
+CountsGathered (Err Fault) before now = FaultsRise before now
+CountsGathered (Err (Bad spot)) before now = NoneRises before now
+CountsGathered (Err (Tokens spot)) before now = NoneRises before now
+CountsGathered (Err (Include spot)) before now = NoneRises before now
+CountsGathered (Err NoMemory) before now = NoneRises before now
 
 -- the file of this script stands first
 abbrev pub HasScript : List Source → List ℕ → Type 0

@@ -6,7 +6,7 @@ ghost use Rattle.nss_include.specs.declared.step.Step.TheVariants as step;
 ghost use Rattle.nss_include.specs.Names.{file_name};
 ghost use Rattle.nss_include.specs.Units.{Contents, IsUnit};
 ghost use Rattle.nss_include.specs.Progress.{Opens, Opened, Extends, IsReadFault, ExplainsRead, IsOwnFault, Begins, ComesTo};
-ghost use Rattle.nss_include.specs.Gather.{IsCaused, HoldsFiles, Claims, HasScript, Gathers};
+ghost use Rattle.nss_include.specs.Gather.{CountsGathered, HoldsFiles, Claims, HasScript, Gathers};
 
 use crate::fault::GatherFault;
 use crate::opened::{Open, OpenFiles};
@@ -45,21 +45,21 @@ fn read_into<F: Files>(
     ensures fault { IfErr result (IsReadFault name.now) }
     ensures told { IsTrue F.tells → IfErr result (ExplainsRead (map.get (F.contents files.old)) name.now) }
 
-    ensures caused { IfErr result (λ fault. IsCaused fault (F.absences files.old) (F.absences files.new) (F.faults files.old) (F.faults files.new) (F.longs files.old) (F.longs files.new)) }
     ensures same { F.contents files.new ≡ F.contents files.old }
-    ensures faults_stay { F.faults files.old ≤ F.faults files.new }
-    ensures absences_stay { F.absences files.old ≤ F.absences files.new }
-    ensures longs_stay { F.longs files.old ≤ F.longs files.new }
+    ensures counts { CountsGathered result
+        (record { faults = F.faults files.old; absences = F.absences files.old; longs = F.longs files.old })
+        (record { faults = F.faults files.new; absences = F.absences files.new; longs = F.longs files.new }) }
 {
+    let refused = Text::of(alloc, name.as_bytes())?;
     match files.read(alloc, name) {
         Read::Bytes(bytes) => {
             let copy = Items::of_slice(alloc, name.as_bytes())?;
             unit.open(copy, Items::of_vec(bytes))?;
             Ok(())
         }
-        Read::Missing => Err(GatherFault::Missing(Text::of(alloc, name.as_bytes())?)),
+        Read::Missing => Err(GatherFault::Missing(refused)),
         Read::Failed => Err(GatherFault::Fault),
-        Read::Long => Err(GatherFault::Long(Text::of(alloc, name.as_bytes())?)),
+        Read::Long => Err(GatherFault::Long(refused)),
         Read::NoMemory => Err(GatherFault::NoMemory),
     }
 }
@@ -128,11 +128,10 @@ impl Reading {
         ensures fault { IfErr result (IsReadFault name.now) }
         ensures told { IsTrue F.tells → IfErr result (ExplainsRead (map.get (F.contents files.old)) name.now) }
 
-        ensures caused { IfErr result (λ fault. IsCaused fault (F.absences files.old) (F.absences files.new) (F.faults files.old) (F.faults files.new) (F.longs files.old) (F.longs files.new)) }
         ensures same { F.contents files.new ≡ F.contents files.old }
-        ensures faults_stay { F.faults files.old ≤ F.faults files.new }
-        ensures absences_stay { F.absences files.old ≤ F.absences files.new }
-        ensures longs_stay { F.longs files.old ≤ F.longs files.new }
+        ensures counts { CountsGathered result
+            (record { faults = F.faults files.old; absences = F.absences files.old; longs = F.longs files.old })
+            (record { faults = F.faults files.new; absences = F.absences files.new; longs = F.longs files.new }) }
     {
         self.pass(here, after)?;
         let number = self.unit.count() as u16;
@@ -165,11 +164,10 @@ impl Reading {
         ensures stops { IfErr result (λ fault. Claims fault ((contents : Contents) → Explains contents fault → Stops contents (reopened here self.old) fault)) }
         ensures told { IsTrue F.tells → IfErr result (Explains (map.get (F.contents files.old))) }
 
-        ensures caused { IfErr result (λ fault. IsCaused fault (F.absences files.old) (F.absences files.new) (F.faults files.old) (F.faults files.new) (F.longs files.old) (F.longs files.new)) }
         ensures same { F.contents files.new ≡ F.contents files.old }
-        ensures faults_stay { F.faults files.old ≤ F.faults files.new }
-        ensures absences_stay { F.absences files.old ≤ F.absences files.new }
-        ensures longs_stay { F.longs files.old ≤ F.longs files.new }
+        ensures counts { CountsGathered result
+            (record { faults = F.faults files.old; absences = F.absences files.old; longs = F.longs files.old })
+            (record { faults = F.faults files.new; absences = F.absences files.new; longs = F.longs files.new }) }
     {
         if self.count + 3 > MOST_TOKENS {
             return Err(GatherFault::Tokens(self.unit.spot(alloc, here.file, hash)?));
@@ -213,11 +211,10 @@ impl Reading {
         ensures stops { IfErr result (λ fault. Claims fault ((contents : Contents) → Explains contents fault → Stops contents (reopened here self.old) fault)) }
         ensures told { IsTrue F.tells → IfErr result (Explains (map.get (F.contents files.old))) }
 
-        ensures caused { IfErr result (λ fault. IsCaused fault (F.absences files.old) (F.absences files.new) (F.faults files.old) (F.faults files.new) (F.longs files.old) (F.longs files.new)) }
         ensures same { F.contents files.new ≡ F.contents files.old }
-        ensures faults_stay { F.faults files.old ≤ F.faults files.new }
-        ensures absences_stay { F.absences files.old ≤ F.absences files.new }
-        ensures longs_stay { F.longs files.old ≤ F.longs files.new }
+        ensures counts { CountsGathered result
+            (record { faults = F.faults files.old; absences = F.absences files.old; longs = F.longs files.old })
+            (record { faults = F.faults files.new; absences = F.absences files.new; longs = F.longs files.new }) }
     {
         match self.step_at(alloc, here)? {
             Step::Ends => Ok(()),
@@ -247,11 +244,10 @@ impl Reading {
         ensures holds { IsTrue F.tells → HoldsFiles (map.get (F.contents files.old)) self.old.unit.files → OnOk result (HoldsFiles (map.get (F.contents files.old)) self.new.unit.files) }
         ensures stops { IsTrue F.tells → HoldsFiles (map.get (F.contents files.old)) self.old.unit.files → IfErr result (λ fault. Claims fault (ComesTo (map.get (F.contents files.old)) self.old fault)) }
 
-        ensures caused { IfErr result (λ fault. IsCaused fault (F.absences files.old) (F.absences files.new) (F.faults files.old) (F.faults files.new) (F.longs files.old) (F.longs files.new)) }
         ensures same { F.contents files.new ≡ F.contents files.old }
-        ensures faults_stay { F.faults files.old ≤ F.faults files.new }
-        ensures absences_stay { F.absences files.old ≤ F.absences files.new }
-        ensures longs_stay { F.longs files.old ≤ F.longs files.new }
+        ensures counts { CountsGathered result
+            (record { faults = F.faults files.old; absences = F.absences files.old; longs = F.longs files.old })
+            (record { faults = F.faults files.new; absences = F.absences files.new; longs = F.longs files.new }) }
     {
         while let Some(here) = self.stack.pop() {
             match self.advance(alloc, files, here) {
@@ -270,11 +266,10 @@ fn begin<F: Files>(alloc: Global, files: &mut F, script: &str) -> Result<Reading
     ensures fault { IfErr result (IsReadFault (file_name script.now)) }
     ensures told { IsTrue F.tells → IfErr result (ExplainsRead (map.get (F.contents files.old)) (file_name script.now)) }
 
-    ensures caused { IfErr result (λ fault. IsCaused fault (F.absences files.old) (F.absences files.new) (F.faults files.old) (F.faults files.new) (F.longs files.old) (F.longs files.new)) }
     ensures same { F.contents files.new ≡ F.contents files.old }
-    ensures faults_stay { F.faults files.old ≤ F.faults files.new }
-    ensures absences_stay { F.absences files.old ≤ F.absences files.new }
-    ensures longs_stay { F.longs files.old ≤ F.longs files.new }
+    ensures counts { CountsGathered result
+        (record { faults = F.faults files.old; absences = F.absences files.old; longs = F.longs files.old })
+        (record { faults = F.faults files.new; absences = F.absences files.new; longs = F.longs files.new }) }
 {
     let mut unit = Unit::new(alloc);
     let file = file_of(alloc, script.as_bytes())?;
@@ -299,11 +294,10 @@ pub fn gather<F: Files>(alloc: Global, files: &mut F, name: &str) -> Result<Unit
     ensures script { IfOk result (λ unit. HasScript unit.files name.now) }
     ensures told { IsTrue F.tells → Gathers (map.get (F.contents files.old)) name.now result }
 
-    ensures caused { IfErr result (λ fault. IsCaused fault (F.absences files.old) (F.absences files.new) (F.faults files.old) (F.faults files.new) (F.longs files.old) (F.longs files.new)) }
     ensures same { F.contents files.new ≡ F.contents files.old }
-    ensures faults_stay { F.faults files.old ≤ F.faults files.new }
-    ensures absences_stay { F.absences files.old ≤ F.absences files.new }
-    ensures longs_stay { F.longs files.old ≤ F.longs files.new }
+    ensures counts { CountsGathered result
+        (record { faults = F.faults files.old; absences = F.absences files.old; longs = F.longs files.old })
+        (record { faults = F.faults files.new; absences = F.absences files.new; longs = F.longs files.new }) }
 {
     match begin(alloc, files, name) {
         Err(fault) => Err(fault),

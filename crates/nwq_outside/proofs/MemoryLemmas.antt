@@ -1,6 +1,7 @@
-use Rattle.std.proofs.Common.{◌≡◌, ℕ, cond, List, [], ◌∷◌, map, Some, refl, sym, ap, ◌∙◌}
+use Rattle.std.proofs.Common.{◌≡◌, ◌≢◌, ℕ, Bool, true, false, cond, List, [], ◌∷◌, map, Some, refl, sym, ap, ◌∙◌}
 use Rattle.std.proofs.lemmas.Cmp.{nat_list_cmp_total, nat_list_eq_equiv}
 use Rattle.std.proofs.lemmas.Map.Lookups.{exact_bytes}
+use Rattle.std.proofs.lemmas.Slice.Eq.{bytes_eq-Decides}
 use Rattle.std.proofs.lemmas.Map.Text.{is_eq-slice_cmp, btree_map_updates_text}
 use Rattle.std.specs.BTreeMap.{BTreeMap, Updates, get_by_text, is_at}
 use Rattle.std.specs.Cmp.Lexicographic.{slice_cmp}
@@ -11,6 +12,7 @@ use Rattle.std.specs.Prelude.{String}
 use Rattle.std.specs.Str.{bytes_eq}
 use Rattle.std.specs.String.{string_bytes, string_cmp}
 use Rattle.nwq_outside.specs.Memory.{contents_of}
+use Rattle.nwq_outside.specs.Outside.{Contents}
 
 find_held : {A : Type 0} (es : List (String A × List ℕ)) (name : List ℕ)
     → find (slice_cmp nat_cmp) name (map (λ (e : String A × List ℕ). (string_bytes e.0, e.1)) es) ≡ lookup (is_at (λ k. slice_cmp nat_cmp name (string_bytes k))) es
@@ -37,3 +39,13 @@ pub insert_held : {A : Type 0} (before after : BTreeMap (String A) (List ℕ)) (
     → contents_of after ≡ insert (contents_of before) name bytes
 insert_held before after key name bytes is put =
     same_map nat_list_cmp_total exact_bytes (contents_of after) (insert (contents_of before) name bytes) (λ q. same_at before after key name bytes is put q)
+
+not_taken : {A : Type 0} (b : Bool) (x y : A) → b ≢ true → cond b x y ≡ y
+not_taken true x y apart = absurd (apart refl)
+not_taken false x y apart = refl
+
+-- what is put under a name leaves every other name what it held
+pub insert_keeps : (before : Contents) (name bytes other : List ℕ) → other ≢ name → get (insert before name bytes) other ≡ get before other
+insert_keeps before name bytes other apart =
+    get-insert nat_list_cmp_total before name bytes other
+    ∙ not_taken (is_eq (slice_cmp nat_cmp other name)) _ _ (λ same. apart ((bytes_eq-Decides other name).0 (sym (is_eq-slice_cmp other name) ∙ same)))

@@ -1,18 +1,14 @@
-use Rattle.std.specs.Prelude.{ℕ, ◌+◌, ◌-◌, ◌^◌, min, max, Bool, true, false, List, ◌++◌, map, refl}
+use Rattle.std.specs.Prelude.{ℕ, Bool, true, false, List, ◌++◌, map, refl}
 use Rattle.std.specs.FinMap as contents
 use Rattle.std.specs.Coded.{Coded, code_by, coded×, coded_ℕ, coded_list}
 use Rattle.std.specs.BTreeMap.{BTreeMap}
 use Rattle.std.specs.Prelude.{String}
 use Rattle.std.specs.String.{string_bytes}
-use Rattle.nwq_outside.specs.Outside.{Contents}
+use Rattle.nwq_outside.specs.Outside.{Contents, next}
 use Rattle.nwq_outside.specs.declared.answer.Read.{Read}
 use Rattle.nwq_outside.specs.declared.answer.Read.TheVariants.{Bytes, Missing, Failed, Long, NoMemory}
 use Rattle.nwq_outside.specs.declared.answer.Done.{Done}
 use Rattle.nwq_outside.specs.declared.answer.Done.TheVariants as done
-
--- the number after a count, which stays where it is from the greatest `u64` on
-abbrev pub next : ℕ → ℕ
-next count = max count (min (count + 1) (2 ^ 64 - 1))
 
 -- files in memory: what they hold, which calls are to fail, how many there were, and the counts
 pub record Memory : Type 0 where

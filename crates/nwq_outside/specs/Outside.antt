@@ -1,4 +1,5 @@
-use Rattle.std.specs.Prelude.{◌≡◌, ◌≢◌, ℕ, ◌+◌, ◌-◌, ◌^◌, ◌<◌, ◌≤◌, min, List, ◌++◌, length, Option, Some, None, IsSomeAnd}
+-- What the answers of files and of a sink say of their contents and of their counts.
+use Rattle.std.specs.Prelude.{◌≡◌, ◌≢◌, ℕ, ◌+◌, ◌-◌, ◌^◌, ◌<◌, ◌≤◌, min, max, List, ◌++◌, length, Option, Some, None, IsSomeAnd}
 use Rattle.std.specs.Ordering.{nat_cmp}
 use Rattle.std.specs.Cmp.Lexicographic.{slice_cmp}
 use Rattle.std.specs.FinMap as map
@@ -7,25 +8,67 @@ use Rattle.nwq_outside.specs.declared.answer.Read.TheVariants.{Bytes, Missing, F
 use Rattle.nwq_outside.specs.declared.answer.Done.{Done}
 use Rattle.nwq_outside.specs.declared.answer.Done.TheVariants as done
 
+-- how many bytes a file has at most
+abbrev pub file_limit : ℕ
+file_limit = 16777216
+
 -- what files hold: bytes under names, a name being the bytes of its text
 abbrev pub Contents : Type 0
 Contents = map.FinMap (slice_cmp nat_cmp) (List ℕ)
 
--- the count rose, or stands at the greatest `u64`
-abbrev pub Rose : ℕ → ℕ → Type 0
-Rose before now = min (before + 1) (2 ^ 64 - 1) ≤ now
+-- the number after a count, which stays where it is from the greatest `u64` on
+abbrev pub next : ℕ → ℕ
+next count = max count (min (count + 1) (2 ^ 64 - 1))
+
+-- a count rose by one, or stands at the greatest `u64`
+abbrev pub Rises : ℕ → ℕ → Type 0
+Rises before now = now ≡ next before
+
+-- how often the outside failed, a name was not there, and a file was too long
+pub record FileCounts : Type 0 where
+  pub faults : ℕ
+  pub absences : ℕ
+  pub longs : ℕ
+
+-- no count of files changed
+abbrev pub NoneRises : FileCounts → FileCounts → Type 0
+NoneRises before now = (now.faults ≡ before.faults) × (now.absences ≡ before.absences) × (now.longs ≡ before.longs)
+
+-- one count of files rose, and no other changed
+abbrev pub FaultsRise : FileCounts → FileCounts → Type 0
+FaultsRise before now = Rises before.faults now.faults × (now.absences ≡ before.absences) × (now.longs ≡ before.longs)
+
+abbrev pub AbsencesRise : FileCounts → FileCounts → Type 0
+AbsencesRise before now = (now.faults ≡ before.faults) × Rises before.absences now.absences × (now.longs ≡ before.longs)
+
+abbrev pub LongsRise : FileCounts → FileCounts → Type 0
+LongsRise before now = (now.faults ≡ before.faults) × (now.absences ≡ before.absences) × Rises before.longs now.longs
+
+-- what the counts of files are after a read with this answer
+abbrev pub CountsRead : Read → FileCounts → FileCounts → Type 0
+CountsRead (Bytes bytes) before now = NoneRises before now
+CountsRead Missing before now = AbsencesRise before now
+CountsRead Failed before now = FaultsRise before now
+CountsRead Long before now = LongsRise before now
+CountsRead NoMemory before now = NoneRises before now
+
+-- what the count of faults is after a write or a put with this answer
+abbrev pub CountsDone : Done → ℕ → ℕ → Type 0
+CountsDone done.Ok before now = now ≡ before
+CountsDone done.Failed before now = Rises before now
+CountsDone done.NoMemory before now = now ≡ before
 
 -- an answer to a read of a name with this content, or with none
 abbrev pub ReadsContent : Option (List ℕ) → Read → Type 0
 ReadsContent content (Bytes bytes) = content ≡ Some bytes.items
 ReadsContent content Missing = content ≡ None
 ReadsContent content Failed = Unit {0}
-ReadsContent content Long = IsSomeAnd content (λ bytes. 16777216 < length bytes)
+ReadsContent content Long = IsSomeAnd content (λ bytes. file_limit < length bytes)
 ReadsContent content NoMemory = Unit {0}
 
 -- what is read is no longer than a file can be
 abbrev pub IsFileSize : Read → Type 0
-IsFileSize (Bytes bytes) = length bytes.items ≤ 16777216
+IsFileSize (Bytes bytes) = length bytes.items ≤ file_limit
 IsFileSize Missing = Unit {0}
 IsFileSize Failed = Unit {0}
 IsFileSize Long = Unit {0}
@@ -35,21 +78,21 @@ IsFileSize NoMemory = Unit {0}
 abbrev pub KeepsOthers : List ℕ → Contents → Contents → Type 0
 KeepsOthers name before after = (other : List ℕ) → other ≢ name → map.get after other ≡ map.get before other
 
--- what a write leaves: the bytes under the name, or something that is not told, and the other names as they were
+-- what a write leaves: the bytes under the name, or under it something that is not told
 abbrev pub Leaves : Contents → Contents → List ℕ → List ℕ → Done → Type 0
 Leaves before after name bytes done.Ok = after ≡ map.insert before name bytes
-Leaves before after name bytes done.Failed = KeepsOthers name before after
-Leaves before after name bytes done.NoMemory = KeepsOthers name before after
+Leaves before after name bytes done.Failed = Unit {0}
+Leaves before after name bytes done.NoMemory = Unit {0}
 
--- some front of the piece was taken
-pub record TookFront (piece before after : List ℕ) : Type 0 where
-  pub front : List ℕ
+-- some prefix of the piece was taken
+pub record TookPrefix (piece before after : List ℕ) : Type 0 where
+  pub prefix : List ℕ
   pub rest : List ℕ
-  pub parts : piece ≡ front ++ rest
-  pub taken : after ≡ before ++ front
+  pub parts : piece ≡ prefix ++ rest
+  pub taken : after ≡ before ++ prefix
 
--- what a put takes: the whole piece, or a front of it
+-- what a put takes: the whole piece, or a prefix of it
 abbrev pub Takes : List ℕ → List ℕ → List ℕ → Done → Type 0
 Takes piece before after done.Ok = after ≡ before ++ piece
-Takes piece before after done.Failed = TookFront piece before after
-Takes piece before after done.NoMemory = TookFront piece before after
+Takes piece before after done.Failed = TookPrefix piece before after
+Takes piece before after done.NoMemory = TookPrefix piece before after

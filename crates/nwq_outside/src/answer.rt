@@ -1,5 +1,5 @@
 ghost use Rattle.std.specs.Prelude.{◌≡◌};
-ghost use Rattle.nwq_outside.specs.Memory.{next};
+ghost use Rattle.nwq_outside.specs.Outside.{next};
 
 /// How many bytes a file has at most.
 pub const FILE_BYTES: usize = 16_777_216;

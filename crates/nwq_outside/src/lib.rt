@@ -15,6 +15,3 @@ pub use answer::{Done, FILE_BYTES, Read};
 pub use memory::{MemFiles, MemSink};
 pub use real::{RealFiles, RealSink};
 pub use traits::{Files, Sink};
-
-#[cfg(test)]
-mod tests;

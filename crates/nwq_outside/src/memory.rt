@@ -1,7 +1,7 @@
 ghost use Rattle.std.specs.Prelude.{◌≡◌, ◌≤◌, ◌↔◌, [], ◌∷◌, ◌++◌, true, IsTrue, OnOk, OnErr, Contains};
 ghost use Rattle.std.specs.Option.{option_map, option_copied};
 ghost use Rattle.std.specs.FinMap as map;
-ghost use Rattle.nwq_outside.specs.Outside.{Rose, ReadsContent, IsFileSize, Leaves, Takes};
+ghost use Rattle.nwq_outside.specs.Outside.{ReadsContent, IsFileSize, KeepsOthers};
 ghost use Rattle.nwq_outside.specs.Memory.{contents_of};
 
 use crate::answer::{Done, FILE_BYTES, Read, raised};
@@ -161,9 +161,11 @@ impl Files for MemFiles {
         }
     }
 
+    #[tactic(auto, using(crate::proofs::MemoryLemmas::insert_keeps))]
     fn write(&mut self, name: &str, bytes: &[u8]) -> Done
         ensures fails { (result ≡ Done.Failed) ↔ Contains self.old.failing self.old.calls }
         ensures after { self.new ≡ after_write self.old name.now bytes.now result }
+        ensures others { KeepsOthers name.now self.old.contents self.new.contents }
     {
         if self.begins_call() {
             return Done::Failed;

@@ -6,9 +6,10 @@ use crate::traits::{Files, Sink};
 use std::alloc::Global;
 use std::fs::File;
 use std::io::{self, ErrorKind, Read as _, Write};
+use std::marker::Model;
 use std::rt::Files as HostFiles;
 
-/// The files of the host. They tell no content; each answer that needs a cause raises its count.
+/// The files of the host. They tell no content. Contracts see their counts.
 #[derive(Drop)]
 pub struct RealFiles<R: HostFiles> {
     host: R,
@@ -17,11 +18,17 @@ pub struct RealFiles<R: HostFiles> {
     longs: u64,
 }
 
+impl<R: HostFiles> Model for RealFiles<R> {
+    ghost use Rattle.nwq_outside.specs.Outside.{FileCounts};
+
+    ghost Value = { FileCounts };
+
+    ghost view = { λ f. record { faults = f.faults; absences = f.absences; longs = f.longs } };
+}
+
 impl<R: HostFiles> RealFiles<R> {
     pub fn new(host: R) -> Self
-        ensures faults { result.faults ≡ 0 }
-        ensures absences { result.absences ≡ 0 }
-        ensures longs { result.longs ≡ 0 }
+        ensures { result ≡ record { faults = 0; absences = 0; longs = 0 } }
     {
         RealFiles {
             host,
@@ -33,7 +40,7 @@ impl<R: HostFiles> RealFiles<R> {
 }
 
 /// The content of a file, or its first bytes where it is too long: one byte more than a file has at most.
-fn front_of<R: HostFiles>(host: &R, alloc: Global, name: &str) -> io::Result<Vec<u8>> {
+fn prefix_of<R: HostFiles>(host: &R, alloc: Global, name: &str) -> io::Result<Vec<u8>> {
     let file = File::open(host, name)?;
     let mut bytes = Vec::new(alloc);
     file.take(FILE_BYTES as u64 + 1).read_to_end(&mut bytes)?;
@@ -52,7 +59,7 @@ impl<R: HostFiles> Files for RealFiles<R> {
     ghost longs = { λ f. f.longs };
 
     fn read(&mut self, alloc: Global, name: &str) -> Read {
-        match front_of(&self.host, alloc, name) {
+        match prefix_of(&self.host, alloc, name) {
             Ok(bytes) if bytes.len() > FILE_BYTES => {
                 self.longs = raised(self.longs);
                 Read::Long
@@ -86,16 +93,24 @@ impl<R: HostFiles> Files for RealFiles<R> {
     }
 }
 
-/// A sink over a writer, as standard output. It does not tell what it took.
+/// A sink over a writer, as standard output. It does not tell what it took. Contracts see its count of faults.
 #[derive(Drop)]
 pub struct RealSink<W: Write> {
     writer: W,
     faults: u64,
 }
 
+impl<W: Write> Model for RealSink<W> {
+    ghost use Rattle.std.specs.Prelude.{ℕ};
+
+    ghost Value = { ℕ };
+
+    ghost view = { λ s. s.faults };
+}
+
 impl<W: Write> RealSink<W> {
     pub fn new(writer: W) -> Self
-        ensures { result.faults ≡ 0 }
+        ensures { result ≡ 0 }
     {
         RealSink { writer, faults: 0 }
     }
@@ -106,7 +121,7 @@ impl<W: Write> Sink for RealSink<W> {
 
     ghost taken = { λ _. [] };
 
-    ghost faults = { λ s. s.faults };
+    ghost faults = { λ s. s };
 
     /// A writer that takes nothing of a piece that is not empty is a fault, as `write_all` has it.
     fn put(&mut self, piece: &[u8]) -> Done {

@@ -1,6 +1,6 @@
-ghost use Rattle.std.specs.Prelude.{◌≡◌, ◌≤◌, ℕ, Bool, List, IsTrue};
+ghost use Rattle.std.specs.Prelude.{◌≡◌, ℕ, Bool, List, IsTrue};
 ghost use Rattle.std.specs.FinMap as map;
-ghost use Rattle.nwq_outside.specs.Outside.{Contents, Rose, ReadsContent, IsFileSize, Leaves, Takes};
+ghost use Rattle.nwq_outside.specs.Outside.{Contents, CountsRead, CountsDone, ReadsContent, IsFileSize, KeepsOthers, Leaves, Takes};
 
 use crate::answer::{Done, Read};
 use std::alloc::Global;
@@ -13,34 +13,33 @@ pub trait Files {
 
     ghost contents: { Self → Contents };
 
-    /// How often the outside failed, a name was not there, and a file was too long.
+    /// How often the outside failed. Each count rises only with its answer, and then by one, up to the
+    /// greatest `u64`.
     ghost faults: { Self → ℕ };
 
+    /// How often a name was not there.
     ghost absences: { Self → ℕ };
 
+    /// How often a file was too long.
     ghost longs: { Self → ℕ };
 
     /// What is under the name.
     fn read(&mut self, alloc: Global, name: &str) -> Read
         ensures content { IsTrue tells → ReadsContent (map.get (contents self.old) name.now) result }
         ensures size { IsFileSize result }
-        ensures missing { result ≡ Read.Missing → Rose (absences self.old) (absences self.new) }
-        ensures failed { result ≡ Read.Failed → Rose (faults self.old) (faults self.new) }
-        ensures long { result ≡ Read.Long → Rose (longs self.old) (longs self.new) }
-
         ensures same { contents self.new ≡ contents self.old }
-        ensures faults_stay { faults self.old ≤ faults self.new }
-        ensures absences_stay { absences self.old ≤ absences self.new }
-        ensures longs_stay { longs self.old ≤ longs self.new };
+        ensures counts { CountsRead result
+            (record { faults = faults self.old; absences = absences self.old; longs = longs self.old })
+            (record { faults = faults self.new; absences = absences self.new; longs = longs self.new }) };
 
     /// Puts these bytes under the name, in place of what was there.
     fn write(&mut self, name: &str, bytes: &[u8]) -> Done
-        ensures left { IsTrue tells → Leaves (contents self.old) (contents self.new) name.now bytes.now result }
-        ensures failed { result ≡ Done.Failed → Rose (faults self.old) (faults self.new) }
-
-        ensures faults_stay { faults self.old ≤ faults self.new }
-        ensures absences_stay { absences self.old ≤ absences self.new }
-        ensures longs_stay { longs self.old ≤ longs self.new };
+        ensures left { IsTrue tells →
+            Leaves (contents self.old) (contents self.new) name.now bytes.now result }
+        ensures others { KeepsOthers name.now (contents self.old) (contents self.new) }
+        ensures counts { CountsDone result (faults self.old) (faults self.new) }
+        ensures absences_stay { absences self.new ≡ absences self.old }
+        ensures longs_stay { longs self.new ≡ longs self.old };
 }
 
 /// What takes the printed text, piece by piece.
@@ -50,12 +49,11 @@ pub trait Sink {
 
     ghost taken: { Self → List ℕ };
 
-    /// How often the outside failed.
+    /// How often the outside failed. It rises only with that answer, and then by one, up to the greatest `u64`.
     ghost faults: { Self → ℕ };
 
     /// Takes the piece after what was taken before.
     fn put(&mut self, piece: &[u8]) -> Done
         ensures taken { IsTrue tells → Takes piece.now (taken self.old) (taken self.new) result }
-        ensures failed { result ≡ Done.Failed → Rose (faults self.old) (faults self.new) }
-        ensures faults_stay { faults self.old ≤ faults self.new };
+        ensures counts { CountsDone result (faults self.old) (faults self.new) };
 }

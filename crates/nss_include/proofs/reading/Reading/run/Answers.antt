@@ -1,4 +1,4 @@
-use Rattle.std.proofs.Common.{◌≡◌, List, ◌∷◌, ap, subst, arith, ◌∙◌}
+use Rattle.std.proofs.Common.{◌≡◌, List, ◌∷◌, ap, subst, ◌∙◌}
 use Rattle.std.specs.FinMap as map
 use Rattle.nss_include.specs.declared.opened.Open.{Open}
 use Rattle.nss_include.specs.declared.reading.Reading.{Reading}
@@ -20,9 +20,9 @@ loop-here-preserved g c =
           (c.in-Ok.ensures.holds told))
           c.in-Ok.ensures.grows,
       c.in-Ok.ensures.same ∙ c.loop-here.invariant.1,
-      omega (arith, c.loop-here.invariant.2, c.in-Ok.ensures.faults_stay),
-      omega (arith, c.loop-here.invariant.3, c.in-Ok.ensures.absences_stay),
-      omega (arith, c.loop-here.invariant.4, c.in-Ok.ensures.longs_stay),
+      c.in-Ok.ensures.counts.0 ∙ c.loop-here.invariant.2,
+      c.in-Ok.ensures.counts.1 ∙ c.loop-here.invariant.3,
+      c.in-Ok.ensures.counts.2 ∙ c.loop-here.invariant.4,
     )
 
 pub returns-in-Err-clause-stops : goal.returns-in-Err-clause-stops

@@ -1,4 +1,4 @@
-use crate::{Done, Files, MemFiles, MemSink, Read, RealFiles, RealSink, Sink};
+use nwq_outside::{Done, Files, MemFiles, MemSink, Read, RealFiles, RealSink, Sink};
 use std::alloc::{AllocError, Global};
 use std::fs;
 use std::io::{self, Write};
