@@ -1,14 +1,27 @@
-use Rattle.std.proofs.Common.{◌≡◌, ℕ, ◌+◌, ◌*◌, ◌/◌, ◌%◌, ◌<◌, ◌≤◌, true, List, [], ◌∷◌, ◌++◌, length, get_or, take, Option, Some, None, refl, sym, ap, ◌∙◌, arith, ◌≢◌, subst, length-append, append_assoc, append-nil}
-use Rattle.std.proofs.lemmas.List.{take_more, flat_map_more, take_at, take_all}
+use Rattle.std.proofs.Common.{◌≡◌, ℕ, ◌+◌, ◌*◌, ◌/◌, ◌%◌, ◌<◌, ◌≤◌, Bool, true, false, List, [], ◌∷◌, ◌++◌, length, get_or, take, Option, Some, None, refl, sym, ap, ◌∙◌, arith, ◌≢◌, subst, length-append, append_assoc, append-nil}
+use Rattle.std.proofs.lemmas.List.{take_more, flat_map_more, take_at, take_all, take-take, append_cancel_left, append_cancel_right}
 use Rattle.std.proofs.lemmas.Bool.Decides.{nat_tests}
 use Rattle.std.proofs.lemmas.Option.{cond_some, some_pair_parts, none-some}
 use Rattle.std.specs.List.{flat_map}
-use Rattle.nwq_text.specs.Escape.{spelling, hex_digit, is_plain, escaped, AreBytes, ReadsText, EscapesApart}
-use Rattle.nwq_text.specs.Unescape.{front_spelled, after_backslash, after_x, hex_value, hex_pair, is_spelled_in_hex}
+use Rattle.nwq_text.specs.Escape.{spelling, hex_digit, is_plain, escaped, quoted, AreBytes, ReadsText, ReadsQuoted, EscapesApart}
+use Rattle.nwq_text.specs.Unescape.{front_spelled, after_backslash, after_x, hex_value, hex_pair, is_spelled_in_hex, Unescapes, KeepsAll}
 
 -- what was appended is taken back
 pub taken_back : (before more after : List ℕ) → after ≡ before ++ more → take (length before) after ≡ before
 taken_back before more after is = rw is (take_at before more (length before) refl)
+
+-- also where what stood there last was itself appended
+pub taken_back_after : (before : List ℕ) (q : ℕ) (between after : List ℕ) → between ≡ before ++ q ∷ [] → take (length between) after ≡ between
+    → take (length before) after ≡ before
+taken_back_after before q between after is kept =
+    let longer : length before ≤ length between = rw (is, length-append) (omega arith)
+    in sym (take-take (length before) (length between) after longer) ∙ ap (take (length before)) kept ∙ taken_back before (q ∷ []) between is
+
+-- a quote, the spellings and a quote were appended
+pub between : (before spelled first second third : List ℕ) → first ≡ before ++ 34 ∷ [] → second ≡ first ++ spelled → third ≡ second ++ 34 ∷ []
+    → third ≡ before ++ (34 ∷ spelled ++ 34 ∷ [])
+between before spelled first second third a b c =
+    rw (c, b, a, append_assoc before (34 ∷ []) spelled, append_assoc before (34 ∷ spelled) (34 ∷ [])) refl
 
 -- one more byte was appended in its spelling
 pub one_more : (spell : ℕ → List ℕ) (before bytes now : List ℕ) (i b : ℕ) → i < length bytes → b ≡ get_or bytes i 0
@@ -23,168 +36,179 @@ digit_written : (c d : ℕ) → hex_value c ≡ Some d → (c ≡ hex_digit d) �
 digit_written c d h = grind (arith, nat_tests)
 
 -- the byte that is spelled at the front is read there
-pub front_spelled-spelling : (b : ℕ) (rest : List ℕ) → b < 256 → front_spelled (spelling b ++ rest) ≡ Some (b, rest)
+pub front_spelled-spelling : (q : Bool) (b : ℕ) (rest : List ℕ) → b < 256 → front_spelled q (spelling q b ++ rest) ≡ Some (b, rest)
 unfolding spelling front_spelled
-front_spelled-spelling b rest h = grind (arith, nat_tests, digit_read)
+front_spelled-spelling true b rest h = grind (arith, nat_tests, digit_read)
+front_spelled-spelling false b rest h = grind (arith, nat_tests, digit_read)
 
 parts : (high low : ℕ) → low < 16 → ((16 * high + low) / 16 ≡ high) × ((16 * high + low) % 16 ≡ low)
 parts high low h = (omega arith, omega arith)
 
-hex_spelled : (high low : ℕ) → high < 16 → low < 16 → is_spelled_in_hex (16 * high + low) ≡ true
-    → spelling (16 * high + low) ≡ 92 ∷ 120 ∷ hex_digit high ∷ hex_digit low ∷ []
+hex_spelled : (q : Bool) (high low : ℕ) → high < 16 → low < 16 → is_spelled_in_hex q (16 * high + low) ≡ true
+    → spelling q (16 * high + low) ≡ 92 ∷ 120 ∷ hex_digit high ∷ hex_digit low ∷ []
 unfolding spelling
-hex_spelled high low h l is = grind (arith, nat_tests, parts)
+hex_spelled true high low h l is = grind (arith, nat_tests, parts)
+hex_spelled false high low h l is = grind (arith, nat_tests, parts)
 
-spelled_pair : (x y : Option ℕ) (c d : ℕ) (text : List ℕ) (b : ℕ) (rest : List ℕ) → hex_value c ≡ x → hex_value d ≡ y
-    → hex_pair x y text ≡ Some (b, rest) → (92 ∷ 120 ∷ c ∷ d ∷ text ≡ spelling b ++ rest) × (b < 256)
-spelled_pair (Some x) (Some y) c d text b rest hx hy h =
+spelled_pair : (q : Bool) (x y : Option ℕ) (c d : ℕ) (text : List ℕ) (b : ℕ) (rest : List ℕ) → hex_value c ≡ x → hex_value d ≡ y
+    → hex_pair q x y text ≡ Some (b, rest) → (92 ∷ 120 ∷ c ∷ d ∷ text ≡ spelling q b ++ rest) × (b < 256)
+spelled_pair q (Some x) (Some y) c d text b rest hx hy h =
     let first = digit_written c x hx
     in let second = digit_written d y hy
-    in let read = cond_some (is_spelled_in_hex (16 * x + y)) (16 * x + y, text) (b, rest) h
+    in let read = cond_some (is_spelled_in_hex q (16 * x + y)) (16 * x + y, text) (b, rest) h
     in let byte : 16 * x + y ≡ b = ap (λ (p : ℕ × List ℕ). p.0) read.1
     in (
       ap (λ k. 92 ∷ 120 ∷ k ∷ d ∷ text) first.0 ∙ ap (λ k. 92 ∷ 120 ∷ hex_digit x ∷ k ∷ text) second.0
-          ∙ sym (ap (λ s. s ++ text) (hex_spelled x y first.1 second.1 read.0)) ∙ ap (λ (p : ℕ × List ℕ). spelling p.0 ++ p.1) read.1,
+          ∙ sym (ap (λ s. s ++ text) (hex_spelled q x y first.1 second.1 read.0)) ∙ ap (λ (p : ℕ × List ℕ). spelling q p.0 ++ p.1) read.1,
       omega arith,
     )
-spelled_pair (Some x) None c d text b rest hx hy h = absurd cc
-spelled_pair None y c d text b rest hx hy h = absurd cc
+spelled_pair q (Some x) None c d text b rest hx hy h = absurd cc
+spelled_pair q None y c d text b rest hx hy h = absurd cc
 
-spelled_after_x : (text : List ℕ) (b : ℕ) (rest : List ℕ) → after_x text ≡ Some (b, rest)
-    → (92 ∷ 120 ∷ text ≡ spelling b ++ rest) × (b < 256)
-spelled_after_x [] b rest h = absurd cc
-spelled_after_x (c ∷ []) b rest h = absurd cc
-spelled_after_x (c ∷ d ∷ text) b rest h = spelled_pair (hex_value c) (hex_value d) c d text b rest refl refl h
+spelled_after_x : (q : Bool) (text : List ℕ) (b : ℕ) (rest : List ℕ) → after_x q text ≡ Some (b, rest)
+    → (92 ∷ 120 ∷ text ≡ spelling q b ++ rest) × (b < 256)
+spelled_after_x q [] b rest h = absurd cc
+spelled_after_x q (c ∷ []) b rest h = absurd cc
+spelled_after_x q (c ∷ d ∷ text) b rest h = spelled_pair q (hex_value c) (hex_value d) c d text b rest refl refl h
 
-spelling-backslash : spelling 92 ≡ 92 ∷ 92 ∷ []
+spelling-backslash : (q : Bool) → spelling q 92 ≡ 92 ∷ 92 ∷ []
 unfolding spelling
-spelling-backslash = refl
+spelling-backslash q = refl
 
-spelling-newline : spelling 10 ≡ 92 ∷ 110 ∷ []
+spelling-newline : (q : Bool) → spelling q 10 ≡ 92 ∷ 110 ∷ []
 unfolding spelling
-spelling-newline = refl
+spelling-newline q = refl
 
-spelling-plain : (c : ℕ) → is_plain c ≡ true → spelling c ≡ c ∷ []
+spelling-plain : (q : Bool) (c : ℕ) → is_plain q c ≡ true → spelling q c ≡ c ∷ []
 unfolding spelling
-spelling-plain c h = grind (arith, nat_tests)
+spelling-plain true c h = grind (arith, nat_tests)
+spelling-plain false c h = grind (arith, nat_tests)
 
-spelled_after_backslash : (text : List ℕ) (b : ℕ) (rest : List ℕ) → after_backslash text ≡ Some (b, rest)
-    → (92 ∷ text ≡ spelling b ++ rest) × (b < 256)
-spelled_after_backslash [] b rest h = absurd cc
-spelled_after_backslash (c ∷ text) b rest h = grind (arith, nat_tests, some_pair_parts, spelled_after_x, spelling-backslash, spelling-newline)
+spelled_after_backslash : (q : Bool) (text : List ℕ) (b : ℕ) (rest : List ℕ) → after_backslash q text ≡ Some (b, rest)
+    → (92 ∷ text ≡ spelling q b ++ rest) × (b < 256)
+spelled_after_backslash q [] b rest h = absurd cc
+spelled_after_backslash q (c ∷ text) b rest h = grind (arith, nat_tests, some_pair_parts, spelled_after_x, spelling-backslash, spelling-newline)
+
+plain_byte : (q : Bool) (c : ℕ) → is_plain q c ≡ true → c < 256
+plain_byte q c h = grind (arith, nat_tests)
 
 -- what is read at the front is spelled there
-pub spelling-front_spelled : (text : List ℕ) (b : ℕ) (rest : List ℕ) → front_spelled text ≡ Some (b, rest) → (text ≡ spelling b ++ rest) × (b < 256)
+pub spelling-front_spelled : (q : Bool) (text : List ℕ) (b : ℕ) (rest : List ℕ) → front_spelled q text ≡ Some (b, rest) → (text ≡ spelling q b ++ rest) × (b < 256)
 unfolding front_spelled
-spelling-front_spelled [] b rest h = absurd cc
-spelling-front_spelled (c ∷ text) b rest h = grind (arith, nat_tests, some_pair_parts, spelled_after_backslash, spelling-plain)
+spelling-front_spelled q [] b rest h = absurd cc
+spelling-front_spelled true (c ∷ text) b rest h = grind (arith, nat_tests, some_pair_parts, spelled_after_backslash, spelling-plain)
+spelling-front_spelled false (c ∷ text) b rest h = grind (arith, nat_tests, some_pair_parts, spelled_after_backslash, spelling-plain)
 
 -- no spelling is empty
-spelled_nothing : (b : ℕ) (rest : List ℕ) → b < 256 → [] ≡ spelling b ++ rest → ⊥
+spelled_nothing : (q : Bool) (b : ℕ) (rest : List ℕ) → b < 256 → [] ≡ spelling q b ++ rest → ⊥
 unfolding front_spelled
-spelled_nothing b rest h e =
-    let read : front_spelled [] ≡ Some (b, rest) = ap front_spelled e ∙ front_spelled-spelling b rest h in cc
+spelled_nothing q b rest h e =
+    let read : front_spelled q [] ≡ Some (b, rest) = ap (front_spelled q) e ∙ front_spelled-spelling q b rest h in cc
 
-shorter_by_one : (b : ℕ) (text rest : List ℕ) → b < 256 → text ≡ spelling b ++ rest → length rest < length text
+shorter_by_one : (q : Bool) (b : ℕ) (text rest : List ℕ) → b < 256 → text ≡ spelling q b ++ rest → length rest < length text
 unfolding spelling
-shorter_by_one b text rest h e = rw e (grind (arith, nat_tests, length-append))
+shorter_by_one q b text rest h e = rw e (grind (arith, nat_tests, length-append))
 
 -- what is left after the front is shorter
-pub length-front_spelled : (text : List ℕ) (b : ℕ) (rest : List ℕ) → front_spelled text ≡ Some (b, rest) → length rest < length text
-length-front_spelled text b rest h =
-    let front = spelling-front_spelled text b rest h in shorter_by_one b text rest front.1 front.0
+pub length-front_spelled : (q : Bool) (text : List ℕ) (b : ℕ) (rest : List ℕ) → front_spelled q text ≡ Some (b, rest) → length rest < length text
+length-front_spelled q text b rest h =
+    let front = spelling-front_spelled q text b rest h in shorter_by_one q b text rest front.1 front.0
 
 -- the bytes go on after those done, and the rest is what goes on
-record GoesOn (done bytes rest : List ℕ) : Type 0 where
+record GoesOn (q : Bool) (done bytes rest : List ℕ) : Type 0 where
   tail : List ℕ
   bytes_are : bytes ≡ done ++ tail
-  rest_is : rest ≡ flat_map spelling tail
+  rest_is : rest ≡ flat_map (spelling q) tail
   each : AreBytes tail
 
-same_front : (b d : ℕ) (x y : List ℕ) → b < 256 → d < 256 → spelling b ++ x ≡ spelling d ++ y → (b ≡ d) × (x ≡ y)
-same_front b d x y hb hd e =
-    some_pair_parts b d x y (sym (front_spelled-spelling b x hb) ∙ ap front_spelled e ∙ front_spelled-spelling d y hd)
+same_front : (q : Bool) (b d : ℕ) (x y : List ℕ) → b < 256 → d < 256 → spelling q b ++ x ≡ spelling q d ++ y → (b ≡ d) × (x ≡ y)
+same_front q b d x y hb hd e =
+    some_pair_parts b d x y (sym (front_spelled-spelling q b x hb) ∙ ap (front_spelled q) e ∙ front_spelled-spelling q d y hd)
 
-goes_on : (done bytes rest : List ℕ) → AreBytes done → AreBytes bytes
-    → flat_map spelling bytes ≡ flat_map spelling done ++ rest → GoesOn done bytes rest
-goes_on [] bytes rest hd hb e = record { tail = bytes; bytes_are = refl; rest_is = sym e; each = hb }
-goes_on (d ∷ done) [] rest hd hb e =
-    absurd (spelled_nothing d (flat_map spelling done ++ rest) hd.0 (e ∙ append_assoc (spelling d) (flat_map spelling done) rest))
-goes_on (d ∷ done) (b ∷ bytes) rest hd hb e =
-    let front = same_front b d (flat_map spelling bytes) (flat_map spelling done ++ rest) hb.0 hd.0
-    (e ∙ append_assoc (spelling d) (flat_map spelling done) rest)
-    in let more = goes_on done bytes rest hd.1 hb.1 front.1
+goes_on : (q : Bool) (done bytes rest : List ℕ) → AreBytes done → AreBytes bytes
+    → flat_map (spelling q) bytes ≡ flat_map (spelling q) done ++ rest → GoesOn q done bytes rest
+goes_on q [] bytes rest hd hb e = record { tail = bytes; bytes_are = refl; rest_is = sym e; each = hb }
+goes_on q (d ∷ done) [] rest hd hb e =
+    absurd (spelled_nothing q d (flat_map (spelling q) done ++ rest) hd.0 (e ∙ append_assoc (spelling q d) (flat_map (spelling q) done) rest))
+goes_on q (d ∷ done) (b ∷ bytes) rest hd hb e =
+    let front = same_front q b d (flat_map (spelling q) bytes) (flat_map (spelling q) done ++ rest) hb.0 hd.0
+    (e ∙ append_assoc (spelling q d) (flat_map (spelling q) done) rest)
+    in let more = goes_on q done bytes rest hd.1 hb.1 front.1
     in record { tail = more.tail; bytes_are = ap (λ x. x ∷ bytes) front.0 ∙ ap (λ xs. d ∷ xs) more.bytes_are; rest_is = more.rest_is; each = more.each }
 
-escaped_nothing : (bytes : List ℕ) → AreBytes bytes → [] ≡ flat_map spelling bytes → bytes ≡ []
-escaped_nothing [] h e = refl
-escaped_nothing (b ∷ bytes) h e = absurd (spelled_nothing b (flat_map spelling bytes) h.0 e)
+spelled_none : (q : Bool) (bytes : List ℕ) → AreBytes bytes → [] ≡ flat_map (spelling q) bytes → bytes ≡ []
+spelled_none q [] h e = refl
+spelled_none q (b ∷ bytes) h e = absurd (spelled_nothing q b (flat_map (spelling q) bytes) h.0 e)
+
+-- no two lists of bytes are spelled alike
+spelled_apart : (q : Bool) (a b : List ℕ) → AreBytes a → AreBytes b → flat_map (spelling q) a ≡ flat_map (spelling q) b → a ≡ b
+spelled_apart q a b ha hb e =
+    let more = goes_on q a b [] ha hb (sym e ∙ sym (append-nil (flat_map (spelling q) a)))
+    in sym (more.bytes_are ∙ ap (λ tail. a ++ tail) (spelled_none q more.tail more.each more.rest_is) ∙ append-nil a)
 
 pub escapes_apart : EscapesApart
 unfolding escaped
-escapes_apart a b ha hb e =
-    let more = goes_on a b [] ha hb (sym e ∙ sym (append-nil (flat_map spelling a)))
-    in sym (more.bytes_are ∙ ap (λ tail. a ++ tail) (escaped_nothing more.tail more.each more.rest_is) ∙ append-nil a)
+escapes_apart a b ha hb e = spelled_apart false a b ha hb e
 
 -- the text is the spellings of the bytes that are done, and a rest
-pub record TextSoFar (text done rest : List ℕ) : Type 0 where
-  pub fits : length done ≤ 8192
+pub record TextSoFar (q : Bool) (text done rest : List ℕ) : Type 0 where
   pub each : AreBytes done
-  pub whole : text ≡ flat_map spelling done ++ rest
+  pub whole : text ≡ flat_map (spelling q) done ++ rest
 
 AreBytes-push : (done : List ℕ) (b : ℕ) → AreBytes done → b < 256 → AreBytes (done ++ b ∷ [])
 AreBytes-push [] b h hb = (hb, tt)
 AreBytes-push (d ∷ done) b h hb = (h.0, AreBytes-push done b h.1 hb)
 
-pub one_more_read : (text done rest after : List ℕ) (b : ℕ) → TextSoFar text done rest → front_spelled rest ≡ Some (b, after) → length done ≢ 8192
-    → TextSoFar text (done ++ b ∷ []) after
-one_more_read text done rest after b so h room =
-    let front = spelling-front_spelled rest b after h
+pub one_more_read : (q : Bool) (text done rest after : List ℕ) (b : ℕ) → TextSoFar q text done rest → front_spelled q rest ≡ Some (b, after)
+    → TextSoFar q text (done ++ b ∷ []) after
+one_more_read q text done rest after b so h =
+    let front = spelling-front_spelled q rest b after h
     in record {
-      fits = grind (arith, length-append, so.fits);
       each = AreBytes-push done b so.each front.1;
-      whole = so.whole ∙ ap (λ r. flat_map spelling done ++ r) front.0 ∙ sym (append_assoc (flat_map spelling done) (spelling b) after)
-          ∙ ap (λ s. s ++ after) (flat_map_more spelling [] done b);
+      whole = so.whole ∙ ap (λ r. flat_map (spelling q) done ++ r) front.0 ∙ sym (append_assoc (flat_map (spelling q) done) (spelling q b) after)
+          ∙ ap (λ s. s ++ after) (flat_map_more (spelling q) [] done b);
     }
 
-too_long : (done tail bytes : List ℕ) (b : ℕ) → bytes ≡ done ++ b ∷ tail → length done ≡ 8192 → length bytes ≤ 8192 → ⊥
-too_long done tail bytes b is full fits = omega (arith, ap length is, length-append done (b ∷ tail))
+refused_unspelled : (q : Bool) (tail rest : List ℕ) → AreBytes tail → rest ≡ flat_map (spelling q) tail → front_spelled q rest ≡ None → rest ≢ [] → ⊥
+refused_unspelled q [] rest each is h some = some is
+refused_unspelled q (t ∷ tail) rest each is h some =
+    let read = sym h ∙ ap (front_spelled q) is ∙ front_spelled-spelling q t (flat_map (spelling q) tail) each.0 in none-some (t, flat_map (spelling q) tail) read
 
-refused_longer : (tail bytes done rest after : List ℕ) (b : ℕ) → bytes ≡ done ++ tail → rest ≡ flat_map spelling tail
-    → length done ≡ 8192 → length bytes ≤ 8192 → front_spelled rest ≡ Some (b, after) → ⊥
-unfolding front_spelled
-refused_longer [] bytes done rest after b is rest_is full fits h =
-    let read : front_spelled [] ≡ Some (b, after) = ap front_spelled (sym rest_is) ∙ h in cc
-refused_longer (t ∷ tail) bytes done rest after b is rest_is full fits h = too_long done tail bytes t is full fits
-
-refused_unspelled : (tail rest : List ℕ) → AreBytes tail → rest ≡ flat_map spelling tail → front_spelled rest ≡ None → rest ≢ [] → ⊥
-refused_unspelled [] rest each is h some = some is
-refused_unspelled (t ∷ tail) rest each is h some =
-    let read = sym h ∙ ap front_spelled is ∙ front_spelled-spelling t (flat_map spelling tail) each.0 in none-some (t, flat_map spelling tail) read
-
--- a text that is longer than a text can be is the escaped text of none
-pub longer_is_none : (text done rest after : List ℕ) (b : ℕ) → TextSoFar text done rest → front_spelled rest ≡ Some (b, after) → length done ≡ 8192
-    → ReadsText text None
-unfolding escaped
-longer_is_none text done rest after b so h full bytes textual is =
-    let more = goes_on done bytes rest so.each textual.each (sym is ∙ so.whole)
-    in refused_longer more.tail bytes done rest after b more.bytes_are more.rest_is full textual.fits h
-
--- nor is one that goes on with what is no spelling
-pub unspelled_is_none : (text done rest : List ℕ) → TextSoFar text done rest → front_spelled rest ≡ None → rest ≢ [] → ReadsText text None
-unfolding escaped
-unspelled_is_none text done rest so h some bytes textual is =
-    let more = goes_on done bytes rest so.each textual.each (sym is ∙ so.whole)
-    in refused_unspelled more.tail rest more.each more.rest_is h some
+-- a text that goes on with what is no spelling is that of none
+pub unspelled_is_none : (q : Bool) (text done rest : List ℕ) → TextSoFar q text done rest → front_spelled q rest ≡ None → rest ≢ [] → Unescapes q text None
+unspelled_is_none q text done rest so h some bytes each is =
+    let more = goes_on q done bytes rest so.each each (sym is ∙ so.whole)
+    in refused_unspelled q more.tail rest more.each more.rest_is h some
 
 -- and one that ends there is that of the bytes
-pub whole_is_read : (text done rest read : List ℕ) → TextSoFar text done rest → rest ≡ [] → read ≡ take 8192 done → ReadsText text (Some read)
+pub whole_is_read : (q : Bool) (text done rest : List ℕ) → TextSoFar q text done rest → rest ≡ [] → Unescapes q text (Some done)
+whole_is_read q text done rest so end =
+    (so.each, so.whole ∙ ap (λ r. flat_map (spelling q) done ++ r) end ∙ append-nil (flat_map (spelling q) done))
+
+pub all_kept : (bytes text : List ℕ) → text ≡ take 8192 bytes → length bytes ≤ 8192 → text ≡ bytes
+all_kept bytes text is fits = is ∙ take_all 8192 bytes fits
+
+-- the text of bytes whose escaped text this is, where they are no more than a text has
+pub text_is_read : (text bytes : List ℕ) (read : Option (List ℕ)) → Unescapes false text (Some bytes) → KeepsAll bytes read → ReadsText text read
 unfolding escaped
-whole_is_read text done rest read so end is =
-    let same : done ≡ read = sym (is ∙ take_all 8192 done so.fits)
-    in (
-      record { fits = subst (λ bytes. length bytes ≤ 8192) same so.fits; each = subst AreBytes same so.each },
-      so.whole ∙ ap (λ r. flat_map spelling done ++ r) end ∙ append-nil (flat_map spelling done) ∙ ap (flat_map spelling) same,
-    )
+text_is_read text bytes (Some read) is kept = rw kept.1 (record { fits = kept.0; each = is.0 }, is.1)
+text_is_read text bytes None is long = λ other textual same.
+    let one = spelled_apart false bytes other is.0 textual.each (sym is.1 ∙ same) in omega (arith, ap length one, textual.fits)
+
+pub no_text : (text : List ℕ) → Unescapes false text None → ReadsText text None
+unfolding escaped
+no_text text none bytes textual same = none bytes textual.each same
+
+same_inner : (a b : List ℕ) → 34 ∷ a ++ 34 ∷ [] ≡ 34 ∷ b ++ 34 ∷ [] → a ≡ b
+same_inner a b e = append_cancel_right a b (34 ∷ []) (append_cancel_left (34 ∷ []) (a ++ 34 ∷ []) (b ++ 34 ∷ []) e)
+
+pub quoted_is_read : (text inner : List ℕ) (read : Option (List ℕ)) → text ≡ 34 ∷ inner ++ 34 ∷ [] → Unescapes true inner read → ReadsQuoted text read
+unfolding quoted
+quoted_is_read text inner (Some bytes) is read = (read.0, is ∙ ap (λ x. 34 ∷ x ++ 34 ∷ []) read.1)
+quoted_is_read text inner None is read = λ bytes each same. read bytes each (same_inner inner (flat_map (spelling true) bytes) (sym is ∙ same))
+
+pub no_quoted : (text : List ℕ) → ((inner : List ℕ) → text ≢ 34 ∷ inner ++ 34 ∷ []) → ReadsQuoted text None
+unfolding quoted
+no_quoted text none bytes each same = none (flat_map (spelling true) bytes) same
 
 pub ruleset shorter_rest = (length-front_spelled)

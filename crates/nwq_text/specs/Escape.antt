@@ -1,9 +1,9 @@
-use Rattle.std.specs.Prelude.{◌≡◌, ◌≢◌, ℕ, ◌+◌, ◌/◌, ◌%◌, ◌<◌, ◌≤◌, Bool, ◌&&◌, not, ◌==◌, nat_lt, nat_le, if◌then◌else◌, List, [], ◌∷◌, ◌++◌, length, Option, MatchOption}
+use Rattle.std.specs.Prelude.{◌≡◌, ◌≢◌, ℕ, ◌+◌, ◌/◌, ◌%◌, ◌<◌, ◌≤◌, Bool, true, false, ◌&&◌, not, ◌==◌, nat_lt, nat_le, if◌then◌else◌, List, [], ◌∷◌, ◌++◌, length, Option, MatchOption}
 use Rattle.std.specs.List.{flat_map, AllByRecursion}
 
--- a byte that stands for itself: a printable ASCII character other than the backslash
-abbrev pub is_plain : ℕ → Bool
-is_plain b = nat_le 32 b && nat_le b 126 && not (b == 92)
+-- a byte that stands for itself: a printable ASCII character other than the backslash and, between quotes, the quote
+abbrev pub is_plain : Bool → ℕ → Bool
+is_plain in_quotes b = nat_le 32 b && nat_le b 126 && not (b == 92) && not (in_quotes && b == 34)
 
 -- the hexadecimal digit of a number below 16, in lower case
 abbrev pub hex_digit : ℕ → ℕ
@@ -13,22 +13,19 @@ hex_digit d = if nat_lt d 10 then 48 + d else 87 + d
 abbrev pub hex_spelling : ℕ → List ℕ
 hex_spelling b = 92 ∷ 120 ∷ hex_digit (b / 16) ∷ hex_digit (b % 16) ∷ []
 
--- how a byte is spelled in escaped text: plain bytes as they are, `\\` for a backslash, `\n` for a newline, and
+-- how a byte is spelled, in quotes or without: plain bytes as they are, `\\` for a backslash, `\n` for a newline, and
 -- `\xhh` for each other byte
-unfoldable pub spelling : ℕ → List ℕ
-spelling b = if b == 92 then 92 ∷ 92 ∷ [] else if b == 10 then 92 ∷ 110 ∷ [] else if is_plain b then b ∷ [] else hex_spelling b
+unfoldable pub spelling : Bool → ℕ → List ℕ
+spelling in_quotes b =
+    if b == 92 then 92 ∷ 92 ∷ [] else if b == 10 then 92 ∷ 110 ∷ [] else if is_plain in_quotes b then b ∷ [] else hex_spelling b
 
 -- the escaped text of these bytes
 unfoldable pub escaped : List ℕ → List ℕ
-escaped bytes = flat_map spelling bytes
-
--- how a byte is spelled between quotes: a quote too is spelled in hexadecimal
-unfoldable pub quoted_spelling : ℕ → List ℕ
-quoted_spelling b = if b == 34 then hex_spelling b else spelling b
+escaped bytes = flat_map (spelling false) bytes
 
 -- the quoted text of these bytes
 unfoldable pub quoted : List ℕ → List ℕ
-quoted bytes = 34 ∷ flat_map quoted_spelling bytes ++ 34 ∷ []
+quoted bytes = 34 ∷ flat_map (spelling true) bytes ++ 34 ∷ []
 
 -- each number of the list is a byte
 abbrev pub AreBytes : List ℕ → Type 0
@@ -43,6 +40,11 @@ pub record IsTextual (bytes : List ℕ) : Type 0 where
 abbrev pub ReadsText : List ℕ → Option (List ℕ) → Type 0
 ReadsText text read =
     MatchOption read ((bytes : List ℕ) → IsTextual bytes → text ≢ escaped bytes) (λ bytes. IsTextual bytes × (text ≡ escaped bytes))
+
+-- what is read is the bytes, however many, whose quoted text this is, and nothing exactly where this is the quoted text of none
+abbrev pub ReadsQuoted : List ℕ → Option (List ℕ) → Type 0
+ReadsQuoted text read =
+    MatchOption read ((bytes : List ℕ) → AreBytes bytes → text ≢ quoted bytes) (λ bytes. AreBytes bytes × (text ≡ quoted bytes))
 
 -- each list of bytes has an escaped text of its own
 abbrev pub EscapesApart : Type 0

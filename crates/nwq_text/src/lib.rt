@@ -9,9 +9,9 @@ pub mod escape;
 pub mod line;
 pub mod number;
 
-pub use escape::{escapes_apart, put_quoted, put_text, read_text};
+pub use escape::{escapes_apart, put_quoted, put_text, read_quoted, read_text};
 pub use line::line_of;
-pub use number::{put_number, read_number};
+pub use number::{put_count, put_number, read_number};
 
 #[cfg(test)]
 mod tests;

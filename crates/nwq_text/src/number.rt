@@ -1,5 +1,5 @@
 ghost use Rattle.std.specs.Prelude.{◌≡◌, ◌++◌, OnOk, OnErr};
-ghost use Rattle.std.specs.Fmt.{signed_decimal};
+ghost use Rattle.std.specs.Fmt.{signed_decimal, decimal};
 ghost use Rattle.nwq_text.specs.Number.{number_of};
 
 use itoa::Buffer;
@@ -11,6 +11,16 @@ const MOST_DIGITS: usize = 10;
 /// Appends the number in decimal.
 pub fn put_number(out: &mut Vec<u8>, n: i64) -> Result<(), NoMemory>
     ensures ok { OnOk result (out.new.items ≡ out.old.items ++ signed_decimal n) }
+    ensures err { OnErr result (out.new.items ≡ out.old.items) }
+{
+    let mut buffer = Buffer::new();
+    out.extend_from_slice(buffer.format(n).as_bytes())?;
+    Ok(())
+}
+
+/// Appends the number in decimal: for sizes, counts and line numbers.
+pub fn put_count(out: &mut Vec<u8>, n: u64) -> Result<(), NoMemory>
+    ensures ok { OnOk result (out.new.items ≡ out.old.items ++ decimal n) }
     ensures err { OnErr result (out.new.items ≡ out.old.items) }
 {
     let mut buffer = Buffer::new();

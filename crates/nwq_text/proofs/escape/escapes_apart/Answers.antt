@@ -2,4 +2,4 @@ use Rattle.nwq_text.proofs.EscapeLemmas.{escapes_apart}
 use Rattle.nwq_text.proofs.escape.escapes_apart.Goals as goal
 
 pub returns : goal.returns
-returns c = escapes_apart
+returns c = record { apart = escapes_apart }
