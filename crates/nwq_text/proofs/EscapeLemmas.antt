@@ -4,18 +4,8 @@ use Rattle.std.proofs.lemmas.Bool.Decides.{nat_tests}
 use Rattle.std.proofs.lemmas.Option.{cond_some, some_pair_parts, none-some}
 use Rattle.std.specs.List.{flat_map}
 use Rattle.nwq_text.specs.Escape.{spelling, hex_digit, is_plain, escaped, quoted, AreBytes, ReadsText, ReadsQuoted, EscapesApart}
+use Rattle.nwq_text.proofs.TakenBack.{taken_back}
 use Rattle.nwq_text.specs.Unescape.{front_spelled, after_backslash, after_x, hex_value, hex_pair, is_spelled_in_hex, Unescapes, KeepsAll}
-
--- what was appended is taken back
-pub taken_back : (before more after : List ℕ) → after ≡ before ++ more → take (length before) after ≡ before
-taken_back before more after is = rw is (take_at before more (length before) refl)
-
--- also where what stood there last was itself appended
-pub taken_back_after : (before : List ℕ) (q : ℕ) (between after : List ℕ) → between ≡ before ++ q ∷ [] → take (length between) after ≡ between
-    → take (length before) after ≡ before
-taken_back_after before q between after is kept =
-    let longer : length before ≤ length between = rw (is, length-append) (omega arith)
-    in sym (take-take (length before) (length between) after longer) ∙ ap (take (length before)) kept ∙ taken_back before (q ∷ []) between is
 
 -- a quote, the spellings and a quote were appended
 pub between : (before spelled first second third : List ℕ) → first ≡ before ++ 34 ∷ [] → second ≡ first ++ spelled → third ≡ second ++ 34 ∷ []

@@ -1,2 +1,4 @@
 mod EscapeLemmas
 mod NumberLemmas
+mod TakenBack
+mod ValueLemmas

@@ -91,7 +91,7 @@ fn unescaped(alloc: Global, in_quotes: bool, text: &[u8]) -> Result<Option<Vec<u
     Ok(Some(bytes))
 }
 
-#[tactic(auto, using(crate::proofs::EscapeLemmas::one_more, crate::proofs::EscapeLemmas::taken_back))]
+#[tactic(auto, using(crate::proofs::EscapeLemmas::one_more, crate::proofs::TakenBack::taken_back))]
 /// Appends the spellings of these bytes. A prefix of them may stand there after `NoMemory`.
 fn put_spellings(out: &mut Vec<u8>, in_quotes: bool, text: &[u8]) -> Result<(), NoMemory>
     ensures ok { OnOk result (out.new.items ≡ out.old.items ++ flat_map (spelling in_quotes) text.now) }
@@ -103,7 +103,7 @@ fn put_spellings(out: &mut Vec<u8>, in_quotes: bool, text: &[u8]) -> Result<(), 
     Ok(())
 }
 
-#[tactic(auto, using(crate::proofs::EscapeLemmas::between, crate::proofs::EscapeLemmas::taken_back, crate::proofs::EscapeLemmas::taken_back_after))]
+#[tactic(auto, using(crate::proofs::EscapeLemmas::between, crate::proofs::TakenBack::taken_back, crate::proofs::TakenBack::taken_back_after))]
 /// The same between quotes.
 fn put_between_quotes(out: &mut Vec<u8>, text: &[u8]) -> Result<(), NoMemory>
     ensures ok { OnOk result (out.new.items ≡ out.old.items ++ (34 ∷ flat_map (spelling true) text.now ++ 34 ∷ [])) }

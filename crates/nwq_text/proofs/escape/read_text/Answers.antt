@@ -7,5 +7,5 @@ use Rattle.nwq_text.proofs.escape.read_text.Goals as goal
 
 pub returns-in-None : goal.returns-in-None
 returns-in-None c = record {
-    reads = no_text _ (subst (λ (read : Option (Vec ℕ Global)). Unescapes false c.args.text.now (option_map (λ bytes. bytes.items) read)) c.in-None.is c.in_ok-bytes.ensures);
+  reads = no_text _ (subst (λ (read : Option (Vec ℕ Global)). Unescapes false c.args.text.now (option_map (λ bytes. bytes.items) read)) c.in-None.is c.in_ok-bytes.ensures);
 }

@@ -6,4 +6,4 @@ use Rattle.nwq_text.proofs.escape.text_of.Goals as goal
 pub returns : goal.returns
 returns c =
     let fits : length c.args.bytes.now ≤ 8192 = grind (arith, common_steps)
-    in (fits, all_kept _ _ (c.in_ok-of.ensures {u = tt}) fits)
+    in (fits, all_kept _ _ c.in_ok-of.ensures.ok fits)
