@@ -1,10 +1,9 @@
-use Rattle.std.proofs.Common.{◌≡◌, ℕ, ◌+◌, ◌*◌, ◌/◌, ◌%◌, ◌<◌, ◌≤◌, Bool, true, false, List, [], ◌∷◌, ◌++◌, length, get_or, take, Option, Some, None, refl, sym, ap, ◌∙◌, arith, ◌≢◌, subst, length-append, append_assoc, append-nil}
-use Rattle.std.proofs.lemmas.List.{take_more, flat_map_more, take_at, take_all, take-take, append_cancel_left, append_cancel_right}
+use Rattle.std.proofs.Common.{◌≡◌, ℕ, ◌+◌, ◌*◌, ◌/◌, ◌%◌, ◌<◌, ◌≤◌, Bool, true, false, List, [], ◌∷◌, ◌++◌, length, get_or, take, Option, Some, None, refl, sym, ap, ◌∙◌, arith, ◌≢◌, length-append, append_assoc, append-nil}
+use Rattle.std.proofs.lemmas.List.{take_more, flat_map_more, take_all, append_cancel_left, append_cancel_right}
 use Rattle.std.proofs.lemmas.Bool.Decides.{nat_tests}
 use Rattle.std.proofs.lemmas.Option.{cond_some, some_pair_parts, none-some}
 use Rattle.std.specs.List.{flat_map}
 use Rattle.nwq_text.specs.Escape.{spelling, hex_digit, is_plain, escaped, quoted, AreBytes, ReadsText, ReadsQuoted, EscapesApart}
-use Rattle.nwq_text.proofs.TakenBack.{taken_back}
 use Rattle.nwq_text.specs.Unescape.{front_spelled, after_backslash, after_x, hex_value, hex_pair, is_spelled_in_hex, Unescapes, KeepsAll}
 
 -- a quote, the spellings and a quote were appended

@@ -1,4 +1,4 @@
-use Rattle.std.proofs.Common.{subst, ap, Option, Vec, Global, ℕ}
+use Rattle.std.proofs.Common.{subst, Option, Vec, Global, ℕ}
 use Rattle.std.specs.Option.{option_map}
 use Rattle.nwq_text.specs.Unescape.{Unescapes}
 use Rattle.std.proofs.Common.{false}
