@@ -4,3 +4,4 @@ mod LineLemmas
 mod PlannedLemmas
 mod AddsLemmas
 mod OnePlan
+mod Keeping

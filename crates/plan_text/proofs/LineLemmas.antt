@@ -1,15 +1,15 @@
-use Rattle.std.proofs.Common.{◌≡◌, ◌≢◌, ℕ, ◌+◌, ◌<◌, ◌≤◌, ◌==◌, length, Bool, true, false, cond, codes, List, [], ◌∷◌, ◌++◌, Option, Some, None, Result, Ok, Err, refl, sym, ap, ◌∙◌, subst, arith, length-append, append-nil}
+use Rattle.std.proofs.Common.{◌≡◌, ◌≢◌, ℕ, ◌+◌, ◌<◌, ◌==◌, ◌⊎◌, inl, inr, length, Bool, true, false, cond, List, [], ◌∷◌, ◌++◌, Option, Some, None, Result, Ok, Err, refl, sym, ap, ◌∙◌, subst, arith, length-append, append-nil}
 use Rattle.std.proofs.lemmas.Bool.Decides.{nat_tests}
-use Rattle.std.proofs.lemmas.Option.{none-some, some_pair_parts}
+use Rattle.std.proofs.lemmas.Option.{none-some, some_pair_parts, same_Some}
 use Rattle.std.proofs.lemmas.Slice.Eq.{bytes_eq-Decides}
 use Rattle.std.specs.Str.{bytes_eq}
 use Rattle.plan_text.specs.declared.draft.Draft.{Draft}
 use Rattle.plan_text.specs.declared.fault.PlanFault.{PlanFault}
 use Rattle.plan_text.specs.declared.fault.PlanFault.TheVariants.{Line as BadLine, NoMemory}
 use Rattle.plan_text.specs.declared.plan.Plan.{Plan}
-use Rattle.plan_text.specs.Fields.{cut_at, IsFree}
-use Rattle.plan_text.specs.Plans.{Lines, none, last, ended, without_return, Comes, whole, more, stops, Reads, Baffles, Gives, headed, headless, IsHeaded, nothing, HasPlan, IsFaulty, plan_of}
-use Rattle.plan_text.specs.Steps.{first_line, line_of_cut, GoesOn, ReadsOn, StopsAt}
+use Rattle.plan_text.specs.Fields.{cut_at}
+use Rattle.plan_text.specs.Plans.{Lines, none, last, ended, without_return, whole, more, stops, Reads, Baffles, Gives, headed, headless, IsHeaded, IsVersion, heading, nothing, HasPlan, IsFaulty, plan_of}
+use Rattle.plan_text.specs.Steps.{first_line, line_of_cut, version_in, GoesOn, ReadsOn, StopsAt}
 use Rattle.plan_text.proofs.FieldLemmas.{CutParts, cut_parts, cut_free, cut_none}
 
 -- ---- the first line
@@ -135,17 +135,21 @@ goes_stop n d bytes line rest e baffles =
 
 -- ---- the first line of a plan
 
-pub gives_headed : (bytes line rest : List ℕ) (end : Result Draft ℕ) → first_line bytes ≡ Some (line, rest) → line ≡ codes "NWQ PLAN 1"
-    → GoesOn 2 nothing rest end → Gives bytes end
-gives_headed bytes line rest end e is on =
-    headed on.0 end (subst (λ l. Lines bytes (l ∷ on.0)) is ((first_some bytes line rest e).0 on.0 on.1)) on.2
+pub gives_headed : (version : ℕ) (bytes line rest : List ℕ) (end : Result Draft ℕ) → first_line bytes ≡ Some (line, rest) → IsVersion version
+    → line ≡ heading version → GoesOn 2 (nothing version) rest end → Gives bytes end
+gives_headed version bytes line rest end e known is on =
+    headed version on.0 end known (subst (λ l. Lines bytes (l ∷ on.0)) is ((first_some bytes line rest e).0 on.0 on.1)) on.2
 
-headless_by : (bytes : List ℕ) → ((rest : List ℕ) → first_line bytes ≢ Some (codes "NWQ PLAN 1", rest)) → (lines : List (List ℕ))
+-- no heading stands first
+abbrev pub IsOther : List ℕ → Type 0
+IsOther line = (version : ℕ) → IsVersion version → line ≢ heading version
+
+headless_by : (bytes : List ℕ) → ((line rest : List ℕ) → first_line bytes ≡ Some (line, rest) → IsOther line) → (lines : List (List ℕ))
     → Split bytes lines → IsHeaded lines → ⊥
 headless_by bytes other [] s head = head
-headless_by bytes other (line ∷ lines) s head = other s.0 (s.1 ∙ ap (λ l. Some (l, s.0)) head)
+headless_by bytes other (line ∷ lines) s head = other line s.0 s.1 head.0 head.1 head.2
 
-pub gives_headless : (bytes : List ℕ) → ((rest : List ℕ) → first_line bytes ≢ Some (codes "NWQ PLAN 1", rest)) → Gives bytes (Err 1)
+pub gives_headless : (bytes : List ℕ) → ((line rest : List ℕ) → first_line bytes ≡ Some (line, rest) → IsOther line) → Gives bytes (Err 1)
 gives_headless bytes other =
     let lines = all_lines bytes in headless lines.0 lines.1 (headless_by bytes other lines.0 (split bytes lines.0 lines.1))
 
@@ -167,23 +171,52 @@ empty_line [] h = refl
 empty_line (b ∷ bs) h = absurd (omega arith)
 
 pub headless_nothing : (bytes : List ℕ) → first_line bytes ≡ None → Gives bytes (Err 1)
-headless_nothing bytes e = gives_headless bytes (λ rest h. none-some (codes "NWQ PLAN 1", rest) (sym e ∙ h))
+headless_nothing bytes e = gives_headless bytes (λ line rest h. absurd (none-some (line, rest) (sym e ∙ h)))
 
-pub headless_other : (bytes line rest : List ℕ) → first_line bytes ≡ Some (line, rest) → line ≢ codes "NWQ PLAN 1" → Gives bytes (Err 1)
-headless_other bytes line rest e other = gives_headless bytes (λ r h. other (pair line (codes "NWQ PLAN 1") rest r (sym e ∙ h)).0)
+pub headless_other : (bytes line rest : List ℕ) → first_line bytes ≡ Some (line, rest) → IsOther line → Gives bytes (Err 1)
+headless_other bytes line rest e other = gives_headless bytes (λ l r h. subst IsOther (pair line l rest r (sym e ∙ h)).0 other)
 
 -- a fault behind the first line is the text's
-pub faulty : (bytes line rest : List ℕ) (fault : PlanFault) → first_line bytes ≡ Some (line, rest) → line ≡ codes "NWQ PLAN 1" → StopsAt rest fault
-    → IsFaulty bytes fault
-faulty bytes line rest (BadLine n) e is stops_at = gives_headed bytes line rest (Err n) e is stops_at
-faulty bytes line rest NoMemory e is stops_at = tt
+pub faulty : (version : ℕ) (bytes line rest : List ℕ) (fault : PlanFault) → first_line bytes ≡ Some (line, rest) → IsVersion version
+    → line ≡ heading version → StopsAt version rest fault → IsFaulty bytes fault
+faulty version bytes line rest (BadLine n) e known is stops_at = gives_headed version bytes line rest (Err n) e known is stops_at
+faulty version bytes line rest NoMemory e known is stops_at = tt
 
-pub has_plan : (bytes line rest : List ℕ) (d : Draft) (plan : Plan) → first_line bytes ≡ Some (line, rest) → line ≡ codes "NWQ PLAN 1" → ReadsOn rest d
-    → plan ≡ plan_of d → HasPlan bytes plan
-has_plan bytes line rest d plan e is on same = (d, gives_headed bytes line rest (Ok d) e is on, same)
+pub has_plan : (version : ℕ) (bytes line rest : List ℕ) (d : Draft) (plan : Plan) → first_line bytes ≡ Some (line, rest) → IsVersion version
+    → line ≡ heading version → ReadsOn version rest d → plan ≡ plan_of d → HasPlan bytes plan
+has_plan version bytes line rest d plan e known is on same = (d, gives_headed version bytes line rest (Ok d) e known is on, same)
 
-pub is_head : (line : List ℕ) → true ≡ bytes_eq line (codes "NWQ PLAN 1") → line ≡ codes "NWQ PLAN 1"
-is_head line e = (bytes_eq-Decides line (codes "NWQ PLAN 1")).0 (sym e)
+-- ---- headings
 
-pub is_other : (line : List ℕ) → false ≡ bytes_eq line (codes "NWQ PLAN 1") → line ≢ codes "NWQ PLAN 1"
-is_other line e is = let t : true ≡ false = sym ((bytes_eq-Decides line (codes "NWQ PLAN 1")).1 is) ∙ sym e in cc
+abbrev by_tests : Bool → Bool → Option ℕ
+by_tests a b = cond a (Some 1) (cond b (Some 2) None)
+
+chosen : (a b : Bool) (version : ℕ) → by_tests a b ≡ Some version
+    → ((a ≡ true) × (version ≡ 1)) ⊎ ((b ≡ true) × (version ≡ 2))
+chosen true b version e = inl (refl, sym (same_Some 1 version e))
+chosen false true version e = inr (refl, sym (same_Some 2 version e))
+chosen false false version e = absurd (none-some version e)
+
+known_heading : (line : List ℕ) (version : ℕ) → ((bytes_eq line (heading 1) ≡ true) × (version ≡ 1)) ⊎ ((bytes_eq line (heading 2) ≡ true) × (version ≡ 2))
+    → IsVersion version × (line ≡ heading version)
+known_heading line version (inl h) = (inl h.1, (bytes_eq-Decides line (heading 1)).0 h.0 ∙ ap heading (sym h.1))
+known_heading line version (inr h) = (inr h.1, (bytes_eq-Decides line (heading 2)).0 h.0 ∙ ap heading (sym h.1))
+
+pub is_heading : (line : List ℕ) (version : ℕ) → version_in line ≡ Some version → IsVersion version × (line ≡ heading version)
+unfolding version_in
+is_heading line version e = known_heading line version (chosen (bytes_eq line (heading 1)) (bytes_eq line (heading 2)) version e)
+
+neither : (a b : Bool) → by_tests a b ≡ None → (a ≡ false) × (b ≡ false)
+neither true b e = absurd (none-some 1 (sym e))
+neither false true e = absurd (none-some 2 (sym e))
+neither false false e = (refl, refl)
+
+other_heading : (line : List ℕ) (v : ℕ) → bytes_eq line (heading v) ≡ false → line ≢ heading v
+other_heading line v e is = let t : true ≡ false = sym ((bytes_eq-Decides line (heading v)).1 is) ∙ e in cc
+
+pub is_other : (line : List ℕ) → version_in line ≡ None → IsOther line
+unfolding version_in
+is_other line e version (inl h) is =
+    other_heading line 1 (neither (bytes_eq line (heading 1)) (bytes_eq line (heading 2)) e).0 (is ∙ ap heading h)
+is_other line e version (inr h) is =
+    other_heading line 2 (neither (bytes_eq line (heading 1)) (bytes_eq line (heading 2)) e).1 (is ∙ ap heading h)

@@ -1,16 +1,14 @@
-use Rattle.std.proofs.Common.{◌≡◌, ◌≢◌, ℕ, ◌+◌, ◌⊎◌, inl, inr, ◌==◌, Bool, true, false, codes, List, [], ◌∷◌, ◌++◌, Option, Some, None, Result, Ok, Err, refl, sym, ap, ◌∙◌, subst}
-use Rattle.std.proofs.lemmas.Option.{none-some, same_Some}
-use Rattle.nwq_text.specs.Escape.{EscapesApart, escaped}
+use Rattle.std.proofs.Common.{◌≡◌, ℕ, ◌+◌, ◌⊎◌, inl, inr, ◌==◌, Bool, true, false, List, [], ◌∷◌, ◌++◌, Option, Some, None, Result, Ok, Err, refl, sym, ap, ◌∙◌, subst, arith}
+use Rattle.std.proofs.lemmas.Option.{same_Some}
+use Rattle.nwq_text.specs.Escape.{EscapesApart}
 use Rattle.plan_text.specs.declared.draft.Draft.{Draft}
 use Rattle.plan_text.specs.declared.plan.Line.{Line}
 use Rattle.plan_text.specs.declared.plan.Line.TheVariants.{Event, Start, Free}
-use Rattle.plan_text.specs.declared.plan.Plan.{Plan}
 use Rattle.plan_text.specs.declared.words.Word.{Word}
 use Rattle.plan_text.specs.declared.words.Word.TheVariants.{Limit, Entries, Until, Random, Script, Binary, Event as EventWord, Start as StartWord}
 use Rattle.plan_text.specs.Fields.{parted}
 use Rattle.plan_text.specs.Words.{head_of, spelled}
-use Rattle.plan_text.specs.Plans.{IsEvent, IsStart, IsFreeStart, Spells, Adds, ReadsBehind, Reads, empty, remark, says, Baffles, Comes, whole, more, stops, Lines, Gives, headed, headless, IsHeaded, HasPlan, OnePlan, nothing, plan_of, one_more}
-use Rattle.plan_text.specs.Steps.{four_fields, dash_fields, IsWorded}
+use Rattle.plan_text.specs.Plans.{IsEvent, IsStart, IsFreeStart, Spells, ReadsBehind, Reads, empty, remark, says, Baffles, Comes, whole, more, stops, Gives, headed, headless, IsHeaded, heading, OnePlan, nothing, plan_of}
 use Rattle.plan_text.proofs.AddsLemmas.{one_adds}
 use Rattle.plan_text.proofs.LineLemmas.{one_lines}
 use Rattle.plan_text.proofs.PlannedLemmas.{FourFields, event_four, start_four, free_two, same_four, same_two, apart}
@@ -125,17 +123,25 @@ one_end esc n d (line ∷ lines) e f x y =
 
 -- ---- one plan
 
-same_tail : (line : List ℕ) (a b : List (List ℕ)) → line ∷ a ≡ line ∷ b → a ≡ b
-same_tail line a b e = cc
+same_head : (a b : List ℕ) (xs ys : List (List ℕ)) → a ∷ xs ≡ b ∷ ys → (a ≡ b) × (xs ≡ ys)
+same_head a b xs ys e = (cc, cc)
+
+abbrev last_byte : List ℕ → ℕ
+last_byte (n ∷ w ∷ q ∷ s ∷ p ∷ l ∷ a ∷ m ∷ t ∷ b ∷ rest) = b
+last_byte _ = 0
+
+same_version : (v w : ℕ) → heading v ≡ heading w → v ≡ w
+same_version v w e = let same : 48 + v ≡ 48 + w = ap last_byte e in omega arith
 
 one_given : EscapesApart → (bytes : List ℕ) (e f : Result Draft ℕ) → Gives bytes e → Gives bytes f → e ≡ f
-one_given esc bytes e f (headed a x l c) (headed b y m k) =
-    let same = same_tail (codes "NWQ PLAN 1") a b (one_lines bytes (codes "NWQ PLAN 1" ∷ a) (codes "NWQ PLAN 1" ∷ b) l m)
-    in one_end esc 2 nothing b x y (subst (λ ls. Comes 2 nothing ls x) same c) k
-one_given esc bytes e f (headed a x l c) (headless b m other) =
-    absurd (other (subst IsHeaded (one_lines bytes (codes "NWQ PLAN 1" ∷ a) b l m) refl))
-one_given esc bytes e f (headless a l other) (headed b y m k) =
-    absurd (other (subst IsHeaded (one_lines bytes (codes "NWQ PLAN 1" ∷ b) a m l) refl))
+one_given esc bytes e f (headed v a x known l c) (headed w b y also m k) =
+    let same = same_head (heading v) (heading w) a b (one_lines bytes (heading v ∷ a) (heading w ∷ b) l m)
+    in let version = same_version v w same.0
+    in one_end esc 2 (nothing w) b x y (subst (λ u. Comes 2 (nothing u) b x) version (subst (λ ls. Comes 2 (nothing v) ls x) same.1 c)) k
+one_given esc bytes e f (headed v a x known l c) (headless b m other) =
+    absurd (other (subst IsHeaded (one_lines bytes (heading v ∷ a) b l m) (v, known, refl)))
+one_given esc bytes e f (headless a l other) (headed w b y also m k) =
+    absurd (other (subst IsHeaded (one_lines bytes (heading w ∷ b) a m l) (w, also, refl)))
 one_given esc bytes e f (headless a l other) (headless b m more_other) = refl
 
 same_draft : (c d : Draft) → ◌≡◌ {A = Result Draft ℕ} (Ok c) (Ok d) → c ≡ d

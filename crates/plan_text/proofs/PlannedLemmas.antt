@@ -1,4 +1,4 @@
-use Rattle.std.proofs.Common.{◌≡◌, ◌≢◌, ℕ, ◌<◌, ◌≤◌, Bool, true, false, nat_lt, nat_le, cond, ◌&&◌, IsTrue, codes, List, [], ◌∷◌, ◌++◌, length, take, Option, Some, None, refl, sym, ap, ◌∙◌, subst, arith, ◌⊎◌, inl, inr, Result, Ok, Err, IfOk}
+use Rattle.std.proofs.Common.{◌≡◌, ◌≢◌, ℕ, ◌<◌, ◌≤◌, Bool, true, false, nat_lt, nat_le, cond, ◌&&◌, codes, List, [], ◌∷◌, ◌++◌, length, take, Option, Some, None, refl, sym, ap, ◌∙◌, subst, arith, ◌⊎◌, inl, inr, Result, Ok, Err, IfOk}
 use Rattle.std.proofs.lemmas.List.{take_all}
 use Rattle.std.proofs.lemmas.Bool.Decides.{nat_tests}
 use Rattle.std.proofs.lemmas.Option.{none-some, cond_some}
@@ -7,14 +7,13 @@ use Rattle.std.specs.Option.{option_map}
 use Rattle.std.proofs.lemmas.Slice.Eq.{bytes_eq-Decides}
 use Rattle.std.specs.Str.{all_ascii_digits, bytes_eq}
 use Rattle.std.specs.Str.Parse.{digits_value}
-use Rattle.nwq_text.specs.Escape.{ReadsText, IsTextual, escaped}
+use Rattle.nwq_text.specs.Escape.{ReadsText}
 use Rattle.nwq_text.specs.Number.{number_of, is_number}
 use Rattle.plan_text.specs.declared.plan.Line.{Line}
 use Rattle.plan_text.specs.declared.plan.Line.TheVariants.{Event, Start, Free}
-use Rattle.plan_text.specs.declared.plan.Script.{Script}
 use Rattle.plan_text.specs.declared.draft.Draft.{Draft}
 use Rattle.plan_text.specs.Fields.{cut_at, parted, IsFree, number_between, within, is_script_name, is_script_byte, is_label, is_spaceless}
-use Rattle.plan_text.specs.Plans.{IsEvent, IsStart, IsFreeStart, Spells, Lists, is_listed}
+use Rattle.plan_text.specs.Plans.{IsEvent, IsStart, IsFreeStart, Lists, is_listed}
 use Rattle.plan_text.specs.Steps.{Found, number_field, numbered, four_fields, with_due, with_nth, with_name, dash_fields, dashed, behind_dash}
 use Rattle.plan_text.proofs.FieldLemmas.{CutParts, cut_parts, cut_free}
 

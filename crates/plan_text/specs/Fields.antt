@@ -1,5 +1,5 @@
 -- The fields of a line: what stands between its spaces.
-use Rattle.std.specs.Prelude.{◌≡◌, ◌≢◌, ℕ, Bool, ◌&&◌, ◌||◌, not, ◌==◌, nat_lt, nat_le, if◌then◌else◌, List, [], ◌∷◌, ◌++◌, length, Option, Some, None}
+use Rattle.std.specs.Prelude.{◌≢◌, ℕ, Bool, ◌&&◌, ◌||◌, not, ◌==◌, nat_lt, nat_le, if◌then◌else◌, List, [], ◌∷◌, ◌++◌, length, Option, Some, None}
 use Rattle.std.specs.List.{list_all, AllByRecursion}
 use Rattle.std.specs.Option.{option_map}
 use Rattle.nwq_text.specs.Number.{number_of}
@@ -11,6 +11,13 @@ IsFree at bytes = AllByRecursion (λ b. b ≢ at) bytes
 -- a field, the space behind it and what follows
 abbrev pub parted : List ℕ → List ℕ → List ℕ
 parted field rest = field ++ 32 ∷ rest
+
+-- the greatest place of an object among those of its tag, and the greatest random number
+abbrev pub greatest_nth : ℕ
+greatest_nth = 2147483647
+
+abbrev pub greatest_random : ℕ
+greatest_random = 4294967295
 
 abbrev pub in_front : ℕ → Option (List ℕ × List ℕ) → Option (List ℕ × List ℕ)
 in_front b cut = option_map (λ p. (b ∷ p.0, p.1)) cut

@@ -1,7 +1,8 @@
 -- The plan of a text, or the first of its lines that has no reading.
-use Rattle.std.specs.Prelude.{◌≡◌, ◌≢◌, ℕ, ◌+◌, ◌<◌, ◌≤◌, Bool, true, false, ◌&&◌, not, ◌==◌, nat_lt, IsTrue, List, [], ◌∷◌, ◌++◌, length, codes, bytes_eq, if◌then◌else◌, Option, None, Some, Result, Ok, Err, ◌⊎◌}
-use Rattle.std.specs.List.{list_any}
+use Rattle.std.specs.Prelude.{◌≡◌, ◌≢◌, ℕ, ◌+◌, ◌<◌, ◌≤◌, max, Bool, true, false, ◌==◌, nat_lt, IsTrue, List, [], ◌∷◌, ◌++◌, length, codes, bytes_eq, if◌then◌else◌, Option, None, Some, Result, Ok, Err, ◌⊎◌}
+use Rattle.std.specs.List.{list_any, AllByRecursion}
 use Rattle.nwq_text.specs.Escape.{IsTextual, escaped}
+use Rattle.nwq_value.specs.Limits.{time_limit, random_limit, event_limit, script_limit, instruction_limit, entry_limit, default_instruction_limit, default_entry_limit, default_until}
 use Rattle.plan_text.specs.declared.plan.Script.{Script}
 use Rattle.plan_text.specs.declared.plan.Line.{Line}
 use Rattle.plan_text.specs.declared.plan.Line.TheVariants.{Event, Start, Free}
@@ -11,7 +12,7 @@ use Rattle.plan_text.specs.declared.fault.PlanFault.TheVariants.{Line as BadLine
 use Rattle.plan_text.specs.declared.draft.Draft.{Draft}
 use Rattle.plan_text.specs.declared.words.Word.{Word}
 use Rattle.plan_text.specs.declared.words.Word.TheVariants as word
-use Rattle.plan_text.specs.Fields.{IsFree, parted, number_between, is_script_name, is_label}
+use Rattle.plan_text.specs.Fields.{IsFree, parted, number_between, is_script_name, is_label, greatest_nth, greatest_random}
 use Rattle.plan_text.specs.Words.{spelled}
 
 -- ---- lines of a text
@@ -42,10 +43,10 @@ given_once (Some old) number = None
 -- the random numbers and one more, which is below 2^32
 abbrev pub with_number : List ℕ → Option ℕ → Option (List ℕ)
 with_number numbers None = None
-with_number numbers (Some n) = if nat_lt (length numbers) 65536 then Some (numbers ++ n ∷ []) else None
+with_number numbers (Some n) = if nat_lt (length numbers) random_limit then Some (numbers ++ n ∷ []) else None
 
 abbrev pub one_more : List ℕ → List ℕ → Option (List ℕ)
-one_more numbers digits = with_number numbers (number_between 0 4294967295 digits)
+one_more numbers digits = with_number numbers (number_between 0 greatest_random digits)
 
 -- numbers parted by one space are added to the random numbers
 pub data Adds : List ℕ → List ℕ → List ℕ → Type 0 where
@@ -68,8 +69,8 @@ pub record IsEvent (rest : List ℕ) (line : Line) : Type 0 where
   pub number : ℕ
   pub text : List ℕ
   pub spells : rest ≡ parted due (parted nth (parted label tag))
-  pub time : number_between 0 4294967295 due ≡ Some at
-  pub count : number_between 0 2147483647 nth ≡ Some number
+  pub time : number_between 0 time_limit due ≡ Some at
+  pub count : number_between 0 greatest_nth nth ≡ Some number
   pub labels : IsTrue (is_label label)
   pub tags : Spells tag text
   pub is : line ≡ Event at number label text
@@ -84,8 +85,8 @@ pub record IsStart (rest : List ℕ) (line : Line) : Type 0 where
   pub number : ℕ
   pub text : List ℕ
   pub spells : rest ≡ parted due (parted nth (parted name tag))
-  pub time : number_between 0 4294967295 due ≡ Some at
-  pub count : number_between 0 2147483647 nth ≡ Some number
+  pub time : number_between 0 time_limit due ≡ Some at
+  pub count : number_between 0 greatest_nth nth ≡ Some number
   pub names : IsTrue (is_script_name name)
   pub tags : Spells tag text
   pub is : line ≡ Start at number name text
@@ -96,30 +97,30 @@ pub record IsFreeStart (rest : List ℕ) (line : Line) : Type 0 where
   pub name : List ℕ
   pub at : ℕ
   pub spells : rest ≡ parted due (parted (codes "-") name)
-  pub time : number_between 0 4294967295 due ≡ Some at
+  pub time : number_between 0 time_limit due ≡ Some at
   pub names : IsTrue (is_script_name name)
   pub is : line ≡ Free at name
 
 -- one more event or start
 pub record Plans (d : Draft) (line : Line) (after : Draft) : Type 0 where
-  pub room : length d.events < 65536
+  pub room : length d.events < event_limit
   pub is : after ≡ record d { events = d.events ++ line ∷ [] }
 
 -- one more script, whose name is new
 pub record Lists (d : Draft) (script : Script) (after : Draft) : Type 0 where
   pub named : IsTrue (is_script_name script.name)
   pub fresh : is_listed script.name d.scripts ≡ false
-  pub room : length d.scripts < 256
+  pub room : length d.scripts < script_limit
   pub is : after ≡ record d { scripts = d.scripts ++ script ∷ [] }
 
 -- what a line gives by its word and what follows that
 abbrev pub ReadsBehind : Word → Draft → List ℕ → Draft → Type 0
 ReadsBehind word.Limit d rest after =
-    (n : ℕ) × (given_once d.limit (number_between 1 16777216 rest) ≡ Some n) × (after ≡ record d { limit = Some n })
+    (n : ℕ) × (given_once d.limit (number_between 1 instruction_limit rest) ≡ Some n) × (after ≡ record d { limit = Some n })
 ReadsBehind word.Entries d rest after =
-    (n : ℕ) × (given_once d.entries (number_between 1 1000000 rest) ≡ Some n) × (after ≡ record d { entries = Some n })
+    (n : ℕ) × (given_once d.entries (number_between 1 entry_limit rest) ≡ Some n) × (after ≡ record d { entries = Some n })
 ReadsBehind word.Until d rest after =
-    (n : ℕ) × (given_once d.until (number_between 0 4294967295 rest) ≡ Some n) × (after ≡ record d { until = Some n })
+    (n : ℕ) × (given_once d.until (number_between 0 time_limit rest) ≡ Some n) × (after ≡ record d { until = Some n })
 ReadsBehind word.Random d rest after = (numbers : List ℕ) × Adds d.random rest numbers × (after ≡ record d { random = numbers })
 ReadsBehind word.Script d rest after = Lists d (record { name = rest; binary = false }) after
 ReadsBehind word.Binary d rest after = Lists d (record { name = rest; binary = true }) after
@@ -145,9 +146,9 @@ pub data Comes : ℕ → Draft → List (List ℕ) → Result Draft ℕ → Type
 
 -- ---- the plan
 
--- no line has given anything
-abbrev pub nothing : Draft
-nothing = record { limit = None; entries = None; until = None; random = []; scripts = []; events = [] }
+-- no line has given anything but the version
+abbrev pub nothing : ℕ → Draft
+nothing version = record { version = version; limit = None; entries = None; until = None; random = []; scripts = []; events = [] }
 
 abbrev pub or_default : Option ℕ → ℕ → ℕ
 or_default None default = default
@@ -156,21 +157,31 @@ or_default (Some n) default = n
 -- the plan of what all lines give
 abbrev pub plan_of : Draft → Plan
 plan_of d = record {
-  limit = or_default d.limit 131072;
-  entries = or_default d.entries 10000;
-  until = or_default d.until 60000;
+  version = d.version;
+  limit = or_default d.limit default_instruction_limit;
+  entries = or_default d.entries default_entry_limit;
+  until = or_default d.until default_until;
   random = d.random;
   scripts = d.scripts;
   events = d.events;
 }
 
+-- the line that a plan of this version begins with
+abbrev pub heading : ℕ → List ℕ
+heading version = codes "NWQ PLAN " ++ (48 + version) ∷ []
+
+abbrev pub IsVersion : ℕ → Type 0
+IsVersion version = (version ≡ 1) ⊎ (version ≡ 2)
+
+-- the first of the lines is a heading
 abbrev pub IsHeaded : List (List ℕ) → Type 0
 IsHeaded [] = ⊥
-IsHeaded (line ∷ lines) = line ≡ codes "NWQ PLAN 1"
+IsHeaded (line ∷ lines) = (version : ℕ) × IsVersion version × (line ≡ heading version)
 
 -- a text gives this, or its line of this number is the first without a reading
 pub data Gives (bytes : List ℕ) : Result Draft ℕ → Type 0 where
-  headed : (lines : List (List ℕ)) (end : Result Draft ℕ) → Lines bytes (codes "NWQ PLAN 1" ∷ lines) → Comes 2 nothing lines end → Gives bytes end
+  headed : (version : ℕ) (lines : List (List ℕ)) (end : Result Draft ℕ) → IsVersion version → Lines bytes (heading version ∷ lines)
+      → Comes 2 (nothing version) lines end → Gives bytes end
   headless : (lines : List (List ℕ)) → Lines bytes lines → (IsHeaded lines → ⊥) → Gives bytes (Err 1)
 
 -- the text has this plan
@@ -187,3 +198,46 @@ pub record OnePlan : Type 0 where
   pub one_plan : (bytes : List ℕ) (a b : Plan) → HasPlan bytes a → HasPlan bytes b → a ≡ b
   pub one_fault : (bytes : List ℕ) (n m : ℕ) → IsFaulty bytes (BadLine n) → IsFaulty bytes (BadLine m) → n ≡ m
   pub not_both : (bytes : List ℕ) (a : Plan) (n : ℕ) → HasPlan bytes a → IsFaulty bytes (BadLine n) → ⊥
+
+-- ---- what every plan keeps
+
+abbrev pub IsBetween : ℕ → ℕ → ℕ → Type 0
+IsBetween low high n = (low ≤ n) × (n ≤ high)
+
+abbrev pub AreRandoms : List ℕ → Type 0
+AreRandoms numbers = AllByRecursion (λ n. n ≤ greatest_random) numbers
+
+-- each has the name of a script, and no two have the same
+abbrev pub AreListed : List Script → Type 0
+AreListed [] = Unit {0}
+AreListed (s ∷ ss) = IsTrue (is_script_name s.name) × (is_listed s.name ss ≡ false) × AreListed ss
+
+abbrev pub IsLine : Line → Type 0
+IsLine (Event due nth label tag) = (due ≤ time_limit) × (nth ≤ greatest_nth) × IsTrue (is_label label) × IsTextual tag
+IsLine (Start due nth name tag) = (due ≤ time_limit) × (nth ≤ greatest_nth) × IsTrue (is_script_name name) × IsTextual tag
+IsLine (Free due name) = (due ≤ time_limit) × IsTrue (is_script_name name)
+
+pub record IsPlan (plan : Plan) : Type 0 where
+  pub version : IsVersion plan.version
+  pub limit : IsBetween 1 instruction_limit plan.limit
+  pub entries : IsBetween 1 entry_limit plan.entries
+  pub until : IsBetween 0 time_limit plan.until
+  pub few_randoms : length plan.random ≤ random_limit
+  pub randoms : AreRandoms plan.random
+  pub few_scripts : length plan.scripts ≤ script_limit
+  pub scripts : AreListed plan.scripts
+  pub few_events : length plan.events ≤ event_limit
+  pub events : AllByRecursion IsLine plan.events
+
+-- every plan of a text keeps its limits
+abbrev pub PlansKeep : Type 0
+PlansKeep = (bytes : List ℕ) (plan : Plan) → HasPlan bytes plan → IsPlan plan
+
+-- the first bad line is a line of the text, or the first one where there is none
+pub record IsLineOf (bytes : List ℕ) (n : ℕ) : Type 0 where
+  pub lines : List (List ℕ)
+  pub are : Lines bytes lines
+  pub inside : IsBetween 1 (max 1 (length lines)) n
+
+abbrev pub FaultsLieInside : Type 0
+FaultsLieInside = (bytes : List ℕ) (n : ℕ) → IsFaulty bytes (BadLine n) → IsLineOf bytes n

@@ -1,11 +1,12 @@
 -- What single steps of the reading answer.
-use Rattle.std.specs.Prelude.{◌≡◌, ◌≢◌, ℕ, Bool, true, false, List, [], ◌∷◌, ◌++◌, codes, bytes_eq, if◌then◌else◌, Option, None, Some, Result, Ok, Err, MatchOption, ◌⊎◌}
+use Rattle.std.specs.Prelude.{◌≢◌, ℕ, Bool, true, false, List, [], ◌∷◌, codes, bytes_eq, if◌then◌else◌, Option, None, Some, Result, Ok, Err, MatchOption}
 use Rattle.std.specs.Option.{option_map}
 use Rattle.plan_text.specs.declared.fault.PlanFault.{PlanFault}
 use Rattle.plan_text.specs.declared.fault.PlanFault.TheVariants.{Line, NoMemory}
 use Rattle.plan_text.specs.declared.draft.Draft.{Draft}
-use Rattle.plan_text.specs.Fields.{cut_at, number_between}
-use Rattle.plan_text.specs.Plans.{Reads, Baffles, without_return, Comes, Lines, nothing}
+use Rattle.nwq_value.specs.Limits.{time_limit}
+use Rattle.plan_text.specs.Fields.{cut_at, number_between, greatest_nth}
+use Rattle.plan_text.specs.Plans.{without_return, Comes, Lines, nothing, heading}
 
 -- a step goes on by the relation, or says that nothing does
 abbrev pub Took : {A : Type 0} → (A → Type 0) → Bool → A → Type 0
@@ -34,11 +35,11 @@ with_nth due (Some p) = with_name due p.0 (cut_at 32 p.1)
 
 abbrev pub with_due : Option (ℕ × List ℕ) → Option (ℕ × ℕ × List ℕ × List ℕ)
 with_due None = None
-with_due (Some p) = with_nth p.0 (number_field 2147483647 p.1)
+with_due (Some p) = with_nth p.0 (number_field greatest_nth p.1)
 
 -- the time, the number, the name and the tag's spelling of a line with four fields
 unfoldable pub four_fields : List ℕ → Option (ℕ × ℕ × List ℕ × List ℕ)
-four_fields rest = with_due (number_field 4294967295 rest)
+four_fields rest = with_due (number_field time_limit rest)
 
 abbrev pub behind_dash : ℕ → Option (List ℕ × List ℕ) → Option (ℕ × List ℕ)
 behind_dash due None = None
@@ -50,7 +51,7 @@ dashed (Some p) = behind_dash p.0 (cut_at 32 p.1)
 
 -- the time and what follows a dash in the second field
 unfoldable pub dash_fields : List ℕ → Option (ℕ × List ℕ)
-dash_fields rest = dashed (number_field 4294967295 rest)
+dash_fields rest = dashed (number_field time_limit rest)
 
 abbrev pub line_of_cut : List ℕ → Option (List ℕ × List ℕ) → List ℕ × List ℕ
 line_of_cut bytes None = (bytes, [])
@@ -65,14 +66,18 @@ first_line (b ∷ bs) = Some (line_of_cut (b ∷ bs) (cut_at 10 (b ∷ bs)))
 abbrev pub GoesOn : ℕ → Draft → List ℕ → Result Draft ℕ → Type 0
 GoesOn n d bytes end = (lines : List (List ℕ)) × Lines bytes lines × Comes n d lines end
 
--- the lines behind the first give this
-abbrev pub ReadsOn : List ℕ → Draft → Type 0
-ReadsOn bytes d = GoesOn 2 nothing bytes (Ok d)
+-- the version whose heading this is
+unfoldable pub version_in : List ℕ → Option ℕ
+version_in line = if bytes_eq line (heading 1) then Some 1 else if bytes_eq line (heading 2) then Some 2 else None
+
+-- the lines behind the first, of a plan of this version, give this
+abbrev pub ReadsOn : ℕ → List ℕ → Draft → Type 0
+ReadsOn version bytes d = GoesOn 2 (nothing version) bytes (Ok d)
 
 -- this line behind the first is the first without a reading
-abbrev pub StopsAt : List ℕ → PlanFault → Type 0
-StopsAt bytes (Line n) = GoesOn 2 nothing bytes (Err n)
-StopsAt bytes NoMemory = Unit {0}
+abbrev pub StopsAt : ℕ → List ℕ → PlanFault → Type 0
+StopsAt version bytes (Line n) = GoesOn 2 (nothing version) bytes (Err n)
+StopsAt version bytes NoMemory = Unit {0}
 
 -- a line that is not passed over
 pub record IsWorded (line : List ℕ) : Type 0 where

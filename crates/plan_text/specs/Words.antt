@@ -1,5 +1,5 @@
 -- The words that lines begin with.
-use Rattle.std.specs.Prelude.{ℕ, List, ◌++◌, codes, bytes_eq, if◌then◌else◌, Option, Some, None}
+use Rattle.std.specs.Prelude.{ℕ, List, codes, bytes_eq, if◌then◌else◌, Option, Some, None}
 use Rattle.std.specs.Option.{option_map}
 use Rattle.plan_text.specs.declared.words.Word.{Word}
 use Rattle.plan_text.specs.declared.words.Word.TheVariants.{Limit, Entries, Until, Random, Script, Binary, Event, Start}

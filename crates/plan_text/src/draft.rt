@@ -22,8 +22,9 @@ const MOST_SCRIPTS: usize = 256;
 const MOST_EVENTS: usize = 65_536;
 
 /// What the lines so far have given.
-#[derive(Debug, Drop)]
+#[derive(Drop)]
 pub struct Draft {
+    pub version: u8,
     pub limit: Option<u64>,
     pub entries: Option<u64>,
     pub until: Option<u64>,
@@ -79,10 +80,11 @@ fn lists(scripts: &[Script], name: &[u8]) -> bool
 
 impl Draft {
     /// Nothing was given yet.
-    pub fn new(alloc: Global) -> Draft
-        ensures { result ≡ nothing }
+    pub fn new(alloc: Global, version: u8) -> Draft
+        ensures { result ≡ nothing version }
     {
         Draft {
+            version,
             limit: None,
             entries: None,
             until: None,
@@ -97,6 +99,7 @@ impl Draft {
         ensures { result ≡ plan_of self }
     {
         let Draft {
+            version,
             limit,
             entries,
             until,
@@ -105,6 +108,7 @@ impl Draft {
             events,
         } = self;
         Plan {
+            version,
             limit: limit.unwrap_or(131_072),
             entries: entries.unwrap_or(10_000),
             until: until.unwrap_or(60_000),

@@ -16,6 +16,3 @@ mod words;
 pub use fault::PlanFault;
 pub use plan::{Line, Listed, Plan, Planned, Script};
 pub use reading::read_plan;
-
-#[cfg(test)]
-mod tests;

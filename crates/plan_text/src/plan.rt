@@ -1,7 +1,7 @@
 use nwq_value::{Items, Randoms, Text};
 
 /// A script that a plan lists.
-#[derive(Debug, Drop)]
+#[derive(Drop)]
 pub struct Script {
     /// 1 to 16 of the characters a to z, 0 to 9 and `_`.
     pub name: Text,
@@ -10,7 +10,7 @@ pub struct Script {
 }
 
 /// Something that is due at a time, in milliseconds.
-#[derive(Debug, Drop)]
+#[derive(Drop)]
 pub enum Line {
     /// An event of an object: the script in its field of this label. The object is the `nth` of those with the
     /// tag, counted from 0.
@@ -41,8 +41,10 @@ pub type Listed = Items<Script>;
 pub type Planned = Items<Line>;
 
 /// What a play has besides its area.
-#[derive(Debug, Drop)]
+#[derive(Drop)]
 pub struct Plan {
+    /// 1 or 2.
+    pub version: u8,
     /// How many instructions an entry takes at most: 1 to 16,777,216.
     pub limit: u64,
     /// How many entries the play takes at most: 1 to 1,000,000.

@@ -1,7 +1,7 @@
-ghost use Rattle.std.specs.Prelude.{◌≡◌, IfOk, IfErr, bytes_eq, codes};
+ghost use Rattle.std.specs.Prelude.{◌≡◌, IfOk, IfErr};
 ghost use Rattle.std.specs.Option.{option_map};
 ghost use Rattle.plan_text.specs.Plans.{HasPlan, IsFaulty, without_return};
-ghost use Rattle.plan_text.specs.Steps.{first_line, ReadsOn, StopsAt};
+ghost use Rattle.plan_text.specs.Steps.{first_line, version_in, ReadsOn, StopsAt};
 
 use crate::draft::Draft;
 use crate::fault::PlanFault;
@@ -16,7 +16,7 @@ fn trimmed(line: &[u8]) -> &[u8]
 {
     match line.split_last() {
         None => line,
-        Some((last, front)) => { if *last == b'\r' { front } else { line } }
+        Some((last, before)) => { if *last == b'\r' { before } else { line } }
     }
 }
 
@@ -34,24 +34,32 @@ fn line_at(bytes: &[u8]) -> Option<(&[u8], &[u8])>
     }
 }
 
-/// Whether this is the line that a plan begins with.
-fn heads(line: &[u8]) -> bool
-    ensures { result ≡ bytes_eq line.now (codes "NWQ PLAN 1") }
+/// The version of the plan that begins with this line.
+#[tactic(auto, unfolding(crate::specs::Steps::version_in))]
+fn version_of(line: &[u8]) -> Option<u8>
+    ensures { result ≡ version_in line.now }
 {
-    line == b"NWQ PLAN 1".as_slice()
+    if line == b"NWQ PLAN 1".as_slice() {
+        Some(1)
+    } else if line == b"NWQ PLAN 2".as_slice() {
+        Some(2)
+    } else {
+        None
+    }
 }
 
 /// Reads the lines behind the first.
-fn read_lines(alloc: Global, bytes: &[u8]) -> Result<Draft, PlanFault>
-    ensures plan { IfOk result (λ draft. ReadsOn bytes.now draft) }
-    ensures fault { IfErr result (StopsAt bytes.now) }
+fn read_lines(alloc: Global, version: u8, bytes: &[u8]) -> Result<Draft, PlanFault>
+    ensures plan { IfOk result (λ draft. ReadsOn version bytes.now draft) }
+    ensures fault { IfErr result (StopsAt version bytes.now) }
 {
-    let mut draft = Draft::new(alloc);
+    let mut draft = Draft::new(alloc, version);
     let mut number = 1u64;
     let mut rest = bytes;
     while let Some((line, after)) = line_at(rest) {
         number += 1;
         if !draft.take(alloc, line)? {
+            drop(draft);
             return Err(PlanFault::Line(number));
         }
         rest = after;
@@ -67,10 +75,10 @@ pub fn read_plan(alloc: Global, bytes: &[u8]) -> Result<Plan, PlanFault>
     let Some((line, rest)) = line_at(bytes) else {
         return Err(PlanFault::Line(1));
     };
-    if !heads(line) {
+    let Some(version) = version_of(line) else {
         return Err(PlanFault::Line(1));
-    }
-    match read_lines(alloc, rest) {
+    };
+    match read_lines(alloc, version, rest) {
         Err(fault) => Err(fault),
         Ok(draft) => Ok(draft.plan()),
     }

@@ -4,6 +4,8 @@
 #[cfg(test)]
 mod files;
 #[cfg(test)]
+mod plans;
+#[cfg(test)]
 mod texts;
 #[cfg(test)]
 mod values;

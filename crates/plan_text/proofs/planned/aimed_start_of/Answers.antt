@@ -1,4 +1,4 @@
-use Rattle.std.proofs.Common.{sym, subst, ap, ◌∙◌, take}
+use Rattle.std.proofs.Common.{sym, subst}
 use Rattle.nwq_text.specs.Escape.{ReadsText}
 use Rattle.plan_text.proofs.PlannedLemmas.{start_none, start_unnamed, start_unspelled, start_is}
 use Rattle.plan_text.proofs.planned.aimed_start_of.Goals as goal
@@ -11,9 +11,9 @@ returns-then-not-names_script c = start_unnamed _ _ (sym (c.in-Some.ensures {u =
 
 pub returns-in_default-2 : goal.returns-in_default-2
 returns-in_default-2 c =
-    start_unspelled _ _ (sym (c.in-Some.ensures {u = tt})) (subst (ReadsText c.in-Some.tag.now) c.in_default-2.is (c.in_ok-tag.ensures {u = tt}))
+    start_unspelled _ _ (sym (c.in-Some.ensures {u = tt})) (subst (ReadsText c.in-Some.tag.now) c.in_default-2.is c.in_ok-tag.ensures.reads)
 
 pub returns : goal.returns
 returns c =
-    start_is _ _ _ _ (sym (c.in-Some.ensures {u = tt})) (sym (c.if-not-names_script.ensures {u = tt})) (c.in_ok-name.ensures {u = tt})
-    (subst (ReadsText c.in-Some.tag.now) c.in-Some-2.is (c.in_ok-tag.ensures {u = tt}))
+    start_is _ _ _ _ (sym (c.in-Some.ensures {u = tt})) (sym (c.if-not-names_script.ensures {u = tt})) c.in_ok-name.ensures.ok
+    (subst (ReadsText c.in-Some.tag.now) c.in-Some-2.is c.in_ok-tag.ensures.reads)

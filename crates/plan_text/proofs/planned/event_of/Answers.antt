@@ -1,4 +1,4 @@
-use Rattle.std.proofs.Common.{sym, subst, ap, ◌∙◌, take}
+use Rattle.std.proofs.Common.{sym, subst}
 use Rattle.nwq_text.specs.Escape.{ReadsText}
 use Rattle.plan_text.proofs.PlannedLemmas.{event_none, event_unlabelled, event_unspelled, event_is}
 use Rattle.plan_text.proofs.planned.event_of.Goals as goal
@@ -11,9 +11,9 @@ returns-then-not-labels c = event_unlabelled _ _ (sym (c.in-Some.ensures {u = tt
 
 pub returns-in_default-2 : goal.returns-in_default-2
 returns-in_default-2 c =
-    event_unspelled _ _ (sym (c.in-Some.ensures {u = tt})) (subst (ReadsText c.in-Some.tag.now) c.in_default-2.is (c.in_ok-tag.ensures {u = tt}))
+    event_unspelled _ _ (sym (c.in-Some.ensures {u = tt})) (subst (ReadsText c.in-Some.tag.now) c.in_default-2.is c.in_ok-tag.ensures.reads)
 
 pub returns : goal.returns
 returns c =
-    event_is _ _ _ _ (sym (c.in-Some.ensures {u = tt})) (sym (c.if-not-labels.ensures {u = tt})) (c.in_ok-label.ensures {u = tt})
-    (subst (ReadsText c.in-Some.tag.now) c.in-Some-2.is (c.in_ok-tag.ensures {u = tt}))
+    event_is _ _ _ _ (sym (c.in-Some.ensures {u = tt})) (sym (c.if-not-labels.ensures {u = tt})) c.in_ok-label.ensures.ok
+    (subst (ReadsText c.in-Some.tag.now) c.in-Some-2.is c.in_ok-tag.ensures.reads)

@@ -9,4 +9,4 @@ pub returns-then-not-names_script : goal.returns-then-not-names_script
 returns-then-not-names_script c = free_unnamed _ _ (sym (c.in-Some.ensures {u = tt})) (sym (c.if-not-names_script.ensures {u = tt}))
 
 pub returns : goal.returns
-returns c = free_is _ _ _ (sym (c.in-Some.ensures {u = tt})) (sym (c.if-not-names_script.ensures {u = tt})) (c.in_ok-name.ensures {u = tt})
+returns c = free_is _ _ _ (sym (c.in-Some.ensures {u = tt})) (sym (c.if-not-names_script.ensures {u = tt})) c.in_ok-name.ensures.ok

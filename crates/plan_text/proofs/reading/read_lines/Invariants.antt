@@ -6,7 +6,7 @@ use Rattle.plan_text.proofs.reading.read_lines.Given as goal
 
 abbrev pub invariant-loop-line : goal.invariant-loop-line
 invariant-loop-line l = record {
-  goes : (end : Result Draft ℕ) → GoesOn (l.number + 1) l.draft l.rest end → GoesOn 2 nothing l.fn.bytes end;
+  goes : (end : Result Draft ℕ) → GoesOn (l.number + 1) l.draft l.rest end → GoesOn 2 (nothing l.fn.version) l.fn.bytes end;
   few : l.number + length l.rest ≤ 1 + length l.fn.bytes;
 }
 

@@ -1,4 +1,4 @@
-use crate::{Line, PlanFault, read_plan};
+use plan_text::{Line, PlanFault, read_plan};
 use nwq_text::put_number;
 use nwq_value::NoMemory;
 use std::alloc::Global;
@@ -29,6 +29,8 @@ fn bad_lines(rt: HostRuntime) -> Result<(), Fail> {
     for (text, line) in [
         (b"".as_slice(), 1),
         (b"NWQ PLAN 9".as_slice(), 1),
+        (b"NWQ PLAN 3".as_slice(), 1),
+        (b"NWQ PLAN 21".as_slice(), 1),
         (b"\nNWQ PLAN 1\n".as_slice(), 1),
         (b"NWQ PLAN 1\nlimit 0\n".as_slice(), 2),
         (b"NWQ PLAN 1\nscript a\nscript a\n".as_slice(), 3),
@@ -64,6 +66,7 @@ fn bad_lines(rt: HostRuntime) -> Result<(), Fail> {
 #[test]
 fn defaults(rt: HostRuntime) -> Result<(), Fail> {
     let plan = read_plan(rt.alloc(), b"NWQ PLAN 1")?;
+    assert_eq!(rt; plan.version, 1);
     assert_eq!(rt; plan.limit, 131_072);
     assert_eq!(rt; plan.entries, 10_000);
     assert_eq!(rt; plan.until, 60_000);
@@ -75,9 +78,10 @@ fn defaults(rt: HostRuntime) -> Result<(), Fail> {
 fn all_kinds_of_lines(rt: HostRuntime) -> Result<(), Fail> {
     let plan = read_plan(
         rt.alloc(),
-        b"NWQ PLAN 1\r\n; all\n\nlimit 16777216\nentries 1000000\r\nuntil 4294967295\nrandom 0 4294967295\nrandom 07\n\
+        b"NWQ PLAN 2\r\n; all\n\nlimit 16777216\nentries 1000000\r\nuntil 4294967295\nrandom 0 4294967295\nrandom 07\n\
         script a_0\nbinary b\nevent 1 2147483647 ScriptHeartbeat \\\\\\n\nevent 0 0 L \nstart 2 3 p t u\nstart 4294967295 - p",
     )?;
+    assert_eq!(rt; plan.version, 2);
     assert_eq!(rt; plan.limit, 16_777_216);
     assert_eq!(rt; plan.entries, 1_000_000);
     assert_eq!(rt; plan.until, 4_294_967_295);
