@@ -5,21 +5,23 @@ use Rattle.std.proofs.lemmas.Option.{same_Some, none-some}
 use Rattle.std.proofs.lemmas.Grind.{common_steps}
 use Rattle.nwq_value.specs.Engine.{EngineTable, routine_named, constant_named}
 use Rattle.nwq_value.specs.Header.{header_text, header_constants, header_routines}
+use Rattle.nwq_value.specs.HeaderTable.{header_table}
+use Rattle.nwq_value.specs.Roles.{engine_role, role_of_row, role_without_row, has_signature, ty_eq, tys_eq}
 use Rattle.nss_lexer.specs.declared.scan.Front.{Front}
 use Rattle.nss_lexer.specs.Lexemes.{is_word}
 use Rattle.nss_lexer.specs.Reading.{pass, form, lexeme}
 use Rattle.nss_lexer.specs.Splitting.{Lexeme, Begins, IsFirstToken, Skips, Gap, Splits, begins_comment, nothing as no_gap, more as gap_more, whole, broken, token}
-use Rattle.nss_lexer.proofs.FirstLaws.{lexeme_begins, one_split}
+use Rattle.nss_lexer.proofs.FirstLaws.{lexeme_begins}
 use Rattle.nss_lexer.proofs.FoundLaws.{length_taken}
 use Rattle.nss_lexer.proofs.GapLaws.{pass_skips}
 use Rattle.engine_table.specs.declared.fault.HeaderFault.{HeaderFault}
 use Rattle.engine_table.specs.declared.fault.HeaderFault.TheVariants.{Bad, Header, Twice, Many, NoMemory}
 use Rattle.engine_table.specs.declared.stage.Stage.TheVariants as stage
-use Rattle.engine_table.specs.Symbols.{spots_of}
+use Rattle.engine_table.specs.Symbols.{placed_all}
 use Rattle.engine_table.specs.Grammar.{structure_of}
-use Rattle.engine_table.specs.Headers.{HasTable, IsRefused, Comes, nothing, function_fault, constant_fault, value_fault, same_const}
+use Rattle.engine_table.specs.Headers.{HasTable, IsRefused, OneHeader, Comes, nothing, function_fault, constant_fault, value_fault, same_const}
 use Rattle.engine_table.specs.Turns.{turn, run}
-use Rattle.engine_table.proofs.Whole.{right, one_header}
+use Rattle.engine_table.proofs.Whole.{right}
 
 -- ---- tokens, computed
 
@@ -107,40 +109,36 @@ lex_right (suc n) all at bytes ts is e =
 
 -- ---- the built-in header
 
-abbrev is_table : Result EngineTable HeaderFault → Bool
-is_table (Ok t) = true
-is_table (Err f) = false
+abbrev come_to : Option (List Lexeme) → Result EngineTable HeaderFault
+come_to None = Err NoMemory
+come_to (Some ts) = run (length header_text) nothing stage.Start (placed_all ts)
 
-abbrev checks : Option (List Lexeme) → Bool
-checks None = false
-checks (Some ts) = is_table (run (length header_text) nothing stage.Start (spots_of ts))
-
-computed : checks (lex 6000 0 header_text) ≡ true
-unfolding lex pass form is_word header_text header_constants header_routines run turn structure_of function_fault constant_fault value_fault same_const routine_named constant_named
+computed : come_to (lex 6000 0 header_text) ≡ Ok header_table
+unfolding lex pass form is_word header_text header_table header_constants header_routines run turn structure_of function_fault constant_fault value_fault same_const routine_named constant_named engine_role role_of_row role_without_row has_signature ty_eq tys_eq
 computed = refl
 
-record SomeTable : Type 0 where
-  table : EngineTable
-  has : HasTable header_text table
+none_come : ◌≡◌ {A = Result EngineTable HeaderFault} (Err NoMemory) (Ok header_table) → ⊥
+none_come e = cc
 
-table_of : (ts : List Lexeme) (o : Result EngineTable HeaderFault) → Splits header_text 0 0 ts None → Comes (length header_text) nothing (spots_of ts) o → is_table o ≡ true → SomeTable
-table_of ts (Ok t) s h e = record { table = t; has = (ts, s, h) }
-table_of ts (Err f) s h e = cc
+table_of : (o : Option (List Lexeme)) → lex 6000 0 header_text ≡ o → come_to o ≡ Ok header_table → HasTable header_text header_table
+table_of None is e = absurd (none_come e)
+table_of (Some ts) is e = (
+  ts,
+  lex_right 6000 header_text 0 header_text ts refl is,
+  subst (Comes (length header_text) nothing (placed_all ts)) e (right (length header_text) nothing (placed_all ts)),
+)
 
-some_of : (o : Option (List Lexeme)) → lex 6000 0 header_text ≡ o → checks o ≡ true → SomeTable
-some_of None is e = cc
-some_of (Some ts) is e = table_of ts (run (length header_text) nothing stage.Start (spots_of ts)) (lex_right 6000 header_text 0 header_text ts refl is) (right (length header_text) nothing (spots_of ts)) e
+-- the built-in header's text has the table of its data
+pub has_table : HasTable header_text header_table
+has_table = table_of (lex 6000 0 header_text) refl computed
 
-some_table : SomeTable
-some_table = some_of (lex 6000 0 header_text) refl computed
+none_else : OneHeader → (f : HeaderFault) → f ≢ NoMemory → IsRefused header_text f → ⊥
+none_else one f some refused = one.not_both header_text header_table f some has_table refused
 
-none_else : (f : HeaderFault) → f ≢ NoMemory → IsRefused header_text f → ⊥
-none_else f some refused = (one_header one_split).not_both header_text some_table.table f some some_table.has refused
-
--- the text has no fault
-pub only_memory : (f : HeaderFault) → IsRefused header_text f → f ≡ NoMemory
-only_memory NoMemory h = refl
-only_memory (Bad p) h = absurd (none_else (Bad p) (λ e. cc) h)
-only_memory (Header p) h = absurd (none_else (Header p) (λ e. cc) h)
-only_memory (Twice p) h = absurd (none_else (Twice p) (λ e. cc) h)
-only_memory (Many p) h = absurd (none_else (Many p) (λ e. cc) h)
+-- and no fault
+pub only_memory : OneHeader → (f : HeaderFault) → IsRefused header_text f → f ≡ NoMemory
+only_memory one NoMemory h = refl
+only_memory one (Bad p) h = absurd (none_else one (Bad p) (λ e. cc) h)
+only_memory one (Header p) h = absurd (none_else one (Header p) (λ e. cc) h)
+only_memory one (Twice p) h = absurd (none_else one (Twice p) (λ e. cc) h)
+only_memory one (Many p) h = absurd (none_else one (Many p) (λ e. cc) h)
