@@ -16,7 +16,7 @@ use crate::known::Known;
 use crate::laws::one_header;
 use crate::stage::{Stage, Turn};
 use crate::symbol::{Symbol, symbol_of};
-use nss_lexer::laws::one_first;
+use nss_lexer::laws::{computed_tokens, one_first};
 use nss_lexer::{Lexed, Token, next};
 use nwq_value::header::built_in_is_the_header;
 use nwq_value::{BUILT_IN, NoMemory, Table};
@@ -187,6 +187,7 @@ pub fn built_in(alloc: Global) -> Result<Table, NoMemory>
     ensures text { IfOk result (HasTable header_text) }
 {
     built_in_is_the_header();
+    computed_tokens();
     one_header();
     match read_header(alloc, BUILT_IN) {
         Ok(table) => Ok(table),
