@@ -23,7 +23,7 @@ use Rattle.engine_table.specs.Headers.{function_fault, constant_fault, value_fau
 use Rattle.engine_table.specs.Turns.{Next, turn, ended, run_by, run, HasBegun}
 use Rattle.engine_table.proofs.Progress as progress
 use Rattle.engine_table.proofs.Progress.{two, three, four, moved, Begun, After, step, clear_made}
-use Rattle.engine_table.proofs.Prefixes.{begun_prefix}
+use Rattle.engine_table.proofs.Prefixes.{begun_prefix, unspelled}
 use Rattle.engine_table.proofs.Complete.{Got, Broke, line_by, line, by_turn, line_got, clash_breaks}
 
 -- ---- clashes are no misfits
@@ -220,13 +220,13 @@ no_empty (y ∷ xs) x ys e = cc
 inside_by : (end : ℕ) (k : Known) (xs : List Placed) → IsInside k xs → Walk end k stage.Start [] xs → Reached end k xs
 inside_by end k xs inside (reached to begun e) = record { to = to; begun = begun; reads = e }
 inside_by end k xs inside (whole d ys zs same is clear e) =
-    let (more, g, other) = inside.prefix in
+    let (more, spelled, g, other) = inside.prefix in
     let none : zs ++ more ≡ [] = got_rest k g d (xs ++ more) [] (zs ++ more) end other
     (ap (line end k stage.Start) (append-nil (xs ++ more) ∙ regroup xs ys zs more same) ∙ e (zs ++ more)) in
     let all : xs ≡ ys = same ∙ ap (λ (z : List Placed). ys ++ z) (no_rest zs more none) ∙ append-nil ys in
     absurd (inside.no_line d (subst (Line k d) (sym all) is))
 inside_by end k xs inside (broke to ys x zs f same begun (inl misfit) e) =
-    let (more, g, other) = inside.prefix in
+    let (more, spelled, g, other) = inside.prefix in
     absurd (no_header k g (xs ++ more) [] end x.place (x ∷ (zs ++ more)) other
     (ap (line end k stage.Start) (append-nil (xs ++ more) ∙ regroup xs ys (x ∷ zs) more same) ∙ e (zs ++ more) ∙ ap (λ (z : HeaderFault). Broke z (x ∷ (zs ++ more))) misfit))
 inside_by end k xs inside (broke to ys x zs f same begun (inr clash) e) = absurd (inside.no_clash f (ys ++ x ∷ []) zs (same ∙ sym (two ys x zs)) clash)
@@ -239,7 +239,7 @@ whole_prefix k d xs is = ([], d, subst (Line k d) (sym (append-nil xs)) is)
 
 misfit_by : (end : ℕ) (k : Known) (xs : List Placed) (x : Placed) (ys : List Placed) (r : Reached end k xs) (t : Next) → IsMisfit k xs x → turn k r.to x.place x.symbol ≡ t
     → After k xs x t → line end k stage.Start (xs ++ x ∷ ys) ≡ Broke (Header x.place) (x ∷ ys)
-misfit_by end k xs x ys r (Ok (Goes next)) m e is = absurd (m.through (begun_prefix k next (xs ++ x ∷ []) is))
+misfit_by end k xs x ys r (Ok (Goes next)) m e is = absurd (m.through (unspelled k (xs ++ x ∷ []) (begun_prefix k next (xs ++ x ∷ []) is)))
 misfit_by end k xs x ys r (Ok (Gives d)) m e is = absurd (m.through (whole_prefix k d (xs ++ x ∷ []) is.0))
 misfit_by end k xs x ys r (Err f) m e (inl is) = r.reads (x ∷ ys) ∙ by_turn end k r.to x ys (Err f) e ∙ ap (λ (z : HeaderFault). Broke z (x ∷ ys)) is
 misfit_by end k xs x ys r (Err f) m e (inr clash) = absurd (m.no_clash f clash)
@@ -470,5 +470,6 @@ pub one_header : OneSplit → OneHeader
 one_header one = record {
   one_table = one_table one;
   one_fault = λ bytes f g some other x y. one_fault one bytes f g (refusal_of bytes f some x) (refusal_of bytes g other y);
+  some_answer = λ bytes tokens are. (run (length bytes) nothing stage.Start (placed_all tokens), right (length bytes) nothing (placed_all tokens));
   not_both = λ bytes a f some x y. not_both one bytes a f x (refusal_of bytes f some y);
 }

@@ -7,6 +7,8 @@ use Rattle.nwq_value.specs.declared.engine.Routine.{Routine}
 use Rattle.nwq_value.specs.Engine.{EngineTable, routine_named, constant_named}
 use Rattle.nwq_value.specs.Limits.{routine_limit}
 use Rattle.nwq_value.specs.Roles.{engine_role, types_of}
+use Rattle.nss_lexer.specs.declared.token.Kind.{Kind}
+use Rattle.nss_lexer.specs.Lexemes.{IsLexeme}
 use Rattle.nss_lexer.specs.Splitting.{Lexeme, AreTokens, AreTokensUpTo}
 use Rattle.engine_table.specs.declared.symbol.Symbol.{Symbol}
 use Rattle.engine_table.specs.declared.symbol.Sign.TheVariants as sign
@@ -16,7 +18,7 @@ use Rattle.engine_table.specs.declared.declaration.Declared.{Declared}
 use Rattle.engine_table.specs.declared.declaration.Function.{Function}
 use Rattle.engine_table.specs.declared.declaration.Declaration.{Declaration}
 use Rattle.engine_table.specs.declared.declaration.Declaration.TheVariants.{Passed, TypeWord, Constant as IsConstant, Function as IsFunction}
-use Rattle.engine_table.specs.Symbols.{Placed, at, placed_all}
+use Rattle.engine_table.specs.Symbols.{Placed, at, symbol_by, placed_all}
 use Rattle.engine_table.specs.Known.{Known}
 use Rattle.engine_table.specs.Names.{with_word}
 use Rattle.engine_table.specs.Grammar.{sign_at, has_constants, brackets, Loose, Value, Heading, Line}
@@ -106,17 +108,32 @@ pub data Clashes (k : Known) : HeaderFault → List Placed → Type 0 where
 
 -- ---- the first place
 
+-- a token can spell the symbol
+pub record IsSpelled (s : Symbol) : Type 0 where
+  pub kind : Kind
+  pub text : List ℕ
+  pub lexeme : IsLexeme kind text
+  pub same : symbol_by kind text ≡ s
+
+abbrev pub AreSpelled : List Placed → Type 0
+AreSpelled [] = Unit {0}
+AreSpelled (x ∷ xs) = IsSpelled x.symbol × AreSpelled xs
+
 -- some tokens after these make a line
+abbrev pub IsSpelledPrefix : Known → List Placed → Type 0
+IsSpelledPrefix k xs = (more : List Placed) × AreSpelled more × (d : Declaration) × Line k d (xs ++ more)
+
+-- some symbols after these make a line, whether tokens can spell them or not
 abbrev pub IsPrefix : Known → List Placed → Type 0
 IsPrefix k xs = (more : List Placed) × (d : Declaration) × Line k d (xs ++ more)
 
--- the tokens are the prefix of a line and no line, and no clash is among them
+-- some tokens make a line of these, but they are none, and no clash is among them
 pub record IsInside (k : Known) (xs : List Placed) : Type 0 where
-  pub prefix : IsPrefix k xs
+  pub prefix : IsSpelledPrefix k xs
   pub no_line : (d : Declaration) → Line k d xs → ⊥
   pub no_clash : (f : HeaderFault) (ys zs : List Placed) → xs ≡ ys ++ zs → Clashes k f ys → ⊥
 
--- the tokens before this one are inside a line, and with it they are no prefix of a line and clash with nothing
+-- the tokens before this one are inside a line, and with it nothing makes a line of them, and they clash with nothing
 pub record IsMisfit (k : Known) (xs : List Placed) (s : Placed) : Type 0 where
   pub inside : IsInside k xs
   pub through : IsPrefix k (xs ++ s ∷ []) → ⊥
@@ -167,8 +184,10 @@ IsWithin size (Twice place) = place < size
 IsWithin size (Many place) = place < size
 IsWithin size NoMemory = Unit {0}
 
--- a text has one table or one first fault
+-- A text has one table or one first fault, and tokens have one of the two.
 pub record OneHeader : Type 0 where
   pub one_table : (bytes : List ℕ) (a b : EngineTable) → HasTable bytes a → HasTable bytes b → a ≡ b
   pub one_fault : (bytes : List ℕ) (f g : HeaderFault) → f ≢ NoMemory → g ≢ NoMemory → IsRefused bytes f → IsRefused bytes g → f ≡ g
+  pub some_answer : (bytes : List ℕ) (tokens : List Lexeme) → AreTokens bytes 0 tokens
+      → (answer : Result EngineTable HeaderFault) × Comes (length bytes) nothing (placed_all tokens) answer
   pub not_both : (bytes : List ℕ) (a : EngineTable) (f : HeaderFault) → f ≢ NoMemory → HasTable bytes a → IsRefused bytes f → ⊥

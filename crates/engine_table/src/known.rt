@@ -25,11 +25,17 @@ const MOST_FUNCTIONS: usize = 65_535;
 /// How many parameters a function has at most.
 const MOST_PARAMETERS: usize = 255;
 
-/// What the lines so far have made known: the names that are type words, and the table.
+/// How many bytes the strings of a table have at most, all together. A short line can name a long
+/// constant, so that without this a header could ask for a thousand times its size.
+const MOST_TEXT: usize = 268_435_456;
+
+/// What the lines so far have made known: the names that are type words, and the table, whose strings
+/// have so many bytes.
 #[derive(Drop)]
 pub struct Known {
     pub words: Words,
     pub table: Table,
+    text: usize,
 }
 
 // ---- what tokens are by themselves
@@ -189,6 +195,35 @@ fn negative(number: u32) -> Const
     ensures { result ≡ grammar.negative number }
 {
     Const::Int(number.cast_signed().wrapping_neg())
+}
+
+/// How many bytes of text the constant holds.
+fn text_bytes(constant: &Const) -> usize {
+    match constant {
+        Const::Text(text) => text.bytes().len(),
+        _ => 0,
+    }
+}
+
+/// How many bytes of text the defaults hold.
+fn default_bytes(params: &[Param]) -> usize {
+    let mut sum: usize = 0;
+    for param in params {
+        if let Some(constant) = &param.default {
+            sum = sum.saturating_add(text_bytes(constant));
+        }
+    }
+    sum
+}
+
+/// Counts bytes of text that the table is to hold. Too many are want of memory.
+fn hold(text: &mut usize, bytes: usize) -> Result<(), NoMemory> {
+    *text = text.saturating_add(bytes);
+    if *text > MOST_TEXT {
+        Err(NoMemory)
+    } else {
+        Ok(())
+    }
 }
 
 /// Whether the constants are equal.
@@ -368,6 +403,7 @@ impl Known {
         Known {
             words: Words::new(alloc),
             table: Table::new(alloc),
+            text: 0,
         }
     }
 
@@ -708,6 +744,7 @@ impl Known {
         ensures { OnOk result (known_of self.new
             ≡ header.after (known_of self.old) (declaration.Function function)) }
     {
+        hold(&mut self.text, default_bytes(function.params.as_slice()))?;
         let Function { head, params } = function;
         let role = role_of(head.name.bytes(), head.ty, params.as_slice());
         self.table.push(Routine {
@@ -727,6 +764,7 @@ impl Known {
         if self.table.constant(head.name.bytes()).is_some() {
             return Ok(());
         }
+        hold(&mut self.text, text_bytes(&value))?;
         self.table.define(head.name, value)
     }
 
