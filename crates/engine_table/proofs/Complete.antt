@@ -6,7 +6,7 @@ use Rattle.nwq_value.specs.declared.value.Ty.{Ty}
 use Rattle.nwq_value.specs.declared.value.Ty.TheVariants as ty
 use Rattle.nwq_value.specs.declared.engine.Const.{Const}
 use Rattle.nwq_value.specs.declared.engine.Param.{Param}
-use Rattle.engine_table.specs.declared.known.Known.{Known}
+use Rattle.engine_table.specs.Known.{Known}
 use Rattle.engine_table.specs.declared.declaration.Declared.{Declared}
 use Rattle.engine_table.specs.declared.declaration.Function.{Function}
 use Rattle.engine_table.specs.declared.declaration.Declaration.{Declaration}
@@ -22,7 +22,7 @@ use Rattle.engine_table.specs.declared.stage.Owner.TheVariants as owner
 use Rattle.engine_table.specs.declared.stage.Stage.{Stage}
 use Rattle.engine_table.specs.declared.stage.Stage.TheVariants as stage
 use Rattle.engine_table.specs.declared.stage.Turn.TheVariants.{Goes, Gives}
-use Rattle.engine_table.specs.Symbols.{Spot, at}
+use Rattle.engine_table.specs.Symbols.{Placed, at}
 use Rattle.engine_table.specs.Grammar as grammar
 use Rattle.engine_table.specs.Grammar.{sign_at, type_in, structure_of, defined, has_constants, constant_in, negative, brackets, Loose, Value, Heading, ParameterType, Parameter, Parameters, ParameterList, Line}
 use Rattle.engine_table.specs.Headers as header
@@ -32,26 +32,26 @@ use Rattle.engine_table.proofs.Progress.{two, three, four}
 
 -- a line was read, with the tokens behind it, or it broke at a token or at the end
 pub data Outcome : Type 0 where
-  Got : Declaration → List Spot → Outcome
-  Broke : HeaderFault → List Spot → Outcome
+  Got : Declaration → List Placed → Outcome
+  Broke : HeaderFault → List Placed → Outcome
 
-abbrev pub line_by : Next → Spot → List Spot → (Stage → Outcome) → Outcome
+abbrev pub line_by : Next → Placed → List Placed → (Stage → Outcome) → Outcome
 line_by (Ok (Goes s)) x xs on = on s
 line_by (Ok (Gives d)) x xs on = Got d xs
 line_by (Err f) x xs on = Broke f (x ∷ xs)
 
-unfoldable pub line : ℕ → Known → Stage → List Spot → Outcome
+unfoldable pub line : ℕ → Known → Stage → List Placed → Outcome
 line end k s [] = Broke (Header end) []
 line end k s (x ∷ xs) = line_by (turn k s x.place x.symbol) x xs (λ next. line end k next xs)
 
 -- one token: what its turn is decides
-pub by_turn : (end : ℕ) (k : Known) (s : Stage) (x : Spot) (xs : List Spot) (t : Next) → turn k s x.place x.symbol ≡ t
+pub by_turn : (end : ℕ) (k : Known) (s : Stage) (x : Placed) (xs : List Placed) (t : Next) → turn k s x.place x.symbol ≡ t
     → line end k s (x ∷ xs) ≡ line_by t x xs (λ next. line end k next xs)
 unfolding line
 by_turn end k s x xs t e = ap (λ (z : Next). line_by z x xs (λ next. line end k next xs)) e
 
 module _ (end : ℕ) (k : Known) where
-  abbrev read : Stage → List Spot → Outcome
+  abbrev read : Stage → List Placed → Outcome
   read s i = line end k s i
 
   -- ---- headings
@@ -61,7 +61,7 @@ module _ (end : ℕ) (k : Known) where
   start_is p (symbol.Word word.Const) t e = absurd (none-some t e)
   start_is p s t e = ap (λ (o : Option Ty). typed (stage.Typed false) o p) e
 
-  heading_reads : (b : Bool) (d : Declared) (hs i : List Spot) → Heading k b d hs → read stage.Start (hs ++ i) ≡ read (stage.Named b d) i
+  heading_reads : (b : Bool) (d : Declared) (hs i : List Placed) → Heading k b d hs → read stage.Start (hs ++ i) ≡ read (stage.Named b d) i
   unfolding turn
   heading_reads b d hs i (grammar.plain t p q s n is) =
       by_turn end k stage.Start (at p s) _ _ (start_is p s t is) ∙ by_turn end k (stage.Typed false t) (at q (symbol.Name n)) i _ refl
@@ -69,14 +69,14 @@ module _ (end : ℕ) (k : Known) where
       by_turn end k stage.Start (at o (symbol.Word word.Const)) _ _ refl ∙ by_turn end k stage.Const (at p s) _ _ (ap (λ (z : Option Ty). typed (stage.Typed true) z p) is)
       ∙ by_turn end k (stage.Typed true t) (at q (symbol.Name n)) i _ refl
 
-  equals_reads : (b : Bool) (d : Declared) (hs : List Spot) (e : ℕ) (i : List Spot) → Heading k b d hs → constant_fault k d ≡ None
+  equals_reads : (b : Bool) (d : Declared) (hs : List Placed) (e : ℕ) (i : List Placed) → Heading k b d hs → constant_fault k d ≡ None
       → read stage.Start (hs ++ sign_at e sign.Equals ∷ i) ≡ read (stage.Value (owner.Constant d)) i
   unfolding turn
   equals_reads b d hs e i h free =
       heading_reads b d hs (sign_at e sign.Equals ∷ i) h
       ∙ by_turn end k (stage.Named b d) (sign_at e sign.Equals) i _ (ap (λ (o : Option HeaderFault). unless_fault o (goes (stage.Value (owner.Constant d)))) free)
 
-  open_reads : (d : Declared) (hs : List Spot) (o : ℕ) (i : List Spot) → Heading k false d hs → function_fault k d ≡ None
+  open_reads : (d : Declared) (hs : List Placed) (o : ℕ) (i : List Placed) → Heading k false d hs → function_fault k d ≡ None
       → read stage.Start (hs ++ sign_at o sign.Open ∷ i) ≡ read (stage.Params (record { head = d; params = [] })) i
   unfolding turn
   open_reads d hs o i h free =
@@ -90,11 +90,11 @@ module _ (end : ℕ) (k : Known) where
   not_minus t s c e = refl
 
   -- what a value of a type with constants comes to, by what is wrong with its owner
-  abbrev KeptRead : Option HeaderFault → Owner → Option Const → List Spot → List Spot → Type 0
-  KeptRead r o c vs i = (x : Spot) × (read (stage.Value o) (vs ++ i) ≡ line_by (unless_fault r (goes (stage.Valued o c))) x i (λ next. read next i))
+  abbrev KeptRead : Option HeaderFault → Owner → Option Const → List Placed → List Placed → Type 0
+  KeptRead r o c vs i = (x : Placed) × (read (stage.Value o) (vs ++ i) ≡ line_by (unless_fault r (goes (stage.Valued o c))) x i (λ next. read next i))
 
   constant_reads : (r : Option HeaderFault) (o : Owner) (c : Const) (p : ℕ) (s : Symbol) → has_constants (type_of o) ≡ true
-      → constant_in k.table.constants (type_of o) s ≡ Some c → owner_fault k o (Some c) ≡ r → (i : List Spot) → KeptRead r o (Some c) (at p s ∷ []) i
+      → constant_in k.table.constants (type_of o) s ≡ Some c → owner_fault k o (Some c) ≡ r → (i : List Placed) → KeptRead r o (Some c) (at p s ∷ []) i
   unfolding turn
   constant_reads r o c p s has is fault i = (
     at p s,
@@ -104,7 +104,7 @@ module _ (end : ℕ) (k : Known) where
         ∙ ap (λ (v : Option Const). got k o v p) is ∙ ap (λ (z : Option HeaderFault). unless_fault z (goes (stage.Valued o (Some c)))) fault),
   )
 
-  minus_reads : (r : Option HeaderFault) (o : Owner) (p q n : ℕ) → type_of o ≡ ty.Int → owner_fault k o (Some (negative n)) ≡ r → (i : List Spot)
+  minus_reads : (r : Option HeaderFault) (o : Owner) (p q n : ℕ) → type_of o ≡ ty.Int → owner_fault k o (Some (negative n)) ≡ r → (i : List Placed)
       → KeptRead r o (Some (negative n)) (sign_at p sign.Minus ∷ at q (symbol.Int n) ∷ []) i
   unfolding turn
   minus_reads r o p q n int fault i = (
@@ -116,15 +116,15 @@ module _ (end : ℕ) (k : Known) where
         ∙ by_turn end k (stage.Minus o) (at q (symbol.Int n)) i _ (ap (λ (z : Option HeaderFault). unless_fault z (goes (stage.Valued o (Some (negative n))))) fault),
   )
 
-  kept_reads : (r : Option HeaderFault) (o : Owner) (t : Ty) (c : Option Const) (vs : List Spot) → type_of o ≡ t → has_constants (type_of o) ≡ true
-      → Value k.table.constants t c vs → owner_fault k o c ≡ r → (i : List Spot) → KeptRead r o c vs i
+  kept_reads : (r : Option HeaderFault) (o : Owner) (t : Ty) (c : Option Const) (vs : List Placed) → type_of o ≡ t → has_constants (type_of o) ≡ true
+      → Value k.table.constants t c vs → owner_fault k o c ≡ r → (i : List Placed) → KeptRead r o c vs i
   kept_reads r o t c vs same has (grammar.constant u d p s has' is) fault i =
       constant_reads r o d p s has (subst (λ (z : Ty). constant_in k.table.constants z s ≡ Some d) (sym same) is) fault i
   kept_reads r o t c vs same has (grammar.minus p q n) fault i = minus_reads r o p q n same fault i
   kept_reads r o t c vs same has (grammar.other u xs none is) fault i = absurd (true≢false (sym has ∙ ap has_constants same ∙ none))
 
   -- a value of another type
-  loose_turns : (o : Owner) (d : ℕ) (vs : List Spot) (x : Spot) (i : List Spot) → has_constants (type_of o) ≡ false → Loose d vs
+  loose_turns : (o : Owner) (d : ℕ) (vs : List Placed) (x : Placed) (i : List Placed) → has_constants (type_of o) ≡ false → Loose d vs
       → read (stage.Value o) (vs ++ x ∷ i) ≡ read (stage.Loose o d) (x ∷ i)
   unfolding turn
   loose_turns o d vs x i has grammar.none =
@@ -134,7 +134,7 @@ module _ (end : ℕ) (k : Known) where
       ap (read (stage.Value o)) (two ws (at p s) (x ∷ i)) ∙ loose_turns o e ws (at p s) (x ∷ i) has before
       ∙ by_turn end k (stage.Loose o e) (at p s) (x ∷ i) _ (ap (λ (z : Option ℕ). loose_by k o z p s) on)
 
-  loose_reads : (r : Option HeaderFault) (o : Owner) (vs : List Spot) (x : Spot) (i : List Spot) → has_constants (type_of o) ≡ false → Loose zero vs
+  loose_reads : (r : Option HeaderFault) (o : Owner) (vs : List Placed) (x : Placed) (i : List Placed) → has_constants (type_of o) ≡ false → Loose zero vs
       → brackets zero x.symbol ≡ None → owner_fault k o None ≡ r
       → read (stage.Value o) (vs ++ x ∷ i) ≡ line_by (unless_fault r (valued_turn o None x.place x.symbol)) x i (λ next. read next i)
   unfolding turn
@@ -143,7 +143,7 @@ module _ (end : ℕ) (k : Known) where
       ∙ by_turn end k (stage.Loose o zero) x i _ (ap (λ (z : Option ℕ). loose_by k o z x.place x.symbol) ends
       ∙ ap (λ (z : Option HeaderFault). unless_fault z (valued_turn o None x.place x.symbol)) fault)
 
-  value_ok : (o : Owner) (t : Ty) (c : Option Const) (vs : List Spot) (x : Spot) (i : List Spot) → type_of o ≡ t → Value k.table.constants t c vs
+  value_ok : (o : Owner) (t : Ty) (c : Option Const) (vs : List Placed) (x : Placed) (i : List Placed) → type_of o ≡ t → Value k.table.constants t c vs
       → owner_fault k o c ≡ None → brackets zero x.symbol ≡ None
       → read (stage.Value o) (vs ++ x ∷ i) ≡ line_by (valued_turn o c x.place x.symbol) x i (λ next. read next i)
   unfolding turn
@@ -172,7 +172,7 @@ module _ (end : ℕ) (k : Known) where
   unfolding turn
   enters_param f = record { by = λ p x t e. ap (λ (o : Option Ty). typed (stage.ParamType f) o p) e }
 
-  type_reads : (s : Stage) (f : Function) (t : Ty) (ys : List Spot) (p : ℕ) (g : Sign) (i : List Spot) → Enters s f → ParameterType k t ys
+  type_reads : (s : Stage) (f : Function) (t : Ty) (ys : List Placed) (p : ℕ) (g : Sign) (i : List Placed) → Enters s f → ParameterType k t ys
       → read s (ys ++ sign_at p g ∷ i) ≡ line_by (behind_turn f t p (symbol.Sign g)) (sign_at p g) i (λ next. read next i)
   unfolding turn
   type_reads s f t ys p g i enters (grammar.bare u q x is) =
@@ -192,7 +192,7 @@ module _ (end : ℕ) (k : Known) where
   close_ends : Ends sign.Close
   close_ends = record { value = refl; behind = λ f t p. refl }
 
-  param_reads : (s : Stage) (f : Function) (a : Param) (ys : List Spot) (p : ℕ) (g : Sign) (i : List Spot) → Enters s f → Ends g → Parameter k a ys
+  param_reads : (s : Stage) (f : Function) (a : Param) (ys : List Placed) (p : ℕ) (g : Sign) (i : List Placed) → Enters s f → Ends g → Parameter k a ys
       → read s (ys ++ sign_at p g ∷ i) ≡ line_by (param_turn f a p (symbol.Sign g)) (sign_at p g) i (λ next. read next i)
   param_reads s f a ys p g i enters ends (grammar.required t xs type) =
       type_reads s f t xs p g i enters type ∙ ap (λ (z : Next). line_by z (sign_at p g) i (λ next. read next i)) (ends.behind f t p)
@@ -210,7 +210,7 @@ module _ (end : ℕ) (k : Known) where
         room : (ps : List Param) (a : Param) → length (ps ++ a ∷ []) < 255 → nat_lt (length ps + 1) 255 ≡ true
         room ps a few = let n = length-append ps (a ∷ []) in let m : length ps + 1 < 255 = omega (arith, n, few) in grind (arith, nat_tests)
 
-  params_comma : (d : Declared) (ps : List Param) (xs : List Spot) (c : ℕ) (i : List Spot) → Parameters k ps xs → length ps < 255
+  params_comma : (d : Declared) (ps : List Param) (xs : List Placed) (c : ℕ) (i : List Placed) → Parameters k ps xs → length ps < 255
       → read (stage.Params (function_of d [])) (xs ++ sign_at c sign.Comma ∷ i) ≡ read (stage.Param (function_of d ps)) i
   params_comma d ps xs c i (grammar.one a ys is) few =
       param_reads (stage.Params (function_of d [])) (function_of d []) a ys c sign.Comma i (enters_params (function_of d [])) comma_ends is
@@ -221,7 +221,7 @@ module _ (end : ℕ) (k : Known) where
       ∙ param_reads (stage.Param (function_of d qs)) (function_of d qs) a zs c sign.Comma i (enters_param (function_of d qs)) comma_ends is
       ∙ ap (λ (z : Next). line_by z (sign_at c sign.Comma) i (λ next. read next i)) (comma_turn (function_of d qs) a c few)
 
-  params_close : (d : Declared) (ps : List Param) (xs : List Spot) (c : ℕ) (i : List Spot) → Parameters k ps xs
+  params_close : (d : Declared) (ps : List Param) (xs : List Placed) (c : ℕ) (i : List Placed) → Parameters k ps xs
       → read (stage.Params (function_of d [])) (xs ++ sign_at c sign.Close ∷ i) ≡ read (stage.Closed (function_of d ps)) i
   params_close d ps xs c i (grammar.one a ys is) =
       param_reads (stage.Params (function_of d [])) (function_of d []) a ys c sign.Close i (enters_params (function_of d [])) close_ends is
@@ -230,7 +230,7 @@ module _ (end : ℕ) (k : Known) where
       ∙ params_comma d qs ys e (zs ++ sign_at c sign.Close ∷ i) before few
       ∙ param_reads (stage.Param (function_of d qs)) (function_of d qs) a zs c sign.Close i (enters_param (function_of d qs)) close_ends is
 
-  list_close : (d : Declared) (ps : List Param) (xs : List Spot) (c : ℕ) (i : List Spot) → ParameterList k ps xs
+  list_close : (d : Declared) (ps : List Param) (xs : List Placed) (c : ℕ) (i : List Placed) → ParameterList k ps xs
       → read (stage.Params (function_of d [])) (xs ++ sign_at c sign.Close ∷ i) ≡ read (stage.Closed (function_of d ps)) i
   unfolding turn
   list_close d ps xs c i grammar.absent = by_turn end k (stage.Params (function_of d [])) (sign_at c sign.Close) i _ refl
@@ -239,7 +239,7 @@ module _ (end : ℕ) (k : Known) where
   -- ---- lines
 
   -- a clear line is read as its declaration
-  pub line_got : (d : Declaration) (xs i : List Spot) → Line k d xs → IsClear k d → line end k stage.Start (xs ++ i) ≡ Got d i
+  pub line_got : (d : Declaration) (xs i : List Placed) → Line k d xs → IsClear k d → line end k stage.Start (xs ++ i) ≡ Got d i
   unfolding turn
   line_got d xs i (grammar.define h e p q n s makes is) clear =
       by_turn end k stage.Start (sign_at h sign.Hash) _ _ refl ∙ by_turn end k stage.Hash (at e (symbol.Name (codes "define"))) _ _ refl
@@ -250,13 +250,13 @@ module _ (end : ℕ) (k : Known) where
       ∙ value_ok (owner.Constant x) x.ty c vs (sign_at s sign.Semicolon) i refl is clear.1 refl
   line_got d xs i (grammar.function x ps hs ys o c s h are) clear =
       ap (read stage.Start) (three hs (sign_at o sign.Open) (ys ++ sign_at c sign.Close ∷ sign_at s sign.Semicolon ∷ []) i
-      ∙ ap (λ (z : List Spot). hs ++ sign_at o sign.Open ∷ z) (three ys (sign_at c sign.Close) (sign_at s sign.Semicolon ∷ []) i))
+      ∙ ap (λ (z : List Placed). hs ++ sign_at o sign.Open ∷ z) (three ys (sign_at c sign.Close) (sign_at s sign.Semicolon ∷ []) i))
       ∙ open_reads x hs o (ys ++ sign_at c sign.Close ∷ sign_at s sign.Semicolon ∷ i) h clear
       ∙ list_close x ps ys c (sign_at s sign.Semicolon ∷ i) are
       ∙ by_turn end k (stage.Closed (function_of x ps)) (sign_at s sign.Semicolon) i _ refl
 
   -- what clashes breaks there
-  pub clash_breaks : (f : HeaderFault) (xs i : List Spot) → Clashes k f xs → (left : List Spot) × (line end k stage.Start (xs ++ i) ≡ Broke f left)
+  pub clash_breaks : (f : HeaderFault) (xs i : List Placed) → Clashes k f xs → (left : List Placed) × (line end k stage.Start (xs ++ i) ≡ Broke f left)
   unfolding turn
   clash_breaks f xs i (header.function d g hs o h fault) = (
     sign_at o sign.Open ∷ i,

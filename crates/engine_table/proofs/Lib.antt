@@ -2,9 +2,10 @@ pub mod SymbolLemmas
 pub mod NameLemmas
 pub mod KeepLemmas
 pub mod Progress
-pub mod Fronts
+pub mod Prefixes
 pub mod Complete
 pub mod Whole
+pub mod Within
 pub mod TokenLemmas
 mod Rows
 pub mod BuiltIn

@@ -7,7 +7,7 @@ use Rattle.nwq_value.specs.declared.value.Ty.{Ty}
 use Rattle.nwq_value.specs.declared.value.Ty.TheVariants as ty
 use Rattle.nwq_value.specs.declared.engine.Const.{Const}
 use Rattle.nwq_value.specs.declared.engine.Param.{Param}
-use Rattle.engine_table.specs.declared.known.Known.{Known}
+use Rattle.engine_table.specs.Known.{Known}
 use Rattle.engine_table.specs.declared.declaration.Declared.{Declared}
 use Rattle.engine_table.specs.declared.declaration.Function.{Function}
 use Rattle.engine_table.specs.declared.declaration.Declaration.{Declaration}
@@ -23,49 +23,49 @@ use Rattle.engine_table.specs.declared.stage.Owner.TheVariants as owner
 use Rattle.engine_table.specs.declared.stage.Stage.{Stage}
 use Rattle.engine_table.specs.declared.stage.Stage.TheVariants as stage
 use Rattle.engine_table.specs.declared.stage.Turn.TheVariants.{Goes, Gives}
-use Rattle.engine_table.specs.Symbols.{Spot, at}
+use Rattle.engine_table.specs.Symbols.{Placed, at}
 use Rattle.engine_table.specs.Grammar as grammar
 use Rattle.engine_table.specs.Grammar.{sign_at, type_in, structure_of, defined, has_constants, constant_in, negative, brackets, Loose, Value, Heading, ParameterType, Parameter, Parameters, ParameterList, Line}
 use Rattle.engine_table.specs.Headers as header
-use Rattle.engine_table.specs.Headers.{function_fault, constant_fault, value_fault, IsClear, Clashes, IsFront}
+use Rattle.engine_table.specs.Headers.{function_fault, constant_fault, value_fault, IsClear, Clashes, IsPrefix}
 use Rattle.engine_table.specs.Turns.{Next, goes, misfit, unless_fault, typed, start_turn, hash_turn, define_turn, given, typed_turn, named_turn, type_of, param_turn, constant_end, valued_turn, owner_fault, checked, got, minus_turn, is_minus_of_int, loose_by, value_by, params_turn, behind_turn, param_type_turn, closed_turn, turn}
 
 -- ---- regrouping
 
-pub two : (hs : List Spot) (a : Spot) (ys : List Spot) → (hs ++ a ∷ []) ++ ys ≡ hs ++ a ∷ ys
+pub two : (hs : List Placed) (a : Placed) (ys : List Placed) → (hs ++ a ∷ []) ++ ys ≡ hs ++ a ∷ ys
 two hs a ys = append_assoc hs (a ∷ []) ys
 
-pub four : (hs : List Spot) (a : Spot) (xs : List Spot) (b : Spot) (ys : List Spot) → (hs ++ a ∷ (xs ++ b ∷ [])) ++ ys ≡ hs ++ a ∷ (xs ++ b ∷ ys)
-four hs a xs b ys = append_assoc hs (a ∷ (xs ++ b ∷ [])) ys ∙ ap (λ (z : List Spot). hs ++ a ∷ z) (append_assoc xs (b ∷ []) ys)
+pub four : (hs : List Placed) (a : Placed) (xs : List Placed) (b : Placed) (ys : List Placed) → (hs ++ a ∷ (xs ++ b ∷ [])) ++ ys ≡ hs ++ a ∷ (xs ++ b ∷ ys)
+four hs a xs b ys = append_assoc hs (a ∷ (xs ++ b ∷ [])) ys ∙ ap (λ (z : List Placed). hs ++ a ∷ z) (append_assoc xs (b ∷ []) ys)
 
-pub three : (hs : List Spot) (a : Spot) (xs ys : List Spot) → (hs ++ a ∷ xs) ++ ys ≡ hs ++ a ∷ (xs ++ ys)
+pub three : (hs : List Placed) (a : Placed) (xs ys : List Placed) → (hs ++ a ∷ xs) ++ ys ≡ hs ++ a ∷ (xs ++ ys)
 three hs a xs ys = append_assoc hs (a ∷ xs) ys
 
-pub moved : (P : List Spot → Type 0) (a b : List Spot) → a ≡ b → P b → P a
+pub moved : (P : List Placed → Type 0) (a b : List Placed) → a ≡ b → P b → P a
 moved P a b e h = subst P (sym e) h
 
 -- ---- how far a line has come
 
 -- behind these tokens a parameter of the function may begin
-pub data Before (k : Known) : Function → List Spot → Type 0 where
-  first : (d : Declared) (hs : List Spot) (o : ℕ) → Heading k false d hs → function_fault k d ≡ None
+pub data Before (k : Known) : Function → List Placed → Type 0 where
+  first : (d : Declared) (hs : List Placed) (o : ℕ) → Heading k false d hs → function_fault k d ≡ None
       → Before k (record { head = d; params = [] }) (hs ++ sign_at o sign.Open ∷ [])
-  following : (d : Declared) (ps : List Param) (hs xs : List Spot) (o c : ℕ) → Heading k false d hs → function_fault k d ≡ None → Parameters k ps xs
+  following : (d : Declared) (ps : List Param) (hs xs : List Placed) (o c : ℕ) → Heading k false d hs → function_fault k d ≡ None → Parameters k ps xs
       → length ps < 255 → Before k (record { head = d; params = ps }) (hs ++ sign_at o sign.Open ∷ (xs ++ sign_at c sign.Comma ∷ []))
 
 -- a function with its parameters, the last of them whole
-pub data Listed (k : Known) : Function → List Spot → Type 0 where
-  listed : (d : Declared) (ps : List Param) (hs xs : List Spot) (o : ℕ) → Heading k false d hs → function_fault k d ≡ None → Parameters k ps xs
+pub data Listed (k : Known) : Function → List Placed → Type 0 where
+  listed : (d : Declared) (ps : List Param) (hs xs : List Placed) (o : ℕ) → Heading k false d hs → function_fault k d ≡ None → Parameters k ps xs
       → Listed k (record { head = d; params = ps }) (hs ++ sign_at o sign.Open ∷ xs)
 
 -- the tokens up to the `=` before a value
-pub data Owned (k : Known) : Owner → List Spot → Type 0 where
-  constant : (b : Bool) (d : Declared) (hs : List Spot) (e : ℕ) → Heading k b d hs → constant_fault k d ≡ None
+pub data Owned (k : Known) : Owner → List Placed → Type 0 where
+  constant : (b : Bool) (d : Declared) (hs : List Placed) (e : ℕ) → Heading k b d hs → constant_fault k d ≡ None
       → Owned k (owner.Constant d) (hs ++ sign_at e sign.Equals ∷ [])
-  parameter : (f : Function) (t : Ty) (xs ys : List Spot) (e : ℕ) → Before k f xs → ParameterType k t ys
+  parameter : (f : Function) (t : Ty) (xs ys : List Placed) (e : ℕ) → Before k f xs → ParameterType k t ys
       → Owned k (owner.Parameter f t) (xs ++ (ys ++ sign_at e sign.Equals ∷ []))
 
-pub data Begun (k : Known) : Stage → List Spot → Type 0 where
+pub data Begun (k : Known) : Stage → List Placed → Type 0 where
   start : Begun k stage.Start []
   hash : (h : ℕ) → Begun k stage.Hash (sign_at h sign.Hash ∷ [])
   define : (h d : ℕ) → Begun k stage.Define (sign_at h sign.Hash ∷ at d (symbol.Name (codes "define")) ∷ [])
@@ -73,23 +73,23 @@ pub data Begun (k : Known) : Stage → List Spot → Type 0 where
   fixed : (o : ℕ) → Begun k stage.Const (at o (symbol.Word word.Const) ∷ [])
   plain_type : (t : Ty) (p : ℕ) (s : Symbol) → type_in k.words s ≡ Some t → Begun k (stage.Typed false t) (at p s ∷ [])
   fixed_type : (t : Ty) (o p : ℕ) (s : Symbol) → type_in k.words s ≡ Some t → Begun k (stage.Typed true t) (at o (symbol.Word word.Const) ∷ at p s ∷ [])
-  named : (b : Bool) (d : Declared) (hs : List Spot) → Heading k b d hs → Begun k (stage.Named b d) hs
-  value : (o : Owner) (xs : List Spot) → Owned k o xs → Begun k (stage.Value o) xs
-  minus : (o : Owner) (xs : List Spot) (p : ℕ) → Owned k o xs → type_of o ≡ ty.Int → Begun k (stage.Minus o) (xs ++ sign_at p sign.Minus ∷ [])
-  loose : (o : Owner) (d : ℕ) (xs vs : List Spot) → Owned k o xs → has_constants (type_of o) ≡ false → Loose d vs → Begun k (stage.Loose o d) (xs ++ vs)
-  valued : (o : Owner) (c : Option Const) (xs vs : List Spot) → Owned k o xs → Value k.table.constants (type_of o) c vs → owner_fault k o c ≡ None
+  named : (b : Bool) (d : Declared) (hs : List Placed) → Heading k b d hs → Begun k (stage.Named b d) hs
+  value : (o : Owner) (xs : List Placed) → Owned k o xs → Begun k (stage.Value o) xs
+  minus : (o : Owner) (xs : List Placed) (p : ℕ) → Owned k o xs → type_of o ≡ ty.Int → Begun k (stage.Minus o) (xs ++ sign_at p sign.Minus ∷ [])
+  loose : (o : Owner) (d : ℕ) (xs vs : List Placed) → Owned k o xs → has_constants (type_of o) ≡ false → Loose d vs → Begun k (stage.Loose o d) (xs ++ vs)
+  valued : (o : Owner) (c : Option Const) (xs vs : List Placed) → Owned k o xs → Value k.table.constants (type_of o) c vs → owner_fault k o c ≡ None
       → Begun k (stage.Valued o c) (xs ++ vs)
-  opened : (d : Declared) (hs : List Spot) (o : ℕ) → Heading k false d hs → function_fault k d ≡ None
+  opened : (d : Declared) (hs : List Placed) (o : ℕ) → Heading k false d hs → function_fault k d ≡ None
       → Begun k (stage.Params (record { head = d; params = [] })) (hs ++ sign_at o sign.Open ∷ [])
-  param : (f : Function) (xs : List Spot) → Before k f xs → Begun k (stage.Param f) xs
-  param_type : (f : Function) (t : Ty) (xs : List Spot) (p : ℕ) (s : Symbol) → Before k f xs → type_in k.words s ≡ Some t
+  param : (f : Function) (xs : List Placed) → Before k f xs → Begun k (stage.Param f) xs
+  param_type : (f : Function) (t : Ty) (xs : List Placed) (p : ℕ) (s : Symbol) → Before k f xs → type_in k.words s ≡ Some t
       → Begun k (stage.ParamType f t) (xs ++ at p s ∷ [])
-  param_name : (f : Function) (t : Ty) (xs ys : List Spot) → Before k f xs → ParameterType k t ys → Begun k (stage.ParamName f t) (xs ++ ys)
-  closed : (d : Declared) (ps : List Param) (hs xs : List Spot) (o c : ℕ) → Heading k false d hs → function_fault k d ≡ None → ParameterList k ps xs
+  param_name : (f : Function) (t : Ty) (xs ys : List Placed) → Before k f xs → ParameterType k t ys → Begun k (stage.ParamName f t) (xs ++ ys)
+  closed : (d : Declared) (ps : List Param) (hs xs : List Placed) (o c : ℕ) → Heading k false d hs → function_fault k d ≡ None → ParameterList k ps xs
       → Begun k (stage.Closed (record { head = d; params = ps })) (hs ++ sign_at o sign.Open ∷ (xs ++ sign_at c sign.Close ∷ []))
 
 -- what a token makes of the tokens before it
-abbrev pub After : Known → List Spot → Spot → Next → Type 0
+abbrev pub After : Known → List Placed → Placed → Next → Type 0
 After k xs x (Ok (Goes s)) = Begun k s (xs ++ x ∷ [])
 After k xs x (Ok (Gives d)) = Line k d (xs ++ x ∷ []) × IsClear k d
 After k xs x (Err f) = (f ≡ Header x.place) ⊎ Clashes k f (xs ++ x ∷ [])
@@ -99,17 +99,17 @@ After k xs x (Err f) = (f ≡ Header x.place) ⊎ Clashes k f (xs ++ x ∷ [])
 abbrev pub with_param : Function → Param → Function
 with_param f p = record f { params = f.params ++ p ∷ [] }
 
-pub join : (k : Known) (f : Function) (p : Param) (xs ys : List Spot) → Before k f xs → Parameter k p ys → Listed k (with_param f p) (xs ++ ys)
+pub join : (k : Known) (f : Function) (p : Param) (xs ys : List Placed) → Before k f xs → Parameter k p ys → Listed k (with_param f p) (xs ++ ys)
 join k f p xs ys (first d hs o h free) is = moved (Listed k (record { head = d; params = p ∷ [] })) _ _ (two hs (sign_at o sign.Open) ys) (listed d (p ∷ []) hs ys o h free (grammar.one p ys is))
 join k f p xs ys (following d ps hs zs o c h free are few) is =
     moved (Listed k (record { head = d; params = ps ++ p ∷ [] })) _ _ (four hs (sign_at o sign.Open) zs (sign_at c sign.Comma) ys)
     (listed d (ps ++ p ∷ []) hs (zs ++ sign_at c sign.Comma ∷ ys) o h free (grammar.more ps p zs ys c are few is))
 
-next_of : (k : Known) (g : Function) (ws : List Spot) (c : ℕ) → Listed k g ws → length g.params < 255 → Before k g (ws ++ sign_at c sign.Comma ∷ [])
+next_of : (k : Known) (g : Function) (ws : List Placed) (c : ℕ) → Listed k g ws → length g.params < 255 → Before k g (ws ++ sign_at c sign.Comma ∷ [])
 next_of k g ws c (listed d ps hs xs o h free are) few =
     moved (Before k (record { head = d; params = ps })) _ _ (three hs (sign_at o sign.Open) xs (sign_at c sign.Comma ∷ [])) (following d ps hs xs o c h free are few)
 
-closed_of : (k : Known) (g : Function) (ws : List Spot) (c : ℕ) → Listed k g ws → Begun k (stage.Closed g) (ws ++ sign_at c sign.Close ∷ [])
+closed_of : (k : Known) (g : Function) (ws : List Placed) (c : ℕ) → Listed k g ws → Begun k (stage.Closed g) (ws ++ sign_at c sign.Close ∷ [])
 closed_of k g ws c (listed d ps hs xs o h free are) =
     moved (Begun k (stage.Closed (record { head = d; params = ps }))) _ _ (three hs (sign_at o sign.Open) xs (sign_at c sign.Close ∷ []))
     (closed d ps hs xs o c h free (grammar.present ps xs are))
@@ -124,7 +124,7 @@ unless : (P : Next → Type 0) (o : Option HeaderFault) (next : Next) → (o ≡
 unless P None next h g = h refl
 unless P (Some f) next h g = g f refl
 
-typed_step : (k : Known) (xs : List Spot) (p : ℕ) (s : Symbol) (to : Ty → Stage) (o : Option Ty) → ((t : Ty) → o ≡ Some t → Begun k (to t) (xs ++ at p s ∷ []))
+typed_step : (k : Known) (xs : List Placed) (p : ℕ) (s : Symbol) (to : Ty → Stage) (o : Option Ty) → ((t : Ty) → o ≡ Some t → Begun k (to t) (xs ++ at p s ∷ []))
     → After k xs (at p s) (typed to o p)
 typed_step k xs p s to (Some t) h = h t refl
 typed_step k xs p s to None h = inl refl
@@ -179,33 +179,33 @@ fixed_name_step : (k : Known) (t : Ty) (o p q : ℕ) (s x : Symbol) → type_in 
 fixed_name_step k t o p q s (symbol.Name n) is = named true _ _ (grammar.fixed t o p q s n is)
 fixed_name_step k t o p q s x is = inl refl
 
-equals_step : (k : Known) (b : Bool) (d : Declared) (hs : List Spot) (p : ℕ) → Heading k b d hs
+equals_step : (k : Known) (b : Bool) (d : Declared) (hs : List Placed) (p : ℕ) → Heading k b d hs
     → After k hs (sign_at p sign.Equals) (unless_fault (constant_fault k d) (goes (stage.Value (owner.Constant d))))
 equals_step k b d hs p h =
     unless (After k hs (sign_at p sign.Equals)) (constant_fault k d) (goes (stage.Value (owner.Constant d)))
     (λ free. value (owner.Constant d) _ (constant b d hs p h free)) (λ f is. inr (header.constant b d f hs p h is))
 
-open_step : (k : Known) (d : Declared) (hs : List Spot) (p : ℕ) → Heading k false d hs
+open_step : (k : Known) (d : Declared) (hs : List Placed) (p : ℕ) → Heading k false d hs
     → After k hs (sign_at p sign.Open) (unless_fault (function_fault k d) (goes (stage.Params (record { head = d; params = [] }))))
 open_step k d hs p h =
     unless (After k hs (sign_at p sign.Open)) (function_fault k d) (goes (stage.Params (record { head = d; params = [] })))
     (λ free. opened d hs p h free) (λ f is. inr (header.function d f hs p h is))
 
-named_step : (k : Known) (b : Bool) (d : Declared) (hs : List Spot) (p : ℕ) (s : Symbol) → Heading k b d hs → After k hs (at p s) (named_turn k b d p s)
+named_step : (k : Known) (b : Bool) (d : Declared) (hs : List Placed) (p : ℕ) (s : Symbol) → Heading k b d hs → After k hs (at p s) (named_turn k b d p s)
 named_step k b d hs p (symbol.Sign sign.Equals) h = equals_step k b d hs p h
 named_step k false d hs p (symbol.Sign sign.Open) h = open_step k d hs p h
 named_step k b d hs p s h = inl refl
 
 -- ---- values
 
-value_clash : (k : Known) (o : Owner) (c : Const) (f : HeaderFault) (xs vs : List Spot) → Owned k o xs → has_constants (type_of o) ≡ true
+value_clash : (k : Known) (o : Owner) (c : Const) (f : HeaderFault) (xs vs : List Placed) → Owned k o xs → has_constants (type_of o) ≡ true
     → Value k.table.constants (type_of o) (Some c) vs → owner_fault k o (Some c) ≡ Some f → Clashes k f (xs ++ vs)
 value_clash k o c f xs vs (constant b d hs e h free) has is fault =
     moved (Clashes k f) _ _ (two hs (sign_at e sign.Equals) vs) (header.value b d (Some c) f hs vs e h free has is fault)
 value_clash k o c f xs vs (parameter g t us ws e before type) has is fault = absurd (none-some f fault)
 
 -- a value of a type with constants was read with this token
-checked_step : (k : Known) (o : Owner) (c : Const) (xs vs zs : List Spot) (x : Spot) → Owned k o xs → has_constants (type_of o) ≡ true
+checked_step : (k : Known) (o : Owner) (c : Const) (xs vs zs : List Placed) (x : Placed) → Owned k o xs → has_constants (type_of o) ≡ true
     → Value k.table.constants (type_of o) (Some c) vs → zs ++ x ∷ [] ≡ xs ++ vs → After k zs x (checked k o (Some c) (goes (stage.Valued o (Some c))))
 checked_step k o c xs vs zs x own has is same =
     unless (After k zs x) (owner_fault k o (Some c)) (goes (stage.Valued o (Some c)))
@@ -213,7 +213,7 @@ checked_step k o c xs vs zs x own has is same =
     (λ f fault. inr (moved (Clashes k f) _ _ same (value_clash k o c f xs vs own has is fault)))
 
 -- behind a parameter
-list_step : (k : Known) (f : Function) (x : Param) (ws : List Spot) (p : ℕ) (s : Symbol) → Listed k (with_param f x) ws → After k ws (at p s) (param_turn f x p s)
+list_step : (k : Known) (f : Function) (x : Param) (ws : List Placed) (p : ℕ) (s : Symbol) → Listed k (with_param f x) ws → After k ws (at p s) (param_turn f x p s)
 list_step k f x ws p (symbol.Sign sign.Comma) all =
     either (After k ws (sign_at p sign.Comma)) (nat_lt (length f.params + 1) 255) (goes (stage.Param (with_param f x))) (misfit p)
     (λ room. param (with_param f x) _ (next_of k (with_param f x) ws p all (few f.params x room))) (λ full. inl refl) where
@@ -222,33 +222,33 @@ list_step k f x ws p (symbol.Sign sign.Comma) all =
 list_step k f x ws p (symbol.Sign sign.Close) all = closed_of k (with_param f x) ws p all
 list_step k f x ws p s all = inl refl
 
-constant_end_step : (k : Known) (b : Bool) (d : Declared) (c : Option Const) (hs vs : List Spot) (e p : ℕ) (s : Symbol) → Heading k b d hs
+constant_end_step : (k : Known) (b : Bool) (d : Declared) (c : Option Const) (hs vs : List Placed) (e p : ℕ) (s : Symbol) → Heading k b d hs
     → Value k.table.constants d.ty c vs → constant_fault k d ≡ None → value_fault k d c ≡ None
     → After k (hs ++ sign_at e sign.Equals ∷ vs) (at p s) (constant_end d c p s)
 constant_end_step k b d c hs vs e p (symbol.Sign sign.Semicolon) h is free none =
     (moved (Line k (IsConstant d c)) _ _ (three hs (sign_at e sign.Equals) vs (sign_at p sign.Semicolon ∷ [])) (grammar.constant b d c hs vs e p h is), (free, none))
 constant_end_step k b d c hs vs e p s h is free none = inl refl
 
-end_step : (k : Known) (o : Owner) (c : Option Const) (xs vs : List Spot) (p : ℕ) (s : Symbol) → Owned k o xs → Value k.table.constants (type_of o) c vs
+end_step : (k : Known) (o : Owner) (c : Option Const) (xs vs : List Placed) (p : ℕ) (s : Symbol) → Owned k o xs → Value k.table.constants (type_of o) c vs
     → owner_fault k o c ≡ None → After k (xs ++ vs) (at p s) (valued_turn o c p s)
 end_step k o c xs vs p s (constant b d hs e h free) is none =
-    moved (λ (z : List Spot). After k z (at p s) (constant_end d c p s)) _ _ (two hs (sign_at e sign.Equals) vs) (constant_end_step k b d c hs vs e p s h is free none)
+    moved (λ (z : List Placed). After k z (at p s) (constant_end d c p s)) _ _ (two hs (sign_at e sign.Equals) vs) (constant_end_step k b d c hs vs e p s h is free none)
 end_step k o c xs vs p s (parameter f t us ws e before type) is none =
     let ends : (us ++ (ws ++ sign_at e sign.Equals ∷ [])) ++ vs ≡ us ++ (ws ++ sign_at e sign.Equals ∷ vs)
-    = append_assoc us (ws ++ sign_at e sign.Equals ∷ []) vs ∙ ap (λ (z : List Spot). us ++ z) (two ws (sign_at e sign.Equals) vs) in
-    moved (λ (z : List Spot). After k z (at p s) (param_turn f (record { ty = t; default = c }) p s)) _ _ ends
+    = append_assoc us (ws ++ sign_at e sign.Equals ∷ []) vs ∙ ap (λ (z : List Placed). us ++ z) (two ws (sign_at e sign.Equals) vs) in
+    moved (λ (z : List Placed). After k z (at p s) (param_turn f (record { ty = t; default = c }) p s)) _ _ ends
     (list_step k f (record { ty = t; default = c }) (us ++ (ws ++ sign_at e sign.Equals ∷ vs)) p s
     (join k f (record { ty = t; default = c }) us (ws ++ sign_at e sign.Equals ∷ vs) before (grammar.optional t c ws vs e type is)))
 
-loose_clash : (k : Known) (o : Owner) (f : HeaderFault) (xs vs : List Spot) (p : ℕ) (s : Symbol) → Owned k o xs → has_constants (type_of o) ≡ false
+loose_clash : (k : Known) (o : Owner) (f : HeaderFault) (xs vs : List Placed) (p : ℕ) (s : Symbol) → Owned k o xs → has_constants (type_of o) ≡ false
     → Loose zero vs → brackets zero s ≡ None → owner_fault k o None ≡ Some f → Clashes k f ((xs ++ vs) ++ at p s ∷ [])
 loose_clash k o f xs vs p s (constant b d hs e h free) has is ends fault =
-    moved (Clashes k f) _ _ (ap (λ (z : List Spot). z ++ at p s ∷ []) (two hs (sign_at e sign.Equals) vs) ∙ three hs (sign_at e sign.Equals) vs (at p s ∷ []))
+    moved (Clashes k f) _ _ (ap (λ (z : List Placed). z ++ at p s ∷ []) (two hs (sign_at e sign.Equals) vs) ∙ three hs (sign_at e sign.Equals) vs (at p s ∷ []))
     (header.loose b d f hs vs e p s h free has is ends fault)
 loose_clash k o f xs vs p s (parameter g t us ws e before type) has is ends fault = absurd (none-some f fault)
 
 -- the token that ends a value of a type without constants
-loose_end_step : (k : Known) (o : Owner) (xs vs : List Spot) (p : ℕ) (s : Symbol) → Owned k o xs → has_constants (type_of o) ≡ false → Loose zero vs
+loose_end_step : (k : Known) (o : Owner) (xs vs : List Placed) (p : ℕ) (s : Symbol) → Owned k o xs → has_constants (type_of o) ≡ false → Loose zero vs
     → brackets zero s ≡ None → After k (xs ++ vs) (at p s) (checked k o None (valued_turn o None p s))
 loose_end_step k o xs vs p s own has is ends =
     unless (After k (xs ++ vs) (at p s)) (owner_fault k o None) (valued_turn o None p s)
@@ -263,7 +263,7 @@ ended_depth (suc d) (symbol.Sign sign.Open) e = cc
 ended_depth (suc d) (symbol.Sign sign.Opening) e = cc
 ended_depth (suc d) s e = cc
 
-loose_step : (k : Known) (o : Owner) (d : ℕ) (xs vs : List Spot) (p : ℕ) (s : Symbol) (next : Option ℕ) → Owned k o xs → has_constants (type_of o) ≡ false → Loose d vs
+loose_step : (k : Known) (o : Owner) (d : ℕ) (xs vs : List Placed) (p : ℕ) (s : Symbol) (next : Option ℕ) → Owned k o xs → has_constants (type_of o) ≡ false → Loose d vs
     → brackets d s ≡ next → After k (xs ++ vs) (at p s) (loose_by k o next p s)
 loose_step k o d xs vs p s (Some e) own has is on =
     moved (Begun k (stage.Loose o e)) _ _ (append_assoc xs vs (at p s ∷ [])) (loose o e xs (vs ++ at p s ∷ []) own has (grammar.more d e vs p s is on))
@@ -275,20 +275,20 @@ minus_parts : (t : Ty) (s : Symbol) → is_minus_of_int t s ≡ true → (t ≡ 
 minus_parts ty.Int (symbol.Sign sign.Minus) e = (refl, refl)
 minus_parts t s e = cc
 
-got_step : (k : Known) (o : Owner) (v : Option Const) (xs : List Spot) (p : ℕ) (s : Symbol) → Owned k o xs → has_constants (type_of o) ≡ true
+got_step : (k : Known) (o : Owner) (v : Option Const) (xs : List Placed) (p : ℕ) (s : Symbol) → Owned k o xs → has_constants (type_of o) ≡ true
     → constant_in k.table.constants (type_of o) s ≡ v → After k xs (at p s) (got k o v p)
 got_step k o (Some c) xs p s own has is = checked_step k o c xs (at p s ∷ []) xs (at p s) own has (grammar.constant (type_of o) c p s has is) refl
 got_step k o None xs p s own has is = inl refl
 
-value_step : (b : Bool) (k : Known) (o : Owner) (xs : List Spot) (p : ℕ) (s : Symbol) → Owned k o xs → has_constants (type_of o) ≡ b → After k xs (at p s) (value_by b k o p s)
+value_step : (b : Bool) (k : Known) (o : Owner) (xs : List Placed) (p : ℕ) (s : Symbol) → Owned k o xs → has_constants (type_of o) ≡ b → After k xs (at p s) (value_by b k o p s)
 value_step true k o xs p s own has =
     either (After k xs (at p s)) (is_minus_of_int (type_of o) s) (goes (stage.Minus o)) (got k o (constant_in k.table.constants (type_of o) s) p)
     (λ is. let parts = minus_parts (type_of o) s is in subst (λ (z : Symbol). Begun k (stage.Minus o) (xs ++ at p z ∷ [])) (sym parts.1) (minus o xs p own parts.0))
     (λ is. got_step k o (constant_in k.table.constants (type_of o) s) xs p s own has refl)
 value_step false k o xs p s own has =
-    subst (λ (z : List Spot). After k z (at p s) (loose_by k o (brackets zero s) p s)) (append-nil xs) (loose_step k o zero xs [] p s (brackets zero s) own has grammar.none refl)
+    subst (λ (z : List Placed). After k z (at p s) (loose_by k o (brackets zero s) p s)) (append-nil xs) (loose_step k o zero xs [] p s (brackets zero s) own has grammar.none refl)
 
-minus_step : (k : Known) (o : Owner) (xs : List Spot) (p q : ℕ) (s : Symbol) → Owned k o xs → type_of o ≡ ty.Int
+minus_step : (k : Known) (o : Owner) (xs : List Placed) (p q : ℕ) (s : Symbol) → Owned k o xs → type_of o ≡ ty.Int
     → After k (xs ++ sign_at p sign.Minus ∷ []) (at q s) (minus_turn k o q s)
 minus_step k o xs p q (symbol.Int n) own int =
     checked_step k o (negative n) xs (sign_at p sign.Minus ∷ at q (symbol.Int n) ∷ []) (xs ++ sign_at p sign.Minus ∷ []) (at q (symbol.Int n)) own
@@ -298,31 +298,31 @@ minus_step k o xs p q s own int = inl refl
 
 -- ---- parameters
 
-param_type_of : (k : Known) (f : Function) (xs : List Spot) (p : ℕ) (s : Symbol) → Before k f xs
+param_type_of : (k : Known) (f : Function) (xs : List Placed) (p : ℕ) (s : Symbol) → Before k f xs
     → After k xs (at p s) (typed (stage.ParamType f) (type_in k.words s) p)
 param_type_of k f xs p s before = typed_step k xs p s (stage.ParamType f) (type_in k.words s) (λ t is. param_type f t xs p s before is)
 
-opened_step : (k : Known) (d : Declared) (hs : List Spot) (o p : ℕ) (s : Symbol) → Heading k false d hs → function_fault k d ≡ None
+opened_step : (k : Known) (d : Declared) (hs : List Placed) (o p : ℕ) (s : Symbol) → Heading k false d hs → function_fault k d ≡ None
     → After k (hs ++ sign_at o sign.Open ∷ []) (at p s) (params_turn k.words (record { head = d; params = [] }) p s)
 opened_step k d hs o p (symbol.Sign sign.Close) h free =
     moved (Begun k (stage.Closed (record { head = d; params = [] }))) _ _ (two hs (sign_at o sign.Open) (sign_at p sign.Close ∷ []))
     (closed d [] hs [] o p h free grammar.absent)
 opened_step k d hs o p s h free = param_type_of k (record { head = d; params = [] }) (hs ++ sign_at o sign.Open ∷ []) p s (first d hs o h free)
 
-behind_step : (k : Known) (f : Function) (t : Ty) (xs ys : List Spot) (p : ℕ) (s : Symbol) → Before k f xs → ParameterType k t ys
+behind_step : (k : Known) (f : Function) (t : Ty) (xs ys : List Placed) (p : ℕ) (s : Symbol) → Before k f xs → ParameterType k t ys
     → After k (xs ++ ys) (at p s) (behind_turn f t p s)
 behind_step k f t xs ys p (symbol.Sign sign.Equals) before type =
     moved (Begun k (stage.Value (owner.Parameter f t))) _ _ (append_assoc xs ys (sign_at p sign.Equals ∷ [])) (value (owner.Parameter f t) _ (parameter f t xs ys p before type))
 behind_step k f t xs ys p s before type =
     list_step k f (record { ty = t; default = None }) (xs ++ ys) p s (join k f (record { ty = t; default = None }) xs ys before (grammar.required t ys type))
 
-param_name_step : (k : Known) (f : Function) (t : Ty) (xs : List Spot) (p q : ℕ) (s x : Symbol) → Before k f xs → type_in k.words s ≡ Some t
+param_name_step : (k : Known) (f : Function) (t : Ty) (xs : List Placed) (p q : ℕ) (s x : Symbol) → Before k f xs → type_in k.words s ≡ Some t
     → After k (xs ++ at p s ∷ []) (at q x) (param_type_turn f t q x)
 param_name_step k f t xs p q s (symbol.Name n) before is =
     moved (Begun k (stage.ParamName f t)) _ _ (two xs (at p s) (at q (symbol.Name n) ∷ [])) (param_name f t xs (at p s ∷ at q (symbol.Name n) ∷ []) before (grammar.named t p q s n is))
 param_name_step k f t xs p q s x before is = behind_step k f t xs (at p s ∷ []) q x before (grammar.bare t p s is)
 
-closed_step : (k : Known) (d : Declared) (ps : List Param) (hs xs : List Spot) (o c p : ℕ) (s : Symbol) → Heading k false d hs → function_fault k d ≡ None
+closed_step : (k : Known) (d : Declared) (ps : List Param) (hs xs : List Placed) (o c p : ℕ) (s : Symbol) → Heading k false d hs → function_fault k d ≡ None
     → ParameterList k ps xs → After k (hs ++ sign_at o sign.Open ∷ (xs ++ sign_at c sign.Close ∷ [])) (at p s) (closed_turn (record { head = d; params = ps }) p s)
 closed_step k d ps hs xs o c p (symbol.Sign sign.Semicolon) h free are = (
   moved (Line k (IsFunction (record { head = d; params = ps }))) _ _ (four hs (sign_at o sign.Open) xs (sign_at c sign.Close) (sign_at p sign.Semicolon ∷ []))
@@ -331,7 +331,7 @@ closed_step k d ps hs xs o c p (symbol.Sign sign.Semicolon) h free are = (
 )
 closed_step k d ps hs xs o c p s h free are = inl refl
 
-pub step : (k : Known) (st : Stage) (xs : List Spot) (p : ℕ) (s : Symbol) → Begun k st xs → After k xs (at p s) (turn k st p s)
+pub step : (k : Known) (st : Stage) (xs : List Placed) (p : ℕ) (s : Symbol) → Begun k st xs → After k xs (at p s) (turn k st p s)
 unfolding turn
 step k st xs p s start = start_step k p s
 step k st xs p s (hash h) = hash_step k h p s

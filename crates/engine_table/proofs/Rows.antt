@@ -8,15 +8,15 @@ use Rattle.engine_table.specs.declared.symbol.Word.TheVariants as word
 use Rattle.engine_table.specs.declared.symbol.Sign.TheVariants as sign
 use Rattle.engine_table.specs.declared.symbol.Symbol.TheVariants as symbol
 use Rattle.engine_table.specs.declared.stage.Stage.TheVariants as stage
-use Rattle.engine_table.specs.Symbols.{Spot, at}
+use Rattle.engine_table.specs.Symbols.{Placed, at}
 use Rattle.engine_table.specs.Grammar.{sign_at, structure_of}
 use Rattle.engine_table.specs.Headers.{nothing, function_fault, constant_fault, value_fault, same_const}
 use Rattle.engine_table.specs.Turns.{turn, run}
 
-abbrev word_at : ℕ → Word → Spot
+abbrev word_at : ℕ → Word → Placed
 word_at p w = at p (symbol.Word w)
 
-abbrev a_at : ℕ → Spot
+abbrev a_at : ℕ → Placed
 a_at p = at p (symbol.Name (codes "A"))
 
 -- int A(); int A();

@@ -3,7 +3,7 @@ use Rattle.std.proofs.Common.{◌≡◌, ℕ, ◌-◌, ◌<◌, ◌≤◌, List,
 use Rattle.std.proofs.lemmas.Option.{none-some}
 use Rattle.nss_lexer.specs.Splitting.{Lexeme, First, Found, AtEnd, BadAt, IsFirst, Splits, AreTokens, whole, broken, token}
 use Rattle.nwq_value.specs.Engine.{EngineTable}
-use Rattle.engine_table.specs.declared.known.Known.{Known}
+use Rattle.engine_table.specs.Known.{Known}
 use Rattle.engine_table.specs.declared.fault.HeaderFault.{HeaderFault}
 use Rattle.engine_table.specs.declared.fault.HeaderFault.TheVariants.{Bad, Header, Twice, Many, NoMemory}
 use Rattle.engine_table.specs.declared.reader.Reader.{Reader}
@@ -11,10 +11,10 @@ use Rattle.engine_table.specs.declared.stage.Stage.{Stage}
 use Rattle.engine_table.specs.declared.stage.Stage.TheVariants as stage
 use Rattle.engine_table.specs.declared.stage.Turn.{Turn}
 use Rattle.engine_table.specs.declared.stage.Turn.TheVariants.{Goes, Gives}
-use Rattle.engine_table.specs.Symbols.{Spot, at, spot_of, spots_of}
+use Rattle.engine_table.specs.Symbols.{Placed, at, placed_of, placed_all}
 use Rattle.engine_table.specs.Headers as header
 use Rattle.engine_table.specs.Headers.{Fails, Comes, HasTable, IsFaulty, IsRefused, after, nothing}
-use Rattle.engine_table.specs.Turns.{Next, turn_at, ended, run_by, run, Leads, Follows, Answers, KeepsStage, HasTokens, HasTokensUpTo}
+use Rattle.engine_table.specs.Turns.{Next, known_of, turn_at, ended, run_by, run, Leads, Follows, Answers, KeepsStage, HasTokens, HasTokensUpTo}
 use Rattle.engine_table.proofs.Whole.{right, IsClash, clash_is}
 
 abbrev pub OneFirst : Type 0
@@ -96,33 +96,33 @@ pub record IsRead (bytes : List ℕ) (at : ℕ) (r : Reader) : Type 0 where
   pub split : Splits bytes 0 at left None
   pub all : List Lexeme
   pub tokens : AreTokens bytes 0 all
-  pub same : run (length bytes) nothing stage.Start (spots_of all) ≡ run (length bytes) r.known r.stage (spots_of left)
-  pub keeps : KeepsStage r.known r.stage
+  pub same : run (length bytes) nothing stage.Start (placed_all all) ≡ run (length bytes) (known_of r.known) r.stage (placed_all left)
+  pub keeps : KeepsStage (known_of r.known) r.stage
 
-pub read_none : (bytes : List ℕ) (r : Reader) → HasTokens bytes → r.known ≡ nothing → r.stage ≡ stage.Start → IsRead bytes 0 r
+pub read_none : (bytes : List ℕ) (r : Reader) → HasTokens bytes → (known_of r.known) ≡ nothing → r.stage ≡ stage.Start → IsRead bytes 0 r
 read_none bytes r has known start = record {
   within = omega arith;
   left = has.tokens;
   split = has.are;
   all = has.tokens;
   tokens = has.are;
-  same = ap (λ (z : Known). run (length bytes) z stage.Start (spots_of has.tokens)) (sym known)
-      ∙ ap (λ (z : Stage). run (length bytes) r.known z (spots_of has.tokens)) (sym start);
-  keeps = subst (KeepsStage r.known) (sym start) tt;
+  same = ap (λ (z : Known). run (length bytes) z stage.Start (placed_all has.tokens)) (sym known)
+      ∙ ap (λ (z : Stage). run (length bytes) (known_of r.known) z (placed_all has.tokens)) (sym start);
+  keeps = subst (KeepsStage (known_of r.known)) (sym start) tt;
 }
 
-led : (end : ℕ) (k : Known) (xs : List Spot) (what : Turn) (k' : Known) (s' : Stage) → Leads k what k' s'
+led : (end : ℕ) (k : Known) (xs : List Placed) (what : Turn) (k' : Known) (s' : Stage) → Leads k what k' s'
     → run_by (Ok what) (λ n. run end k n xs) (λ g. run end (after k g) stage.Start xs) ≡ run end k' s' xs
 led end k xs (Goes n) k' s' leads = ap (λ (z : Stage). run end k z xs) (sym leads.1) ∙ ap (λ (z : Known). run end z s' xs) (sym leads.0)
 led end k xs (Gives d) k' s' leads = ap (λ (z : Known). run end z stage.Start xs) (sym leads.0) ∙ ap (λ (z : Stage). run end k' z xs) (sym leads.1)
 
-followed : (end : ℕ) (k : Known) (s : Stage) (x : Spot) (xs : List Spot) (k' : Known) (s' : Stage) → Follows k s x k' s' → run end k s (x ∷ xs) ≡ run end k' s' xs
+followed : (end : ℕ) (k : Known) (s : Stage) (x : Placed) (xs : List Placed) (k' : Known) (s' : Stage) → Follows k s x k' s' → run end k s (x ∷ xs) ≡ run end k' s' xs
 unfolding run
 followed end k s x xs k' s' f =
     ap (λ (z : Next). run_by z (λ n. run end k n xs) (λ g. run end (after k g) stage.Start xs)) f.is ∙ led end k xs f.what k' s' f.leads
 
 pub read_more : OneFirst → (bytes : List ℕ) (at : ℕ) (r next : Reader) (t : Lexeme) → IsRead bytes at r → IsFirst bytes 0 at (Found t)
-    → Follows r.known r.stage (spot_of t) next.known next.stage → KeepsStage next.known next.stage → IsRead bytes t.end next
+    → Follows (known_of r.known) r.stage (placed_of t) (known_of next.known) next.stage → KeepsStage (known_of next.known) next.stage → IsRead bytes t.end next
 read_more one bytes at r next t so first follows keeps =
     let there = next_in one bytes at so.left None t refl so.split first in
     record {
@@ -131,8 +131,8 @@ read_more one bytes at r next t so first follows keeps =
       split = there.split;
       all = so.all;
       tokens = so.tokens;
-      same = so.same ∙ ap (λ (z : List Lexeme). run (length bytes) r.known r.stage (spots_of z)) there.same
-          ∙ followed (length bytes) r.known r.stage (spot_of t) (spots_of there.rest) next.known next.stage follows;
+      same = so.same ∙ ap (λ (z : List Lexeme). run (length bytes) (known_of r.known) r.stage (placed_all z)) there.same
+          ∙ followed (length bytes) (known_of r.known) r.stage (placed_of t) (placed_all there.rest) (known_of next.known) next.stage follows;
       keeps = keeps;
     }
 
@@ -151,7 +151,7 @@ clash_fault (Header p) h = absurd h
 clash_fault (Bad p) h = absurd h
 clash_fault NoMemory h = absurd h
 
-fails_fault : (end : ℕ) (k : Known) (f : HeaderFault) (xs : List Spot) → Fails end k f xs → IsToken_fault f
+fails_fault : (end : ℕ) (k : Known) (f : HeaderFault) (xs : List Placed) → Fails end k f xs → IsToken_fault f
 fails_fault end k f xs (header.later j d g ys zs is clear rest) = fails_fault end (after k d) f zs rest
 fails_fault end k f xs (header.clash j g ys zs clash) = clash_fault f (clash_is k f ys clash)
 fails_fault end k f xs (header.misfit j ys x zs m) = tt
@@ -164,43 +164,43 @@ refused_by bytes (Many p) h is = is
 refused_by bytes (Bad p) h is = absurd h
 refused_by bytes NoMemory h is = tt
 
-answer_ok : (bytes : List ℕ) (all : List Lexeme) (table : EngineTable) → AreTokens bytes 0 all → run (length bytes) nothing stage.Start (spots_of all) ≡ Ok table → HasTable bytes table
-answer_ok bytes all table are e = (all, are, subst (Comes (length bytes) nothing (spots_of all)) e (right (length bytes) nothing (spots_of all)))
+answer_ok : (bytes : List ℕ) (all : List Lexeme) (table : EngineTable) → AreTokens bytes 0 all → run (length bytes) nothing stage.Start (placed_all all) ≡ Ok table → HasTable bytes table
+answer_ok bytes all table are e = (all, are, subst (Comes (length bytes) nothing (placed_all all)) e (right (length bytes) nothing (placed_all all)))
 
-answer_err : (bytes : List ℕ) (all : List Lexeme) (f : HeaderFault) → AreTokens bytes 0 all → run (length bytes) nothing stage.Start (spots_of all) ≡ Err f → IsRefused bytes f
+answer_err : (bytes : List ℕ) (all : List Lexeme) (f : HeaderFault) → AreTokens bytes 0 all → run (length bytes) nothing stage.Start (placed_all all) ≡ Err f → IsRefused bytes f
 answer_err bytes all f are e =
-    let fails : Fails (length bytes) nothing f (spots_of all) = subst (Comes (length bytes) nothing (spots_of all)) e (right (length bytes) nothing (spots_of all)) in
-    refused_by bytes f (fails_fault (length bytes) nothing f (spots_of all) fails) (all, are, fails)
+    let fails : Fails (length bytes) nothing f (placed_all all) = subst (Comes (length bytes) nothing (placed_all all)) e (right (length bytes) nothing (placed_all all)) in
+    refused_by bytes f (fails_fault (length bytes) nothing f (placed_all all) fails) (all, are, fails)
 
 -- a text that ends here
 pub read_all_ok : OneFirst → (bytes : List ℕ) (at : ℕ) (r : Reader) (result : Result EngineTable HeaderFault) → IsRead bytes at r → IsFirst bytes 0 at AtEnd
-    → result ≡ ended (length bytes) r.known r.stage → IfOk result (HasTable bytes)
+    → result ≡ ended (length bytes) (known_of r.known) r.stage → IfOk result (HasTable bytes)
 unfolding run
 read_all_ok one bytes at r (Ok table) so first is =
     answer_ok bytes so.all table so.tokens
-    (so.same ∙ ap (λ (z : List Lexeme). run (length bytes) r.known r.stage (spots_of z)) (end_in one bytes at so.left None so.split first) ∙ sym is)
+    (so.same ∙ ap (λ (z : List Lexeme). run (length bytes) (known_of r.known) r.stage (placed_all z)) (end_in one bytes at so.left None so.split first) ∙ sym is)
 read_all_ok one bytes at r (Err f) so first is = tt
 
 pub read_all_err : OneFirst → (bytes : List ℕ) (at : ℕ) (r : Reader) (result : Result EngineTable HeaderFault) → IsRead bytes at r → IsFirst bytes 0 at AtEnd
-    → result ≡ ended (length bytes) r.known r.stage → IfErr result (IsRefused bytes)
+    → result ≡ ended (length bytes) (known_of r.known) r.stage → IfErr result (IsRefused bytes)
 unfolding run
 read_all_err one bytes at r (Ok table) so first is = tt
 read_all_err one bytes at r (Err f) so first is =
     answer_err bytes so.all f so.tokens
-    (so.same ∙ ap (λ (z : List Lexeme). run (length bytes) r.known r.stage (spots_of z)) (end_in one bytes at so.left None so.split first) ∙ sym is)
+    (so.same ∙ ap (λ (z : List Lexeme). run (length bytes) (known_of r.known) r.stage (placed_all z)) (end_in one bytes at so.left None so.split first) ∙ sym is)
 
 broken_at : OneFirst → (bytes : List ℕ) (at : ℕ) (r : Reader) (t : Lexeme) (f : HeaderFault) → IsRead bytes at r → IsFirst bytes 0 at (Found t)
-    → turn_at r.known r.stage (spot_of t) ≡ Err f → IsRefused bytes f
+    → turn_at (known_of r.known) r.stage (placed_of t) ≡ Err f → IsRefused bytes f
 unfolding run
 broken_at one bytes at r t f so first e =
     let there = next_in one bytes at so.left None t refl so.split first in
     answer_err bytes so.all f so.tokens
-    (so.same ∙ ap (λ (z : List Lexeme). run (length bytes) r.known r.stage (spots_of z)) there.same
-    ∙ ap (λ (z : Next). run_by z (λ n. run (length bytes) r.known n (spots_of there.rest)) (λ g. run (length bytes) (after r.known g) stage.Start (spots_of there.rest))) e)
+    (so.same ∙ ap (λ (z : List Lexeme). run (length bytes) (known_of r.known) r.stage (placed_all z)) there.same
+    ∙ ap (λ (z : Next). run_by z (λ n. run (length bytes) (known_of r.known) n (placed_all there.rest)) (λ g. run (length bytes) (after (known_of r.known) g) stage.Start (placed_all there.rest))) e)
 
 -- a token at which it breaks
 pub read_broken : OneFirst → (bytes : List ℕ) (at : ℕ) (r : Reader) (t : Lexeme) (f : HeaderFault) → IsRead bytes at r → IsFirst bytes 0 at (Found t)
-    → Answers (turn_at r.known r.stage (spot_of t)) (Err f) → IsRefused bytes f
+    → Answers (turn_at (known_of r.known) r.stage (placed_of t)) (Err f) → IsRefused bytes f
 read_broken one bytes at r t (Bad p) so first e = broken_at one bytes at r t (Bad p) so first e
 read_broken one bytes at r t (Header p) so first e = broken_at one bytes at r t (Header p) so first e
 read_broken one bytes at r t (Twice p) so first e = broken_at one bytes at r t (Twice p) so first e

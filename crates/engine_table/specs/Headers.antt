@@ -1,11 +1,14 @@
 -- The table of a header, and the first place where a text is none.
-use Rattle.std.specs.Prelude.{◌≡◌, ◌≢◌, ℕ, zero, Bool, true, false, nat_lt, List, [], ◌∷◌, ◌++◌, length, bytes_eq, Option, None, Some, is_some, if◌then◌else◌, Result, Ok, Err}
+use Rattle.std.specs.Prelude.{◌≡◌, ◌≢◌, ◌<◌, ◌≤◌, ℕ, zero, Bool, true, false, nat_lt, List, [], ◌∷◌, ◌++◌, length, bytes_eq, Option, None, Some, is_some, if◌then◌else◌, Result, Ok, Err}
 use Rattle.std.specs.Ordering.{int_eq}
 use Rattle.nwq_value.specs.declared.engine.Const.{Const}
 use Rattle.nwq_value.specs.declared.engine.Const.TheVariants as const
 use Rattle.nwq_value.specs.declared.engine.Routine.{Routine}
 use Rattle.nwq_value.specs.Engine.{EngineTable, routine_named, constant_named}
+use Rattle.nwq_value.specs.Limits.{routine_limit}
 use Rattle.nwq_value.specs.Roles.{engine_role, types_of}
+use Rattle.nss_lexer.specs.declared.token.Kind.{Kind}
+use Rattle.nss_lexer.specs.Lexemes.{IsLexeme}
 use Rattle.nss_lexer.specs.Splitting.{Lexeme, AreTokens, AreTokensUpTo}
 use Rattle.engine_table.specs.declared.symbol.Symbol.{Symbol}
 use Rattle.engine_table.specs.declared.symbol.Sign.TheVariants as sign
@@ -15,8 +18,8 @@ use Rattle.engine_table.specs.declared.declaration.Declared.{Declared}
 use Rattle.engine_table.specs.declared.declaration.Function.{Function}
 use Rattle.engine_table.specs.declared.declaration.Declaration.{Declaration}
 use Rattle.engine_table.specs.declared.declaration.Declaration.TheVariants.{Passed, TypeWord, Constant as IsConstant, Function as IsFunction}
-use Rattle.engine_table.specs.Symbols.{Spot, at, spots_of}
-use Rattle.engine_table.specs.declared.known.Known.{Known}
+use Rattle.engine_table.specs.Symbols.{Placed, at, symbol_by, placed_all}
+use Rattle.engine_table.specs.Known.{Known}
 use Rattle.engine_table.specs.Names.{with_word}
 use Rattle.engine_table.specs.Grammar.{sign_at, has_constants, brackets, Loose, Value, Heading, Line}
 
@@ -63,7 +66,7 @@ unfoldable pub function_fault : Known → Declared → Option HeaderFault
 function_fault k d =
     if is_some (routine_named d.name k.table.routines) then Some (Twice d.place)
     else (if is_some (constant_named d.name k.table.constants) then Some (Twice d.place)
-    else (if nat_lt (length k.table.routines) 65535 then None else Some (Many d.place)))
+    else (if nat_lt (length k.table.routines) routine_limit then None else Some (Many d.place)))
 
 -- with a constant as soon as its `=` stands there
 unfoldable pub constant_fault : Known → Declared → Option HeaderFault
@@ -91,64 +94,79 @@ IsClear k (IsFunction f) = function_fault k f.head ≡ None
 
 -- A line that begins with these tokens is at fault, whatever follows. A value of a type without constants was read where the token
 -- stands that ends it.
-pub data Clashes (k : Known) : HeaderFault → List Spot → Type 0 where
-  function : (d : Declared) (f : HeaderFault) (hs : List Spot) (o : ℕ) → Heading k false d hs → function_fault k d ≡ Some f
+pub data Clashes (k : Known) : HeaderFault → List Placed → Type 0 where
+  function : (d : Declared) (f : HeaderFault) (hs : List Placed) (o : ℕ) → Heading k false d hs → function_fault k d ≡ Some f
       → Clashes k f (hs ++ sign_at o sign.Open ∷ [])
-  constant : (b : Bool) (d : Declared) (f : HeaderFault) (hs : List Spot) (e : ℕ) → Heading k b d hs → constant_fault k d ≡ Some f
+  constant : (b : Bool) (d : Declared) (f : HeaderFault) (hs : List Placed) (e : ℕ) → Heading k b d hs → constant_fault k d ≡ Some f
       → Clashes k f (hs ++ sign_at e sign.Equals ∷ [])
-  value : (b : Bool) (d : Declared) (c : Option Const) (f : HeaderFault) (hs vs : List Spot) (e : ℕ) → Heading k b d hs
+  value : (b : Bool) (d : Declared) (c : Option Const) (f : HeaderFault) (hs vs : List Placed) (e : ℕ) → Heading k b d hs
       → constant_fault k d ≡ None → has_constants d.ty ≡ true → Value k.table.constants d.ty c vs → value_fault k d c ≡ Some f
       → Clashes k f (hs ++ sign_at e sign.Equals ∷ vs)
-  loose : (b : Bool) (d : Declared) (f : HeaderFault) (hs vs : List Spot) (e p : ℕ) (s : Symbol) → Heading k b d hs
+  loose : (b : Bool) (d : Declared) (f : HeaderFault) (hs vs : List Placed) (e p : ℕ) (s : Symbol) → Heading k b d hs
       → constant_fault k d ≡ None → has_constants d.ty ≡ false → Loose zero vs → brackets zero s ≡ None → value_fault k d None ≡ Some f
       → Clashes k f (hs ++ sign_at e sign.Equals ∷ (vs ++ at p s ∷ []))
 
 -- ---- the first place
 
+-- a token can spell the symbol
+pub record IsSpelled (s : Symbol) : Type 0 where
+  pub kind : Kind
+  pub text : List ℕ
+  pub lexeme : IsLexeme kind text
+  pub same : symbol_by kind text ≡ s
+
+abbrev pub AreSpelled : List Placed → Type 0
+AreSpelled [] = Unit {0}
+AreSpelled (x ∷ xs) = IsSpelled x.symbol × AreSpelled xs
+
 -- some tokens after these make a line
-abbrev pub IsFront : Known → List Spot → Type 0
-IsFront k xs = (more : List Spot) × (d : Declaration) × Line k d (xs ++ more)
+abbrev pub IsSpelledPrefix : Known → List Placed → Type 0
+IsSpelledPrefix k xs = (more : List Placed) × AreSpelled more × (d : Declaration) × Line k d (xs ++ more)
 
--- the tokens are the front of a line and no line, and no clash is among them
-pub record IsInside (k : Known) (xs : List Spot) : Type 0 where
-  pub front : IsFront k xs
+-- some symbols after these make a line, whether tokens can spell them or not
+abbrev pub IsPrefix : Known → List Placed → Type 0
+IsPrefix k xs = (more : List Placed) × (d : Declaration) × Line k d (xs ++ more)
+
+-- some tokens make a line of these, but they are none, and no clash is among them
+pub record IsInside (k : Known) (xs : List Placed) : Type 0 where
+  pub prefix : IsSpelledPrefix k xs
   pub no_line : (d : Declaration) → Line k d xs → ⊥
-  pub no_clash : (f : HeaderFault) (ys zs : List Spot) → xs ≡ ys ++ zs → Clashes k f ys → ⊥
+  pub no_clash : (f : HeaderFault) (ys zs : List Placed) → xs ≡ ys ++ zs → Clashes k f ys → ⊥
 
--- the tokens before this one are inside a line, and with it they are no front of a line and clash with nothing
-pub record IsMisfit (k : Known) (xs : List Spot) (s : Spot) : Type 0 where
+-- the tokens before this one are inside a line, and with it nothing makes a line of them, and they clash with nothing
+pub record IsMisfit (k : Known) (xs : List Placed) (s : Placed) : Type 0 where
   pub inside : IsInside k xs
-  pub through : IsFront k (xs ++ s ∷ []) → ⊥
+  pub through : IsPrefix k (xs ++ s ∷ []) → ⊥
   pub no_clash : (f : HeaderFault) → Clashes k f (xs ++ s ∷ []) → ⊥
 
 -- ---- whole texts
 
 -- the tokens are lines with these declarations, each clear where it stands
-pub data Lines : Known → List Declaration → List Spot → Type 0 where
+pub data Lines : Known → List Declaration → List Placed → Type 0 where
   none : (k : Known) → Lines k [] []
-  more : (k : Known) (d : Declaration) (ds : List Declaration) (xs ys : List Spot) → Line k d xs → IsClear k d → Lines (after k d) ds ys
+  more : (k : Known) (d : Declaration) (ds : List Declaration) (xs ys : List Placed) → Line k d xs → IsClear k d → Lines (after k d) ds ys
       → Lines k (d ∷ ds) (xs ++ ys)
 
 -- the tokens of a text of so many bytes are clear lines up to one that is at fault
-pub data Fails (end : ℕ) : Known → HeaderFault → List Spot → Type 0 where
-  later : (k : Known) (d : Declaration) (f : HeaderFault) (xs ys : List Spot) → Line k d xs → IsClear k d → Fails end (after k d) f ys
+pub data Fails (end : ℕ) : Known → HeaderFault → List Placed → Type 0 where
+  later : (k : Known) (d : Declaration) (f : HeaderFault) (xs ys : List Placed) → Line k d xs → IsClear k d → Fails end (after k d) f ys
       → Fails end k f (xs ++ ys)
-  clash : (k : Known) (f : HeaderFault) (xs ys : List Spot) → Clashes k f xs → Fails end k f (xs ++ ys)
-  misfit : (k : Known) (xs : List Spot) (s : Spot) (ys : List Spot) → IsMisfit k xs s → Fails end k (Header s.place) (xs ++ s ∷ ys)
-  short : (k : Known) (xs : List Spot) → xs ≢ [] → IsInside k xs → Fails end k (Header end) xs
+  clash : (k : Known) (f : HeaderFault) (xs ys : List Placed) → Clashes k f xs → Fails end k f (xs ++ ys)
+  misfit : (k : Known) (xs : List Placed) (s : Placed) (ys : List Placed) → IsMisfit k xs s → Fails end k (Header s.place) (xs ++ s ∷ ys)
+  short : (k : Known) (xs : List Placed) → xs ≢ [] → IsInside k xs → Fails end k (Header end) xs
 
 -- the table that tokens stand for, or their first fault
-abbrev pub Comes : ℕ → Known → List Spot → Result EngineTable HeaderFault → Type 0
+abbrev pub Comes : ℕ → Known → List Placed → Result EngineTable HeaderFault → Type 0
 Comes end k tokens (Ok table) = (ds : List Declaration) × Lines k ds tokens × (table ≡ (after_all k ds).table)
 Comes end k tokens (Err f) = Fails end k f tokens
 
 -- the text is a header with this table
 abbrev pub HasTable : List ℕ → EngineTable → Type 0
-HasTable bytes table = (tokens : List Lexeme) × AreTokens bytes 0 tokens × Comes (length bytes) nothing (spots_of tokens) (Ok table)
+HasTable bytes table = (tokens : List Lexeme) × AreTokens bytes 0 tokens × Comes (length bytes) nothing (placed_all tokens) (Ok table)
 
 -- the text's tokens are no header, and this is their first fault
 abbrev pub IsFaulty : List ℕ → HeaderFault → Type 0
-IsFaulty bytes f = (tokens : List Lexeme) × AreTokens bytes 0 tokens × Comes (length bytes) nothing (spots_of tokens) (Err f)
+IsFaulty bytes f = (tokens : List Lexeme) × AreTokens bytes 0 tokens × Comes (length bytes) nothing (placed_all tokens) (Err f)
 
 -- A bad byte stands before all else.
 abbrev pub IsRefused : List ℕ → HeaderFault → Type 0
@@ -158,8 +176,18 @@ IsRefused bytes (Twice place) = IsFaulty bytes (Twice place)
 IsRefused bytes (Many place) = IsFaulty bytes (Many place)
 IsRefused bytes NoMemory = Unit {0}
 
--- a text has one table or one first fault
+-- the fault's place is in a text of so many bytes; a text that ends inside a line is at fault at its end
+abbrev pub IsWithin : ℕ → HeaderFault → Type 0
+IsWithin size (Bad place) = place < size
+IsWithin size (Header place) = place ≤ size
+IsWithin size (Twice place) = place < size
+IsWithin size (Many place) = place < size
+IsWithin size NoMemory = Unit {0}
+
+-- A text has one table or one first fault, and tokens have one of the two.
 pub record OneHeader : Type 0 where
   pub one_table : (bytes : List ℕ) (a b : EngineTable) → HasTable bytes a → HasTable bytes b → a ≡ b
   pub one_fault : (bytes : List ℕ) (f g : HeaderFault) → f ≢ NoMemory → g ≢ NoMemory → IsRefused bytes f → IsRefused bytes g → f ≡ g
+  pub some_answer : (bytes : List ℕ) (tokens : List Lexeme) → AreTokens bytes 0 tokens
+      → (answer : Result EngineTable HeaderFault) × Comes (length bytes) nothing (placed_all tokens) answer
   pub not_both : (bytes : List ℕ) (a : EngineTable) (f : HeaderFault) → f ≢ NoMemory → HasTable bytes a → IsRefused bytes f → ⊥

@@ -1,6 +1,6 @@
 -- What the grammar of a header sees of a token.
 use Rattle.std.specs.Prelude.{ℕ, Bool, ◌||◌, ◌==◌, List, [], ◌∷◌, take, codes, bytes_eq, if◌then◌else◌}
-use Rattle.nwq_value.specs.declared.text.TheConstants.{TEXT_BYTES}
+use Rattle.nwq_value.specs.Limits.{text_limit}
 use Rattle.nss_lexer.specs.declared.token.Kind.{Kind}
 use Rattle.nss_lexer.specs.declared.token.Kind.TheVariants as kind
 use Rattle.nss_lexer.specs.Splitting.{Lexeme}
@@ -12,7 +12,7 @@ use Rattle.engine_table.specs.declared.symbol.Sign.TheVariants as sign
 use Rattle.engine_table.specs.declared.symbol.Symbol.{Symbol}
 use Rattle.engine_table.specs.declared.symbol.Symbol.TheVariants as symbol
 
--- the types whose values are left out, save `event`
+-- the types whose values are left out
 abbrev pub is_other_type : List ℕ → Bool
 is_other_type text =
     bytes_eq text (codes "float") || bytes_eq text (codes "vector") || bytes_eq text (codes "location") || bytes_eq text (codes "talent")
@@ -65,23 +65,23 @@ symbol_by kind.Name text = symbol.Name text
 symbol_by kind.Word text = symbol.Word (word_of text)
 symbol_by (kind.Int n) text = symbol.Int n
 symbol_by kind.Float text = symbol.Float
-symbol_by kind.Text text = symbol.Text (take TEXT_BYTES (string_value text))
+symbol_by kind.Text text = symbol.Text (take text_limit (string_value text))
 symbol_by kind.Sign text = symbol.Sign (sign_of text)
 
 abbrev pub symbol_of : Lexeme → Symbol
 symbol_of t = symbol_by t.kind t.text
 
 -- a token with the place of its first byte
-pub record Spot : Type 0 where
+pub record Placed : Type 0 where
   pub place : ℕ
   pub symbol : Symbol
 
-abbrev pub at : ℕ → Symbol → Spot
+abbrev pub at : ℕ → Symbol → Placed
 at p s = record { place = p; symbol = s }
 
-abbrev pub spot_of : Lexeme → Spot
-spot_of t = at t.start (symbol_of t)
+abbrev pub placed_of : Lexeme → Placed
+placed_of t = at t.start (symbol_of t)
 
-abbrev pub spots_of : List Lexeme → List Spot
-spots_of [] = []
-spots_of (t ∷ ts) = spot_of t ∷ spots_of ts
+abbrev pub placed_all : List Lexeme → List Placed
+placed_all [] = []
+placed_all (t ∷ ts) = placed_of t ∷ placed_all ts

@@ -6,6 +6,7 @@ use Rattle.nwq_value.specs.declared.value.Ty.TheVariants as ty
 use Rattle.nwq_value.specs.declared.engine.Const.{Const}
 use Rattle.nwq_value.specs.declared.engine.Param.{Param}
 use Rattle.nwq_value.specs.Engine.{EngineTable, IsNoStruct, FitsType, AreParams}
+use Rattle.nwq_value.specs.Limits.{parameter_limit}
 use Rattle.engine_table.specs.declared.symbol.Word.TheVariants as word
 use Rattle.engine_table.specs.declared.symbol.Sign.TheVariants as sign
 use Rattle.engine_table.specs.declared.symbol.Symbol.{Symbol}
@@ -23,10 +24,15 @@ use Rattle.engine_table.specs.declared.stage.Stage.TheVariants as stage
 use Rattle.engine_table.specs.declared.stage.Turn.{Turn}
 use Rattle.engine_table.specs.declared.stage.Turn.TheVariants.{Goes, Gives}
 use Rattle.nss_lexer.specs.Splitting.{Lexeme, AreTokens, AreTokensUpTo}
-use Rattle.engine_table.specs.Symbols.{Spot}
-use Rattle.engine_table.specs.declared.known.Known.{Known}
+use Rattle.engine_table.specs.Symbols.{Placed}
+use Rattle.engine_table.specs.declared.known.Known.{Known as KnownInCode}
+use Rattle.engine_table.specs.Known.{Known}
 use Rattle.engine_table.specs.Grammar.{type_in, structure_of, defined, has_constants, constant_in, negative, brackets}
 use Rattle.engine_table.specs.Headers.{after, function_fault, constant_fault, value_fault}
+
+-- what the code keeps, as the grammar sees it
+abbrev pub known_of : KnownInCode → Known
+known_of k = record { words = k.words; table = k.table }
 
 abbrev pub Next : Type 0
 Next = Result Turn HeaderFault
@@ -88,7 +94,7 @@ type_of (owner.Parameter f t) = t
 -- a parameter is whole where `,` or `)` follows
 abbrev pub param_turn : Function → Param → ℕ → Symbol → Next
 param_turn f x p (symbol.Sign sign.Comma) =
-    if nat_lt (length f.params + 1) 255 then goes (stage.Param (record f { params = f.params ++ x ∷ [] })) else misfit p
+    if nat_lt (length f.params + 1) parameter_limit then goes (stage.Param (record f { params = f.params ++ x ∷ [] })) else misfit p
 param_turn f x p (symbol.Sign sign.Close) = goes (stage.Closed (record f { params = f.params ++ x ∷ [] }))
 param_turn f x p _ = misfit p
 
@@ -176,7 +182,7 @@ turn k (stage.ParamType f t) p s = param_type_turn f t p s
 turn k (stage.ParamName f t) p s = behind_turn f t p s
 turn k (stage.Closed f) p s = closed_turn f p s
 
-abbrev pub turn_at : Known → Stage → Spot → Next
+abbrev pub turn_at : Known → Stage → Placed → Next
 turn_at k s x = turn k s x.place x.symbol
 
 -- ---- what a stage keeps
@@ -189,7 +195,7 @@ pub record IsOpen (k : Known) (f : Function) : Type 0 where
 
 abbrev pub KeepsOwner : Known → Owner → Type 0
 KeepsOwner k (owner.Constant d) = constant_fault k d ≡ None
-KeepsOwner k (owner.Parameter f t) = IsOpen k f × (length f.params < 255) × IsNoStruct t
+KeepsOwner k (owner.Parameter f t) = IsOpen k f × (length f.params < parameter_limit) × IsNoStruct t
 
 abbrev pub KeepsDefault : Owner → Option Const → Type 0
 KeepsDefault (owner.Constant d) c = Unit {0}
@@ -198,7 +204,7 @@ KeepsDefault (owner.Parameter f t) c = FitsType c t
 -- a constant's name is free of functions, and its value clashes with nothing
 abbrev pub KeepsValue : Known → Owner → Option Const → Type 0
 KeepsValue k (owner.Constant d) c = (constant_fault k d ≡ None) × (value_fault k d c ≡ None)
-KeepsValue k (owner.Parameter f t) c = IsOpen k f × (length f.params < 255) × IsNoStruct t × FitsType c t
+KeepsValue k (owner.Parameter f t) c = IsOpen k f × (length f.params < parameter_limit) × IsNoStruct t × FitsType c t
 
 abbrev pub KeepsStage : Known → Stage → Type 0
 KeepsStage k (stage.Typed b t) = IsNoStruct t
@@ -208,15 +214,15 @@ KeepsStage k (stage.Minus o) = KeepsOwner k o × (type_of o ≡ ty.Int)
 KeepsStage k (stage.Loose o d) = KeepsOwner k o
 KeepsStage k (stage.Valued o c) = KeepsValue k o c
 KeepsStage k (stage.Params f) = IsOpen k f × (f.params ≡ [])
-KeepsStage k (stage.Param f) = IsOpen k f × (length f.params < 255)
-KeepsStage k (stage.ParamType f t) = IsOpen k f × (length f.params < 255) × IsNoStruct t
-KeepsStage k (stage.ParamName f t) = IsOpen k f × (length f.params < 255) × IsNoStruct t
-KeepsStage k (stage.Closed f) = IsOpen k f × (length f.params ≤ 255)
+KeepsStage k (stage.Param f) = IsOpen k f × (length f.params < parameter_limit)
+KeepsStage k (stage.ParamType f t) = IsOpen k f × (length f.params < parameter_limit) × IsNoStruct t
+KeepsStage k (stage.ParamName f t) = IsOpen k f × (length f.params < parameter_limit) × IsNoStruct t
+KeepsStage k (stage.Closed f) = IsOpen k f × (length f.params ≤ parameter_limit)
 KeepsStage k _ = Unit {0}
 
 abbrev pub KeepsDeclaration : Known → Declaration → Type 0
 KeepsDeclaration k (IsConstant d c) = (constant_fault k d ≡ None) × (value_fault k d c ≡ None)
-KeepsDeclaration k (IsFunction f) = IsOpen k f × (length f.params ≤ 255)
+KeepsDeclaration k (IsFunction f) = IsOpen k f × (length f.params ≤ parameter_limit)
 KeepsDeclaration k _ = Unit {0}
 
 -- something of a line stands there
@@ -240,7 +246,7 @@ run_by (Ok (Goes s)) on line = on s
 run_by (Ok (Gives d)) on line = line d
 run_by (Err f) on line = Err f
 
-unfoldable pub run : ℕ → Known → Stage → List Spot → Result EngineTable HeaderFault
+unfoldable pub run : ℕ → Known → Stage → List Placed → Result EngineTable HeaderFault
 run end k s [] = ended end k s
 run end k s (x ∷ xs) = run_by (turn k s x.place x.symbol) (λ next. run end k next xs) (λ d. run end (after k d) stage.Start xs)
 
@@ -261,7 +267,7 @@ Leads k (Goes s) k' s' = (k' ≡ k) × (s' ≡ s)
 Leads k (Gives d) k' s' = (k' ≡ after k d) × (s' ≡ stage.Start)
 
 -- a token leads from a stage to another
-pub record Follows (k : Known) (s : Stage) (x : Spot) (k' : Known) (s' : Stage) : Type 0 where
+pub record Follows (k : Known) (s : Stage) (x : Placed) (k' : Known) (s' : Stage) : Type 0 where
   pub what : Turn
   pub is : turn_at k s x ≡ Ok what
   pub leads : Leads k what k' s'

@@ -1,7 +1,7 @@
 use nwq_value::{Const, Params, Text, Ty};
 
 /// A type and a name, with the name's place in the text.
-#[derive(Debug, Drop)]
+#[derive(Drop)]
 pub struct Declared {
     pub ty: Ty,
     pub place: u32,
@@ -9,14 +9,14 @@ pub struct Declared {
 }
 
 /// A function with the parameters that were read.
-#[derive(Debug, Drop)]
+#[derive(Drop)]
 pub struct Function {
     pub head: Declared,
     pub params: Params,
 }
 
 /// What a line of a header declares.
-#[derive(Debug, Drop)]
+#[derive(Drop)]
 pub enum Declaration {
     /// A define that makes no type word.
     Passed,

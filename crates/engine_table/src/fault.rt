@@ -1,8 +1,6 @@
 ghost use Rattle.std.specs.Prelude.{◌≡◌};
 
 use nwq_value::NoMemory as OutOfMemory;
-use std::error::Error;
-use std::fmt;
 
 /// Why a text is no header. The places are those of bytes, counted from 0.
 #[derive(Clone, Copy, Debug, PartialEq, Eq)]
@@ -17,20 +15,6 @@ pub enum HeaderFault {
     Many(u32),
     NoMemory,
 }
-
-impl fmt::Display for HeaderFault {
-    fn fmt<W: fmt::Write>(&self, f: &mut fmt::Formatter<W>) -> fmt::Result {
-        match self {
-            HeaderFault::Bad(at) => write!(f, "no token begins at byte {at}"),
-            HeaderFault::Header(at) => write!(f, "what stands at byte {at} fits no header"),
-            HeaderFault::Twice(at) => write!(f, "the name at byte {at} was declared before"),
-            HeaderFault::Many(at) => write!(f, "the function at byte {at} is one too many"),
-            HeaderFault::NoMemory => f.write_str("out of memory"),
-        }
-    }
-}
-
-impl Error for HeaderFault {}
 
 impl From<OutOfMemory> for HeaderFault {
     ghost use Rattle.engine_table.specs.declared.fault.HeaderFault.TheVariants as fault;

@@ -1,5 +1,7 @@
-ghost use Rattle.std.specs.Prelude.{◌≡◌, ◌==◌, if◌then◌else◌, ◌<◌, ◌≤◌, ◌+◌, [], ◌∷◌, ◌++◌, length, Option, Some, None, IsTrue, IfOk, IfSome, OnOk};
+ghost use Rattle.std.specs.Prelude.{◌≡◌, ◌==◌, if◌then◌else◌, ◌≤◌, [], ◌∷◌, ◌++◌, length, Some, None};
+ghost use Rattle.std.specs.Prelude.{IfOk, OnOk};
 ghost use Rattle.nwq_value.specs.Engine.{constant_named};
+ghost use Rattle.nwq_value.specs.Limits.{parameter_limit};
 ghost use Rattle.engine_table.specs.declared.symbol.Symbol.TheVariants as symbol;
 ghost use Rattle.engine_table.specs.declared.declaration.Declaration.TheVariants as declaration;
 ghost use Rattle.engine_table.specs.declared.stage.Owner.TheVariants as owner;
@@ -7,7 +9,7 @@ ghost use Rattle.engine_table.specs.declared.stage.Stage.TheVariants as stage;
 ghost use Rattle.engine_table.specs.Grammar as grammar;
 ghost use Rattle.engine_table.specs.Headers as header;
 ghost use Rattle.engine_table.specs.Turns as turns;
-ghost use Rattle.engine_table.specs.Turns.{Answers, IsOpen, KeepsOwner, KeepsValue, KeepsStage, KeepsDeclaration, KeepsTurn};
+ghost use Rattle.engine_table.specs.Turns.{Answers, IsOpen, KeepsDeclaration, known_of};
 
 use crate::declaration::{Declaration, Declared, Function};
 use crate::fault::HeaderFault;
@@ -23,11 +25,17 @@ const MOST_FUNCTIONS: usize = 65_535;
 /// How many parameters a function has at most.
 const MOST_PARAMETERS: usize = 255;
 
-/// What the lines so far have made known: the names that are type words, and the table.
+/// How many bytes the strings of a table have at most, all together. A short line can name a long
+/// constant, so that without this a header could ask for a thousand times its size.
+const MOST_TEXT: usize = 268_435_456;
+
+/// What the lines so far have made known: the names that are type words, and the table, whose strings
+/// have so many bytes.
 #[derive(Drop)]
 pub struct Known {
     pub words: Words,
     pub table: Table,
+    text: usize,
 }
 
 // ---- what tokens are by themselves
@@ -43,7 +51,8 @@ fn word_type(word: Word) -> Option<Ty>
         Word::Object => Some(Ty::Object),
         Word::Effect => Some(Ty::Effect),
         Word::Action => Some(Ty::Action),
-        Word::Event | Word::OtherType => Some(Ty::Refused),
+        Word::Event => Some(Ty::Event),
+        Word::OtherType => Some(Ty::Refused),
         Word::Const | Word::ObjectSelf | Word::ObjectInvalid | Word::Other => None,
     }
 }
@@ -90,9 +99,9 @@ fn structure_of(name: &[u8]) -> Option<u8>
     if name.len() < 17 {
         return None;
     }
-    let (front, back) = name.split_at(17);
-    if front == b"ENGINE_STRUCTURE_".as_slice() {
-        digit_of(back)
+    let (prefix, digit) = name.split_at(17);
+    if prefix == b"ENGINE_STRUCTURE_".as_slice() {
+        digit_of(digit)
     } else {
         None
     }
@@ -116,7 +125,8 @@ fn defined_name(structure: Option<u8>, name: Text) -> Option<Declaration>
 
 /// Whether a define may have this word as its value.
 fn may_define(structure: Option<u8>, word: Word) -> bool
-    ensures { grammar.defined structure (symbol.Word word) ≡ (if result then Some declaration.Passed else None) }
+    ensures { grammar.defined structure (symbol.Word word)
+        ≡ (if result then Some declaration.Passed else None) }
 {
     match structure {
         None => true,
@@ -146,8 +156,8 @@ fn defined(structure: Option<u8>, value: Symbol) -> Option<Declaration>
     }
 }
 
-/// How many brackets are open behind a token of a loose value, inside so many; `None` where it ends the value.
-/// That more are open than a `u32` counts is want of memory.
+/// How many brackets are open behind a token of a loose value, inside so many; `None` where it ends the
+/// value. That more are open than a `u32` counts is want of memory.
 fn brackets(depth: u32, symbol: &Symbol) -> Result<Option<u32>, NoMemory>
     ensures { IfOk result (λ inside. inside ≡ grammar.brackets depth symbol.now) }
 {
@@ -185,6 +195,35 @@ fn negative(number: u32) -> Const
     ensures { result ≡ grammar.negative number }
 {
     Const::Int(number.cast_signed().wrapping_neg())
+}
+
+/// How many bytes of text the constant holds.
+fn text_bytes(constant: &Const) -> usize {
+    match constant {
+        Const::Text(text) => text.bytes().len(),
+        _ => 0,
+    }
+}
+
+/// How many bytes of text the defaults hold.
+fn default_bytes(params: &[Param]) -> usize {
+    let mut sum: usize = 0;
+    for param in params {
+        if let Some(constant) = &param.default {
+            sum = sum.saturating_add(text_bytes(constant));
+        }
+    }
+    sum
+}
+
+/// Counts bytes of text that the table is to hold. Too many are want of memory.
+fn hold(text: &mut usize, bytes: usize) -> Result<(), NoMemory> {
+    *text = text.saturating_add(bytes);
+    if *text > MOST_TEXT {
+        Err(NoMemory)
+    } else {
+        Ok(())
+    }
 }
 
 /// Whether the constants are equal.
@@ -359,11 +398,12 @@ fn param_type_turn(
 impl Known {
     /// Nothing is known before the first line.
     pub fn new(alloc: Global) -> Known
-        ensures { result ≡ header.nothing }
+        ensures { known_of result ≡ header.nothing }
     {
         Known {
             words: Words::new(alloc),
             table: Table::new(alloc),
+            text: 0,
         }
     }
 
@@ -397,7 +437,8 @@ impl Known {
 
     /// The type of a line.
     fn type_turn(&self, constant: bool, place: u32, symbol: &Symbol) -> Result<Turn, HeaderFault>
-        ensures { result ≡ turns.typed (stage.Typed constant) (grammar.type_in self.now.words symbol.now) place }
+        ensures { result ≡ turns.typed (stage.Typed constant)
+            (grammar.type_in self.now.words symbol.now) place }
     {
         match self.type_in(symbol) {
             Some(ty) => Ok(Turn::Goes(Stage::Typed(constant, ty))),
@@ -412,7 +453,8 @@ impl Known {
         place: u32,
         symbol: &Symbol,
     ) -> Result<Turn, HeaderFault>
-        ensures { result ≡ turns.typed (stage.ParamType function) (grammar.type_in self.now.words symbol.now) place }
+        ensures { result ≡ turns.typed (stage.ParamType function)
+            (grammar.type_in self.now.words symbol.now) place }
     {
         match self.type_in(symbol) {
             Some(ty) => Ok(Turn::Goes(Stage::ParamType(function, ty))),
@@ -438,7 +480,7 @@ impl Known {
     /// What is wrong with a function of this name.
     #[tactic(auto, unfolding(crate::specs::Headers::function_fault))]
     fn function_fault(&self, head: &Declared) -> Option<HeaderFault>
-        ensures { result ≡ header.function_fault self.now head.now }
+        ensures { result ≡ header.function_fault (known_of self.now) head.now }
     {
         if self.table.by_name(head.name.bytes()).is_some() {
             Some(HeaderFault::Twice(head.place))
@@ -454,7 +496,7 @@ impl Known {
     /// What is wrong with a constant of this name, whatever its value.
     #[tactic(auto, unfolding(crate::specs::Headers::constant_fault))]
     fn constant_fault(&self, head: &Declared) -> Option<HeaderFault>
-        ensures { result ≡ header.constant_fault self.now head.now }
+        ensures { result ≡ header.constant_fault (known_of self.now) head.now }
     {
         if self.table.by_name(head.name.bytes()).is_some() {
             Some(HeaderFault::Twice(head.place))
@@ -466,7 +508,7 @@ impl Known {
     /// What is wrong with a constant of this name and this value.
     #[tactic(auto, unfolding(crate::specs::Headers::value_fault))]
     fn value_fault(&self, head: &Declared, value: &Option<Const>) -> Option<HeaderFault>
-        ensures { result ≡ header.value_fault self.now head.now value.now }
+        ensures { result ≡ header.value_fault (known_of self.now) head.now value.now }
     {
         match self.table.constant(head.name.bytes()) {
             None => None,
@@ -492,7 +534,7 @@ impl Known {
         place: u32,
         symbol: Symbol,
     ) -> Result<Turn, HeaderFault>
-        ensures { result ≡ turns.named_turn self.now constant head place symbol }
+        ensures { result ≡ turns.named_turn (known_of self.now) constant head place symbol }
     {
         match symbol {
             Symbol::Sign(Sign::Equals) => self.open_constant(head),
@@ -508,7 +550,8 @@ impl Known {
     }
 
     fn open_constant(&self, head: Declared) -> Result<Turn, HeaderFault>
-        ensures { result ≡ turns.unless_fault (header.constant_fault self.now head) (turns.goes (stage.Value (owner.Constant head))) }
+        ensures { result ≡ turns.unless_fault (header.constant_fault (known_of self.now) head)
+            (turns.goes (stage.Value (owner.Constant head))) }
     {
         match self.constant_fault(&head) {
             Some(fault) => Err(fault),
@@ -517,7 +560,8 @@ impl Known {
     }
 
     fn open_function(&self, alloc: Global, head: Declared) -> Result<Turn, HeaderFault>
-        ensures { result ≡ turns.unless_fault (header.function_fault self.now head) (turns.goes (stage.Params (record { head = head; params = [] }))) }
+        ensures { result ≡ turns.unless_fault (header.function_fault (known_of self.now) head)
+            (turns.goes (stage.Params (record { head = head; params = [] }))) }
     {
         match self.function_fault(&head) {
             Some(fault) => Err(fault),
@@ -530,7 +574,7 @@ impl Known {
 
     /// What is wrong with what a value is for.
     fn owner_fault(&self, owner: &Owner, value: &Option<Const>) -> Option<HeaderFault>
-        ensures { result ≡ turns.owner_fault self.now owner.now value.now }
+        ensures { result ≡ turns.owner_fault (known_of self.now) owner.now value.now }
     {
         match owner {
             Owner::Constant(head) => self.value_fault(head, value),
@@ -540,7 +584,8 @@ impl Known {
 
     /// A value was read.
     fn got(&self, owner: Owner, value: Const) -> Result<Turn, HeaderFault>
-        ensures { result ≡ turns.checked self.now owner (Some value) (turns.goes (stage.Valued owner (Some value))) }
+        ensures { result ≡ turns.checked (known_of self.now) owner (Some value)
+            (turns.goes (stage.Valued owner (Some value))) }
     {
         let value = Some(value);
         match self.owner_fault(&owner, &value) {
@@ -551,7 +596,8 @@ impl Known {
 
     /// The constant of this type that a name stands for.
     fn named_constant(&self, alloc: Global, ty: Ty, name: &[u8]) -> Result<Option<Const>, NoMemory>
-        ensures { IfOk result (λ value. value ≡ grammar.of_type ty (constant_named name.now self.now.table.constants)) }
+        ensures { IfOk result (λ value.
+            value ≡ grammar.of_type ty (constant_named name.now self.now.table.constants)) }
     {
         match self.table.constant(name) {
             None => Ok(None),
@@ -567,7 +613,8 @@ impl Known {
 
     /// The constant of this type that a token is by itself.
     fn constant_in(&self, alloc: Global, ty: Ty, symbol: Symbol) -> Result<Option<Const>, NoMemory>
-        ensures { IfOk result (λ value. value ≡ grammar.constant_in self.now.table.constants ty symbol) }
+        ensures { IfOk result (λ value.
+            value ≡ grammar.constant_in self.now.table.constants ty symbol) }
     {
         match symbol {
             Symbol::Name(name) => self.named_constant(alloc, ty, name.bytes()),
@@ -593,7 +640,7 @@ impl Known {
         place: u32,
         symbol: Symbol,
     ) -> Result<Turn, HeaderFault>
-        ensures { Answers (turns.constant_turn self.now owner ty place symbol) result }
+        ensures { Answers (turns.constant_turn (known_of self.now) owner ty place symbol) result }
     {
         if is_minus_of_int(ty, &symbol) {
             return Ok(Turn::Goes(Stage::Minus(owner)));
@@ -606,7 +653,7 @@ impl Known {
 
     /// A token behind the `-` of an int.
     fn minus_turn(&self, owner: Owner, place: u32, symbol: Symbol) -> Result<Turn, HeaderFault>
-        ensures { result ≡ turns.minus_turn self.now owner place symbol }
+        ensures { result ≡ turns.minus_turn (known_of self.now) owner place symbol }
     {
         match symbol {
             Symbol::Int(number) => self.got(owner, negative(number)),
@@ -622,7 +669,7 @@ impl Known {
         place: u32,
         symbol: Symbol,
     ) -> Result<Turn, HeaderFault>
-        ensures { Answers (turns.loose_turn self.now owner depth place symbol) result }
+        ensures { Answers (turns.loose_turn (known_of self.now) owner depth place symbol) result }
     {
         match brackets(depth, &symbol)? {
             Some(inside) => Ok(Turn::Goes(Stage::Loose(owner, inside))),
@@ -632,7 +679,8 @@ impl Known {
 
     /// The token that ends such a value.
     fn loose_end(&self, owner: Owner, place: u32, symbol: Symbol) -> Result<Turn, HeaderFault>
-        ensures { Answers (turns.checked self.now owner None (turns.valued_turn owner None place symbol)) result }
+        ensures { Answers (turns.checked (known_of self.now) owner None
+            (turns.valued_turn owner None place symbol)) result }
     {
         match self.owner_fault(&owner, &None) {
             Some(fault) => Err(fault),
@@ -648,7 +696,7 @@ impl Known {
         place: u32,
         symbol: Symbol,
     ) -> Result<Turn, HeaderFault>
-        ensures { Answers (turns.value_turn self.now owner place symbol) result }
+        ensures { Answers (turns.value_turn (known_of self.now) owner place symbol) result }
     {
         let ty = type_of(&owner);
         if has_constants(ty) {
@@ -667,7 +715,7 @@ impl Known {
         place: u32,
         symbol: Symbol,
     ) -> Result<Turn, HeaderFault>
-        ensures { Answers (turns.turn self.now stage place symbol) result }
+        ensures { Answers (turns.turn (known_of self.now) stage place symbol) result }
     {
         match stage {
             Stage::Start => self.start_turn(place, &symbol),
@@ -690,12 +738,13 @@ impl Known {
     }
 
     /// Takes a function into the table.
-    #[tactic(auto, using(crate::proofs::KeepLemmas::free_function))]
     fn declare_function(&mut self, function: Function) -> Result<(), NoMemory>
-        requires open { IsOpen self.old function }
-        requires few { length function.params ≤ 255 }
-        ensures { OnOk result (self.new ≡ header.after self.old (declaration.Function function)) }
+        requires open { IsOpen (known_of self.old) function }
+        requires few { length function.params ≤ parameter_limit }
+        ensures { OnOk result (known_of self.new
+            ≡ header.after (known_of self.old) (declaration.Function function)) }
     {
+        hold(&mut self.text, default_bytes(function.params.as_slice()))?;
         let Function { head, params } = function;
         let role = role_of(head.name.bytes(), head.ty, params.as_slice());
         self.table.push(Routine {
@@ -707,21 +756,23 @@ impl Known {
     }
 
     /// Takes a constant into the table, unless one of its name is there.
-    #[tactic(auto, using(crate::proofs::KeepLemmas::free_constant))]
     fn define(&mut self, head: Declared, value: Const) -> Result<(), NoMemory>
-        requires { header.constant_fault self.old head ≡ None }
-        ensures { OnOk result (self.new ≡ header.after self.old (declaration.Constant head (Some value))) }
+        requires { header.constant_fault (known_of self.old) head ≡ None }
+        ensures { OnOk result (known_of self.new
+            ≡ header.after (known_of self.old) (declaration.Constant head (Some value))) }
     {
         if self.table.constant(head.name.bytes()).is_some() {
             return Ok(());
         }
+        hold(&mut self.text, text_bytes(&value))?;
         self.table.define(head.name, value)
     }
 
     /// Takes a constant into the table, where it has a value.
     fn declare_constant(&mut self, head: Declared, value: Option<Const>) -> Result<(), NoMemory>
-        requires { header.constant_fault self.old head ≡ None }
-        ensures { OnOk result (self.new ≡ header.after self.old (declaration.Constant head value)) }
+        requires { header.constant_fault (known_of self.old) head ≡ None }
+        ensures { OnOk result (known_of self.new
+            ≡ header.after (known_of self.old) (declaration.Constant head value)) }
     {
         match value {
             Some(value) => self.define(head, value),
@@ -731,8 +782,8 @@ impl Known {
 
     /// Takes in what a line declares.
     pub fn declare(&mut self, declared: Declaration) -> Result<(), NoMemory>
-        requires { KeepsDeclaration self.old declared }
-        ensures { OnOk result (self.new ≡ header.after self.old declared) }
+        requires { KeepsDeclaration (known_of self.old) declared }
+        ensures { OnOk result (known_of self.new ≡ header.after (known_of self.old) declared) }
     {
         match declared {
             Declaration::Passed => Ok(()),

@@ -6,7 +6,7 @@ use nss_lexer::laws::{one_first, one_split};
 
 /// A text has one table or one first fault.
 pub fn one_header()
-    ensures { OneHeader }
+    ensures one { OneHeader }
 {
     one_first();
     one_split();

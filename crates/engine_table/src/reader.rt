@@ -1,25 +1,30 @@
-ghost use Rattle.std.specs.Prelude.{◌≡◌, ◌≤◌, ◌∷◌, List, ℕ, length, MatchOption, IfOk, IfErr, OnOk, Err};
+ghost use Rattle.std.specs.Prelude.{◌≡◌, ◌≤◌, length, MatchOption, IfOk, IfErr, OnOk, Err};
 ghost use Rattle.nwq_value.specs.Header.{header_text};
+ghost use Rattle.nwq_value.specs.HeaderTable.{header_table};
+ghost use Rattle.nwq_value.specs.Limits.{file_limit};
 ghost use Rattle.engine_table.specs.declared.fault.HeaderFault.TheVariants as fault;
 ghost use Rattle.engine_table.specs.declared.stage.Stage.TheVariants as stage;
 ghost use Rattle.nss_lexer.specs.Lexemes.{IsToken};
 ghost use Rattle.nss_lexer.specs.Splitting.{plain};
-ghost use Rattle.engine_table.specs.Symbols.{at as spot, spot_of};
-ghost use Rattle.engine_table.specs.Headers.{HasTable, IsRefused, nothing};
-ghost use Rattle.engine_table.specs.Turns.{Answers, KeepsStage, KeepsTurn, Leads, Follows, HasTokens, HasTokensUpTo, ended, turn_at};
+ghost use Rattle.engine_table.specs.Symbols.{at as placed, placed_of};
+ghost use Rattle.engine_table.specs.Headers.{HasTable, IsRefused, IsWithin, nothing};
+ghost use Rattle.engine_table.specs.Turns.{Answers, KeepsStage, KeepsTurn, Leads, Follows, known_of};
+ghost use Rattle.engine_table.specs.Turns.{HasTokens, HasTokensUpTo, ended, turn_at};
 
 use crate::fault::HeaderFault;
 use crate::known::Known;
+use crate::laws::one_header;
 use crate::stage::{Stage, Turn};
 use crate::symbol::{Symbol, symbol_of};
-use nss_lexer::laws::one_first;
-use nss_lexer::{Lexed, SOURCE_BYTES, Token, next};
+use nss_lexer::laws::{computed_tokens, one_first};
+use nss_lexer::{Lexed, Token, next};
 use nwq_value::header::built_in_is_the_header;
 use nwq_value::{BUILT_IN, NoMemory, Table};
 use std::alloc::Global;
 use std::mem;
 
-/// A header while it is read: what its lines made known, and how far the line has come that is being read.
+/// A header while it is read: what its lines made known, and how far the line has come that is being
+/// read.
 #[derive(Drop)]
 pub struct Reader {
     known: Known,
@@ -28,7 +33,7 @@ pub struct Reader {
 
 impl Reader {
     fn new(alloc: Global) -> Reader
-        ensures known { result.known ≡ nothing }
+        ensures known { known_of result.known ≡ nothing }
         ensures stage { result.stage ≡ stage.Start }
     {
         Reader {
@@ -37,28 +42,35 @@ impl Reader {
         }
     }
 
-    /// Goes on by a turn.
+    /// Goes on by a turn. The old stage is dropped by a call: dropped by the assignment it would be
+    /// proved anew here.
     fn go(&mut self, turn: Turn) -> Result<(), NoMemory>
-        requires { KeepsTurn self.old.known turn }
-        ensures keeps { OnOk result (KeepsStage self.new.known self.new.stage) }
-        ensures goes { OnOk result (Leads self.old.known turn self.new.known self.new.stage) }
+        requires { KeepsTurn (known_of self.old.known) turn }
+        ensures keeps { OnOk result (KeepsStage (known_of self.new.known) self.new.stage) }
+        ensures goes { OnOk result (Leads (known_of self.old.known) turn
+            (known_of self.new.known) self.new.stage) }
     {
         match turn {
-            Turn::Goes(stage) => self.stage = stage,
+            Turn::Goes(stage) => {
+                drop(mem::replace(&mut self.stage, stage));
+                Ok(())
+            }
             Turn::Gives(declaration) => {
-                self.stage = Stage::Start;
-                self.known.declare(declaration)?;
+                drop(mem::replace(&mut self.stage, Stage::Start));
+                self.known.declare(declaration)
             }
         }
-        Ok(())
     }
 
     /// Takes one token more.
     fn take(&mut self, alloc: Global, place: u32, symbol: Symbol) -> Result<(), HeaderFault>
-        requires { KeepsStage self.old.known self.old.stage }
-        ensures keeps { OnOk result (KeepsStage self.new.known self.new.stage) }
-        ensures goes { OnOk result (Follows self.old.known self.old.stage (spot place symbol) self.new.known self.new.stage) }
-        ensures fails { IfErr result (λ fault. Answers (turn_at self.old.known self.old.stage (spot place symbol)) (Err fault)) }
+        requires { KeepsStage (known_of self.old.known) self.old.stage }
+        ensures keeps { OnOk result (KeepsStage (known_of self.new.known) self.new.stage) }
+        ensures goes { OnOk result (Follows (known_of self.old.known) self.old.stage (placed place symbol)
+            (known_of self.new.known) self.new.stage) }
+        ensures fails { IfErr result (λ fault. Answers
+            (turn_at (known_of self.old.known) self.old.stage (placed place symbol))
+            (Err fault)) }
     {
         let stage = mem::replace(&mut self.stage, Stage::Start);
         match self.known.turn(alloc, stage, place, symbol) {
@@ -72,11 +84,14 @@ impl Reader {
 
     /// Takes one token more, as the grammar sees it.
     fn read(&mut self, alloc: Global, token: &Token<'_>) -> Result<(), HeaderFault>
-        requires keeps { KeepsStage self.old.known self.old.stage }
+        requires keeps { KeepsStage (known_of self.old.known) self.old.stage }
         requires token { IsToken token.now }
-        ensures keeps { OnOk result (KeepsStage self.new.known self.new.stage) }
-        ensures goes { OnOk result (Follows self.old.known self.old.stage (spot_of (plain token.now)) self.new.known self.new.stage) }
-        ensures fails { IfErr result (λ fault. Answers (turn_at self.old.known self.old.stage (spot_of (plain token.now))) (Err fault)) }
+        ensures keeps { OnOk result (KeepsStage (known_of self.new.known) self.new.stage) }
+        ensures goes { OnOk result (Follows (known_of self.old.known) self.old.stage
+            (placed_of (plain token.now)) (known_of self.new.known) self.new.stage) }
+        ensures fails { IfErr result (λ fault. Answers
+            (turn_at (known_of self.old.known) self.old.stage (placed_of (plain token.now)))
+            (Err fault)) }
     {
         let symbol = symbol_of(alloc, token)?;
         match self.take(alloc, token.start, symbol) {
@@ -87,19 +102,22 @@ impl Reader {
 
     /// The table, where no line is left open.
     fn finish(self, end: u32) -> Result<Table, HeaderFault>
-        ensures { result ≡ ended end self.known self.stage }
+        ensures { result ≡ ended end (known_of self.known) self.stage }
     {
         let Reader { known, stage } = self;
-        match stage {
-            Stage::Start => Ok(known.table),
-            _ => Err(HeaderFault::Header(end)),
+        let is_whole = matches!(&stage, Stage::Start);
+        drop(stage);
+        if is_whole {
+            Ok(known.table)
+        } else {
+            Err(HeaderFault::Header(end))
         }
     }
 }
 
 /// The first place of the text where no token, blank or closed comment begins.
 fn first_bad(bytes: &[u8]) -> Option<u32>
-    requires { length bytes.now ≤ SOURCE_BYTES }
+    requires { length bytes.now ≤ file_limit }
     ensures { MatchOption result (HasTokens bytes.now) (HasTokensUpTo bytes.now) }
 {
     let mut at = 0;
@@ -114,7 +132,7 @@ fn first_bad(bytes: &[u8]) -> Option<u32>
 
 /// The table of a text without bad bytes.
 fn read_tokens(alloc: Global, bytes: &[u8]) -> Result<Table, HeaderFault>
-    requires size { length bytes.now ≤ SOURCE_BYTES }
+    requires size { length bytes.now ≤ file_limit }
     requires tokens { HasTokens bytes.now }
     ensures table { IfOk result (HasTable bytes.now) }
     ensures refused { IfErr result (IsRefused bytes.now) }
@@ -128,7 +146,10 @@ fn read_tokens(alloc: Global, bytes: &[u8]) -> Result<Table, HeaderFault>
             Lexed::Bad(_) => unreachable!(),
             Lexed::Token(token) => {
                 match reader.read(alloc, &token) {
-                    Err(fault) => return Err(fault),
+                    Err(fault) => {
+                        drop(reader);
+                        return Err(fault);
+                    }
                     Ok(()) => at = token.end,
                 }
             }
@@ -136,11 +157,12 @@ fn read_tokens(alloc: Global, bytes: &[u8]) -> Result<Table, HeaderFault>
     }
 }
 
-/// The table of a header's text, of at most [`SOURCE_BYTES`] bytes, or its first fault.
+/// The table of a header's text, or its first fault, with a place within the text.
 pub fn read_header(alloc: Global, bytes: &[u8]) -> Result<Table, HeaderFault>
-    requires { length bytes.now ≤ SOURCE_BYTES }
+    requires size { length bytes.now ≤ file_limit }
     ensures table { IfOk result (HasTable bytes.now) }
     ensures refused { IfErr result (IsRefused bytes.now) }
+    ensures within { IfErr result (IsWithin (length bytes.now)) }
 {
     match first_bad(bytes) {
         Some(place) => Err(HeaderFault::Bad(place)),
@@ -148,7 +170,7 @@ pub fn read_header(alloc: Global, bytes: &[u8]) -> Result<Table, HeaderFault>
     }
 }
 
-/// The one fault that a header can have.
+/// The one fault that the built-in header can have.
 fn want_of_memory(met: HeaderFault) -> NoMemory
     requires { met ≡ fault.NoMemory }
 {
@@ -158,11 +180,15 @@ fn want_of_memory(met: HeaderFault) -> NoMemory
     }
 }
 
-/// The table of the built-in header.
+/// The table of the built-in header: the functions and constants of its data, with their defaults,
+/// values and roles.
 pub fn built_in(alloc: Global) -> Result<Table, NoMemory>
-    ensures { IfOk result (HasTable header_text) }
+    ensures table { IfOk result (λ table. table ≡ header_table) }
+    ensures text { IfOk result (HasTable header_text) }
 {
     built_in_is_the_header();
+    computed_tokens();
+    one_header();
     match read_header(alloc, BUILT_IN) {
         Ok(table) => Ok(table),
         Err(fault) => Err(want_of_memory(fault)),

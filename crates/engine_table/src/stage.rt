@@ -2,14 +2,14 @@ use crate::declaration::{Declaration, Declared, Function};
 use nwq_value::{Const, Text, Ty};
 
 /// What a value is for: a constant, or the default of a function's next parameter, which has this type.
-#[derive(Debug, Drop)]
+#[derive(Drop)]
 pub enum Owner {
     Constant(Declared),
     Parameter(Function, Ty),
 }
 
 /// How far a line has come.
-#[derive(Debug, Drop)]
+#[derive(Drop)]
 pub enum Stage {
     Start,
     /// behind `#`
@@ -45,7 +45,7 @@ pub enum Stage {
 }
 
 /// What a token does to a line: it goes on, or it is whole and declares something.
-#[derive(Debug, Drop)]
+#[derive(Drop)]
 pub enum Turn {
     Goes(Stage),
     Gives(Declaration),

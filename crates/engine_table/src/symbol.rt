@@ -1,14 +1,15 @@
 ghost use Rattle.std.specs.Prelude.{◌≡◌, ◌≤◌, length, IfOk};
 ghost use Rattle.nss_lexer.specs.Lexemes.{IsToken};
 ghost use Rattle.nss_lexer.specs.Splitting.{plain};
+ghost use Rattle.nwq_value.specs.Limits.{name_limit};
 ghost use Rattle.engine_table.specs.Symbols as spec;
 
 use nss_lexer::{Kind, Token, literal};
 use nwq_value::{NoMemory, Text};
 use std::alloc::Global;
 
-/// A word of the language. The types whose values are left out are one, save `event`.
-#[derive(Clone, Copy, Debug, PartialEq, Eq)]
+/// A word of the language. The types whose values are left out are one.
+#[derive(Clone, Copy)]
 pub enum Word {
     Void,
     Int,
@@ -25,7 +26,7 @@ pub enum Word {
 }
 
 /// A sign of the language, as a header tells signs apart.
-#[derive(Clone, Copy, Debug, PartialEq, Eq)]
+#[derive(Clone, Copy)]
 pub enum Sign {
     Hash,
     Open,
@@ -42,7 +43,7 @@ pub enum Sign {
 }
 
 /// A token as the grammar of a header sees it; a string is seen as the bytes that it stands for.
-#[derive(Debug, Drop)]
+#[derive(Drop)]
 pub enum Symbol {
     Name(Text),
     Int(u32),
@@ -145,7 +146,7 @@ fn sign_of(text: &[u8]) -> Sign
 /// A name's bytes as a text.
 #[tactic(auto, using(crate::proofs::SymbolLemmas::take_name))]
 fn name_text(alloc: Global, bytes: &[u8]) -> Result<Text, NoMemory>
-    requires { length bytes.now ≤ 255 }
+    requires { length bytes.now ≤ name_limit }
     ensures { IfOk result (λ text. text ≡ bytes.now) }
 {
     Text::of(alloc, bytes)

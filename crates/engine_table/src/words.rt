@@ -5,8 +5,8 @@ use nwq_value::{Const, NoMemory, Table, Text};
 use std::alloc::Global;
 use std::marker::Model;
 
-/// The names that are type words of a header. They are kept as the names of constants, so that a look-up
-/// takes no longer in a long list. Contracts see the list of the names.
+/// The names that are type words of a header. They are kept as the names of constants, so that a
+/// look-up takes no longer in a long list. Contracts see the list of the names.
 #[derive(Drop)]
 pub struct Words {
     names: Table,

@@ -4,3 +4,4 @@ pub mod Lexemes
 pub mod Strings
 pub mod Splitting
 pub mod Reading
+pub mod Computed

@@ -1,6 +1,7 @@
 //! Laws about the definitions, each the contract of a function that does nothing.
 
 ghost use Rattle.std.specs.Prelude.{◌≡◌, ℕ, List, Option};
+ghost use Rattle.nss_lexer.specs.Computed.{ComputedAreTokens};
 ghost use Rattle.nss_lexer.specs.Strings.{StandsFor, string_value};
 ghost use Rattle.nss_lexer.specs.Splitting.{First, IsFirst, Lexeme, Splits};
 
@@ -17,4 +18,10 @@ pub fn one_split()
 /// What a string stands for is its value, and nothing else.
 pub fn one_value()
     ensures { (text bytes : List ℕ) → StandsFor text bytes → bytes ≡ string_value text }
+{}
+
+/// Tokens that were computed by reading from the left are the tokens of the file, so that a proof can find
+/// those of a given text.
+pub fn computed_tokens()
+    ensures tokens { ComputedAreTokens }
 {}

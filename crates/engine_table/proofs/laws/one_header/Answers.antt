@@ -2,4 +2,4 @@ use Rattle.engine_table.proofs.Whole.{OneSplit, one_header}
 use Rattle.engine_table.proofs.laws.one_header.Goals as goal
 
 pub returns : goal.returns
-returns c = let one : OneSplit = c.one_split.ensures in one_header one
+returns c = let one : OneSplit = c.one_split.ensures in record { one = one_header one }

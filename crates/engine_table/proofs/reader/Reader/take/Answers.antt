@@ -1,7 +1,8 @@
+use Rattle.engine_table.specs.Turns.{known_of}
 use Rattle.engine_table.proofs.KeepLemmas.{turn_keeps}
 use Rattle.engine_table.proofs.reader.Reader.take.Goals as goal
 
 pub go-requires : goal.go-requires
 go-requires c =
-    turn_keeps c.args.self.now.known c.args.self.now.stage c.args.place c.args.symbol c.in-Ok.turn c.requires
+    turn_keeps (known_of c.args.self.now.known) c.args.self.now.stage c.args.place c.args.symbol c.in-Ok.turn c.requires
     (let value = c.replace-stage.ensures.value in let is = c.in-Ok.ensures in cc)

@@ -1,0 +1,227 @@
+use engine_table::{HeaderFault, built_in, read_header};
+use nss_lexer::SOURCE_BYTES;
+use nwq_value::{Const, NoMemory, Param, Role, Table, Ty};
+use std::alloc::Global;
+use std::test::Fail;
+
+/// The fault of a text, or `NoMemory` where it is a header.
+fn fault_of(alloc: Global, text: &[u8]) -> HeaderFault {
+    if text.len() > SOURCE_BYTES {
+        return HeaderFault::NoMemory;
+    }
+    match read_header(alloc, text) {
+        Ok(_) => HeaderFault::NoMemory,
+        Err(fault) => fault,
+    }
+}
+
+/// The table of a text, where it is a header.
+fn table_of(alloc: Global, text: &[u8]) -> Option<Table> {
+    if text.len() > SOURCE_BYTES {
+        return None;
+    }
+    match read_header(alloc, text) {
+        Ok(table) => Some(table),
+        Err(_) => None,
+    }
+}
+
+/// The result of the function with this name, and its role.
+fn function_of(table: &Table, name: &[u8]) -> Option<(Ty, Role)> {
+    match table.by_name(name) {
+        Some(number) => match table.routine(number) {
+            Some(routine) => Some((routine.result, routine.role)),
+            None => None,
+        },
+        None => None,
+    }
+}
+
+/// Parameter `i` of the function with this name.
+fn param_of<'a>(table: &'a Table, name: &[u8], i: usize) -> Option<&'a Param> {
+    match table.by_name(name) {
+        Some(number) => match table.routine(number) {
+            Some(routine) => routine.params.get(i),
+            None => None,
+        },
+        None => None,
+    }
+}
+
+/// A parameter's type, and its default where that is an int.
+fn int_default(param: Option<&Param>) -> Option<(Ty, Option<i32>)> {
+    match param {
+        Some(param) => match &param.default {
+            Some(Const::Int(n)) => Some((param.ty, Some(*n))),
+            _ => Some((param.ty, None)),
+        },
+        None => None,
+    }
+}
+
+/// Whether the parameter's default is the caller.
+fn is_self(param: Option<&Param>) -> bool {
+    match param {
+        Some(param) => matches!(&param.default, Some(Const::SelfObject)),
+        None => false,
+    }
+}
+
+/// The int that a name stands for.
+fn int_of(table: &Table, name: &[u8]) -> Option<i32> {
+    match table.constant(name) {
+        Some(Const::Int(n)) => Some(*n),
+        _ => None,
+    }
+}
+
+#[test]
+fn faults(rt: HostRuntime) -> Result<(), Fail> {
+    for (text, want) in [
+        (b"int A(); int A();".as_slice(), HeaderFault::Twice(13)),
+        (b"int A(); int @".as_slice(), HeaderFault::Bad(13)),
+        (b"int A(".as_slice(), HeaderFault::Header(6)),
+        (b"const int A();".as_slice(), HeaderFault::Header(11)),
+        (b"int A = 1.0;".as_slice(), HeaderFault::Header(8)),
+        (b"struct s A();".as_slice(), HeaderFault::Header(0)),
+        (b"int A=1; int A=2;".as_slice(), HeaderFault::Twice(13)),
+        (b"int A=1; float A=2;".as_slice(), HeaderFault::Twice(15)),
+        (b"int A(); int A x".as_slice(), HeaderFault::Header(15)),
+        (b"void f(float x = 1;".as_slice(), HeaderFault::Header(18)),
+        (
+            b"#define ENGINE_STRUCTURE_1 effect".as_slice(),
+            HeaderFault::Header(27),
+        ),
+        (
+            b"#define ENGINE_STRUCTURE_0 sql".as_slice(),
+            HeaderFault::Header(27),
+        ),
+        (b" \n\t// none\n".as_slice(), HeaderFault::NoMemory),
+        (b"".as_slice(), HeaderFault::NoMemory),
+    ] {
+        assert_eq!(rt; fault_of(rt.alloc(), text), want, "{text:?}");
+    }
+    Ok(())
+}
+
+/// A header in the shape of the game's own.
+static ENGINE: &[u8] = b"#define ENGINE_NUM_STRUCTURES 10\n\
+#define ENGINE_STRUCTURE_0 effect\n\
+#define ENGINE_STRUCTURE_1 event\n\
+#define ENGINE_STRUCTURE_2 location\n\
+#define ENGINE_STRUCTURE_3 talent\n\
+#define ENGINE_STRUCTURE_4 itemproperty\n\
+#define ENGINE_STRUCTURE_5 sqlquery\n\
+#define ENGINE_STRUCTURE_9 json\n\
+int    TRUE       = 1;\n\
+int    FALSE      = 0;\n\
+int    NO_FILTER  = -1;\n\
+int    ALL_BITS   = 0xFFFFFFFF;\n\
+int    FIRST_BIT  = 0x80000000;\n\
+float  PI         = 3.141592;\n\
+vector ORIGIN     = [0.0,0.0,0.0];\n\
+const string GREETING = \"hail\";\n\
+object NOBODY     = OBJECT_INVALID;\n\
+// 0: a number below nMaxInteger\n\
+int Random(int nMaxInteger);\n\
+void PrintFloat(float fFloat, int nWidth=18, int nDecimals=9);\n\
+void AssignCommand(object oActionSubject,action aActionToAssign);\n\
+void ActionMoveToLocation(location lDestination, int bRun=FALSE);\n\
+object GetNearest(int nType, object oTarget=OBJECT_SELF, int nNth=1, int nSecond=NO_FILTER);\n\
+vector Vector(float x=0.0f, float y=0.0f, float z=0.0f);\n\
+effect EffectBeam(int nBeam, object oFrom, int bMiss=FALSE, vector vMove=[0.0,0.0,0.0]);\n\
+int Filter(int nObjects=0x7f, talent t=({[1,(2;3),4]}), int nMask=-0x10, string s=GREETING);\n\
+/* events */ event EventUserDefined(int nUserDefinedEventNumber);\n\
+void SignalEvent(object oObject, event evToRun);\n\
+json JsonObject(string sKey=\"\", json jValue=JSON_NULL);\n\
+int SqlStep(sqlquery sqlQuery, object = NOBODY);\n";
+
+#[test]
+fn the_games_functions(rt: HostRuntime) -> Result<(), Fail> {
+    let table = table_of(rt.alloc(), ENGINE).ok_or("no header")?;
+    assert_eq!(rt; table.count(), 12);
+    assert_eq!(rt; table.by_name(b"SignalEvent"), Some(9));
+    assert_eq!(rt;
+        function_of(&table, b"SignalEvent"),
+        Some((Ty::Void, Role::Built(39)))
+    );
+    assert_eq!(rt;
+        function_of(&table, b"GetNearest"),
+        Some((Ty::Object, Role::World))
+    );
+    assert_eq!(rt;
+        function_of(&table, b"SqlStep"),
+        Some((Ty::Int, Role::Uncallable))
+    );
+    assert_eq!(rt;
+        function_of(&table, b"EffectBeam"),
+        Some((Ty::Effect, Role::Uncallable))
+    );
+    Ok(())
+}
+
+#[test]
+fn the_games_defaults(rt: HostRuntime) -> Result<(), Fail> {
+    let table = table_of(rt.alloc(), ENGINE).ok_or("no header")?;
+    assert!(rt; is_self(param_of(&table, b"GetNearest", 1)));
+    for (name, i, want) in [
+        (b"PrintFloat".as_slice(), 1, (Ty::Int, Some(18))),
+        (b"GetNearest".as_slice(), 3, (Ty::Int, Some(-1))),
+        (b"EffectBeam".as_slice(), 2, (Ty::Int, Some(0))),
+        (b"EffectBeam".as_slice(), 3, (Ty::Refused, None)),
+        (b"Filter".as_slice(), 0, (Ty::Int, Some(127))),
+        (b"Filter".as_slice(), 2, (Ty::Int, Some(-16))),
+        (b"SignalEvent".as_slice(), 1, (Ty::Event, None)),
+    ] {
+        assert_eq!(rt; int_default(param_of(&table, name, i)), Some(want));
+    }
+    Ok(())
+}
+
+#[test]
+fn the_games_constants(rt: HostRuntime) -> Result<(), Fail> {
+    let table = table_of(rt.alloc(), ENGINE).ok_or("no header")?;
+    assert_eq!(rt; int_of(&table, b"TRUE"), Some(1));
+    assert_eq!(rt; int_of(&table, b"NO_FILTER"), Some(-1));
+    assert_eq!(rt; int_of(&table, b"ALL_BITS"), Some(-1));
+    assert_eq!(rt; int_of(&table, b"FIRST_BIT"), Some(i32::MIN));
+    assert!(rt; table.constant(b"ORIGIN").is_none());
+    Ok(())
+}
+
+#[test]
+fn the_built_in_header(rt: HostRuntime) -> Result<(), Fail> {
+    let table = built_in(rt.alloc())?;
+    assert_eq!(rt; table.count(), 41);
+    assert_eq!(rt; table.by_name(b"GetUserDefinedEventNumber"), Some(40));
+    Ok(())
+}
+
+/// A function with so many parameters.
+fn with_params(alloc: Global, count: usize) -> Result<Vec<u8>, NoMemory> {
+    let mut text = Vec::new(alloc);
+    text.extend_from_slice(b"int A(")?;
+    for i in 0..count {
+        if i > 0 {
+            text.push(b',')?;
+        }
+        text.extend_from_slice(b"int")?;
+    }
+    text.extend_from_slice(b");")?;
+    Ok(text)
+}
+
+#[test]
+fn parameters(rt: HostRuntime) -> Result<(), Fail> {
+    let whole = with_params(rt.alloc(), 255)?;
+    assert_eq!(rt;
+        fault_of(rt.alloc(), whole.as_slice()),
+        HeaderFault::NoMemory
+    );
+    let long = with_params(rt.alloc(), 256)?;
+    assert_eq!(rt;
+        fault_of(rt.alloc(), long.as_slice()),
+        HeaderFault::Header(1025)
+    );
+    Ok(())
+}
