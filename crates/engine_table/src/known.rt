@@ -1,5 +1,5 @@
-ghost use Rattle.std.specs.Prelude.{◌≡◌, ◌==◌, if◌then◌else◌, ◌≤◌, [], ◌∷◌, ◌++◌, length, Some, None};
-ghost use Rattle.std.specs.Prelude.{IfOk, OnOk};
+ghost use Rattle.std.specs.Prelude.{◌≡◌, ◌==◌, if◌then◌else◌, ◌≤◌, [], ◌∷◌, ◌++◌, length};
+ghost use Rattle.std.specs.Prelude.{Some, None, IfOk, OnOk};
 ghost use Rattle.nwq_value.specs.Engine.{constant_named};
 ghost use Rattle.nwq_value.specs.Limits.{parameter_limit};
 ghost use Rattle.engine_table.specs.declared.symbol.Symbol.TheVariants as symbol;
@@ -29,8 +29,8 @@ const MOST_PARAMETERS: usize = 255;
 /// constant, so that without this a header could ask for a thousand times its size.
 const MOST_TEXT: usize = 268_435_456;
 
-/// What the lines so far have made known: the names that are type words, and the table, whose strings
-/// have so many bytes.
+/// What the lines so far have made known: the names that are type words, and the table, whose
+/// strings have so many bytes.
 #[derive(Drop)]
 pub struct Known {
     pub words: Words,
@@ -156,8 +156,8 @@ fn defined(structure: Option<u8>, value: Symbol) -> Option<Declaration>
     }
 }
 
-/// How many brackets are open behind a token of a loose value, inside so many; `None` where it ends the
-/// value. That more are open than a `u32` counts is want of memory.
+/// How many brackets are open behind a token of a loose value, inside so many; `None` where it ends
+/// the value. That more are open than a `u32` counts is want of memory.
 fn brackets(depth: u32, symbol: &Symbol) -> Result<Option<u32>, NoMemory>
     ensures { IfOk result (λ inside. inside ≡ grammar.brackets depth symbol.now) }
 {

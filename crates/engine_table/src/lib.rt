@@ -1,11 +1,11 @@
 //! Engine headers such as nwscript.nss: [`read_header`] reads the text of one into the
-//! [`Table`](nwq_value::Table) of its functions and constants, and [`built_in`] gives the table of the
-//! built-in header.
+//! [`Table`](nwq_value::Table) of its functions and constants, and [`built_in`] gives the table of
+//! the built-in header.
 //!
-//! What a header is stands in `specs/Grammar.antt` as a grammar of lines, with the declaration of each,
-//! and in `specs/Headers.antt` which table a text has, and where it is at fault. The code reads token by
-//! token and keeps only the line that it is in; what a token does there is written in
-//! `specs/Turns.antt`, which no public clause names. See docs/HEADER.md.
+//! What a header is stands in `specs/Grammar.antt` as a grammar of lines, with the declaration of
+//! each, and in `specs/Headers.antt` which table a text has, and where it is at fault. The code
+//! reads token by token and keeps only the line that it is in; what a token does there is written
+//! in `specs/Turns.antt`, which no public clause names. See docs/HEADER.md.
 #![tactic(auto)]
 
 pub mod declaration;

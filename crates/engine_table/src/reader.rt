@@ -8,8 +8,8 @@ ghost use Rattle.nss_lexer.specs.Lexemes.{IsToken};
 ghost use Rattle.nss_lexer.specs.Splitting.{plain};
 ghost use Rattle.engine_table.specs.Symbols.{at as placed, placed_of};
 ghost use Rattle.engine_table.specs.Headers.{HasTable, IsRefused, IsWithin, nothing};
-ghost use Rattle.engine_table.specs.Turns.{Answers, KeepsStage, KeepsTurn, Leads, Follows, known_of};
-ghost use Rattle.engine_table.specs.Turns.{HasTokens, HasTokensUpTo, ended, turn_at};
+ghost use Rattle.engine_table.specs.Turns.{Answers, KeepsStage, KeepsTurn, Leads, Follows};
+ghost use Rattle.engine_table.specs.Turns.{HasTokens, HasTokensUpTo, ended, known_of, turn_at};
 
 use crate::fault::HeaderFault;
 use crate::known::Known;
@@ -23,8 +23,8 @@ use nwq_value::{BUILT_IN, NoMemory, Table};
 use std::alloc::Global;
 use std::mem;
 
-/// A header while it is read: what its lines made known, and how far the line has come that is being
-/// read.
+/// A header while it is read: what its lines made known, and how far the line has come that is
+/// being read.
 #[derive(Drop)]
 pub struct Reader {
     known: Known,
@@ -66,8 +66,8 @@ impl Reader {
     fn take(&mut self, alloc: Global, place: u32, symbol: Symbol) -> Result<(), HeaderFault>
         requires { KeepsStage (known_of self.old.known) self.old.stage }
         ensures keeps { OnOk result (KeepsStage (known_of self.new.known) self.new.stage) }
-        ensures goes { OnOk result (Follows (known_of self.old.known) self.old.stage (placed place symbol)
-            (known_of self.new.known) self.new.stage) }
+        ensures goes { OnOk result (Follows (known_of self.old.known) self.old.stage
+            (placed place symbol) (known_of self.new.known) self.new.stage) }
         ensures fails { IfErr result (λ fault. Answers
             (turn_at (known_of self.old.known) self.old.stage (placed place symbol))
             (Err fault)) }

@@ -1,7 +1,8 @@
 use crate::declaration::{Declaration, Declared, Function};
 use nwq_value::{Const, Text, Ty};
 
-/// What a value is for: a constant, or the default of a function's next parameter, which has this type.
+/// What a value is for: a constant, or the default of a function's next parameter, which has this
+/// type.
 #[derive(Drop)]
 pub enum Owner {
     Constant(Declared),

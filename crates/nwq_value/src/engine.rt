@@ -50,9 +50,9 @@ pub struct Param {
 
 pub type Params = Items<Param>;
 
-/// How calls of a routine are carried out. `Built` carries the number of the engine's own routine in
-/// the built-in header, `Pure` the number of the hook that answers. A world function leaves its call
-/// in the trace; an uncallable routine has a number and nothing else.
+/// How calls of a routine are carried out. `Built` carries the number of the engine's own routine
+/// in the built-in header, `Pure` the number of the hook that answers. A world function leaves its
+/// call in the trace; an uncallable routine has a number and nothing else.
 #[derive(Clone, Copy, Debug, PartialEq, Eq)]
 pub enum Role {
     Built(u16),

@@ -1,6 +1,7 @@
 ghost use Rattle.std.specs.Prelude.{◌≡◌};
 ghost use Rattle.nwq_value.specs.Header.{header_text};
-ghost use Rattle.nwq_value.specs.Roles.{BuiltAsHeader, HeaderAsRole, PureAsHeader, UncallableIsBarred, WorldIsCallable};
+ghost use Rattle.nwq_value.specs.Roles.{BuiltAsHeader, HeaderAsRole, PureAsHeader};
+ghost use Rattle.nwq_value.specs.Roles.{UncallableIsBarred, WorldIsCallable};
 
 /// The built-in header, as a script's header is written.
 pub static BUILT_IN: &[u8] = b"#define ENGINE_NUM_STRUCTURES 4\n\
@@ -60,9 +61,9 @@ pub fn built_in_is_the_header()
     ensures text { BUILT_IN.now ≡ header_text }
 {}
 
-/// What a role tells: `Built` and `Pure` come from the header's row of that number alone, with its name
-/// and its types, and each row gives its role; a world function has only values that a call can pass and
-/// give, an uncallable one has not.
+/// What a role tells: `Built` and `Pure` come from the header's row of that number alone, with its
+/// name and its types, and each row gives its role; a world function has only values that a call can
+/// pass and give, an uncallable one has not.
 pub fn roles_tell()
     ensures built { BuiltAsHeader }
     ensures hooks { PureAsHeader }

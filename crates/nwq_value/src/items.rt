@@ -1,4 +1,5 @@
-ghost use Rattle.std.specs.Prelude.{◌≡◌, ◌<◌, ◌↔◌, [], ◌∷◌, ◌++◌, length, slice_get, slice_set, take, IsTrue, OnOk, OnErr, IfOk};
+ghost use Rattle.std.specs.Prelude.{◌≡◌, ◌<◌, ◌↔◌, [], ◌∷◌, ◌++◌, length, slice_get, slice_set};
+ghost use Rattle.std.specs.Prelude.{IsTrue, OnOk, OnErr, IfOk};
 ghost use Rattle.std.specs.Option.{option_copied};
 
 use crate::memory::NoMemory;

@@ -1,12 +1,14 @@
 ghost use Rattle.std.specs.Prelude.{◌≡◌, map};
 ghost use Rattle.std.specs.List.{list_any};
-ghost use Rattle.nwq_value.specs.Roles.{engine_role, has_signature, header_signatures, is_barred_type, role_of_row, role_without_row, ty_eq, tys_eq, types_of};
+ghost use Rattle.nwq_value.specs.Roles.{engine_role, has_signature, header_signatures, is_barred_type};
+ghost use Rattle.nwq_value.specs.Roles.{role_of_row, role_without_row, ty_eq, tys_eq, types_of};
 ghost use Rattle.nwq_value.specs.Rows.{row_signature};
 
 use crate::engine::{Param, Role};
 use crate::value::Ty;
 
-/// A function of the built-in header, with the role of its row in the engine's table, where it has one.
+/// A function of the built-in header, with the role of its row in the engine's table, where it has
+/// one.
 struct Row {
     name: &'static [u8],
     gives: Ty,
@@ -295,7 +297,8 @@ fn has_signature(name: &[u8], gives: Ty, params: &[Param], row: &Row) -> bool
 /// The role of the first row with this signature.
 #[tactic(auto, unfolding(crate::specs::Roles::role_of_row))]
 fn role_in(rows: &[Row], name: &[u8], gives: Ty, params: &[Param]) -> Option<Role>
-    ensures { result ≡ role_of_row (map row_signature rows.now) name.now gives (types_of params.now) }
+    ensures { result
+        ≡ role_of_row (map row_signature rows.now) name.now gives (types_of params.now) }
 {
     match rows {
         [] => None,
@@ -345,9 +348,9 @@ fn plain_role(gives: Ty, params: &[Param]) -> Role
     }
 }
 
-/// The role of a routine with this name, result and parameters, which depends on their types alone: that
-/// of the engine's row where the built-in header has this very signature, else `Uncallable` where a type
-/// is refused or an action, and else `World`.
+/// The role of a routine with this name, result and parameters, which depends on their types alone:
+/// that of the engine's row where the built-in header has this very signature, else `Uncallable`
+/// where a type is refused or an action, and else `World`.
 #[tactic(auto, unfolding(crate::specs::Roles::engine_role))]
 pub fn role_of(name: &[u8], gives: Ty, params: &[Param]) -> Role
     ensures role { result ≡ engine_role name.now gives (types_of params.now) }

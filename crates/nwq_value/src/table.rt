@@ -1,6 +1,9 @@
-ghost use Rattle.std.specs.Prelude.{◌≡◌, ◌<◌, ◌≤◌, ◌∷◌, [], ◌++◌, None, Some, length, slice_get, IfSome, OnOk, OnErr};
+ghost use Rattle.std.specs.Prelude.{◌≡◌, ◌<◌, ◌≤◌, ◌∷◌, [], ◌++◌, None, Some, length, slice_get};
+ghost use Rattle.std.specs.Prelude.{IfSome, OnOk, OnErr};
 ghost use Rattle.std.specs.Option.{option_copied};
-ghost use Rattle.nwq_value.specs.Engine.{routine_named, constant_named, AreParams, ConstantIsOfName, IsNoStruct, IsRoutine, IsTable, NoConstantNoName, NoNumberNoName, NumberIsOfName};
+ghost use Rattle.nwq_value.specs.Engine.{routine_named, constant_named, AreParams, IsNoStruct};
+ghost use Rattle.nwq_value.specs.Engine.{IsRoutine, IsTable, ConstantIsOfName, NoConstantNoName};
+ghost use Rattle.nwq_value.specs.Engine.{NoNumberNoName, NumberIsOfName};
 ghost use Rattle.nwq_value.specs.Limits.{parameter_limit, routine_limit};
 ghost use Rattle.nwq_value.specs.Roles.{engine_role, types_of};
 
@@ -13,9 +16,9 @@ use std::marker::Model;
 
 /// The routines and the named constants of a header.
 ///
-/// Every table keeps this: no two of its names are equal, there are at most 65,535 routines, and each
-/// routine has at most 255 parameters, mentions no struct type, has defaults of its parameters' types and
-/// the role that its name and types give it.
+/// Every table keeps this: no two of its names are equal, there are at most 65,535 routines, and
+/// each routine has at most 255 parameters, mentions no struct type, has defaults of its parameters'
+/// types and the role that its name and types give it.
 #[derive(Drop)]
 pub struct Table {
     alloc: Global,
@@ -55,8 +58,10 @@ impl Table {
         requires few { length routine.params ≤ parameter_limit }
         requires result_type { IsNoStruct routine.result }
         requires param_types { AreParams routine.params }
-        requires role { routine.role ≡ engine_role routine.name routine.result (types_of routine.params) }
-        ensures ok { OnOk result (self.new ≡ record self.old { routines = self.old.routines ++ routine ∷ [] }) }
+        requires role { routine.role
+            ≡ engine_role routine.name routine.result (types_of routine.params) }
+        ensures ok { OnOk result
+            (self.new ≡ record self.old { routines = self.old.routines ++ routine ∷ [] }) }
         ensures err { OnErr result (self.new ≡ self.old) }
     {
         let name = Vec::from_slice(self.alloc, routine.name.bytes())?;
@@ -64,7 +69,7 @@ impl Table {
         Ok(())
     }
 
-    /// Puts a constant under a name last. After `NoMemory` it is dropped and the table is as before.
+    /// Puts a constant under a name last. After `NoMemory` it is dropped, the table as before.
     pub fn define(&mut self, name: Text, value: Const) -> Result<(), NoMemory>
         requires no_routine { routine_named name self.old.routines ≡ None }
         requires no_constant { constant_named name self.old.constants ≡ None }
@@ -90,7 +95,8 @@ impl Table {
     pub fn routine(&self, n: u16) -> Option<&Routine>
         ensures entry { option_copied result ≡ slice_get self.now.routines n }
         ensures kept { IfSome result (λ routine. IsRoutine routine.now) }
-        ensures number { IfSome result (λ routine. routine_named routine.now.name self.now.routines ≡ Some n) }
+        ensures number { IfSome result
+            (λ routine. routine_named routine.now.name self.now.routines ≡ Some n) }
     {
         match self.routines.get_index(n as usize) {
             Some((_, routine)) => Some(routine),

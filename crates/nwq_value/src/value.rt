@@ -6,8 +6,8 @@ use crate::memory::NoMemory;
 use crate::text::Text;
 use std::alloc::Global;
 
-/// A type of the language. `Struct` carries the number of a struct of the unit. `Refused` stands for
-/// every type whose values are left out: float, vector, location, talent and their kin.
+/// A type of the language. `Struct` carries the number of a struct of the unit. `Refused` stands
+/// for every type whose values are left out: float, vector, location, talent and their kin.
 #[derive(Clone, Copy, Debug, PartialEq, Eq)]
 pub enum Ty {
     Void,
@@ -29,7 +29,8 @@ pub type Args = Items<Value>;
 
 pub type Tys = Items<Ty>;
 
-/// An effect: the number of the routine that made it, and that routine's integer arguments in order.
+/// An effect: the number of the routine that made it, and that routine's integer arguments in
+/// order.
 #[derive(Drop)]
 pub struct Effect {
     pub routine: u16,
@@ -109,8 +110,8 @@ impl Value {
     }
 }
 
-/// The starting value of a type that has one: 0, the empty text, the invalid object, the empty effect,
-/// the event of number 0.
+/// The starting value of a type that has one: 0, the empty text, the invalid object, the empty
+/// effect, the event of number 0.
 pub fn start_of(alloc: Global, ty: Ty) -> Value
     requires starts { IsSome (start_value ty) }
     ensures value { start_value ty ≡ Some result }
