@@ -76,6 +76,10 @@ leads_well ops at (Jnz offset) = begins ops (jump_place at offset)
 leads_well ops at (StoreState globals locals) = begins ops (resume_place at)
 leads_well ops at _ = true
 
+-- Each instruction of a file leads to beginnings of instructions.
+abbrev pub AllLeadWell : List PlainOp → Type 0
+AllLeadWell ops = (at : ℕ) (op : PlainOp) → op_at ops at ≡ Some op → leads_well ops at op ≡ true
+
 -- The instruction with this index begins at this place and doesn't lead well, and each one before it does.
 pub record IsFirstBad (ops : List PlainOp) (index place : ℕ) : Type 0 where
   pub op : PlainOp
@@ -86,5 +90,5 @@ pub record IsFirstBad (ops : List PlainOp) (index place : ℕ) : Type 0 where
 -- The list is that of a file: each instruction has a spelling and leads to beginnings of instructions, and the file is no larger than a file may be.
 pub record IsCode (ops : List PlainOp) : Type 0 where
   pub each : AllByRecursion IsOp ops
-  pub leads : (at : ℕ) (op : PlainOp) → op_at ops at ≡ Some op → leads_well ops at op ≡ true
+  pub leads : AllLeadWell ops
   pub bounded : file_length ops ≤ 16777216

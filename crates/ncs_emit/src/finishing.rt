@@ -1,11 +1,11 @@
 //! The file of labelled code, once all of it is there.
 
-ghost use Rattle.std.specs.Prelude.{◌≡◌, ◌+◌, ◌-ℤ◌, ◌^◌, ◌<◌, ◌≤◌, ◌++◌, ℕ, pos, length, vec_len, replicate, unwrap_or, slice_index_or, None, IfOk, OnOk};
+ghost use Rattle.std.specs.Prelude.{◌≡◌, ◌+◌, ◌^◌, ◌<◌, ◌≤◌, ◌++◌, ℕ, length, vec_len, replicate, unwrap_or, slice_index_or, None, IfOk, OnOk};
 ghost use Rattle.std.specs.List.{AllByRecursion};
 ghost use Rattle.ncs_code.specs.Plain.{plain};
 ghost use Rattle.ncs_code.specs.Spelling.{spelling};
-ghost use Rattle.ncs_code.specs.File.{spellings};
-ghost use Rattle.ncs_emit.specs.Labelled.{leap, program};
+ghost use Rattle.ncs_code.specs.File.{distance, spellings};
+ghost use Rattle.ncs_emit.specs.Labelled.{jump_over, program};
 ghost use Rattle.ncs_emit.specs.Emitting.{HasLabels, KeptFits, kept_place, kept_total, lines_of};
 
 use crate::jump::Jump;
@@ -25,7 +25,7 @@ fn no_places(alloc: Global, labels: usize) -> Result<Vec<Option<u64>>, NoMemory>
     Ok(places)
 }
 
-/// Where the first mark of each label stands, and how large the file is.
+/// Where each label stands, and how large the file is.
 pub(crate) fn places_of(
     alloc: Global,
     kept: &[Kept],
@@ -41,9 +41,9 @@ pub(crate) fn places_of(
     let mut at = HEADER_BYTES as u64;
     for line in kept {
         match *line {
-            Kept::Op(size) => at += size as u64,
-            Kept::Leap(_, _) => at += 6,
-            Kept::Mark(label) => {
+            Kept::Instruction(size) => at += size as u64,
+            Kept::Jump(_, _) => at += 6,
+            Kept::Label(label) => {
                 let place = &mut places[label as usize];
                 if place.is_none() {
                     *place = Some(at);
@@ -56,7 +56,7 @@ pub(crate) fn places_of(
 
 /// The jump over a distance.
 fn jump_over(jump: Jump, distance: i32) -> Op<'static>
-    ensures { plain result ≡ leap jump distance }
+    ensures { plain result ≡ jump_over jump distance }
 {
     match jump {
         Jump::Jmp => Op::Jmp { offset: distance },
@@ -70,7 +70,7 @@ fn jump_over(jump: Jump, distance: i32) -> Op<'static>
 fn put_jump(file: &mut Vec<u8>, jump: Jump, place: u64) -> Result<(), NoMemory>
     requires long { length file.old.items ≤ FILE_BYTES }
     requires near { place ≤ FILE_BYTES }
-    ensures { OnOk result (file.new.items ≡ file.old.items ++ spelling (leap jump (pos place -ℤ pos (length file.old.items)))) }
+    ensures { OnOk result (file.new.items ≡ file.old.items ++ spelling (jump_over jump (distance (length file.old.items) place))) }
 {
     let distance = place as i32 - file.len() as i32;
     jump_over(jump, distance).encode(file)
@@ -94,16 +94,16 @@ pub(crate) fn put_lines(
     let mut rest = bytes;
     for line in kept {
         match *line {
-            Kept::Op(count) => {
+            Kept::Instruction(count) => {
                 let (spelled, others) = rest.split_at(count as usize);
                 file.extend_from_slice(spelled)?;
                 rest = others;
             }
-            Kept::Leap(jump, label) => {
+            Kept::Jump(jump, label) => {
                 let place = places[label as usize].unwrap_or(size);
                 put_jump(file, jump, place)?;
             }
-            Kept::Mark(_) => {}
+            Kept::Label(_) => {}
         }
     }
     Ok(())

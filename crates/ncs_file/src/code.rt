@@ -1,6 +1,6 @@
 ghost use Rattle.std.specs.Prelude.{◌≡◌, ◌≤◌, List, length, IfOk, IfErr, MatchOption, MatchResult, None, Some};
 ghost use Rattle.ncs_code.specs.Plain.{PlainOp, plain};
-ghost use Rattle.ncs_code.specs.Spelling.{spelling};
+ghost use Rattle.ncs_code.specs.Spelling.{op_size};
 ghost use Rattle.ncs_code.specs.File.{IsCode, file_bytes, op_at};
 ghost use Rattle.ncs_file.specs.Loading.{Fails};
 ghost use Rattle.ncs_file.specs.declared.fault.LoadFault.TheVariants.{NoMemory};
@@ -66,7 +66,7 @@ pub fn store(code: &Code) -> &[u8]
 impl Code {
     /// The instruction that begins at a place, and how many bytes it takes.
     pub fn op_at(&self, at: u32) -> Option<(Op<'_>, u32)>
-        ensures { MatchOption result (op_at self.now at ≡ None) (λ x. (op_at self.now at ≡ Some (plain x.0)) × (x.1 ≡ length (spelling (plain x.0)))) }
+        ensures { MatchOption result (op_at self.now at ≡ None) (λ x. (op_at self.now at ≡ Some (plain x.0)) × (x.1 ≡ op_size (plain x.0))) }
     {
         if !is_marked(self.starts.as_slice(), at as usize) {
             return None;
