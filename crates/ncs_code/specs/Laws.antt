@@ -1,8 +1,8 @@
 -- What holds of instructions and of lists of them by themselves.
-use Rattle.std.specs.Prelude.{◌≡◌, ◌≤◌, ◌<◌, ◌+◌, List, ℕ, ◌∷◌, ◌++◌, length, None, Some, slice_get}
+use Rattle.std.specs.Prelude.{◌≡◌, ◌≤◌, ◌+◌, List, ℕ, ◌∷◌, ◌++◌, length, None, Some, slice_get, IsTrue}
 use Rattle.std.specs.List.{AllByRecursion}
 use Rattle.ncs_code.specs.Plain.{PlainOp}
-use Rattle.ncs_code.specs.Spelling.{spelling, op_size, opcode, IsOp, fault_of}
+use Rattle.ncs_code.specs.Spelling.{spelling, op_size, is_opcode, opcode, IsOp, fault_of}
 use Rattle.ncs_code.specs.Reading.{op_of, ops_of}
 use Rattle.ncs_code.specs.File.{spellings, ops_size, file_bytes, file_length, placed, op_at, jump_place, distance, IsFirstBad}
 use Rattle.ncs_code.specs.Names.{name_of}
@@ -78,6 +78,9 @@ abbrev pub DistanceLeads : Type 0
 DistanceLeads = (at place : ℕ) → jump_place at (distance at place) ≡ place
 
 -- ---- names
+
+abbrev pub HasOpcode : Type 0
+HasOpcode = (op : PlainOp) → IsTrue (is_opcode (opcode op))
 
 -- Instructions with different opcodes have different names.
 abbrev pub OneName : Type 0

@@ -1,7 +1,7 @@
 -- The names of the instructions.
-use Rattle.std.specs.Prelude.{◌≡◌, ℕ, List, [], ◌∷◌, codes, slice_index_or, Option, None, Some}
+use Rattle.std.specs.Prelude.{◌≡◌, ◌≢◌, ℕ, List, [], ◌∷◌, codes, slice_index_or, IsTrue, Option, None, Some}
 use Rattle.ncs_code.specs.Plain.{PlainOp}
-use Rattle.ncs_code.specs.Spelling.{opcode}
+use Rattle.ncs_code.specs.Spelling.{is_opcode, opcode}
 
 -- by opcode, and empty where there is none
 abbrev pub names : List (List ℕ)
@@ -54,14 +54,14 @@ names =
     ∷ codes "NOP"
     ∷ []
 
+-- the name of an opcode, and of an instruction
+abbrev pub name_at : ℕ → List ℕ
+name_at code = slice_index_or names code []
+
 abbrev pub name_of : PlainOp → List ℕ
-name_of op = slice_index_or names (opcode op) []
+name_of op = name_at (opcode op)
 
--- an opcode that has this name
-abbrev pub HasName : List ℕ → ℕ → Type 0
-HasName name code = (op : PlainOp) × (opcode op ≡ code) × (name_of op ≡ name)
-
--- whether instructions have this name, and with which opcode
+-- which opcode has this name, if one has it
 abbrev pub IsNamed : List ℕ → Option ℕ → Type 0
-IsNamed name None = (op : PlainOp) → name_of op ≡ name → ⊥
-IsNamed name (Some code) = HasName name code
+IsNamed name (Some code) = IsTrue (is_opcode code) × (name_at code ≡ name)
+IsNamed name None = (code : ℕ) → IsTrue (is_opcode code) → name_at code ≢ name

@@ -1,4 +1,4 @@
-ghost use Rattle.ncs_code.specs.Laws.{BegunIsPlaced, BegunStands, DistanceLeads, FileLength, ListedAgain, NoneBeginsAnother, OneFirstBad, OneName, PlacedBegins, ReadAgain, SizeIsLength, SizeSome, SizesAdd, SizesAreLengths, SpelledIsSound, StoodBegins};
+ghost use Rattle.ncs_code.specs.Laws.{BegunIsPlaced, BegunStands, DistanceLeads, FileLength, HasOpcode, ListedAgain, NoneBeginsAnother, OneFirstBad, OneName, PlacedBegins, ReadAgain, SizeIsLength, SizeSome, SizesAdd, SizesAreLengths, SpelledIsSound, StoodBegins};
 
 /// No spelling begins another, where an instruction is spelled there is no fault, and what is spelled
 /// in a row is listed again.
@@ -36,7 +36,8 @@ pub fn distance_leads()
     ensures { DistanceLeads }
 {}
 
-/// Instructions with different opcodes have different names.
+/// Each instruction has one of the opcodes, and those have different names.
 pub fn one_name()
-    ensures { OneName }
+    ensures code { HasOpcode }
+    ensures one { OneName }
 {}

@@ -1,62 +1,68 @@
 //! Opcodes, type bytes and names of instructions.
 
-ghost use Rattle.std.specs.Prelude.{◌≡◌, ◌∷◌, [], take};
+ghost use Rattle.std.specs.Prelude.{◌≡◌, ◌≢◌, ◌≤◌, ◌∷◌, ◌↔◌, [], take, IsTrue};
 ghost use Rattle.ncs_code.specs.Plain.{Const, plain, plain_lit};
-ghost use Rattle.ncs_code.specs.Spelling.{opcode, spelling, type_byte};
-ghost use Rattle.ncs_code.specs.Names.{IsNamed, name_of};
+ghost use Rattle.ncs_code.specs.Spelling.{is_opcode, opcode, spelling, type_byte};
+ghost use Rattle.ncs_code.specs.Names.{IsNamed, name_at, name_of};
 
 use crate::instruction::{Lit, Op};
 use crate::opcode::*;
 
-/// By opcode, and empty where there is none.
-const NAMES: [&str; 46] = [
-    "",
-    "CPDOWNSP",
-    "RSADD",
-    "CPTOPSP",
-    "CONST",
-    "ACTION",
-    "LOGAND",
-    "LOGOR",
-    "INCOR",
-    "EXCOR",
-    "BOOLAND",
-    "EQUAL",
-    "NEQUAL",
-    "GEQ",
-    "GT",
-    "LT",
-    "LEQ",
-    "SHLEFT",
-    "SHRIGHT",
-    "USHRIGHT",
-    "ADD",
-    "SUB",
-    "MUL",
-    "DIV",
-    "MOD",
-    "NEG",
-    "COMP",
-    "MOVSP",
-    "",
-    "JMP",
-    "JSR",
-    "JZ",
-    "RETN",
-    "DESTRUCT",
-    "NOT",
-    "DECISP",
-    "INCISP",
-    "JNZ",
-    "CPDOWNBP",
-    "CPTOPBP",
-    "DECIBP",
-    "INCIBP",
-    "SAVEBP",
-    "RESTOREBP",
-    "STORE_STATE",
-    "NOP",
-];
+/// The one list of names.
+fn name_at(code: u8) -> &'static str
+    requires first { 1 ≤ code }
+    requires last { code ≤ 0x2D }
+    requires gap { code ≢ 0x1C }
+    ensures { result.now ≡ name_at code }
+{
+    match code {
+        CPDOWNSP => "CPDOWNSP",
+        RSADD => "RSADD",
+        CPTOPSP => "CPTOPSP",
+        CONST => "CONST",
+        ACTION => "ACTION",
+        LOGAND => "LOGAND",
+        LOGOR => "LOGOR",
+        INCOR => "INCOR",
+        EXCOR => "EXCOR",
+        BOOLAND => "BOOLAND",
+        EQUAL => "EQUAL",
+        NEQUAL => "NEQUAL",
+        GEQ => "GEQ",
+        GT => "GT",
+        LT => "LT",
+        LEQ => "LEQ",
+        SHLEFT => "SHLEFT",
+        SHRIGHT => "SHRIGHT",
+        USHRIGHT => "USHRIGHT",
+        ADD => "ADD",
+        SUB => "SUB",
+        MUL => "MUL",
+        DIV => "DIV",
+        MOD => "MOD",
+        NEG => "NEG",
+        COMP => "COMP",
+        MOVSP => "MOVSP",
+        JMP => "JMP",
+        JSR => "JSR",
+        JZ => "JZ",
+        RETN => "RETN",
+        DESTRUCT => "DESTRUCT",
+        NOT => "NOT",
+        DECISP => "DECISP",
+        INCISP => "INCISP",
+        JNZ => "JNZ",
+        CPDOWNBP => "CPDOWNBP",
+        CPTOPBP => "CPTOPBP",
+        DECIBP => "DECIBP",
+        INCIBP => "INCIBP",
+        SAVEBP => "SAVEBP",
+        RESTOREBP => "RESTOREBP",
+        STORE_STATE => "STORE_STATE",
+        NOP => "NOP",
+        _ => unreachable!(),
+    }
+}
 
 fn kind_of_lit(lit: Lit<'_>) -> u8
     ensures { 0x04 ∷ result ∷ [] ≡ take 2 (spelling (Const (plain_lit lit.entry))) }
@@ -178,17 +184,27 @@ impl Op<'_> {
     pub fn name(&self) -> &'static str
         ensures { result.now ≡ name_of (plain self.now) }
     {
-        NAMES[self.opcode() as usize]
+        name_at(self.opcode())
     }
 }
 
+/// Is this an opcode whose instructions have this name?
+fn has_name(code: u8, name: &[u8]) -> bool
+    requires first { 1 ≤ code }
+    requires last { code ≤ 0x2D }
+    ensures { IsTrue result ↔ (IsTrue (is_opcode code) × (name_at code ≡ name.now)) }
+{
+    code != NO_OPCODE && name_at(code).as_bytes() == name
+}
+
 /// The opcode of the instructions with this name.
+
 pub fn opcode_named(name: &[u8]) -> Option<u8>
     ensures { IsNamed name.now result }
 {
-    for code in 1..NAMES.len() {
-        if code != NO_OPCODE as usize && NAMES[code].as_bytes() == name {
-            return Some(code as u8);
+    for code in CPDOWNSP..=NOP {
+        if has_name(code, name) {
+            return Some(code);
         }
     }
     None

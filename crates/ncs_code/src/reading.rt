@@ -182,7 +182,9 @@ fn op_of(code: u8, kind: u8, args: &[u8]) -> Op<'_>
 fn decode_prefix(bytes: &[u8]) -> Result<(Op<'_>, u32), CodeFault>
     requires some { 0 < length bytes.now }
     requires bounded { length bytes.now ≤ FILE_BYTES }
-    ensures found { IfOk result (λ x. Spells (plain x.0) x.1 bytes.now) }
+    ensures is_op { IfOk result (λ x. IsOp (plain x.0)) }
+    ensures prefix { IfOk result (λ x. bytes.now ≡ spelling (plain x.0) ++ drop x.1 bytes.now) }
+    ensures length { IfOk result (λ x. x.1 ≡ length (spelling (plain x.0))) }
     ensures fault { MatchResult result (λ _. fault_of bytes.now ≡ None) (λ fault. fault_of bytes.now ≡ Some fault) }
 {
     let code = bytes[0];

@@ -1,6 +1,6 @@
 ghost use Rattle.std.specs.Prelude.{◌≡◌, ◌+◌, ◌<◌, ◌^◌, ◌∷◌, ◌++◌, [], length, OnOk, OnErr, All};
 ghost use Rattle.ncs_code.specs.Plain.{plain, plain_lit};
-ghost use Rattle.ncs_code.specs.Spelling.{Fits, HasRow, HasTextSize, IsByte, LitFits, spelling, lit_spelling, run_size, signed, two, four};
+ghost use Rattle.ncs_code.specs.Spelling.{Fits, HasRow, HasTextSize, IsByte, LitFits, spelling, lit_spelling, literal_size, op_size, run_size, signed, two, four};
 
 use crate::instruction::{Lit, Op};
 use crate::opcode::*;
