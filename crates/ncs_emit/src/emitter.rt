@@ -11,7 +11,7 @@ use crate::fault::EmitFault;
 use crate::finishing::{places_of, put_lines};
 use crate::jump::Jump;
 use crate::line::Kept;
-use ncs_code::{FILE_BYTES, Op, header};
+use ncs_code::{FILE_BYTES, Op, header, one_spelling, sizes_are_lengths};
 use nwq_value::NoMemory;
 use std::alloc::Global;
 use std::marker::Model;
@@ -57,7 +57,7 @@ impl Emitter {
     }
 
     /// A new label, which is placed nowhere. After `NoMemory` the emitter is as before.
-    #[tactic(auto, using(crate::proofs::Counting::kept_label, crate::proofs::Counting::kept_room, crate::proofs::Counting::missing_few))]
+    #[tactic(auto, using(crate::proofs::Counting::kept_made, crate::proofs::Counting::kept_room, crate::proofs::Counting::missing_few))]
     pub fn label(&mut self) -> Result<u32, NoMemory>
         requires { self.old.labels + 1 < 2 ^ 32 }
         ensures number { IfOk result (λ label. label ≡ self.old.labels) }
@@ -73,7 +73,7 @@ impl Emitter {
     }
 
     /// Places a label: it stands behind all lines.
-    #[tactic(auto, using(crate::proofs::Counting::kept_mark, crate::proofs::Counting::missing_some, crate::proofs::Lines::lines_and_mark))]
+    #[tactic(auto, using(crate::proofs::Counting::kept_placed, crate::proofs::Counting::missing_some, crate::proofs::Lines::lines_and_label))]
     pub fn place(&mut self, label: u32)
         requires made { label < self.old.labels }
         requires unplaced { placements self.old.lines label ≡ 0 }
@@ -91,6 +91,8 @@ impl Emitter {
         ensures ok { OnOk result (self.new ≡ record self.old { lines = self.old.lines ++ Instruction (plain op.now) ∷ [] }) }
         ensures err { OnErr result (self.new ≡ self.old) }
     {
+        one_spelling();
+        sizes_are_lengths();
         self.kept.reserve(self.missing as usize + 1)?;
         op.encode(&mut self.bytes)?;
         self.kept.push(Kept::Instruction(op.size())).unwrap();
@@ -98,7 +100,7 @@ impl Emitter {
     }
 
     /// Puts a jump to a label last. After `NoMemory` the emitter is as before.
-    #[tactic(auto, using(crate::proofs::Counting::kept_leap, crate::proofs::Counting::kept_room, crate::proofs::Lines::lines_and_leap))]
+    #[tactic(auto, using(crate::proofs::Counting::kept_jump, crate::proofs::Counting::kept_room, crate::proofs::Lines::lines_and_jump))]
     pub fn jump(&mut self, jump: Jump, label: u32) -> Result<(), NoMemory>
         requires { label < self.old.labels }
         ensures ok { OnOk result (self.new ≡ record self.old { lines = self.old.lines ++ JumpTo jump label ∷ [] }) }
@@ -124,6 +126,7 @@ impl Emitter {
         ensures bounded { OnOk result (file_length (program self.lines) ≤ FILE_BYTES) }
         ensures fault { IfErr result (λ fault. Fails fault self.lines) }
     {
+        sizes_are_lengths();
         let labels = self.placed.len();
         let (places, size) = places_of(alloc, self.kept.as_slice(), labels)?;
         if size > FILE_BYTES as u64 {

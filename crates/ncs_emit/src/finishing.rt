@@ -10,7 +10,7 @@ ghost use Rattle.ncs_emit.specs.Emitting.{HasLabels, KeptFits, kept_place, kept_
 
 use crate::jump::Jump;
 use crate::line::Kept;
-use ncs_code::{FILE_BYTES, HEADER_BYTES, Op};
+use ncs_code::{FILE_BYTES, HEADER_BYTES, Op, sizes_are_lengths};
 use nwq_value::NoMemory;
 use std::alloc::Global;
 
@@ -91,6 +91,7 @@ pub(crate) fn put_lines(
     requires placed { (label : ℕ) → unwrap_or (slice_index_or places.now label None) size ≡ kept_place 13 kept.now label }
     ensures { OnOk result (file.new.items ≡ file.old.items ++ spellings (program (lines_of bytes.now kept.now))) }
 {
+    sizes_are_lengths();
     let mut rest = bytes;
     for line in kept {
         match *line {
