@@ -6,7 +6,7 @@ use Rattle.ncs_code.specs.Plain.{PlainOp}
 use Rattle.ncs_code.specs.Spelling.{op_size}
 use Rattle.ncs_code.specs.File.{ops_size, file_length, placed_from, placed, op_from, op_at, jump_place, distance, leads_well, IsFirstBad}
 use Rattle.ncs_code.specs.Laws.{StandsBehind}
-use Rattle.ncs_code.proofs.Sizes.{size_some}
+use Rattle.ncs_code.proofs.Sizes.{size_some, sizes_add}
 
 some_is : (x y : PlainOp) → Some x ≡ Some y → x ≡ y
 some_is x y same = cc
@@ -59,6 +59,31 @@ unfolding op_at
 begun_stands ops at op is =
     let s = begun 13 ops at op is in
     record { before = s.before; behind = s.behind; both = s.both; place = s.place }
+
+-- ---- between others
+
+pub begun_lies : (ops : List PlainOp) (at : ℕ) (op : PlainOp) → op_at ops at ≡ Some op → (13 ≤ at) × (at + op_size op ≤ file_length ops)
+begun_lies ops at op is =
+    let s = begun_stands ops at op is in
+    (omega (arith, s.place), omega (arith, s.place, ap ops_size s.both, sizes_add s.before (op ∷ s.behind)))
+
+heads : (x y : PlainOp) (xs ys : List PlainOp) → x ∷ xs ≡ y ∷ ys → (x ≡ y) × (xs ≡ ys)
+heads x y xs ys same = (cc, cc)
+
+-- of two instructions that stand in one list the one that stands further is behind the whole other
+further : (xs ys : List PlainOp) (x y : PlainOp) (vs ws : List PlainOp) → xs ++ x ∷ vs ≡ ys ++ y ∷ ws → ops_size xs < ops_size ys → ops_size xs + op_size x ≤ ops_size ys
+further [] [] x y vs ws same lt = absurd (omega (arith, lt))
+further [] (z ∷ ys) x y vs ws same lt = omega (arith, ap op_size (heads x z vs (ys ++ y ∷ ws) same).0)
+further (z ∷ xs) [] x y vs ws same lt = absurd (omega (arith, lt))
+further (z ∷ xs) (w ∷ ys) x y vs ws same lt =
+    let h = heads z w (xs ++ x ∷ vs) (ys ++ y ∷ ws) same in
+    omega (arith, ap op_size h.0, further xs ys x y vs ws h.1 (omega (arith, ap op_size h.0, lt)))
+
+pub ops_apart : (ops : List PlainOp) (at place : ℕ) (op other : PlainOp) → op_at ops at ≡ Some op → op_at ops place ≡ Some other → at < place → at + op_size op ≤ place
+ops_apart ops at place op other is there lt =
+    let s = begun_stands ops at op is in
+    let t = begun_stands ops place other there in
+    omega (arith, s.place, t.place, further s.before t.before op other s.behind t.behind (sym s.both ∙ t.both) (omega (arith, s.place, t.place, lt)))
 
 -- ---- the list of places
 

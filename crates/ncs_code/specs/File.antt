@@ -1,6 +1,7 @@
 -- A whole file of bytecode, as the list of its instructions.
 use Rattle.std.specs.Prelude.{◌≡◌, ℕ, ℤ, pos, negsuc, suc, ◌+◌, ◌-◌, ◌-ℤ◌, ◌<◌, ◌≤◌, List, [], ◌∷◌, ◌++◌, Bool, true, false, ◌==◌, if◌then◌else◌, Option, Some, None, is_some, slice_get}
 use Rattle.std.specs.List.{flat_map, AllByRecursion}
+use Rattle.nwq_value.specs.Limits.{file_limit}
 use Rattle.ncs_code.specs.Plain.{PlainOp, Jmp, Jsr, Jz, Jnz, StoreState}
 use Rattle.ncs_code.specs.Spelling.{spelling, op_size, four, IsOp}
 
@@ -91,4 +92,4 @@ pub record IsFirstBad (ops : List PlainOp) (index place : ℕ) : Type 0 where
 pub record IsCode (ops : List PlainOp) : Type 0 where
   pub each : AllByRecursion IsOp ops
   pub leads : AllLeadWell ops
-  pub bounded : file_length ops ≤ 16777216
+  pub bounded : file_length ops ≤ file_limit

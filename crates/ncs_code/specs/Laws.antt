@@ -1,10 +1,10 @@
 -- What holds of instructions and of lists of them by themselves.
-use Rattle.std.specs.Prelude.{◌≡◌, ◌≤◌, ◌+◌, List, ℕ, ◌∷◌, ◌++◌, length, None, Some, slice_get, IsTrue}
+use Rattle.std.specs.Prelude.{◌≡◌, ◌≤◌, ◌<◌, ◌+◌, List, ℕ, ◌∷◌, ◌++◌, length, None, Some, slice_get, IsTrue}
 use Rattle.std.specs.List.{AllByRecursion}
 use Rattle.ncs_code.specs.Plain.{PlainOp}
 use Rattle.ncs_code.specs.Spelling.{spelling, op_size, is_opcode, opcode, IsOp, fault_of}
 use Rattle.ncs_code.specs.Reading.{op_of, ops_of}
-use Rattle.ncs_code.specs.File.{spellings, ops_size, file_bytes, file_length, placed, op_at, jump_place, distance, IsFirstBad}
+use Rattle.ncs_code.specs.File.{header_size, spellings, ops_size, file_bytes, file_length, placed, op_at, jump_place, distance, IsFirstBad}
 use Rattle.ncs_code.specs.Names.{name_of}
 
 -- ---- spellings
@@ -25,6 +25,12 @@ SpelledIsSound = (op : PlainOp) (rest : List ℕ) → IsOp op → fault_of (spel
 abbrev pub ListedAgain : Type 0
 ListedAgain = (n : ℕ) (ops : List PlainOp) → AllByRecursion IsOp ops → length (spellings ops) ≤ n → ops_of n (spellings ops) ≡ ops
 
+pub record SpellingLaws : Type 0 where
+  pub again : ReadAgain
+  pub none : NoneBeginsAnother
+  pub sound : SpelledIsSound
+  pub listed : ListedAgain
+
 -- ---- sizes
 
 -- An instruction takes as many bytes as its spelling has, which are an opcode and a type byte at least.
@@ -44,6 +50,13 @@ FileLength = (ops : List PlainOp) → length (file_bytes ops) ≡ file_length op
 abbrev pub SizesAdd : Type 0
 SizesAdd = (before behind : List PlainOp) → ops_size (before ++ behind) ≡ ops_size before + ops_size behind
 
+pub record SizeLaws : Type 0 where
+  pub op : SizeIsLength
+  pub some : SizeSome
+  pub ops : SizesAreLengths
+  pub file : FileLength
+  pub add : SizesAdd
+
 -- ---- places
 
 -- An instruction of a file stands behind some others and before some others, at the length that a file of those before it has.
@@ -61,6 +74,13 @@ BegunStands = (ops : List PlainOp) (at : ℕ) (op : PlainOp) → op_at ops at �
 abbrev pub StoodBegins : Type 0
 StoodBegins = (before behind : List PlainOp) (op : PlainOp) → op_at (before ++ op ∷ behind) (file_length before) ≡ Some op
 
+-- An instruction lies between the header and the end of the file, and ends before another one begins.
+abbrev pub BegunLies : Type 0
+BegunLies = (ops : List PlainOp) (at : ℕ) (op : PlainOp) → op_at ops at ≡ Some op → (header_size ≤ at) × (at + op_size op ≤ file_length ops)
+
+abbrev pub OpsApart : Type 0
+OpsApart = (ops : List PlainOp) (at place : ℕ) (op other : PlainOp) → op_at ops at ≡ Some op → op_at ops place ≡ Some other → at < place → at + op_size op ≤ place
+
 -- The list of places tells what begins where.
 abbrev pub PlacedBegins : Type 0
 PlacedBegins = (ops : List PlainOp) (i at : ℕ) (op : PlainOp) → slice_get (placed ops) i ≡ Some (at, op) → op_at ops at ≡ Some op
@@ -68,6 +88,14 @@ PlacedBegins = (ops : List PlainOp) (i at : ℕ) (op : PlainOp) → slice_get (p
 -- the list of places has each instruction that begins somewhere, with its index
 abbrev pub BegunIsPlaced : Type 0
 BegunIsPlaced = (ops : List PlainOp) (at : ℕ) (op : PlainOp) → op_at ops at ≡ Some op → (i : ℕ) × (slice_get (placed ops) i ≡ Some (at, op))
+
+pub record PlaceLaws : Type 0 where
+  pub stands : BegunStands
+  pub begins : StoodBegins
+  pub lies : BegunLies
+  pub apart : OpsApart
+  pub placed : PlacedBegins
+  pub listed : BegunIsPlaced
 
 -- A file has one first instruction at most that leads badly.
 abbrev pub OneFirstBad : Type 0

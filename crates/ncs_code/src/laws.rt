@@ -1,29 +1,19 @@
-ghost use Rattle.ncs_code.specs.Laws.{BegunIsPlaced, BegunStands, DistanceLeads, FileLength, HasOpcode, ListedAgain, NoneBeginsAnother, OneFirstBad, OneName, PlacedBegins, ReadAgain, SizeIsLength, SizeSome, SizesAdd, SizesAreLengths, SpelledIsSound, StoodBegins};
+ghost use Rattle.ncs_code.specs.Laws.{DistanceLeads, HasOpcode, OneFirstBad, OneName, PlaceLaws, SizeLaws, SpellingLaws};
 
 /// No spelling begins another, where an instruction is spelled there is no fault, and what is spelled
-/// in a row is listed again.
-pub fn one_spelling()
-    ensures again { ReadAgain }
-    ensures none { NoneBeginsAnother }
-    ensures sound { SpelledIsSound }
-    ensures listed { ListedAgain }
+/// in a row is read again.
+pub fn spelling_laws()
+    ensures { SpellingLaws }
 {}
 
-/// The sizes that places are counted with are lengths of spellings.
-pub fn sizes_are_lengths()
-    ensures op { SizeIsLength }
-    ensures some { SizeSome }
-    ensures ops { SizesAreLengths }
-    ensures file { FileLength }
-    ensures add { SizesAdd }
+/// The sizes that places are counted with are lengths of spellings, and add up.
+pub fn size_laws()
+    ensures { SizeLaws }
 {}
 
 /// An instruction begins at the length that a file of the instructions before it has.
-pub fn begun_stands()
-    ensures stands { BegunStands }
-    ensures begins { StoodBegins }
-    ensures placed { PlacedBegins }
-    ensures listed { BegunIsPlaced }
+pub fn place_laws()
+    ensures { PlaceLaws }
 {}
 
 /// A file has one first instruction at most that leads badly.

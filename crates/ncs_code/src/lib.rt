@@ -27,9 +27,7 @@ mod writing;
 pub use fault::CodeFault;
 pub use file_header::{HEADER_BYTES, header};
 pub use instruction::{Lit, Op};
-pub use laws::{
-    begun_stands, distance_leads, one_first_bad, one_name, one_spelling, sizes_are_lengths,
-};
+pub use laws::{distance_leads, one_first_bad, one_name, place_laws, size_laws, spelling_laws};
 pub use leading::jump_place;
 pub use name::opcode_named;
 pub use reading::decode;

@@ -3,6 +3,7 @@ use Rattle.std.proofs.Common.{rules, ◌≡◌, ◌≤◌, ◌<◌, ◌+◌, ◌
 use Rattle.std.specs.Prelude.{is_some, FitsSigned, IsTrue}
 use Rattle.std.specs.Int.{w32}
 use Rattle.std.specs.List.{AllByRecursion}
+use Rattle.nwq_value.specs.Limits.{file_limit}
 use Rattle.ncs_code.specs.Plain.{PlainOp, Jmp, Jsr, Jz, Jnz, StoreState}
 use Rattle.ncs_code.specs.Spelling.{op_size, IsOp}
 use Rattle.ncs_code.specs.File.{ops_size, file_length, op_at, begins, jump_place, distance, leads_well, AllLeadWell, IsCode}
@@ -52,10 +53,10 @@ closed_end line (next ∷ lines) closes = closes
 
 -- ---- distances
 
-near : (p at : ℕ) → p ≤ 16777216 → at ≤ 16777216 → FitsSigned w32 (distance at p)
+near : (p at : ℕ) → p ≤ file_limit → at ≤ file_limit → FitsSigned w32 (distance at p)
 near p at f g = search (rules, arith)
 
-jump_is_op : (jump : Jump) (p at : ℕ) → p ≤ 16777216 → at ≤ 16777216 → IsOp (jump_over jump (distance at p))
+jump_is_op : (jump : Jump) (p at : ℕ) → p ≤ file_limit → at ≤ file_limit → IsOp (jump_over jump (distance at p))
 jump_is_op jumps.Jmp p at f g = record { row = has_row_jump jumps.Jmp _; fits = near p at f g }
 jump_is_op jumps.Jsr p at f g = record { row = has_row_jump jumps.Jsr _; fits = near p at f g }
 jump_is_op jumps.Jz p at f g = record { row = has_row_jump jumps.Jz _; fits = near p at f g }
@@ -75,15 +76,15 @@ place_below at label (Instruction op ∷ lines) = omega (arith, place_below (at 
 place_below at label (JumpTo jump other ∷ lines) = omega (arith, place_below (at + 6) label lines)
 place_below at label (Label other ∷ lines) = cond_below (eqb other label) at (place_from at lines label) _ (omega arith) (omega (arith, place_below at label lines))
 
-each_op : (labels : ℕ) (places : ℕ → ℕ) → ((label : ℕ) → places label ≤ 16777216) → (at : ℕ) (lines : List Line) → AllByRecursion (LineFits labels) lines
-    → at + lines_size lines ≤ 16777216 → AllByRecursion IsOp (ops_from places at lines)
+each_op : (labels : ℕ) (places : ℕ → ℕ) → ((label : ℕ) → places label ≤ file_limit) → (at : ℕ) (lines : List Line) → AllByRecursion (LineFits labels) lines
+    → at + lines_size lines ≤ file_limit → AllByRecursion IsOp (ops_from places at lines)
 each_op labels places small at [] fits near = tt
 each_op labels places small at (Instruction op ∷ lines) fits near = (fits.0, each_op labels places small (at + op_size op) lines fits.1 (omega (arith, near)))
 each_op labels places small at (JumpTo jump label ∷ lines) fits near =
     (jump_is_op jump (places label) at (small label) (omega (arith, near)), each_op labels places small (at + 6) lines fits.1 (omega (arith, near)))
 each_op labels places small at (Label label ∷ lines) fits near = each_op labels places small at lines fits.1 (omega (arith, near))
 
-each_program : (labels : ℕ) (lines : List Line) → ((label : ℕ) → place_of lines label ≤ 16777216) → AllByRecursion (LineFits labels) lines → 13 + lines_size lines ≤ 16777216 → AllByRecursion IsOp (program lines)
+each_program : (labels : ℕ) (lines : List Line) → ((label : ℕ) → place_of lines label ≤ file_limit) → AllByRecursion (LineFits labels) lines → 13 + lines_size lines ≤ file_limit → AllByRecursion IsOp (program lines)
 unfolding program
 each_program labels lines small fits near = each_op labels (place_of lines) small 13 lines fits near
 
@@ -185,10 +186,10 @@ module _ (stood : StoodBegins) (add : SizesAdd) (leads : DistanceLeads) (places 
       all_lead whole placed met at lines (left_label ops places met at label lines left) (closed_end (Instruction (StoreState globals locals)) lines closes) jumps.1 states.1 before behind o is
 
 pub finished : StoodBegins → BegunStands → SizesAdd → DistanceLeads → (labels : ℕ) (lines : List Line) → AllByRecursion (LineFits labels) lines → LeadsOn lines lines → Closes lines
-    → file_length (program lines) ≤ 16777216 → IsCode (program lines)
+    → file_length (program lines) ≤ file_limit → IsCode (program lines)
 finished stood begun add leads labels lines fits on closes small =
-    let sized : 13 + lines_size lines ≤ 16777216 = omega (arith, program_size lines, small) in
-    let below : (label : ℕ) → place_of lines label ≤ 16777216 = λ label. omega (arith, place_below 13 label lines, sized) in
+    let sized : 13 + lines_size lines ≤ file_limit = omega (arith, program_size lines, small) in
+    let below : (label : ℕ) → place_of lines label ≤ file_limit = λ label. omega (arith, place_below 13 label lines, sized) in
     let placed : (label : ℕ) → 1 ≤ placements lines label → begins (program lines) (place_of lines label) ≡ true =
     λ label some. label_begins stood add leads (place_of lines) (program lines) [] 13 label lines (all_left lines) closes some in
     record {

@@ -1,6 +1,7 @@
 -- What holds of labelled code by itself.
 use Rattle.std.specs.Prelude.{◌≡◌, ℕ, ◌+◌, ◌≤◌, List, [], ◌∷◌, ◌++◌}
 use Rattle.std.specs.List.{AllByRecursion}
+use Rattle.nwq_value.specs.Limits.{file_limit}
 use Rattle.ncs_code.specs.Plain.{PlainOp}
 use Rattle.ncs_code.specs.File.{header_size, ops_size, file_length, IsCode}
 use Rattle.ncs_emit.specs.Labelled.{Line, Instruction, placements, lines_size, place_of, program}
@@ -30,6 +31,14 @@ BothClose = (before behind : List Line) → Closes before → Closes behind → 
 abbrev pub InstructionCloses : Type 0
 InstructionCloses = (lines : List Line) (op : PlainOp) → Closes (lines ++ Instruction op ∷ [])
 
+pub record PartLaws : Type 0 where
+  pub placements : PlacementsAdd
+  pub size : LinesSizeAdds
+  pub stand : BothStand
+  pub lead : BothLeadOn
+  pub close : BothClose
+  pub last : InstructionCloses
+
 -- ---- of a whole program
 
 -- the instructions take as many bytes as the lines
@@ -43,4 +52,4 @@ ProgramStands = (lines : List Line) → IsPlacedOnce lines → LinesStand (progr
 -- The file of code that leads on and closes is one that loads, if it is not too large.
 abbrev pub FinishedIsCode : Type 0
 FinishedIsCode = (labels : ℕ) (lines : List Line) → AllByRecursion (LineFits labels) lines → LeadsOn lines lines → Closes lines
-    → file_length (program lines) ≤ 16777216 → IsCode (program lines)
+    → file_length (program lines) ≤ file_limit → IsCode (program lines)

@@ -1,4 +1,5 @@
 ghost use Rattle.std.specs.Prelude.{◌≡◌, ◌+◌, ◌-◌, ◌^◌, ◌<◌, ◌≤◌, ◌∷◌, ◌++◌, [], ℕ, List, false, true, IfOk, IfErr, OnOk, OnErr};
+ghost use Rattle.nwq_value.specs.Limits.{file_limit};
 ghost use Rattle.ncs_code.specs.Plain.{plain};
 ghost use Rattle.ncs_code.specs.Spelling.{HasRow};
 ghost use Rattle.ncs_code.specs.File.{file_bytes, file_length};
@@ -11,7 +12,7 @@ use crate::fault::EmitFault;
 use crate::finishing::{places_of, put_lines};
 use crate::jump::Jump;
 use crate::line::Kept;
-use ncs_code::{FILE_BYTES, Op, header, one_spelling, sizes_are_lengths};
+use ncs_code::{FILE_BYTES, Op, header, size_laws, spelling_laws};
 use nwq_value::NoMemory;
 use std::alloc::Global;
 use std::marker::Model;
@@ -91,8 +92,8 @@ impl Emitter {
         ensures ok { OnOk result (self.new ≡ record self.old { lines = self.old.lines ++ Instruction (plain op.now) ∷ [] }) }
         ensures err { OnErr result (self.new ≡ self.old) }
     {
-        one_spelling();
-        sizes_are_lengths();
+        spelling_laws();
+        size_laws();
         self.kept.reserve(self.missing as usize + 1)?;
         op.encode(&mut self.bytes)?;
         self.kept.push(Kept::Instruction(op.size())).unwrap();
@@ -123,10 +124,10 @@ impl Emitter {
     pub fn finish(self, alloc: Global) -> Result<Vec<u8>, EmitFault>
         requires placed { (label : ℕ) → label < self.labels → 1 ≤ placements self.lines label }
         ensures file { IfOk result (λ bytes. bytes.items ≡ file_bytes (program self.lines)) }
-        ensures bounded { OnOk result (file_length (program self.lines) ≤ FILE_BYTES) }
+        ensures bounded { OnOk result (file_length (program self.lines) ≤ file_limit) }
         ensures fault { IfErr result (λ fault. Fails fault self.lines) }
     {
-        sizes_are_lengths();
+        size_laws();
         let labels = self.placed.len();
         let (places, size) = places_of(alloc, self.kept.as_slice(), labels)?;
         if size > FILE_BYTES as u64 {

@@ -2,6 +2,7 @@
 
 ghost use Rattle.std.specs.Prelude.{◌≡◌, ◌+◌, ◌^◌, ◌<◌, ◌≤◌, ◌++◌, ℕ, length, vec_len, replicate, unwrap_or, slice_index_or, None, IfOk, OnOk};
 ghost use Rattle.std.specs.List.{AllByRecursion};
+ghost use Rattle.nwq_value.specs.Limits.{file_limit};
 ghost use Rattle.ncs_code.specs.Plain.{plain};
 ghost use Rattle.ncs_code.specs.Spelling.{spelling};
 ghost use Rattle.ncs_code.specs.File.{distance, spellings};
@@ -10,7 +11,7 @@ ghost use Rattle.ncs_emit.specs.Emitting.{HasLabels, KeptFits, kept_place, kept_
 
 use crate::jump::Jump;
 use crate::line::Kept;
-use ncs_code::{FILE_BYTES, HEADER_BYTES, Op, sizes_are_lengths};
+use ncs_code::{HEADER_BYTES, Op, size_laws};
 use nwq_value::NoMemory;
 use std::alloc::Global;
 
@@ -68,8 +69,8 @@ fn jump_over(jump: Jump, distance: i32) -> Op<'static>
 
 /// Appends a jump that stands at the end of the file.
 fn put_jump(file: &mut Vec<u8>, jump: Jump, place: u64) -> Result<(), NoMemory>
-    requires long { length file.old.items ≤ FILE_BYTES }
-    requires near { place ≤ FILE_BYTES }
+    requires long { length file.old.items ≤ file_limit }
+    requires near { place ≤ file_limit }
     ensures { OnOk result (file.new.items ≡ file.old.items ++ spelling (jump_over jump (distance (length file.old.items) place))) }
 {
     let distance = place as i32 - file.len() as i32;
@@ -87,11 +88,11 @@ pub(crate) fn put_lines(
     requires begun { length file.old.items ≡ 13 }
     requires fits { KeptFits (length places.now) bytes.now kept.now }
     requires whole { size ≡ 13 + kept_total kept.now }
-    requires bounded { size ≤ FILE_BYTES }
+    requires bounded { size ≤ file_limit }
     requires placed { (label : ℕ) → unwrap_or (slice_index_or places.now label None) size ≡ kept_place 13 kept.now label }
     ensures { OnOk result (file.new.items ≡ file.old.items ++ spellings (program (lines_of bytes.now kept.now))) }
 {
-    sizes_are_lengths();
+    size_laws();
     let mut rest = bytes;
     for line in kept {
         match *line {

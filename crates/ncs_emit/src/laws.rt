@@ -1,19 +1,11 @@
-ghost use Rattle.ncs_emit.specs.Laws.{BothClose, BothLeadOn, BothStand, FinishedIsCode, InstructionCloses, LinesSizeAdds, PlacementsAdd, ProgramSize, ProgramStands};
+ghost use Rattle.ncs_emit.specs.Laws.{FinishedIsCode, PartLaws, ProgramSize, ProgramStands};
 
-use ncs_code::{begun_stands, distance_leads, sizes_are_lengths};
+use ncs_code::{distance_leads, place_laws, size_laws};
 
-/// Placements and sizes of two parts add up, and where both parts stand in a row, each does.
-pub fn parts_add()
-    ensures placements { PlacementsAdd }
-    ensures size { LinesSizeAdds }
-    ensures stand { BothStand }
-{}
-
-/// Two parts lead on and close together where each does.
-pub fn parts_lead()
-    ensures lead { BothLeadOn }
-    ensures close { BothClose }
-    ensures last { InstructionCloses }
+/// Placements and sizes of two parts add up, each stands where both stand in a row, and they lead on and
+/// close together where each does.
+pub fn part_laws()
+    ensures { PartLaws }
 {}
 
 /// The program takes as many bytes as its lines, and where no label is placed twice, each line stands
@@ -22,8 +14,8 @@ pub fn program_stands()
     ensures size { ProgramSize }
     ensures stands { ProgramStands }
 {
-    begun_stands();
-    sizes_are_lengths();
+    place_laws();
+    size_laws();
     distance_leads();
 }
 
@@ -32,7 +24,7 @@ pub fn program_stands()
 pub fn finished_is_code()
     ensures { FinishedIsCode }
 {
-    begun_stands();
-    sizes_are_lengths();
+    place_laws();
+    size_laws();
     distance_leads();
 }

@@ -21,4 +21,4 @@ mod line;
 pub use emitter::Emitter;
 pub use fault::EmitFault;
 pub use jump::Jump;
-pub use laws::{finished_is_code, parts_add, parts_lead, program_stands};
+pub use laws::{finished_is_code, part_laws, program_stands};

@@ -1,6 +1,7 @@
 -- What a loaded file keeps: a table that tells at once where instructions begin.
 use Rattle.std.specs.Prelude.{ℕ, ◌-◌, ◌≤◌, ◌≡◌, List, ◌∷◌, ◌++◌, length, Bool, true, false, replicate, drop}
 use Rattle.std.specs.List.{flat_map, AllByRecursion}
+use Rattle.nwq_value.specs.Limits.{file_limit}
 use Rattle.ncs_code.specs.Plain.{PlainOp}
 use Rattle.ncs_code.specs.Spelling.{op_size, IsOp}
 use Rattle.ncs_code.specs.File.{file_bytes, AllLeadWell}
@@ -28,4 +29,4 @@ pub record IsScanned (bytes : List ℕ) (starts : List Bool) (count : ℕ) : Typ
 pub record IsLoaded (bytes : List ℕ) (starts : List Bool) (count : ℕ) : Type 0 where
   pub scanned : IsScanned bytes starts count
   pub leads : AllLeadWell (listing bytes)
-  pub bounded : length bytes ≤ 16777216
+  pub bounded : length bytes ≤ file_limit

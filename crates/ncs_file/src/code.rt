@@ -1,4 +1,5 @@
 ghost use Rattle.std.specs.Prelude.{◌≡◌, ◌≤◌, List, length, IfOk, IfErr, MatchOption, MatchResult, None, Some};
+ghost use Rattle.nwq_value.specs.Limits.{file_limit};
 ghost use Rattle.ncs_code.specs.Plain.{PlainOp, plain};
 ghost use Rattle.ncs_code.specs.Spelling.{op_size};
 ghost use Rattle.ncs_code.specs.File.{IsCode, file_bytes, op_at};
@@ -7,7 +8,7 @@ ghost use Rattle.ncs_file.specs.declared.fault.LoadFault.TheVariants.{NoMemory};
 
 use crate::fault::LoadFault;
 use crate::scan::{Starts, is_marked, starts_of, test_header, test_targets};
-use ncs_code::{FILE_BYTES, Op, decode};
+use ncs_code::{Op, decode};
 use std::alloc::Global;
 use std::marker::Model;
 
@@ -36,7 +37,7 @@ impl Model for Code {
 /// The file that these bytes are, which keeps them.
 #[tactic(auto, using(crate::proofs::Loaded::loaded_code, crate::proofs::Loaded::refused, crate::proofs::Scanning::listing_is))]
 pub fn load(alloc: Global, bytes: Vec<u8>) -> Result<Code, LoadFault>
-    requires { length bytes.items ≤ FILE_BYTES }
+    requires { length bytes.items ≤ file_limit }
 
     // What is loaded is a file, spelled so.
     ensures loaded { IfOk result (λ code. IsCode code × (bytes.items ≡ file_bytes code)) }

@@ -1,6 +1,7 @@
 //! The tests that a file passes, one after another.
 
 ghost use Rattle.std.specs.Prelude.{◌≡◌, ◌+◌, ◌-◌, ◌^◌, ◌<◌, ◌≤◌, ◌∷◌, ◌++◌, [], ℕ, List, length, true, false, replicate, slice_index_or, take, IfOk, IfErr, IfSome, OnOk, Some, None, MatchResult, MatchOption, OnErr};
+ghost use Rattle.nwq_value.specs.Limits.{file_limit};
 ghost use Rattle.ncs_code.specs.Plain.{PlainOp, plain};
 ghost use Rattle.ncs_code.specs.Spelling.{op_size};
 ghost use Rattle.ncs_code.specs.File.{AllLeadWell, leads_well};
@@ -8,7 +9,7 @@ ghost use Rattle.ncs_file.specs.Loading.{Fails, HasHeader};
 ghost use Rattle.ncs_file.specs.Marks.{IsScanned, listing, marks};
 
 use crate::fault::LoadFault;
-use ncs_code::{FILE_BYTES, HEADER_BYTES, Op, decode, header, jump_place};
+use ncs_code::{HEADER_BYTES, Op, decode, header, jump_place};
 use nwq_value::NoMemory;
 use std::alloc::Global;
 
@@ -30,7 +31,7 @@ fn prefix(bytes: &[u8], n: usize) -> &[u8]
 /// Does the file begin as it must?
 #[tactic(auto, using(crate::proofs::Lists::magic_front))]
 pub(crate) fn test_header(bytes: &[u8]) -> Result<(), LoadFault>
-    requires { length bytes.now ≤ FILE_BYTES }
+    requires { length bytes.now ≤ file_limit }
     ensures { MatchResult result (λ _. HasHeader bytes.now) (λ fault. Fails fault bytes.now) }
 {
     let wanted = header(bytes.len() as u32);
@@ -70,7 +71,7 @@ fn empty_table(alloc: Global, room: usize) -> Result<Vec<bool>, NoMemory>
 /// Goes over the instructions, which must fill the file.
 #[tactic(auto, using(crate::proofs::Scanning::scan_begins, crate::proofs::Scanning::scan_goes_on, crate::proofs::Scanning::scan_ends, crate::proofs::Scanning::scan_stops))]
 pub(crate) fn starts_of(alloc: Global, bytes: &[u8]) -> Result<Starts, LoadFault>
-    requires bounded { length bytes.now ≤ FILE_BYTES }
+    requires bounded { length bytes.now ≤ file_limit }
     requires begun { HasHeader bytes.now }
     ensures scanned { IfOk result (λ starts. IsScanned bytes.now starts.table.items starts.count) }
     ensures fault { IfErr result (λ fault. Fails fault bytes.now) }
@@ -116,7 +117,7 @@ fn leads_well(table: &[bool], op: &Op<'_>, at: u32) -> bool
 /// Goes over the instructions again, each of which must lead to beginnings of instructions.
 #[tactic(auto, using(crate::proofs::Scanning::pass_ends))]
 pub(crate) fn test_targets(bytes: &[u8], starts: &Starts) -> Result<(), LoadFault>
-    requires bounded { length bytes.now ≤ FILE_BYTES }
+    requires bounded { length bytes.now ≤ file_limit }
     requires scanned { IsScanned bytes.now starts.now.table.items starts.now.count }
     ensures { MatchResult result (λ _. AllLeadWell (listing bytes.now)) (λ fault. Fails fault bytes.now) }
 {

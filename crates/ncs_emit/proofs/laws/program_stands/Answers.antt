@@ -5,4 +5,4 @@ pub returns-clause-size : goal.returns-clause-size
 returns-clause-size c = program_size
 
 pub returns-clause-stands : goal.returns-clause-stands
-returns-clause-stands c = program_stands c.begun_stands.ensures.begins c.sizes_are_lengths.ensures.add c.distance_leads.ensures
+returns-clause-stands c = program_stands c.place_laws.ensures.begins c.size_laws.ensures.add c.distance_leads.ensures
