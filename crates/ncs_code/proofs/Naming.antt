@@ -1,5 +1,5 @@
 -- Names tell opcodes.
-use Rattle.std.proofs.Common.{◌≡◌, ◌≢◌, ◌<◌, ◌+◌, ◌∷◌, [], ℕ, List, true, false, cond, bytes_eq, refl, sym, ap, ◌∙◌}
+use Rattle.std.proofs.Common.{◌≡◌, ◌≢◌, ◌<◌, ◌+◌, ◌∷◌, [], ℕ, List, cond, bytes_eq, refl, sym, ap, ◌∙◌}
 use Rattle.std.specs.Prelude.{IsTrue}
 use Rattle.ncs_code.specs.Plain.{PlainOp, CpDownSp}
 use Rattle.ncs_code.specs.Spelling.{is_opcode, opcode}

@@ -1,8 +1,8 @@
 -- The sizes of instructions are the lengths of their spellings.
-use Rattle.std.proofs.Common.{◌≡◌, ◌≤◌, ◌+◌, ◌++◌, ◌∷◌, [], ℕ, List, length, Bool, true, false, cond, eqb, refl, ap, arith}
+use Rattle.std.proofs.Common.{◌≡◌, ◌≤◌, ◌+◌, ◌++◌, ◌∷◌, [], ℕ, List, length, Bool, true, false, cond, eqb, refl, arith}
 use Rattle.std.proofs.lemmas.List.{length-append}
-use Rattle.ncs_code.specs.Plain.{PlainLit, PlainOp, Int, Float, Text, Object, CpDownSp, CpTopSp, Const, Action, Equal, Nequal, MovSp, Jmp, Jsr, Jz, Destruct, DecISp, IncISp, Jnz, CpDownBp, CpTopBp, DecIBp, IncIBp, StoreState}
-use Rattle.ncs_code.specs.Spelling.{two, four, signed, spelling, lit_spelling, literal_size, op_size, run_size}
+use Rattle.ncs_code.specs.Plain.{PlainLit, PlainOp, Int, Float, Text, Object, Const, Equal, Nequal}
+use Rattle.ncs_code.specs.Spelling.{two, four, signed, spelling, lit_spelling, literal_size, op_size}
 use Rattle.ncs_code.specs.File.{spellings, ops_size, file_bytes, file_length}
 
 run_length : (kind size : ℕ) (test : Bool) → cond test 4 2 ≡ 2 + length (cond test (two size) [])

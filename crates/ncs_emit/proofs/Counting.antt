@@ -1,7 +1,7 @@
 -- The parts of an emitter agree after each call.
 use Rattle.std.proofs.Common.{◌≡◌, ◌<◌, ◌≤◌, ◌+◌, ◌++◌, ◌^◌, ◌∷◌, [], ℕ, suc, zero, List, length, get_or, set, sym, ◌∙◌, ap, arith, refl, subst, true, false, cond, Bool, eqb, inl, inr}
 use Rattle.std.proofs.lemmas.Bool.{eqb-true, eqb-false, cases_lt}
-use Rattle.std.proofs.lemmas.List.{length-append, get_or_push, get_or_append_left, get_or_past, get_or-set_same, get_or-set_other, length-set}
+use Rattle.std.proofs.lemmas.List.{length-append, get_or_push, get_or_append_left, get_or-set_same, get_or-set_other, length-set}
 use Rattle.ncs_code.specs.Plain.{PlainOp}
 use Rattle.ncs_code.specs.Spelling.{spelling, op_size, Fits, HasRow, IsOp}
 use Rattle.ncs_code.specs.Laws.{ReadAgain, SizeIsLength}

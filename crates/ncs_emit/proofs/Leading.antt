@@ -1,17 +1,17 @@
 -- The file of code that leads on and closes is one that loads.
-use Rattle.std.proofs.Common.{rules, ◌≡◌, ◌≤◌, ◌<◌, ◌+◌, ◌++◌, ◌∷◌, [], ℕ, pos, ◌-ℤ◌, List, sym, ◌∙◌, ap, arith, refl, subst, true, false, Bool, eqb, cond, Some, None, append_assoc}
+use Rattle.std.proofs.Common.{rules, ◌≡◌, ◌≤◌, ◌+◌, ◌++◌, ◌∷◌, [], ℕ, List, sym, ◌∙◌, ap, arith, refl, true, false, Bool, eqb, cond}
 use Rattle.std.specs.Prelude.{is_some, FitsSigned, IsTrue}
 use Rattle.std.specs.Int.{w32}
 use Rattle.std.specs.List.{AllByRecursion}
 use Rattle.nwq_value.specs.Limits.{file_limit}
 use Rattle.ncs_code.specs.Plain.{PlainOp, Jmp, Jsr, Jz, Jnz, StoreState}
 use Rattle.ncs_code.specs.Spelling.{op_size, IsOp}
-use Rattle.ncs_code.specs.File.{ops_size, file_length, op_at, begins, jump_place, distance, leads_well, AllLeadWell, IsCode}
-use Rattle.ncs_code.specs.Laws.{StoodBegins, BegunStands, SizesAdd, DistanceLeads, StandsBehind}
+use Rattle.ncs_code.specs.File.{ops_size, file_length, begins, jump_place, distance, leads_well, IsCode}
+use Rattle.ncs_code.specs.Laws.{StoodBegins, BegunStands, SizesAdd, DistanceLeads}
 use Rattle.ncs_emit.specs.declared.jump.Jump.{Jump}
 use Rattle.ncs_emit.specs.declared.jump.Jump.TheVariants as jumps
-use Rattle.ncs_emit.specs.Labelled.{Line, Instruction, JumpTo, Label, placements, jump_over, line_size, lines_size, ops_from, place_from, place_of, program}
-use Rattle.ncs_emit.specs.Leading.{LineFits, IsLed, is_state, begins_with_jump, HasLedStates, LeadsOn, is_instruction, Closes}
+use Rattle.ncs_emit.specs.Labelled.{Line, Instruction, JumpTo, Label, placements, jump_over, lines_size, ops_from, place_from, place_of, program}
+use Rattle.ncs_emit.specs.Leading.{LineFits, IsLed, is_state, begins_with_jump, HasLedStates, LeadsOn, Closes}
 use Rattle.ncs_emit.proofs.Placing.{cond_below, has_row_jump}
 use Rattle.ncs_emit.proofs.Putting.{size_jump}
 use Rattle.ncs_emit.proofs.Standing.{program_size, IsLeft, left_op, left_jump, left_label, op_here, jump_here, all_left}
@@ -183,7 +183,7 @@ module _ (stood : StoodBegins) (add : SizesAdd) (leads : DistanceLeads) (places 
       (λ b same. ap (λ n. leads_well ops (at + n + ops_size b) o) six
       ∙ all_lead whole placed (met ++ op ∷ []) (at + 6) lines (left_jump add ops places met at jump label lines left) (closed_end (JumpTo jump label) lines closes) jumps.1 states.1 b behind o same)
   all_lead whole placed met at (Label label ∷ lines) left closes jumps states before behind o is =
-      all_lead whole placed met at lines (left_label ops places met at label lines left) (closed_end (Instruction (StoreState globals locals)) lines closes) jumps.1 states.1 before behind o is
+      all_lead whole placed met at lines (left_label ops places met at label lines left) (closed_end (Label label) lines closes) jumps.1 states.1 before behind o is
 
 pub finished : StoodBegins → BegunStands → SizesAdd → DistanceLeads → (labels : ℕ) (lines : List Line) → AllByRecursion (LineFits labels) lines → LeadsOn lines lines → Closes lines
     → file_length (program lines) ≤ file_limit → IsCode (program lines)

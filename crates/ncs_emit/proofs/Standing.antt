@@ -1,6 +1,5 @@
 -- Each line of a program stands at its place, and parts of lines put together.
-use Rattle.std.proofs.Common.{◌≡◌, ◌≤◌, ◌+◌, ◌++◌, ◌∷◌, [], ℕ, List, sym, ◌∙◌, ap, arith, refl, subst, true, false, Bool, eqb, cond, Some, append_assoc}
-use Rattle.std.proofs.lemmas.Bool.{eqb-true, ne_eqb}
+use Rattle.std.proofs.Common.{◌≡◌, ◌+◌, ◌++◌, ◌∷◌, [], ℕ, List, sym, ◌∙◌, ap, arith, refl, subst, true, false, Bool, eqb, cond, Some, append_assoc}
 use Rattle.ncs_code.specs.Plain.{PlainOp}
 use Rattle.ncs_code.specs.Spelling.{op_size}
 use Rattle.ncs_code.specs.File.{ops_size, op_at, file_length, distance}

@@ -8,7 +8,7 @@ ghost use Rattle.ncs_file.specs.declared.fault.LoadFault.TheVariants.{NoMemory};
 
 use crate::fault::LoadFault;
 use crate::scan::{Starts, is_marked, starts_of, test_header, test_targets};
-use ncs_code::{Op, decode};
+use ncs_code::{Op, decode, place_laws, size_laws, spelling_laws};
 use std::alloc::Global;
 use std::marker::Model;
 
@@ -46,6 +46,9 @@ pub fn load(alloc: Global, bytes: Vec<u8>) -> Result<Code, LoadFault>
     // The fault is the first that there is.
     ensures fault { IfErr result (λ fault. Fails fault bytes.items) }
 {
+    spelling_laws();
+    size_laws();
+    place_laws();
     test_header(bytes.as_slice())?;
     let starts = starts_of(alloc, bytes.as_slice())?;
     test_targets(bytes.as_slice(), &starts)?;
@@ -69,6 +72,8 @@ impl Code {
     pub fn op_at(&self, at: u32) -> Option<(Op<'_>, u32)>
         ensures { MatchOption result (op_at self.now at ≡ None) (λ x. (op_at self.now at ≡ Some (plain x.0)) × (x.1 ≡ op_size (plain x.0))) }
     {
+        size_laws();
+        place_laws();
         if !is_marked(self.starts.as_slice(), at as usize) {
             return None;
         }
@@ -89,6 +94,7 @@ impl Code {
     pub fn sound(&self)
         ensures { IsCode self.now }
     {
+        size_laws();
         let _ = &self.count;
     }
 }

@@ -17,5 +17,6 @@ pub fn one_fault()
 {
     spelling_laws();
     size_laws();
+    place_laws();
     one_first_bad();
 }

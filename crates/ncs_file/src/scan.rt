@@ -6,10 +6,12 @@ ghost use Rattle.ncs_code.specs.Plain.{PlainOp, plain};
 ghost use Rattle.ncs_code.specs.Spelling.{op_size};
 ghost use Rattle.ncs_code.specs.File.{AllLeadWell, leads_well};
 ghost use Rattle.ncs_file.specs.Loading.{Fails, HasHeader};
-ghost use Rattle.ncs_file.specs.Marks.{IsScanned, listing, marks};
+ghost use Rattle.ncs_file.specs.Marks.{IsScanned, begins_there, listing, marks};
 
 use crate::fault::LoadFault;
-use ncs_code::{HEADER_BYTES, Op, decode, header, jump_place};
+use ncs_code::{
+    HEADER_BYTES, Op, decode, header, jump_place, place_laws, size_laws, spelling_laws,
+};
 use nwq_value::NoMemory;
 use std::alloc::Global;
 
@@ -76,6 +78,8 @@ pub(crate) fn starts_of(alloc: Global, bytes: &[u8]) -> Result<Starts, LoadFault
     ensures scanned { IfOk result (λ starts. IsScanned bytes.now starts.table.items starts.count) }
     ensures fault { IfErr result (λ fault. Fails fault bytes.now) }
 {
+    spelling_laws();
+    size_laws();
     let mut table = empty_table(alloc, bytes.len())?;
     let mut count = 0;
     let mut at = HEADER_BYTES;
@@ -99,28 +103,42 @@ pub(crate) fn is_marked(table: &[bool], place: usize) -> bool
     place < table.len() && table[place]
 }
 
+/// Where an instruction leads besides the next one: a jump, or the code that a STORE_STATE stores.
+fn target_of(op: &Op<'_>, at: u32) -> Option<u32>
+    requires { at < 2 ^ 31 }
+    ensures { (ops : List PlainOp) → begins_there ops result ≡ leads_well ops at (plain op.now) }
+{
+    match *op {
+        Op::Jmp { offset } | Op::Jsr { offset } | Op::Jz { offset } | Op::Jnz { offset } => {
+            Some(jump_place(at, offset))
+        }
+        Op::StoreState { .. } => Some(at + 16),
+        _ => None,
+    }
+}
+
 /// Does it lead to a beginning of an instruction, if it leads anywhere besides the next one?
-#[tactic(auto, using(crate::proofs::Places::marked))]
+#[tactic(auto, using(crate::proofs::Places::begins_marked))]
 fn leads_well(table: &[bool], op: &Op<'_>, at: u32) -> bool
     requires { at < 2 ^ 31 }
     ensures { (ops : List PlainOp) → table.now ≡ marks ops → result ≡ leads_well ops at (plain op.now) }
 {
-    match *op {
-        Op::Jmp { offset } | Op::Jsr { offset } | Op::Jz { offset } | Op::Jnz { offset } => {
-            is_marked(table, jump_place(at, offset) as usize)
-        }
-        Op::StoreState { .. } => is_marked(table, at as usize + 16),
-        _ => true,
+    size_laws();
+    match target_of(op, at) {
+        None => true,
+        Some(place) => is_marked(table, place as usize),
     }
 }
 
 /// Goes over the instructions again, each of which must lead to beginnings of instructions.
-#[tactic(auto, using(crate::proofs::Scanning::pass_ends))]
+
 pub(crate) fn test_targets(bytes: &[u8], starts: &Starts) -> Result<(), LoadFault>
     requires bounded { length bytes.now ≤ file_limit }
     requires scanned { IsScanned bytes.now starts.now.table.items starts.now.count }
     ensures { MatchResult result (λ _. AllLeadWell (listing bytes.now)) (λ fault. Fails fault bytes.now) }
 {
+    size_laws();
+    place_laws();
     let mut at = HEADER_BYTES;
     while at < bytes.len() {
         match decode(bytes, at as u32) {
