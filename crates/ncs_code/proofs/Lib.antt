@@ -2,5 +2,7 @@ pub mod Pieces
 pub mod Rows
 pub mod Sound
 pub mod Readings
-pub mod Lengths
+pub mod Sizes
 pub mod Listings
+mod Places
+pub mod Naming

@@ -1,5 +1,5 @@
 -- The bytes of an instruction tell which one it is, whatever follows.
-use Rattle.std.proofs.Common.{◌≡◌, ◌≢◌, ◌<◌, ◌^◌, ℕ, ℤ, List, [], ◌∷◌, ◌++◌, length, drop, take, Bool, true, false, cond, eqb, refl, sym, ap, ◌∙◌, arith, Some, None, Result, Ok, Err}
+use Rattle.std.proofs.Common.{◌≡◌, ◌≢◌, ◌<◌, ◌^◌, ℕ, ℤ, List, [], ◌∷◌, ◌++◌, length, drop, take, Bool, true, false, cond, eqb, refl, sym, ap, ◌∙◌, subst, arith, Some, None, Result, Ok, Err}
 use Rattle.std.specs.Prelude.{IfOk, IsOkAnd, MatchResult, FitsSigned}
 use Rattle.std.specs.Int.{w32, cast_signed, cast_unsigned}
 use Rattle.std.proofs.Math.Facts.{Fits-of_z}
@@ -8,11 +8,12 @@ use Rattle.std.proofs.lemmas.Bool.{eqb-false}
 use Rattle.std.proofs.lemmas.List.{take_at}
 use Rattle.std.proofs.lemmas.Nat.{from_be_bytes-to_be_bytes_2, from_be_bytes-to_be_bytes_4}
 use Rattle.ncs_code.specs.Plain.{PlainLit, PlainOp, Int, Float, Text, Object, CpDownSp, RsAdd, CpTopSp, Const, Action, LogAnd, LogOr, IncOr, ExcOr, BoolAnd, Equal, Nequal, Geq, Gt, Lt, Leq, ShLeft, ShRight, UshRight, Add, Sub, Mul, Div, Mod, Neg, Comp, MovSp, Jmp, Jsr, Jz, Retn, Destruct, Not, DecISp, IncISp, Jnz, CpDownBp, CpTopBp, DecIBp, IncIBp, SaveBp, RestoreBp, StoreState, Nop}
-use Rattle.ncs_code.specs.Spelling.{two, four, signed, run_size, spelling, HasTextSize, IsOp, LitFits, Spells, fault_of}
+use Rattle.ncs_code.specs.Spelling.{two, four, signed, run_size, spelling, op_size, HasTextSize, IsOp, LitFits, Spells, fault_of}
 use Rattle.ncs_code.specs.Plain.{plain}
 use Rattle.ncs_code.specs.declared.fault.CodeFault.{CodeFault}
 use Rattle.ncs_code.specs.declared.instruction.Op.{Op}
 use Rattle.ncs_code.proofs.Sound.{sound}
+use Rattle.ncs_code.proofs.Sizes.{size_is_length}
 use Rattle.ncs_code.specs.Reading.{two_of, four_of, signed_of, op_of}
 
 two_again : (n : ℕ) (rest : List ℕ) → n < 2 ^ 16 → two_of (two n ++ rest) ≡ n
@@ -105,13 +106,21 @@ op_again Nop rest h = refl
 pub none_begins_another : (a b : PlainOp) (x y : List ℕ) → IsOp a → IsOp b → spelling a ++ x ≡ spelling b ++ y → a ≡ b
 none_begins_another a b x y f g same = sym (op_again a x f) ∙ ap op_of same ∙ op_again b y g
 
+pub spelled_answer : (r : Result (Op × ℕ) CodeFault) (bytes : List ℕ) → IfOk r (λ x. IsOp (plain x.0)) → IfOk r (λ x. bytes ≡ spelling (plain x.0) ++ drop x.1 bytes)
+    → IfOk r (λ x. x.1 ≡ length (spelling (plain x.0))) → IfOk r (λ x. Spells (plain x.0) x.1 bytes)
+spelled_answer (Ok x) bytes is_op prefix long = record { is_op = is_op; prefix = prefix; size = long ∙ sym (size_is_length (plain x.0)) }
+spelled_answer (Err e) bytes is_op prefix long = tt
+
+pub spelled_at : (r : Result (Op × ℕ) CodeFault) (bytes whole : List ℕ) → bytes ≡ whole → IfOk r (λ x. Spells (plain x.0) x.1 bytes) → IfOk r (λ x. Spells (plain x.0) x.1 whole)
+spelled_at r bytes whole same spelled = subst (λ b. IfOk r (λ x. Spells (plain x.0) x.1 b)) same spelled
+
 -- An answer that is spelled where it says, or tells the fault there, is the one instruction that is spelled.
 pub only_answer : (r : Result (Op × ℕ) CodeFault) (bytes : List ℕ) → IfOk r (λ x. Spells (plain x.0) x.1 bytes)
     → MatchResult r (λ _. fault_of bytes ≡ None) (λ fault. fault_of bytes ≡ Some fault)
-    → (op : PlainOp) (rest : List ℕ) → IsOp op → bytes ≡ spelling op ++ rest → IsOkAnd r (λ x. (plain x.0 ≡ op) × (x.1 ≡ length (spelling op)))
+    → (op : PlainOp) (rest : List ℕ) → IsOp op → bytes ≡ spelling op ++ rest → IsOkAnd r (λ x. (plain x.0 ≡ op) × (x.1 ≡ op_size op))
 only_answer (Ok x) bytes found fault op rest is_op front =
-    let same : plain x.0 ≡ op = none_begins_another (plain x.0) op (drop x.1 bytes) rest found.is_op is_op (sym found.front ∙ front) in
-    (same, found.size ∙ ap (λ o. length (spelling o)) same)
+    let same : plain x.0 ≡ op = none_begins_another (plain x.0) op (drop x.1 bytes) rest found.is_op is_op (sym found.prefix ∙ front) in
+    (same, found.size ∙ ap op_size same)
 only_answer (Err e) bytes found fault op rest is_op front =
     let none : fault_of bytes ≡ None = ap fault_of front ∙ sound op rest is_op in
     let none_some : None ≡ Some e = sym none ∙ fault in

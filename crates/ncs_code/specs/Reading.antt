@@ -1,8 +1,8 @@
 -- Which instruction the bytes begin with, where they begin with one.
-use Rattle.std.specs.Prelude.{ℕ, zero, suc, ℤ, List, [], ◌∷◌, ◌==◌, if◌then◌else◌, take, drop, length, slice_index_or}
+use Rattle.std.specs.Prelude.{ℕ, zero, suc, ℤ, List, [], ◌∷◌, ◌==◌, if◌then◌else◌, take, drop, slice_index_or}
 use Rattle.std.specs.Int.{w16, w32, from_be_bytes, cast_signed}
 use Rattle.ncs_code.specs.Plain.{PlainOp, Int, Float, Text, Object, CpDownSp, RsAdd, CpTopSp, Const, Action, LogAnd, LogOr, IncOr, ExcOr, BoolAnd, Equal, Nequal, Geq, Gt, Lt, Leq, ShLeft, ShRight, UshRight, Add, Sub, Mul, Div, Mod, Neg, Comp, MovSp, Jmp, Jsr, Jz, Retn, Destruct, Not, DecISp, IncISp, Jnz, CpDownBp, CpTopBp, DecIBp, IncIBp, SaveBp, RestoreBp, StoreState, Nop}
-use Rattle.ncs_code.specs.Spelling.{spelling}
+use Rattle.ncs_code.specs.Spelling.{op_size}
 
 abbrev pub two_of : List ℕ → ℕ
 two_of args = from_be_bytes w16 args
@@ -99,4 +99,4 @@ op_of (code ∷ kind ∷ args) = slice_index_or rows code (bare Nop) kind args
 unfoldable pub ops_of : ℕ → List ℕ → List PlainOp
 ops_of zero bytes = []
 ops_of (suc n) [] = []
-ops_of (suc n) (b ∷ bytes) = op_of (b ∷ bytes) ∷ ops_of n (drop (length (spelling (op_of (b ∷ bytes)))) (b ∷ bytes))
+ops_of (suc n) (b ∷ bytes) = op_of (b ∷ bytes) ∷ ops_of n (drop (op_size (op_of (b ∷ bytes))) (b ∷ bytes))

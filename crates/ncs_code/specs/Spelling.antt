@@ -1,5 +1,5 @@
 -- The one spelling of each instruction: opcode, type byte, big-endian arguments.
-use Rattle.std.specs.Prelude.{◌≡◌, ◌≢◌, ℕ, ℤ, ◌+◌, ◌<◌, ◌^◌, List, [], ◌∷◌, ◌++◌, length, Bool, false, not, ◌&&◌, ◌||◌, ◌==◌, nat_lt, nat_le, if◌then◌else◌, IsTrue, Option, Some, None, All, drop, FitsSigned, ◌*◌, slice_index}
+use Rattle.std.specs.Prelude.{◌≡◌, ◌≢◌, ℕ, ℤ, ◌+◌, ◌<◌, ◌^◌, List, [], ◌∷◌, ◌++◌, length, Bool, false, not, ◌&&◌, ◌||◌, ◌==◌, nat_lt, nat_le, if◌then◌else◌, IsTrue, Option, Some, None, All, drop, FitsSigned, ◌*◌, slice_index, slice_index_or}
 use Rattle.std.specs.Int.{w16, w32, to_be_bytes, cast_unsigned}
 use Rattle.ncs_code.specs.declared.fault.CodeFault.{CodeFault}
 use Rattle.ncs_code.specs.declared.fault.CodeFault.TheVariants.{Opcode, TypeByte, Short}
@@ -75,6 +75,43 @@ spelling Nop = 0x2D ∷ 0x00 ∷ []
 abbrev pub is_between : ℕ → ℕ → ℕ → Bool
 is_between low high n = nat_le low n && nat_le n high
 
+-- how many bytes stand for what CONST pushes, behind its type byte: four for a float that fits
+abbrev pub literal_size : PlainLit → ℕ
+literal_size (Int n) = 4
+literal_size (Float bytes) = length bytes
+literal_size (Text bytes) = 2 + length bytes
+literal_size (Object n) = 4
+
+-- How many bytes an instruction takes: the length of its spelling, by computing. Places in a file are sums of these.
+abbrev pub op_size : PlainOp → ℕ
+op_size (CpDownSp offset size) = 8
+op_size (CpTopSp offset size) = 8
+op_size (Const lit) = 2 + literal_size lit
+op_size (Action routine count) = 5
+op_size (Equal kind size) = if kind == 0x24 then 4 else 2
+op_size (Nequal kind size) = if kind == 0x24 then 4 else 2
+op_size (MovSp offset) = 6
+op_size (Jmp offset) = 6
+op_size (Jsr offset) = 6
+op_size (Jz offset) = 6
+op_size (Destruct total offset size) = 8
+op_size (DecISp offset) = 6
+op_size (IncISp offset) = 6
+op_size (Jnz offset) = 6
+op_size (CpDownBp offset size) = 8
+op_size (CpTopBp offset size) = 8
+op_size (DecIBp offset) = 6
+op_size (IncIBp offset) = 6
+op_size (StoreState globals locals) = 10
+op_size _ = 2
+
+-- the first byte of the spelling, and the second
+abbrev pub opcode : PlainOp → ℕ
+opcode op = slice_index_or (spelling op) 0 0
+
+abbrev pub type_byte : PlainOp → ℕ
+type_byte op = slice_index_or (spelling op) 1 0
+
 -- 0x1C is no opcode: an instruction that kept the whole stack had it, and no compiler writes it
 abbrev pub is_opcode : ℕ → Bool
 is_opcode code = is_between 0x01 0x2D code && not (code == 0x1C)
@@ -126,7 +163,7 @@ args_size code kind args =
     else if code == 0x2C then 8
     else 0
 
--- Why no instruction is spelled at the front of these bytes, by the first test that fails; None where one is.
+-- Why these bytes begin with no instruction, by the first test that fails; None where they begin with one.
 unfoldable pub fault_of : List ℕ → Option CodeFault
 fault_of [] = Some Short
 fault_of (code ∷ []) = if is_opcode code then Some Short else Some Opcode
@@ -208,8 +245,8 @@ pub record IsOp (op : PlainOp) : Type 0 where
   pub row : HasRow op
   pub fits : Fits op
 
--- The instruction is spelled at the front of the bytes, and takes so many of them.
+-- The bytes begin with the instruction's spelling, which takes so many of them.
 pub record Spells (op : PlainOp) (count : ℕ) (bytes : List ℕ) : Type 0 where
   pub is_op : IsOp op
-  pub front : bytes ≡ spelling op ++ drop count bytes
-  pub size : count ≡ length (spelling op)
+  pub prefix : bytes ≡ spelling op ++ drop count bytes
+  pub size : count ≡ op_size op

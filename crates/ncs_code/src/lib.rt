@@ -6,23 +6,31 @@
 //! [`Op::encode`] appends is the spelling, what [`decode`] gives is spelled there, what is spelled
 //! somewhere is decoded whatever follows it, each fault comes exactly where its test fails first, and no
 //! spelling begins another, so that bytes stand for one list of instructions at most.
+//!
+//! `specs/File.antt` says what a whole file is: the places of its instructions, where jumps lead, and
+//! which lists are files. `specs/Names.antt` has the names. What all layers above use of these
+//! definitions are laws: public functions with empty bodies (`specs/Laws.antt`). The page is
+//! `docs/NCS.md`.
 #![tactic(auto)]
 
 mod arguments;
 mod fault;
-mod front;
+mod file_header;
 mod instruction;
+mod laws;
+mod leading;
+mod name;
 mod opcode;
 mod reading;
 mod writing;
 
 pub use fault::CodeFault;
-pub use front::{HEADER_BYTES, header};
+pub use file_header::{HEADER_BYTES, header};
 pub use instruction::{Lit, Op};
-pub use reading::{decode, listed_again, one_spelling, spelled_is_sound};
+pub use laws::{distance_leads, one_first_bad, one_name, place_laws, size_laws, spelling_laws};
+pub use leading::jump_place;
+pub use name::opcode_named;
+pub use reading::decode;
 
 /// How many bytes a file of bytecode has at most.
 pub const FILE_BYTES: u32 = 16_777_216;
-
-#[cfg(test)]
-mod tests;

@@ -1,9 +1,8 @@
 ghost use Rattle.std.specs.Prelude.{◌≡◌, ◌≢◌, ◌+◌, ◌<◌, ◌≤◌, ◌∷◌, ◌++◌, ◌↔◌, List, ℕ, length, take, drop, Some, None, IfOk, IsOkAnd, MatchResult, IsTrue};
+ghost use Rattle.nwq_value.specs.Limits.{file_limit};
 ghost use Rattle.ncs_code.specs.Plain.{PlainOp, plain};
-ghost use Rattle.ncs_code.specs.Spelling.{IsOp, Spells, spelling, fault_of, is_opcode, has_type, args_size, lit_size};
-ghost use Rattle.ncs_code.specs.Laws.{ListedAgain, NoneBeginsAnother, SpelledIsSound};
+ghost use Rattle.ncs_code.specs.Spelling.{IsOp, Spells, spelling, op_size, fault_of, is_opcode, has_type, args_size, lit_size};
 
-use crate::FILE_BYTES;
 use crate::arguments::{call_at, copy_at, kept_at, lit_at, offset_at, run_size_at, state_at};
 use crate::fault::CodeFault;
 use crate::instruction::Op;
@@ -178,12 +177,14 @@ fn op_of(code: u8, kind: u8, args: &[u8]) -> Op<'_>
     }
 }
 
-/// The instruction at the front of the bytes.
+/// The instruction that the bytes begin with.
 #[tactic(auto, unfolding(crate::specs::Spelling::fault_of))]
-fn front(bytes: &[u8]) -> Result<(Op<'_>, u32), CodeFault>
+fn decode_prefix(bytes: &[u8]) -> Result<(Op<'_>, u32), CodeFault>
     requires some { 0 < length bytes.now }
-    requires bounded { length bytes.now ≤ FILE_BYTES }
-    ensures found { IfOk result (λ x. Spells (plain x.0) x.1 bytes.now) }
+    requires bounded { length bytes.now ≤ file_limit }
+    ensures is_op { IfOk result (λ x. IsOp (plain x.0)) }
+    ensures prefix { IfOk result (λ x. bytes.now ≡ spelling (plain x.0) ++ drop x.1 bytes.now) }
+    ensures length { IfOk result (λ x. x.1 ≡ length (spelling (plain x.0))) }
     ensures fault { MatchResult result (λ _. fault_of bytes.now ≡ None) (λ fault. fault_of bytes.now ≡ Some fault) }
 {
     let code = bytes[0];
@@ -208,30 +209,15 @@ fn front(bytes: &[u8]) -> Result<(Op<'_>, u32), CodeFault>
 /// The instruction that begins at a place, and how many bytes it takes.
 pub fn decode(bytes: &[u8], at: u32) -> Result<(Op<'_>, u32), CodeFault>
     requires inside { at < length bytes.now }
-    requires bounded { length bytes.now ≤ FILE_BYTES }
+    requires bounded { length bytes.now ≤ file_limit }
 
     // What is decoded is spelled there.
     ensures found { IfOk result (λ x. Spells (plain x.0) x.1 (drop at bytes.now)) }
     // What is spelled there is decoded, whatever follows.
     ensures only { (op : PlainOp) (rest : List ℕ) → IsOp op → drop at bytes.now ≡ spelling op ++ rest →
-        IsOkAnd result (λ x. (plain x.0 ≡ op) × (x.1 ≡ length (spelling op))) }
+        IsOkAnd result (λ x. (plain x.0 ≡ op) × (x.1 ≡ op_size op)) }
     // The fault is the first that there is.
     ensures fault { MatchResult result (λ _. fault_of (drop at bytes.now) ≡ None) (λ fault. fault_of (drop at bytes.now) ≡ Some fault) }
 {
-    front(&bytes[at as usize..])
+    decode_prefix(&bytes[at as usize..])
 }
-
-/// No spelling begins another.
-pub fn one_spelling()
-    ensures { NoneBeginsAnother }
-{}
-
-/// Where an instruction is spelled there is no fault.
-pub fn spelled_is_sound()
-    ensures { SpelledIsSound }
-{}
-
-/// What is spelled in a row is listed again.
-pub fn listed_again()
-    ensures { ListedAgain }
-{}

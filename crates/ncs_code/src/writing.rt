@@ -1,6 +1,6 @@
 ghost use Rattle.std.specs.Prelude.{◌≡◌, ◌+◌, ◌<◌, ◌^◌, ◌∷◌, ◌++◌, [], length, OnOk, OnErr, All};
 ghost use Rattle.ncs_code.specs.Plain.{plain, plain_lit};
-ghost use Rattle.ncs_code.specs.Spelling.{Fits, HasRow, HasTextSize, IsByte, LitFits, spelling, lit_spelling, run_size, signed, two, four};
+ghost use Rattle.ncs_code.specs.Spelling.{Fits, HasRow, HasTextSize, IsByte, LitFits, spelling, lit_spelling, literal_size, op_size, run_size, signed, two, four};
 
 use crate::instruction::{Lit, Op};
 use crate::opcode::*;
@@ -125,7 +125,7 @@ fn put_lit(out: &mut Vec<u8>, lit: Lit<'_>) -> Result<(), NoMemory>
 #[tactic(auto, unfolding(crate::specs::Spelling::two, crate::specs::Spelling::four, crate::specs::Spelling::signed))]
 fn size_of_lit(lit: Lit<'_>) -> u32
     requires { HasTextSize (plain_lit lit) }
-    ensures size { result + 1 ≡ length (lit_spelling (plain_lit lit.entry)) }
+    ensures size { result ≡ literal_size (plain_lit lit.entry) }
     ensures bounded { result < 2 ^ 17 }
 {
     match lit {
@@ -139,7 +139,7 @@ impl Op<'_> {
     #[tactic(auto, unfolding(crate::specs::Spelling::two, crate::specs::Spelling::four, crate::specs::Spelling::signed))]
     pub fn size(&self) -> u32
         requires { HasRow (plain self.now) }
-        ensures { result ≡ length (spelling (plain self.now)) }
+        ensures { result ≡ op_size (plain self.now) }
     {
         match *self {
             Op::CpDownSp { .. }

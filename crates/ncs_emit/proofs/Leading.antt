@@ -1,173 +1,202 @@
--- The file of code whose lines lead to instructions is one that loads.
-use Rattle.std.proofs.Common.{rules, ◌≡◌, ◌≤◌, ◌+◌, ◌∷◌, [], ℕ, pos, ◌+ℤ◌, ◌-ℤ◌, List, length, sym, ◌∙◌, ap, arith, refl, true, false, Bool, eqb, cond, Some, None}
-use Rattle.std.specs.Prelude.{◌&&◌, is_some, FitsSigned}
+-- The file of code that leads on and closes is one that loads.
+use Rattle.std.proofs.Common.{rules, ◌≡◌, ◌≤◌, ◌+◌, ◌++◌, ◌∷◌, [], ℕ, List, sym, ◌∙◌, ap, arith, refl, true, false, Bool, eqb, cond}
+use Rattle.std.specs.Prelude.{is_some, FitsSigned, IsTrue}
 use Rattle.std.specs.Int.{w32}
 use Rattle.std.specs.List.{AllByRecursion}
-use Rattle.std.proofs.lemmas.Bool.{ne_eqb}
-use Rattle.std.proofs.lemmas.List.{length-append}
+use Rattle.nwq_value.specs.Limits.{file_limit}
 use Rattle.ncs_code.specs.Plain.{PlainOp, Jmp, Jsr, Jz, Jnz, StoreState}
-use Rattle.ncs_code.specs.Spelling.{spelling, four, IsOp}
-use Rattle.ncs_code.specs.File.{spellings, file_length, op_from, op_at, begins, target, leads_well, bad_from, first_bad, IsCode}
-use Rattle.ncs_code.proofs.Lengths.{spelling_some}
+use Rattle.ncs_code.specs.Spelling.{op_size, IsOp}
+use Rattle.ncs_code.specs.File.{ops_size, file_length, begins, jump_place, distance, leads_well, IsCode}
+use Rattle.ncs_code.specs.Laws.{StoodBegins, BegunStands, SizesAdd, DistanceLeads}
 use Rattle.ncs_emit.specs.declared.jump.Jump.{Jump}
 use Rattle.ncs_emit.specs.declared.jump.Jump.TheVariants as jumps
-use Rattle.ncs_emit.specs.Labelled.{Line, Plain, Leap, Mark, leap, ops_from, place_from, place_of, program}
-use Rattle.ncs_emit.specs.Laws.{LineFits, has_op, marks_op, is_kept_code, is_led, lead_on}
-use Rattle.ncs_emit.proofs.Placing.{cond_below, has_row_leap}
-use Rattle.ncs_emit.proofs.Putting.{length_leap}
+use Rattle.ncs_emit.specs.Labelled.{Line, Instruction, JumpTo, Label, placements, jump_over, lines_size, ops_from, place_from, place_of, program}
+use Rattle.ncs_emit.specs.Leading.{LineFits, IsLed, is_state, begins_with_jump, HasLedStates, LeadsOn, Closes}
+use Rattle.ncs_emit.proofs.Placing.{cond_below, has_row_jump}
+use Rattle.ncs_emit.proofs.Putting.{size_jump}
+use Rattle.ncs_emit.proofs.Standing.{program_size, IsLeft, left_op, left_jump, left_label, op_here, jump_here, all_left}
 
-both : (a b : Bool) → (a && b) ≡ true → (a ≡ true) × (b ≡ true)
-both true b h = (refl, h)
-both false b h = absurd cc
+-- ---- two parts
+
+all_append : (P : Line → Type 0) (before behind : List Line) → AllByRecursion P before → AllByRecursion P behind → AllByRecursion P (before ++ behind)
+all_append P [] behind f g = g
+all_append P (line ∷ before) behind f g = (f.0, all_append P before behind f.1 g)
+
+jump_first : (before behind : List Line) → begins_with_jump before ≡ true → begins_with_jump (before ++ behind) ≡ true
+jump_first [] behind h = absurd cc
+jump_first (Instruction op ∷ before) behind h = absurd cc
+jump_first (JumpTo jump label ∷ before) behind h = refl
+jump_first (Label label ∷ before) behind h = absurd cc
+
+states_append : (before behind : List Line) → HasLedStates before → HasLedStates behind → HasLedStates (before ++ behind)
+states_append [] behind f g = g
+states_append (line ∷ before) behind f g = (λ state. jump_first before behind (f.0 state), states_append before behind f.1 g)
+
+pub both_lead_on : (whole before behind : List Line) → LeadsOn whole before → LeadsOn whole behind → LeadsOn whole (before ++ behind)
+both_lead_on whole before behind f g = record { jumps = all_append (IsLed whole) before behind f.jumps g.jumps; states = states_append before behind f.states g.states }
+
+pub both_close : (before behind : List Line) → Closes before → Closes behind → Closes (before ++ behind)
+both_close [] behind f g = g
+both_close (line ∷ []) [] f g = f
+both_close (line ∷ []) (next ∷ behind) f g = g
+both_close (line ∷ next ∷ before) behind f g = both_close (next ∷ before) behind f g
+
+pub instruction_closes : (lines : List Line) (op : PlainOp) → Closes (lines ++ Instruction op ∷ [])
+instruction_closes [] op = refl
+instruction_closes (line ∷ []) op = refl
+instruction_closes (line ∷ next ∷ lines) op = instruction_closes (next ∷ lines) op
+
+-- what closes ends closed
+closed_end : (line : Line) (lines : List Line) → Closes (line ∷ lines) → Closes lines
+closed_end line [] closes = tt
+closed_end line (next ∷ lines) closes = closes
 
 -- ---- distances
 
-near : (p at : ℕ) → p ≤ 16777216 → at ≤ 16777216 → FitsSigned w32 (pos p -ℤ pos at)
+near : (p at : ℕ) → p ≤ file_limit → at ≤ file_limit → FitsSigned w32 (distance at p)
 near p at f g = search (rules, arith)
 
-back : (p at : ℕ) → pos at +ℤ (pos p -ℤ pos at) ≡ pos p
-back p at = search (rules, arith)
+jump_is_op : (jump : Jump) (p at : ℕ) → p ≤ file_limit → at ≤ file_limit → IsOp (jump_over jump (distance at p))
+jump_is_op jumps.Jmp p at f g = record { row = has_row_jump jumps.Jmp _; fits = near p at f g }
+jump_is_op jumps.Jsr p at f g = record { row = has_row_jump jumps.Jsr _; fits = near p at f g }
+jump_is_op jumps.Jz p at f g = record { row = has_row_jump jumps.Jz _; fits = near p at f g }
+jump_is_op jumps.Jnz p at f g = record { row = has_row_jump jumps.Jnz _; fits = near p at f g }
 
-leap_is_op : (way : Jump) (p at : ℕ) → p ≤ 16777216 → at ≤ 16777216 → IsOp (leap way (pos p -ℤ pos at))
-leap_is_op jumps.Jmp p at f g = record { row = has_row_leap jumps.Jmp _; fits = near p at f g }
-leap_is_op jumps.Jsr p at f g = record { row = has_row_leap jumps.Jsr _; fits = near p at f g }
-leap_is_op jumps.Jz p at f g = record { row = has_row_leap jumps.Jz _; fits = near p at f g }
-leap_is_op jumps.Jnz p at f g = record { row = has_row_leap jumps.Jnz _; fits = near p at f g }
-
-leap_leads : (way : Jump) (ops : List PlainOp) (p at : ℕ) → leads_well ops (target at (leap way (pos p -ℤ pos at))) ≡ begins ops (pos p)
-leap_leads jumps.Jmp ops p at = ap (begins ops) (back p at)
-leap_leads jumps.Jsr ops p at = ap (begins ops) (back p at)
-leap_leads jumps.Jz ops p at = ap (begins ops) (back p at)
-leap_leads jumps.Jnz ops p at = ap (begins ops) (back p at)
-
--- ---- sizes
-
-size_leap : (places : ℕ → ℕ) (at : ℕ) (way : Jump) (label : ℕ) (lines : List Line)
-    → length (spellings (ops_from places at (Leap way label ∷ lines))) ≡ 6 + length (spellings (ops_from places (at + 6) lines))
-size_leap places at way label lines =
-    omega (arith, length-append (spelling (leap way (pos (places label) -ℤ pos at))) (spellings (ops_from places (at + 6) lines)), length_leap way (pos (places label) -ℤ pos at))
-
-size_plain : (places : ℕ → ℕ) (at : ℕ) (op : PlainOp) (lines : List Line)
-    → length (spellings (ops_from places at (Plain op ∷ lines))) ≡ length (spelling op) + length (spellings (ops_from places (at + length (spelling op)) lines))
-size_plain places at op lines = length-append (spelling op) (spellings (ops_from places (at + length (spelling op)) lines))
-
-place_below : (places : ℕ → ℕ) (at label : ℕ) (lines : List Line) → place_from at lines label ≤ at + length (spellings (ops_from places at lines))
-place_below places at label [] = omega arith
-place_below places at label (Plain op ∷ lines) = omega (arith, place_below places (at + length (spelling op)) label lines, size_plain places at op lines)
-place_below places at label (Leap way other ∷ lines) = omega (arith, place_below places (at + 6) label lines, size_leap places at way other lines)
-place_below places at label (Mark other ∷ lines) = cond_below (eqb other label) at (place_from at lines label) _ (omega arith) (place_below places at label lines)
+jump_leads : (jump : Jump) (ops : List PlainOp) (at : ℕ) (p : ℕ) → jump_place at (distance at p) ≡ p → begins ops p ≡ true → leads_well ops at (jump_over jump (distance at p)) ≡ true
+jump_leads jumps.Jmp ops at p leads well = ap (begins ops) leads ∙ well
+jump_leads jumps.Jsr ops at p leads well = ap (begins ops) leads ∙ well
+jump_leads jumps.Jz ops at p leads well = ap (begins ops) leads ∙ well
+jump_leads jumps.Jnz ops at p leads well = ap (begins ops) leads ∙ well
 
 -- ---- each has a spelling
 
-each_op : (places : ℕ → ℕ) → ((label : ℕ) → places label ≤ 16777216) → (at : ℕ) (lines : List Line) → AllByRecursion LineFits lines
-    → at + length (spellings (ops_from places at lines)) ≤ 16777216 → AllByRecursion IsOp (ops_from places at lines)
-each_op places near at [] fits small = tt
-each_op places near at (Plain op ∷ lines) fits small =
-    (fits.0, each_op places near (at + length (spelling op)) lines fits.1 (omega (arith, small, size_plain places at op lines)))
-each_op places near at (Leap way label ∷ lines) fits small =
-    (leap_is_op way (places label) at (near label) (omega (arith, small)), each_op places near (at + 6) lines fits.1 (omega (arith, small, size_leap places at way label lines)))
-each_op places near at (Mark label ∷ lines) fits small = each_op places near at lines fits.1 small
+place_below : (at label : ℕ) (lines : List Line) → place_from at lines label ≤ at + lines_size lines
+place_below at label [] = omega arith
+place_below at label (Instruction op ∷ lines) = omega (arith, place_below (at + op_size op) label lines)
+place_below at label (JumpTo jump other ∷ lines) = omega (arith, place_below (at + 6) label lines)
+place_below at label (Label other ∷ lines) = cond_below (eqb other label) at (place_from at lines label) _ (omega arith) (omega (arith, place_below at label lines))
+
+each_op : (labels : ℕ) (places : ℕ → ℕ) → ((label : ℕ) → places label ≤ file_limit) → (at : ℕ) (lines : List Line) → AllByRecursion (LineFits labels) lines
+    → at + lines_size lines ≤ file_limit → AllByRecursion IsOp (ops_from places at lines)
+each_op labels places small at [] fits near = tt
+each_op labels places small at (Instruction op ∷ lines) fits near = (fits.0, each_op labels places small (at + op_size op) lines fits.1 (omega (arith, near)))
+each_op labels places small at (JumpTo jump label ∷ lines) fits near =
+    (jump_is_op jump (places label) at (small label) (omega (arith, near)), each_op labels places small (at + 6) lines fits.1 (omega (arith, near)))
+each_op labels places small at (Label label ∷ lines) fits near = each_op labels places small at lines fits.1 (omega (arith, near))
+
+each_program : (labels : ℕ) (lines : List Line) → ((label : ℕ) → place_of lines label ≤ file_limit) → AllByRecursion (LineFits labels) lines → 13 + lines_size lines ≤ file_limit → AllByRecursion IsOp (program lines)
+unfolding program
+each_program labels lines small fits near = each_op labels (place_of lines) small 13 lines fits near
+
+as_ops : (lines : List Line) → ops_from (place_of lines) 13 lines ≡ program lines
+unfolding program
+as_ops lines = refl
+
+-- ---- lists
+
+heads : (x y : PlainOp) (xs ys : List PlainOp) → x ∷ xs ≡ y ∷ ys → (x ≡ y) × (xs ≡ ys)
+heads x y xs ys same = (cc, cc)
+
+not_empty : (before behind : List PlainOp) (o : PlainOp) → [] ≡ before ++ o ∷ behind → ⊥
+not_empty [] behind o is = absurd cc
+not_empty (x ∷ before) behind o is = absurd cc
 
 -- ---- what begins where
 
-eqb_same : (n : ℕ) → eqb n n ≡ true
-eqb_same n = grind arith
+module _ (stood : StoodBegins) (add : SizesAdd) (leads : DistanceLeads) (places : ℕ → ℕ) (ops : List PlainOp) where
+  -- in code that closes some instruction begins at each line
+  begins_here : (met : List PlainOp) (at : ℕ) (line : Line) (lines : List Line) → IsLeft ops places met at (line ∷ lines) → Closes (line ∷ lines) → begins ops at ≡ true
+  begins_here met at (Instruction op) lines left closes = ap is_some (op_here stood ops places met at op lines left)
+  begins_here met at (JumpTo jump label) lines left closes = ap is_some (jump_here stood ops places met at jump label lines left)
+  begins_here met at (Label label) [] left closes = absurd cc
+  begins_here met at (Label label) (next ∷ lines) left closes = begins_here met at next lines (left_label ops places met at label (next ∷ lines) left) closes
 
-first_here : (at : ℕ) (op : PlainOp) (ops : List PlainOp) → op_from at (op ∷ ops) at ≡ Some op
-first_here at op ops = rw (eqb_same at) refl
+  -- so behind a jump
+  behind_jump : (met : List PlainOp) (at : ℕ) (jump : Jump) (label : ℕ) (lines : List Line) → IsLeft ops places met at (JumpTo jump label ∷ lines) → Closes (JumpTo jump label ∷ lines) → begins ops (at + 6) ≡ true
+  behind_jump met at jump label [] left closes = absurd cc
+  behind_jump met at jump label (next ∷ lines) left closes =
+      begins_here (met ++ jump_over jump (distance at (places label)) ∷ []) (at + 6) next lines (left_jump add ops places met at jump label (next ∷ lines) left) closes
 
-behind : (at n : ℕ) (op : PlainOp) (ops : List PlainOp) (size : ℕ) → length (spelling op) ≡ size → at + size ≤ n → op_from at (op ∷ ops) n ≡ op_from (at + size) ops n
-behind at n op ops size is le =
-    let test : eqb n at ≡ false = ne_eqb n at (λ same. omega (arith, same, le, is, spelling_some op)) in
-    rw (test, is) refl
+  behind_state : (met : List PlainOp) (at : ℕ) (lines : List Line) → IsLeft ops places met at lines → Closes lines → begins_with_jump lines ≡ true → begins ops (at + 6) ≡ true
+  behind_state met at [] left closes jump = absurd cc
+  behind_state met at (Instruction op ∷ lines) left closes jump = absurd cc
+  behind_state met at (JumpTo way label ∷ lines) left closes jump = behind_jump met at way label lines left closes
+  behind_state met at (Label label ∷ lines) left closes jump = absurd cc
 
--- some instruction or jump follows here
-op_here : (places : ℕ → ℕ) (at : ℕ) (lines : List Line) → has_op lines ≡ true → is_some (op_from at (ops_from places at lines) at) ≡ true
-op_here places at [] h = absurd cc
-op_here places at (Plain op ∷ lines) h = ap is_some (first_here at op (ops_from places (at + length (spelling op)) lines))
-op_here places at (Leap way label ∷ lines) h = ap is_some (first_here at (leap way (pos (places label) -ℤ pos at)) (ops_from places (at + 6) lines))
-op_here places at (Mark label ∷ lines) h = op_here places at lines h
+  state_leads : (met : List PlainOp) (at globals locals : ℕ) (lines : List Line) → IsLeft ops places met at (Instruction (StoreState globals locals) ∷ lines)
+      → Closes (Instruction (StoreState globals locals) ∷ lines) → begins_with_jump lines ≡ true → begins ops (at + 16) ≡ true
+  state_leads met at globals locals lines left closes jump =
+      let place : at + 10 + 6 ≡ at + 16 = omega arith in
+      ap (begins ops) (sym place) ∙ behind_state (met ++ StoreState globals locals ∷ []) (at + 10) lines (left_op add ops places met at (StoreState globals locals) lines left) (closed_end (Instruction (StoreState globals locals)) lines closes) jump
 
-kept_here : (places : ℕ → ℕ) (at : ℕ) (lines : List Line) → is_kept_code lines ≡ true → is_some (op_from at (ops_from places at lines) (at + 6)) ≡ true
-kept_here places at [] h = absurd cc
-kept_here places at (Plain op ∷ lines) h = absurd cc
-kept_here places at (Leap way label ∷ lines) h =
-    ap is_some (behind at (at + 6) (leap way (pos (places label) -ℤ pos at)) (ops_from places (at + 6) lines) 6 (length_leap way _) (omega arith)) ∙ op_here places (at + 6) lines h
-kept_here places at (Mark label ∷ lines) h = kept_here places at lines h
+  op_leads : (whole : List Line) (met : List PlainOp) (at : ℕ) (op : PlainOp) (lines : List Line) → IsLeft ops places met at (Instruction op ∷ lines) → Closes (Instruction op ∷ lines) → IsLed whole (Instruction op)
+      → (IsTrue (is_state (Instruction op)) → IsTrue (begins_with_jump lines)) → leads_well ops at op ≡ true
+  op_leads whole met at (Jmp offset) lines left closes led state = absurd led
+  op_leads whole met at (Jsr offset) lines left closes led state = absurd led
+  op_leads whole met at (Jz offset) lines left closes led state = absurd led
+  op_leads whole met at (Jnz offset) lines left closes led state = absurd led
+  op_leads whole met at (StoreState globals locals) lines left closes led state = state_leads met at globals locals lines left closes (state refl)
+  op_leads whole met at _ lines left closes led state = refl
 
--- the rest of the lines tells what begins from here on
-abbrev Tells : (ℕ → ℕ) → List PlainOp → ℕ → List Line → Type 0
-Tells places ops at lines = (n : ℕ) → at ≤ n → op_at ops n ≡ op_from at (ops_from places at lines) n
+  label_case : (at label : ℕ) (lines : List Line) (test : Bool) → (test ≡ true → begins ops at ≡ true) → (1 ≤ placements lines label → begins ops (place_from at lines label) ≡ true)
+      → 1 ≤ cond test 1 0 + placements lines label → begins ops (cond test at (place_from at lines label)) ≡ true
+  label_case at label lines true here rest some = here refl
+  label_case at label lines false here rest some = rest (omega (arith, some))
 
-tells_plain : (places : ℕ → ℕ) (ops : List PlainOp) (at : ℕ) (op : PlainOp) (lines : List Line) → Tells places ops at (Plain op ∷ lines) → Tells places ops (at + length (spelling op)) lines
-tells_plain places ops at op lines tells n le = tells n (omega (arith, le)) ∙ behind at n op (ops_from places (at + length (spelling op)) lines) (length (spelling op)) refl le
+  -- where a label is placed an instruction begins
+  label_begins : (met : List PlainOp) (at label : ℕ) (lines : List Line) → IsLeft ops places met at lines → Closes lines → 1 ≤ placements lines label → begins ops (place_from at lines label) ≡ true
+  label_begins met at label [] left closes some = absurd (omega (arith, some))
+  label_begins met at label (Instruction op ∷ lines) left closes some =
+      label_begins (met ++ op ∷ []) (at + op_size op) label lines (left_op add ops places met at op lines left) (closed_end (Instruction op) lines closes) some
+  label_begins met at label (JumpTo jump other ∷ lines) left closes some =
+      label_begins (met ++ jump_over jump (distance at (places other)) ∷ []) (at + 6) label lines (left_jump add ops places met at jump other lines left) (closed_end (JumpTo jump other) lines closes) some
+  label_begins met at label (Label other ∷ lines) left closes some =
+      label_case at label lines (eqb other label) (λ same. begins_here met at (Label other) lines left closes)
+      (λ rest. label_begins met at label lines (left_label ops places met at other lines left) (closed_end (Label other) lines closes) rest) some
 
-tells_leap : (places : ℕ → ℕ) (ops : List PlainOp) (at : ℕ) (way : Jump) (label : ℕ) (lines : List Line) → Tells places ops at (Leap way label ∷ lines) → Tells places ops (at + 6) lines
-tells_leap places ops at way label lines tells n le =
-    tells n (omega (arith, le)) ∙ behind at n (leap way (pos (places label) -ℤ pos at)) (ops_from places (at + 6) lines) 6 (length_leap way _) le
+  -- ---- each instruction leads well
 
-mark_case : (ops : List PlainOp) (at place : ℕ) (test now later : Bool) → cond test now later ≡ true → (now ≡ true → is_some (op_at ops at) ≡ true) → (later ≡ true → is_some (op_at ops place) ≡ true)
-    → is_some (op_at ops (cond test at place)) ≡ true
-mark_case ops at place true now later h f g = f h
-mark_case ops at place false now later h f g = g h
+  -- the first of those that are left, or one behind it
+  first_or : (at : ℕ) (x o : PlainOp) (rest before behind : List PlainOp) → x ∷ rest ≡ before ++ o ∷ behind → leads_well ops at x ≡ true
+      → ((b : List PlainOp) → rest ≡ b ++ o ∷ behind → leads_well ops (at + op_size x + ops_size b) o ≡ true) → leads_well ops (at + ops_size before) o ≡ true
+  first_or at x o rest [] behind is well others =
+      let place : at ≡ at + 0 = omega arith in
+      ap (λ n. leads_well ops n o) (sym place) ∙ ap (leads_well ops at) (sym (heads x o rest behind is).0) ∙ well
+  first_or at x o rest (y ∷ before) behind is well others =
+      let same = heads x y rest (before ++ o ∷ behind) is in
+      let place : at + op_size x + ops_size before ≡ at + (op_size y + ops_size before) = omega (arith, ap op_size same.0) in
+      ap (λ n. leads_well ops n o) (sym place) ∙ others before same.1
 
--- a label that marks an instruction stands where one begins
-mark_begins : (places : ℕ → ℕ) (ops : List PlainOp) (at label : ℕ) (lines : List Line) → Tells places ops at lines → marks_op lines label ≡ true → is_some (op_at ops (place_from at lines label)) ≡ true
-mark_begins places ops at label [] tells h = absurd cc
-mark_begins places ops at label (Plain op ∷ lines) tells h = mark_begins places ops (at + length (spelling op)) label lines (tells_plain places ops at op lines tells) h
-mark_begins places ops at label (Leap way other ∷ lines) tells h = mark_begins places ops (at + 6) label lines (tells_leap places ops at way other lines tells) h
-mark_begins places ops at label (Mark other ∷ lines) tells h =
-    mark_case ops at (place_from at lines label) (eqb other label) (has_op lines) (marks_op lines label) h
-    (λ some. ap is_some (tells at (omega arith)) ∙ op_here places at lines some)
-    (λ marks. mark_begins places ops at label lines tells marks)
+  all_lead : (whole : List Line) → ((label : ℕ) → 1 ≤ placements whole label → begins ops (places label) ≡ true) → (met : List PlainOp) (at : ℕ) (lines : List Line) → IsLeft ops places met at lines
+      → Closes lines → AllByRecursion (IsLed whole) lines → HasLedStates lines → (before behind : List PlainOp) (o : PlainOp) → ops_from places at lines ≡ before ++ o ∷ behind
+      → leads_well ops (at + ops_size before) o ≡ true
+  all_lead whole placed met at [] left closes jumps states before behind o is = absurd (not_empty before behind o is)
+  all_lead whole placed met at (Instruction op ∷ lines) left closes jumps states before behind o is =
+      first_or at op o (ops_from places (at + op_size op) lines) before behind is
+      (op_leads whole met at op lines left closes jumps.0 states.0)
+      (λ b same. all_lead whole placed (met ++ op ∷ []) (at + op_size op) lines (left_op add ops places met at op lines left) (closed_end (Instruction op) lines closes) jumps.1 states.1 b behind o same)
+  all_lead whole placed met at (JumpTo jump label ∷ lines) left closes jumps states before behind o is =
+      let op : PlainOp = jump_over jump (distance at (places label)) in
+      let six : op_size op ≡ 6 = size_jump jump (distance at (places label)) in
+      first_or at op o (ops_from places (at + 6) lines) before behind is
+      (jump_leads jump ops at (places label) (leads at (places label)) (placed label jumps.0))
+      (λ b same. ap (λ n. leads_well ops (at + n + ops_size b) o) six
+      ∙ all_lead whole placed (met ++ op ∷ []) (at + 6) lines (left_jump add ops places met at jump label lines left) (closed_end (JumpTo jump label) lines closes) jumps.1 states.1 b behind o same)
+  all_lead whole placed met at (Label label ∷ lines) left closes jumps states before behind o is =
+      all_lead whole placed met at lines (left_label ops places met at label lines left) (closed_end (Label label) lines closes) jumps.1 states.1 before behind o is
 
--- ---- where each leads
-
-length_state : (globals locals : ℕ) → length (spelling (StoreState globals locals)) ≡ 10
-unfolding four
-length_state globals locals = refl
-
--- STORE_STATE takes ten bytes, so that what is kept begins behind the jump that follows it
-state_leads : (places : ℕ → ℕ) (ops : List PlainOp) (at globals locals : ℕ) (lines : List Line) → Tells places ops at (Plain (StoreState globals locals) ∷ lines) → is_kept_code lines ≡ true
-    → begins ops (pos (at + 16)) ≡ true
-state_leads places ops at globals locals lines tells h =
-    let ten : length (spelling (StoreState globals locals)) ≡ 10 = length_state globals locals in
-    let after = tells_plain places ops at (StoreState globals locals) lines tells in
-    let place : at + length (spelling (StoreState globals locals)) + 6 ≡ at + 16 = omega (arith, ten) in
-    ap (λ n. is_some (op_at ops n)) (sym place) ∙ ap is_some (after (at + length (spelling (StoreState globals locals)) + 6) (omega arith))
-    ∙ kept_here places (at + length (spelling (StoreState globals locals))) lines h
-
-plain_leads : (places : ℕ → ℕ) (ops : List PlainOp) (at : ℕ) (op : PlainOp) (lines : List Line) → Tells places ops at (Plain op ∷ lines) → is_led op lines ≡ true → leads_well ops (target at op) ≡ true
-plain_leads places ops at (Jmp offset) lines tells h = absurd cc
-plain_leads places ops at (Jsr offset) lines tells h = absurd cc
-plain_leads places ops at (Jz offset) lines tells h = absurd cc
-plain_leads places ops at (Jnz offset) lines tells h = absurd cc
-plain_leads places ops at (StoreState globals locals) lines tells h = state_leads places ops at globals locals lines tells h
-plain_leads places ops at _ lines tells h = refl
-
-none_bad : (all : List Line) (ops : List PlainOp) → Tells (place_of all) ops 13 all → (at : ℕ) (lines : List Line) → Tells (place_of all) ops at lines → lead_on all lines ≡ true
-    → bad_from ops at (ops_from (place_of all) at lines) ≡ None
-none_bad all ops whole at [] tells h = refl
-none_bad all ops whole at (Plain op ∷ lines) tells h =
-    let hs = both (is_led op lines) (lead_on all lines) h in
-    let well = plain_leads (place_of all) ops at op lines tells hs.0 in
-    rw well (none_bad all ops whole (at + length (spelling op)) lines (tells_plain (place_of all) ops at op lines tells) hs.1)
-none_bad all ops whole at (Leap way label ∷ lines) tells h =
-    let hs = both (marks_op all label) (lead_on all lines) h in
-    let text : PlainOp = leap way (pos (place_of all label) -ℤ pos at) in
-    let well : leads_well ops (target at text) ≡ true = leap_leads way ops (place_of all label) at ∙ mark_begins (place_of all) ops 13 label all whole hs.0 in
-    let rest : List PlainOp = ops_from (place_of all) (at + 6) lines in
-    ap (λ b. cond b (bad_from ops (at + length (spelling text)) rest) (Some at)) well
-    ∙ ap (λ n. bad_from ops (at + n) rest) (length_leap way (pos (place_of all label) -ℤ pos at))
-    ∙ none_bad all ops whole (at + 6) lines (tells_leap (place_of all) ops at way label lines tells) hs.1
-none_bad all ops whole at (Mark label ∷ lines) tells h = none_bad all ops whole at lines tells h
-
-pub finished : (lines : List Line) → AllByRecursion LineFits lines → lead_on lines lines ≡ true → file_length (program lines) ≤ 16777216 → IsCode (program lines)
-unfolding program op_at first_bad
-finished lines fits leads small =
-    let below : (label : ℕ) → place_of lines label ≤ 16777216 = λ label. omega (arith, place_below (place_of lines) 13 label lines, small) in
+pub finished : StoodBegins → BegunStands → SizesAdd → DistanceLeads → (labels : ℕ) (lines : List Line) → AllByRecursion (LineFits labels) lines → LeadsOn lines lines → Closes lines
+    → file_length (program lines) ≤ file_limit → IsCode (program lines)
+finished stood begun add leads labels lines fits on closes small =
+    let sized : 13 + lines_size lines ≤ file_limit = omega (arith, program_size lines, small) in
+    let below : (label : ℕ) → place_of lines label ≤ file_limit = λ label. omega (arith, place_below 13 label lines, sized) in
+    let placed : (label : ℕ) → 1 ≤ placements lines label → begins (program lines) (place_of lines label) ≡ true =
+    λ label some. label_begins stood add leads (place_of lines) (program lines) [] 13 label lines (all_left lines) closes some in
     record {
-      each = each_op (place_of lines) below 13 lines fits (omega (arith, small));
-      targets = none_bad lines (program lines) (λ n le. refl) 13 lines (λ n le. refl) leads;
+      each = each_program labels lines below fits sized;
+      leads = λ at op is.
+          let stands = begun (program lines) at op is in
+          ap (λ n. leads_well (program lines) n op) stands.place
+          ∙ all_lead stood add leads (place_of lines) (program lines) lines placed [] 13 lines (all_left lines) closes on.jumps on.states stands.before stands.behind op (as_ops lines ∙ stands.both);
       bounded = small;
     }

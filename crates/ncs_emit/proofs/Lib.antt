@@ -1,5 +1,6 @@
-mod Lines
-mod Counting
-mod Placing
-mod Putting
-mod Leading
+pub mod Lines
+pub mod Counting
+pub mod Placing
+pub mod Putting
+pub mod Standing
+pub mod Leading

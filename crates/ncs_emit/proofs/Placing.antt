@@ -9,27 +9,27 @@ use Rattle.ncs_emit.specs.declared.jump.Jump.{Jump}
 use Rattle.ncs_emit.specs.declared.jump.Jump.TheVariants.{Jmp, Jsr, Jz, Jnz}
 use Rattle.ncs_emit.specs.declared.line.Kept.{Kept}
 use Rattle.ncs_emit.specs.declared.line.Kept.TheVariants as kept
-use Rattle.ncs_emit.specs.Labelled.{leap, place_from}
+use Rattle.ncs_emit.specs.Labelled.{jump_over, place_from}
 use Rattle.ncs_emit.specs.Emitting.{lines_of, HasLabels, KeptFits, kept_place, kept_total}
 
--- the mark of a label has the same place in what is kept as in the lines
+-- a label has the same place in what is kept as in the lines
 pub kept_place_is : (labels : ℕ) (bytes : List ℕ) (all : List Kept) (at label : ℕ) → KeptFits labels bytes all → kept_place at all label ≡ place_from at (lines_of bytes all) label
 kept_place_is labels bytes [] at label fits = refl
-kept_place_is labels bytes (kept.Op size ∷ all) at label fits =
+kept_place_is labels bytes (kept.Instruction size ∷ all) at label fits =
     kept_place_is labels (drop size bytes) all (at + size) label fits.1 ∙ ap (λ n. place_from (at + n) (lines_of (drop size bytes) all) label) fits.0.size
-kept_place_is labels bytes (kept.Leap way other ∷ all) at label fits = kept_place_is labels bytes all (at + 6) label fits.1
-kept_place_is labels bytes (kept.Mark other ∷ all) at label fits = ap (λ p. cond (eqb other label) at p) (kept_place_is labels bytes all at label fits.1)
+kept_place_is labels bytes (kept.Jump jump other ∷ all) at label fits = kept_place_is labels bytes all (at + 6) label fits.1
+kept_place_is labels bytes (kept.Label other ∷ all) at label fits = ap (λ p. cond (eqb other label) at p) (kept_place_is labels bytes all at label fits.1)
 
 pub cond_below : (b : Bool) (m n k : ℕ) → m ≤ k → n ≤ k → cond b m n ≤ k
 cond_below true m n k f g = f
 cond_below false m n k f g = g
 
--- no mark stands behind the end
+-- no label stands behind the end
 pub kept_place_below : (all : List Kept) (at label : ℕ) → kept_place at all label ≤ at + kept_total all
 kept_place_below [] at label = omega arith
-kept_place_below (kept.Op size ∷ all) at label = omega (arith, kept_place_below all (at + size) label)
-kept_place_below (kept.Leap way other ∷ all) at label = omega (arith, kept_place_below all (at + 6) label)
-kept_place_below (kept.Mark other ∷ all) at label = cond_below (eqb other label) at (kept_place at all label) _ (omega arith) (omega (arith, kept_place_below all at label))
+kept_place_below (kept.Instruction size ∷ all) at label = omega (arith, kept_place_below all (at + size) label)
+kept_place_below (kept.Jump jump other ∷ all) at label = omega (arith, kept_place_below all (at + 6) label)
+kept_place_below (kept.Label other ∷ all) at label = cond_below (eqb other label) at (kept_place at all label) _ (omega arith) (omega (arith, kept_place_below all at label))
 
 -- the places that were met, and where the next line stands
 pub record PlacedSoFar (all : List Kept) (i labels : ℕ) (places : List (Option ℕ)) (at : ℕ) : Type 0 where
@@ -58,7 +58,7 @@ place_begins all labels places labelled is = record {
 pub here : (all : List Kept) (i : ℕ) (line : Kept) → i < length all → line ≡ get_or all i line → drop i all ≡ line ∷ drop (i + 1) all
 here all i line lt is = drop_more all i line lt ∙ ap (λ k. k ∷ drop (i + 1) all) (sym is)
 
-pub place_op : (all : List Kept) (i labels : ℕ) (places : List (Option ℕ)) (at size : ℕ) → PlacedSoFar all i labels places at → drop i all ≡ kept.Op size ∷ drop (i + 1) all
+pub place_op : (all : List Kept) (i labels : ℕ) (places : List (Option ℕ)) (at size : ℕ) → PlacedSoFar all i labels places at → drop i all ≡ kept.Instruction size ∷ drop (i + 1) all
     → PlacedSoFar all (i + 1) labels places (at + size)
 place_op all i labels places at size h is = record {
   len = h.len;
@@ -67,19 +67,19 @@ place_op all i labels places at size h is = record {
   found = λ label. ap (λ ks. unwrap_or (get_or places label None) (kept_place at ks label)) (sym is) ∙ h.found label;
 }
 
-pub place_leap : (all : List Kept) (i labels : ℕ) (places : List (Option ℕ)) (at : ℕ) (way : Jump) (other : ℕ) → PlacedSoFar all i labels places at
-    → drop i all ≡ kept.Leap way other ∷ drop (i + 1) all → PlacedSoFar all (i + 1) labels places (at + 6)
-place_leap all i labels places at way other h is = record {
+pub place_jump : (all : List Kept) (i labels : ℕ) (places : List (Option ℕ)) (at : ℕ) (jump : Jump) (other : ℕ) → PlacedSoFar all i labels places at
+    → drop i all ≡ kept.Jump jump other ∷ drop (i + 1) all → PlacedSoFar all (i + 1) labels places (at + 6)
+place_jump all i labels places at jump other h is = record {
   len = h.len;
   size = omega (arith, h.size, ap (kept_total) is);
   labelled = (subst (AllByRecursion (HasLabels labels)) is h.labelled).1;
   found = λ label. ap (λ ks. unwrap_or (get_or places label None) (kept_place at ks label)) (sym is) ∙ h.found label;
 }
 
-pub mark_made : (all : List Kept) (i labels : ℕ) (places : List (Option ℕ)) (at other : ℕ) → PlacedSoFar all i labels places at → drop i all ≡ kept.Mark other ∷ drop (i + 1) all → other < labels
-mark_made all i labels places at other h is = (subst (AllByRecursion (HasLabels labels)) is h.labelled).0
+pub label_here : (all : List Kept) (i labels : ℕ) (places : List (Option ℕ)) (at other : ℕ) → PlacedSoFar all i labels places at → drop i all ≡ kept.Label other ∷ drop (i + 1) all → other < labels
+label_here all i labels places at other h is = (subst (AllByRecursion (HasLabels labels)) is h.labelled).0
 
--- a mark of a label that has its place already
+-- a label that has its place already
 again : (places : List (Option ℕ)) (other at p q label place : ℕ) (test : Bool) → eqb other label ≡ test → get_or places other None ≡ Some place
     → unwrap_or (get_or places label None) (cond test at q) ≡ unwrap_or (get_or places label None) q
 again places other at p q label place true is known =
@@ -89,7 +89,7 @@ again places other at p q label place true is known =
 again places other at p q label place false is known = refl
 
 pub place_again : (all : List Kept) (i labels : ℕ) (places : List (Option ℕ)) (at other place : ℕ) → PlacedSoFar all i labels places at
-    → drop i all ≡ kept.Mark other ∷ drop (i + 1) all → get_or places other None ≡ Some place → PlacedSoFar all (i + 1) labels places at
+    → drop i all ≡ kept.Label other ∷ drop (i + 1) all → get_or places other None ≡ Some place → PlacedSoFar all (i + 1) labels places at
 place_again all i labels places at other place h is known = record {
   len = h.len;
   size = omega (arith, h.size, ap (kept_total) is);
@@ -98,7 +98,7 @@ place_again all i labels places at other place h is known = record {
       ∙ ap (λ ks. unwrap_or (get_or places label None) (kept_place at ks label)) (sym is) ∙ h.found label;
 }
 
--- the first mark of a label
+-- a label that has none yet
 first : (places : List (Option ℕ)) (other at q label : ℕ) (test : Bool) → other < length places → eqb other label ≡ test → get_or places other None ≡ None
     → unwrap_or (get_or (set places other (Some at)) label None) q ≡ unwrap_or (get_or places label None) (cond test at q)
 first places other at q label true lt is none =
@@ -110,12 +110,12 @@ first places other at q label false lt is none =
     ap (λ o. unwrap_or o q) (get_or-set_other places other label (Some at) None (λ same. eqb-false other label is (sym same)))
 
 pub place_first : (all : List Kept) (i labels : ℕ) (places : List (Option ℕ)) (at other : ℕ) → PlacedSoFar all i labels places at
-    → drop i all ≡ kept.Mark other ∷ drop (i + 1) all → get_or places other None ≡ None → PlacedSoFar all (i + 1) labels (set places other (Some at)) at
+    → drop i all ≡ kept.Label other ∷ drop (i + 1) all → get_or places other None ≡ None → PlacedSoFar all (i + 1) labels (set places other (Some at)) at
 place_first all i labels places at other h is none = record {
   len = length-set places other (Some at) ∙ h.len;
   size = omega (arith, h.size, ap (kept_total) is);
   labelled = (subst (AllByRecursion (HasLabels labels)) is h.labelled).1;
-  found = λ label. first places other at (kept_place at (drop (i + 1) all) label) label (eqb other label) (omega (arith, h.len, mark_made all i labels places at other h is)) refl none
+  found = λ label. first places other at (kept_place at (drop (i + 1) all) label) label (eqb other label) (omega (arith, h.len, label_here all i labels places at other h is)) refl none
       ∙ ap (λ ks. unwrap_or (get_or places label None) (kept_place at ks label)) (sym is) ∙ h.found label;
 }
 
@@ -131,9 +131,9 @@ place_ends all i labels places at h end =
     let none = none_left all i end in
     (omega (arith, h.size, ap (kept_total) none), λ label. ap (λ ks. unwrap_or (get_or places label None) (kept_place at ks label)) (sym none) ∙ h.found label)
 
-pub has_row_leap : (way : Jump) (distance : ℤ) → HasRow (leap way distance)
+pub has_row_jump : (jump : Jump) (distance : ℤ) → HasRow (jump_over jump distance)
 unfolding has_type
-has_row_leap Jmp distance = record { kind = refl; sizes = tt }
-has_row_leap Jsr distance = record { kind = refl; sizes = tt }
-has_row_leap Jz distance = record { kind = refl; sizes = tt }
-has_row_leap Jnz distance = record { kind = refl; sizes = tt }
+has_row_jump Jmp distance = record { kind = refl; sizes = tt }
+has_row_jump Jsr distance = record { kind = refl; sizes = tt }
+has_row_jump Jz distance = record { kind = refl; sizes = tt }
+has_row_jump Jnz distance = record { kind = refl; sizes = tt }

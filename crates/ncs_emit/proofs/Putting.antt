@@ -1,24 +1,25 @@
 -- Writing the lines out.
-use Rattle.std.proofs.Common.{◌≡◌, ◌<◌, ◌≤◌, ◌+◌, ◌*◌, ◌++◌, ◌∷◌, [], ℕ, ℤ, pos, ◌-ℤ◌, List, length, get_or, take, drop, sym, ◌∙◌, ap, arith, refl, subst, append_assoc, Option, None}
+use Rattle.std.proofs.Common.{◌≡◌, ◌<◌, ◌≤◌, ◌+◌, ◌*◌, ◌++◌, ◌∷◌, [], ℕ, ℤ, List, length, get_or, take, drop, sym, ◌∙◌, ap, arith, refl, subst, append_assoc, Option, None}
 use Rattle.std.specs.Prelude.{unwrap_or}
 use Rattle.std.proofs.lemmas.List.{length-append, append-nil, take_at, drop_more}
-use Rattle.ncs_code.specs.Spelling.{spelling, signed, four}
+use Rattle.ncs_code.specs.Plain.{PlainOp}
+use Rattle.ncs_code.specs.Spelling.{spelling, op_size, four}
 use Rattle.ncs_code.specs.Reading.{op_of}
-use Rattle.ncs_code.specs.File.{magic, spellings, file_length, file_bytes}
+use Rattle.ncs_code.specs.File.{magic, spellings, ops_size, file_length, file_bytes, distance}
+use Rattle.ncs_code.specs.Laws.{SizeIsLength}
 use Rattle.ncs_emit.specs.declared.jump.Jump.{Jump}
 use Rattle.ncs_emit.specs.declared.jump.Jump.TheVariants.{Jmp, Jsr, Jz, Jnz}
 use Rattle.ncs_emit.specs.declared.line.Kept.{Kept}
 use Rattle.ncs_emit.specs.declared.line.Kept.TheVariants as kept
-use Rattle.ncs_emit.specs.Labelled.{Line, leap, ops_from, place_of, program}
+use Rattle.ncs_emit.specs.Labelled.{Line, jump_over, ops_from, place_of, program}
 use Rattle.ncs_emit.specs.Emitting.{lines_of, KeptFits, kept_place, kept_total}
 use Rattle.ncs_emit.proofs.Placing.{kept_place_is, kept_place_below}
 
-pub length_leap : (way : Jump) (distance : ℤ) → length (spelling (leap way distance)) ≡ 6
-unfolding signed
-length_leap Jmp distance = refl
-length_leap Jsr distance = refl
-length_leap Jz distance = refl
-length_leap Jnz distance = refl
+pub size_jump : (jump : Jump) (offset : ℤ) → op_size (jump_over jump offset) ≡ 6
+size_jump Jmp offset = refl
+size_jump Jsr offset = refl
+size_jump Jz offset = refl
+size_jump Jnz offset = refl
 
 -- what is written, and then what is left, gives the whole
 pub record PutSoFar (whole : List ℕ) (lines : List Line) (labels size : ℕ) (file rest : List ℕ) (left : List Kept) : Type 0 where
@@ -35,41 +36,42 @@ put_begins file bytes all labels size begun fits is = record {
   total = omega (arith, begun, is);
 }
 
-pub put_op : (whole : List ℕ) (lines : List Line) (labels size : ℕ) (file rest : List ℕ) (left others : List Kept) (count : ℕ) → PutSoFar whole lines labels size file rest left
-    → left ≡ kept.Op count ∷ others → PutSoFar whole lines labels size (file ++ take count rest) (drop count rest) others
-put_op whole lines labels size file rest left others count h is =
+pub put_op : SizeIsLength → (whole : List ℕ) (lines : List Line) (labels size : ℕ) (file rest : List ℕ) (left others : List Kept) (count : ℕ) → PutSoFar whole lines labels size file rest left
+    → left ≡ kept.Instruction count ∷ others → PutSoFar whole lines labels size (file ++ take count rest) (drop count rest) others
+put_op sized whole lines labels size file rest left others count h is =
     let fits = subst (KeptFits labels rest) is h.fits in
     let same = subst (λ ks. file ++ spellings (ops_from (place_of lines) (length file) (lines_of rest ks)) ≡ whole) is h.same in
     let text : List ℕ = spelling (op_of rest) in
-    let front : take count rest ≡ text = ap (take count) fits.0.front ∙ take_at text (drop count rest) count (sym fits.0.size) in
-    let place : length (file ++ text) ≡ length file + length text = length-append file text in
+    let long : length text ≡ count = sym (fits.0.size ∙ sized (op_of rest)) in
+    let taken : take count rest ≡ text = ap (take count) fits.0.prefix ∙ take_at text (drop count rest) count long in
+    let place : length (file ++ text) ≡ length file + op_size (op_of rest) = omega (arith, length-append file text, long, fits.0.size) in
     let tail : ℕ → List ℕ = λ n. spellings (ops_from (place_of lines) n (lines_of (drop count rest) others)) in
     record {
-      same = ap (λ (t : List ℕ). (file ++ t) ++ spellings (ops_from (place_of lines) (length (file ++ t)) (lines_of (drop count rest) others))) front
-          ∙ ap (λ n. (file ++ text) ++ tail n) place ∙ append_assoc file text (tail (length file + length text)) ∙ same;
+      same = ap (λ (t : List ℕ). (file ++ t) ++ spellings (ops_from (place_of lines) (length (file ++ t)) (lines_of (drop count rest) others))) taken
+          ∙ ap (λ n. (file ++ text) ++ tail n) place ∙ append_assoc file text (tail (length file + op_size (op_of rest))) ∙ same;
       fits = fits.1;
-      total = omega (arith, ap length front, length-append file (take count rest), fits.0.size, h.total, ap kept_total is);
+      total = omega (arith, ap length taken, length-append file (take count rest), long, h.total, ap kept_total is);
     }
 
-pub put_leap : (whole : List ℕ) (lines : List Line) (labels size : ℕ) (file rest : List ℕ) (left others : List Kept) (way : Jump) (label place : ℕ) → PutSoFar whole lines labels size file rest left
-    → left ≡ kept.Leap way label ∷ others → place ≡ place_of lines label → PutSoFar whole lines labels size (file ++ spelling (leap way (pos place -ℤ pos (length file)))) rest others
-put_leap whole lines labels size file rest left others way label place h is at =
+pub put_jump_line : SizeIsLength → (whole : List ℕ) (lines : List Line) (labels size : ℕ) (file rest : List ℕ) (left others : List Kept) (jump : Jump) (label place : ℕ) → PutSoFar whole lines labels size file rest left
+    → left ≡ kept.Jump jump label ∷ others → place ≡ place_of lines label → PutSoFar whole lines labels size (file ++ spelling (jump_over jump (distance (length file) place))) rest others
+put_jump_line sized whole lines labels size file rest left others jump label place h is at =
     let fits = subst (KeptFits labels rest) is h.fits in
     let same = subst (λ ks. file ++ spellings (ops_from (place_of lines) (length file) (lines_of rest ks)) ≡ whole) is h.same in
-    let text : List ℕ = spelling (leap way (pos (place_of lines label) -ℤ pos (length file))) in
-    let size_is : length text ≡ 6 = length_leap way _ in
-    let count : length (file ++ text) ≡ length file + 6 = omega (arith, length-append file text, size_is) in
+    let op : PlainOp = jump_over jump (distance (length file) (place_of lines label)) in
+    let long : length (spelling op) ≡ 6 = sym (sized op) ∙ size_jump jump _ in
+    let count : length (file ++ spelling op) ≡ length file + 6 = omega (arith, length-append file (spelling op), long) in
     let tail : ℕ → List ℕ = λ n. spellings (ops_from (place_of lines) n (lines_of rest others)) in
-    let P : ℕ → Type 0 = λ p. PutSoFar whole lines labels size (file ++ spelling (leap way (pos p -ℤ pos (length file)))) rest others in
+    let P : ℕ → Type 0 = λ p. PutSoFar whole lines labels size (file ++ spelling (jump_over jump (distance (length file) p))) rest others in
     subst P (sym at) (record {
-      same = ap (λ n. (file ++ text) ++ tail n) count ∙ append_assoc file text (tail (length file + 6)) ∙ same;
+      same = ap (λ n. (file ++ spelling op) ++ tail n) count ∙ append_assoc file (spelling op) (tail (length file + 6)) ∙ same;
       fits = fits.1;
       total = omega (arith, count, h.total, ap kept_total is);
     })
 
-pub put_mark : (whole : List ℕ) (lines : List Line) (labels size : ℕ) (file rest : List ℕ) (left others : List Kept) (label : ℕ) → PutSoFar whole lines labels size file rest left
-    → left ≡ kept.Mark label ∷ others → PutSoFar whole lines labels size file rest others
-put_mark whole lines labels size file rest left others label h is =
+pub put_label : (whole : List ℕ) (lines : List Line) (labels size : ℕ) (file rest : List ℕ) (left others : List Kept) (label : ℕ) → PutSoFar whole lines labels size file rest left
+    → left ≡ kept.Label label ∷ others → PutSoFar whole lines labels size file rest others
+put_label whole lines labels size file rest left others label h is =
     let fits = subst (KeptFits labels rest) is h.fits in
     record {
       same = subst (λ ks. file ++ spellings (ops_from (place_of lines) (length file) (lines_of rest ks)) ≡ whole) is h.same;
@@ -82,9 +84,9 @@ put_ends whole lines labels size file rest left h is =
     sym (append-nil file) ∙ subst (λ ks. file ++ spellings (ops_from (place_of lines) (length file) (lines_of rest ks)) ≡ whole) is h.same
 
 -- the label of the jump in view was made, and its place is known
-pub label_made : (whole : List ℕ) (lines : List Line) (labels size : ℕ) (file rest : List ℕ) (left others : List Kept) (way : Jump) (label : ℕ) → PutSoFar whole lines labels size file rest left
-    → left ≡ kept.Leap way label ∷ others → label < labels
-label_made whole lines labels size file rest left others way label h is = (subst (KeptFits labels rest) is h.fits).0
+pub label_made : (whole : List ℕ) (lines : List Line) (labels size : ℕ) (file rest : List ℕ) (left others : List Kept) (jump : Jump) (label : ℕ) → PutSoFar whole lines labels size file rest left
+    → left ≡ kept.Jump jump label ∷ others → label < labels
+label_made whole lines labels size file rest left others jump label h is = (subst (KeptFits labels rest) is h.fits).0
 
 pub place_known : (labels size : ℕ) (bytes : List ℕ) (all : List Kept) (places : List (Option ℕ)) (label : ℕ) → KeptFits labels bytes all
     → ((l : ℕ) → unwrap_or (get_or places l None) size ≡ kept_place 13 all l) → unwrap_or (get_or places label None) size ≡ place_of (lines_of bytes all) label
@@ -107,31 +109,32 @@ moved whole lines labels size file later rest other left h is same =
 
 -- ---- sizes
 
-pub length_ops : (places : ℕ → ℕ) (labels at : ℕ) (bytes : List ℕ) (all : List Kept) → KeptFits labels bytes all → length (spellings (ops_from places at (lines_of bytes all))) ≡ kept_total all
-length_ops places labels at bytes [] fits = refl
-length_ops places labels at bytes (kept.Op size ∷ all) fits =
+pub ops_size_is : (places : ℕ → ℕ) (labels at : ℕ) (bytes : List ℕ) (all : List Kept) → KeptFits labels bytes all → ops_size (ops_from places at (lines_of bytes all)) ≡ kept_total all
+ops_size_is places labels at bytes [] fits = refl
+ops_size_is places labels at bytes (kept.Instruction size ∷ all) fits =
+    omega (arith, ops_size_is places labels (at + op_size (op_of bytes)) (drop size bytes) all fits.1, fits.0.size)
+ops_size_is places labels at bytes (kept.Jump jump label ∷ all) fits =
+    omega (arith, size_jump jump (distance at (places label)), ops_size_is places labels (at + 6) bytes all fits.1)
+ops_size_is places labels at bytes (kept.Label label ∷ all) fits = omega (arith, ops_size_is places labels at bytes all fits.1)
+
+pub total_few : SizeIsLength → (labels : ℕ) (bytes : List ℕ) (all : List Kept) → KeptFits labels bytes all → kept_total all ≤ length bytes + 6 * length all
+total_few sized labels bytes [] fits = omega arith
+total_few sized labels bytes (kept.Instruction size ∷ all) fits =
     omega (
       arith,
-      length-append (spelling (op_of bytes)) (spellings (ops_from places (at + length (spelling (op_of bytes))) (lines_of (drop size bytes) all))),
-      length_ops places labels (at + length (spelling (op_of bytes))) (drop size bytes) all fits.1,
+      total_few sized labels (drop size bytes) all fits.1,
+      ap length fits.0.prefix,
+      length-append (spelling (op_of bytes)) (drop size bytes),
       fits.0.size,
+      sized (op_of bytes),
     )
-length_ops places labels at bytes (kept.Leap way label ∷ all) fits =
-    let text : List ℕ = spelling (leap way (pos (places label) -ℤ pos at)) in
-    omega (arith, length-append text (spellings (ops_from places (at + 6) (lines_of bytes all))), length_leap way (pos (places label) -ℤ pos at), length_ops places labels (at + 6) bytes all fits.1)
-length_ops places labels at bytes (kept.Mark label ∷ all) fits = omega (arith, length_ops places labels at bytes all fits.1)
-
-pub total_few : (labels : ℕ) (bytes : List ℕ) (all : List Kept) → KeptFits labels bytes all → kept_total all ≤ length bytes + 6 * length all
-total_few labels bytes [] fits = omega arith
-total_few labels bytes (kept.Op size ∷ all) fits =
-    omega (arith, total_few labels (drop size bytes) all fits.1, ap length fits.0.front, length-append (spelling (op_of bytes)) (drop size bytes), fits.0.size)
-total_few labels bytes (kept.Leap way label ∷ all) fits = omega (arith, total_few labels bytes all fits.1)
-total_few labels bytes (kept.Mark label ∷ all) fits = omega (arith, total_few labels bytes all fits.1)
+total_few sized labels bytes (kept.Jump jump label ∷ all) fits = omega (arith, total_few sized labels bytes all fits.1)
+total_few sized labels bytes (kept.Label label ∷ all) fits = omega (arith, total_few sized labels bytes all fits.1)
 
 pub length_program : (labels : ℕ) (bytes : List ℕ) (all : List Kept) (lines : List Line) → KeptFits labels bytes all → lines_of bytes all ≡ lines → 13 + kept_total all ≡ file_length (program lines)
 unfolding program
 length_program labels bytes all lines fits is =
-    let here : 13 + kept_total all ≡ file_length (program (lines_of bytes all)) = omega (arith, length_ops (place_of (lines_of bytes all)) labels 13 bytes all fits) in
+    let here : 13 + kept_total all ≡ file_length (program (lines_of bytes all)) = omega (arith, ops_size_is (place_of (lines_of bytes all)) labels 13 bytes all fits) in
     here ∙ ap (λ ls. file_length (program ls)) is
 
 -- the header and the lines are the file

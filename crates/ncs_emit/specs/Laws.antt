@@ -1,54 +1,55 @@
--- When the file of labelled code is one that loads.
-use Rattle.std.specs.Prelude.{ℕ, ◌≤◌, List, [], ◌∷◌, Bool, true, false, ◌==◌, ◌&&◌, if◌then◌else◌, IsTrue}
+-- What holds of labelled code by itself.
+use Rattle.std.specs.Prelude.{◌≡◌, ℕ, ◌+◌, ◌≤◌, List, [], ◌∷◌, ◌++◌}
 use Rattle.std.specs.List.{AllByRecursion}
-use Rattle.ncs_code.specs.Plain.{PlainOp, Jmp, Jsr, Jz, Jnz, StoreState}
-use Rattle.ncs_code.specs.Spelling.{IsOp}
-use Rattle.ncs_code.specs.File.{file_length, IsCode}
-use Rattle.ncs_emit.specs.Labelled.{Line, Plain, Leap, Mark, program}
+use Rattle.nwq_value.specs.Limits.{file_limit}
+use Rattle.ncs_code.specs.Plain.{PlainOp}
+use Rattle.ncs_code.specs.File.{header_size, ops_size, file_length, IsCode}
+use Rattle.ncs_emit.specs.Labelled.{Line, Instruction, placements, lines_size, place_of, program}
+use Rattle.ncs_emit.specs.Standing.{LinesStand}
+use Rattle.ncs_emit.specs.Leading.{LineFits, IsPlacedOnce, LeadsOn, Closes}
 
--- what holds of every line of an emitter
-abbrev pub LineFits : Line → Type 0
-LineFits (Plain op) = IsOp op
-LineFits (Leap way label) = Unit {0}
-LineFits (Mark label) = Unit {0}
+-- ---- of two parts
 
--- Does an instruction or a jump follow?
-abbrev pub has_op : List Line → Bool
-has_op [] = false
-has_op (Plain op ∷ lines) = true
-has_op (Leap way label ∷ lines) = true
-has_op (Mark label ∷ lines) = has_op lines
+abbrev pub PlacementsAdd : Type 0
+PlacementsAdd = (before behind : List Line) (label : ℕ) → placements (before ++ behind) label ≡ placements before label + placements behind label
 
--- Does the mark of this label stand before an instruction?
-abbrev pub marks_op : List Line → ℕ → Bool
-marks_op [] label = false
-marks_op (Plain op ∷ lines) label = marks_op lines label
-marks_op (Leap way other ∷ lines) label = marks_op lines label
-marks_op (Mark other ∷ lines) label = if other == label then has_op lines else marks_op lines label
+abbrev pub LinesSizeAdds : Type 0
+LinesSizeAdds = (before behind : List Line) → lines_size (before ++ behind) ≡ lines_size before + lines_size behind
 
--- Is the next instruction a jump to a label, with an instruction behind it?
-abbrev pub is_kept_code : List Line → Bool
-is_kept_code [] = false
-is_kept_code (Plain op ∷ lines) = false
-is_kept_code (Leap way label ∷ lines) = has_op lines
-is_kept_code (Mark label ∷ lines) = is_kept_code lines
+-- the second part stands behind the first
+abbrev pub BothStand : Type 0
+BothStand = (ops : List PlainOp) (places : ℕ → ℕ) (at : ℕ) (before behind : List Line) → LinesStand ops places at (before ++ behind)
+    → LinesStand ops places at before × LinesStand ops places (at + lines_size before) behind
 
--- STORE_STATE stands before a jump over the code that it keeps, and jumps go by labels.
-abbrev pub is_led : PlainOp → List Line → Bool
-is_led (Jmp offset) lines = false
-is_led (Jsr offset) lines = false
-is_led (Jz offset) lines = false
-is_led (Jnz offset) lines = false
-is_led (StoreState globals locals) lines = is_kept_code lines
-is_led _ lines = true
+abbrev pub BothLeadOn : Type 0
+BothLeadOn = (whole before behind : List Line) → LeadsOn whole before → LeadsOn whole behind → LeadsOn whole (before ++ behind)
 
--- Each line leads to instructions, where `all` is the whole code.
-abbrev pub lead_on : List Line → List Line → Bool
-lead_on all [] = true
-lead_on all (Plain op ∷ lines) = is_led op lines && lead_on all lines
-lead_on all (Leap way label ∷ lines) = marks_op all label && lead_on all lines
-lead_on all (Mark label ∷ lines) = lead_on all lines
+abbrev pub BothClose : Type 0
+BothClose = (before behind : List Line) → Closes before → Closes behind → Closes (before ++ behind)
 
--- The finished file of code whose lines all lead to instructions is one that loads, if it is not too large.
+-- an instruction closes what stands before it
+abbrev pub InstructionCloses : Type 0
+InstructionCloses = (lines : List Line) (op : PlainOp) → Closes (lines ++ Instruction op ∷ [])
+
+pub record PartLaws : Type 0 where
+  pub placements : PlacementsAdd
+  pub size : LinesSizeAdds
+  pub stand : BothStand
+  pub lead : BothLeadOn
+  pub close : BothClose
+  pub last : InstructionCloses
+
+-- ---- of a whole program
+
+-- the instructions take as many bytes as the lines
+abbrev pub ProgramSize : Type 0
+ProgramSize = (lines : List Line) → ops_size (program lines) ≡ lines_size lines
+
+-- Where no label is placed twice, each line stands at its place.
+abbrev pub ProgramStands : Type 0
+ProgramStands = (lines : List Line) → IsPlacedOnce lines → LinesStand (program lines) (place_of lines) header_size lines
+
+-- The file of code that leads on and closes is one that loads, if it is not too large.
 abbrev pub FinishedIsCode : Type 0
-FinishedIsCode = (lines : List Line) → AllByRecursion LineFits lines → IsTrue (lead_on lines lines) → file_length (program lines) ≤ 16777216 → IsCode (program lines)
+FinishedIsCode = (labels : ℕ) (lines : List Line) → AllByRecursion (LineFits labels) lines → LeadsOn lines lines → Closes lines
+    → file_length (program lines) ≤ file_limit → IsCode (program lines)

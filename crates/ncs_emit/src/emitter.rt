@@ -1,41 +1,42 @@
 ghost use Rattle.std.specs.Prelude.{◌≡◌, ◌+◌, ◌-◌, ◌^◌, ◌<◌, ◌≤◌, ◌∷◌, ◌++◌, [], ℕ, List, false, true, IfOk, IfErr, OnOk, OnErr};
+ghost use Rattle.nwq_value.specs.Limits.{file_limit};
 ghost use Rattle.ncs_code.specs.Plain.{plain};
 ghost use Rattle.ncs_code.specs.Spelling.{HasRow};
 ghost use Rattle.ncs_code.specs.File.{file_bytes, file_length};
-ghost use Rattle.ncs_emit.specs.Labelled.{Line, Plain, Leap, Mark, is_marked, program};
-ghost use Rattle.ncs_emit.specs.Emitting.{Fails};
-ghost use Rattle.ncs_emit.specs.Laws.{LineFits};
+ghost use Rattle.ncs_emit.specs.Labelled.{Line, Instruction, JumpTo, Label, placements, program};
+ghost use Rattle.ncs_emit.specs.Faults.{Fails};
+ghost use Rattle.ncs_emit.specs.Leading.{IsPlacedOnce, LineFits};
 ghost use Rattle.std.specs.List.{AllByRecursion};
 
 use crate::fault::EmitFault;
 use crate::finishing::{places_of, put_lines};
 use crate::jump::Jump;
 use crate::line::Kept;
-use ncs_code::{FILE_BYTES, Op, header};
+use ncs_code::{FILE_BYTES, Op, header, size_laws, spelling_laws};
 use nwq_value::NoMemory;
 use std::alloc::Global;
 use std::marker::Model;
 
-/// Labelled code that grows at its end. Contracts see the list of its lines, where instructions, jumps to
-/// labels and the labels' own marks stand, and how many labels were made: they are the numbers below that.
+/// Labelled code that grows at its end. Contracts see the list of its lines, which are instructions, jumps
+/// to labels and labels, and how many labels were made: they are the numbers below that.
 #[derive(Drop)]
 pub struct Emitter {
     /// The spellings of the instructions, without those of jumps to labels.
     bytes: Vec<u8>,
     kept: Vec<Kept>,
-    /// For each label: does its mark stand in the code?
+    /// For each label: is it placed?
     placed: Vec<bool>,
-    /// How many of the labels have no mark yet; `kept` has room for all of those.
+    /// How many of the labels are not placed yet; `kept` has room for all of those.
     missing: u32,
 }
 
 impl Model for Emitter {
     ghost use Rattle.std.specs.Prelude.{length};
     ghost use Rattle.std.specs.Vec.{vec_capacity};
-    ghost use Rattle.ncs_emit.specs.Labelled.{Draft};
+    ghost use Rattle.ncs_emit.specs.Labelled.{LabelledCode};
     ghost use Rattle.ncs_emit.specs.Emitting.{IsKept, lines_of};
 
-    ghost Value = { Draft };
+    ghost Value = { LabelledCode };
 
     ghost view = { λ e. record { lines = lines_of e.bytes.items e.kept.items; labels = length e.placed.items } };
 
@@ -56,11 +57,12 @@ impl Emitter {
         }
     }
 
-    /// A new label. After `NoMemory` the emitter is as before.
-    #[tactic(auto, using(crate::proofs::Counting::kept_label, crate::proofs::Counting::kept_room, crate::proofs::Counting::missing_few))]
+    /// A new label, which is placed nowhere. After `NoMemory` the emitter is as before.
+    #[tactic(auto, using(crate::proofs::Counting::kept_made, crate::proofs::Counting::kept_room, crate::proofs::Counting::missing_few))]
     pub fn label(&mut self) -> Result<u32, NoMemory>
         requires { self.old.labels + 1 < 2 ^ 32 }
         ensures number { IfOk result (λ label. label ≡ self.old.labels) }
+        ensures unplaced { IfOk result (λ label. placements self.new.lines label ≡ 0) }
         ensures made { OnOk result (self.new ≡ record self.old { labels = self.old.labels + 1 }) }
         ensures err { OnErr result (self.new ≡ self.old) }
     {
@@ -71,14 +73,14 @@ impl Emitter {
         Ok(label)
     }
 
-    /// Puts the mark of a label last.
-    #[tactic(auto, using(crate::proofs::Counting::kept_mark, crate::proofs::Counting::missing_some, crate::proofs::Lines::lines_and_mark))]
+    /// Places a label: it stands behind all lines.
+    #[tactic(auto, using(crate::proofs::Counting::kept_placed, crate::proofs::Counting::missing_some, crate::proofs::Lines::lines_and_label))]
     pub fn place(&mut self, label: u32)
         requires made { label < self.old.labels }
-        requires unplaced { is_marked self.old.lines label ≡ false }
-        ensures { self.new ≡ record self.old { lines = self.old.lines ++ Mark label ∷ [] } }
+        requires unplaced { placements self.old.lines label ≡ 0 }
+        ensures { self.new ≡ record self.old { lines = self.old.lines ++ Label label ∷ [] } }
     {
-        self.kept.push(Kept::Mark(label)).unwrap();
+        self.kept.push(Kept::Label(label)).unwrap();
         self.placed[label as usize] = true;
         self.missing -= 1;
     }
@@ -87,41 +89,45 @@ impl Emitter {
     #[tactic(auto, using(crate::proofs::Counting::kept_op, crate::proofs::Counting::kept_room, crate::proofs::Lines::lines_and_op))]
     pub fn op(&mut self, op: &Op<'_>) -> Result<(), NoMemory>
         requires { HasRow (plain op.now) }
-        ensures ok { OnOk result (self.new ≡ record self.old { lines = self.old.lines ++ Plain (plain op.now) ∷ [] }) }
+        ensures ok { OnOk result (self.new ≡ record self.old { lines = self.old.lines ++ Instruction (plain op.now) ∷ [] }) }
         ensures err { OnErr result (self.new ≡ self.old) }
     {
+        spelling_laws();
+        size_laws();
         self.kept.reserve(self.missing as usize + 1)?;
         op.encode(&mut self.bytes)?;
-        self.kept.push(Kept::Op(op.size())).unwrap();
+        self.kept.push(Kept::Instruction(op.size())).unwrap();
         Ok(())
     }
 
     /// Puts a jump to a label last. After `NoMemory` the emitter is as before.
-    #[tactic(auto, using(crate::proofs::Counting::kept_leap, crate::proofs::Counting::kept_room, crate::proofs::Lines::lines_and_leap))]
+    #[tactic(auto, using(crate::proofs::Counting::kept_jump, crate::proofs::Counting::kept_room, crate::proofs::Lines::lines_and_jump))]
     pub fn jump(&mut self, jump: Jump, label: u32) -> Result<(), NoMemory>
         requires { label < self.old.labels }
-        ensures ok { OnOk result (self.new ≡ record self.old { lines = self.old.lines ++ Leap jump label ∷ [] }) }
+        ensures ok { OnOk result (self.new ≡ record self.old { lines = self.old.lines ++ JumpTo jump label ∷ [] }) }
         ensures err { OnErr result (self.new ≡ self.old) }
     {
         self.kept.reserve(self.missing as usize + 1)?;
-        self.kept.push(Kept::Leap(jump, label)).unwrap();
+        self.kept.push(Kept::Jump(jump, label)).unwrap();
         Ok(())
     }
 
-    /// What is known of every emitter's lines.
+    /// What is known of every emitter's lines: each fits, and no label is placed twice.
     pub fn sound(&self)
-        ensures { AllByRecursion LineFits self.now.lines }
+        ensures fits { AllByRecursion (LineFits self.now.labels) self.now.lines }
+        ensures once { IsPlacedOnce self.now.lines }
     {
         let _ = &self.missing;
     }
 
     /// The file of the code, where each jump has the distance from its own start to its label's place.
     pub fn finish(self, alloc: Global) -> Result<Vec<u8>, EmitFault>
-        requires placed { (label : ℕ) → label < self.labels → is_marked self.lines label ≡ true }
+        requires placed { (label : ℕ) → label < self.labels → 1 ≤ placements self.lines label }
         ensures file { IfOk result (λ bytes. bytes.items ≡ file_bytes (program self.lines)) }
-        ensures bounded { OnOk result (file_length (program self.lines) ≤ FILE_BYTES) }
+        ensures bounded { OnOk result (file_length (program self.lines) ≤ file_limit) }
         ensures fault { IfErr result (λ fault. Fails fault self.lines) }
     {
+        size_laws();
         let labels = self.placed.len();
         let (places, size) = places_of(alloc, self.kept.as_slice(), labels)?;
         if size > FILE_BYTES as u64 {

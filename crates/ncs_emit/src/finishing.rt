@@ -1,16 +1,17 @@
 //! The file of labelled code, once all of it is there.
 
-ghost use Rattle.std.specs.Prelude.{◌≡◌, ◌+◌, ◌-ℤ◌, ◌^◌, ◌<◌, ◌≤◌, ◌++◌, ℕ, pos, length, vec_len, replicate, unwrap_or, slice_index_or, None, IfOk, OnOk};
+ghost use Rattle.std.specs.Prelude.{◌≡◌, ◌+◌, ◌^◌, ◌<◌, ◌≤◌, ◌++◌, ℕ, length, vec_len, replicate, unwrap_or, slice_index_or, None, IfOk, OnOk};
 ghost use Rattle.std.specs.List.{AllByRecursion};
+ghost use Rattle.nwq_value.specs.Limits.{file_limit};
 ghost use Rattle.ncs_code.specs.Plain.{plain};
 ghost use Rattle.ncs_code.specs.Spelling.{spelling};
-ghost use Rattle.ncs_code.specs.File.{spellings};
-ghost use Rattle.ncs_emit.specs.Labelled.{leap, program};
+ghost use Rattle.ncs_code.specs.File.{distance, spellings};
+ghost use Rattle.ncs_emit.specs.Labelled.{jump_over, program};
 ghost use Rattle.ncs_emit.specs.Emitting.{HasLabels, KeptFits, kept_place, kept_total, lines_of};
 
 use crate::jump::Jump;
 use crate::line::Kept;
-use ncs_code::{FILE_BYTES, HEADER_BYTES, Op};
+use ncs_code::{HEADER_BYTES, Op, size_laws};
 use nwq_value::NoMemory;
 use std::alloc::Global;
 
@@ -25,7 +26,7 @@ fn no_places(alloc: Global, labels: usize) -> Result<Vec<Option<u64>>, NoMemory>
     Ok(places)
 }
 
-/// Where the first mark of each label stands, and how large the file is.
+/// Where each label stands, and how large the file is.
 pub(crate) fn places_of(
     alloc: Global,
     kept: &[Kept],
@@ -41,9 +42,9 @@ pub(crate) fn places_of(
     let mut at = HEADER_BYTES as u64;
     for line in kept {
         match *line {
-            Kept::Op(size) => at += size as u64,
-            Kept::Leap(_, _) => at += 6,
-            Kept::Mark(label) => {
+            Kept::Instruction(size) => at += size as u64,
+            Kept::Jump(_, _) => at += 6,
+            Kept::Label(label) => {
                 let place = &mut places[label as usize];
                 if place.is_none() {
                     *place = Some(at);
@@ -56,7 +57,7 @@ pub(crate) fn places_of(
 
 /// The jump over a distance.
 fn jump_over(jump: Jump, distance: i32) -> Op<'static>
-    ensures { plain result ≡ leap jump distance }
+    ensures { plain result ≡ jump_over jump distance }
 {
     match jump {
         Jump::Jmp => Op::Jmp { offset: distance },
@@ -68,9 +69,9 @@ fn jump_over(jump: Jump, distance: i32) -> Op<'static>
 
 /// Appends a jump that stands at the end of the file.
 fn put_jump(file: &mut Vec<u8>, jump: Jump, place: u64) -> Result<(), NoMemory>
-    requires long { length file.old.items ≤ FILE_BYTES }
-    requires near { place ≤ FILE_BYTES }
-    ensures { OnOk result (file.new.items ≡ file.old.items ++ spelling (leap jump (pos place -ℤ pos (length file.old.items)))) }
+    requires long { length file.old.items ≤ file_limit }
+    requires near { place ≤ file_limit }
+    ensures { OnOk result (file.new.items ≡ file.old.items ++ spelling (jump_over jump (distance (length file.old.items) place))) }
 {
     let distance = place as i32 - file.len() as i32;
     jump_over(jump, distance).encode(file)
@@ -87,23 +88,24 @@ pub(crate) fn put_lines(
     requires begun { length file.old.items ≡ 13 }
     requires fits { KeptFits (length places.now) bytes.now kept.now }
     requires whole { size ≡ 13 + kept_total kept.now }
-    requires bounded { size ≤ FILE_BYTES }
+    requires bounded { size ≤ file_limit }
     requires placed { (label : ℕ) → unwrap_or (slice_index_or places.now label None) size ≡ kept_place 13 kept.now label }
     ensures { OnOk result (file.new.items ≡ file.old.items ++ spellings (program (lines_of bytes.now kept.now))) }
 {
+    size_laws();
     let mut rest = bytes;
     for line in kept {
         match *line {
-            Kept::Op(count) => {
+            Kept::Instruction(count) => {
                 let (spelled, others) = rest.split_at(count as usize);
                 file.extend_from_slice(spelled)?;
                 rest = others;
             }
-            Kept::Leap(jump, label) => {
+            Kept::Jump(jump, label) => {
                 let place = places[label as usize].unwrap_or(size);
                 put_jump(file, jump, place)?;
             }
-            Kept::Mark(_) => {}
+            Kept::Label(_) => {}
         }
     }
     Ok(())

@@ -1,7 +1,30 @@
-ghost use Rattle.ncs_emit.specs.Laws.{FinishedIsCode};
+ghost use Rattle.ncs_emit.specs.Laws.{FinishedIsCode, PartLaws, ProgramSize, ProgramStands};
 
-/// A finished file is one that `ncs_file` loads, with the same instructions in order, where every jump's
-/// label and every stored state leads to an instruction.
+use ncs_code::{distance_leads, place_laws, size_laws};
+
+/// Placements and sizes of two parts add up, each stands where both stand in a row, and they lead on and
+/// close together where each does.
+pub fn part_laws()
+    ensures { PartLaws }
+{}
+
+/// The program takes as many bytes as its lines, and where no label is placed twice, each line stands
+/// at its place in it.
+pub fn program_stands()
+    ensures size { ProgramSize }
+    ensures stands { ProgramStands }
+{
+    place_laws();
+    size_laws();
+    distance_leads();
+}
+
+/// A finished file is one that `ncs_file` loads, with the same instructions in order, where the code
+/// leads on and closes.
 pub fn finished_is_code()
     ensures { FinishedIsCode }
-{}
+{
+    place_laws();
+    size_laws();
+    distance_leads();
+}

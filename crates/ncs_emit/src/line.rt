@@ -4,7 +4,7 @@ use crate::jump::Jump;
 #[derive(Clone, Copy, Debug)]
 pub enum Kept {
     /// The next so many bytes of the spellings are an instruction.
-    Op(u32),
-    Leap(Jump, u32),
-    Mark(u32),
+    Instruction(u32),
+    Jump(Jump, u32),
+    Label(u32),
 }

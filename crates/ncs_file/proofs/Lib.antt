@@ -2,5 +2,5 @@ mod Lists
 pub mod Places
 pub mod Scanning
 pub mod Loaded
-pub mod OneFault
-pub mod Targets
+mod OneFault
+mod Following

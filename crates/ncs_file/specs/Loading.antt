@@ -4,7 +4,7 @@ use Rattle.std.specs.List.{AllByRecursion}
 use Rattle.ncs_code.specs.declared.fault.CodeFault.{CodeFault}
 use Rattle.ncs_code.specs.Plain.{PlainOp}
 use Rattle.ncs_code.specs.Spelling.{IsOp, four, fault_of}
-use Rattle.ncs_code.specs.File.{magic, spellings, file_length, file_bytes, first_bad}
+use Rattle.ncs_code.specs.File.{magic, spellings, file_length, file_bytes, IsFirstBad}
 use Rattle.ncs_file.specs.declared.fault.LoadFault.{LoadFault}
 use Rattle.ncs_file.specs.declared.fault.LoadFault.TheVariants.{Magic, Length, At, Target, NoMemory}
 
@@ -22,12 +22,13 @@ pub record StopsAt (place : ℕ) (fault : CodeFault) (bytes : List ℕ) : Type 0
   pub inside : place < length bytes
   pub reason : fault_of (drop place bytes) ≡ Some fault
 
--- Instructions fill the file, and the first that leads to no beginning of one stands at this place.
+-- Instructions fill the file, and the first that leads to no beginning of one, with some index, stands at this place.
 pub record LeadsAstray (place : ℕ) (bytes : List ℕ) : Type 0 where
   pub ops : List PlainOp
   pub each : AllByRecursion IsOp ops
   pub spelled : bytes ≡ file_bytes ops
-  pub first : first_bad ops ≡ Some place
+  pub index : ℕ
+  pub first : IsFirstBad ops index place
 
 -- No two of these hold of the same bytes, but for the want of memory, which may come at any time.
 abbrev pub Fails : LoadFault → List ℕ → Type 0

@@ -1,13 +1,14 @@
 ghost use Rattle.std.specs.Prelude.{◌≡◌, ◌≤◌, List, length, IfOk, IfErr, MatchOption, MatchResult, None, Some};
+ghost use Rattle.nwq_value.specs.Limits.{file_limit};
 ghost use Rattle.ncs_code.specs.Plain.{PlainOp, plain};
-ghost use Rattle.ncs_code.specs.Spelling.{spelling};
+ghost use Rattle.ncs_code.specs.Spelling.{op_size};
 ghost use Rattle.ncs_code.specs.File.{IsCode, file_bytes, op_at};
 ghost use Rattle.ncs_file.specs.Loading.{Fails};
 ghost use Rattle.ncs_file.specs.declared.fault.LoadFault.TheVariants.{NoMemory};
 
 use crate::fault::LoadFault;
 use crate::scan::{Starts, is_marked, starts_of, test_header, test_targets};
-use ncs_code::{FILE_BYTES, Op, decode};
+use ncs_code::{Op, decode, place_laws, size_laws, spelling_laws};
 use std::alloc::Global;
 use std::marker::Model;
 
@@ -36,7 +37,7 @@ impl Model for Code {
 /// The file that these bytes are, which keeps them.
 #[tactic(auto, using(crate::proofs::Loaded::loaded_code, crate::proofs::Loaded::refused, crate::proofs::Scanning::listing_is))]
 pub fn load(alloc: Global, bytes: Vec<u8>) -> Result<Code, LoadFault>
-    requires { length bytes.items ≤ FILE_BYTES }
+    requires { length bytes.items ≤ file_limit }
 
     // What is loaded is a file, spelled so.
     ensures loaded { IfOk result (λ code. IsCode code × (bytes.items ≡ file_bytes code)) }
@@ -45,6 +46,9 @@ pub fn load(alloc: Global, bytes: Vec<u8>) -> Result<Code, LoadFault>
     // The fault is the first that there is.
     ensures fault { IfErr result (λ fault. Fails fault bytes.items) }
 {
+    spelling_laws();
+    size_laws();
+    place_laws();
     test_header(bytes.as_slice())?;
     let starts = starts_of(alloc, bytes.as_slice())?;
     test_targets(bytes.as_slice(), &starts)?;
@@ -66,8 +70,10 @@ pub fn store(code: &Code) -> &[u8]
 impl Code {
     /// The instruction that begins at a place, and how many bytes it takes.
     pub fn op_at(&self, at: u32) -> Option<(Op<'_>, u32)>
-        ensures { MatchOption result (op_at self.now at ≡ None) (λ x. (op_at self.now at ≡ Some (plain x.0)) × (x.1 ≡ length (spelling (plain x.0)))) }
+        ensures { MatchOption result (op_at self.now at ≡ None) (λ x. (op_at self.now at ≡ Some (plain x.0)) × (x.1 ≡ op_size (plain x.0))) }
     {
+        size_laws();
+        place_laws();
         if !is_marked(self.starts.as_slice(), at as usize) {
             return None;
         }
@@ -88,6 +94,7 @@ impl Code {
     pub fn sound(&self)
         ensures { IsCode self.now }
     {
+        size_laws();
         let _ = &self.count;
     }
 }

@@ -1,14 +1,17 @@
 //! The tests that a file passes, one after another.
 
 ghost use Rattle.std.specs.Prelude.{◌≡◌, ◌+◌, ◌-◌, ◌^◌, ◌<◌, ◌≤◌, ◌∷◌, ◌++◌, [], ℕ, List, length, true, false, replicate, slice_index_or, take, IfOk, IfErr, IfSome, OnOk, Some, None, MatchResult, MatchOption, OnErr};
+ghost use Rattle.nwq_value.specs.Limits.{file_limit};
 ghost use Rattle.ncs_code.specs.Plain.{PlainOp, plain};
-ghost use Rattle.ncs_code.specs.Spelling.{spelling};
-ghost use Rattle.ncs_code.specs.File.{begins, first_bad, leads_well, target};
+ghost use Rattle.ncs_code.specs.Spelling.{op_size};
+ghost use Rattle.ncs_code.specs.File.{AllLeadWell, leads_well};
 ghost use Rattle.ncs_file.specs.Loading.{Fails, HasHeader};
-ghost use Rattle.ncs_file.specs.Marks.{IsScanned, listing, marks};
+ghost use Rattle.ncs_file.specs.Marks.{IsScanned, begins_there, listing, marks};
 
 use crate::fault::LoadFault;
-use ncs_code::{FILE_BYTES, HEADER_BYTES, Op, decode, header};
+use ncs_code::{
+    HEADER_BYTES, Op, decode, header, jump_place, place_laws, size_laws, spelling_laws,
+};
 use nwq_value::NoMemory;
 use std::alloc::Global;
 
@@ -21,7 +24,7 @@ pub(crate) struct Starts {
 
 /// The first `n` bytes, or all where there are fewer.
 #[tactic(auto, using(crate::proofs::Lists::take_all))]
-fn front(bytes: &[u8], n: usize) -> &[u8]
+fn prefix(bytes: &[u8], n: usize) -> &[u8]
     ensures { result.now ≡ take n bytes.now }
 {
     if bytes.len() <= n { bytes } else { &bytes[..n] }
@@ -30,14 +33,14 @@ fn front(bytes: &[u8], n: usize) -> &[u8]
 /// Does the file begin as it must?
 #[tactic(auto, using(crate::proofs::Lists::magic_front))]
 pub(crate) fn test_header(bytes: &[u8]) -> Result<(), LoadFault>
-    requires { length bytes.now ≤ FILE_BYTES }
+    requires { length bytes.now ≤ file_limit }
     ensures { MatchResult result (λ _. HasHeader bytes.now) (λ fault. Fails fault bytes.now) }
 {
     let wanted = header(bytes.len() as u32);
-    if front(bytes, 9) != &wanted[..9] {
+    if prefix(bytes, 9) != &wanted[..9] {
         return Err(LoadFault::Magic);
     }
-    if front(bytes, HEADER_BYTES) != wanted.as_slice() {
+    if prefix(bytes, HEADER_BYTES) != wanted.as_slice() {
         return Err(LoadFault::Length);
     }
     Ok(())
@@ -70,11 +73,13 @@ fn empty_table(alloc: Global, room: usize) -> Result<Vec<bool>, NoMemory>
 /// Goes over the instructions, which must fill the file.
 #[tactic(auto, using(crate::proofs::Scanning::scan_begins, crate::proofs::Scanning::scan_goes_on, crate::proofs::Scanning::scan_ends, crate::proofs::Scanning::scan_stops))]
 pub(crate) fn starts_of(alloc: Global, bytes: &[u8]) -> Result<Starts, LoadFault>
-    requires bounded { length bytes.now ≤ FILE_BYTES }
+    requires bounded { length bytes.now ≤ file_limit }
     requires begun { HasHeader bytes.now }
     ensures scanned { IfOk result (λ starts. IsScanned bytes.now starts.table.items starts.count) }
     ensures fault { IfErr result (λ fault. Fails fault bytes.now) }
 {
+    spelling_laws();
+    size_laws();
     let mut table = empty_table(alloc, bytes.len())?;
     let mut count = 0;
     let mut at = HEADER_BYTES;
@@ -98,45 +103,48 @@ pub(crate) fn is_marked(table: &[bool], place: usize) -> bool
     place < table.len() && table[place]
 }
 
-/// Where an instruction leads besides the next one.
-fn target_of(op: &Op<'_>, at: u32) -> Option<i64>
+/// Where an instruction leads besides the next one: a jump, or the code that a STORE_STATE stores.
+fn target_of(op: &Op<'_>, at: u32) -> Option<u32>
     requires { at < 2 ^ 31 }
-    ensures { result ≡ target at (plain op.now) }
+    ensures { (ops : List PlainOp) → begins_there ops result ≡ leads_well ops at (plain op.now) }
 {
     match *op {
         Op::Jmp { offset } | Op::Jsr { offset } | Op::Jz { offset } | Op::Jnz { offset } => {
-            Some(at as i64 + offset as i64)
+            Some(jump_place(at, offset))
         }
-        Op::StoreState { .. } => Some(at as i64 + 16),
+        Op::StoreState { .. } => Some(at + 16),
         _ => None,
     }
 }
 
-/// Does it lead to the beginning of an instruction, if it leads elsewhere?
+/// Does it lead to a beginning of an instruction, if it leads anywhere besides the next one?
 #[tactic(auto, using(crate::proofs::Places::begins_marked))]
-fn is_well_led(table: &[bool], op: &Op<'_>, at: u32) -> bool
+fn leads_well(table: &[bool], op: &Op<'_>, at: u32) -> bool
     requires { at < 2 ^ 31 }
-    ensures { (ops : List PlainOp) → table.now ≡ marks ops → result ≡ leads_well ops (target at (plain op.now)) }
+    ensures { (ops : List PlainOp) → table.now ≡ marks ops → result ≡ leads_well ops at (plain op.now) }
 {
+    size_laws();
     match target_of(op, at) {
         None => true,
-        Some(place) => 0 <= place && is_marked(table, place as usize),
+        Some(place) => is_marked(table, place as usize),
     }
 }
 
 /// Goes over the instructions again, each of which must lead to beginnings of instructions.
-#[tactic(auto, using(crate::proofs::Scanning::pass_ends))]
+
 pub(crate) fn test_targets(bytes: &[u8], starts: &Starts) -> Result<(), LoadFault>
-    requires bounded { length bytes.now ≤ FILE_BYTES }
+    requires bounded { length bytes.now ≤ file_limit }
     requires scanned { IsScanned bytes.now starts.now.table.items starts.now.count }
-    ensures { MatchResult result (λ _. first_bad (listing bytes.now) ≡ None) (λ fault. Fails fault bytes.now) }
+    ensures { MatchResult result (λ _. AllLeadWell (listing bytes.now)) (λ fault. Fails fault bytes.now) }
 {
+    size_laws();
+    place_laws();
     let mut at = HEADER_BYTES;
     while at < bytes.len() {
         match decode(bytes, at as u32) {
             Err(_) => unreachable!(),
             Ok((op, size)) => {
-                if !is_well_led(starts.table.as_slice(), &op, at as u32) {
+                if !leads_well(starts.table.as_slice(), &op, at as u32) {
                     return Err(LoadFault::Target(at as u32));
                 }
                 at += size as usize;

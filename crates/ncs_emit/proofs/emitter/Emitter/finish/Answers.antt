@@ -6,7 +6,7 @@ use Rattle.ncs_emit.proofs.emitter.Emitter.finish.Goals as goal
 
 pub places_of-requires-clause-bounded : goal.places_of-requires-clause-bounded
 places_of-requires-clause-bounded c =
-    let few = total_few _ _ _ c.self.invariant.fits in
+    let few = total_few c.size_laws.ensures.op _ _ _ c.self.invariant.fits in
     omega (arith, few, c.as_slice.type_inv.1, ap kept_total c.as_slice.ensures.value, c.as_slice.ensures.len, c.self.inside.bytes.small, c.self.inside.bytes.ok, c.self.inside.kept.ok)
 
 pub places_of-requires-clause-labelled : goal.places_of-requires-clause-labelled

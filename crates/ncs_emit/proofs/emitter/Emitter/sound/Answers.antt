@@ -1,8 +1,12 @@
 use Rattle.std.proofs.Common.{subst}
 use Rattle.std.specs.List.{AllByRecursion}
-use Rattle.ncs_emit.specs.Laws.{LineFits}
+use Rattle.ncs_emit.specs.Leading.{IsPlacedOnce, LineFits}
+use Rattle.ncs_emit.proofs.Counting.{placed_once}
 use Rattle.ncs_emit.proofs.Lines.{lines_fit}
 use Rattle.ncs_emit.proofs.emitter.Emitter.sound.Goals as goal
 
-pub returns : goal.returns
-returns c = subst (λ d. AllByRecursion LineFits d.lines) c.self.view_is (lines_fit _ _ _ c.self.invariant.fits)
+pub returns-clause-fits : goal.returns-clause-fits
+returns-clause-fits c = subst (λ d. AllByRecursion (LineFits d.labels) d.lines) c.self.view_is (lines_fit _ _ _ c.self.invariant.fits)
+
+pub returns-clause-once : goal.returns-clause-once
+returns-clause-once c = subst (λ d. IsPlacedOnce d.lines) c.self.view_is (placed_once _ _ _ _ _ c.self.invariant)
