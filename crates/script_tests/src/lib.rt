@@ -1,2 +1,5 @@
 //! Tests of the front end: tokens, units, grammar, trees, engine headers.
 #![tactic(auto)]
+
+#[cfg(test)]
+mod tokens;
