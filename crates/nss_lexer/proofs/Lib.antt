@@ -4,4 +4,5 @@ pub mod GapLaws
 pub mod FormLaws
 pub mod FoundLaws
 pub mod FirstLaws
+pub mod SomeSplit
 mod Examples
