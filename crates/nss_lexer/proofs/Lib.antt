@@ -4,5 +4,9 @@ pub mod GapLaws
 pub mod FormLaws
 pub mod FoundLaws
 pub mod FirstLaws
+<<<<<<< HEAD
 pub mod ComputedLaws
+=======
+pub mod SomeSplit
+>>>>>>> outside
 mod Examples

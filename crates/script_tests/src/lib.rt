@@ -3,3 +3,7 @@
 
 #[cfg(test)]
 mod headers;
+#[cfg(test)]
+mod tokens;
+#[cfg(test)]
+mod units;

@@ -1,0 +1,16 @@
+use Rattle.std.proofs.Common.{◌≡◌}
+use Rattle.std.specs.FinMap as map
+use Rattle.nss_include.specs.Progress.{steps_left}
+use Rattle.nss_include.proofs.ProgressLemmas.{RunSoFar}
+use Rattle.nss_include.proofs.gatherer.Gatherer.run.Given as goal
+
+abbrev pub invariant-loop-here : goal.invariant-loop-here
+invariant-loop-here g l =
+    RunSoFar g.F.Files.tells (map.get (g.F.Files.contents l.fn.files)) l.fn.self l.self
+    × (g.F.Files.contents l.files ≡ g.F.Files.contents l.fn.files)
+    × (g.F.Files.faults l.files ≡ g.F.Files.faults l.fn.files)
+    × (g.F.Files.absences l.files ≡ g.F.Files.absences l.fn.files)
+    × (g.F.Files.longs l.files ≡ g.F.Files.longs l.fn.files)
+
+abbrev pub decreases-loop-here : goal.decreases-loop-here
+decreases-loop-here g l = steps_left l.self

@@ -1,0 +1,84 @@
+use nss_lexer::{Kind, Lexed, SOURCE_BYTES, literal, next};
+use nwq_value::{NoMemory, Text};
+use std::alloc::Global;
+use std::test::Fail;
+
+/// The first token's kind and span, or the bad place.
+fn seen(bytes: &[u8]) -> (Option<Kind>, u32, u32) {
+    if bytes.len() > SOURCE_BYTES {
+        return (None, 0, 0);
+    }
+    match next(bytes, 0, 0) {
+        Lexed::Token(token) => (Some(token.kind), token.start, token.end),
+        Lexed::Bad(place) => (None, place, 1),
+        Lexed::End => (None, 0, 0),
+    }
+}
+
+#[test]
+fn the_longest_token_counts(rt: HostRuntime) {
+    for (text, kind, start, end) in [
+        (b"0x".as_slice(), Kind::Int(0), 0, 1),
+        (b"0XfFg", Kind::Int(255), 0, 4),
+        (b"0x.5", Kind::Int(0), 0, 1),
+        (b"4294967295;", Kind::Int(4294967295), 0, 10),
+        (b"4294967296f", Kind::Float, 0, 11),
+        (b"5f", Kind::Float, 0, 2),
+        (b"1.f+", Kind::Float, 0, 3),
+        (b"1..2", Kind::Float, 0, 2),
+        (b".5f", Kind::Float, 0, 3),
+        (b".x", Kind::Sign, 0, 1),
+        (b">>>=1", Kind::Sign, 0, 4),
+        (b">>>>", Kind::Sign, 0, 3),
+        (b" \t// a\n/* b **/ /=", Kind::Sign, 16, 18),
+        (b"while1", Kind::Name, 0, 6),
+        (b"OBJECT_SELF.", Kind::Word, 0, 11),
+        (b"\"\\\"//\\\\\" \"", Kind::Text, 0, 8),
+    ] {
+        assert_eq!(rt; seen(text), (Some(kind), start, end), "{start}..{end}");
+    }
+}
+
+#[test]
+fn nothing_begins_at_a_bad_place(rt: HostRuntime) -> Result<(), Fail> {
+    let mut name = Vec::new(rt.alloc());
+    for _place in 0..256 {
+        name.push(b'n')?;
+    }
+    for (text, place) in [
+        (b"\"a".as_slice(), 0),
+        (b" \"a\nb\"", 1),
+        (b"\"a\\\nb\"", 0),
+        (b"\"\\x4g\"", 0),
+        (b"4294967296", 0),
+        (b"0x100000000", 0),
+        (b"  /*/", 2),
+        (b"@", 0),
+        (name.as_slice(), 0),
+    ] {
+        assert_eq!(rt; seen(text), (None, place, 1), "{place}");
+    }
+    assert_eq!(rt; seen(b" // the end"), (None, 0, 0));
+    Ok(())
+}
+
+/// What the string at the front stands for, or the empty text.
+fn value(alloc: Global, bytes: &[u8]) -> Result<Text, NoMemory> {
+    if bytes.len() > SOURCE_BYTES {
+        return Ok(Text::empty(alloc));
+    }
+    match next(bytes, 0, 0) {
+        Lexed::Token(token) => match token.kind {
+            Kind::Text => literal(alloc, token.text),
+            _ => Ok(Text::empty(alloc)),
+        },
+        _ => Ok(Text::empty(alloc)),
+    }
+}
+
+#[test]
+fn a_string_stands_for_its_bytes(rt: HostRuntime) -> Result<(), Fail> {
+    let text = value(rt.alloc(), b"\"a\\n\\q\\x41\\xfF\\\"\\\\\" + 1")?;
+    assert!(rt; text.bytes() == b"a\nqA\xff\"\\".as_slice());
+    Ok(())
+}
