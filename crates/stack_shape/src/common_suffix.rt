@@ -1,8 +1,8 @@
 ghost use Rattle.std.specs.Prelude.{◌≡◌, ◌≢◌, ◌<◌, slice_get, [], IfOk, reverse, take, length, ◌≤◌};
-ghost use Rattle.stack_shape.specs.Common.{LongestSuffix};
+ghost use Rattle.stack_shape.specs.Suffix.{LongestSuffix};
 
 use crate::shape::{Shape, Slot, Slots, Unders};
-use crate::slots::same_at;
+use crate::top_first::same_at;
 use nwq_value::NoMemory;
 use std::alloc::Global;
 

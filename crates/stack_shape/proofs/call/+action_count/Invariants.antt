@@ -1,5 +1,5 @@
 use Rattle.std.proofs.Common.{length}
-use Rattle.stack_shape.proofs.action.+action_count.Given as goal
+use Rattle.stack_shape.proofs.call.+action_count.Given as goal
 
 -- the parameters that are left
 abbrev pub decreases-action_count : goal.decreases-action_count

@@ -1,12 +1,9 @@
 ghost use Rattle.std.specs.Prelude.{◌≡◌, ◌≤◌, ◌++◌, IfOk, length, IsTrue};
 ghost use Rattle.std.specs.List.{list_any};
-ghost use Rattle.std.specs.Option.{option_map};
-ghost use Rattle.nwq_value.specs.declared.engine.Param.{Param};
-ghost use Rattle.stack_shape.specs.Rule.{action_count, argument_types, called_with, fits_call, is_action, is_callable, is_void, result_types, seen};
+ghost use Rattle.stack_shape.specs.Calls.{action_count, argument_types, call_effect, fits_call, is_action, is_callable, is_void, result_types};
 
-use crate::shape::Shape;
-use crate::stepping::traded;
-use crate::trade::exchange;
+use crate::effect::{StackEffect, exchange};
+use crate::top_first::TopFirst;
 use nwq_value::{NoMemory, Param, Role, Routine, Ty, Tys};
 use std::alloc::Global;
 
@@ -29,8 +26,8 @@ fn any_void(params: &[Param]) -> bool
 }
 
 /// Whether a call of the routine is carried out at all.
-#[tactic(auto, unfolding(crate::specs::Rule::is_callable))]
-fn is_callable(routine: &Routine) -> bool
+#[tactic(auto, unfolding(crate::specs::Calls::is_callable))]
+pub fn is_callable(routine: &Routine) -> bool
     ensures { result ≡ is_callable routine.now }
 {
     match routine.role {
@@ -40,7 +37,7 @@ fn is_callable(routine: &Routine) -> bool
 }
 
 /// How many pending states a call takes.
-fn action_count(params: &[Param]) -> usize
+pub fn action_count(params: &[Param]) -> usize
     ensures count { result ≡ action_count params.now }
     ensures bound { result ≤ length params.now }
 {
@@ -91,37 +88,31 @@ fn result_types(alloc: Global, ty: Ty) -> Result<Tys, NoMemory>
 }
 
 /// Whether a call with this count fits the routine and the number of pending states.
-#[tactic(auto, unfolding(crate::specs::Rule::fits_call))]
+#[tactic(auto, unfolding(crate::specs::Calls::fits_call))]
 fn fits_call(routine: &Routine, count: u8, pending: u32) -> bool
-    ensures fits { result ≡ fits_call routine.now count pending }
-    ensures enough { IsTrue result → action_count routine.now.params ≤ pending }
+    ensures { result ≡ fits_call routine.now count pending }
 {
     is_callable(routine)
         && count as usize == routine.params.len()
         && action_count(routine.params.as_slice()) <= pending as usize
 }
 
-/// The shape after a call of the routine.
-#[tactic(auto, unfolding(crate::specs::Rule::called_with))]
-pub fn called_with(
+/// The effect of a call of the routine with this count, where so many states are pending, or `None` where
+/// the call doesn't fit. It also takes `action_count` of the pending states.
+#[tactic(auto, unfolding(crate::specs::Calls::call_effect))]
+pub fn call_effect<C: TopFirst>(
     alloc: Global,
     routine: &Routine,
     count: u8,
-    shape: &Shape,
-) -> Result<Option<Shape>, NoMemory>
-    ensures { IfOk result (λ after. option_map seen after ≡ called_with routine.now count (seen shape.now)) }
+    pending: u32,
+    cells: &C,
+) -> Result<Option<StackEffect>, NoMemory>
+    ensures { IfOk result (λ effect. effect ≡ call_effect routine.now count pending (C.slots cells.now)) }
 {
-    if !fits_call(routine, count, shape.pending) {
+    if !fits_call(routine, count, pending) {
         return Ok(None);
     }
-    let takes = argument_types(alloc, routine.params.as_slice())?;
-    let gives = result_types(alloc, routine.result)?;
-    let trade = exchange(
-        alloc,
-        takes.as_slice(),
-        gives.as_slice(),
-        shape.cells.as_slice(),
-    )?;
-    let pending = shape.pending - action_count(routine.params.as_slice()) as u32;
-    traded(alloc, trade, shape, pending)
+    let pops = argument_types(alloc, routine.params.as_slice())?;
+    let pushes = result_types(alloc, routine.result)?;
+    exchange(alloc, pops.as_slice(), pushes.as_slice(), cells)
 }

@@ -4,7 +4,7 @@ use Rattle.stack_shape.specs.declared.shape.Slot.{Slot}
 
 -- the list ends with this one
 abbrev pub HasSuffix : List Slot → List Slot → Type 0
-HasSuffix slots end = (front : List Slot) × (slots ≡ front ++ end)
+HasSuffix slots end = (prefix : List Slot) × (slots ≡ prefix ++ end)
 
 -- both lists end with it, and with no longer one
 pub record LongestSuffix (a b common : List Slot) : Type 0 where

@@ -1,8 +1,8 @@
 use Rattle.std.proofs.Common.{◌≡◌, ◌-◌, length, take, drop}
 use Rattle.std.proofs.lemmas.Result.{IfOk-weaker}
-use Rattle.stack_shape.specs.Common.{LongestSuffix}
+use Rattle.stack_shape.specs.Suffix.{LongestSuffix}
 use Rattle.stack_shape.proofs.Tops.{longest_is}
-use Rattle.stack_shape.proofs.common.longest_suffix.Goals as goal
+use Rattle.stack_shape.proofs.common_suffix.longest_suffix.Goals as goal
 
 pub returns : goal.returns
 returns c = IfOk-weaker c.of_slice.result _ (λ common. LongestSuffix c.args.a.now c.args.b.now common)

@@ -1,15 +1,47 @@
-ghost use Rattle.std.specs.Prelude.{◌≡◌, ◌↔◌, IsTrue, IfSome, ◌∷◌, ◌++◌, [], IfOk, drop, map, reverse, slice_get, take, length, ◌≤◌, ◌-◌};
+ghost use Rattle.std.specs.Prelude.{◌≡◌, ◌↔◌, IsTrue, IfSome, ◌∷◌, ◌++◌, [], IfOk, List, drop, map, reverse, slice_get, take, length, ◌≤◌, ◌-◌};
 ghost use Rattle.nwq_value.specs.Roles.{tys_eq};
-ghost use Rattle.stack_shape.specs.Trades.{replaced, types_on};
+ghost use Rattle.stack_shape.specs.StackEffects.{after_effect};
+ghost use Rattle.stack_shape.specs.TopFirst.{types_at, types_on};
+ghost use Rattle.stack_shape.specs.declared.shape.Slot.{Slot};
 ghost use Rattle.stack_shape.specs.declared.shape.Slot.TheVariants.{Of};
 
+use crate::effect::StackEffect;
+use crate::range::CellRange;
 use crate::shape::{Slot, Slots, Unders};
-use crate::trade::Trade;
 use nwq_value::{NoMemory, Ty, Tys};
 use std::alloc::Global;
 
+/// A list of slots that is seen from its top. The rule of an instruction asks no more of a list than this,
+/// so lists that share their lower parts have the same rule as plain ones.
+pub trait TopFirst {
+    /// The slots, the top one first.
+    ghost slots: { Self → List Slot };
+
+    /// The types of the slots of a range, the top one first, where they are there and none is a base.
+    fn types_at(&self, alloc: Global, range: CellRange) -> Result<Option<Tys>, NoMemory>
+        ensures types { IfOk result (λ types. types ≡ types_at range (slots self.now)) }
+        ensures length { IfOk result (λ types. IfSome types (λ types. length types ≡ range.count)) };
+}
+
+/// Slots that grow at their end: the top one is last.
+impl TopFirst for &[Slot] {
+    ghost slots = { λ s. reverse s.now };
+
+    fn types_at(&self, alloc: Global, range: CellRange) -> Result<Option<Tys>, NoMemory> {
+        types_on(alloc, lower(self, range.above), range.count)
+    }
+}
+
+/// The types of so many slots from the top.
+pub fn top_types<C: TopFirst>(alloc: Global, cells: &C, count: usize) -> Result<Option<Tys>, NoMemory>
+    ensures types { IfOk result (λ types. types ≡ types_on count (C.slots cells.now)) }
+    ensures length { IfOk result (λ types. IfSome types (λ types. length types ≡ count)) }
+{
+    cells.types_at(alloc, CellRange { above: 0, count })
+}
+
 /// The slot at a depth, counted from 0 at the top.
-pub fn slot_at(slots: &[Slot], depth: usize) -> Option<Slot>
+fn slot_at(slots: &[Slot], depth: usize) -> Option<Slot>
     ensures { result ≡ slice_get (reverse slots.now) depth }
 {
     if depth < slots.len() {
@@ -21,7 +53,7 @@ pub fn slot_at(slots: &[Slot], depth: usize) -> Option<Slot>
 
 /// The slots below the topmost `above`.
 #[tactic(auto, using(crate::proofs::Tops::lower_some, crate::proofs::Tops::lower_none))]
-pub fn lower(slots: &[Slot], above: usize) -> &[Slot]
+fn lower(slots: &[Slot], above: usize) -> &[Slot]
     ensures { reverse result.now ≡ drop above (reverse slots.now) }
 {
     if above <= slots.len() {
@@ -33,7 +65,7 @@ pub fn lower(slots: &[Slot], above: usize) -> &[Slot]
 
 /// The types of so many slots from the top, the top one first, where they are there and none is a base.
 #[tactic(auto, using(crate::proofs::Tops::so_far_none, crate::proofs::Tops::so_far_more, crate::proofs::Tops::so_far_base, crate::proofs::Tops::so_far_end, crate::proofs::Tops::so_far_all, crate::proofs::Tops::so_far_size))]
-pub fn types_on(alloc: Global, slots: &[Slot], count: usize) -> Result<Option<Tys>, NoMemory>
+fn types_on(alloc: Global, slots: &[Slot], count: usize) -> Result<Option<Tys>, NoMemory>
     ensures types { IfOk result (λ types. types ≡ types_on count (reverse slots.now)) }
     ensures length { IfOk result (λ types. IfSome types (λ types. length types ≡ count)) }
 {
@@ -76,7 +108,7 @@ pub fn same_types(a: &[Ty], b: &[Ty]) -> bool
 
 /// Puts values of these types on top, the last first.
 #[tactic(auto, using(crate::proofs::Tops::put_one, crate::proofs::Tops::last_put))]
-pub fn put_types(slots: &mut Slots, types: &[Ty]) -> Result<(), NoMemory>
+fn put_types(slots: &mut Slots, types: &[Ty]) -> Result<(), NoMemory>
     ensures { IfOk result (λ _. reverse slots.new ≡ map Of types.now ++ reverse slots.old) }
 {
     let mut i = types.len();
@@ -87,12 +119,12 @@ pub fn put_types(slots: &mut Slots, types: &[Ty]) -> Result<(), NoMemory>
     Ok(())
 }
 
-/// The slots after a trade.
-pub fn after_trade(alloc: Global, slots: &[Slot], trade: &Trade) -> Result<Slots, NoMemory>
-    ensures { IfOk result (λ after. reverse after ≡ replaced trade.now (reverse slots.now)) }
+/// The slots after a stack effect.
+pub fn after_effect(alloc: Global, slots: &[Slot], effect: &StackEffect) -> Result<Slots, NoMemory>
+    ensures { IfOk result (λ after. reverse after ≡ after_effect effect.now (reverse slots.now)) }
 {
-    let mut after = Slots::of_slice(alloc, lower(slots, trade.takes))?;
-    put_types(&mut after, trade.gives.as_slice())?;
+    let mut after = Slots::of_slice(alloc, lower(slots, effect.pops))?;
+    put_types(&mut after, effect.pushes.as_slice())?;
     Ok(after)
 }
 
