@@ -1,5 +1,5 @@
 -- What holds of every rule: it takes no more than is there, and it looks from the top.
-use Rattle.std.specs.Prelude.{◌≡◌, ℕ, ◌+◌, ◌-◌, ◌*◌, ◌<◌, ◌≤◌, pos, neg_ℤ, ℤ, List, [], ◌∷◌, ◌++◌, length, Option, Some}
+use Rattle.std.specs.Prelude.{◌≡◌, ℕ, ◌+◌, ◌-◌, ◌*◌, ◌<◌, ◌≤◌, pos, neg_ℤ, ℤ, List, [], ◌∷◌, ◌++◌, length, Some}
 use Rattle.nwq_value.specs.declared.value.Ty.{Ty}
 use Rattle.nwq_value.specs.declared.engine.Routine.{Routine}
 use Rattle.nwq_value.specs.Engine.{EngineTable}
@@ -11,7 +11,8 @@ use Rattle.stack_shape.specs.Ranges.{cell_count, depth_of, range_at}
 use Rattle.stack_shape.specs.TopFirst.{types_on}
 use Rattle.stack_shape.specs.StackEffects.{stack_effect}
 use Rattle.stack_shape.specs.Calls.{call_effect}
-use Rattle.stack_shape.specs.Stored.{TopShape}
+use Rattle.stack_shape.specs.declared.store.StoredTypes.{StoredTypes}
+use Rattle.stack_shape.specs.Stored.{TopShape, stored_types}
 use Rattle.stack_shape.specs.Rule.{rule}
 
 -- ---- numbers of bytes
@@ -71,6 +72,14 @@ deeper x y s = record { cells = s.cells ++ x; under = s.under ++ beneath_under x
 abbrev pub EffectsLookFromTop : Type 0
 EffectsLookFromTop = (op : PlainOp) (under cells x y : List Slot) (e : StackEffect) → stack_effect op under cells ≡ Some e
     → stack_effect op (under ++ y) (cells ++ x) ≡ Some e
+
+abbrev pub CallsLookFromTop : Type 0
+CallsLookFromTop = (r : Routine) (count pending : ℕ) (cells x : List Slot) (e : StackEffect) → call_effect r count pending cells ≡ Some e
+    → call_effect r count pending (cells ++ x) ≡ Some e
+
+abbrev pub StoresLookFromTop : Type 0
+StoresLookFromTop = (globals locals : ℕ) (under cells x y : List Slot) (t : StoredTypes) → stored_types globals locals under cells ≡ Some t
+    → stored_types globals locals (under ++ y) (cells ++ x) ≡ Some t
 
 abbrev pub RuleLooksFromTop : Type 0
 RuleLooksFromTop = (table : EngineTable) (op : PlainOp) (before after : TopShape) (x y : List Slot) → rule table op before ≡ Some after

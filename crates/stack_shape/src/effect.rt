@@ -209,7 +209,13 @@ fn runs<C: TopFirst>(
         None => Ok(None),
         Some(count) => {
             let upper = top_types(alloc, cells, count)?;
-            let lower = cells.types_at(alloc, CellRange { above: count, count })?;
+            let lower = cells.types_at(
+                alloc,
+                CellRange {
+                    above: count,
+                    count,
+                },
+            )?;
             let effect = StackEffect {
                 pops: count + count,
                 pushes: Tys::of_slice(alloc, &[Ty::Int])?,
@@ -303,11 +309,7 @@ fn compared<C: TopFirst>(
 
 /// ADD.
 #[tactic(auto, unfolding(crate::specs::StackEffects::added))]
-fn added<C: TopFirst>(
-    alloc: Global,
-    kind: u8,
-    cells: &C,
-) -> Result<Option<StackEffect>, NoMemory>
+fn added<C: TopFirst>(alloc: Global, kind: u8, cells: &C) -> Result<Option<StackEffect>, NoMemory>
     ensures { IfOk result (λ effect. effect ≡ added kind (C.slots cells.now)) }
 {
     if kind == 0x20 {
@@ -337,11 +339,7 @@ fn reckoned<C: TopFirst>(
 
 /// NEG.
 #[tactic(auto, unfolding(crate::specs::StackEffects::negated))]
-fn negated<C: TopFirst>(
-    alloc: Global,
-    kind: u8,
-    cells: &C,
-) -> Result<Option<StackEffect>, NoMemory>
+fn negated<C: TopFirst>(alloc: Global, kind: u8, cells: &C) -> Result<Option<StackEffect>, NoMemory>
     ensures { IfOk result (λ effect. effect ≡ negated kind (C.slots cells.now)) }
 {
     if kind == 0x03 {

@@ -1,4 +1,4 @@
-ghost use Rattle.stack_shape.specs.Laws.{CallsPopValues, CellsOfBytes, DepthOfOffset, EffectsLookFromTop, EffectsPopValues, NumbersOfRange, RangeOfNumbers, RuleLooksFromTop, ValuesAreThere};
+ghost use Rattle.stack_shape.specs.Laws.{CallsLookFromTop, CallsPopValues, CellsOfBytes, DepthOfOffset, EffectsLookFromTop, EffectsPopValues, NumbersOfRange, RangeOfNumbers, RuleLooksFromTop, StoresLookFromTop, ValuesAreThere};
 
 /// Four bytes are one cell, and an offset of four bytes down for each cell reaches so many cells down.
 pub fn cells_of_bytes()
@@ -24,5 +24,7 @@ pub fn effects_pop_values()
 /// are.
 pub fn rules_look_from_the_top()
     ensures effects { EffectsLookFromTop }
+    ensures calls { CallsLookFromTop }
+    ensures stores { StoresLookFromTop }
     ensures rules { RuleLooksFromTop }
 {}

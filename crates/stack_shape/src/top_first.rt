@@ -33,7 +33,11 @@ impl TopFirst for &[Slot] {
 }
 
 /// The types of so many slots from the top.
-pub fn top_types<C: TopFirst>(alloc: Global, cells: &C, count: usize) -> Result<Option<Tys>, NoMemory>
+pub fn top_types<C: TopFirst>(
+    alloc: Global,
+    cells: &C,
+    count: usize,
+) -> Result<Option<Tys>, NoMemory>
     ensures types { IfOk result (λ types. types ≡ types_on count (C.slots cells.now)) }
     ensures length { IfOk result (λ types. IfSome types (λ types. length types ≡ count)) }
 {

@@ -1,5 +1,4 @@
-use Rattle.std.proofs.Common.{length, ◌-◌, ◌≡◌, [], IfOk, reverse, take, ◌≤◌, ℕ, ◌+◌, ◌*◌, ◌<◌}
-use Rattle.stack_shape.specs.Suffix.{LongestSuffix}
+use Rattle.std.proofs.Common.{length, ◌-◌, ◌≡◌, reverse, take, ◌≤◌}
 use Rattle.stack_shape.proofs.common_suffix.common_count.Given as goal
 
 abbrev pub invariant-loop-count : goal.invariant-loop-count

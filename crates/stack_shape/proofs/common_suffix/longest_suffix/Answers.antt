@@ -1,4 +1,3 @@
-use Rattle.std.proofs.Common.{◌≡◌, ◌-◌, length, take, drop}
 use Rattle.std.proofs.lemmas.Result.{IfOk-weaker}
 use Rattle.stack_shape.specs.Suffix.{LongestSuffix}
 use Rattle.stack_shape.proofs.Tops.{longest_is}
