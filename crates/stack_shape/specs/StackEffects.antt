@@ -2,7 +2,7 @@
 use Rattle.std.specs.Prelude.{ℕ, ◌+◌, ◌-◌, List, [], ◌∷◌, ◌++◌, length, map, take, drop, Option, None, Some, ◌==◌, nat_le, if◌then◌else◌}
 use Rattle.std.specs.Option.{option_map, option_and_then}
 use Rattle.nwq_value.specs.declared.value.Ty.{Ty}
-use Rattle.nwq_value.specs.declared.value.Ty.TheVariants.{Int, Text, Object, Effect}
+use Rattle.nwq_value.specs.declared.value.Ty.TheVariants.{Int, Text, Object, Effect, Event}
 use Rattle.nwq_value.specs.Roles.{tys_eq}
 use Rattle.ncs_code.specs.Plain.{PlainLit, PlainOp}
 use Rattle.ncs_code.specs.Plain as ops
@@ -85,6 +85,7 @@ type_of_one kind =
     else if kind == 0x05 then Some Text
     else if kind == 0x06 then Some Object
     else if kind == 0x10 then Some Effect
+    else if kind == 0x11 then Some Event
     else None
 
 -- the type of two values that EQUAL and NEQUAL compare, by their type byte
@@ -94,6 +95,7 @@ type_of_both kind =
     else if kind == 0x22 then Some Object
     else if kind == 0x23 then Some Text
     else if kind == 0x30 then Some Effect
+    else if kind == 0x31 then Some Event
     else None
 
 abbrev pub type_of_lit : PlainLit → Option Ty

@@ -261,6 +261,7 @@ pub fn type_of_one(kind: u8) -> Option<Ty>
         0x05 => Some(Ty::Text),
         0x06 => Some(Ty::Object),
         0x10 => Some(Ty::Effect),
+        0x11 => Some(Ty::Event),
         _ => None,
     }
 }
@@ -275,6 +276,7 @@ fn type_of_both(kind: u8) -> Option<Ty>
         0x22 => Some(Ty::Object),
         0x23 => Some(Ty::Text),
         0x30 => Some(Ty::Effect),
+        0x31 => Some(Ty::Event),
         _ => None,
     }
 }

@@ -7,4 +7,4 @@ pub returns : goal.returns
 returns c = IfOk-weaker c.of_slice.result _ (λ common. LongestSuffix c.args.a.now c.args.b.now common)
     (λ common is. longest_is c.args.a.now c.args.b.now common c.common_count.result
     c.common_count.ensures.first c.common_count.ensures.second c.common_count.ensures.same c.common_count.ensures.last is)
-    c.of_slice.ensures
+    c.of_slice.ensures.ok

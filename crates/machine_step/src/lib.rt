@@ -1,0 +1,6 @@
+//! What NCS code means: the machine, step by step.
+#![tactic(auto)]
+
+mod laws;
+
+pub use laws::equality_is_tested;
