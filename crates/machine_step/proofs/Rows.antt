@@ -192,7 +192,7 @@ divides_by_zero : played (alone divide_code) ≡ record { first = record { endin
 unfolding step act cells_after op_at header_table header_routines role_without_row range_at range_of depth_of cell_count is_callable type_of_one type_of_both value_eq ty_eq tys_eq
 divides_by_zero = refl
 
-calls_itself : played (alone recursive_code) ≡ record { first = record { ending = Over; count = 69; trace = Print 0 (pos 7) ∷ [] }; later = [] }
+calls_itself : played (alone recursive_code) ≡ record { first = record { ending = Over; count = 61; trace = Print 0 (pos 7) ∷ [] }; later = [] }
 unfolding step act cells_after op_at header_table header_routines role_without_row range_at range_of depth_of cell_count is_callable type_of_one type_of_both value_eq ty_eq tys_eq
 calls_itself = refl
 
@@ -223,7 +223,7 @@ is_not_listed = refl
 
 -- an executed script has globals and an object of its own
 executes_a_script : played (script (codes "s") caller_code ∷ script (codes "t") callee_code ∷ []) ≡ record {
-  first = record { ending = Over; count = 28; trace = Print 1 (pos 6) ∷ Print 0 (pos 1) ∷ [] };
+  first = record { ending = Over; count = 30; trace = Print 1 (pos 6) ∷ Print 0 (pos 1) ∷ [] };
   later = [];
 }
 unfolding step act cells_after op_at header_table header_routines role_without_row range_at range_of depth_of cell_count is_callable type_of_one type_of_both value_eq ty_eq tys_eq

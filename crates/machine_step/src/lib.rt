@@ -3,4 +3,4 @@
 
 mod laws;
 
-pub use laws::equality_is_tested;
+pub use laws::{equality_is_tested, few_scripts_wait, limits_count_instructions};
