@@ -4,9 +4,6 @@ pub mod GapLaws
 pub mod FormLaws
 pub mod FoundLaws
 pub mod FirstLaws
-<<<<<<< HEAD
 pub mod ComputedLaws
-=======
 pub mod SomeSplit
->>>>>>> outside
 mod Examples
