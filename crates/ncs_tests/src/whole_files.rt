@@ -1,7 +1,8 @@
 ghost use Rattle.std.specs.Prelude.{◌≤◌, length};
+ghost use Rattle.nwq_value.specs.Limits.{file_limit};
 
-use super::*;
 use ncs_code::{CodeFault, Op};
+use ncs_file::{Code, LoadFault, load, store};
 use std::alloc::Global;
 use std::test::*;
 
@@ -11,7 +12,7 @@ const EMPTY: [u8; 13] = *b"NCS V1.0B\x00\x00\x00\x0d";
 const CALL: [u8; 23] = *b"NCS V1.0B\x00\x00\x00\x17\x1e\x00\x00\x00\x00\x08\x20\x00\x20\x00";
 
 fn loaded(alloc: Global, bytes: &[u8]) -> Result<Code, LoadFault>
-    requires { length bytes.now ≤ 16777216 }
+    requires { length bytes.now ≤ file_limit }
 {
     load(alloc, Vec::from_slice(alloc, bytes)?)
 }
@@ -52,6 +53,15 @@ fn refused_files(rt: HostRuntime) {
             loaded(
                 rt.alloc(),
                 b"NCS V1.0B\x00\x00\x00\x15\x1d\x00\x00\x00\x00\x07\x20\x00"
+            ),
+            Err(LoadFault::Target(13))
+        )
+    );
+    assert!(rt;
+        matches!(
+            loaded(
+                rt.alloc(),
+                b"NCS V1.0B\x00\x00\x00\x1d\x2c\x10\x00\x00\x00\x00\x00\x00\x00\x00\x1d\x00\x00\x00\x00\x06"
             ),
             Err(LoadFault::Target(13))
         )
