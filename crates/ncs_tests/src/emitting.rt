@@ -5,7 +5,7 @@ ghost use Rattle.ncs_emit.specs.Labelled.{Instruction, JumpTo, Label, placements
 ghost use Rattle.ncs_emit.specs.Leading.{Closes, LeadsOn};
 ghost use Rattle.ncs_emit.specs.declared.jump.Jump.TheVariants.{Jsr, Jz};
 
-use ncs_code::{Lit, Op};
+use ncs_code::{Lit, Op, size_laws};
 use ncs_emit::{EmitFault, Emitter, Jump, finished_is_code, part_laws};
 use ncs_file::{Code, LoadFault, load};
 use nwq_value::NoMemory;
@@ -13,6 +13,7 @@ use std::alloc::Global;
 use std::test::*;
 
 /// A call of what follows.
+#[tactic(auto, unfolding(ncs_code::specs::Spelling::has_type))]
 fn entry_call(alloc: Global) -> Result<Emitter, NoMemory>
     ensures { IfOk result (λ out. out ≡ record { lines = JumpTo Jsr 0 ∷ Instruction Retn ∷ Label 0 ∷ []; labels = 1 }) }
 {
@@ -25,6 +26,7 @@ fn entry_call(alloc: Global) -> Result<Emitter, NoMemory>
 }
 
 /// `a && b`, where each operand is one instruction, behind what stands there already.
+#[tactic(auto, unfolding(ncs_code::specs::Spelling::has_type))]
 fn emit_and(out: &mut Emitter, a: &Op<'_>, b: &Op<'_>) -> Result<(), NoMemory>
     requires labels { out.old.labels + 1 < 2 ^ 32 }
     requires first { HasRow (plain a.now) }
@@ -48,6 +50,17 @@ fn emit_and(out: &mut Emitter, a: &Op<'_>, b: &Op<'_>) -> Result<(), NoMemory>
     Ok(())
 }
 
+fn want_of_memory(fault: LoadFault) -> NoMemory
+    requires { fault ≡ LoadFault.NoMemory }
+{
+    match fault {
+        LoadFault::NoMemory => NoMemory,
+        LoadFault::Magic | LoadFault::Length | LoadFault::At(_, _) | LoadFault::Target(_) => {
+            unreachable!()
+        }
+    }
+}
+
 /// The file of code that leads on and closes, loaded again: nothing but its size or want of memory is in
 /// the way.
 fn read_back(alloc: Global, out: Emitter) -> Result<Option<Code>, NoMemory>
@@ -57,14 +70,14 @@ fn read_back(alloc: Global, out: Emitter) -> Result<Option<Code>, NoMemory>
     ensures { IfOk result (λ o. IfSome o (λ code. code ≡ program out.lines)) }
 {
     finished_is_code();
+    size_laws();
     out.sound();
     match out.finish(alloc) {
         Err(EmitFault::Large(_)) => Ok(None),
         Err(EmitFault::NoMemory) => Err(NoMemory),
         Ok(file) => match load(alloc, file) {
             Ok(code) => Ok(Some(code)),
-            Err(LoadFault::NoMemory) => Err(NoMemory),
-            Err(_) => unreachable!(),
+            Err(fault) => Err(want_of_memory(fault)),
         },
     }
 }
@@ -74,11 +87,13 @@ fn read_back(alloc: Global, out: Emitter) -> Result<Option<Code>, NoMemory>
 fn nothing_at_all(rt: HostRuntime) -> Result<(), Fail> {
     let mut out = entry_call(rt.alloc())?;
     out.op(&Op::Retn)?;
-    let file = out.finish(rt.alloc())?;
-    assert_eq!(rt;
-        file.as_slice(),
-        b"NCS V1.0B\x00\x00\x00\x17\x1e\x00\x00\x00\x00\x08\x20\x00\x20\x00".as_slice()
-    );
+    match out.finish(rt.alloc()) {
+        Err(_) => assert!(rt; false),
+        Ok(file) => assert_eq!(rt;
+            file.as_slice(),
+            b"NCS V1.0B\x00\x00\x00\x17\x1e\x00\x00\x00\x00\x08\x20\x00\x20\x00".as_slice()
+        ),
+    }
     Ok(())
 }
 
@@ -93,9 +108,9 @@ fn a_choice_is_read_back(rt: HostRuntime) -> Result<(), Fail> {
         None => assert!(rt; false),
         Some(code) => {
             assert!(rt; code.count() == 9);
-            assert!(rt; matches!(code.op_at(37), Some((Op::Jz { offset: 14 }, 6))));
-            assert!(rt; matches!(code.op_at(49), Some((Op::LogAnd, 2))));
-            assert!(rt; matches!(code.op_at(51), Some((Op::MovSp { offset: -4 }, 6))));
+            assert!(rt; matches!(code.op_at(35), Some((Op::Jz { offset: 14 }, 6))));
+            assert!(rt; matches!(code.op_at(47), Some((Op::LogAnd, 2))));
+            assert!(rt; matches!(code.op_at(49), Some((Op::MovSp { offset: -4 }, 6))));
         }
     }
     Ok(())
