@@ -50,13 +50,13 @@ kept_op again sized bytes all capacity room placed missing op size h row fit siz
       few = h.few;
     }
 
-pub kept_jump : (bytes : List ℕ) (all : List Kept) (capacity room : ℕ) (placed : List Bool) (missing : ℕ) (jump : Jump) (label : ℕ) → IsKept bytes all capacity placed missing
-    → label < length placed → length all + (missing + 1) ≤ room → IsKept bytes (all ++ kept.Jump jump label ∷ []) room placed missing
-kept_jump bytes all capacity room placed missing jump label h made le = record {
-  fits = fits_and_jump (length placed) bytes all jump label h.fits made;
-  table = λ l lt. ap (λ ls. placements ls l) (lines_and_jump bytes all jump label) ∙ placements_add (lines_of bytes all) (JumpTo jump label ∷ []) l ∙ omega (arith, h.table l lt);
+pub kept_jump : (bytes : List ℕ) (all : List Kept) (capacity room : ℕ) (placed : List Bool) (missing : ℕ) (kind : Jump) (label : ℕ) → IsKept bytes all capacity placed missing
+    → label < length placed → length all + (missing + 1) ≤ room → IsKept bytes (all ++ kept.Jump kind label ∷ []) room placed missing
+kept_jump bytes all capacity room placed missing kind label h made le = record {
+  fits = fits_and_jump (length placed) bytes all kind label h.fits made;
+  table = λ l lt. ap (λ ls. placements ls l) (lines_and_jump bytes all kind label) ∙ placements_add (lines_of bytes all) (JumpTo kind label ∷ []) l ∙ omega (arith, h.table l lt);
   left = h.left;
-  room = omega (arith, le, length-append all (kept.Jump jump label ∷ []));
+  room = omega (arith, le, length-append all (kept.Jump kind label ∷ []));
   few = h.few;
 }
 

@@ -25,7 +25,7 @@ all_append P (line ∷ before) behind f g = (f.0, all_append P before behind f.1
 jump_first : (before behind : List Line) → begins_with_jump before ≡ true → begins_with_jump (before ++ behind) ≡ true
 jump_first [] behind h = absurd cc
 jump_first (Instruction op ∷ before) behind h = absurd cc
-jump_first (JumpTo jump label ∷ before) behind h = refl
+jump_first (JumpTo kind label ∷ before) behind h = refl
 jump_first (Label label ∷ before) behind h = absurd cc
 
 states_append : (before behind : List Line) → HasLedStates before → HasLedStates behind → HasLedStates (before ++ behind)
@@ -56,13 +56,13 @@ closed_end line (next ∷ lines) closes = closes
 near : (p at : ℕ) → p ≤ file_limit → at ≤ file_limit → FitsSigned w32 (distance at p)
 near p at f g = search (rules, arith)
 
-jump_is_op : (jump : Jump) (p at : ℕ) → p ≤ file_limit → at ≤ file_limit → IsOp (jump_over jump (distance at p))
+jump_is_op : (kind : Jump) (p at : ℕ) → p ≤ file_limit → at ≤ file_limit → IsOp (jump_over kind (distance at p))
 jump_is_op jumps.Jmp p at f g = record { row = has_row_jump jumps.Jmp _; fits = near p at f g }
 jump_is_op jumps.Jsr p at f g = record { row = has_row_jump jumps.Jsr _; fits = near p at f g }
 jump_is_op jumps.Jz p at f g = record { row = has_row_jump jumps.Jz _; fits = near p at f g }
 jump_is_op jumps.Jnz p at f g = record { row = has_row_jump jumps.Jnz _; fits = near p at f g }
 
-jump_leads : (jump : Jump) (ops : List PlainOp) (at : ℕ) (p : ℕ) → jump_place at (distance at p) ≡ p → begins ops p ≡ true → leads_well ops at (jump_over jump (distance at p)) ≡ true
+jump_leads : (kind : Jump) (ops : List PlainOp) (at : ℕ) (p : ℕ) → jump_place at (distance at p) ≡ p → begins ops p ≡ true → leads_well ops at (jump_over kind (distance at p)) ≡ true
 jump_leads jumps.Jmp ops at p leads well = ap (begins ops) leads ∙ well
 jump_leads jumps.Jsr ops at p leads well = ap (begins ops) leads ∙ well
 jump_leads jumps.Jz ops at p leads well = ap (begins ops) leads ∙ well
@@ -73,15 +73,15 @@ jump_leads jumps.Jnz ops at p leads well = ap (begins ops) leads ∙ well
 place_below : (at label : ℕ) (lines : List Line) → place_from at lines label ≤ at + lines_size lines
 place_below at label [] = omega arith
 place_below at label (Instruction op ∷ lines) = omega (arith, place_below (at + op_size op) label lines)
-place_below at label (JumpTo jump other ∷ lines) = omega (arith, place_below (at + 6) label lines)
+place_below at label (JumpTo kind other ∷ lines) = omega (arith, place_below (at + 6) label lines)
 place_below at label (Label other ∷ lines) = cond_below (eqb other label) at (place_from at lines label) _ (omega arith) (omega (arith, place_below at label lines))
 
 each_op : (labels : ℕ) (places : ℕ → ℕ) → ((label : ℕ) → places label ≤ file_limit) → (at : ℕ) (lines : List Line) → AllByRecursion (LineFits labels) lines
     → at + lines_size lines ≤ file_limit → AllByRecursion IsOp (ops_from places at lines)
 each_op labels places small at [] fits near = tt
 each_op labels places small at (Instruction op ∷ lines) fits near = (fits.0, each_op labels places small (at + op_size op) lines fits.1 (omega (arith, near)))
-each_op labels places small at (JumpTo jump label ∷ lines) fits near =
-    (jump_is_op jump (places label) at (small label) (omega (arith, near)), each_op labels places small (at + 6) lines fits.1 (omega (arith, near)))
+each_op labels places small at (JumpTo kind label ∷ lines) fits near =
+    (jump_is_op kind (places label) at (small label) (omega (arith, near)), each_op labels places small (at + 6) lines fits.1 (omega (arith, near)))
 each_op labels places small at (Label label ∷ lines) fits near = each_op labels places small at lines fits.1 (omega (arith, near))
 
 each_program : (labels : ℕ) (lines : List Line) → ((label : ℕ) → place_of lines label ≤ file_limit) → AllByRecursion (LineFits labels) lines → 13 + lines_size lines ≤ file_limit → AllByRecursion IsOp (program lines)
@@ -107,27 +107,27 @@ module _ (stood : StoodBegins) (add : SizesAdd) (leads : DistanceLeads) (places 
   -- in code that closes some instruction begins at each line
   begins_here : (met : List PlainOp) (at : ℕ) (line : Line) (lines : List Line) → IsLeft ops places met at (line ∷ lines) → Closes (line ∷ lines) → begins ops at ≡ true
   begins_here met at (Instruction op) lines left closes = ap is_some (op_here stood ops places met at op lines left)
-  begins_here met at (JumpTo jump label) lines left closes = ap is_some (jump_here stood ops places met at jump label lines left)
+  begins_here met at (JumpTo kind label) lines left closes = ap is_some (jump_here stood ops places met at kind label lines left)
   begins_here met at (Label label) [] left closes = absurd cc
   begins_here met at (Label label) (next ∷ lines) left closes = begins_here met at next lines (left_label ops places met at label (next ∷ lines) left) closes
 
   -- so behind a jump
-  behind_jump : (met : List PlainOp) (at : ℕ) (jump : Jump) (label : ℕ) (lines : List Line) → IsLeft ops places met at (JumpTo jump label ∷ lines) → Closes (JumpTo jump label ∷ lines) → begins ops (at + 6) ≡ true
-  behind_jump met at jump label [] left closes = absurd cc
-  behind_jump met at jump label (next ∷ lines) left closes =
-      begins_here (met ++ jump_over jump (distance at (places label)) ∷ []) (at + 6) next lines (left_jump add ops places met at jump label (next ∷ lines) left) closes
+  behind_jump : (met : List PlainOp) (at : ℕ) (kind : Jump) (label : ℕ) (lines : List Line) → IsLeft ops places met at (JumpTo kind label ∷ lines) → Closes (JumpTo kind label ∷ lines) → begins ops (at + 6) ≡ true
+  behind_jump met at kind label [] left closes = absurd cc
+  behind_jump met at kind label (next ∷ lines) left closes =
+      begins_here (met ++ jump_over kind (distance at (places label)) ∷ []) (at + 6) next lines (left_jump add ops places met at kind label (next ∷ lines) left) closes
 
   behind_state : (met : List PlainOp) (at : ℕ) (lines : List Line) → IsLeft ops places met at lines → Closes lines → begins_with_jump lines ≡ true → begins ops (at + 6) ≡ true
-  behind_state met at [] left closes jump = absurd cc
-  behind_state met at (Instruction op ∷ lines) left closes jump = absurd cc
-  behind_state met at (JumpTo way label ∷ lines) left closes jump = behind_jump met at way label lines left closes
-  behind_state met at (Label label ∷ lines) left closes jump = absurd cc
+  behind_state met at [] left closes follows = absurd cc
+  behind_state met at (Instruction op ∷ lines) left closes follows = absurd cc
+  behind_state met at (JumpTo kind label ∷ lines) left closes follows = behind_jump met at kind label lines left closes
+  behind_state met at (Label label ∷ lines) left closes follows = absurd cc
 
   state_leads : (met : List PlainOp) (at globals locals : ℕ) (lines : List Line) → IsLeft ops places met at (Instruction (StoreState globals locals) ∷ lines)
       → Closes (Instruction (StoreState globals locals) ∷ lines) → begins_with_jump lines ≡ true → begins ops (at + 16) ≡ true
-  state_leads met at globals locals lines left closes jump =
+  state_leads met at globals locals lines left closes follows =
       let place : at + 10 + 6 ≡ at + 16 = omega arith in
-      ap (begins ops) (sym place) ∙ behind_state (met ++ StoreState globals locals ∷ []) (at + 10) lines (left_op add ops places met at (StoreState globals locals) lines left) (closed_end (Instruction (StoreState globals locals)) lines closes) jump
+      ap (begins ops) (sym place) ∙ behind_state (met ++ StoreState globals locals ∷ []) (at + 10) lines (left_op add ops places met at (StoreState globals locals) lines left) (closed_end (Instruction (StoreState globals locals)) lines closes) follows
 
   op_leads : (whole : List Line) (met : List PlainOp) (at : ℕ) (op : PlainOp) (lines : List Line) → IsLeft ops places met at (Instruction op ∷ lines) → Closes (Instruction op ∷ lines) → IsLed whole (Instruction op)
       → (IsTrue (is_state (Instruction op)) → IsTrue (begins_with_jump lines)) → leads_well ops at op ≡ true
@@ -148,8 +148,8 @@ module _ (stood : StoodBegins) (add : SizesAdd) (leads : DistanceLeads) (places 
   label_begins met at label [] left closes some = absurd (omega (arith, some))
   label_begins met at label (Instruction op ∷ lines) left closes some =
       label_begins (met ++ op ∷ []) (at + op_size op) label lines (left_op add ops places met at op lines left) (closed_end (Instruction op) lines closes) some
-  label_begins met at label (JumpTo jump other ∷ lines) left closes some =
-      label_begins (met ++ jump_over jump (distance at (places other)) ∷ []) (at + 6) label lines (left_jump add ops places met at jump other lines left) (closed_end (JumpTo jump other) lines closes) some
+  label_begins met at label (JumpTo kind other ∷ lines) left closes some =
+      label_begins (met ++ jump_over kind (distance at (places other)) ∷ []) (at + 6) label lines (left_jump add ops places met at kind other lines left) (closed_end (JumpTo kind other) lines closes) some
   label_begins met at label (Label other ∷ lines) left closes some =
       label_case at label lines (eqb other label) (λ same. begins_here met at (Label other) lines left closes)
       (λ rest. label_begins met at label lines (left_label ops places met at other lines left) (closed_end (Label other) lines closes) rest) some
@@ -175,13 +175,13 @@ module _ (stood : StoodBegins) (add : SizesAdd) (leads : DistanceLeads) (places 
       first_or at op o (ops_from places (at + op_size op) lines) before behind is
       (op_leads whole met at op lines left closes jumps.0 states.0)
       (λ b same. all_lead whole placed (met ++ op ∷ []) (at + op_size op) lines (left_op add ops places met at op lines left) (closed_end (Instruction op) lines closes) jumps.1 states.1 b behind o same)
-  all_lead whole placed met at (JumpTo jump label ∷ lines) left closes jumps states before behind o is =
-      let op : PlainOp = jump_over jump (distance at (places label)) in
-      let six : op_size op ≡ 6 = size_jump jump (distance at (places label)) in
+  all_lead whole placed met at (JumpTo kind label ∷ lines) left closes jumps states before behind o is =
+      let op : PlainOp = jump_over kind (distance at (places label)) in
+      let six : op_size op ≡ 6 = size_jump kind (distance at (places label)) in
       first_or at op o (ops_from places (at + 6) lines) before behind is
-      (jump_leads jump ops at (places label) (leads at (places label)) (placed label jumps.0))
+      (jump_leads kind ops at (places label) (leads at (places label)) (placed label jumps.0))
       (λ b same. ap (λ n. leads_well ops (at + n + ops_size b) o) six
-      ∙ all_lead whole placed (met ++ op ∷ []) (at + 6) lines (left_jump add ops places met at jump label lines left) (closed_end (JumpTo jump label) lines closes) jumps.1 states.1 b behind o same)
+      ∙ all_lead whole placed (met ++ op ∷ []) (at + 6) lines (left_jump add ops places met at kind label lines left) (closed_end (JumpTo kind label) lines closes) jumps.1 states.1 b behind o same)
   all_lead whole placed met at (Label label ∷ lines) left closes jumps states before behind o is =
       all_lead whole placed met at lines (left_label ops places met at label lines left) (closed_end (Label label) lines closes) jumps.1 states.1 before behind o is
 

@@ -51,7 +51,7 @@ module _ (again : ReadAgain) (sized : SizeIsLength) where
       let stays = stays_spelled bytes (spelling op) s fits.0 in
       ap (λ o. Instruction o ∷ lines_of (drop s (bytes ++ spelling op)) (all ++ kept.Instruction size ∷ [])) stays.op
       ∙ ap (λ (ls : List Line). Instruction (op_of bytes) ∷ ls) (ap (λ (b : List ℕ). lines_of b (all ++ kept.Instruction size ∷ [])) stays.rest ∙ lines_and_op labels (drop s bytes) all op size fits.1 is_op)
-  lines_and_op labels bytes (kept.Jump jump label ∷ all) op size fits is_op = ap (λ (ls : List Line). JumpTo jump label ∷ ls) (lines_and_op labels bytes all op size fits.1 is_op)
+  lines_and_op labels bytes (kept.Jump kind label ∷ all) op size fits is_op = ap (λ (ls : List Line). JumpTo kind label ∷ ls) (lines_and_op labels bytes all op size fits.1 is_op)
   lines_and_op labels bytes (kept.Label label ∷ all) op size fits is_op = ap (λ (ls : List Line). Label label ∷ ls) (lines_and_op labels bytes all op size fits.1 is_op)
 
   last_spelled : (bytes : List ℕ) (op : PlainOp) (size : ℕ) → IsOp op → size ≡ op_size op → bytes ≡ spelling op → Spells (op_of bytes) size bytes × (drop size bytes ≡ [])
@@ -68,16 +68,16 @@ module _ (again : ReadAgain) (sized : SizeIsLength) where
   fits_and_op labels bytes (kept.Instruction s ∷ all) op size fits is_op size_is =
       let stays = stays_spelled bytes (spelling op) s fits.0 in
       (stays.spells, subst (λ (b : List ℕ). KeptFits labels b (all ++ kept.Instruction size ∷ [])) (sym stays.rest) (fits_and_op labels (drop s bytes) all op size fits.1 is_op size_is))
-  fits_and_op labels bytes (kept.Jump jump label ∷ all) op size fits is_op size_is = (fits.0, fits_and_op labels bytes all op size fits.1 is_op size_is)
+  fits_and_op labels bytes (kept.Jump kind label ∷ all) op size fits is_op size_is = (fits.0, fits_and_op labels bytes all op size fits.1 is_op size_is)
   fits_and_op labels bytes (kept.Label label ∷ all) op size fits is_op size_is = (fits.0, fits_and_op labels bytes all op size fits.1 is_op size_is)
 
 -- ---- a jump or a label more
 
-pub lines_and_jump : (bytes : List ℕ) (all : List Kept) (jump : Jump) (label : ℕ) → lines_of bytes (all ++ kept.Jump jump label ∷ []) ≡ lines_of bytes all ++ JumpTo jump label ∷ []
-lines_and_jump bytes [] jump label = refl
-lines_and_jump bytes (kept.Instruction s ∷ all) jump label = ap (λ (ls : List Line). Instruction (op_of bytes) ∷ ls) (lines_and_jump (drop s bytes) all jump label)
-lines_and_jump bytes (kept.Jump j l ∷ all) jump label = ap (λ (ls : List Line). JumpTo j l ∷ ls) (lines_and_jump bytes all jump label)
-lines_and_jump bytes (kept.Label l ∷ all) jump label = ap (λ (ls : List Line). Label l ∷ ls) (lines_and_jump bytes all jump label)
+pub lines_and_jump : (bytes : List ℕ) (all : List Kept) (kind : Jump) (label : ℕ) → lines_of bytes (all ++ kept.Jump kind label ∷ []) ≡ lines_of bytes all ++ JumpTo kind label ∷ []
+lines_and_jump bytes [] kind label = refl
+lines_and_jump bytes (kept.Instruction s ∷ all) kind label = ap (λ (ls : List Line). Instruction (op_of bytes) ∷ ls) (lines_and_jump (drop s bytes) all kind label)
+lines_and_jump bytes (kept.Jump j l ∷ all) kind label = ap (λ (ls : List Line). JumpTo j l ∷ ls) (lines_and_jump bytes all kind label)
+lines_and_jump bytes (kept.Label l ∷ all) kind label = ap (λ (ls : List Line). Label l ∷ ls) (lines_and_jump bytes all kind label)
 
 pub lines_and_label : (bytes : List ℕ) (all : List Kept) (label : ℕ) → lines_of bytes (all ++ kept.Label label ∷ []) ≡ lines_of bytes all ++ Label label ∷ []
 lines_and_label bytes [] label = refl
@@ -85,11 +85,11 @@ lines_and_label bytes (kept.Instruction s ∷ all) label = ap (λ (ls : List Lin
 lines_and_label bytes (kept.Jump j l ∷ all) label = ap (λ (ls : List Line). JumpTo j l ∷ ls) (lines_and_label bytes all label)
 lines_and_label bytes (kept.Label l ∷ all) label = ap (λ (ls : List Line). Label l ∷ ls) (lines_and_label bytes all label)
 
-pub fits_and_jump : (labels : ℕ) (bytes : List ℕ) (all : List Kept) (jump : Jump) (label : ℕ) → KeptFits labels bytes all → label < labels → KeptFits labels bytes (all ++ kept.Jump jump label ∷ [])
-fits_and_jump labels bytes [] jump label fits made = (made, fits)
-fits_and_jump labels bytes (kept.Instruction s ∷ all) jump label fits made = (fits.0, fits_and_jump labels (drop s bytes) all jump label fits.1 made)
-fits_and_jump labels bytes (kept.Jump j l ∷ all) jump label fits made = (fits.0, fits_and_jump labels bytes all jump label fits.1 made)
-fits_and_jump labels bytes (kept.Label l ∷ all) jump label fits made = (fits.0, fits_and_jump labels bytes all jump label fits.1 made)
+pub fits_and_jump : (labels : ℕ) (bytes : List ℕ) (all : List Kept) (kind : Jump) (label : ℕ) → KeptFits labels bytes all → label < labels → KeptFits labels bytes (all ++ kept.Jump kind label ∷ [])
+fits_and_jump labels bytes [] kind label fits made = (made, fits)
+fits_and_jump labels bytes (kept.Instruction s ∷ all) kind label fits made = (fits.0, fits_and_jump labels (drop s bytes) all kind label fits.1 made)
+fits_and_jump labels bytes (kept.Jump j l ∷ all) kind label fits made = (fits.0, fits_and_jump labels bytes all kind label fits.1 made)
+fits_and_jump labels bytes (kept.Label l ∷ all) kind label fits made = (fits.0, fits_and_jump labels bytes all kind label fits.1 made)
 
 pub fits_and_placed : (labels : ℕ) (bytes : List ℕ) (all : List Kept) (label : ℕ) → KeptFits labels bytes all → label < labels → KeptFits labels bytes (all ++ kept.Label label ∷ [])
 fits_and_placed labels bytes [] label fits made = (made, fits)
@@ -109,7 +109,7 @@ fits_and_made labels bytes (kept.Label l ∷ all) fits = (omega (arith, fits.0),
 pub placements_add : (before behind : List Line) (label : ℕ) → placements (before ++ behind) label ≡ placements before label + placements behind label
 placements_add [] behind label = omega arith
 placements_add (Instruction op ∷ before) behind label = placements_add before behind label
-placements_add (JumpTo jump other ∷ before) behind label = placements_add before behind label
+placements_add (JumpTo kind other ∷ before) behind label = placements_add before behind label
 placements_add (Label other ∷ before) behind label = omega (arith, placements_add before behind label)
 
 no_more : (test : Bool) (count : ℕ) → test ≡ false → count ≡ 0 → cond test 1 0 + count ≡ 0

@@ -17,7 +17,7 @@ pub kept_place_is : (labels : ℕ) (bytes : List ℕ) (all : List Kept) (at labe
 kept_place_is labels bytes [] at label fits = refl
 kept_place_is labels bytes (kept.Instruction size ∷ all) at label fits =
     kept_place_is labels (drop size bytes) all (at + size) label fits.1 ∙ ap (λ n. place_from (at + n) (lines_of (drop size bytes) all) label) fits.0.size
-kept_place_is labels bytes (kept.Jump jump other ∷ all) at label fits = kept_place_is labels bytes all (at + 6) label fits.1
+kept_place_is labels bytes (kept.Jump kind other ∷ all) at label fits = kept_place_is labels bytes all (at + 6) label fits.1
 kept_place_is labels bytes (kept.Label other ∷ all) at label fits = ap (λ p. cond (eqb other label) at p) (kept_place_is labels bytes all at label fits.1)
 
 pub cond_below : (b : Bool) (m n k : ℕ) → m ≤ k → n ≤ k → cond b m n ≤ k
@@ -28,7 +28,7 @@ cond_below false m n k f g = g
 pub kept_place_below : (all : List Kept) (at label : ℕ) → kept_place at all label ≤ at + kept_total all
 kept_place_below [] at label = omega arith
 kept_place_below (kept.Instruction size ∷ all) at label = omega (arith, kept_place_below all (at + size) label)
-kept_place_below (kept.Jump jump other ∷ all) at label = omega (arith, kept_place_below all (at + 6) label)
+kept_place_below (kept.Jump kind other ∷ all) at label = omega (arith, kept_place_below all (at + 6) label)
 kept_place_below (kept.Label other ∷ all) at label = cond_below (eqb other label) at (kept_place at all label) _ (omega arith) (omega (arith, kept_place_below all at label))
 
 -- the places that were met, and where the next line stands
@@ -67,9 +67,9 @@ place_op all i labels places at size h is = record {
   found = λ label. ap (λ ks. unwrap_or (get_or places label None) (kept_place at ks label)) (sym is) ∙ h.found label;
 }
 
-pub place_jump : (all : List Kept) (i labels : ℕ) (places : List (Option ℕ)) (at : ℕ) (jump : Jump) (other : ℕ) → PlacedSoFar all i labels places at
-    → drop i all ≡ kept.Jump jump other ∷ drop (i + 1) all → PlacedSoFar all (i + 1) labels places (at + 6)
-place_jump all i labels places at jump other h is = record {
+pub place_jump : (all : List Kept) (i labels : ℕ) (places : List (Option ℕ)) (at : ℕ) (kind : Jump) (other : ℕ) → PlacedSoFar all i labels places at
+    → drop i all ≡ kept.Jump kind other ∷ drop (i + 1) all → PlacedSoFar all (i + 1) labels places (at + 6)
+place_jump all i labels places at kind other h is = record {
   len = h.len;
   size = omega (arith, h.size, ap (kept_total) is);
   labelled = (subst (AllByRecursion (HasLabels labels)) is h.labelled).1;
@@ -131,7 +131,7 @@ place_ends all i labels places at h end =
     let none = none_left all i end in
     (omega (arith, h.size, ap (kept_total) none), λ label. ap (λ ks. unwrap_or (get_or places label None) (kept_place at ks label)) (sym none) ∙ h.found label)
 
-pub has_row_jump : (jump : Jump) (distance : ℤ) → HasRow (jump_over jump distance)
+pub has_row_jump : (kind : Jump) (distance : ℤ) → HasRow (jump_over kind distance)
 unfolding has_type
 has_row_jump Jmp distance = record { kind = refl; sizes = tt }
 has_row_jump Jsr distance = record { kind = refl; sizes = tt }

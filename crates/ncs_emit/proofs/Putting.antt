@@ -15,7 +15,7 @@ use Rattle.ncs_emit.specs.Labelled.{Line, jump_over, ops_from, place_of, program
 use Rattle.ncs_emit.specs.Emitting.{lines_of, KeptFits, kept_place, kept_total}
 use Rattle.ncs_emit.proofs.Placing.{kept_place_is, kept_place_below}
 
-pub size_jump : (jump : Jump) (offset : ℤ) → op_size (jump_over jump offset) ≡ 6
+pub size_jump : (kind : Jump) (offset : ℤ) → op_size (jump_over kind offset) ≡ 6
 size_jump Jmp offset = refl
 size_jump Jsr offset = refl
 size_jump Jz offset = refl
@@ -53,16 +53,16 @@ put_op sized whole lines labels size file rest left others count h is =
       total = omega (arith, ap length taken, length-append file (take count rest), long, h.total, ap kept_total is);
     }
 
-pub put_jump_line : SizeIsLength → (whole : List ℕ) (lines : List Line) (labels size : ℕ) (file rest : List ℕ) (left others : List Kept) (jump : Jump) (label place : ℕ) → PutSoFar whole lines labels size file rest left
-    → left ≡ kept.Jump jump label ∷ others → place ≡ place_of lines label → PutSoFar whole lines labels size (file ++ spelling (jump_over jump (distance (length file) place))) rest others
-put_jump_line sized whole lines labels size file rest left others jump label place h is at =
+pub put_jump_line : SizeIsLength → (whole : List ℕ) (lines : List Line) (labels size : ℕ) (file rest : List ℕ) (left others : List Kept) (kind : Jump) (label place : ℕ) → PutSoFar whole lines labels size file rest left
+    → left ≡ kept.Jump kind label ∷ others → place ≡ place_of lines label → PutSoFar whole lines labels size (file ++ spelling (jump_over kind (distance (length file) place))) rest others
+put_jump_line sized whole lines labels size file rest left others kind label place h is at =
     let fits = subst (KeptFits labels rest) is h.fits in
     let same = subst (λ ks. file ++ spellings (ops_from (place_of lines) (length file) (lines_of rest ks)) ≡ whole) is h.same in
-    let op : PlainOp = jump_over jump (distance (length file) (place_of lines label)) in
-    let long : length (spelling op) ≡ 6 = sym (sized op) ∙ size_jump jump _ in
+    let op : PlainOp = jump_over kind (distance (length file) (place_of lines label)) in
+    let long : length (spelling op) ≡ 6 = sym (sized op) ∙ size_jump kind _ in
     let count : length (file ++ spelling op) ≡ length file + 6 = omega (arith, length-append file (spelling op), long) in
     let tail : ℕ → List ℕ = λ n. spellings (ops_from (place_of lines) n (lines_of rest others)) in
-    let P : ℕ → Type 0 = λ p. PutSoFar whole lines labels size (file ++ spelling (jump_over jump (distance (length file) p))) rest others in
+    let P : ℕ → Type 0 = λ p. PutSoFar whole lines labels size (file ++ spelling (jump_over kind (distance (length file) p))) rest others in
     subst P (sym at) (record {
       same = ap (λ n. (file ++ spelling op) ++ tail n) count ∙ append_assoc file (spelling op) (tail (length file + 6)) ∙ same;
       fits = fits.1;
@@ -84,9 +84,9 @@ put_ends whole lines labels size file rest left h is =
     sym (append-nil file) ∙ subst (λ ks. file ++ spellings (ops_from (place_of lines) (length file) (lines_of rest ks)) ≡ whole) is h.same
 
 -- the label of the jump in view was made, and its place is known
-pub label_made : (whole : List ℕ) (lines : List Line) (labels size : ℕ) (file rest : List ℕ) (left others : List Kept) (jump : Jump) (label : ℕ) → PutSoFar whole lines labels size file rest left
-    → left ≡ kept.Jump jump label ∷ others → label < labels
-label_made whole lines labels size file rest left others jump label h is = (subst (KeptFits labels rest) is h.fits).0
+pub label_made : (whole : List ℕ) (lines : List Line) (labels size : ℕ) (file rest : List ℕ) (left others : List Kept) (kind : Jump) (label : ℕ) → PutSoFar whole lines labels size file rest left
+    → left ≡ kept.Jump kind label ∷ others → label < labels
+label_made whole lines labels size file rest left others kind label h is = (subst (KeptFits labels rest) is h.fits).0
 
 pub place_known : (labels size : ℕ) (bytes : List ℕ) (all : List Kept) (places : List (Option ℕ)) (label : ℕ) → KeptFits labels bytes all
     → ((l : ℕ) → unwrap_or (get_or places l None) size ≡ kept_place 13 all l) → unwrap_or (get_or places label None) size ≡ place_of (lines_of bytes all) label
@@ -113,8 +113,8 @@ pub ops_size_is : (places : ℕ → ℕ) (labels at : ℕ) (bytes : List ℕ) (a
 ops_size_is places labels at bytes [] fits = refl
 ops_size_is places labels at bytes (kept.Instruction size ∷ all) fits =
     omega (arith, ops_size_is places labels (at + op_size (op_of bytes)) (drop size bytes) all fits.1, fits.0.size)
-ops_size_is places labels at bytes (kept.Jump jump label ∷ all) fits =
-    omega (arith, size_jump jump (distance at (places label)), ops_size_is places labels (at + 6) bytes all fits.1)
+ops_size_is places labels at bytes (kept.Jump kind label ∷ all) fits =
+    omega (arith, size_jump kind (distance at (places label)), ops_size_is places labels (at + 6) bytes all fits.1)
 ops_size_is places labels at bytes (kept.Label label ∷ all) fits = omega (arith, ops_size_is places labels at bytes all fits.1)
 
 pub total_few : SizeIsLength → (labels : ℕ) (bytes : List ℕ) (all : List Kept) → KeptFits labels bytes all → kept_total all ≤ length bytes + 6 * length all
@@ -128,7 +128,7 @@ total_few sized labels bytes (kept.Instruction size ∷ all) fits =
       fits.0.size,
       sized (op_of bytes),
     )
-total_few sized labels bytes (kept.Jump jump label ∷ all) fits = omega (arith, total_few sized labels bytes all fits.1)
+total_few sized labels bytes (kept.Jump kind label ∷ all) fits = omega (arith, total_few sized labels bytes all fits.1)
 total_few sized labels bytes (kept.Label label ∷ all) fits = omega (arith, total_few sized labels bytes all fits.1)
 
 pub length_program : (labels : ℕ) (bytes : List ℕ) (all : List Kept) (lines : List Line) → KeptFits labels bytes all → lines_of bytes all ≡ lines → 13 + kept_total all ≡ file_length (program lines)

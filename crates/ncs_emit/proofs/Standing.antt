@@ -20,7 +20,7 @@ lines_size_adds (line ∷ before) behind = omega (arith, lines_size_adds before 
 pub ops_as_lines : (places : ℕ → ℕ) (at : ℕ) (lines : List Line) → ops_size (ops_from places at lines) ≡ lines_size lines
 ops_as_lines places at [] = refl
 ops_as_lines places at (Instruction op ∷ lines) = omega (arith, ops_as_lines places (at + op_size op) lines)
-ops_as_lines places at (JumpTo jump label ∷ lines) = omega (arith, size_jump jump (distance at (places label)), ops_as_lines places (at + 6) lines)
+ops_as_lines places at (JumpTo kind label ∷ lines) = omega (arith, size_jump kind (distance at (places label)), ops_as_lines places (at + 6) lines)
 ops_as_lines places at (Label label ∷ lines) = omega (arith, ops_as_lines places at lines)
 
 pub program_size : (lines : List Line) → ops_size (program lines) ≡ lines_size lines
@@ -47,7 +47,7 @@ place_behind : (at label : ℕ) (before behind : List Line) → placements befor
 place_behind at label [] behind none = ap (λ n. place_from n behind label) (omega arith)
 place_behind at label (Instruction op ∷ before) behind none =
     place_behind (at + op_size op) label before behind none ∙ ap (λ n. place_from n behind label) (omega arith)
-place_behind at label (JumpTo jump other ∷ before) behind none =
+place_behind at label (JumpTo kind other ∷ before) behind none =
     place_behind (at + 6) label before behind none ∙ ap (λ n. place_from n behind label) (omega arith)
 place_behind at label (Label other ∷ before) behind none =
     skip_label (eqb other label) (placements before label) at (place_from at (before ++ behind) label) _ none (λ rest. place_behind at label before behind rest)
@@ -85,11 +85,11 @@ left_op add ops places met at op lines left = record {
   place = omega (arith, left.place, add met (op ∷ []));
 }
 
-pub left_jump : SizesAdd → (ops : List PlainOp) (places : ℕ → ℕ) (met : List PlainOp) (at : ℕ) (jump : Jump) (label : ℕ) (lines : List Line) → IsLeft ops places met at (JumpTo jump label ∷ lines)
-    → IsLeft ops places (met ++ jump_over jump (distance at (places label)) ∷ []) (at + 6) lines
-left_jump add ops places met at jump label lines left = record {
-  same = left.same ∙ one_more met (ops_from places (at + 6) lines) (jump_over jump (distance at (places label)));
-  place = omega (arith, left.place, add met (jump_over jump (distance at (places label)) ∷ []), size_jump jump (distance at (places label)));
+pub left_jump : SizesAdd → (ops : List PlainOp) (places : ℕ → ℕ) (met : List PlainOp) (at : ℕ) (kind : Jump) (label : ℕ) (lines : List Line) → IsLeft ops places met at (JumpTo kind label ∷ lines)
+    → IsLeft ops places (met ++ jump_over kind (distance at (places label)) ∷ []) (at + 6) lines
+left_jump add ops places met at kind label lines left = record {
+  same = left.same ∙ one_more met (ops_from places (at + 6) lines) (jump_over kind (distance at (places label)));
+  place = omega (arith, left.place, add met (jump_over kind (distance at (places label)) ∷ []), size_jump kind (distance at (places label)));
 }
 
 pub left_label : (ops : List PlainOp) (places : ℕ → ℕ) (met : List PlainOp) (at label : ℕ) (lines : List Line) → IsLeft ops places met at (Label label ∷ lines) → IsLeft ops places met at lines
@@ -98,10 +98,10 @@ left_label ops places met at label lines left = record { same = left.same; place
 pub op_here : StoodBegins → (ops : List PlainOp) (places : ℕ → ℕ) (met : List PlainOp) (at : ℕ) (op : PlainOp) (lines : List Line) → IsLeft ops places met at (Instruction op ∷ lines) → op_at ops at ≡ Some op
 op_here begins ops places met at op lines left = ap (λ o. op_at o at) left.same ∙ ap (op_at (met ++ op ∷ ops_from places (at + op_size op) lines)) left.place ∙ begins met _ op
 
-pub jump_here : StoodBegins → (ops : List PlainOp) (places : ℕ → ℕ) (met : List PlainOp) (at : ℕ) (jump : Jump) (label : ℕ) (lines : List Line) → IsLeft ops places met at (JumpTo jump label ∷ lines)
-    → op_at ops at ≡ Some (jump_over jump (distance at (places label)))
-jump_here begins ops places met at jump label lines left =
-    let op : PlainOp = jump_over jump (distance at (places label)) in
+pub jump_here : StoodBegins → (ops : List PlainOp) (places : ℕ → ℕ) (met : List PlainOp) (at : ℕ) (kind : Jump) (label : ℕ) (lines : List Line) → IsLeft ops places met at (JumpTo kind label ∷ lines)
+    → op_at ops at ≡ Some (jump_over kind (distance at (places label)))
+jump_here begins ops places met at kind label lines left =
+    let op : PlainOp = jump_over kind (distance at (places label)) in
     ap (λ o. op_at o at) left.same ∙ ap (op_at (met ++ op ∷ ops_from places (at + 6) lines)) left.place ∙ begins met _ op
 
 module _ (begins : StoodBegins) (add : SizesAdd) (leads : DistanceLeads) (all : List Line) (once : IsPlacedOnce all) (ops : List PlainOp) where
@@ -112,10 +112,10 @@ module _ (begins : StoodBegins) (add : SizesAdd) (leads : DistanceLeads) (all : 
     stand_on (before ++ Instruction op ∷ []) lines (met ++ op ∷ []) (at + op_size op) (is ∙ one_more before lines (Instruction op))
         (omega (arith, place, lines_size_adds before (Instruction op ∷ []))) (left_op add ops (place_of all) met at op lines left),
   )
-  stand_on before (JumpTo jump label ∷ lines) met at is place left = (
-    record { begins = jump_here begins ops (place_of all) met at jump label lines left; leads = leads at (place_of all label) },
-    stand_on (before ++ JumpTo jump label ∷ []) lines (met ++ jump_over jump (distance at (place_of all label)) ∷ []) (at + 6) (is ∙ one_more before lines (JumpTo jump label))
-        (omega (arith, place, lines_size_adds before (JumpTo jump label ∷ []))) (left_jump add ops (place_of all) met at jump label lines left),
+  stand_on before (JumpTo kind label ∷ lines) met at is place left = (
+    record { begins = jump_here begins ops (place_of all) met at kind label lines left; leads = leads at (place_of all label) },
+    stand_on (before ++ JumpTo kind label ∷ []) lines (met ++ jump_over kind (distance at (place_of all label)) ∷ []) (at + 6) (is ∙ one_more before lines (JumpTo kind label))
+        (omega (arith, place, lines_size_adds before (JumpTo kind label ∷ []))) (left_jump add ops (place_of all) met at kind label lines left),
   )
   stand_on before (Label label ∷ lines) met at is place left =
       let on = stand_on (before ++ Label label ∷ []) lines met at (is ∙ one_more before lines (Label label)) (omega (arith, place, lines_size_adds before (Label label ∷ []))) (left_label ops (place_of all) met at label lines left) in

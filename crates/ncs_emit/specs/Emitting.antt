@@ -10,14 +10,14 @@ use Rattle.ncs_emit.specs.Labelled.{Line, Instruction, JumpTo, Label, placements
 abbrev pub lines_of : List ℕ → List Kept → List Line
 lines_of bytes [] = []
 lines_of bytes (kept.Instruction size ∷ others) = Instruction (op_of bytes) ∷ lines_of (drop size bytes) others
-lines_of bytes (kept.Jump jump label ∷ others) = JumpTo jump label ∷ lines_of bytes others
+lines_of bytes (kept.Jump kind label ∷ others) = JumpTo kind label ∷ lines_of bytes others
 lines_of bytes (kept.Label label ∷ others) = Label label ∷ lines_of bytes others
 
 -- The spellings and what is kept of the lines fit each other, and each label was made.
 abbrev pub KeptFits : ℕ → List ℕ → List Kept → Type 0
 KeptFits labels bytes [] = bytes ≡ []
 KeptFits labels bytes (kept.Instruction size ∷ others) = Spells (op_of bytes) size bytes × KeptFits labels (drop size bytes) others
-KeptFits labels bytes (kept.Jump jump label ∷ others) = (label < labels) × KeptFits labels bytes others
+KeptFits labels bytes (kept.Jump kind label ∷ others) = (label < labels) × KeptFits labels bytes others
 KeptFits labels bytes (kept.Label label ∷ others) = (label < labels) × KeptFits labels bytes others
 
 -- how many labels are not placed yet
@@ -42,7 +42,7 @@ pub record IsKept (bytes : List ℕ) (kept : List Kept) (capacity : ℕ) (placed
 -- how many bytes what is kept stands for
 abbrev pub kept_size : Kept → ℕ
 kept_size (kept.Instruction size) = size
-kept_size (kept.Jump jump label) = 6
+kept_size (kept.Jump kind label) = 6
 kept_size (kept.Label label) = 0
 
 abbrev pub kept_total : List Kept → ℕ
@@ -53,11 +53,11 @@ kept_total (line ∷ others) = kept_size line + kept_total others
 abbrev pub kept_place : ℕ → List Kept → ℕ → ℕ
 kept_place at [] label = at
 kept_place at (kept.Instruction size ∷ others) label = kept_place (at + size) others label
-kept_place at (kept.Jump jump other ∷ others) label = kept_place (at + 6) others label
+kept_place at (kept.Jump kind other ∷ others) label = kept_place (at + 6) others label
 kept_place at (kept.Label other ∷ others) label = if other == label then at else kept_place at others label
 
 -- the labels of what is kept were made
 abbrev pub HasLabels : ℕ → Kept → Type 0
 HasLabels labels (kept.Instruction size) = Unit {0}
-HasLabels labels (kept.Jump jump label) = label < labels
+HasLabels labels (kept.Jump kind label) = label < labels
 HasLabels labels (kept.Label label) = label < labels

@@ -22,7 +22,7 @@ pub record LabelledCode : Type 0 where
 abbrev pub placements : List Line → ℕ → ℕ
 placements [] label = 0
 placements (Instruction op ∷ lines) label = placements lines label
-placements (JumpTo jump other ∷ lines) label = placements lines label
+placements (JumpTo kind other ∷ lines) label = placements lines label
 placements (Label other ∷ lines) label = (if other == label then 1 else 0) + placements lines label
 
 -- the jump over a distance, from its own start
@@ -35,7 +35,7 @@ jump_over Jnz offset = ops.Jnz offset
 -- how many bytes a line takes: each jump takes six, wherever it leads
 abbrev pub line_size : Line → ℕ
 line_size (Instruction op) = op_size op
-line_size (JumpTo jump label) = 6
+line_size (JumpTo kind label) = 6
 line_size (Label label) = 0
 
 abbrev pub lines_size : List Line → ℕ
@@ -46,7 +46,7 @@ lines_size (line ∷ lines) = line_size line + lines_size lines
 abbrev pub place_from : ℕ → List Line → ℕ → ℕ
 place_from at [] label = at
 place_from at (Instruction op ∷ lines) label = place_from (at + op_size op) lines label
-place_from at (JumpTo jump other ∷ lines) label = place_from (at + 6) lines label
+place_from at (JumpTo kind other ∷ lines) label = place_from (at + 6) lines label
 place_from at (Label other ∷ lines) label = if other == label then at else place_from at lines label
 
 -- the place of a label in the file
@@ -57,7 +57,7 @@ place_of lines label = place_from header_size lines label
 abbrev pub ops_from : (ℕ → ℕ) → ℕ → List Line → List PlainOp
 ops_from places at [] = []
 ops_from places at (Instruction op ∷ lines) = op ∷ ops_from places (at + op_size op) lines
-ops_from places at (JumpTo jump label ∷ lines) = jump_over jump (distance at (places label)) ∷ ops_from places (at + 6) lines
+ops_from places at (JumpTo kind label ∷ lines) = jump_over kind (distance at (places label)) ∷ ops_from places (at + 6) lines
 ops_from places at (Label label ∷ lines) = ops_from places at lines
 
 -- the instructions of labelled code: each jump has the distance from its own start to its label's place

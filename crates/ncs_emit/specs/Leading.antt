@@ -8,7 +8,7 @@ use Rattle.ncs_emit.specs.Labelled.{Line, Instruction, JumpTo, Label, placements
 -- An instruction has a spelling, and a label was made, where so many were.
 abbrev pub LineFits : ℕ → Line → Type 0
 LineFits labels (Instruction op) = IsOp op
-LineFits labels (JumpTo jump label) = label < labels
+LineFits labels (JumpTo kind label) = label < labels
 LineFits labels (Label label) = label < labels
 
 -- No label is placed twice.
@@ -22,7 +22,7 @@ IsLed whole (Instruction (Jsr offset)) = ⊥
 IsLed whole (Instruction (Jz offset)) = ⊥
 IsLed whole (Instruction (Jnz offset)) = ⊥
 IsLed whole (Instruction _) = Unit {0}
-IsLed whole (JumpTo jump label) = 1 ≤ placements whole label
+IsLed whole (JumpTo kind label) = 1 ≤ placements whole label
 IsLed whole (Label label) = Unit {0}
 
 abbrev pub is_state : Line → Bool
@@ -30,7 +30,7 @@ is_state (Instruction (StoreState globals locals)) = true
 is_state _ = false
 
 abbrev pub begins_with_jump : List Line → Bool
-begins_with_jump (JumpTo jump label ∷ lines) = true
+begins_with_jump (JumpTo kind label ∷ lines) = true
 begins_with_jump _ = false
 
 -- Each STORE_STATE is directly followed by a jump.

@@ -6,14 +6,14 @@ use Rattle.ncs_emit.specs.declared.jump.Jump.{Jump}
 use Rattle.ncs_emit.specs.Labelled.{Line, Instruction, JumpTo, Label, jump_over, line_size}
 
 -- A jump begins at this place of the file and leads to that one.
-pub record JumpStands (ops : List PlainOp) (at : ℕ) (jump : Jump) (place : ℕ) : Type 0 where
-  pub begins : op_at ops at ≡ Some (jump_over jump (distance at place))
+pub record JumpStands (ops : List PlainOp) (at : ℕ) (kind : Jump) (place : ℕ) : Type 0 where
+  pub begins : op_at ops at ≡ Some (jump_over kind (distance at place))
   pub leads : jump_place at (distance at place) ≡ place
 
 -- An instruction begins there, a jump to the place of its label does, or a label has that place.
 abbrev pub LineStands : List PlainOp → (ℕ → ℕ) → ℕ → Line → Type 0
 LineStands ops places at (Instruction op) = op_at ops at ≡ Some op
-LineStands ops places at (JumpTo jump label) = JumpStands ops at jump (places label)
+LineStands ops places at (JumpTo kind label) = JumpStands ops at kind (places label)
 LineStands ops places at (Label label) = places label ≡ at
 
 -- The lines stand in the file one after another, the first at this place.
