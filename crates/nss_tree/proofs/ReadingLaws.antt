@@ -16,15 +16,15 @@ use Rattle.nss_tree.specs.declared.statements.Stmt.TheViews as stmt_view
 use Rattle.nss_tree.specs.declared.statements.Stmt as stmt
 use Rattle.nss_tree.specs.Expressions as e
 use Rattle.nss_tree.specs.Statements as s
-use Rattle.nss_tree.specs.Reading.{plain_expr, plain_exprs, plain_row, plain_names, plain_stmt, plain_stmts, plain_stmt_row}
+use Rattle.nss_tree.specs.Reading.{plain_expr, plain_exprs, plain_row, tree_of_row, tree_of_stmt, tree_of_stmts}
 
 row_items : {n : _} (es : Row_of-Expr n) → plain_row es ≡ plain_exprs (items-the_row-Expr n es)
 unfolding plain_row plain_exprs
 row_items end_of-Expr = search rules
 row_items (more_of-Expr x xs) = search (rules, row_items xs)
 
-stmt_row_items : {n : _} (es : Row_of-Stmt n) → plain_stmt_row es ≡ plain_stmts (items-the_row-Stmt n es)
-unfolding plain_stmt_row plain_stmts
+stmt_row_items : {E C T N : Type 0} {n : _} (es : Row_of-Stmt E C T N n) → tree_of_row es ≡ tree_of_stmts (items-the_row-Stmt E C T N n es)
+unfolding tree_of_row tree_of_stmts
 stmt_row_items end_of-Stmt = search rules
 stmt_row_items (more_of-Stmt x xs) = search (rules, stmt_row_items xs)
 
@@ -112,110 +112,110 @@ plain_binary the n o x y is = ap plain_expr is ∙ binary_is n o x y
 pub plain_assign : (the : Expr) (n : ℕ) (o : AssignOperator) (x : Box Expr Global) (y : Box Expr Global) → the ≡ expr_view.Assign n o x y → plain_expr the ≡ e.assign n o (plain_expr x.value) (plain_expr y.value)
 plain_assign the n o x y is = ap plain_expr is ∙ assign_is n o x y
 
-pub block_is : (n : ℕ) (xs : Vec Stmt Global) → plain_stmt (stmt_view.Block n xs) ≡ s.block n (plain_stmts xs.items)
-unfolding plain_stmt
+pub block_is : {E C T N : Type 0} (n : ℕ) (xs : Vec (Stmt E C T N) Global) → tree_of_stmt {E = E} {C = C} {T = T} {N = N} (stmt_view.Block n xs) ≡ s.block n (tree_of_stmts xs.items)
+unfolding tree_of_stmt
 block_is n xs = search (rules, stmt_view.the_lemmas, stmt_row_items)
 
-pub empty_is : (n : ℕ) → plain_stmt (stmt.Empty n) ≡ s.empty n
-unfolding plain_stmt
+pub empty_is : {E C T N : Type 0} (n : ℕ) → tree_of_stmt {E = E} {C = C} {T = T} {N = N} (stmt.Empty n) ≡ s.empty n
+unfolding tree_of_stmt
 empty_is n = search (rules, stmt_view.the_lemmas)
 
-pub expression_is : (n : ℕ) (x : Expr) → plain_stmt (stmt.Expression n x) ≡ s.expression n (plain_expr x)
-unfolding plain_stmt
+pub expression_is : {E C T N : Type 0} (n : ℕ) (x : E) → tree_of_stmt {E = E} {C = C} {T = T} {N = N} (stmt.Expression n x) ≡ s.expression n x
+unfolding tree_of_stmt
 expression_is n x = search (rules, stmt_view.the_lemmas)
 
-pub if_only_is : (n : ℕ) (x : Expr) (a : Box Stmt Global) → plain_stmt (stmt_view.If n x a) ≡ s.if_only n (plain_expr x) (plain_stmt a.value)
-unfolding plain_stmt
+pub if_only_is : {E C T N : Type 0} (n : ℕ) (x : E) (a : Box (Stmt E C T N) Global) → tree_of_stmt {E = E} {C = C} {T = T} {N = N} (stmt_view.If n x a) ≡ s.if_only n x (tree_of_stmt a.value)
+unfolding tree_of_stmt
 if_only_is n x a = search (rules, stmt_view.the_lemmas)
 
-pub if_else_is : (n : ℕ) (x : Expr) (a : Box Stmt Global) (b : Box Stmt Global) → plain_stmt (stmt_view.IfElse n x a b) ≡ s.if_else n (plain_expr x) (plain_stmt a.value) (plain_stmt b.value)
-unfolding plain_stmt
+pub if_else_is : {E C T N : Type 0} (n : ℕ) (x : E) (a : Box (Stmt E C T N) Global) (b : Box (Stmt E C T N) Global) → tree_of_stmt {E = E} {C = C} {T = T} {N = N} (stmt_view.IfElse n x a b) ≡ s.if_else n x (tree_of_stmt a.value) (tree_of_stmt b.value)
+unfolding tree_of_stmt
 if_else_is n x a b = search (rules, stmt_view.the_lemmas)
 
-pub while_loop_is : (n : ℕ) (x : Expr) (a : Box Stmt Global) → plain_stmt (stmt_view.While n x a) ≡ s.while_loop n (plain_expr x) (plain_stmt a.value)
-unfolding plain_stmt
+pub while_loop_is : {E C T N : Type 0} (n : ℕ) (x : E) (a : Box (Stmt E C T N) Global) → tree_of_stmt {E = E} {C = C} {T = T} {N = N} (stmt_view.While n x a) ≡ s.while_loop n x (tree_of_stmt a.value)
+unfolding tree_of_stmt
 while_loop_is n x a = search (rules, stmt_view.the_lemmas)
 
-pub do_loop_is : (n : ℕ) (a : Box Stmt Global) (x : Expr) → plain_stmt (stmt_view.Do n a x) ≡ s.do_loop n (plain_stmt a.value) (plain_expr x)
-unfolding plain_stmt
+pub do_loop_is : {E C T N : Type 0} (n : ℕ) (a : Box (Stmt E C T N) Global) (x : E) → tree_of_stmt {E = E} {C = C} {T = T} {N = N} (stmt_view.Do n a x) ≡ s.do_loop n (tree_of_stmt a.value) x
+unfolding tree_of_stmt
 do_loop_is n a x = search (rules, stmt_view.the_lemmas)
 
-pub for_loop_is : (n : ℕ) (x : Option Expr) (y : Option Expr) (z : Option Expr) (a : Box Stmt Global) → plain_stmt (stmt_view.For n x y z a) ≡ s.for_loop n (option_map plain_expr x) (option_map plain_expr y) (option_map plain_expr z) (plain_stmt a.value)
-unfolding plain_stmt
+pub for_loop_is : {E C T N : Type 0} (n : ℕ) (x : Option E) (y : Option E) (z : Option E) (a : Box (Stmt E C T N) Global) → tree_of_stmt {E = E} {C = C} {T = T} {N = N} (stmt_view.For n x y z a) ≡ s.for_loop n x y z (tree_of_stmt a.value)
+unfolding tree_of_stmt
 for_loop_is n x y z a = search (rules, stmt_view.the_lemmas)
 
-pub switch_is : (n : ℕ) (x : Expr) (xs : Vec Stmt Global) → plain_stmt (stmt_view.Switch n x xs) ≡ s.switch n (plain_expr x) (plain_stmts xs.items)
-unfolding plain_stmt
+pub switch_is : {E C T N : Type 0} (n : ℕ) (x : E) (xs : Vec (Stmt E C T N) Global) → tree_of_stmt {E = E} {C = C} {T = T} {N = N} (stmt_view.Switch n x xs) ≡ s.switch n x (tree_of_stmts xs.items)
+unfolding tree_of_stmt
 switch_is n x xs = search (rules, stmt_view.the_lemmas, stmt_row_items)
 
-pub break_off_is : (n : ℕ) → plain_stmt (stmt.Break n) ≡ s.break_off n
-unfolding plain_stmt
+pub break_off_is : {E C T N : Type 0} (n : ℕ) → tree_of_stmt {E = E} {C = C} {T = T} {N = N} (stmt.Break n) ≡ s.break_off n
+unfolding tree_of_stmt
 break_off_is n = search (rules, stmt_view.the_lemmas)
 
-pub continue_on_is : (n : ℕ) → plain_stmt (stmt.Continue n) ≡ s.continue_on n
-unfolding plain_stmt
+pub continue_on_is : {E C T N : Type 0} (n : ℕ) → tree_of_stmt {E = E} {C = C} {T = T} {N = N} (stmt.Continue n) ≡ s.continue_on n
+unfolding tree_of_stmt
 continue_on_is n = search (rules, stmt_view.the_lemmas)
 
-pub return_from_is : (n : ℕ) (x : Option Expr) → plain_stmt (stmt.Return n x) ≡ s.return_from n (option_map plain_expr x)
-unfolding plain_stmt
+pub return_from_is : {E C T N : Type 0} (n : ℕ) (x : Option E) → tree_of_stmt {E = E} {C = C} {T = T} {N = N} (stmt.Return n x) ≡ s.return_from n x
+unfolding tree_of_stmt
 return_from_is n x = search (rules, stmt_view.the_lemmas)
 
-pub declaration_is : (n : ℕ) (t : TypeName) (ds : List DeclaredName) → plain_stmt (stmt.Declaration n t ds) ≡ s.declaration n t (plain_names ds)
-unfolding plain_stmt
+pub declaration_is : {E C T N : Type 0} (n : ℕ) (t : T) (ds : List (DeclaredName E N)) → tree_of_stmt {E = E} {C = C} {T = T} {N = N} (stmt.Declaration n t ds) ≡ s.declaration n t ds
+unfolding tree_of_stmt
 declaration_is n t ds = search (rules, stmt_view.the_lemmas)
 
-pub case_label_is : (n : ℕ) (c : Constant) → plain_stmt (stmt.Case n c) ≡ s.case_label n c
-unfolding plain_stmt
+pub case_label_is : {E C T N : Type 0} (n : ℕ) (c : C) → tree_of_stmt {E = E} {C = C} {T = T} {N = N} (stmt.Case n c) ≡ s.case_label n c
+unfolding tree_of_stmt
 case_label_is n c = search (rules, stmt_view.the_lemmas)
 
-pub default_label_is : (n : ℕ) → plain_stmt (stmt.Default n) ≡ s.default_label n
-unfolding plain_stmt
+pub default_label_is : {E C T N : Type 0} (n : ℕ) → tree_of_stmt {E = E} {C = C} {T = T} {N = N} (stmt.Default n) ≡ s.default_label n
+unfolding tree_of_stmt
 default_label_is n = search (rules, stmt_view.the_lemmas)
 
-pub plain_block : (the : Stmt) (n : ℕ) (xs : Vec Stmt Global) → the ≡ stmt_view.Block n xs → plain_stmt the ≡ s.block n (plain_stmts xs.items)
-plain_block the n xs is = ap plain_stmt is ∙ block_is n xs
+pub tree_block : {E C T N : Type 0} (the : Stmt E C T N) (n : ℕ) (xs : Vec (Stmt E C T N) Global) → the ≡ stmt_view.Block n xs → tree_of_stmt the ≡ s.block n (tree_of_stmts xs.items)
+tree_block the n xs is = ap tree_of_stmt is ∙ block_is n xs
 
-pub plain_empty : (the : Stmt) (n : ℕ) → the ≡ stmt.Empty n → plain_stmt the ≡ s.empty n
-plain_empty the n is = ap plain_stmt is ∙ empty_is n
+pub tree_empty : {E C T N : Type 0} (the : Stmt E C T N) (n : ℕ) → the ≡ stmt.Empty n → tree_of_stmt the ≡ s.empty n
+tree_empty the n is = ap tree_of_stmt is ∙ empty_is n
 
-pub plain_expression : (the : Stmt) (n : ℕ) (x : Expr) → the ≡ stmt.Expression n x → plain_stmt the ≡ s.expression n (plain_expr x)
-plain_expression the n x is = ap plain_stmt is ∙ expression_is n x
+pub tree_expression : {E C T N : Type 0} (the : Stmt E C T N) (n : ℕ) (x : E) → the ≡ stmt.Expression n x → tree_of_stmt the ≡ s.expression n x
+tree_expression the n x is = ap tree_of_stmt is ∙ expression_is n x
 
-pub plain_if_only : (the : Stmt) (n : ℕ) (x : Expr) (a : Box Stmt Global) → the ≡ stmt_view.If n x a → plain_stmt the ≡ s.if_only n (plain_expr x) (plain_stmt a.value)
-plain_if_only the n x a is = ap plain_stmt is ∙ if_only_is n x a
+pub tree_if_only : {E C T N : Type 0} (the : Stmt E C T N) (n : ℕ) (x : E) (a : Box (Stmt E C T N) Global) → the ≡ stmt_view.If n x a → tree_of_stmt the ≡ s.if_only n x (tree_of_stmt a.value)
+tree_if_only the n x a is = ap tree_of_stmt is ∙ if_only_is n x a
 
-pub plain_if_else : (the : Stmt) (n : ℕ) (x : Expr) (a : Box Stmt Global) (b : Box Stmt Global) → the ≡ stmt_view.IfElse n x a b → plain_stmt the ≡ s.if_else n (plain_expr x) (plain_stmt a.value) (plain_stmt b.value)
-plain_if_else the n x a b is = ap plain_stmt is ∙ if_else_is n x a b
+pub tree_if_else : {E C T N : Type 0} (the : Stmt E C T N) (n : ℕ) (x : E) (a : Box (Stmt E C T N) Global) (b : Box (Stmt E C T N) Global) → the ≡ stmt_view.IfElse n x a b → tree_of_stmt the ≡ s.if_else n x (tree_of_stmt a.value) (tree_of_stmt b.value)
+tree_if_else the n x a b is = ap tree_of_stmt is ∙ if_else_is n x a b
 
-pub plain_while_loop : (the : Stmt) (n : ℕ) (x : Expr) (a : Box Stmt Global) → the ≡ stmt_view.While n x a → plain_stmt the ≡ s.while_loop n (plain_expr x) (plain_stmt a.value)
-plain_while_loop the n x a is = ap plain_stmt is ∙ while_loop_is n x a
+pub tree_while_loop : {E C T N : Type 0} (the : Stmt E C T N) (n : ℕ) (x : E) (a : Box (Stmt E C T N) Global) → the ≡ stmt_view.While n x a → tree_of_stmt the ≡ s.while_loop n x (tree_of_stmt a.value)
+tree_while_loop the n x a is = ap tree_of_stmt is ∙ while_loop_is n x a
 
-pub plain_do_loop : (the : Stmt) (n : ℕ) (a : Box Stmt Global) (x : Expr) → the ≡ stmt_view.Do n a x → plain_stmt the ≡ s.do_loop n (plain_stmt a.value) (plain_expr x)
-plain_do_loop the n a x is = ap plain_stmt is ∙ do_loop_is n a x
+pub tree_do_loop : {E C T N : Type 0} (the : Stmt E C T N) (n : ℕ) (a : Box (Stmt E C T N) Global) (x : E) → the ≡ stmt_view.Do n a x → tree_of_stmt the ≡ s.do_loop n (tree_of_stmt a.value) x
+tree_do_loop the n a x is = ap tree_of_stmt is ∙ do_loop_is n a x
 
-pub plain_for_loop : (the : Stmt) (n : ℕ) (x : Option Expr) (y : Option Expr) (z : Option Expr) (a : Box Stmt Global) → the ≡ stmt_view.For n x y z a → plain_stmt the ≡ s.for_loop n (option_map plain_expr x) (option_map plain_expr y) (option_map plain_expr z) (plain_stmt a.value)
-plain_for_loop the n x y z a is = ap plain_stmt is ∙ for_loop_is n x y z a
+pub tree_for_loop : {E C T N : Type 0} (the : Stmt E C T N) (n : ℕ) (x : Option E) (y : Option E) (z : Option E) (a : Box (Stmt E C T N) Global) → the ≡ stmt_view.For n x y z a → tree_of_stmt the ≡ s.for_loop n x y z (tree_of_stmt a.value)
+tree_for_loop the n x y z a is = ap tree_of_stmt is ∙ for_loop_is n x y z a
 
-pub plain_switch : (the : Stmt) (n : ℕ) (x : Expr) (xs : Vec Stmt Global) → the ≡ stmt_view.Switch n x xs → plain_stmt the ≡ s.switch n (plain_expr x) (plain_stmts xs.items)
-plain_switch the n x xs is = ap plain_stmt is ∙ switch_is n x xs
+pub tree_switch : {E C T N : Type 0} (the : Stmt E C T N) (n : ℕ) (x : E) (xs : Vec (Stmt E C T N) Global) → the ≡ stmt_view.Switch n x xs → tree_of_stmt the ≡ s.switch n x (tree_of_stmts xs.items)
+tree_switch the n x xs is = ap tree_of_stmt is ∙ switch_is n x xs
 
-pub plain_break_off : (the : Stmt) (n : ℕ) → the ≡ stmt.Break n → plain_stmt the ≡ s.break_off n
-plain_break_off the n is = ap plain_stmt is ∙ break_off_is n
+pub tree_break_off : {E C T N : Type 0} (the : Stmt E C T N) (n : ℕ) → the ≡ stmt.Break n → tree_of_stmt the ≡ s.break_off n
+tree_break_off the n is = ap tree_of_stmt is ∙ break_off_is n
 
-pub plain_continue_on : (the : Stmt) (n : ℕ) → the ≡ stmt.Continue n → plain_stmt the ≡ s.continue_on n
-plain_continue_on the n is = ap plain_stmt is ∙ continue_on_is n
+pub tree_continue_on : {E C T N : Type 0} (the : Stmt E C T N) (n : ℕ) → the ≡ stmt.Continue n → tree_of_stmt the ≡ s.continue_on n
+tree_continue_on the n is = ap tree_of_stmt is ∙ continue_on_is n
 
-pub plain_return_from : (the : Stmt) (n : ℕ) (x : Option Expr) → the ≡ stmt.Return n x → plain_stmt the ≡ s.return_from n (option_map plain_expr x)
-plain_return_from the n x is = ap plain_stmt is ∙ return_from_is n x
+pub tree_return_from : {E C T N : Type 0} (the : Stmt E C T N) (n : ℕ) (x : Option E) → the ≡ stmt.Return n x → tree_of_stmt the ≡ s.return_from n x
+tree_return_from the n x is = ap tree_of_stmt is ∙ return_from_is n x
 
-pub plain_declaration : (the : Stmt) (n : ℕ) (t : TypeName) (ds : List DeclaredName) → the ≡ stmt.Declaration n t ds → plain_stmt the ≡ s.declaration n t (plain_names ds)
-plain_declaration the n t ds is = ap plain_stmt is ∙ declaration_is n t ds
+pub tree_declaration : {E C T N : Type 0} (the : Stmt E C T N) (n : ℕ) (t : T) (ds : List (DeclaredName E N)) → the ≡ stmt.Declaration n t ds → tree_of_stmt the ≡ s.declaration n t ds
+tree_declaration the n t ds is = ap tree_of_stmt is ∙ declaration_is n t ds
 
-pub plain_case_label : (the : Stmt) (n : ℕ) (c : Constant) → the ≡ stmt.Case n c → plain_stmt the ≡ s.case_label n c
-plain_case_label the n c is = ap plain_stmt is ∙ case_label_is n c
+pub tree_case_label : {E C T N : Type 0} (the : Stmt E C T N) (n : ℕ) (c : C) → the ≡ stmt.Case n c → tree_of_stmt the ≡ s.case_label n c
+tree_case_label the n c is = ap tree_of_stmt is ∙ case_label_is n c
 
-pub plain_default_label : (the : Stmt) (n : ℕ) → the ≡ stmt.Default n → plain_stmt the ≡ s.default_label n
-plain_default_label the n is = ap plain_stmt is ∙ default_label_is n
+pub tree_default_label : {E C T N : Type 0} (the : Stmt E C T N) (n : ℕ) → the ≡ stmt.Default n → tree_of_stmt the ≡ s.default_label n
+tree_default_label the n is = ap tree_of_stmt is ∙ default_label_is n
 
 pub plain_exprs_none : plain_exprs [] ≡ e.no_expr
 unfolding plain_exprs
@@ -225,13 +225,13 @@ pub plain_exprs_more : (x : Expr) (xs : List Expr) → plain_exprs (x ∷ xs) �
 unfolding plain_exprs
 plain_exprs_more x xs = refl
 
-pub plain_stmts_none : plain_stmts [] ≡ s.no_stmt
-unfolding plain_stmts
-plain_stmts_none = refl
+pub stmts_none : {E C T N : Type 0} → tree_of_stmts {E = E} {C = C} {T = T} {N = N} [] ≡ s.no_stmt
+unfolding tree_of_stmts
+stmts_none = refl
 
-pub plain_stmts_more : (x : Stmt) (xs : List Stmt) → plain_stmts (x ∷ xs) ≡ s.more_stmts (plain_stmt x) (plain_stmts xs)
-unfolding plain_stmts
-plain_stmts_more x xs = refl
+pub stmts_more : {E C T N : Type 0} (x : Stmt E C T N) (xs : List (Stmt E C T N)) → tree_of_stmts (x ∷ xs) ≡ s.more_stmts (tree_of_stmt x) (tree_of_stmts xs)
+unfolding tree_of_stmts
+stmts_more x xs = refl
 
 -- one more at the end
 pub plain_exprs_push : (xs : List Expr) (x : Expr) → plain_exprs (xs ++ x ∷ []) ≡ e.joined_exprs (plain_exprs xs) (e.more_exprs (plain_expr x) e.no_expr)
@@ -240,13 +240,13 @@ plain_exprs_push [] x = refl
 plain_exprs_push (y ∷ ys) x = ap (e.more_exprs (plain_expr y)) (plain_exprs_push ys x)
 
 -- one more at the end
-pub plain_stmts_push : (xs : List Stmt) (x : Stmt) → plain_stmts (xs ++ x ∷ []) ≡ s.joined_stmts (plain_stmts xs) (s.more_stmts (plain_stmt x) s.no_stmt)
-unfolding plain_stmts
-plain_stmts_push [] x = refl
-plain_stmts_push (y ∷ ys) x = ap (s.more_stmts (plain_stmt y)) (plain_stmts_push ys x)
+pub stmts_push : {E C T N : Type 0} (xs : List (Stmt E C T N)) (x : Stmt E C T N) → tree_of_stmts (xs ++ x ∷ []) ≡ s.joined_stmts (tree_of_stmts xs) (s.more_stmts (tree_of_stmt x) s.no_stmt)
+unfolding tree_of_stmts
+stmts_push [] x = refl
+stmts_push (y ∷ ys) x = ap (s.more_stmts (tree_of_stmt y)) (stmts_push ys x)
 
 -- for constructor functions
-pub ruleset plain_laws = (int_is, float_is, text_is, object_self_is, object_invalid_is, name_is, call_is, member_is, prefix_is, postfix_is, binary_is, assign_is, block_is, empty_is, expression_is, if_only_is, if_else_is, while_loop_is, do_loop_is, for_loop_is, switch_is, break_off_is, continue_on_is, return_from_is, declaration_is, case_label_is, default_label_is, plain_exprs_none, plain_exprs_more, plain_exprs_push, plain_stmts_none, plain_stmts_more, plain_stmts_push)
+pub ruleset plain_laws = (int_is, float_is, text_is, object_self_is, object_invalid_is, name_is, call_is, member_is, prefix_is, postfix_is, binary_is, assign_is, block_is, empty_is, expression_is, if_only_is, if_else_is, while_loop_is, do_loop_is, for_loop_is, switch_is, break_off_is, continue_on_is, return_from_is, declaration_is, case_label_is, default_label_is, plain_exprs_none, plain_exprs_more, plain_exprs_push, stmts_none, stmts_more, stmts_push)
 
 -- for a walk that matches
-pub ruleset plain_cases = (plain_int, plain_float, plain_text, plain_object_self, plain_object_invalid, plain_name, plain_call, plain_member, plain_prefix, plain_postfix, plain_binary, plain_assign, plain_block, plain_empty, plain_expression, plain_if_only, plain_if_else, plain_while_loop, plain_do_loop, plain_for_loop, plain_switch, plain_break_off, plain_continue_on, plain_return_from, plain_declaration, plain_case_label, plain_default_label)
+pub ruleset plain_cases = (plain_int, plain_float, plain_text, plain_object_self, plain_object_invalid, plain_name, plain_call, plain_member, plain_prefix, plain_postfix, plain_binary, plain_assign, tree_block, tree_empty, tree_expression, tree_if_only, tree_if_else, tree_while_loop, tree_do_loop, tree_for_loop, tree_switch, tree_break_off, tree_continue_on, tree_return_from, tree_declaration, tree_case_label, tree_default_label)

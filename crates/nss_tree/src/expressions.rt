@@ -11,7 +11,7 @@ use std::alloc::Global;
 ///
 /// The token of an operation is its operator, of a call its name, of a member its `.`, of a literal or a
 /// name itself.
-#[derive(Debug, Drop)]
+#[derive(Drop)]
 pub enum Expr {
     Int {
         token: u32,

@@ -22,6 +22,3 @@ pub use expressions::Expr;
 pub use operators::{AssignOperator, BinaryOperator, PostfixOperator, PrefixOperator};
 pub use statements::{DeclaredName, Stmt};
 pub use units::{FieldLine, Identifier, Item, Parameter, Tree};
-
-#[cfg(test)]
-mod tests;
