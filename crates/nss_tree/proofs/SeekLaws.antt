@@ -9,7 +9,7 @@ use Rattle.nss_tree.specs.declared.expressions.Expr.TheViews as expr
 use Rattle.nss_tree.specs.declared.statements.Stmt.TheViews as stmt
 use Rattle.nss_tree.specs.declared.operators.BinaryOperator.{BinaryOperator}
 use Rattle.nss_tree.specs.declared.operators.AssignOperator.{AssignOperator}
-use Rattle.nss_tree.proofs.ReadingLaws.{plain_assign, plain_binary, tree_if_else}
+use Rattle.nss_tree.specs.Readings.{plain_assign, plain_binary, tree_if_else}
 use Rattle.nss_tree.specs.declared.statements.DeclaredName.{DeclaredName}
 use Rattle.nss_tree.specs.declared.statements.Stmt.{Stmt}
 use Rattle.nss_tree.specs.declared.units.Item.{Item}

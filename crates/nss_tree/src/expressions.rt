@@ -68,7 +68,7 @@ pub enum Expr {
     },
 }
 
-#[tactic(auto, using(crate::proofs::ReadingLaws::plain_laws))]
+#[tactic(auto, using(crate::specs::Readings::plain_laws))]
 impl Expr {
     /// An int literal, whose number is taken as a signed one of 32 bits.
     pub fn int(token: u32, value: u32) -> Expr

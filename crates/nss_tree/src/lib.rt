@@ -12,7 +12,7 @@
 pub mod constants;
 pub mod expressions;
 pub mod operators;
-#[tactic(auto, using(crate::proofs::ReadingLaws::plain_cases, crate::proofs::SeekLaws::seek_laws))]
+#[tactic(auto, using(crate::specs::Readings::plain_cases, crate::proofs::SeekLaws::seek_laws))]
 pub mod places;
 pub mod statements;
 pub mod units;

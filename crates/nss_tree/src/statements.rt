@@ -89,7 +89,7 @@ pub enum Stmt<E = Expr, C = Constant, T = TypeName, N = Text> {
     },
 }
 
-#[tactic(auto, using(crate::proofs::ReadingLaws::plain_laws))]
+#[tactic(auto, using(crate::specs::Readings::plain_laws))]
 impl<E: Drop, C: Drop, T: Drop, N: Drop> Stmt<E, C, T, N> {
     pub fn block(token: u32, items: Items<Stmt<E, C, T, N>>) -> Stmt<E, C, T, N>
         ensures { tree_of_stmt result ≡ tree.block token (tree_of_stmts items) }

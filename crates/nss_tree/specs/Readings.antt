@@ -1,5 +1,7 @@
--- The reading of each variant, of a variant that is known by an equation, and of a list.
-use Rattle.std.proofs.Common.{◌≡◌, ◌∙◌, ap, refl, ℕ, ℤ, List, [], ◌∷◌, ◌++◌, Vec, Box, Option, Global, rules}
+-- Laws of the reading: its equation for each variant as code makes it, with its boxes and vectors; the same for
+-- a value that is known to be the variant, as an arm of a `match` knows it; and that of a list. Crates that make
+-- or walk a tree cite them, by `plain_laws` where they make one, by `plain_cases` where they match on one.
+use Rattle.std.proofs.Common.{◌≡◌, ◌∙◌, ap, refl, ℕ, ℤ, List, [], ◌∷◌, ◌++◌, Vec, Box, Option, Global}
 use Rattle.std.specs.Option.{option_map}
 use Rattle.nss_tree.specs.declared.constants.Constant.{Constant}
 use Rattle.nss_tree.specs.declared.constants.TypeName.{TypeName}
@@ -8,10 +10,12 @@ use Rattle.nss_tree.specs.declared.operators.PostfixOperator.{PostfixOperator}
 use Rattle.nss_tree.specs.declared.operators.BinaryOperator.{BinaryOperator}
 use Rattle.nss_tree.specs.declared.operators.AssignOperator.{AssignOperator}
 use Rattle.nss_tree.specs.declared.expressions.Expr.{Expr, Row_of-Expr, end_of-Expr, more_of-Expr, items-the_row-Expr}
+use Rattle.nss_tree.specs.declared.expressions.Expr.TheBlock.{hidden-the_row-Expr-0, items_hidden-the_row-Expr-0}
 use Rattle.nss_tree.specs.declared.expressions.Expr.TheViews as expr_view
 use Rattle.nss_tree.specs.declared.expressions.Expr as expr
 use Rattle.nss_tree.specs.declared.statements.DeclaredName.{DeclaredName}
 use Rattle.nss_tree.specs.declared.statements.Stmt.{Stmt, Row_of-Stmt, end_of-Stmt, more_of-Stmt, items-the_row-Stmt}
+use Rattle.nss_tree.specs.declared.statements.Stmt.TheBlock.{hidden-the_row-Stmt-0, items_hidden-the_row-Stmt-0}
 use Rattle.nss_tree.specs.declared.statements.Stmt.TheViews as stmt_view
 use Rattle.nss_tree.specs.declared.statements.Stmt as stmt
 use Rattle.nss_tree.specs.Expressions as e
@@ -20,61 +24,67 @@ use Rattle.nss_tree.specs.Reading.{plain_expr, plain_exprs, plain_row, tree_of_r
 
 row_items : {n : _} (es : Row_of-Expr n) → plain_row es ≡ plain_exprs (items-the_row-Expr n es)
 unfolding plain_row plain_exprs
-row_items end_of-Expr = search rules
-row_items (more_of-Expr x xs) = search (rules, row_items xs)
+row_items end_of-Expr = refl
+row_items (more_of-Expr x xs) = ap (e.more_exprs (plain_expr x)) (row_items xs)
 
 stmt_row_items : {E C T N : Type 0} {n : _} (es : Row_of-Stmt E C T N n) → tree_of_row es ≡ tree_of_stmts (items-the_row-Stmt E C T N n es)
 unfolding tree_of_row tree_of_stmts
-stmt_row_items end_of-Stmt = search rules
-stmt_row_items (more_of-Stmt x xs) = search (rules, stmt_row_items xs)
+stmt_row_items end_of-Stmt = refl
+stmt_row_items (more_of-Stmt x xs) = ap (s.more_stmts (tree_of_stmt x)) (stmt_row_items xs)
+
+vec_items : (xs : Vec Expr Global) → plain_row (hidden-the_row-Expr-0 xs) ≡ plain_exprs xs.items
+vec_items xs = row_items (hidden-the_row-Expr-0 xs) ∙ ap plain_exprs (items_hidden-the_row-Expr-0 xs)
+
+stmt_vec_items : {E C T N : Type 0} (xs : Vec (Stmt E C T N) Global) → tree_of_row (hidden-the_row-Stmt-0 E C T N xs) ≡ tree_of_stmts xs.items
+stmt_vec_items xs = stmt_row_items (hidden-the_row-Stmt-0 _ _ _ _ xs) ∙ ap tree_of_stmts (items_hidden-the_row-Stmt-0 _ _ _ _ xs)
 
 pub int_is : (n : ℕ) (v : ℤ) → plain_expr (expr.Int n v) ≡ e.int n v
 unfolding plain_expr
-int_is n v = search (rules, expr_view.the_lemmas)
+int_is n v = refl
 
 pub float_is : (n : ℕ) → plain_expr (expr.Float n) ≡ e.float n
 unfolding plain_expr
-float_is n = search (rules, expr_view.the_lemmas)
+float_is n = refl
 
 pub text_is : (n : ℕ) (v : List ℕ) → plain_expr (expr.Text n v) ≡ e.text n v
 unfolding plain_expr
-text_is n v = search (rules, expr_view.the_lemmas)
+text_is n v = refl
 
 pub object_self_is : (n : ℕ) → plain_expr (expr.ObjectSelf n) ≡ e.object_self n
 unfolding plain_expr
-object_self_is n = search (rules, expr_view.the_lemmas)
+object_self_is n = refl
 
 pub object_invalid_is : (n : ℕ) → plain_expr (expr.ObjectInvalid n) ≡ e.object_invalid n
 unfolding plain_expr
-object_invalid_is n = search (rules, expr_view.the_lemmas)
+object_invalid_is n = refl
 
 pub name_is : (n : ℕ) (f : List ℕ) → plain_expr (expr.Name n f) ≡ e.name n f
 unfolding plain_expr
-name_is n f = search (rules, expr_view.the_lemmas)
+name_is n f = refl
 
 pub call_is : (n : ℕ) (f : List ℕ) (xs : Vec Expr Global) → plain_expr (expr_view.Call n f xs) ≡ e.call n f (plain_exprs xs.items)
 unfolding plain_expr
-call_is n f xs = search (rules, expr_view.the_lemmas, row_items)
+call_is n f xs = ap (e.call n f) (vec_items xs)
 
 pub member_is : (n : ℕ) (x : Box Expr Global) (f : List ℕ) → plain_expr (expr_view.Member n x f) ≡ e.member n (plain_expr x.value) f
 unfolding plain_expr
-member_is n x f = search (rules, expr_view.the_lemmas)
+member_is n x f = refl
 
 pub prefix_is : (n : ℕ) (o : PrefixOperator) (x : Box Expr Global) → plain_expr (expr_view.Prefix n o x) ≡ e.prefix n o (plain_expr x.value)
 unfolding plain_expr
-prefix_is n o x = search (rules, expr_view.the_lemmas)
+prefix_is n o x = refl
 
 pub postfix_is : (n : ℕ) (o : PostfixOperator) (x : Box Expr Global) → plain_expr (expr_view.Postfix n o x) ≡ e.postfix n o (plain_expr x.value)
 unfolding plain_expr
-postfix_is n o x = search (rules, expr_view.the_lemmas)
+postfix_is n o x = refl
 
 pub binary_is : (n : ℕ) (o : BinaryOperator) (x : Box Expr Global) (y : Box Expr Global) → plain_expr (expr_view.Binary n o x y) ≡ e.binary n o (plain_expr x.value) (plain_expr y.value)
 unfolding plain_expr
-binary_is n o x y = search (rules, expr_view.the_lemmas)
+binary_is n o x y = refl
 
 pub assign_is : (n : ℕ) (o : AssignOperator) (x : Box Expr Global) (y : Box Expr Global) → plain_expr (expr_view.Assign n o x y) ≡ e.assign n o (plain_expr x.value) (plain_expr y.value)
 unfolding plain_expr
-assign_is n o x y = search (rules, expr_view.the_lemmas)
+assign_is n o x y = refl
 
 pub plain_int : (the : Expr) (n : ℕ) (v : ℤ) → the ≡ expr.Int n v → plain_expr the ≡ e.int n v
 plain_int the n v is = ap plain_expr is ∙ int_is n v
@@ -114,63 +124,63 @@ plain_assign the n o x y is = ap plain_expr is ∙ assign_is n o x y
 
 pub block_is : {E C T N : Type 0} (n : ℕ) (xs : Vec (Stmt E C T N) Global) → tree_of_stmt {E = E} {C = C} {T = T} {N = N} (stmt_view.Block n xs) ≡ s.block n (tree_of_stmts xs.items)
 unfolding tree_of_stmt
-block_is n xs = search (rules, stmt_view.the_lemmas, stmt_row_items)
+block_is n xs = ap (s.block n) (stmt_vec_items xs)
 
 pub empty_is : {E C T N : Type 0} (n : ℕ) → tree_of_stmt {E = E} {C = C} {T = T} {N = N} (stmt.Empty n) ≡ s.empty n
 unfolding tree_of_stmt
-empty_is n = search (rules, stmt_view.the_lemmas)
+empty_is n = refl
 
 pub expression_is : {E C T N : Type 0} (n : ℕ) (x : E) → tree_of_stmt {E = E} {C = C} {T = T} {N = N} (stmt.Expression n x) ≡ s.expression n x
 unfolding tree_of_stmt
-expression_is n x = search (rules, stmt_view.the_lemmas)
+expression_is n x = refl
 
 pub if_only_is : {E C T N : Type 0} (n : ℕ) (x : E) (a : Box (Stmt E C T N) Global) → tree_of_stmt {E = E} {C = C} {T = T} {N = N} (stmt_view.If n x a) ≡ s.if_only n x (tree_of_stmt a.value)
 unfolding tree_of_stmt
-if_only_is n x a = search (rules, stmt_view.the_lemmas)
+if_only_is n x a = refl
 
 pub if_else_is : {E C T N : Type 0} (n : ℕ) (x : E) (a : Box (Stmt E C T N) Global) (b : Box (Stmt E C T N) Global) → tree_of_stmt {E = E} {C = C} {T = T} {N = N} (stmt_view.IfElse n x a b) ≡ s.if_else n x (tree_of_stmt a.value) (tree_of_stmt b.value)
 unfolding tree_of_stmt
-if_else_is n x a b = search (rules, stmt_view.the_lemmas)
+if_else_is n x a b = refl
 
 pub while_loop_is : {E C T N : Type 0} (n : ℕ) (x : E) (a : Box (Stmt E C T N) Global) → tree_of_stmt {E = E} {C = C} {T = T} {N = N} (stmt_view.While n x a) ≡ s.while_loop n x (tree_of_stmt a.value)
 unfolding tree_of_stmt
-while_loop_is n x a = search (rules, stmt_view.the_lemmas)
+while_loop_is n x a = refl
 
 pub do_loop_is : {E C T N : Type 0} (n : ℕ) (a : Box (Stmt E C T N) Global) (x : E) → tree_of_stmt {E = E} {C = C} {T = T} {N = N} (stmt_view.Do n a x) ≡ s.do_loop n (tree_of_stmt a.value) x
 unfolding tree_of_stmt
-do_loop_is n a x = search (rules, stmt_view.the_lemmas)
+do_loop_is n a x = refl
 
 pub for_loop_is : {E C T N : Type 0} (n : ℕ) (x : Option E) (y : Option E) (z : Option E) (a : Box (Stmt E C T N) Global) → tree_of_stmt {E = E} {C = C} {T = T} {N = N} (stmt_view.For n x y z a) ≡ s.for_loop n x y z (tree_of_stmt a.value)
 unfolding tree_of_stmt
-for_loop_is n x y z a = search (rules, stmt_view.the_lemmas)
+for_loop_is n x y z a = refl
 
 pub switch_is : {E C T N : Type 0} (n : ℕ) (x : E) (xs : Vec (Stmt E C T N) Global) → tree_of_stmt {E = E} {C = C} {T = T} {N = N} (stmt_view.Switch n x xs) ≡ s.switch n x (tree_of_stmts xs.items)
 unfolding tree_of_stmt
-switch_is n x xs = search (rules, stmt_view.the_lemmas, stmt_row_items)
+switch_is n x xs = ap (s.switch n x) (stmt_vec_items xs)
 
 pub break_off_is : {E C T N : Type 0} (n : ℕ) → tree_of_stmt {E = E} {C = C} {T = T} {N = N} (stmt.Break n) ≡ s.break_off n
 unfolding tree_of_stmt
-break_off_is n = search (rules, stmt_view.the_lemmas)
+break_off_is n = refl
 
 pub continue_on_is : {E C T N : Type 0} (n : ℕ) → tree_of_stmt {E = E} {C = C} {T = T} {N = N} (stmt.Continue n) ≡ s.continue_on n
 unfolding tree_of_stmt
-continue_on_is n = search (rules, stmt_view.the_lemmas)
+continue_on_is n = refl
 
 pub return_from_is : {E C T N : Type 0} (n : ℕ) (x : Option E) → tree_of_stmt {E = E} {C = C} {T = T} {N = N} (stmt.Return n x) ≡ s.return_from n x
 unfolding tree_of_stmt
-return_from_is n x = search (rules, stmt_view.the_lemmas)
+return_from_is n x = refl
 
 pub declaration_is : {E C T N : Type 0} (n : ℕ) (t : T) (ds : List (DeclaredName E N)) → tree_of_stmt {E = E} {C = C} {T = T} {N = N} (stmt.Declaration n t ds) ≡ s.declaration n t ds
 unfolding tree_of_stmt
-declaration_is n t ds = search (rules, stmt_view.the_lemmas)
+declaration_is n t ds = refl
 
 pub case_label_is : {E C T N : Type 0} (n : ℕ) (c : C) → tree_of_stmt {E = E} {C = C} {T = T} {N = N} (stmt.Case n c) ≡ s.case_label n c
 unfolding tree_of_stmt
-case_label_is n c = search (rules, stmt_view.the_lemmas)
+case_label_is n c = refl
 
 pub default_label_is : {E C T N : Type 0} (n : ℕ) → tree_of_stmt {E = E} {C = C} {T = T} {N = N} (stmt.Default n) ≡ s.default_label n
 unfolding tree_of_stmt
-default_label_is n = search (rules, stmt_view.the_lemmas)
+default_label_is n = refl
 
 pub tree_block : {E C T N : Type 0} (the : Stmt E C T N) (n : ℕ) (xs : Vec (Stmt E C T N) Global) → the ≡ stmt_view.Block n xs → tree_of_stmt the ≡ s.block n (tree_of_stmts xs.items)
 tree_block the n xs is = ap tree_of_stmt is ∙ block_is n xs
@@ -244,6 +254,18 @@ pub stmts_push : {E C T N : Type 0} (xs : List (Stmt E C T N)) (x : Stmt E C T N
 unfolding tree_of_stmts
 stmts_push [] x = refl
 stmts_push (y ∷ ys) x = ap (s.more_stmts (tree_of_stmt y)) (stmts_push ys x)
+
+-- the same with other expressions
+pub map_joined : {E F C T N : Type 0} (f : E → F) (xs ys : s.PlainStmts E C T N) → s.map_stmts f (s.joined_stmts xs ys) ≡ s.joined_stmts (s.map_stmts f xs) (s.map_stmts f ys)
+map_joined f s.no_stmt ys = refl
+map_joined f (s.more_stmts x xs) ys = ap (s.more_stmts (s.map_stmt f x)) (map_joined f xs ys)
+
+pub map_stmts_push : {E F C T N : Type 0} (f : E → F) (xs : List (Stmt E C T N)) (x : Stmt E C T N)
+    → s.map_stmts f (tree_of_stmts (xs ++ x ∷ [])) ≡ s.joined_stmts (s.map_stmts f (tree_of_stmts xs)) (s.more_stmts (s.map_stmt f (tree_of_stmt x)) s.no_stmt)
+map_stmts_push f xs x = ap (s.map_stmts f) (stmts_push xs x) ∙ map_joined f (tree_of_stmts xs) _
+
+pub map_stmts_none : {E F C T N : Type 0} (f : E → F) → s.map_stmts f (tree_of_stmts {E = E} {C = C} {T = T} {N = N} []) ≡ s.no_stmt
+map_stmts_none f = ap (s.map_stmts f) stmts_none
 
 -- for constructor functions
 pub ruleset plain_laws = (int_is, float_is, text_is, object_self_is, object_invalid_is, name_is, call_is, member_is, prefix_is, postfix_is, binary_is, assign_is, block_is, empty_is, expression_is, if_only_is, if_else_is, while_loop_is, do_loop_is, for_loop_is, switch_is, break_off_is, continue_on_is, return_from_is, declaration_is, case_label_is, default_label_is, plain_exprs_none, plain_exprs_more, plain_exprs_push, stmts_none, stmts_more, stmts_push)
