@@ -1,5 +1,5 @@
 -- Going over nodes, part by part.
-use Rattle.std.proofs.Common.{◌≡◌, ◌∙◌, ◌<◌, ◌≤◌, ◌+◌, ap, sym, refl, subst, Box, Global, arith, ℕ, zero, suc, length, drop, get_or, map, add-one, List, [], ◌∷◌, ◌++◌, Option, None, Some, slice_get}
+use Rattle.std.proofs.Common.{◌≡◌, ◌∙◌, ◌<◌, ◌≤◌, ◌+◌, ap, sym, refl, subst, Box, Global, ℕ, zero, suc, length, drop, get_or, map, add-one, List, [], ◌∷◌, ◌++◌, slice_get}
 use Rattle.nss_tree.specs.declared.places.Seek.{Seek}
 use Rattle.nss_tree.specs.declared.places.Seek.TheVariants.{Ahead, Found}
 use Rattle.std.proofs.Math.Seq.{drop-cons}

@@ -2,7 +2,7 @@
 -- each by the number of its token. Nodes are: structs, field lines, fields, const lines and their names,
 -- constants, declarations, declared names, functions, parameters, statements, labels and expressions.
 -- No node are: types, the body of a function and the list of a switch's body, whose items are.
-use Rattle.std.specs.Prelude.{ℕ, List, [], ◌∷◌, ◌++◌, map}
+use Rattle.std.specs.Prelude.{ℕ, List, [], ◌∷◌, ◌++◌}
 use Rattle.std.specs.Prelude.{Option, None, Some}
 use Rattle.nss_tree.specs.declared.constants.Constant.{Constant}
 use Rattle.nss_tree.specs.declared.constants.Constant.TheVariants as c

@@ -2,9 +2,6 @@
 -- a value that is known to be the variant, as an arm of a `match` knows it; and that of a list. Crates that make
 -- or walk a tree cite them, by `plain_laws` where they make one, by `plain_cases` where they match on one.
 use Rattle.std.proofs.Common.{◌≡◌, ◌∙◌, ap, refl, ℕ, ℤ, List, [], ◌∷◌, ◌++◌, Vec, Box, Option, Global}
-use Rattle.std.specs.Option.{option_map}
-use Rattle.nss_tree.specs.declared.constants.Constant.{Constant}
-use Rattle.nss_tree.specs.declared.constants.TypeName.{TypeName}
 use Rattle.nss_tree.specs.declared.operators.PrefixOperator.{PrefixOperator}
 use Rattle.nss_tree.specs.declared.operators.PostfixOperator.{PostfixOperator}
 use Rattle.nss_tree.specs.declared.operators.BinaryOperator.{BinaryOperator}

@@ -112,7 +112,12 @@ impl<E: Drop, C: Drop, T: Drop, N: Drop> Stmt<E, C, T, N> {
         Stmt::Expression { token, value }
     }
 
-    pub fn if_only(alloc: Global, token: u32, condition: E, then: Stmt<E, C, T, N>) -> Result<Stmt<E, C, T, N>, NoMemory>
+    pub fn if_only(
+        alloc: Global,
+        token: u32,
+        condition: E,
+        then: Stmt<E, C, T, N>,
+    ) -> Result<Stmt<E, C, T, N>, NoMemory>
         ensures { IfOk result (λ s. tree_of_stmt s ≡ tree.if_only token condition (tree_of_stmt then)) }
     {
         Ok(Stmt::If {
@@ -131,12 +136,18 @@ impl<E: Drop, C: Drop, T: Drop, N: Drop> Stmt<E, C, T, N> {
     ) -> Result<Stmt<E, C, T, N>, NoMemory>
         ensures { IfOk result (λ s. tree_of_stmt s ≡ tree.if_else token condition (tree_of_stmt then) (tree_of_stmt otherwise)) }
     {
-        Ok(Stmt::IfElse {
-            token,
-            condition,
-            then: Box::new(alloc, then)?,
-            otherwise: Box::new(alloc, otherwise)?,
-        })
+        match Box::new(alloc, then) {
+            Err(error) => {
+                drop(otherwise);
+                Err(NoMemory::from(error))
+            }
+            Ok(then) => Ok(Stmt::IfElse {
+                token,
+                condition,
+                then,
+                otherwise: Box::new(alloc, otherwise)?,
+            }),
+        }
     }
 
     pub fn while_loop(
@@ -154,7 +165,12 @@ impl<E: Drop, C: Drop, T: Drop, N: Drop> Stmt<E, C, T, N> {
         })
     }
 
-    pub fn do_loop(alloc: Global, token: u32, body: Stmt<E, C, T, N>, condition: E) -> Result<Stmt<E, C, T, N>, NoMemory>
+    pub fn do_loop(
+        alloc: Global,
+        token: u32,
+        body: Stmt<E, C, T, N>,
+        condition: E,
+    ) -> Result<Stmt<E, C, T, N>, NoMemory>
         ensures { IfOk result (λ s. tree_of_stmt s ≡ tree.do_loop token (tree_of_stmt body) condition) }
     {
         Ok(Stmt::Do {
