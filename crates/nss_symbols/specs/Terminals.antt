@@ -1,98 +1,123 @@
--- How the words and signs of the language are written.
-use Rattle.std.specs.Prelude.{◌≡◌, ℕ, List, [], ◌∷◌, Option, None, Some, codes, bytes_eq, if◌then◌else◌}
-use Rattle.nss_symbols.specs.declared.mark.Mark.{Mark}
-use Rattle.nss_symbols.specs.declared.mark.Mark.TheVariants as mark
-use Rattle.nss_symbols.specs.declared.mark.TheConstants.{MARKS}
+-- The terminals of the grammar, words and signs of one fixed spelling: how each is written, and which one a text is.
+use Rattle.std.specs.Prelude.{◌≡◌, IsTrue, ℕ, List, [], ◌∷◌, Option, None, Some, codes, bytes_eq, if◌then◌else◌}
+use Rattle.nss_symbols.specs.declared.terminal.Terminal.{Terminal}
+use Rattle.nss_symbols.specs.declared.terminal.Terminal.TheVariants as terminal
+use Rattle.nss_lexer.specs.Lexemes.{is_sign, is_word}
 
-unfoldable pub spelling : Mark → List ℕ
-spelling mark.Void = codes "void"
-spelling mark.Int = codes "int"
-spelling mark.Float = codes "float"
-spelling mark.String = codes "string"
-spelling mark.Object = codes "object"
-spelling mark.Vector = codes "vector"
-spelling mark.Location = codes "location"
-spelling mark.Effect = codes "effect"
-spelling mark.Event = codes "event"
-spelling mark.Talent = codes "talent"
-spelling mark.ItemProperty = codes "itemproperty"
-spelling mark.Action = codes "action"
-spelling mark.Struct = codes "struct"
-spelling mark.Const = codes "const"
-spelling mark.If = codes "if"
-spelling mark.Else = codes "else"
-spelling mark.While = codes "while"
-spelling mark.Do = codes "do"
-spelling mark.For = codes "for"
-spelling mark.Switch = codes "switch"
-spelling mark.Case = codes "case"
-spelling mark.Default = codes "default"
-spelling mark.Break = codes "break"
-spelling mark.Continue = codes "continue"
-spelling mark.Return = codes "return"
-spelling mark.ObjectSelf = codes "OBJECT_SELF"
-spelling mark.ObjectInvalid = codes "OBJECT_INVALID"
-spelling mark.OrOr = codes "||"
-spelling mark.AndAnd = codes "&&"
-spelling mark.Or = codes "|"
-spelling mark.Xor = codes "^"
-spelling mark.And = codes "&"
-spelling mark.Equal = codes "=="
-spelling mark.NotEqual = codes "!="
-spelling mark.GreaterEqual = codes ">="
-spelling mark.Greater = codes ">"
-spelling mark.Less = codes "<"
-spelling mark.LessEqual = codes "<="
-spelling mark.ShiftLeft = codes "<<"
-spelling mark.ShiftRight = codes ">>"
-spelling mark.ShiftRightUnsigned = codes ">>>"
-spelling mark.Plus = codes "+"
-spelling mark.Minus = codes "-"
-spelling mark.Star = codes "*"
-spelling mark.Slash = codes "/"
-spelling mark.Percent = codes "%"
-spelling mark.Not = codes "!"
-spelling mark.Tilde = codes "~"
-spelling mark.PlusPlus = codes "++"
-spelling mark.MinusMinus = codes "--"
-spelling mark.Dot = codes "."
-spelling mark.Assign = codes "="
-spelling mark.PlusAssign = codes "+="
-spelling mark.MinusAssign = codes "-="
-spelling mark.StarAssign = codes "*="
-spelling mark.SlashAssign = codes "/="
-spelling mark.PercentAssign = codes "%="
-spelling mark.AndAssign = codes "&="
-spelling mark.OrAssign = codes "|="
-spelling mark.XorAssign = codes "^="
-spelling mark.ShiftLeftAssign = codes "<<="
-spelling mark.ShiftRightAssign = codes ">>="
-spelling mark.ShiftRightUnsignedAssign = codes ">>>="
-spelling mark.Open = codes "("
-spelling mark.Close = codes ")"
-spelling mark.OpenBrace = codes "{"
-spelling mark.CloseBrace = codes "}"
-spelling mark.OpenBracket = codes "["
-spelling mark.CloseBracket = codes "]"
-spelling mark.Comma = codes ","
-spelling mark.Semicolon = codes ";"
-spelling mark.Colon = codes ":"
-spelling mark.Question = codes "?"
-spelling mark.Hash = codes "#"
+unfoldable pub spelling : Terminal → List ℕ
+spelling terminal.Void = codes "void"
+spelling terminal.Int = codes "int"
+spelling terminal.Float = codes "float"
+spelling terminal.String = codes "string"
+spelling terminal.Object = codes "object"
+spelling terminal.Vector = codes "vector"
+spelling terminal.Location = codes "location"
+spelling terminal.Effect = codes "effect"
+spelling terminal.Event = codes "event"
+spelling terminal.Talent = codes "talent"
+spelling terminal.ItemProperty = codes "itemproperty"
+spelling terminal.Action = codes "action"
+spelling terminal.Struct = codes "struct"
+spelling terminal.Const = codes "const"
+spelling terminal.If = codes "if"
+spelling terminal.Else = codes "else"
+spelling terminal.While = codes "while"
+spelling terminal.Do = codes "do"
+spelling terminal.For = codes "for"
+spelling terminal.Switch = codes "switch"
+spelling terminal.Case = codes "case"
+spelling terminal.Default = codes "default"
+spelling terminal.Break = codes "break"
+spelling terminal.Continue = codes "continue"
+spelling terminal.Return = codes "return"
+spelling terminal.ObjectSelf = codes "OBJECT_SELF"
+spelling terminal.ObjectInvalid = codes "OBJECT_INVALID"
+spelling terminal.OrOr = codes "||"
+spelling terminal.AndAnd = codes "&&"
+spelling terminal.Or = codes "|"
+spelling terminal.Xor = codes "^"
+spelling terminal.And = codes "&"
+spelling terminal.Equal = codes "=="
+spelling terminal.NotEqual = codes "!="
+spelling terminal.GreaterEqual = codes ">="
+spelling terminal.Greater = codes ">"
+spelling terminal.Less = codes "<"
+spelling terminal.LessEqual = codes "<="
+spelling terminal.ShiftLeft = codes "<<"
+spelling terminal.ShiftRight = codes ">>"
+spelling terminal.ShiftRightUnsigned = codes ">>>"
+spelling terminal.Plus = codes "+"
+spelling terminal.Minus = codes "-"
+spelling terminal.Star = codes "*"
+spelling terminal.Slash = codes "/"
+spelling terminal.Percent = codes "%"
+spelling terminal.Not = codes "!"
+spelling terminal.Tilde = codes "~"
+spelling terminal.PlusPlus = codes "++"
+spelling terminal.MinusMinus = codes "--"
+spelling terminal.Dot = codes "."
+spelling terminal.Assign = codes "="
+spelling terminal.PlusAssign = codes "+="
+spelling terminal.MinusAssign = codes "-="
+spelling terminal.StarAssign = codes "*="
+spelling terminal.SlashAssign = codes "/="
+spelling terminal.PercentAssign = codes "%="
+spelling terminal.AndAssign = codes "&="
+spelling terminal.OrAssign = codes "|="
+spelling terminal.XorAssign = codes "^="
+spelling terminal.ShiftLeftAssign = codes "<<="
+spelling terminal.ShiftRightAssign = codes ">>="
+spelling terminal.ShiftRightUnsignedAssign = codes ">>>="
+spelling terminal.Open = codes "("
+spelling terminal.Close = codes ")"
+spelling terminal.OpenBrace = codes "{"
+spelling terminal.CloseBrace = codes "}"
+spelling terminal.OpenBracket = codes "["
+spelling terminal.CloseBracket = codes "]"
+spelling terminal.Comma = codes ","
+spelling terminal.Semicolon = codes ";"
+spelling terminal.Colon = codes ":"
+spelling terminal.Question = codes "?"
+spelling terminal.Hash = codes "#"
+
+abbrev pub terminals : List Terminal
+terminals =
+    terminal.Void ∷ terminal.Int ∷ terminal.Float ∷ terminal.String ∷ terminal.Object ∷ terminal.Vector
+    ∷ terminal.Location ∷ terminal.Effect ∷ terminal.Event ∷ terminal.Talent ∷ terminal.ItemProperty
+    ∷ terminal.Action ∷ terminal.Struct ∷ terminal.Const ∷ terminal.If ∷ terminal.Else ∷ terminal.While
+    ∷ terminal.Do ∷ terminal.For ∷ terminal.Switch ∷ terminal.Case ∷ terminal.Default ∷ terminal.Break
+    ∷ terminal.Continue ∷ terminal.Return ∷ terminal.ObjectSelf ∷ terminal.ObjectInvalid ∷ terminal.OrOr
+    ∷ terminal.AndAnd ∷ terminal.Or ∷ terminal.Xor ∷ terminal.And ∷ terminal.Equal ∷ terminal.NotEqual
+    ∷ terminal.GreaterEqual ∷ terminal.Greater ∷ terminal.Less ∷ terminal.LessEqual ∷ terminal.ShiftLeft
+    ∷ terminal.ShiftRight ∷ terminal.ShiftRightUnsigned ∷ terminal.Plus ∷ terminal.Minus ∷ terminal.Star
+    ∷ terminal.Slash ∷ terminal.Percent ∷ terminal.Not ∷ terminal.Tilde ∷ terminal.PlusPlus
+    ∷ terminal.MinusMinus ∷ terminal.Dot ∷ terminal.Assign ∷ terminal.PlusAssign ∷ terminal.MinusAssign
+    ∷ terminal.StarAssign ∷ terminal.SlashAssign ∷ terminal.PercentAssign ∷ terminal.AndAssign
+    ∷ terminal.OrAssign ∷ terminal.XorAssign ∷ terminal.ShiftLeftAssign ∷ terminal.ShiftRightAssign
+    ∷ terminal.ShiftRightUnsignedAssign ∷ terminal.Open ∷ terminal.Close ∷ terminal.OpenBrace
+    ∷ terminal.CloseBrace ∷ terminal.OpenBracket ∷ terminal.CloseBracket ∷ terminal.Comma ∷ terminal.Semicolon
+    ∷ terminal.Colon ∷ terminal.Question ∷ terminal.Hash ∷ []
 
 -- the first of these that is written so
-abbrev pub among : List Mark → List ℕ → Option Mark
-among [] text = None
-among (m ∷ ms) text = if bytes_eq (spelling m) text then Some m else among ms text
+abbrev pub first_written : List Terminal → List ℕ → Option Terminal
+first_written [] text = None
+first_written (t ∷ ts) text = if bytes_eq (spelling t) text then Some t else first_written ts text
 
--- the word or sign that is written so
-unfoldable pub mark_of : List ℕ → Option Mark
-mark_of text = among MARKS text
+-- the terminal that is written so
+unfoldable pub terminal_of : List ℕ → Option Terminal
+terminal_of text = first_written terminals text
 
--- Each word and sign is read as itself from how it is written.
+-- Each terminal is read from its spelling.
 abbrev pub EachIsRead : Type 0
-EachIsRead = (mark : Mark) → mark_of (spelling mark) ≡ Some mark
+EachIsRead = (t : Terminal) → terminal_of (spelling t) ≡ Some t
 
--- What is read as a word or sign is written so.
+-- What is read as a terminal is written as that is.
 abbrev pub IsWrittenSo : Type 0
-IsWrittenSo = (text : List ℕ) (mark : Mark) → mark_of text ≡ Some mark → text ≡ spelling mark
+IsWrittenSo = (text : List ℕ) (t : Terminal) → terminal_of text ≡ Some t → text ≡ spelling t
+
+-- Each word and each sign of the lexer is a terminal.
+abbrev pub EachWordIsTerminal : Type 0
+EachWordIsTerminal = (text : List ℕ) → IsTrue (is_word text) → (t : Terminal) × (terminal_of text ≡ Some t)
+
+abbrev pub EachSignIsTerminal : Type 0
+EachSignIsTerminal = (text : List ℕ) → IsTrue (is_sign text) → (t : Terminal) × (terminal_of text ≡ Some t)

@@ -1,7 +1,7 @@
 use Rattle.std.proofs.Common.{◌∙◌, ap}
-use Rattle.nss_symbols.specs.Marks.{mark_of, among}
-use Rattle.nss_symbols.proofs.mark.mark_of.Goals as goal
+use Rattle.nss_symbols.specs.Terminals.{terminal_of, first_written}
+use Rattle.nss_symbols.proofs.terminal.terminal_of.Goals as goal
 
 pub returns : goal.returns
-unfolding mark_of
-returns c = c.find.ensures ∙ ap (λ ms. among ms c.args.text.now) c.as_slice.ensures
+unfolding terminal_of
+returns c = c.first_written.ensures ∙ ap (λ ts. first_written ts c.args.text.now) c.as_slice.ensures
