@@ -1,7 +1,7 @@
 -- Laws of the reading: its equation for each variant as code makes it, with its boxes and vectors; the same for
 -- a value that is known to be the variant, as an arm of a `match` knows it; and that of a list. Crates that make
 -- or walk a tree cite them, by `plain_laws` where they make one, by `plain_cases` where they match on one.
-use Rattle.std.proofs.Common.{◌≡◌, ◌∙◌, ap, refl, ℕ, ℤ, List, [], ◌∷◌, ◌++◌, Vec, Box, Option, Global}
+use Rattle.std.proofs.Common.{◌≡◌, ◌∙◌, option_map, ap, refl, ℕ, ℤ, List, [], ◌∷◌, ◌++◌, Vec, Box, Option, None, Some, Global}
 use Rattle.nss_tree.specs.declared.operators.PrefixOperator.{PrefixOperator}
 use Rattle.nss_tree.specs.declared.operators.PostfixOperator.{PostfixOperator}
 use Rattle.nss_tree.specs.declared.operators.BinaryOperator.{BinaryOperator}
@@ -263,6 +263,12 @@ map_stmts_push f xs x = ap (s.map_stmts f) (stmts_push xs x) ∙ map_joined f (t
 
 pub map_stmts_none : {E F C T N : Type 0} (f : E → F) → s.map_stmts f (tree_of_stmts {E = E} {C = C} {T = T} {N = N} []) ≡ s.no_stmt
 map_stmts_none f = ap (s.map_stmts f) stmts_none
+
+-- the body of a function, with other expressions
+pub map_body : {E F C T N : Type 0} (f : E → F) (body : Option (List (Stmt E C T N)))
+    → option_map (s.map_stmts f) (option_map tree_of_stmts body) ≡ option_map (λ xs. s.map_stmts f (tree_of_stmts xs)) body
+map_body f None = refl
+map_body f (Some xs) = refl
 
 -- for constructor functions
 pub ruleset plain_laws = (int_is, float_is, text_is, object_self_is, object_invalid_is, name_is, call_is, member_is, prefix_is, postfix_is, binary_is, assign_is, block_is, empty_is, expression_is, if_only_is, if_else_is, while_loop_is, do_loop_is, for_loop_is, switch_is, break_off_is, continue_on_is, return_from_is, declaration_is, case_label_is, default_label_is, plain_exprs_none, plain_exprs_more, plain_exprs_push, stmts_none, stmts_more, stmts_push)

@@ -3,6 +3,8 @@ use Rattle.std.specs.Prelude.{ℕ, List}
 use Rattle.nss_tree.specs.declared.constants.Constant.{Constant}
 use Rattle.nss_tree.specs.declared.constants.TypeName.{TypeName}
 use Rattle.nss_tree.specs.declared.statements.DeclaredName.{DeclaredName}
+use Rattle.nss_tree.specs.declared.units.FieldLine.{FieldLine}
+use Rattle.nss_tree.specs.declared.units.Parameter.{Parameter}
 use Rattle.nss_tree.specs.Expressions.{PlainExpr}
 use Rattle.nss_tree.specs.Statements.{PlainStmt, PlainStmts}
 use Rattle.nss_tree.specs.Units.{PlainItem, PlainTree}
@@ -21,3 +23,12 @@ SourceItem = PlainItem PlainExpr Constant TypeName (List ℕ)
 
 abbrev pub SourceTree : Type 0
 SourceTree = PlainTree PlainExpr Constant TypeName (List ℕ)
+
+abbrev pub SourceLine : Type 0
+SourceLine = FieldLine TypeName
+
+abbrev pub SourceParameter : Type 0
+SourceParameter = Parameter Constant TypeName (List ℕ)
+
+abbrev pub SourceItems : Type 0
+SourceItems = List SourceItem
