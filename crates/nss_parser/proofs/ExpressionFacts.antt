@@ -6,81 +6,81 @@ use Rattle.nss_tree.specs.declared.operators.BinaryOperator.{BinaryOperator}
 use Rattle.nss_tree.specs.declared.operators.BinaryOperator.TheVariants as binary
 use Rattle.nss_tree.specs.declared.operators.AssignOperator.{AssignOperator}
 use Rattle.nss_tree.specs.Expressions.{PlainExpr, PlainExprs}
-use Rattle.nss_symbols.specs.declared.mark.Mark.{Mark}
-use Rattle.nss_symbols.specs.declared.mark.Mark.TheVariants as mark
+use Rattle.nss_symbols.specs.declared.terminal.Terminal.{Terminal}
+use Rattle.nss_symbols.specs.declared.terminal.Terminal.TheVariants as terminal
 use Rattle.nss_parser.specs.declared.operator.Suffix.{Suffix}
 use Rattle.nss_parser.specs.declared.operator.Suffix.TheVariants.{Step}
 use Rattle.nss_symbols.specs.Symbols as symbol
-use Rattle.nss_symbols.specs.Symbols.{Symbol, Spot, at, sign}
+use Rattle.nss_symbols.specs.Symbols.{Symbol, Numbered, at, fixed}
 use Rattle.nss_parser.specs.Operators.{binary_operator, level_of, unary_level, assign_operator, prefix_operator, postfix_operator}
-use Rattle.nss_symbols.specs.Outcome.{same_mark, is_sign, sees, first}
+use Rattle.nss_symbols.specs.Outcome.{same_terminal, is_terminal, sees, first}
 use Rattle.nss_parser.specs.ReadExpression.{binary_of, assign_of, suffix_of}
 use Rattle.nss_parser.specs.Grammar.{Expression, Binary, Unary, Postfix, Primary, Expressions}
 use Rattle.nss_parser.specs.Grammar as grammar
-use Rattle.nss_parser.proofs.Fronts.{mark_same}
+use Rattle.nss_parser.proofs.Right.{terminal_same}
 
--- a mark that neither assigns nor goes on a postfix expression
-pub record IsApart (m : Mark) : Type 0 where
+-- a terminal that neither assigns nor goes on a postfix expression
+pub record IsApart (m : Terminal) : Type 0 where
   pub assign : assign_operator m ≡ None
-  pub suffix : suffix_of (Some (symbol.Sign m)) ≡ None
-  pub call : same_mark mark.Open m ≡ false
+  pub suffix : suffix_of (Some (symbol.Fixed m)) ≡ None
+  pub call : same_terminal terminal.Open m ≡ false
 
-pub binary_apart : (m : Mark) (o : BinaryOperator) → binary_operator m ≡ Some o → IsApart m
-unfolding same_mark
-binary_apart mark.OrOr o e = record { assign = refl; suffix = refl; call = refl }
-binary_apart mark.AndAnd o e = record { assign = refl; suffix = refl; call = refl }
-binary_apart mark.Or o e = record { assign = refl; suffix = refl; call = refl }
-binary_apart mark.Xor o e = record { assign = refl; suffix = refl; call = refl }
-binary_apart mark.And o e = record { assign = refl; suffix = refl; call = refl }
-binary_apart mark.Equal o e = record { assign = refl; suffix = refl; call = refl }
-binary_apart mark.NotEqual o e = record { assign = refl; suffix = refl; call = refl }
-binary_apart mark.GreaterEqual o e = record { assign = refl; suffix = refl; call = refl }
-binary_apart mark.Greater o e = record { assign = refl; suffix = refl; call = refl }
-binary_apart mark.Less o e = record { assign = refl; suffix = refl; call = refl }
-binary_apart mark.LessEqual o e = record { assign = refl; suffix = refl; call = refl }
-binary_apart mark.ShiftLeft o e = record { assign = refl; suffix = refl; call = refl }
-binary_apart mark.ShiftRight o e = record { assign = refl; suffix = refl; call = refl }
-binary_apart mark.ShiftRightUnsigned o e = record { assign = refl; suffix = refl; call = refl }
-binary_apart mark.Plus o e = record { assign = refl; suffix = refl; call = refl }
-binary_apart mark.Minus o e = record { assign = refl; suffix = refl; call = refl }
-binary_apart mark.Star o e = record { assign = refl; suffix = refl; call = refl }
-binary_apart mark.Slash o e = record { assign = refl; suffix = refl; call = refl }
-binary_apart mark.Percent o e = record { assign = refl; suffix = refl; call = refl }
+pub binary_apart : (m : Terminal) (o : BinaryOperator) → binary_operator m ≡ Some o → IsApart m
+unfolding same_terminal
+binary_apart terminal.OrOr o e = record { assign = refl; suffix = refl; call = refl }
+binary_apart terminal.AndAnd o e = record { assign = refl; suffix = refl; call = refl }
+binary_apart terminal.Or o e = record { assign = refl; suffix = refl; call = refl }
+binary_apart terminal.Xor o e = record { assign = refl; suffix = refl; call = refl }
+binary_apart terminal.And o e = record { assign = refl; suffix = refl; call = refl }
+binary_apart terminal.Equal o e = record { assign = refl; suffix = refl; call = refl }
+binary_apart terminal.NotEqual o e = record { assign = refl; suffix = refl; call = refl }
+binary_apart terminal.GreaterEqual o e = record { assign = refl; suffix = refl; call = refl }
+binary_apart terminal.Greater o e = record { assign = refl; suffix = refl; call = refl }
+binary_apart terminal.Less o e = record { assign = refl; suffix = refl; call = refl }
+binary_apart terminal.LessEqual o e = record { assign = refl; suffix = refl; call = refl }
+binary_apart terminal.ShiftLeft o e = record { assign = refl; suffix = refl; call = refl }
+binary_apart terminal.ShiftRight o e = record { assign = refl; suffix = refl; call = refl }
+binary_apart terminal.ShiftRightUnsigned o e = record { assign = refl; suffix = refl; call = refl }
+binary_apart terminal.Plus o e = record { assign = refl; suffix = refl; call = refl }
+binary_apart terminal.Minus o e = record { assign = refl; suffix = refl; call = refl }
+binary_apart terminal.Star o e = record { assign = refl; suffix = refl; call = refl }
+binary_apart terminal.Slash o e = record { assign = refl; suffix = refl; call = refl }
+binary_apart terminal.Percent o e = record { assign = refl; suffix = refl; call = refl }
 binary_apart _ o e = cc
 
--- a mark that assigns is no suffix
-pub record IsSet (m : Mark) : Type 0 where
-  pub suffix : suffix_of (Some (symbol.Sign m)) ≡ None
-  pub call : same_mark mark.Open m ≡ false
+-- a terminal that assigns is no suffix
+pub record IsSet (m : Terminal) : Type 0 where
+  pub suffix : suffix_of (Some (symbol.Fixed m)) ≡ None
+  pub call : same_terminal terminal.Open m ≡ false
 
-pub assign_set : (m : Mark) (o : AssignOperator) → assign_operator m ≡ Some o → IsSet m
-unfolding same_mark
-assign_set mark.Assign o e = record { suffix = refl; call = refl }
-assign_set mark.PlusAssign o e = record { suffix = refl; call = refl }
-assign_set mark.MinusAssign o e = record { suffix = refl; call = refl }
-assign_set mark.StarAssign o e = record { suffix = refl; call = refl }
-assign_set mark.SlashAssign o e = record { suffix = refl; call = refl }
-assign_set mark.PercentAssign o e = record { suffix = refl; call = refl }
-assign_set mark.AndAssign o e = record { suffix = refl; call = refl }
-assign_set mark.OrAssign o e = record { suffix = refl; call = refl }
-assign_set mark.XorAssign o e = record { suffix = refl; call = refl }
-assign_set mark.ShiftLeftAssign o e = record { suffix = refl; call = refl }
-assign_set mark.ShiftRightAssign o e = record { suffix = refl; call = refl }
-assign_set mark.ShiftRightUnsignedAssign o e = record { suffix = refl; call = refl }
+pub assign_set : (m : Terminal) (o : AssignOperator) → assign_operator m ≡ Some o → IsSet m
+unfolding same_terminal
+assign_set terminal.Assign o e = record { suffix = refl; call = refl }
+assign_set terminal.PlusAssign o e = record { suffix = refl; call = refl }
+assign_set terminal.MinusAssign o e = record { suffix = refl; call = refl }
+assign_set terminal.StarAssign o e = record { suffix = refl; call = refl }
+assign_set terminal.SlashAssign o e = record { suffix = refl; call = refl }
+assign_set terminal.PercentAssign o e = record { suffix = refl; call = refl }
+assign_set terminal.AndAssign o e = record { suffix = refl; call = refl }
+assign_set terminal.OrAssign o e = record { suffix = refl; call = refl }
+assign_set terminal.XorAssign o e = record { suffix = refl; call = refl }
+assign_set terminal.ShiftLeftAssign o e = record { suffix = refl; call = refl }
+assign_set terminal.ShiftRightAssign o e = record { suffix = refl; call = refl }
+assign_set terminal.ShiftRightUnsignedAssign o e = record { suffix = refl; call = refl }
 assign_set _ o e = cc
 
-pub record IsStep (m : Mark) (o : PostfixOperator) : Type 0 where
-  pub suffix : suffix_of (Some (symbol.Sign m)) ≡ Some (Step o)
-  pub call : same_mark mark.Open m ≡ false
+pub record IsStep (m : Terminal) (o : PostfixOperator) : Type 0 where
+  pub suffix : suffix_of (Some (symbol.Fixed m)) ≡ Some (Step o)
+  pub call : same_terminal terminal.Open m ≡ false
 
-pub postfix_step : (m : Mark) (o : PostfixOperator) → postfix_operator m ≡ Some o → IsStep m o
-unfolding same_mark
-postfix_step mark.PlusPlus o e = record { suffix = ap some_step e; call = refl }
+pub postfix_step : (m : Terminal) (o : PostfixOperator) → postfix_operator m ≡ Some o → IsStep m o
+unfolding same_terminal
+postfix_step terminal.PlusPlus o e = record { suffix = ap some_step e; call = refl }
   where
     some_step : Option PostfixOperator → Option Suffix
     some_step (Some p) = Some (Step p)
     some_step None = None
-postfix_step mark.MinusMinus o e = record { suffix = ap some_step e; call = refl }
+postfix_step terminal.MinusMinus o e = record { suffix = ap some_step e; call = refl }
   where
     some_step : Option PostfixOperator → Option Suffix
     some_step (Some p) = Some (Step p)
@@ -131,22 +131,22 @@ level_below binary.Remainder = omega arith
 
 -- What may follow. No operator of level k or tighter; nothing that goes on a postfix expression; neither of
 -- these and no assignment.
-abbrev pub NoOperator : ℕ → List Spot → Type 0
+abbrev pub NoOperator : ℕ → List Numbered → Type 0
 NoOperator k i = (o : BinaryOperator) → binary_of (first i) ≡ Some o → level_of o < k
 
-pub record Apart (rest : List Spot) : Type 0 where
+pub record Apart (rest : List Numbered) : Type 0 where
   pub suffix : suffix_of (first rest) ≡ None
-  pub call : sees mark.Open rest ≡ false
+  pub call : sees terminal.Open rest ≡ false
 
-pub record Ends (k : ℕ) (rest : List Spot) : Type 0 where
+pub record Ends (k : ℕ) (rest : List Numbered) : Type 0 where
   pub operator : NoOperator k rest
   pub assign : assign_of (first rest) ≡ None
   pub apart : Apart rest
 
-pub ends_more : (k j : ℕ) (rest : List Spot) → k ≤ j → Ends k rest → Ends j rest
+pub ends_more : (k j : ℕ) (rest : List Numbered) → k ≤ j → Ends k rest → Ends j rest
 ends_more k j rest le e = record { operator = λ o is. let h : level_of o < k = e.operator o is in omega arith; assign = e.assign; apart = e.apart }
 
-pub apart_at_binary : (n : ℕ) (m : Mark) (o : BinaryOperator) (r : List Spot) → binary_operator m ≡ Some o → Ends (suc (level_of o)) (sign n m ∷ r)
+pub apart_at_binary : (n : ℕ) (m : Terminal) (o : BinaryOperator) (r : List Numbered) → binary_operator m ≡ Some o → Ends (suc (level_of o)) (fixed n m ∷ r)
 unfolding first
 apart_at_binary n m o r is =
     let a = binary_apart m o is in
@@ -160,14 +160,14 @@ apart_at_binary n m o r is =
     level_or (Some p) = level_of p
     level_or None = 0
 
--- a mark that begins nothing that goes on an expression
-pub record IsEnd (m : Mark) : Type 0 where
+-- a terminal that begins nothing that goes on an expression
+pub record IsEnd (m : Terminal) : Type 0 where
   pub binary : binary_operator m ≡ None
   pub assign : assign_operator m ≡ None
-  pub suffix : suffix_of (Some (symbol.Sign m)) ≡ None
-  pub call : same_mark mark.Open m ≡ false
+  pub suffix : suffix_of (Some (symbol.Fixed m)) ≡ None
+  pub call : same_terminal terminal.Open m ≡ false
 
-pub ends_at : (k n : ℕ) (m : Mark) (r : List Spot) → IsEnd m → Ends k (sign n m ∷ r)
+pub ends_at : (k n : ℕ) (m : Terminal) (r : List Numbered) → IsEnd m → Ends k (fixed n m ∷ r)
 unfolding first
 ends_at k n m r e = record {
   operator = λ o is. cc;
@@ -175,28 +175,28 @@ ends_at k n m r e = record {
   apart = record { suffix = e.suffix; call = e.call };
 }
 
-pub close_ends : IsEnd mark.Close
-unfolding same_mark
+pub close_ends : IsEnd terminal.Close
+unfolding same_terminal
 close_ends = record { binary = refl; assign = refl; suffix = refl; call = refl }
 
-pub comma_ends : IsEnd mark.Comma
-unfolding same_mark
+pub comma_ends : IsEnd terminal.Comma
+unfolding same_terminal
 comma_ends = record { binary = refl; assign = refl; suffix = refl; call = refl }
 
-pub semicolon_ends : IsEnd mark.Semicolon
-unfolding same_mark
+pub semicolon_ends : IsEnd terminal.Semicolon
+unfolding same_terminal
 semicolon_ends = record { binary = refl; assign = refl; suffix = refl; call = refl }
 
 -- the list begins with a token that passes the test
-abbrev pub Starts : (Symbol → Bool) → List Spot → Type 0
+abbrev pub Starts : (Symbol → Bool) → List Numbered → Type 0
 Starts test [] = ⊥
 Starts test (s ∷ r) = test s.symbol ≡ true
 
-pub starts_append : (test : Symbol → Bool) (xs ys : List Spot) → Starts test xs → Starts test (xs ++ ys)
+pub starts_append : (test : Symbol → Bool) (xs ys : List Numbered) → Starts test xs → Starts test (xs ++ ys)
 starts_append test [] ys h = absurd h
 starts_append test (s ∷ r) ys h = h
 
-pub starts_length : (test : Symbol → Bool) (xs : List Spot) → Starts test xs → 0 < length xs
+pub starts_length : (test : Symbol → Bool) (xs : List Numbered) → Starts test xs → 0 < length xs
 starts_length test [] h = absurd h
 starts_length test (s ∷ r) h = omega arith
 
@@ -210,40 +210,40 @@ begins_expression (symbol.Name f) = true
 begins_expression (symbol.Int v) = true
 begins_expression symbol.Float = true
 begins_expression (symbol.Text v) = true
-begins_expression (symbol.Sign mark.ObjectSelf) = true
-begins_expression (symbol.Sign mark.ObjectInvalid) = true
-begins_expression (symbol.Sign mark.Open) = true
-begins_expression (symbol.Sign m) = is_some_prefix (prefix_operator m)
+begins_expression (symbol.Fixed terminal.ObjectSelf) = true
+begins_expression (symbol.Fixed terminal.ObjectInvalid) = true
+begins_expression (symbol.Fixed terminal.Open) = true
+begins_expression (symbol.Fixed m) = is_some_prefix (prefix_operator m)
 begins_expression symbol.Unknown = false
 
-prefix_begins : (m : Mark) (o : PrefixOperator) → prefix_operator m ≡ Some o → begins_expression (symbol.Sign m) ≡ true
-prefix_begins mark.Minus o e = refl
-prefix_begins mark.Tilde o e = refl
-prefix_begins mark.Not o e = refl
-prefix_begins mark.PlusPlus o e = refl
-prefix_begins mark.MinusMinus o e = refl
+prefix_begins : (m : Terminal) (o : PrefixOperator) → prefix_operator m ≡ Some o → begins_expression (symbol.Fixed m) ≡ true
+prefix_begins terminal.Minus o e = refl
+prefix_begins terminal.Tilde o e = refl
+prefix_begins terminal.Not o e = refl
+prefix_begins terminal.PlusPlus o e = refl
+prefix_begins terminal.MinusMinus o e = refl
 prefix_begins _ o e = cc
 
 mutual
-  pub starts_expression : {x : PlainExpr} {xs : List Spot} → Expression x xs → Starts begins_expression xs
-  starts_expression (grammar.assignment {xs = xs} {ys = ys} n m o is u e) = starts_append begins_expression xs (sign n m ∷ ys) (starts_unary u)
+  pub starts_expression : {x : PlainExpr} {xs : List Numbered} → Expression x xs → Starts begins_expression xs
+  starts_expression (grammar.assignment {xs = xs} {ys = ys} n m o is u e) = starts_append begins_expression xs (fixed n m ∷ ys) (starts_unary u)
   starts_expression (grammar.value b) = starts_binary b
 
-  pub starts_binary : {k : ℕ} {x : PlainExpr} {xs : List Spot} → Binary k x xs → Starts begins_expression xs
-  starts_binary (grammar.operation {xs = xs} {ys = ys} n m o is l r) = starts_append begins_expression xs (sign n m ∷ ys) (starts_binary l)
+  pub starts_binary : {k : ℕ} {x : PlainExpr} {xs : List Numbered} → Binary k x xs → Starts begins_expression xs
+  starts_binary (grammar.operation {xs = xs} {ys = ys} n m o is l r) = starts_append begins_expression xs (fixed n m ∷ ys) (starts_binary l)
   starts_binary (grammar.tighter b) = starts_binary b
   starts_binary (grammar.unary u) = starts_unary u
 
-  pub starts_unary : {x : PlainExpr} {xs : List Spot} → Unary x xs → Starts begins_expression xs
+  pub starts_unary : {x : PlainExpr} {xs : List Numbered} → Unary x xs → Starts begins_expression xs
   starts_unary (grammar.prefix n m o is u) = prefix_begins m o is
   starts_unary (grammar.postfix p) = starts_postfix p
 
-  pub starts_postfix : {x : PlainExpr} {xs : List Spot} → Postfix x xs → Starts begins_expression xs
-  starts_postfix (grammar.member {xs = xs} n k f p) = starts_append begins_expression xs (sign n mark.Dot ∷ at k (symbol.Name f) ∷ []) (starts_postfix p)
-  starts_postfix (grammar.step {xs = xs} n m o is p) = starts_append begins_expression xs (sign n m ∷ []) (starts_postfix p)
+  pub starts_postfix : {x : PlainExpr} {xs : List Numbered} → Postfix x xs → Starts begins_expression xs
+  starts_postfix (grammar.member {xs = xs} n k f p) = starts_append begins_expression xs (fixed n terminal.Dot ∷ at k (symbol.Name f) ∷ []) (starts_postfix p)
+  starts_postfix (grammar.step {xs = xs} n m o is p) = starts_append begins_expression xs (fixed n m ∷ []) (starts_postfix p)
   starts_postfix (grammar.primary p) = starts_primary p
 
-  pub starts_primary : {x : PlainExpr} {xs : List Spot} → Primary x xs → Starts begins_expression xs
+  pub starts_primary : {x : PlainExpr} {xs : List Numbered} → Primary x xs → Starts begins_expression xs
   starts_primary (grammar.int n v) = refl
   starts_primary (grammar.float n) = refl
   starts_primary (grammar.text n bytes) = refl
@@ -254,24 +254,24 @@ mutual
   starts_primary (grammar.call n m k f all) = refl
   starts_primary (grammar.parenthesized m k e) = refl
 
-pub starts_expressions : {all : PlainExprs} {xs : List Spot} → Expressions all xs → Starts begins_expression xs
+pub starts_expressions : {all : PlainExprs} {xs : List Numbered} → Expressions all xs → Starts begins_expression xs
 starts_expressions (grammar.one e) = starts_expression e
-starts_expressions (grammar.more {xs = xs} {ys = ys} n e all) = starts_append begins_expression xs (sign n mark.Comma ∷ ys) (starts_expression e)
+starts_expressions (grammar.more {xs = xs} {ys = ys} n e all) = starts_append begins_expression xs (fixed n terminal.Comma ∷ ys) (starts_expression e)
 
--- an expression's first token is no such mark
-pub no_mark : (m : Mark) → begins_expression (symbol.Sign m) ≡ false → (xs : List Spot) → Starts begins_expression xs → sees m xs ≡ false
+-- an expression's first token is no such terminal
+pub no_terminal : (m : Terminal) → begins_expression (symbol.Fixed m) ≡ false → (xs : List Numbered) → Starts begins_expression xs → sees m xs ≡ false
 unfolding first
-no_mark m never [] h = absurd h
-no_mark m never (s ∷ r) h = no_mark_at m s.symbol never h
+no_terminal m never [] h = absurd h
+no_terminal m never (s ∷ r) h = no_terminal_at m s.symbol never h
   where
-    no_mark_at : (m : Mark) (s : Symbol) → begins_expression (symbol.Sign m) ≡ false → begins_expression s ≡ true → is_sign m (Some s) ≡ false
-    no_mark_at m (symbol.Sign k) never h = differ m k never h (same_mark m k) refl
+    no_terminal_at : (m : Terminal) (s : Symbol) → begins_expression (symbol.Fixed m) ≡ false → begins_expression s ≡ true → is_terminal m (Some s) ≡ false
+    no_terminal_at m (symbol.Fixed k) never h = differ m k never h (same_terminal m k) refl
       where
-        differ : (m k : Mark) → begins_expression (symbol.Sign m) ≡ false → begins_expression (symbol.Sign k) ≡ true → (b : Bool) → same_mark m k ≡ b → same_mark m k ≡ false
+        differ : (m k : Terminal) → begins_expression (symbol.Fixed m) ≡ false → begins_expression (symbol.Fixed k) ≡ true → (b : Bool) → same_terminal m k ≡ b → same_terminal m k ≡ false
         differ m k never h false e = e
-        differ m k never h true e = let same = mark_same m k e in let bad : true ≡ false = sym h ∙ ap (λ (z : Mark). begins_expression (symbol.Sign z)) (sym same) ∙ never in cc
-    no_mark_at m (symbol.Name f) never h = refl
-    no_mark_at m (symbol.Int v) never h = refl
-    no_mark_at m symbol.Float never h = refl
-    no_mark_at m (symbol.Text v) never h = refl
-    no_mark_at m symbol.Unknown never h = refl
+        differ m k never h true e = let same = terminal_same m k e in let bad : true ≡ false = sym h ∙ ap (λ (z : Terminal). begins_expression (symbol.Fixed z)) (sym same) ∙ never in cc
+    no_terminal_at m (symbol.Name f) never h = refl
+    no_terminal_at m (symbol.Int v) never h = refl
+    no_terminal_at m symbol.Float never h = refl
+    no_terminal_at m (symbol.Text v) never h = refl
+    no_terminal_at m symbol.Unknown never h = refl

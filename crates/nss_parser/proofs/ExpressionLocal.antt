@@ -6,13 +6,13 @@ use Rattle.nss_tree.specs.declared.operators.BinaryOperator.{BinaryOperator}
 use Rattle.nss_tree.specs.declared.operators.AssignOperator.{AssignOperator}
 use Rattle.nss_tree.specs.Expressions as tree
 use Rattle.nss_tree.specs.Expressions.{PlainExpr, PlainExprs, joined_exprs}
-use Rattle.nss_symbols.specs.declared.mark.Mark.TheVariants as mark
+use Rattle.nss_symbols.specs.declared.terminal.Terminal.TheVariants as terminal
 use Rattle.nss_parser.specs.declared.operator.Suffix.{Suffix}
 use Rattle.nss_parser.specs.declared.operator.Suffix.TheVariants.{Member, Step}
 use Rattle.nss_symbols.specs.Symbols as symbol
-use Rattle.nss_symbols.specs.Symbols.{Symbol, Spot}
+use Rattle.nss_symbols.specs.Symbols.{Symbol, Numbered}
 use Rattle.nss_parser.specs.Operators.{level_of, unary_level}
-use Rattle.nss_symbols.specs.Outcome.{Parser, is_sign}
+use Rattle.nss_symbols.specs.Outcome.{Parser, is_terminal}
 use Rattle.nss_parser.specs.ReadExpression.{prefix_of, binary_of, assign_of, suffix_of, suffix, suffixes, suffixes_by, after_argument, arguments_from, arguments, after_name, primary_by, primary, prefix, prefix_by, operation, climb, climb_by, assigned, assigned_by, after_first, level}
 use Rattle.nss_parser.proofs.Local.{Local, local_pure, local_stuck, local_deep, local_take, local_bind, local_peek, local_branch, local_choice, local_expect, local_name}
 
@@ -32,7 +32,7 @@ local_suffixes (suc d) (suc e) le x = local_peek (λ o. local_suffixes_by (suffi
 
 module _ (d e : ℕ) (le : d ≤ e) (inner outer : ℕ → Parser PlainExpr) (local : (k : ℕ) → Local (inner k) (outer k)) where
   local_after_argument : (p q : PlainExprs → Parser PlainExprs) → ((all : PlainExprs) → Local (p all) (q all)) → (all : PlainExprs) → Local (after_argument d inner p all) (after_argument e outer q all)
-  local_after_argument p q l all = local_choice (is_sign mark.Comma) (local_bind local_take (λ n. l all)) (local_bind (local_expect mark.Close) (λ k. local_pure all))
+  local_after_argument p q l all = local_choice (is_terminal terminal.Comma) (local_bind local_take (λ n. l all)) (local_bind (local_expect terminal.Close) (λ k. local_pure all))
 
   local_arguments_from : (t t' : ℕ) → t ≤ t' → (before : PlainExprs) → Local (arguments_from d inner t before) (arguments_from e outer t' before)
   local_arguments_from zero t' lt before = local_deep (arguments_from e outer t' before)
@@ -42,20 +42,20 @@ module _ (d e : ℕ) (le : d ≤ e) (inner outer : ℕ → Parser PlainExpr) (lo
 
   local_arguments : Local (arguments d inner) (arguments e outer)
   unfolding arguments
-  local_arguments = local_choice (is_sign mark.Close) (local_bind local_take (λ k. local_pure tree.no_expr)) (local_arguments_from d e le tree.no_expr)
+  local_arguments = local_choice (is_terminal terminal.Close) (local_bind local_take (λ k. local_pure tree.no_expr)) (local_arguments_from d e le tree.no_expr)
 
   local_after_name : (n : ℕ) (f : List ℕ) → Local (after_name d inner n f) (after_name e outer n f)
   unfolding after_name
-  local_after_name n f = local_choice (is_sign mark.Open) (local_bind local_take (λ m. local_bind local_arguments (λ all. local_pure (tree.call n f all)))) (local_pure (tree.name n f))
+  local_after_name n f = local_choice (is_terminal terminal.Open) (local_bind local_take (λ m. local_bind local_arguments (λ all. local_pure (tree.call n f all)))) (local_pure (tree.name n f))
 
   local_primary_by : (o : Option Symbol) → Local (primary_by d inner o) (primary_by e outer o)
   local_primary_by (Some (symbol.Int v)) = local_bind local_take (λ n. local_pure _)
   local_primary_by (Some symbol.Float) = local_bind local_take (λ n. local_pure (tree.float n))
   local_primary_by (Some (symbol.Text bytes)) = local_bind local_take (λ n. local_pure (tree.text n bytes))
   local_primary_by (Some (symbol.Name f)) = local_bind local_take (λ n. local_after_name n f)
-  local_primary_by (Some (symbol.Sign mark.ObjectSelf)) = local_bind local_take (λ n. local_pure (tree.object_self n))
-  local_primary_by (Some (symbol.Sign mark.ObjectInvalid)) = local_bind local_take (λ n. local_pure (tree.object_invalid n))
-  local_primary_by (Some (symbol.Sign mark.Open)) = local_bind local_take (λ m. local_bind (local 0) (λ x. local_bind (local_expect mark.Close) (λ k. local_pure x)))
+  local_primary_by (Some (symbol.Fixed terminal.ObjectSelf)) = local_bind local_take (λ n. local_pure (tree.object_self n))
+  local_primary_by (Some (symbol.Fixed terminal.ObjectInvalid)) = local_bind local_take (λ n. local_pure (tree.object_invalid n))
+  local_primary_by (Some (symbol.Fixed terminal.Open)) = local_bind local_take (λ m. local_bind (local 0) (λ x. local_bind (local_expect terminal.Close) (λ k. local_pure x)))
   local_primary_by _ = local_stuck
 
   local_primary : Local (primary d inner) (primary e outer)

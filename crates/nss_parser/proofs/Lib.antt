@@ -7,7 +7,8 @@ pub mod DeclarationRight
 pub mod DeclarationLocal
 pub mod DeclarationComplete
 pub mod Local
-pub mod Fronts
+pub mod Completions
+pub mod Right
 pub mod ExpressionFacts
 pub mod ExpressionSteps
 pub mod ExpressionComplete
@@ -16,7 +17,6 @@ pub mod ExpressionRight
 pub mod Turns
 pub mod LoopTurns
 pub mod PartLaws
-pub mod TestLaws
 pub mod StatementLocal
 pub mod StatementComplete
 pub mod StatementRight

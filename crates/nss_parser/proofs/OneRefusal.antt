@@ -2,28 +2,28 @@
 use Rattle.std.proofs.Common.{◌≡◌, ◌≢◌, ◌<◌, ◌≤◌, ◌+◌, ◌++◌, ℕ, List, take, drop, sym, ◌∙◌, ap, arith, refl, subst, append_assoc, inl, inr}
 use Rattle.std.proofs.lemmas.Bool.{cases_lt}
 use Rattle.std.proofs.lemmas.List.{take-append-drop, take-take}
-use Rattle.nss_tree.specs.Units.{PlainTree}
+use Rattle.nss_tree.specs.Source.{SourceTree}
 use Rattle.nss_parser.specs.declared.fault.ParseFault.{ParseFault}
 use Rattle.nss_parser.specs.declared.fault.ParseFault.TheVariants.{Nested, Syntax, NoMemory}
 use Rattle.nss_symbols.specs.Symbols.{Symbol}
 use Rattle.nss_symbols.specs.Nest.{IsFirstOver, IsWithinNest}
-use Rattle.nss_parser.specs.Sentence.{IsFront, IsPlace, Parses}
+use Rattle.nss_parser.specs.Sentence.{IsDead, IsPrefix, IsPlace, Parses}
 use Rattle.nss_parser.specs.Fault.{Refuses}
 
--- a first part of a front is a front
-front_of_front : (xs ys : List Symbol) → IsFront (xs ++ ys) → IsFront xs
-front_of_front xs ys front = (ys ++ front.0, front.1, subst (λ (all : List Symbol). Parses all front.1) (append_assoc xs ys front.0) front.2)
+-- what is dead has no prefix of a unit that begins with it
+dead_prefix : (xs ys : List Symbol) → IsDead xs → IsPrefix (xs ++ ys) → ⊥
+dead_prefix xs ys dead prefix = dead (ys ++ prefix.more) prefix.tree (subst (λ (all : List Symbol). Parses all prefix.tree) (append_assoc xs ys prefix.more) prefix.parses)
 
-shorter_front : (tokens : List Symbol) (m n : ℕ) → m ≤ n → IsFront (take n tokens) → IsFront (take m tokens)
-shorter_front tokens m n le front =
+longer_prefix : (tokens : List Symbol) (m n : ℕ) → m ≤ n → IsDead (take m tokens) → IsPrefix (take n tokens) → ⊥
+longer_prefix tokens m n le dead prefix =
     let parts : take n tokens ≡ take m tokens ++ drop m (take n tokens) =
     sym (take-append-drop m (take n tokens)) ∙ ap (λ (first : List Symbol). first ++ drop m (take n tokens)) (take-take m n tokens le) in
-    front_of_front (take m tokens) (drop m (take n tokens)) (subst IsFront parts front)
+    dead_prefix (take m tokens) (drop m (take n tokens)) dead (subst IsPrefix parts prefix)
 
 -- no place stands before another
 not_before : (tokens : List Symbol) (i j : ℕ) → IsPlace tokens i → IsPlace tokens j → i < j → ⊥
 not_before tokens i j here there lt =
-    here.through (omega (arith, lt, there.within)) (shorter_front tokens (i + 1) j (omega (arith, lt)) there.front)
+    longer_prefix tokens (i + 1) j (omega (arith, lt)) (here.dead (omega (arith, lt, there.within))) there.prefix
 
 one_place : (tokens : List Symbol) (i j : ℕ) → IsPlace tokens i → IsPlace tokens j → i ≡ j
 one_place tokens i j here there =
@@ -59,7 +59,7 @@ one_refusal tokens (Nested i) (Syntax j) f g some more = absurd (not_within toke
 one_refusal tokens (Syntax i) (Nested j) f g some more = absurd (not_within tokens j g f.0)
 one_refusal tokens (Syntax i) (Syntax j) f g some more = ap Syntax (one_place tokens i j f.1 g.1)
 
-pub no_refusal_of_trees : (tokens : List Symbol) (x : PlainTree) (fault : ParseFault) → Parses tokens x → IsWithinNest tokens → Refuses tokens fault → fault ≡ NoMemory
+pub no_refusal_of_trees : (tokens : List Symbol) (x : SourceTree) (fault : ParseFault) → Parses tokens x → IsWithinNest tokens → Refuses tokens fault → fault ≡ NoMemory
 no_refusal_of_trees tokens x (Nested i) parses within refuses = absurd (not_within tokens i refuses within)
 no_refusal_of_trees tokens x (Syntax i) parses within refuses = absurd (refuses.1.none x parses)
 no_refusal_of_trees tokens x NoMemory parses within refuses = refl

@@ -1,6 +1,6 @@
 -- Why a list of tokens is refused.
 use Rattle.std.specs.Prelude.{◌≡◌, ◌≢◌, List}
-use Rattle.nss_tree.specs.Units.{PlainTree}
+use Rattle.nss_tree.specs.Source.{SourceTree}
 use Rattle.nss_parser.specs.declared.fault.ParseFault.{ParseFault}
 use Rattle.nss_parser.specs.declared.fault.ParseFault.TheVariants.{Nested, Syntax, NoMemory}
 use Rattle.nss_symbols.specs.Symbols.{Symbol}
@@ -25,4 +25,4 @@ OneRefusal = (tokens : List Symbol) (one other : ParseFault) → Refuses tokens 
 
 -- A list of tokens with a tree and within the nest is refused only for want of memory.
 abbrev pub NoRefusalOfTrees : Type 0
-NoRefusalOfTrees = (tokens : List Symbol) (x : PlainTree) (fault : ParseFault) → Parses tokens x → IsWithinNest tokens → Refuses tokens fault → fault ≡ NoMemory
+NoRefusalOfTrees = (tokens : List Symbol) (x : SourceTree) (fault : ParseFault) → Parses tokens x → IsWithinNest tokens → Refuses tokens fault → fault ≡ NoMemory

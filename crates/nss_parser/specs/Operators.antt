@@ -10,29 +10,29 @@ use Rattle.nss_tree.specs.declared.operators.AssignOperator.{AssignOperator}
 use Rattle.nss_tree.specs.declared.operators.AssignOperator.TheVariants as assign
 use Rattle.nss_tree.specs.declared.constants.TypeName.{TypeName}
 use Rattle.nss_tree.specs.declared.constants.TypeName.TheVariants as type
-use Rattle.nss_symbols.specs.declared.mark.Mark.{Mark}
-use Rattle.nss_symbols.specs.declared.mark.Mark.TheVariants as mark
+use Rattle.nss_symbols.specs.declared.terminal.Terminal.{Terminal}
+use Rattle.nss_symbols.specs.declared.terminal.Terminal.TheVariants as terminal
 
-abbrev pub binary_operator : Mark → Option BinaryOperator
-binary_operator mark.OrOr = Some binary.Or
-binary_operator mark.AndAnd = Some binary.And
-binary_operator mark.Or = Some binary.BitOr
-binary_operator mark.Xor = Some binary.BitXor
-binary_operator mark.And = Some binary.BitAnd
-binary_operator mark.Equal = Some binary.Equal
-binary_operator mark.NotEqual = Some binary.NotEqual
-binary_operator mark.GreaterEqual = Some binary.GreaterOrEqual
-binary_operator mark.Greater = Some binary.Greater
-binary_operator mark.Less = Some binary.Less
-binary_operator mark.LessEqual = Some binary.LessOrEqual
-binary_operator mark.ShiftLeft = Some binary.ShiftLeft
-binary_operator mark.ShiftRight = Some binary.ShiftRight
-binary_operator mark.ShiftRightUnsigned = Some binary.UnsignedShiftRight
-binary_operator mark.Plus = Some binary.Add
-binary_operator mark.Minus = Some binary.Subtract
-binary_operator mark.Star = Some binary.Multiply
-binary_operator mark.Slash = Some binary.Divide
-binary_operator mark.Percent = Some binary.Remainder
+abbrev pub binary_operator : Terminal → Option BinaryOperator
+binary_operator terminal.OrOr = Some binary.Or
+binary_operator terminal.AndAnd = Some binary.And
+binary_operator terminal.Or = Some binary.BitOr
+binary_operator terminal.Xor = Some binary.BitXor
+binary_operator terminal.And = Some binary.BitAnd
+binary_operator terminal.Equal = Some binary.Equal
+binary_operator terminal.NotEqual = Some binary.NotEqual
+binary_operator terminal.GreaterEqual = Some binary.GreaterOrEqual
+binary_operator terminal.Greater = Some binary.Greater
+binary_operator terminal.Less = Some binary.Less
+binary_operator terminal.LessEqual = Some binary.LessOrEqual
+binary_operator terminal.ShiftLeft = Some binary.ShiftLeft
+binary_operator terminal.ShiftRight = Some binary.ShiftRight
+binary_operator terminal.ShiftRightUnsigned = Some binary.UnsignedShiftRight
+binary_operator terminal.Plus = Some binary.Add
+binary_operator terminal.Minus = Some binary.Subtract
+binary_operator terminal.Star = Some binary.Multiply
+binary_operator terminal.Slash = Some binary.Divide
+binary_operator terminal.Percent = Some binary.Remainder
 binary_operator _ = None
 
 -- The level of an operator, 1 for the loosest; each level groups to the left.
@@ -61,46 +61,46 @@ level_of binary.Remainder = 10
 abbrev pub unary_level : ℕ
 unary_level = 11
 
-abbrev pub assign_operator : Mark → Option AssignOperator
-assign_operator mark.Assign = Some assign.Set
-assign_operator mark.PlusAssign = Some assign.Add
-assign_operator mark.MinusAssign = Some assign.Subtract
-assign_operator mark.StarAssign = Some assign.Multiply
-assign_operator mark.SlashAssign = Some assign.Divide
-assign_operator mark.PercentAssign = Some assign.Remainder
-assign_operator mark.AndAssign = Some assign.BitAnd
-assign_operator mark.OrAssign = Some assign.BitOr
-assign_operator mark.XorAssign = Some assign.BitXor
-assign_operator mark.ShiftLeftAssign = Some assign.ShiftLeft
-assign_operator mark.ShiftRightAssign = Some assign.ShiftRight
-assign_operator mark.ShiftRightUnsignedAssign = Some assign.UnsignedShiftRight
+abbrev pub assign_operator : Terminal → Option AssignOperator
+assign_operator terminal.Assign = Some assign.Set
+assign_operator terminal.PlusAssign = Some assign.Add
+assign_operator terminal.MinusAssign = Some assign.Subtract
+assign_operator terminal.StarAssign = Some assign.Multiply
+assign_operator terminal.SlashAssign = Some assign.Divide
+assign_operator terminal.PercentAssign = Some assign.Remainder
+assign_operator terminal.AndAssign = Some assign.BitAnd
+assign_operator terminal.OrAssign = Some assign.BitOr
+assign_operator terminal.XorAssign = Some assign.BitXor
+assign_operator terminal.ShiftLeftAssign = Some assign.ShiftLeft
+assign_operator terminal.ShiftRightAssign = Some assign.ShiftRight
+assign_operator terminal.ShiftRightUnsignedAssign = Some assign.UnsignedShiftRight
 assign_operator _ = None
 
-abbrev pub prefix_operator : Mark → Option PrefixOperator
-prefix_operator mark.Minus = Some prefix.Minus
-prefix_operator mark.Tilde = Some prefix.Complement
-prefix_operator mark.Not = Some prefix.Not
-prefix_operator mark.PlusPlus = Some prefix.Increment
-prefix_operator mark.MinusMinus = Some prefix.Decrement
+abbrev pub prefix_operator : Terminal → Option PrefixOperator
+prefix_operator terminal.Minus = Some prefix.Minus
+prefix_operator terminal.Tilde = Some prefix.Complement
+prefix_operator terminal.Not = Some prefix.Not
+prefix_operator terminal.PlusPlus = Some prefix.Increment
+prefix_operator terminal.MinusMinus = Some prefix.Decrement
 prefix_operator _ = None
 
-abbrev pub postfix_operator : Mark → Option PostfixOperator
-postfix_operator mark.PlusPlus = Some postfix.Increment
-postfix_operator mark.MinusMinus = Some postfix.Decrement
+abbrev pub postfix_operator : Terminal → Option PostfixOperator
+postfix_operator terminal.PlusPlus = Some postfix.Increment
+postfix_operator terminal.MinusMinus = Some postfix.Decrement
 postfix_operator _ = None
 
 -- the types that are one word
-abbrev pub type_word : Mark → Option TypeName
-type_word mark.Void = Some type.Void
-type_word mark.Int = Some type.Int
-type_word mark.Float = Some type.Float
-type_word mark.String = Some type.String
-type_word mark.Object = Some type.Object
-type_word mark.Vector = Some type.Vector
-type_word mark.Location = Some type.Location
-type_word mark.Effect = Some type.Effect
-type_word mark.Event = Some type.Event
-type_word mark.Talent = Some type.Talent
-type_word mark.ItemProperty = Some type.ItemProperty
-type_word mark.Action = Some type.Action
+abbrev pub type_word : Terminal → Option TypeName
+type_word terminal.Void = Some type.Void
+type_word terminal.Int = Some type.Int
+type_word terminal.Float = Some type.Float
+type_word terminal.String = Some type.String
+type_word terminal.Object = Some type.Object
+type_word terminal.Vector = Some type.Vector
+type_word terminal.Location = Some type.Location
+type_word terminal.Effect = Some type.Effect
+type_word terminal.Event = Some type.Event
+type_word terminal.Talent = Some type.Talent
+type_word terminal.ItemProperty = Some type.ItemProperty
+type_word terminal.Action = Some type.Action
 type_word _ = None

@@ -7,25 +7,25 @@ use Rattle.nss_tree.specs.declared.operators.BinaryOperator.{BinaryOperator}
 use Rattle.nss_tree.specs.declared.operators.AssignOperator.{AssignOperator}
 use Rattle.nss_tree.specs.Expressions as tree
 use Rattle.nss_tree.specs.Expressions.{PlainExpr, PlainExprs, joined_exprs}
-use Rattle.nss_symbols.specs.declared.mark.Mark.TheVariants as mark
+use Rattle.nss_symbols.specs.declared.terminal.Terminal.TheVariants as terminal
 use Rattle.nss_parser.specs.declared.operator.Suffix.{Suffix}
 use Rattle.nss_parser.specs.declared.operator.Suffix.TheVariants.{Member, Step}
 use Rattle.nss_symbols.specs.Symbols as symbol
-use Rattle.nss_symbols.specs.Symbols.{Symbol, Spot}
+use Rattle.nss_symbols.specs.Symbols.{Symbol, Numbered}
 use Rattle.nss_parser.specs.Operators.{binary_operator, level_of, unary_level, assign_operator, prefix_operator, postfix_operator}
-use Rattle.nss_symbols.specs.Outcome.{Parser, ◌>>=◌, pure, stuck, deep, take, peek, branch, choice, is_sign, expect, name}
+use Rattle.nss_symbols.specs.Outcome.{Parser, ◌>>=◌, pure, stuck, deep, take, peek, branch, choice, is_terminal, expect, name}
 
 -- what the next token is as an operator
 abbrev pub prefix_of : Option Symbol → Option PrefixOperator
-prefix_of (Some (symbol.Sign m)) = prefix_operator m
+prefix_of (Some (symbol.Fixed m)) = prefix_operator m
 prefix_of _ = None
 
 abbrev pub binary_of : Option Symbol → Option BinaryOperator
-binary_of (Some (symbol.Sign m)) = binary_operator m
+binary_of (Some (symbol.Fixed m)) = binary_operator m
 binary_of _ = None
 
 abbrev pub assign_of : Option Symbol → Option AssignOperator
-assign_of (Some (symbol.Sign m)) = assign_operator m
+assign_of (Some (symbol.Fixed m)) = assign_operator m
 assign_of _ = None
 
 abbrev pub step_of : Option PostfixOperator → Option Suffix
@@ -33,13 +33,17 @@ step_of (Some o) = Some (Step o)
 step_of None = None
 
 abbrev pub suffix_of : Option Symbol → Option Suffix
-suffix_of (Some (symbol.Sign mark.Dot)) = Some Member
-suffix_of (Some (symbol.Sign m)) = step_of (postfix_operator m)
+suffix_of (Some (symbol.Fixed terminal.Dot)) = Some Member
+suffix_of (Some (symbol.Fixed m)) = step_of (postfix_operator m)
 suffix_of _ = None
+
+-- a member, after its `.`
+abbrev pub member : ℕ → PlainExpr → Parser PlainExpr
+member n x = name >>= λ f. pure (tree.member n x f)
 
 -- one `.name`, `++` or `--` after an expression
 unfoldable pub suffix : Suffix → PlainExpr → Parser PlainExpr
-suffix Member x = take >>= λ n. name >>= λ f. pure (tree.member n x f)
+suffix Member x = take >>= λ n. member n x
 suffix (Step o) x = take >>= λ n. pure (tree.postfix n o x)
 
 abbrev pub suffixes_by : (PlainExpr → Parser PlainExpr) → PlainExpr → Option Suffix → Parser PlainExpr
@@ -53,7 +57,7 @@ suffixes (suc t) x = peek (λ o. suffixes_by (suffixes t) x (suffix_of o))
 
 module _ (d : ℕ) (level : ℕ → Parser PlainExpr) where
   abbrev pub after_argument : (PlainExprs → Parser PlainExprs) → PlainExprs → Parser PlainExprs
-  after_argument more all = choice (is_sign mark.Comma) (take >>= λ n. more all) (expect mark.Close >>= λ k. pure all)
+  after_argument more all = choice (is_terminal terminal.Comma) (take >>= λ n. more all) (expect terminal.Close >>= λ k. pure all)
 
   -- arguments up to `)`, after those read before
   abbrev pub arguments_from : ℕ → PlainExprs → Parser PlainExprs
@@ -61,20 +65,20 @@ module _ (d : ℕ) (level : ℕ → Parser PlainExpr) where
   arguments_from (suc t) before = level 0 >>= λ x. after_argument (arguments_from t) (joined_exprs before (tree.more_exprs x tree.no_expr))
 
   unfoldable pub arguments : Parser PlainExprs
-  arguments = choice (is_sign mark.Close) (take >>= λ k. pure tree.no_expr) (arguments_from d tree.no_expr)
+  arguments = choice (is_terminal terminal.Close) (take >>= λ k. pure tree.no_expr) (arguments_from d tree.no_expr)
 
   -- a name, or a call where `(` follows
   unfoldable pub after_name : ℕ → List ℕ → Parser PlainExpr
-  after_name n f = choice (is_sign mark.Open) (take >>= λ m. arguments >>= λ all. pure (tree.call n f all)) (pure (tree.name n f))
+  after_name n f = choice (is_terminal terminal.Open) (take >>= λ m. arguments >>= λ all. pure (tree.call n f all)) (pure (tree.name n f))
 
   abbrev pub primary_by : Option Symbol → Parser PlainExpr
   primary_by (Some (symbol.Int v)) = take >>= λ n. pure (tree.int n (cast_signed w32 v))
   primary_by (Some symbol.Float) = take >>= λ n. pure (tree.float n)
   primary_by (Some (symbol.Text bytes)) = take >>= λ n. pure (tree.text n bytes)
   primary_by (Some (symbol.Name f)) = take >>= λ n. after_name n f
-  primary_by (Some (symbol.Sign mark.ObjectSelf)) = take >>= λ n. pure (tree.object_self n)
-  primary_by (Some (symbol.Sign mark.ObjectInvalid)) = take >>= λ n. pure (tree.object_invalid n)
-  primary_by (Some (symbol.Sign mark.Open)) = take >>= λ m. level 0 >>= λ x. expect mark.Close >>= λ k. pure x
+  primary_by (Some (symbol.Fixed terminal.ObjectSelf)) = take >>= λ n. pure (tree.object_self n)
+  primary_by (Some (symbol.Fixed terminal.ObjectInvalid)) = take >>= λ n. pure (tree.object_invalid n)
+  primary_by (Some (symbol.Fixed terminal.Open)) = take >>= λ m. level 0 >>= λ x. expect terminal.Close >>= λ k. pure x
   primary_by _ = stuck
 
   unfoldable pub primary : Parser PlainExpr

@@ -9,28 +9,28 @@ ghost use Rattle.nss_symbols.specs.Cursor.{plain_symbol, Reads};
 
 use crate::expression::expression;
 use nss_lexer::literal;
-use nss_symbols::{Cursor, Mark, Seen, Stop, name_text};
+use nss_symbols::{Cursor, Terminal, Seen, Stop, name_text};
 use nss_tree::{Constant, DeclaredName, Identifier, TypeName};
 use nwq_value::{Items, NoMemory};
 use std::alloc::Global;
 
 /// The type that a word is by itself.
-fn type_word(mark: Mark) -> Option<TypeName>
-    ensures { result ≡ table.type_word mark }
+fn type_word(terminal: Terminal) -> Option<TypeName>
+    ensures { result ≡ table.type_word terminal }
 {
-    match mark {
-        Mark::Void => Some(TypeName::Void),
-        Mark::Int => Some(TypeName::Int),
-        Mark::Float => Some(TypeName::Float),
-        Mark::String => Some(TypeName::String),
-        Mark::Object => Some(TypeName::Object),
-        Mark::Vector => Some(TypeName::Vector),
-        Mark::Location => Some(TypeName::Location),
-        Mark::Effect => Some(TypeName::Effect),
-        Mark::Event => Some(TypeName::Event),
-        Mark::Talent => Some(TypeName::Talent),
-        Mark::ItemProperty => Some(TypeName::ItemProperty),
-        Mark::Action => Some(TypeName::Action),
+    match terminal {
+        Terminal::Void => Some(TypeName::Void),
+        Terminal::Int => Some(TypeName::Int),
+        Terminal::Float => Some(TypeName::Float),
+        Terminal::String => Some(TypeName::String),
+        Terminal::Object => Some(TypeName::Object),
+        Terminal::Vector => Some(TypeName::Vector),
+        Terminal::Location => Some(TypeName::Location),
+        Terminal::Effect => Some(TypeName::Effect),
+        Terminal::Event => Some(TypeName::Event),
+        Terminal::Talent => Some(TypeName::Talent),
+        Terminal::ItemProperty => Some(TypeName::ItemProperty),
+        Terminal::Action => Some(TypeName::Action),
         _ => None,
     }
 }
@@ -40,16 +40,16 @@ fn word_of(next: Option<Seen<'_>>) -> Option<TypeName>
     ensures { result ≡ read.word_of (option_map plain_symbol next.entry) }
 {
     match next {
-        Some(Seen::Sign(mark)) => type_word(mark),
+        Some(Seen::Fixed(terminal)) => type_word(terminal),
         _ => None,
     }
 }
 
 /// Whether a word is a type by itself.
-fn is_type(mark: Mark) -> bool
-    ensures { result ≡ is_some_type (table.type_word mark) }
+fn is_type(terminal: Terminal) -> bool
+    ensures { result ≡ is_some_type (table.type_word terminal) }
 {
-    match type_word(mark) {
+    match type_word(terminal) {
         Some(_) => true,
         None => false,
     }
@@ -60,8 +60,8 @@ pub fn begins_type(next: Option<Seen<'_>>) -> bool
     ensures { result ≡ type_begins (option_map plain_symbol next.entry) }
 {
     match next {
-        Some(Seen::Sign(Mark::Struct)) => true,
-        Some(Seen::Sign(mark)) => is_type(mark),
+        Some(Seen::Fixed(Terminal::Struct)) => true,
+        Some(Seen::Fixed(terminal)) => is_type(terminal),
         _ => false,
     }
 }
@@ -77,7 +77,7 @@ fn type_name(alloc: Global, tokens: &mut Cursor<'_>) -> Result<TypeName, Stop>
             Ok(ty)
         }
         None => {
-            tokens.expect(Mark::Struct)?;
+            tokens.expect(Terminal::Struct)?;
             let name = tokens.name(alloc)?;
             Ok(TypeName::Struct(name))
         }
@@ -141,15 +141,15 @@ pub fn constant_value(alloc: Global, tokens: &mut Cursor<'_>) -> Result<Constant
             let name = name_text(alloc, bytes)?;
             Ok(Constant::Name { token, name })
         }
-        Some(Seen::Sign(Mark::ObjectSelf)) => {
+        Some(Seen::Fixed(Terminal::ObjectSelf)) => {
             let token = tokens.take()?;
             Ok(Constant::ObjectSelf { token })
         }
-        Some(Seen::Sign(Mark::ObjectInvalid)) => {
+        Some(Seen::Fixed(Terminal::ObjectInvalid)) => {
             let token = tokens.take()?;
             Ok(Constant::ObjectInvalid { token })
         }
-        Some(Seen::Sign(Mark::Minus)) => {
+        Some(Seen::Fixed(Terminal::Minus)) => {
             tokens.take()?;
             negated(tokens)
         }
@@ -178,12 +178,20 @@ pub fn declared_after(
     ensures { Reads plain_name (read.declared_after depth of tokens.old) result tokens.new }
 {
     let Identifier { token, name } = of;
-    if tokens.sees(Mark::Assign) {
+    if tokens.sees(Terminal::Assign) {
         tokens.take()?;
         let value = expression(alloc, tokens, depth)?;
-        Ok(DeclaredName::new(token, name, Some(value)))
+        Ok(DeclaredName {
+            token,
+            name,
+            value: Some(value),
+        })
     } else {
-        Ok(DeclaredName::new(token, name, None))
+        Ok(DeclaredName {
+            token,
+            name,
+            value: None,
+        })
     }
 }
 
@@ -208,7 +216,7 @@ pub fn more_declared(
     let mut all = Items::new(alloc);
     push_name(&mut all, first)?;
     for _turn in 0..depth {
-        if !tokens.sees(Mark::Comma) {
+        if !tokens.sees(Terminal::Comma) {
             return Ok(all);
         }
         tokens.take()?;

@@ -6,7 +6,7 @@ ghost use Rattle.nss_symbols.specs.Cursor.{Reads};
 
 use crate::operator::{Suffix, assign_of, binary_of, level_of, prefix_of, suffix_of};
 use nss_lexer::literal;
-use nss_symbols::{Cursor, Mark, Seen, Stop, name_text};
+use nss_symbols::{Cursor, Terminal, Seen, Stop, name_text};
 use nss_tree::{BinaryOperator, Expr};
 use nwq_value::{Items, NoMemory, Text};
 use std::alloc::Global;
@@ -14,21 +14,38 @@ use std::alloc::Global;
 /// The level after the tightest operators.
 const UNARY_LEVEL: u32 = 11;
 
+/// A member of an expression, after its `.`.
+fn member(
+    alloc: Global,
+    tokens: &mut Cursor<'_>,
+    number: u32,
+    of: Expr,
+) -> Result<Expr, Stop>
+    ensures { Reads plain_expr (read.member number (plain_expr of) tokens.old) result tokens.new }
+{
+    match tokens.name(alloc) {
+        Err(stop) => {
+            drop(of);
+            Err(stop)
+        }
+        Ok(name) => Ok(Expr::member(alloc, number, of, name)?),
+    }
+}
+
 /// One `.name`, `++` or `--` after an expression.
 #[tactic(auto, unfolding(crate::specs::ReadExpression::suffix))]
 fn suffix(alloc: Global, tokens: &mut Cursor<'_>, kind: Suffix, of: Expr) -> Result<Expr, Stop>
     ensures { Reads plain_expr (read.suffix kind (plain_expr of) tokens.old) result tokens.new }
 {
-    match kind {
-        Suffix::Member => {
-            let number = tokens.take()?;
-            let name = tokens.name(alloc)?;
-            Ok(Expr::member(alloc, number, of, name)?)
+    match tokens.take() {
+        Err(misfit) => {
+            drop(of);
+            Err(Stop::from(misfit))
         }
-        Suffix::Step(operator) => {
-            let number = tokens.take()?;
-            Ok(Expr::postfix(alloc, number, operator, of)?)
-        }
+        Ok(number) => match kind {
+            Suffix::Member => member(alloc, tokens, number, of),
+            Suffix::Step(operator) => Ok(Expr::postfix(alloc, number, operator, of)?),
+        },
     }
 }
 
@@ -48,7 +65,7 @@ fn suffixes(alloc: Global, tokens: &mut Cursor<'_>, depth: usize, of: Expr) -> R
 }
 
 /// No expressions.
-#[tactic(auto, using(nss_tree::proofs::ReadingLaws::plain_exprs_none))]
+#[tactic(auto, using(nss_tree::specs::Readings::plain_exprs_none))]
 fn no_exprs(alloc: Global) -> Items<Expr>
     ensures { plain_exprs result ≡ tree.no_expr }
 {
@@ -56,7 +73,7 @@ fn no_exprs(alloc: Global) -> Items<Expr>
 }
 
 /// One more expression at the end.
-#[tactic(auto, using(nss_tree::proofs::ReadingLaws::plain_exprs_push))]
+#[tactic(auto, using(nss_tree::specs::Readings::plain_exprs_push))]
 fn push_expr(all: &mut Items<Expr>, next: Expr) -> Result<(), NoMemory>
     ensures { IfOk result (λ _. plain_exprs all.new ≡ tree.joined_exprs (plain_exprs all.old) (tree.more_exprs (plain_expr next) tree.no_expr)) }
 {
@@ -72,10 +89,10 @@ fn some_arguments(alloc: Global, tokens: &mut Cursor<'_>, depth: usize) -> Resul
     for _turn in 0..depth {
         let argument = level(alloc, tokens, depth, 0)?;
         push_expr(&mut all, argument)?;
-        if tokens.sees(Mark::Comma) {
+        if tokens.sees(Terminal::Comma) {
             tokens.take()?;
         } else {
-            tokens.expect(Mark::Close)?;
+            tokens.expect(Terminal::Close)?;
             return Ok(all);
         }
     }
@@ -88,7 +105,7 @@ fn some_arguments(alloc: Global, tokens: &mut Cursor<'_>, depth: usize) -> Resul
 fn arguments(alloc: Global, tokens: &mut Cursor<'_>, depth: usize) -> Result<Items<Expr>, Stop>
     ensures { Reads plain_exprs (read.arguments depth (read.level depth) tokens.old) result tokens.new }
 {
-    if tokens.sees(Mark::Close) {
+    if tokens.sees(Terminal::Close) {
         tokens.take()?;
         Ok(no_exprs(alloc))
     } else {
@@ -108,7 +125,7 @@ fn after_name(
 ) -> Result<Expr, Stop>
     ensures { Reads plain_expr (read.after_name depth (read.level depth) number name tokens.old) result tokens.new }
 {
-    if tokens.sees(Mark::Open) {
+    if tokens.sees(Terminal::Open) {
         tokens.take()?;
         let arguments = arguments(alloc, tokens, depth)?;
         Ok(Expr::call(number, name, arguments))
@@ -141,19 +158,24 @@ fn primary(alloc: Global, tokens: &mut Cursor<'_>, depth: usize) -> Result<Expr,
             let name = name_text(alloc, bytes)?;
             after_name(alloc, tokens, depth, number, name)
         }
-        Some(Seen::Sign(Mark::ObjectSelf)) => {
+        Some(Seen::Fixed(Terminal::ObjectSelf)) => {
             let number = tokens.take()?;
             Ok(Expr::object_self(number))
         }
-        Some(Seen::Sign(Mark::ObjectInvalid)) => {
+        Some(Seen::Fixed(Terminal::ObjectInvalid)) => {
             let number = tokens.take()?;
             Ok(Expr::object_invalid(number))
         }
-        Some(Seen::Sign(Mark::Open)) => {
+        Some(Seen::Fixed(Terminal::Open)) => {
             tokens.take()?;
             let inner = level(alloc, tokens, depth, 0)?;
-            tokens.expect(Mark::Close)?;
-            Ok(inner)
+            match tokens.expect(Terminal::Close) {
+                Err(misfit) => {
+                    drop(inner);
+                    Err(Stop::from(misfit))
+                }
+                Ok(_) => Ok(inner),
+            }
         }
         _ => Err(Stop::Syntax),
     }
@@ -191,8 +213,13 @@ fn operation(
     ensures { Reads plain_expr (read.operation depth (read.level depth) operator (plain_expr left) tokens.old) result tokens.new }
 {
     let number = tokens.take()?;
-    let right = level(alloc, tokens, depth, level_of(operator) + 1)?;
-    Ok(Expr::binary(alloc, number, operator, left, right)?)
+    match level(alloc, tokens, depth, level_of(operator) + 1) {
+        Err(stop) => {
+            drop(left);
+            Err(stop)
+        }
+        Ok(right) => Ok(Expr::binary(alloc, number, operator, left, right)?),
+    }
 }
 
 /// The operators from a level on, after a left operand.
@@ -229,8 +256,13 @@ fn assigned(alloc: Global, tokens: &mut Cursor<'_>, depth: usize, left: Expr) ->
     match assign_of(tokens.peek()) {
         Some(operator) => {
             let number = tokens.take()?;
-            let value = level(alloc, tokens, depth, 0)?;
-            Ok(Expr::assign(alloc, number, operator, left, value)?)
+            match level(alloc, tokens, depth, 0) {
+                Err(stop) => {
+                    drop(left);
+                    Err(stop)
+                }
+                Ok(value) => Ok(Expr::assign(alloc, number, operator, left, value)?),
+            }
         }
         None => climb(alloc, tokens, depth, 0, left),
     }

@@ -1,11 +1,16 @@
 //! Laws of the grammar, each the contract of a function that does nothing.
 
 ghost use Rattle.nss_parser.specs.Fault.{NoRefusalOfTrees, OneRefusal};
-ghost use Rattle.nss_parser.specs.Sentence.{OneTree};
+ghost use Rattle.nss_parser.specs.Sentence.{OneTree, TreeOrPlace};
 
 /// A list of tokens has at most one tree.
 pub fn one_tree()
     ensures { OneTree }
+{}
+
+/// A list of tokens has a tree, or a place where it can have none.
+pub fn tree_or_place()
+    ensures { TreeOrPlace }
 {}
 
 /// A list of tokens is refused for one reason, and one that has a tree and nests within the limit for none, want of

@@ -17,6 +17,3 @@ mod unit;
 
 pub use fault::ParseFault;
 pub use reader::parse;
-
-#[cfg(test)]
-mod tests;

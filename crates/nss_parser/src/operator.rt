@@ -4,40 +4,40 @@ ghost use Rattle.nss_parser.specs.Operators as table;
 ghost use Rattle.nss_parser.specs.ReadExpression as read;
 ghost use Rattle.nss_symbols.specs.Cursor.{plain_symbol};
 
-use nss_symbols::{Mark, Seen};
+use nss_symbols::{Terminal, Seen};
 use nss_tree::{AssignOperator, BinaryOperator, PostfixOperator, PrefixOperator};
 
 /// What may go on an expression after it: a `.` with a name, or an operator.
-#[derive(Clone, Copy, Debug, PartialEq, Eq)]
+#[derive(Clone, Copy)]
 pub enum Suffix {
     Member,
     Step(PostfixOperator),
 }
 
-/// The operator between two operands that a mark is.
-fn binary_operator(mark: Mark) -> Option<BinaryOperator>
-    ensures { result ≡ table.binary_operator mark }
+/// The operator between two operands that a terminal is.
+fn binary_operator(terminal: Terminal) -> Option<BinaryOperator>
+    ensures { result ≡ table.binary_operator terminal }
 {
-    match mark {
-        Mark::OrOr => Some(BinaryOperator::Or),
-        Mark::AndAnd => Some(BinaryOperator::And),
-        Mark::Or => Some(BinaryOperator::BitOr),
-        Mark::Xor => Some(BinaryOperator::BitXor),
-        Mark::And => Some(BinaryOperator::BitAnd),
-        Mark::Equal => Some(BinaryOperator::Equal),
-        Mark::NotEqual => Some(BinaryOperator::NotEqual),
-        Mark::GreaterEqual => Some(BinaryOperator::GreaterOrEqual),
-        Mark::Greater => Some(BinaryOperator::Greater),
-        Mark::Less => Some(BinaryOperator::Less),
-        Mark::LessEqual => Some(BinaryOperator::LessOrEqual),
-        Mark::ShiftLeft => Some(BinaryOperator::ShiftLeft),
-        Mark::ShiftRight => Some(BinaryOperator::ShiftRight),
-        Mark::ShiftRightUnsigned => Some(BinaryOperator::UnsignedShiftRight),
-        Mark::Plus => Some(BinaryOperator::Add),
-        Mark::Minus => Some(BinaryOperator::Subtract),
-        Mark::Star => Some(BinaryOperator::Multiply),
-        Mark::Slash => Some(BinaryOperator::Divide),
-        Mark::Percent => Some(BinaryOperator::Remainder),
+    match terminal {
+        Terminal::OrOr => Some(BinaryOperator::Or),
+        Terminal::AndAnd => Some(BinaryOperator::And),
+        Terminal::Or => Some(BinaryOperator::BitOr),
+        Terminal::Xor => Some(BinaryOperator::BitXor),
+        Terminal::And => Some(BinaryOperator::BitAnd),
+        Terminal::Equal => Some(BinaryOperator::Equal),
+        Terminal::NotEqual => Some(BinaryOperator::NotEqual),
+        Terminal::GreaterEqual => Some(BinaryOperator::GreaterOrEqual),
+        Terminal::Greater => Some(BinaryOperator::Greater),
+        Terminal::Less => Some(BinaryOperator::Less),
+        Terminal::LessEqual => Some(BinaryOperator::LessOrEqual),
+        Terminal::ShiftLeft => Some(BinaryOperator::ShiftLeft),
+        Terminal::ShiftRight => Some(BinaryOperator::ShiftRight),
+        Terminal::ShiftRightUnsigned => Some(BinaryOperator::UnsignedShiftRight),
+        Terminal::Plus => Some(BinaryOperator::Add),
+        Terminal::Minus => Some(BinaryOperator::Subtract),
+        Terminal::Star => Some(BinaryOperator::Multiply),
+        Terminal::Slash => Some(BinaryOperator::Divide),
+        Terminal::Percent => Some(BinaryOperator::Remainder),
         _ => None,
     }
 }
@@ -65,48 +65,48 @@ pub fn level_of(operator: BinaryOperator) -> u32
     }
 }
 
-/// The operator that writes its left operand that a mark is.
-fn assign_operator(mark: Mark) -> Option<AssignOperator>
-    ensures { result ≡ table.assign_operator mark }
+/// The operator that writes its left operand that a terminal is.
+fn assign_operator(terminal: Terminal) -> Option<AssignOperator>
+    ensures { result ≡ table.assign_operator terminal }
 {
-    match mark {
-        Mark::Assign => Some(AssignOperator::Set),
-        Mark::PlusAssign => Some(AssignOperator::Add),
-        Mark::MinusAssign => Some(AssignOperator::Subtract),
-        Mark::StarAssign => Some(AssignOperator::Multiply),
-        Mark::SlashAssign => Some(AssignOperator::Divide),
-        Mark::PercentAssign => Some(AssignOperator::Remainder),
-        Mark::AndAssign => Some(AssignOperator::BitAnd),
-        Mark::OrAssign => Some(AssignOperator::BitOr),
-        Mark::XorAssign => Some(AssignOperator::BitXor),
-        Mark::ShiftLeftAssign => Some(AssignOperator::ShiftLeft),
-        Mark::ShiftRightAssign => Some(AssignOperator::ShiftRight),
-        Mark::ShiftRightUnsignedAssign => Some(AssignOperator::UnsignedShiftRight),
+    match terminal {
+        Terminal::Assign => Some(AssignOperator::Set),
+        Terminal::PlusAssign => Some(AssignOperator::Add),
+        Terminal::MinusAssign => Some(AssignOperator::Subtract),
+        Terminal::StarAssign => Some(AssignOperator::Multiply),
+        Terminal::SlashAssign => Some(AssignOperator::Divide),
+        Terminal::PercentAssign => Some(AssignOperator::Remainder),
+        Terminal::AndAssign => Some(AssignOperator::BitAnd),
+        Terminal::OrAssign => Some(AssignOperator::BitOr),
+        Terminal::XorAssign => Some(AssignOperator::BitXor),
+        Terminal::ShiftLeftAssign => Some(AssignOperator::ShiftLeft),
+        Terminal::ShiftRightAssign => Some(AssignOperator::ShiftRight),
+        Terminal::ShiftRightUnsignedAssign => Some(AssignOperator::UnsignedShiftRight),
         _ => None,
     }
 }
 
-/// The operator before its operand that a mark is.
-fn prefix_operator(mark: Mark) -> Option<PrefixOperator>
-    ensures { result ≡ table.prefix_operator mark }
+/// The operator before its operand that a terminal is.
+fn prefix_operator(terminal: Terminal) -> Option<PrefixOperator>
+    ensures { result ≡ table.prefix_operator terminal }
 {
-    match mark {
-        Mark::Minus => Some(PrefixOperator::Minus),
-        Mark::Tilde => Some(PrefixOperator::Complement),
-        Mark::Not => Some(PrefixOperator::Not),
-        Mark::PlusPlus => Some(PrefixOperator::Increment),
-        Mark::MinusMinus => Some(PrefixOperator::Decrement),
+    match terminal {
+        Terminal::Minus => Some(PrefixOperator::Minus),
+        Terminal::Tilde => Some(PrefixOperator::Complement),
+        Terminal::Not => Some(PrefixOperator::Not),
+        Terminal::PlusPlus => Some(PrefixOperator::Increment),
+        Terminal::MinusMinus => Some(PrefixOperator::Decrement),
         _ => None,
     }
 }
 
-/// The operator after its operand that a mark is.
-fn postfix_operator(mark: Mark) -> Option<PostfixOperator>
-    ensures { result ≡ table.postfix_operator mark }
+/// The operator after its operand that a terminal is.
+fn postfix_operator(terminal: Terminal) -> Option<PostfixOperator>
+    ensures { result ≡ table.postfix_operator terminal }
 {
-    match mark {
-        Mark::PlusPlus => Some(PostfixOperator::Increment),
-        Mark::MinusMinus => Some(PostfixOperator::Decrement),
+    match terminal {
+        Terminal::PlusPlus => Some(PostfixOperator::Increment),
+        Terminal::MinusMinus => Some(PostfixOperator::Decrement),
         _ => None,
     }
 }
@@ -116,7 +116,7 @@ pub fn binary_of(next: Option<Seen<'_>>) -> Option<BinaryOperator>
     ensures { result ≡ read.binary_of (option_map plain_symbol next.entry) }
 {
     match next {
-        Some(Seen::Sign(mark)) => binary_operator(mark),
+        Some(Seen::Fixed(terminal)) => binary_operator(terminal),
         _ => None,
     }
 }
@@ -126,7 +126,7 @@ pub fn assign_of(next: Option<Seen<'_>>) -> Option<AssignOperator>
     ensures { result ≡ read.assign_of (option_map plain_symbol next.entry) }
 {
     match next {
-        Some(Seen::Sign(mark)) => assign_operator(mark),
+        Some(Seen::Fixed(terminal)) => assign_operator(terminal),
         _ => None,
     }
 }
@@ -136,7 +136,7 @@ pub fn prefix_of(next: Option<Seen<'_>>) -> Option<PrefixOperator>
     ensures { result ≡ read.prefix_of (option_map plain_symbol next.entry) }
 {
     match next {
-        Some(Seen::Sign(mark)) => prefix_operator(mark),
+        Some(Seen::Fixed(terminal)) => prefix_operator(terminal),
         _ => None,
     }
 }
@@ -146,8 +146,8 @@ pub fn suffix_of(next: Option<Seen<'_>>) -> Option<Suffix>
     ensures { result ≡ read.suffix_of (option_map plain_symbol next.entry) }
 {
     match next {
-        Some(Seen::Sign(Mark::Dot)) => Some(Suffix::Member),
-        Some(Seen::Sign(mark)) => match postfix_operator(mark) {
+        Some(Seen::Fixed(Terminal::Dot)) => Some(Suffix::Member),
+        Some(Seen::Fixed(terminal)) => match postfix_operator(terminal) {
             Some(operator) => Some(Suffix::Step(operator)),
             None => None,
         },

@@ -24,7 +24,10 @@ fn tree_of(alloc: Global, symbols: &[Seen<'_>]) -> Result<Tree, ParseFault>
 {
     let mut cursor = Cursor::new(symbols);
     match unit(alloc, &mut cursor, symbols.len() + 2) {
-        Ok(tree) => Ok(tree),
+        Ok(items) => Ok(Tree {
+            items,
+            count: symbols.len() as u32,
+        }),
         Err(Stop::NoMemory) => Err(ParseFault::NoMemory),
         Err(Stop::Syntax) => {
             let passed = symbols.len() - cursor.left();

@@ -4,11 +4,12 @@ ghost use Rattle.nss_tree.specs.Statements as tree;
 ghost use Rattle.nss_tree.specs.Reading.{plain_expr, plain_stmt, plain_stmts};
 ghost use Rattle.nss_parser.specs.ReadStatement as read;
 ghost use Rattle.nss_parser.specs.ReadParts as parts;
+ghost use Rattle.nss_parser.specs.ReadParts.{plain_head};
 ghost use Rattle.nss_symbols.specs.Cursor.{Reads};
 
 use crate::declaration::{begins_type, constant_value, declared_names, typed};
 use crate::expression::expression;
-use nss_symbols::{Cursor, Mark, Seen, Stop};
+use nss_symbols::{Cursor, Terminal, Seen, Stop};
 use nss_tree::{Expr, Stmt};
 use nwq_value::{Items, NoMemory};
 use std::alloc::Global;
@@ -18,10 +19,15 @@ use std::alloc::Global;
 fn condition(alloc: Global, tokens: &mut Cursor<'_>, depth: usize) -> Result<Expr, Stop>
     ensures { Reads plain_expr (read.condition depth tokens.old) result tokens.new }
 {
-    tokens.expect(Mark::Open)?;
+    tokens.expect(Terminal::Open)?;
     let value = expression(alloc, tokens, depth)?;
-    tokens.expect(Mark::Close)?;
-    Ok(value)
+    match tokens.expect(Terminal::Close) {
+        Err(misfit) => {
+            drop(value);
+            Err(Stop::from(misfit))
+        }
+        Ok(_) => Ok(value),
+    }
 }
 
 /// An expression, or none where the token that ends it comes next.
@@ -30,7 +36,7 @@ fn optional(
     alloc: Global,
     tokens: &mut Cursor<'_>,
     depth: usize,
-    end: Mark,
+    end: Terminal,
 ) -> Result<Option<Expr>, Stop>
     ensures { Reads (option_map plain_expr) (read.optional depth end tokens.old) result tokens.new }
 {
@@ -49,7 +55,7 @@ fn declaration(alloc: Global, tokens: &mut Cursor<'_>, depth: usize) -> Result<S
 {
     let (number, ty) = typed(alloc, tokens)?;
     let names = declared_names(alloc, tokens, depth)?;
-    tokens.expect(Mark::Semicolon)?;
+    tokens.expect(Terminal::Semicolon)?;
     Ok(Stmt::declaration(number, ty, names))
 }
 
@@ -60,7 +66,7 @@ fn case_label(alloc: Global, tokens: &mut Cursor<'_>) -> Result<Stmt, Stop>
 {
     let number = tokens.take()?;
     let value = constant_value(alloc, tokens)?;
-    tokens.expect(Mark::Colon)?;
+    tokens.expect(Terminal::Colon)?;
     Ok(Stmt::case_label(number, value))
 }
 
@@ -70,7 +76,7 @@ fn default_label(tokens: &mut Cursor<'_>) -> Result<Stmt, Stop>
     ensures { Reads plain_stmt (read.default_label tokens.old) result tokens.new }
 {
     let number = tokens.take()?;
-    tokens.expect(Mark::Colon)?;
+    tokens.expect(Terminal::Colon)?;
     Ok(Stmt::default_label(number))
 }
 
@@ -81,7 +87,7 @@ fn expression_statement(alloc: Global, tokens: &mut Cursor<'_>, depth: usize) ->
 {
     let number = tokens.here()?;
     let value = expression(alloc, tokens, depth)?;
-    tokens.expect(Mark::Semicolon)?;
+    tokens.expect(Terminal::Semicolon)?;
     Ok(Stmt::expression(number, value))
 }
 
@@ -91,7 +97,7 @@ fn break_statement(tokens: &mut Cursor<'_>) -> Result<Stmt, Stop>
     ensures { Reads plain_stmt (read.break_statement tokens.old) result tokens.new }
 {
     let number = tokens.take()?;
-    tokens.expect(Mark::Semicolon)?;
+    tokens.expect(Terminal::Semicolon)?;
     Ok(Stmt::break_off(number))
 }
 
@@ -101,7 +107,7 @@ fn continue_statement(tokens: &mut Cursor<'_>) -> Result<Stmt, Stop>
     ensures { Reads plain_stmt (read.continue_statement tokens.old) result tokens.new }
 {
     let number = tokens.take()?;
-    tokens.expect(Mark::Semicolon)?;
+    tokens.expect(Terminal::Semicolon)?;
     Ok(Stmt::continue_on(number))
 }
 
@@ -111,13 +117,13 @@ fn return_statement(alloc: Global, tokens: &mut Cursor<'_>, depth: usize) -> Res
     ensures { Reads plain_stmt (read.return_statement depth tokens.old) result tokens.new }
 {
     let number = tokens.take()?;
-    let value = optional(alloc, tokens, depth, Mark::Semicolon)?;
-    tokens.expect(Mark::Semicolon)?;
+    let value = optional(alloc, tokens, depth, Terminal::Semicolon)?;
+    tokens.expect(Terminal::Semicolon)?;
     Ok(Stmt::return_from(number, value))
 }
 
 /// No entries.
-#[tactic(auto, using(nss_tree::proofs::ReadingLaws::plain_stmts_none))]
+#[tactic(auto, using(nss_tree::specs::Readings::map_stmts_none))]
 fn no_stmts(alloc: Global) -> Items<Stmt>
     ensures { plain_stmts result ≡ tree.no_stmt }
 {
@@ -125,7 +131,7 @@ fn no_stmts(alloc: Global) -> Items<Stmt>
 }
 
 /// One more entry at the end.
-#[tactic(auto, using(nss_tree::proofs::ReadingLaws::plain_stmts_push))]
+#[tactic(auto, using(nss_tree::specs::Readings::map_stmts_push))]
 fn push_stmt(all: &mut Items<Stmt>, next: Stmt) -> Result<(), NoMemory>
     ensures { IfOk result (λ _. plain_stmts all.new ≡ tree.joined_stmts (plain_stmts all.old) (tree.more_stmts (plain_stmt next) tree.no_stmt)) }
 {
@@ -138,9 +144,9 @@ fn push_stmt(all: &mut Items<Stmt>, next: Stmt) -> Result<(), NoMemory>
 fn labelled(alloc: Global, tokens: &mut Cursor<'_>, depth: usize) -> Result<Stmt, Stop>
     ensures { Reads plain_stmt (read.labelled depth (read.statement depth) tokens.old) result tokens.new }
 {
-    if tokens.sees(Mark::Case) {
+    if tokens.sees(Terminal::Case) {
         case_label(alloc, tokens)
-    } else if tokens.sees(Mark::Default) {
+    } else if tokens.sees(Terminal::Default) {
         default_label(tokens)
     } else {
         statement(alloc, tokens, depth)
@@ -175,7 +181,7 @@ pub fn entries(
 {
     let mut all = no_stmts(alloc);
     for _turn in 0..depth {
-        if tokens.sees(Mark::CloseBrace) {
+        if tokens.sees(Terminal::CloseBrace) {
             tokens.take()?;
             return Ok(all);
         }
@@ -191,7 +197,7 @@ pub fn entries(
 fn else_part(alloc: Global, tokens: &mut Cursor<'_>, depth: usize) -> Result<Option<Stmt>, Stop>
     ensures { Reads (option_map plain_stmt) (parts.else_part (read.statement depth) tokens.old) result tokens.new }
 {
-    if tokens.sees(Mark::Else) {
+    if tokens.sees(Terminal::Else) {
         tokens.take()?;
         let otherwise = statement(alloc, tokens, depth)?;
         Ok(Some(otherwise))
@@ -229,8 +235,14 @@ fn if_rest(
 ) -> Result<Stmt, Stop>
     ensures { Reads plain_stmt (parts.if_rest (read.statement depth) number (plain_expr condition) (plain_stmt then) tokens.old) result tokens.new }
 {
-    let otherwise = else_part(alloc, tokens, depth)?;
-    Ok(if_of(alloc, number, condition, then, otherwise)?)
+    match else_part(alloc, tokens, depth) {
+        Err(stop) => {
+            drop(then);
+            drop(condition);
+            Err(stop)
+        }
+        Ok(otherwise) => Ok(if_of(alloc, number, condition, then, otherwise)?),
+    }
 }
 
 /// `if`, with an `else` or none.
@@ -262,9 +274,9 @@ fn while_statement(alloc: Global, tokens: &mut Cursor<'_>, depth: usize) -> Resu
 fn do_end(alloc: Global, tokens: &mut Cursor<'_>, depth: usize) -> Result<Expr, Stop>
     ensures { Reads plain_expr (parts.do_end depth tokens.old) result tokens.new }
 {
-    tokens.expect(Mark::While)?;
+    tokens.expect(Terminal::While)?;
     let value = condition(alloc, tokens, depth)?;
-    tokens.expect(Mark::Semicolon)?;
+    tokens.expect(Terminal::Semicolon)?;
     Ok(value)
 }
 
@@ -279,8 +291,13 @@ fn do_rest(
 ) -> Result<Stmt, Stop>
     ensures { Reads plain_stmt (parts.do_rest depth number (plain_stmt body) tokens.old) result tokens.new }
 {
-    let value = do_end(alloc, tokens, depth)?;
-    Ok(Stmt::do_loop(alloc, number, body, value)?)
+    match do_end(alloc, tokens, depth) {
+        Err(stop) => {
+            drop(body);
+            Err(stop)
+        }
+        Ok(value) => Ok(Stmt::do_loop(alloc, number, body, value)?),
+    }
 }
 
 /// `do`, with its `while` after the body.
@@ -294,22 +311,88 @@ fn do_statement(alloc: Global, tokens: &mut Cursor<'_>, depth: usize) -> Result<
     do_rest(alloc, tokens, depth, number, inner)
 }
 
+/// The three parts in the head of a `for`, each of which may be left out.
+#[derive(Drop)]
+pub struct ForHead<E = Expr> {
+    pub start: Option<E>,
+    pub condition: Option<E>,
+    pub step: Option<E>,
+}
+
+/// A part in the head of a `for`, and the token that ends it.
+#[tactic(auto, unfolding(crate::specs::ReadParts::for_part))]
+fn for_part(
+    alloc: Global,
+    tokens: &mut Cursor<'_>,
+    depth: usize,
+    end: Terminal,
+) -> Result<Option<Expr>, Stop>
+    ensures { Reads (option_map plain_expr) (parts.for_part depth end tokens.old) result tokens.new }
+{
+    let value = optional(alloc, tokens, depth, end)?;
+    match tokens.expect(end) {
+        Err(misfit) => {
+            drop(value);
+            Err(Stop::from(misfit))
+        }
+        Ok(_) => Ok(value),
+    }
+}
+
+/// The head of a `for`, from its `(` through its `)`.
+#[tactic(auto, unfolding(crate::specs::ReadParts::for_head))]
+fn for_head(alloc: Global, tokens: &mut Cursor<'_>, depth: usize) -> Result<ForHead, Stop>
+    ensures { Reads plain_head (parts.for_head depth tokens.old) result tokens.new }
+{
+    tokens.expect(Terminal::Open)?;
+    let start = for_part(alloc, tokens, depth, Terminal::Semicolon)?;
+    match for_part(alloc, tokens, depth, Terminal::Semicolon) {
+        Err(stop) => {
+            drop(start);
+            Err(stop)
+        }
+        Ok(condition) => match for_part(alloc, tokens, depth, Terminal::Close) {
+            Err(stop) => {
+                drop(condition);
+                drop(start);
+                Err(stop)
+            }
+            Ok(step) => Ok(ForHead {
+                start,
+                condition,
+                step,
+            }),
+        },
+    }
+}
+
+/// A `for` of its parts.
+fn for_of(alloc: Global, number: u32, head: ForHead, body: Stmt) -> Result<Stmt, NoMemory>
+    ensures { IfOk result (λ s. plain_stmt s ≡ parts.for_of number (plain_head head) (plain_stmt body)) }
+{
+    let ForHead {
+        start,
+        condition,
+        step,
+    } = head;
+    Stmt::for_loop(alloc, number, start, condition, step, body)
+}
+
 /// `for`, each of whose three parts may be left out.
 #[cycle(statement)]
-#[tactic(auto, unfolding(crate::specs::ReadStatement::for_statement))]
+#[tactic(auto, using(crate::proofs::PartLaws::for_is))]
 fn for_statement(alloc: Global, tokens: &mut Cursor<'_>, depth: usize) -> Result<Stmt, Stop>
     ensures { Reads plain_stmt (read.for_statement depth (read.statement depth) tokens.old) result tokens.new }
 {
     let number = tokens.take()?;
-    tokens.expect(Mark::Open)?;
-    let start = optional(alloc, tokens, depth, Mark::Semicolon)?;
-    tokens.expect(Mark::Semicolon)?;
-    let condition = optional(alloc, tokens, depth, Mark::Semicolon)?;
-    tokens.expect(Mark::Semicolon)?;
-    let step = optional(alloc, tokens, depth, Mark::Close)?;
-    tokens.expect(Mark::Close)?;
-    let body = statement(alloc, tokens, depth)?;
-    Ok(Stmt::for_loop(alloc, number, start, condition, step, body)?)
+    let head = for_head(alloc, tokens, depth)?;
+    match statement(alloc, tokens, depth) {
+        Err(stop) => {
+            drop(head);
+            Err(stop)
+        }
+        Ok(body) => Ok(for_of(alloc, number, head, body)?),
+    }
 }
 
 /// `switch`, whose body is a block with labels.
@@ -320,7 +403,7 @@ fn switch_statement(alloc: Global, tokens: &mut Cursor<'_>, depth: usize) -> Res
 {
     let number = tokens.take()?;
     let value = condition(alloc, tokens, depth)?;
-    tokens.expect(Mark::OpenBrace)?;
+    tokens.expect(Terminal::OpenBrace)?;
     let body = entries(alloc, tokens, depth, true)?;
     Ok(Stmt::switch(number, value, body))
 }
@@ -332,23 +415,23 @@ fn some_statement(alloc: Global, tokens: &mut Cursor<'_>, depth: usize) -> Resul
     ensures { Reads plain_stmt (read.some_statement depth (read.statement depth) tokens.old) result tokens.new }
 {
     match tokens.peek() {
-        Some(Seen::Sign(Mark::OpenBrace)) => {
+        Some(Seen::Fixed(Terminal::OpenBrace)) => {
             let number = tokens.take()?;
             let items = entries(alloc, tokens, depth, false)?;
             Ok(Stmt::block(number, items))
         }
-        Some(Seen::Sign(Mark::Semicolon)) => {
+        Some(Seen::Fixed(Terminal::Semicolon)) => {
             let number = tokens.take()?;
             Ok(Stmt::empty(number))
         }
-        Some(Seen::Sign(Mark::If)) => if_statement(alloc, tokens, depth),
-        Some(Seen::Sign(Mark::While)) => while_statement(alloc, tokens, depth),
-        Some(Seen::Sign(Mark::Do)) => do_statement(alloc, tokens, depth),
-        Some(Seen::Sign(Mark::For)) => for_statement(alloc, tokens, depth),
-        Some(Seen::Sign(Mark::Switch)) => switch_statement(alloc, tokens, depth),
-        Some(Seen::Sign(Mark::Break)) => break_statement(tokens),
-        Some(Seen::Sign(Mark::Continue)) => continue_statement(tokens),
-        Some(Seen::Sign(Mark::Return)) => return_statement(alloc, tokens, depth),
+        Some(Seen::Fixed(Terminal::If)) => if_statement(alloc, tokens, depth),
+        Some(Seen::Fixed(Terminal::While)) => while_statement(alloc, tokens, depth),
+        Some(Seen::Fixed(Terminal::Do)) => do_statement(alloc, tokens, depth),
+        Some(Seen::Fixed(Terminal::For)) => for_statement(alloc, tokens, depth),
+        Some(Seen::Fixed(Terminal::Switch)) => switch_statement(alloc, tokens, depth),
+        Some(Seen::Fixed(Terminal::Break)) => break_statement(tokens),
+        Some(Seen::Fixed(Terminal::Continue)) => continue_statement(tokens),
+        Some(Seen::Fixed(Terminal::Return)) => return_statement(alloc, tokens, depth),
         _ => expression_statement(alloc, tokens, depth),
     }
 }

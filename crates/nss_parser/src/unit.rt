@@ -1,6 +1,6 @@
 ghost use Rattle.std.specs.Prelude.{◌≡◌, [], ◌∷◌, ◌++◌, false, map, IfOk};
 ghost use Rattle.std.specs.Option.{option_map};
-ghost use Rattle.nss_tree.specs.Reading.{plain_item, plain_name, plain_stmts, plain_tree};
+ghost use Rattle.nss_tree.specs.Reading.{plain_item, plain_name, plain_stmts};
 ghost use Rattle.nss_parser.specs.ReadStatement as statements;
 ghost use Rattle.nss_parser.specs.ReadUnit as read;
 ghost use Rattle.nss_symbols.specs.Outcome.{first};
@@ -8,8 +8,8 @@ ghost use Rattle.nss_symbols.specs.Cursor.{Reads};
 
 use crate::declaration::{constant_value, declared_after, identifier, more_declared, typed};
 use crate::statement::entries;
-use nss_symbols::{Cursor, Mark, Stop};
-use nss_tree::{FieldLine, Identifier, Item, Parameter, Stmt, Tree, TypeName};
+use nss_symbols::{Cursor, Terminal, Stop};
+use nss_tree::{FieldLine, Identifier, Item, Parameter, Stmt, TypeName};
 use nwq_value::{Items, NoMemory, Text};
 use std::alloc::Global;
 
@@ -25,7 +25,7 @@ fn more_fields(
     let mut names = Items::new(alloc);
     names.push(first)?;
     for _turn in 0..depth {
-        if !tokens.sees(Mark::Comma) {
+        if !tokens.sees(Terminal::Comma) {
             return Ok(names);
         }
         tokens.take()?;
@@ -43,7 +43,7 @@ fn field(alloc: Global, tokens: &mut Cursor<'_>, depth: usize) -> Result<FieldLi
     let (token, ty) = typed(alloc, tokens)?;
     let first = identifier(alloc, tokens)?;
     let names = more_fields(alloc, tokens, depth, first)?;
-    tokens.expect(Mark::Semicolon)?;
+    tokens.expect(Terminal::Semicolon)?;
     Ok(FieldLine { token, ty, names })
 }
 
@@ -55,7 +55,7 @@ fn fields(alloc: Global, tokens: &mut Cursor<'_>, depth: usize) -> Result<Items<
     for _turn in 0..depth {
         let line = field(alloc, tokens, depth)?;
         lines.push(line)?;
-        if tokens.sees(Mark::CloseBrace) {
+        if tokens.sees(Terminal::CloseBrace) {
             tokens.take()?;
             return Ok(lines);
         }
@@ -75,7 +75,7 @@ fn structure(
 {
     tokens.take()?;
     let lines = fields(alloc, tokens, depth)?;
-    tokens.expect(Mark::Semicolon)?;
+    tokens.expect(Terminal::Semicolon)?;
     Ok(Item::structure(of.token, of.name, lines))
 }
 
@@ -87,9 +87,9 @@ fn constant_line(alloc: Global, tokens: &mut Cursor<'_>) -> Result<Item, Stop>
     tokens.take()?;
     let (token, ty) = typed(alloc, tokens)?;
     let name = identifier(alloc, tokens)?;
-    tokens.expect(Mark::Assign)?;
+    tokens.expect(Terminal::Assign)?;
     let value = constant_value(alloc, tokens)?;
-    tokens.expect(Mark::Semicolon)?;
+    tokens.expect(Terminal::Semicolon)?;
     Ok(Item::constant(token, ty, name, value))
 }
 
@@ -104,7 +104,7 @@ fn with_default(
 ) -> Result<Parameter, Stop>
     ensures { Reads (λ p. p) (read.default token ty name tokens.old) result tokens.new }
 {
-    if tokens.sees(Mark::Assign) {
+    if tokens.sees(Terminal::Assign) {
         tokens.take()?;
         let value = constant_value(alloc, tokens)?;
         Ok(Parameter {
@@ -145,10 +145,10 @@ fn some_parameters(
     for _turn in 0..depth {
         let next = parameter(alloc, tokens)?;
         all.push(next)?;
-        if tokens.sees(Mark::Comma) {
+        if tokens.sees(Terminal::Comma) {
             tokens.take()?;
         } else {
-            tokens.expect(Mark::Close)?;
+            tokens.expect(Terminal::Close)?;
             return Ok(all);
         }
     }
@@ -164,7 +164,7 @@ fn parameters(
 ) -> Result<Items<Parameter>, Stop>
     ensures { Reads (λ all. all) (read.parameters depth tokens.old) result tokens.new }
 {
-    if tokens.sees(Mark::Close) {
+    if tokens.sees(Terminal::Close) {
         tokens.take()?;
         Ok(Items::new(alloc))
     } else {
@@ -186,7 +186,7 @@ fn global(
 {
     let first = declared_after(alloc, tokens, depth, of)?;
     let names = more_declared(alloc, tokens, depth, first)?;
-    tokens.expect(Mark::Semicolon)?;
+    tokens.expect(Terminal::Semicolon)?;
     Ok(Item::global(token, ty, names))
 }
 
@@ -195,18 +195,22 @@ fn global(
 fn body(alloc: Global, tokens: &mut Cursor<'_>, depth: usize) -> Result<Option<Items<Stmt>>, Stop>
     ensures { Reads (option_map plain_stmts) (read.body depth (statements.entries depth (statements.statement depth) false) tokens.old) result tokens.new }
 {
-    if tokens.sees(Mark::Semicolon) {
+    if tokens.sees(Terminal::Semicolon) {
         tokens.take()?;
         Ok(None)
     } else {
-        tokens.expect(Mark::OpenBrace)?;
+        tokens.expect(Terminal::OpenBrace)?;
         let all = entries(alloc, tokens, depth, false)?;
         Ok(Some(all))
     }
 }
 
 /// A function, after its name.
-#[tactic(auto, unfolding(crate::specs::ReadUnit::function))]
+#[tactic(
+    auto,
+    using(nss_tree::specs::Readings::map_body),
+    unfolding(crate::specs::ReadUnit::function)
+)]
 fn function(
     alloc: Global,
     tokens: &mut Cursor<'_>,
@@ -234,7 +238,7 @@ fn after_type(
     ensures { Reads plain_item (read.after_type depth (statements.entries depth (statements.statement depth) false) token ty tokens.old) result tokens.new }
 {
     let of = identifier(alloc, tokens)?;
-    if tokens.sees(Mark::Open) {
+    if tokens.sees(Terminal::Open) {
         function(alloc, tokens, depth, ty, of)
     } else {
         global(alloc, tokens, depth, token, ty, of)
@@ -248,7 +252,7 @@ fn after_struct(alloc: Global, tokens: &mut Cursor<'_>, depth: usize) -> Result<
 {
     let token = tokens.take()?;
     let of = identifier(alloc, tokens)?;
-    if tokens.sees(Mark::OpenBrace) {
+    if tokens.sees(Terminal::OpenBrace) {
         structure(alloc, tokens, depth, of)
     } else {
         after_type(alloc, tokens, depth, token, TypeName::Struct(of.name))
@@ -268,9 +272,9 @@ fn typed_item(alloc: Global, tokens: &mut Cursor<'_>, depth: usize) -> Result<It
 fn item(alloc: Global, tokens: &mut Cursor<'_>, depth: usize) -> Result<Item, Stop>
     ensures { Reads plain_item (read.item depth (statements.entries depth (statements.statement depth) false) tokens.old) result tokens.new }
 {
-    if tokens.sees(Mark::Struct) {
+    if tokens.sees(Terminal::Struct) {
         after_struct(alloc, tokens, depth)
-    } else if tokens.sees(Mark::Const) {
+    } else if tokens.sees(Terminal::Const) {
         constant_line(alloc, tokens)
     } else {
         typed_item(alloc, tokens, depth)
@@ -296,13 +300,13 @@ fn push_item(items: &mut Items<Item>, next: Item) -> Result<(), NoMemory>
 
 /// All items of a unit.
 #[tactic(auto, unfolding(crate::specs::ReadUnit::items))]
-pub fn unit(alloc: Global, tokens: &mut Cursor<'_>, depth: usize) -> Result<Tree, Stop>
-    ensures { Reads plain_tree (read.items depth (statements.entries depth (statements.statement depth) false) tokens.old) result tokens.new }
+pub fn unit(alloc: Global, tokens: &mut Cursor<'_>, depth: usize) -> Result<Items<Item>, Stop>
+    ensures { Reads (map plain_item) (read.items depth (statements.entries depth (statements.statement depth) false) tokens.old) result tokens.new }
 {
     let mut items = Items::new(alloc);
     for _turn in 0..depth {
         if is_at_end(tokens) {
-            return Ok(Tree { items });
+            return Ok(items);
         }
         let next = item(alloc, tokens, depth)?;
         push_item(&mut items, next)?;

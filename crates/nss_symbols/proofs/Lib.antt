@@ -1,6 +1,6 @@
 pub mod CursorLemmas
-pub mod MarkLemmas
+pub mod TerminalLemmas
 pub mod NestLaws
 pub mod NameLemmas
 pub mod SeenLemmas
-pub mod MarksRead
+pub mod TerminalsRead

@@ -2,9 +2,10 @@
 -- count of open `do`s beside each number; the nest of a token is the sum of the numbers after it.
 use Rattle.std.specs.Prelude.{ℕ, ◌+◌, ◌-◌, ◌<◌, ◌≤◌, ◌==◌, Bool, true, false, ◌&&◌, not, List, [], ◌∷◌, Option, None, Some, sum_by, slice_index, map, if◌then◌else◌}
 use Rattle.std.specs.List.{AllByRecursion}
-use Rattle.nss_symbols.specs.declared.mark.Mark.{Mark}
-use Rattle.nss_symbols.specs.declared.mark.Mark.TheVariants as mark
-use Rattle.nss_symbols.specs.Symbols.{Symbol, Sign}
+use Rattle.nwq_value.specs.Limits.{nest_limit}
+use Rattle.nss_symbols.specs.declared.terminal.Terminal.{Terminal}
+use Rattle.nss_symbols.specs.declared.terminal.Terminal.TheVariants as terminal
+use Rattle.nss_symbols.specs.Symbols.{Symbol, Fixed}
 use Rattle.nss_symbols.specs.declared.nest.Level.{Level}
 
 -- the last number, and those below it, the nearest first
@@ -16,94 +17,94 @@ pub record State : Type 0 where
 abbrev pub start : State
 start = record { last = record { number = 0; dos = 0 }; below = [] }
 
-abbrev pub opens : Mark → Bool
-opens mark.Open = true
-opens mark.OpenBrace = true
-opens mark.OpenBracket = true
+abbrev pub opens : Terminal → Bool
+opens terminal.Open = true
+opens terminal.OpenBrace = true
+opens terminal.OpenBracket = true
 opens _ = false
 
-abbrev pub closes : Mark → Bool
-closes mark.Close = true
-closes mark.CloseBrace = true
-closes mark.CloseBracket = true
+abbrev pub closes : Terminal → Bool
+closes terminal.Close = true
+closes terminal.CloseBrace = true
+closes terminal.CloseBracket = true
 closes _ = false
 
 -- a `}` or `;`
-abbrev pub ends : Mark → Bool
-ends mark.CloseBrace = true
-ends mark.Semicolon = true
+abbrev pub ends : Terminal → Bool
+ends terminal.CloseBrace = true
+ends terminal.Semicolon = true
 ends _ = false
 
 -- the words of branches and loops, the operators and the assignments
-abbrev pub is_head : Mark → Bool
-is_head mark.If = true
-is_head mark.Else = true
-is_head mark.While = true
-is_head mark.Do = true
-is_head mark.For = true
-is_head mark.Switch = true
-is_head mark.OrOr = true
-is_head mark.AndAnd = true
-is_head mark.Or = true
-is_head mark.Xor = true
-is_head mark.And = true
-is_head mark.Equal = true
-is_head mark.NotEqual = true
-is_head mark.GreaterEqual = true
-is_head mark.Greater = true
-is_head mark.Less = true
-is_head mark.LessEqual = true
-is_head mark.ShiftLeft = true
-is_head mark.ShiftRight = true
-is_head mark.ShiftRightUnsigned = true
-is_head mark.Plus = true
-is_head mark.Minus = true
-is_head mark.Star = true
-is_head mark.Slash = true
-is_head mark.Percent = true
-is_head mark.Not = true
-is_head mark.Tilde = true
-is_head mark.PlusPlus = true
-is_head mark.MinusMinus = true
-is_head mark.Dot = true
-is_head mark.Assign = true
-is_head mark.PlusAssign = true
-is_head mark.MinusAssign = true
-is_head mark.StarAssign = true
-is_head mark.SlashAssign = true
-is_head mark.PercentAssign = true
-is_head mark.AndAssign = true
-is_head mark.OrAssign = true
-is_head mark.XorAssign = true
-is_head mark.ShiftLeftAssign = true
-is_head mark.ShiftRightAssign = true
-is_head mark.ShiftRightUnsignedAssign = true
+abbrev pub is_head : Terminal → Bool
+is_head terminal.If = true
+is_head terminal.Else = true
+is_head terminal.While = true
+is_head terminal.Do = true
+is_head terminal.For = true
+is_head terminal.Switch = true
+is_head terminal.OrOr = true
+is_head terminal.AndAnd = true
+is_head terminal.Or = true
+is_head terminal.Xor = true
+is_head terminal.And = true
+is_head terminal.Equal = true
+is_head terminal.NotEqual = true
+is_head terminal.GreaterEqual = true
+is_head terminal.Greater = true
+is_head terminal.Less = true
+is_head terminal.LessEqual = true
+is_head terminal.ShiftLeft = true
+is_head terminal.ShiftRight = true
+is_head terminal.ShiftRightUnsigned = true
+is_head terminal.Plus = true
+is_head terminal.Minus = true
+is_head terminal.Star = true
+is_head terminal.Slash = true
+is_head terminal.Percent = true
+is_head terminal.Not = true
+is_head terminal.Tilde = true
+is_head terminal.PlusPlus = true
+is_head terminal.MinusMinus = true
+is_head terminal.Dot = true
+is_head terminal.Assign = true
+is_head terminal.PlusAssign = true
+is_head terminal.MinusAssign = true
+is_head terminal.StarAssign = true
+is_head terminal.SlashAssign = true
+is_head terminal.PercentAssign = true
+is_head terminal.AndAssign = true
+is_head terminal.OrAssign = true
+is_head terminal.XorAssign = true
+is_head terminal.ShiftLeftAssign = true
+is_head terminal.ShiftRightAssign = true
+is_head terminal.ShiftRightUnsignedAssign = true
 is_head _ = false
 
-abbrev pub is_do : Mark → Bool
-is_do mark.Do = true
+abbrev pub is_do : Terminal → Bool
+is_do terminal.Do = true
 is_do _ = false
 
-abbrev pub is_while : Mark → Bool
-is_while mark.While = true
+abbrev pub is_while : Terminal → Bool
+is_while terminal.While = true
 is_while _ = false
 
-abbrev pub is_else : Mark → Bool
-is_else mark.Else = true
+abbrev pub is_else : Terminal → Bool
+is_else terminal.Else = true
 is_else _ = false
 
 -- the word or sign that a token is, if it is one: no other token changes the numbers
-abbrev pub mark_in : Symbol → Option Mark
-mark_in (Sign m) = Some m
-mark_in _ = None
+abbrev pub terminal_in : Symbol → Option Terminal
+terminal_in (Fixed m) = Some m
+terminal_in _ = None
 
 -- a test of a word or a sign, and false of every other token
-abbrev pub tests : (Mark → Bool) → Option Mark → Bool
+abbrev pub tests : (Terminal → Bool) → Option Terminal → Bool
 tests p (Some m) = p m
 tests p None = false
 
 -- an opening bracket appends the number 1
-abbrev pub opened : Mark → State → State
+abbrev pub opened : Terminal → State → State
 opened m s = if opens m then record { last = record { number = 1; dos = 0 }; below = s.last ∷ s.below } else s
 
 abbrev pub without_last : Level → List Level → State
@@ -111,22 +112,22 @@ without_last last [] = record { last = last; below = [] }
 without_last last (l ∷ ls) = record { last = l; below = ls }
 
 -- a closing bracket takes the last number off, where more than one number is there
-abbrev pub closed : Mark → State → State
+abbrev pub closed : Terminal → State → State
 closed m s = if closes m then without_last s.last s.below else s
 
 abbrev pub with_last : State → Level → State
 with_last s l = record { last = l; below = s.below }
 
 -- a head adds 1 to the last number
-abbrev pub headed : Mark → State → State
+abbrev pub headed : Terminal → State → State
 headed m s = if is_head m then with_last s (record { number = s.last.number + 1; dos = s.last.dos }) else s
 
 -- a `do` also raises the count of the last number by 1
-abbrev pub counted : Mark → State → State
+abbrev pub counted : Terminal → State → State
 counted m s = if is_do m then with_last s (record { number = s.last.number; dos = s.last.dos + 1 }) else s
 
 -- a `while` directly after `}` or `;` lowers the count of the last number by 1 where it isn't 0
-abbrev pub uncounted : Option Mark → Mark → State → State
+abbrev pub uncounted : Option Terminal → Terminal → State → State
 uncounted before m s = if is_while m && tests ends before then with_last s (record { number = s.last.number; dos = s.last.dos - 1 }) else s
 
 abbrev pub reset_number : List Level → ℕ
@@ -138,11 +139,11 @@ positive n = not (n == 0)
 
 -- A `}` or `;` then resets the last number, to 1, or to 0 where it is the only one, and its count to 0; but not
 -- before `else`, and not before `while` where the count is above 0.
-abbrev pub reset : Mark → Option Mark → State → State
+abbrev pub reset : Terminal → Option Terminal → State → State
 reset m after s = if ends m && not (tests is_else after) && not (tests is_while after && positive s.last.dos) then with_last s (record { number = reset_number s.below; dos = 0 }) else s
 
 -- what a token makes of the numbers, by the one before it and the one after it
-abbrev pub changed : Option Mark → Option Mark → Option Mark → State → State
+abbrev pub changed : Option Terminal → Option Terminal → Option Terminal → State → State
 changed before None after s = s
 changed before (Some m) after s = reset m after (uncounted before m (counted m (headed m (closed m (opened m s)))))
 
@@ -150,23 +151,19 @@ changed before (Some m) after s = reset m after (uncounted before m (counted m (
 abbrev pub total : State → ℕ
 total s = s.last.number + sum_by (λ l. l.number) s.below
 
-abbrev pub head_of : List (Option Mark) → Option Mark
+abbrev pub head_of : List (Option Terminal) → Option Terminal
 head_of [] = None
 head_of (m ∷ ms) = m
 
 -- the nest of each token, from a state on, after this token
-abbrev pub nests_from : Option Mark → State → List (Option Mark) → List ℕ
+abbrev pub nests_from : Option Terminal → State → List (Option Terminal) → List ℕ
 nests_from before s [] = []
 nests_from before s (m ∷ ms) =
     let after = changed before m (head_of ms) s
     in total after ∷ nests_from m after ms
 
 unfoldable pub nests : List Symbol → List ℕ
-nests tokens = nests_from None start (map mark_in tokens)
-
--- how deep tokens may nest
-abbrev pub nest_limit : ℕ
-nest_limit = 256
+nests tokens = nests_from None start (map terminal_in tokens)
 
 -- token i is the first whose nest passes the limit
 pub record IsFirstOver (tokens : List Symbol) (i : ℕ) : Type 0 where

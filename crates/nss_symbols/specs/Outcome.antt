@@ -1,22 +1,22 @@
 -- Reading: what a reader makes of a list of tokens, and how readers are put together. The cursor's clauses speak
 -- of it; what the parser promises is said by the grammar alone.
 use Rattle.std.specs.Prelude.{ℕ, Bool, true, false, List, [], ◌∷◌, Option, None, Some}
-use Rattle.nss_symbols.specs.declared.mark.Mark.{Mark}
+use Rattle.nss_symbols.specs.declared.terminal.Terminal.{Terminal}
 use Rattle.nss_symbols.specs.Symbols as symbol
-use Rattle.nss_symbols.specs.Symbols.{Symbol, Spot, at}
-use Rattle.nss_symbols.specs.contracts.mark.Mark.{the_type}
+use Rattle.nss_symbols.specs.Symbols.{Symbol, Numbered, at}
+use Rattle.nss_symbols.specs.contracts.terminal.Terminal.{the_type}
 use denote.Enum.Bare.{sameb}
 
 pub data Outcome (A : Type 0) : Type 0 where
   -- what was read, and the tokens after it
-  Got : A → List Spot → Outcome A
+  Got : A → List Numbered → Outcome A
   -- the tokens from the first that can't stand there
-  Stuck : List Spot → Outcome A
+  Stuck : List Numbered → Outcome A
   -- the depth ran out
   Deep : Outcome A
 
 abbrev pub Parser : Type 0 → Type 0
-Parser A = List Spot → Outcome A
+Parser A = List Numbered → Outcome A
 
 abbrev pub and_then : {A B : Type 0} → Outcome A → (A → Parser B) → Outcome B
 and_then (Got x rest) f = f x rest
@@ -37,15 +37,15 @@ abbrev pub deep : {A : Type 0} → Parser A
 deep = λ i. Deep
 
 -- The next token, and what the grammar sees of it.
-abbrev pub next : List Spot → Option Spot
+abbrev pub next : List Numbered → Option Numbered
 next [] = None
 next (s ∷ r) = Some s
 
-unfoldable pub first : List Spot → Option Symbol
+unfoldable pub first : List Numbered → Option Symbol
 first [] = None
 first (s ∷ r) = Some s.symbol
 
-abbrev pub number_of : Option Spot → Parser ℕ
+abbrev pub number_of : Option Numbered → Parser ℕ
 number_of (Some s) = pure s.number
 number_of None = stuck
 
@@ -66,23 +66,23 @@ abbrev pub branch : {A : Type 0} → Bool → Parser A → Parser A → Parser A
 branch true p q = p
 branch false p q = q
 
--- whether the next token is this word or sign
-unfoldable pub same_mark : Mark → Mark → Bool
-same_mark = sameb the_type
+-- whether the next token is this terminal
+unfoldable pub same_terminal : Terminal → Terminal → Bool
+same_terminal = sameb the_type
 
-abbrev pub is_sign : Mark → Option Symbol → Bool
-is_sign m (Some (symbol.Sign k)) = same_mark m k
-is_sign m _ = false
+abbrev pub is_terminal : Terminal → Option Symbol → Bool
+is_terminal m (Some (symbol.Fixed k)) = same_terminal m k
+is_terminal m _ = false
 
-abbrev pub sees : Mark → List Spot → Bool
-sees m i = is_sign m (first i)
+abbrev pub sees : Terminal → List Numbered → Bool
+sees m i = is_terminal m (first i)
 
 abbrev pub choice : {A : Type 0} → (Option Symbol → Bool) → Parser A → Parser A → Parser A
 choice test p q = peek (λ o. branch (test o) p q)
 
--- This word or sign is passed.
-abbrev pub expect : Mark → Parser ℕ
-expect m = choice (is_sign m) take stuck
+-- This terminal is passed.
+abbrev pub expect : Terminal → Parser ℕ
+expect m = choice (is_terminal m) take stuck
 
 abbrev pub name_by : Option Symbol → Parser (List ℕ)
 name_by (Some (symbol.Name bytes)) = take >>= λ n. pure bytes

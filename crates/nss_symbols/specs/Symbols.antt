@@ -1,29 +1,30 @@
 -- What the grammar sees of a token, and tokens with their numbers.
 use Rattle.std.specs.Prelude.{ℕ, ◌+◌, List, [], ◌∷◌}
-use Rattle.nss_symbols.specs.declared.mark.Mark.{Mark}
+use Rattle.nss_symbols.specs.declared.terminal.Terminal.{Terminal}
 
--- A token as the grammar sees it: a name with its bytes, a literal with its value, or a word or sign. A
--- float keeps no value. What is spelled as no word and no sign of the language is `Unknown` and fits nothing.
+-- A token as the grammar sees it: a name with its bytes, a literal with its value, or a terminal, which is a word or
+-- sign of one fixed spelling. A float keeps no value. `Unknown` is what is spelled as no terminal; it fits nothing,
+-- and no token is seen so.
 pub data Symbol : Type 0 where
   Name : List ℕ → Symbol
   Int : ℕ → Symbol
   Float : Symbol
   Text : List ℕ → Symbol
-  Sign : Mark → Symbol
+  Fixed : Terminal → Symbol
   Unknown : Symbol
 
 -- A token with its number in the unit.
-pub record Spot : Type 0 where
+pub record Numbered : Type 0 where
   pub number : ℕ
   pub symbol : Symbol
 
-abbrev pub at : ℕ → Symbol → Spot
+abbrev pub at : ℕ → Symbol → Numbered
 at n s = record { number = n; symbol = s }
 
-abbrev pub sign : ℕ → Mark → Spot
-sign n m = at n (Sign m)
+abbrev pub fixed : ℕ → Terminal → Numbered
+fixed n t = at n (Fixed t)
 
 -- A list of tokens whose first has the number n.
-abbrev pub spots : ℕ → List Symbol → List Spot
-spots n [] = []
-spots n (s ∷ ss) = at n s ∷ spots (n + 1) ss
+abbrev pub numbered_from : ℕ → List Symbol → List Numbered
+numbered_from n [] = []
+numbered_from n (s ∷ ss) = at n s ∷ numbered_from (n + 1) ss

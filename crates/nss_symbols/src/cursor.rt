@@ -1,17 +1,21 @@
 ghost use Rattle.std.specs.Prelude.{◌≡◌, ◌^◌, ◌<◌, ◌≤◌, length, drop, map, IfSome};
 ghost use Rattle.std.specs.Option.{option_map};
-ghost use Rattle.nss_symbols.specs.Symbols.{spots};
+ghost use Rattle.nss_symbols.specs.Symbols.{numbered_from};
 ghost use Rattle.nss_symbols.specs.Outcome as read;
-ghost use Rattle.nss_symbols.specs.Cursor.{plain_symbol, IsSound, AreSound, Reads};
+ghost use Rattle.nss_symbols.specs.Cursor.{plain_symbol, IsSound, AreSound, Passes, Reads};
 
-use crate::mark::Mark;
 use crate::symbol::{Seen, name_text};
+use crate::terminal::Terminal;
 use nwq_value::{NoMemory, Text};
-use std::alloc::{AllocError, Global};
+use std::alloc::Global;
 use std::marker::Model;
 
+/// The next token can't stand there, or there is none.
+#[derive(Clone, Copy)]
+pub struct Misfit;
+
 /// Why reading stopped. At `Syntax` the cursor stands at the token that can't stand there.
-#[derive(Clone, Copy, Debug, PartialEq, Eq)]
+#[derive(Clone, Copy)]
 pub enum Stop {
     /// memory ran out
     NoMemory,
@@ -31,8 +35,18 @@ impl From<NoMemory> for Stop {
     }
 }
 
+impl From<Misfit> for Stop {
+    ghost use Rattle.nss_symbols.specs.declared.cursor.Stop.TheVariants as stop;
+
+    ghost from_gives = { λ _ e. e ≡ stop.Syntax };
+
+    fn from(_misfit: Misfit) -> Stop {
+        Stop::Syntax
+    }
+}
+
 /// The tokens that are still to be read. Contracts see them as a list of tokens with their numbers.
-#[derive(Debug, Drop)]
+#[derive(Drop)]
 pub struct Cursor<'a> {
     ahead: &'a [Seen<'a>],
     number: u32,
@@ -40,12 +54,12 @@ pub struct Cursor<'a> {
 
 impl<'a> Model for Cursor<'a> {
     ghost use Rattle.std.specs.Prelude.{List, ◌+◌, ◌^◌, ◌<◌, length, map};
-    ghost use Rattle.nss_symbols.specs.Symbols.{Spot, spots};
+    ghost use Rattle.nss_symbols.specs.Symbols.{Numbered, numbered_from};
     ghost use Rattle.nss_symbols.specs.Cursor.{plain_symbol, AreSound};
 
-    ghost Value = { List Spot };
+    ghost Value = { List Numbered };
 
-    ghost view = { λ c. spots c.number (map plain_symbol c.ahead.now) };
+    ghost view = { λ c. numbered_from c.number (map plain_symbol c.ahead.now) };
 
     ghost invariant = { λ c. (c.number + length c.ahead.now < 2 ^ 32) × AreSound c.ahead.now };
 }
@@ -63,7 +77,7 @@ impl<'a> Cursor<'a> {
     pub fn new(symbols: &'a [Seen<'a>]) -> Cursor<'a>
         requires count { length symbols.now < 2 ^ 32 }
         requires sound { AreSound symbols.now }
-        ensures { result ≡ spots 0 (map plain_symbol symbols.now) }
+        ensures { result ≡ numbered_from 0 (map plain_symbol symbols.now) }
     {
         Cursor {
             ahead: symbols,
@@ -90,21 +104,21 @@ impl<'a> Cursor<'a> {
     }
 
     /// The number of the next token, which stays.
-    pub fn here(&self) -> Result<u32, Stop>
-        ensures { Reads (λ n. n) (read.here self.now) result self.now }
+    pub fn here(&self) -> Result<u32, Misfit>
+        ensures { Passes (λ n. n) (read.here self.now) result self.now }
     {
         match self.ahead {
-            [] => Err(Stop::Syntax),
+            [] => Err(Misfit),
             [_, ..] => Ok(self.number),
         }
     }
 
     /// Passes the next token, and gives its number.
-    pub fn take(&mut self) -> Result<u32, Stop>
-        ensures { Reads (λ n. n) (read.take self.old) result self.new }
+    pub fn take(&mut self) -> Result<u32, Misfit>
+        ensures { Passes (λ n. n) (read.take self.old) result self.new }
     {
         match self.ahead {
-            [] => Err(Stop::Syntax),
+            [] => Err(Misfit),
             [_, ..] => {
                 let number = self.number;
                 self.ahead = tail(self.ahead);
@@ -114,25 +128,25 @@ impl<'a> Cursor<'a> {
         }
     }
 
-    /// Whether this word or sign comes next.
-    #[tactic(auto, unfolding(crate::specs::Outcome::same_mark))]
-    pub fn sees(&self, mark: Mark) -> bool
-        ensures { result ≡ read.sees mark self.now }
+    /// Whether this terminal comes next.
+    #[tactic(auto, unfolding(crate::specs::Outcome::same_terminal))]
+    pub fn sees(&self, terminal: Terminal) -> bool
+        ensures { result ≡ read.sees terminal self.now }
     {
         match self.peek() {
-            Some(Seen::Sign(next)) => mark == next,
+            Some(Seen::Fixed(next)) => terminal == next,
             _ => false,
         }
     }
 
-    /// Passes this word or sign.
-    pub fn expect(&mut self, mark: Mark) -> Result<u32, Stop>
-        ensures { Reads (λ n. n) (read.expect mark self.old) result self.new }
+    /// Passes this terminal.
+    pub fn expect(&mut self, terminal: Terminal) -> Result<u32, Misfit>
+        ensures { Passes (λ n. n) (read.expect terminal self.old) result self.new }
     {
-        if self.sees(mark) {
+        if self.sees(terminal) {
             self.take()
         } else {
-            Err(Stop::Syntax)
+            Err(Misfit)
         }
     }
 

@@ -1,9 +1,11 @@
-//! A law about the words and signs, as the contract of a function that does nothing.
+//! Laws about terminals, the contract of a function that does nothing.
 
-ghost use Rattle.nss_symbols.specs.Marks.{EachIsRead, IsWrittenSo};
+ghost use Rattle.nss_symbols.specs.Terminals.{EachIsRead, EachSignIsTerminal, EachWordIsTerminal, IsWrittenSo};
 
-/// A text is read as a word or sign exactly where that is written so.
-pub fn marks_are_read()
+/// A text is read as a terminal exactly where that is written so, and the lexer's words and signs all are terminals.
+pub fn terminals_are_read()
     ensures each { EachIsRead }
     ensures written { IsWrittenSo }
+    ensures words { EachWordIsTerminal }
+    ensures signs { EachSignIsTerminal }
 {}

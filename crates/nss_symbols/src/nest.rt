@@ -1,10 +1,10 @@
 ghost use Rattle.std.specs.Prelude.{◌≡◌, drop, ◌+◌, ◌<◌, ◌≤◌, ◌^◌, length, map, IfOk, OnOk};
 ghost use Rattle.nss_symbols.specs.Nest as nest;
-ghost use Rattle.nss_symbols.specs.Nest.{IsNestAnswer, head_of, mark_in, changed, closed, counted, headed, opened, reset, start, total, uncounted};
+ghost use Rattle.nss_symbols.specs.Nest.{IsNestAnswer, head_of, terminal_in, changed, closed, counted, headed, opened, reset, start, total, uncounted};
 ghost use Rattle.nss_symbols.specs.Cursor.{plain_symbol};
 
-use crate::mark::Mark;
 use crate::symbol::Seen;
+use crate::terminal::Terminal;
 use nwq_value::NoMemory;
 use std::alloc::Global;
 use std::marker::Model;
@@ -13,7 +13,7 @@ use std::marker::Model;
 pub const NEST: u32 = 256;
 
 /// A number of the nest, and the count of open `do`s beside it.
-#[derive(Clone, Copy, Debug)]
+#[derive(Clone, Copy)]
 pub struct Level {
     /// what the level adds to the nest
     pub number: u32,
@@ -40,124 +40,124 @@ impl Model for Nest {
     ghost invariant = { λ n. (n.sum ≡ total (record { last = n.last; below = reverse n.below.items })) × AreCounted n.last (reverse n.below.items) };
 }
 
-fn opens(mark: Mark) -> bool
-    ensures { result ≡ nest.opens mark }
+fn opens(terminal: Terminal) -> bool
+    ensures { result ≡ nest.opens terminal }
 {
-    match mark {
-        Mark::Open | Mark::OpenBrace | Mark::OpenBracket => true,
+    match terminal {
+        Terminal::Open | Terminal::OpenBrace | Terminal::OpenBracket => true,
         _ => false,
     }
 }
 
-fn closes(mark: Mark) -> bool
-    ensures { result ≡ nest.closes mark }
+fn closes(terminal: Terminal) -> bool
+    ensures { result ≡ nest.closes terminal }
 {
-    match mark {
-        Mark::Close | Mark::CloseBrace | Mark::CloseBracket => true,
+    match terminal {
+        Terminal::Close | Terminal::CloseBrace | Terminal::CloseBracket => true,
         _ => false,
     }
 }
 
-fn ends(mark: Mark) -> bool
-    ensures { result ≡ nest.ends mark }
+fn ends(terminal: Terminal) -> bool
+    ensures { result ≡ nest.ends terminal }
 {
-    match mark {
-        Mark::CloseBrace | Mark::Semicolon => true,
+    match terminal {
+        Terminal::CloseBrace | Terminal::Semicolon => true,
         _ => false,
     }
 }
 
-fn is_head(mark: Mark) -> bool
-    ensures { result ≡ nest.is_head mark }
+fn is_head(terminal: Terminal) -> bool
+    ensures { result ≡ nest.is_head terminal }
 {
-    match mark {
-        Mark::If
-        | Mark::Else
-        | Mark::While
-        | Mark::Do
-        | Mark::For
-        | Mark::Switch
-        | Mark::OrOr
-        | Mark::AndAnd
-        | Mark::Or
-        | Mark::Xor
-        | Mark::And
-        | Mark::Equal
-        | Mark::NotEqual
-        | Mark::GreaterEqual
-        | Mark::Greater
-        | Mark::Less
-        | Mark::LessEqual
-        | Mark::ShiftLeft
-        | Mark::ShiftRight
-        | Mark::ShiftRightUnsigned
-        | Mark::Plus
-        | Mark::Minus
-        | Mark::Star
-        | Mark::Slash
-        | Mark::Percent
-        | Mark::Not
-        | Mark::Tilde
-        | Mark::PlusPlus
-        | Mark::MinusMinus
-        | Mark::Dot
-        | Mark::Assign
-        | Mark::PlusAssign
-        | Mark::MinusAssign
-        | Mark::StarAssign
-        | Mark::SlashAssign
-        | Mark::PercentAssign
-        | Mark::AndAssign
-        | Mark::OrAssign
-        | Mark::XorAssign
-        | Mark::ShiftLeftAssign
-        | Mark::ShiftRightAssign
-        | Mark::ShiftRightUnsignedAssign => true,
+    match terminal {
+        Terminal::If
+        | Terminal::Else
+        | Terminal::While
+        | Terminal::Do
+        | Terminal::For
+        | Terminal::Switch
+        | Terminal::OrOr
+        | Terminal::AndAnd
+        | Terminal::Or
+        | Terminal::Xor
+        | Terminal::And
+        | Terminal::Equal
+        | Terminal::NotEqual
+        | Terminal::GreaterEqual
+        | Terminal::Greater
+        | Terminal::Less
+        | Terminal::LessEqual
+        | Terminal::ShiftLeft
+        | Terminal::ShiftRight
+        | Terminal::ShiftRightUnsigned
+        | Terminal::Plus
+        | Terminal::Minus
+        | Terminal::Star
+        | Terminal::Slash
+        | Terminal::Percent
+        | Terminal::Not
+        | Terminal::Tilde
+        | Terminal::PlusPlus
+        | Terminal::MinusMinus
+        | Terminal::Dot
+        | Terminal::Assign
+        | Terminal::PlusAssign
+        | Terminal::MinusAssign
+        | Terminal::StarAssign
+        | Terminal::SlashAssign
+        | Terminal::PercentAssign
+        | Terminal::AndAssign
+        | Terminal::OrAssign
+        | Terminal::XorAssign
+        | Terminal::ShiftLeftAssign
+        | Terminal::ShiftRightAssign
+        | Terminal::ShiftRightUnsignedAssign => true,
         _ => false,
     }
 }
 
-fn is_do(mark: Mark) -> bool
-    ensures { result ≡ nest.is_do mark }
+fn is_do(terminal: Terminal) -> bool
+    ensures { result ≡ nest.is_do terminal }
 {
-    match mark {
-        Mark::Do => true,
+    match terminal {
+        Terminal::Do => true,
         _ => false,
     }
 }
 
-fn is_while(mark: Mark) -> bool
-    ensures { result ≡ nest.is_while mark }
+fn is_while(terminal: Terminal) -> bool
+    ensures { result ≡ nest.is_while terminal }
 {
-    match mark {
-        Mark::While => true,
+    match terminal {
+        Terminal::While => true,
         _ => false,
     }
 }
 
-fn ends_one(mark: Option<Mark>) -> bool
-    ensures { result ≡ nest.tests nest.ends mark }
+fn ends_one(terminal: Option<Terminal>) -> bool
+    ensures { result ≡ nest.tests nest.ends terminal }
 {
-    match mark {
-        Some(mark) => ends(mark),
+    match terminal {
+        Some(terminal) => ends(terminal),
         None => false,
     }
 }
 
-fn is_else(mark: Option<Mark>) -> bool
-    ensures { result ≡ nest.tests nest.is_else mark }
+fn is_else(terminal: Option<Terminal>) -> bool
+    ensures { result ≡ nest.tests nest.is_else terminal }
 {
-    match mark {
-        Some(Mark::Else) => true,
+    match terminal {
+        Some(Terminal::Else) => true,
         _ => false,
     }
 }
 
-fn is_while_one(mark: Option<Mark>) -> bool
-    ensures { result ≡ nest.tests nest.is_while mark }
+fn is_while_one(terminal: Option<Terminal>) -> bool
+    ensures { result ≡ nest.tests nest.is_while terminal }
 {
-    match mark {
-        Some(mark) => is_while(mark),
+    match terminal {
+        Some(terminal) => is_while(terminal),
         None => false,
     }
 }
@@ -173,12 +173,12 @@ impl Nest {
         }
     }
 
-    fn open(&mut self, mark: Mark) -> Result<(), NoMemory>
+    fn open(&mut self, terminal: Terminal) -> Result<(), NoMemory>
         requires { total self.old < 1000 }
-        ensures state { OnOk result (self.new ≡ opened mark self.old) }
+        ensures state { OnOk result (self.new ≡ opened terminal self.old) }
         ensures sum { OnOk result (total self.new ≤ total self.old + 1) }
     {
-        if opens(mark) {
+        if opens(terminal) {
             self.below.push(self.last)?;
             self.last = Level { number: 1, dos: 0 };
             self.sum += 1;
@@ -186,11 +186,11 @@ impl Nest {
         Ok(())
     }
 
-    fn close(&mut self, mark: Mark)
-        ensures state { self.new ≡ closed mark self.old }
+    fn close(&mut self, terminal: Terminal)
+        ensures state { self.new ≡ closed terminal self.old }
         ensures sum { total self.new ≤ total self.old }
     {
-        if closes(mark) {
+        if closes(terminal) {
             match self.below.pop() {
                 None => {}
                 Some(level) => {
@@ -201,34 +201,34 @@ impl Nest {
         }
     }
 
-    fn head(&mut self, mark: Mark)
+    fn head(&mut self, terminal: Terminal)
         requires { total self.old < 1000 }
-        ensures state { self.new ≡ counted mark (headed mark self.old) }
+        ensures state { self.new ≡ counted terminal (headed terminal self.old) }
         ensures sum { total self.new ≤ total self.old + 1 }
     {
-        if is_head(mark) {
+        if is_head(terminal) {
             self.last.number += 1;
             self.sum += 1;
         }
-        if is_do(mark) {
+        if is_do(terminal) {
             self.last.dos += 1;
         }
     }
 
-    fn uncount(&mut self, before: Option<Mark>, mark: Mark)
-        ensures state { self.new ≡ uncounted before mark self.old }
+    fn uncount(&mut self, before: Option<Terminal>, terminal: Terminal)
+        ensures state { self.new ≡ uncounted before terminal self.old }
         ensures sum { total self.new ≡ total self.old }
     {
-        if is_while(mark) && ends_one(before) {
+        if is_while(terminal) && ends_one(before) {
             self.last.dos = self.last.dos.saturating_sub(1);
         }
     }
 
-    fn reset(&mut self, mark: Mark, after: Option<Mark>)
+    fn reset(&mut self, terminal: Terminal, after: Option<Terminal>)
         requires { total self.old < 1000 }
-        ensures { self.new ≡ reset mark after self.old }
+        ensures { self.new ≡ reset terminal after self.old }
     {
-        if ends(mark) && !is_else(after) && !(is_while_one(after) && self.last.dos != 0) {
+        if ends(terminal) && !is_else(after) && !(is_while_one(after) && self.last.dos != 0) {
             let number = if self.below.is_empty() { 0 } else { 1 };
             self.sum = self.sum - self.last.number + number;
             self.last = Level { number, dos: 0 };
@@ -237,21 +237,21 @@ impl Nest {
 
     fn step(
         &mut self,
-        before: Option<Mark>,
-        mark: Option<Mark>,
-        after: Option<Mark>,
+        before: Option<Terminal>,
+        terminal: Option<Terminal>,
+        after: Option<Terminal>,
     ) -> Result<(), NoMemory>
         requires { total self.old ≤ 256 }
-        ensures { OnOk result (self.new ≡ changed before mark after self.old) }
+        ensures { OnOk result (self.new ≡ changed before terminal after self.old) }
     {
-        match mark {
+        match terminal {
             None => {}
-            Some(mark) => {
-                self.open(mark)?;
-                self.close(mark);
-                self.head(mark);
-                self.uncount(before, mark);
-                self.reset(mark, after);
+            Some(terminal) => {
+                self.open(terminal)?;
+                self.close(terminal);
+                self.head(terminal);
+                self.uncount(before, terminal);
+                self.reset(terminal, after);
             }
         }
         Ok(())
@@ -265,24 +265,24 @@ impl Nest {
     }
 }
 
-/// The word or sign that a token is, if it is one.
-fn sign_in(symbol: &Seen<'_>) -> Option<Mark>
-    ensures { result ≡ mark_in (plain_symbol symbol.now) }
+/// The terminal that a token is, if it is one.
+fn terminal_in(symbol: &Seen<'_>) -> Option<Terminal>
+    ensures { result ≡ terminal_in (plain_symbol symbol.now) }
 {
     match symbol {
-        Seen::Sign(mark) => Some(*mark),
+        Seen::Fixed(terminal) => Some(*terminal),
         _ => None,
     }
 }
 
 /// The same of the token at a place; none past the end.
 #[tactic(auto, using(crate::proofs::NestLaws::head_at))]
-fn mark_at(symbols: &[Seen<'_>], at: usize) -> Option<Mark>
-    ensures { result ≡ head_of (drop at (map mark_in (map plain_symbol symbols.now))) }
+fn terminal_at(symbols: &[Seen<'_>], at: usize) -> Option<Terminal>
+    ensures { result ≡ head_of (drop at (map terminal_in (map plain_symbol symbols.now))) }
 {
     match symbols.get(at) {
         None => None,
-        Some(symbol) => sign_in(symbol),
+        Some(symbol) => terminal_in(symbol),
     }
 }
 
@@ -293,15 +293,15 @@ pub fn first_over(alloc: Global, symbols: &[Seen<'_>]) -> Result<Option<u32>, No
 {
     let mut nest = Nest::new(alloc);
     let mut before = None;
-    let mut mark = mark_at(symbols, 0);
+    let mut terminal = terminal_at(symbols, 0);
     for i in 0..symbols.len() {
-        let after = mark_at(symbols, i + 1);
-        nest.step(before, mark, after)?;
+        let after = terminal_at(symbols, i + 1);
+        nest.step(before, terminal, after)?;
         if nest.total() > NEST {
             return Ok(Some(i as u32));
         }
-        before = mark;
-        mark = after;
+        before = terminal;
+        terminal = after;
     }
     Ok(None)
 }

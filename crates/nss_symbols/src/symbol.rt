@@ -1,17 +1,18 @@
 ghost use Rattle.std.specs.Prelude.{◌≡◌, ◌≤◌, length, map, IfOk};
 ghost use Rattle.std.specs.List.{AllByRecursion};
+ghost use Rattle.nwq_value.specs.Limits.{name_limit};
 ghost use Rattle.nss_lexer.specs.Lexemes.{IsToken};
-ghost use Rattle.nss_symbols.specs.Marks as table;
-ghost use Rattle.nss_symbols.specs.Tokens.{of_mark, symbol_of, symbols_of};
+ghost use Rattle.nss_symbols.specs.Terminals as table;
+ghost use Rattle.nss_symbols.specs.Tokens.{of_terminal, symbol_of, symbols_of};
 ghost use Rattle.nss_symbols.specs.Cursor.{plain_symbol, IsSound, AreSound};
 
-use crate::mark::{Mark, mark_of};
+use crate::terminal::{Terminal, terminal_of};
 use nss_lexer::{Kind, Token};
 use nwq_value::{NoMemory, Text};
 use std::alloc::Global;
 
 /// What the grammar sees of a token.
-#[derive(Clone, Copy, Debug)]
+#[derive(Clone, Copy)]
 pub enum Seen<'a> {
     /// a name's bytes, 255 at most
     Name(&'a [u8]),
@@ -21,28 +22,28 @@ pub enum Seen<'a> {
     Float,
     /// a string with its quotes
     Text(&'a [u8]),
-    /// a word, an operator or another sign
-    Sign(Mark),
-    /// what is spelled as no word and no sign
+    /// a terminal: a word, an operator or another sign
+    Fixed(Terminal),
+    /// what is spelled as no terminal
     Unknown,
 }
 
 /// A name's bytes as a text.
 #[tactic(auto, using(crate::proofs::NameLemmas::take_name))]
 pub fn name_text(alloc: Global, bytes: &[u8]) -> Result<Text, NoMemory>
-    requires { length bytes.now ≤ 255 }
+    requires { length bytes.now ≤ name_limit }
     ensures { IfOk result (λ text. text ≡ bytes.now) }
 {
     Text::of(alloc, bytes)
 }
 
-/// A word or a sign by its bytes.
+/// A terminal by its bytes.
 fn spelled<'a>(text: &[u8]) -> Seen<'a>
-    ensures same { plain_symbol result ≡ of_mark (table.mark_of text.now) }
+    ensures same { plain_symbol result ≡ of_terminal (table.terminal_of text.now) }
     ensures sound { IsSound result }
 {
-    match mark_of(text) {
-        Some(mark) => Seen::Sign(mark),
+    match terminal_of(text) {
+        Some(terminal) => Seen::Fixed(terminal),
         None => Seen::Unknown,
     }
 }

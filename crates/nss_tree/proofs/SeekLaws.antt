@@ -1,5 +1,5 @@
 -- Going over nodes, part by part.
-use Rattle.std.proofs.Common.{◌≡◌, ◌∙◌, ◌<◌, ◌≤◌, ◌+◌, ap, sym, refl, subst, Box, Global, arith, ℕ, zero, suc, length, drop, get_or, map, add-one, List, [], ◌∷◌, ◌++◌, Option, None, Some, slice_get}
+use Rattle.std.proofs.Common.{◌≡◌, ◌∙◌, ◌<◌, ◌≤◌, ◌+◌, ap, sym, refl, subst, Box, Global, ℕ, zero, suc, length, drop, get_or, map, add-one, List, [], ◌∷◌, ◌++◌, slice_get}
 use Rattle.nss_tree.specs.declared.places.Seek.{Seek}
 use Rattle.nss_tree.specs.declared.places.Seek.TheVariants.{Ahead, Found}
 use Rattle.std.proofs.Math.Seq.{drop-cons}
@@ -9,13 +9,16 @@ use Rattle.nss_tree.specs.declared.expressions.Expr.TheViews as expr
 use Rattle.nss_tree.specs.declared.statements.Stmt.TheViews as stmt
 use Rattle.nss_tree.specs.declared.operators.BinaryOperator.{BinaryOperator}
 use Rattle.nss_tree.specs.declared.operators.AssignOperator.{AssignOperator}
-use Rattle.nss_tree.proofs.ReadingLaws.{plain_assign, plain_binary, plain_if_else}
+use Rattle.nss_tree.specs.Readings.{plain_assign, plain_binary, tree_if_else}
 use Rattle.nss_tree.specs.declared.statements.DeclaredName.{DeclaredName}
 use Rattle.nss_tree.specs.declared.statements.Stmt.{Stmt}
 use Rattle.nss_tree.specs.declared.units.Item.{Item}
 use Rattle.nss_tree.specs.declared.units.Tree.{Tree}
 use Rattle.nss_tree.specs.Places.{places, places_declared, places_each, places_expr, places_exprs, places_item, places_stmt, places_stmts}
-use Rattle.nss_tree.specs.Reading.{plain_expr, plain_exprs, plain_item, plain_name, plain_names, plain_stmt, plain_stmts, plain_tree}
+use Rattle.nss_tree.specs.Reading.{plain_expr, plain_exprs, plain_item, plain_name, plain_names, plain_stmt, plain_stmts, plain_tree, tree_of_stmts}
+use Rattle.nss_tree.specs.declared.constants.Constant.{Constant}
+use Rattle.nss_tree.specs.declared.constants.TypeName.{TypeName}
+use Rattle.nss_tree.specs.Statements.{map_stmt}
 use Rattle.nss_tree.specs.Seeking.{passed, sought, token_found}
 
 pub sought_none : (s : Seek) → sought [] s ≡ s
@@ -62,9 +65,9 @@ pub assign_sought : (the : Expr) (n : ℕ) (o : AssignOperator) (x y : Box Expr 
     → b ≡ sought (places_expr (plain_expr x.value)) a → c ≡ sought (places_expr (plain_expr y.value)) b → c ≡ sought (places_expr (plain_expr the)) s
 assign_sought the n o x y s a b c is = two _ _ _ n s a b c (ap places_expr (plain_assign the n o x y is))
 
-pub if_else_sought : (the : Stmt) (n : ℕ) (x : Expr) (y z : Box Stmt Global) (s a b c d : Seek) → the ≡ stmt.IfElse n x y z → a ≡ passed n s
+pub if_else_sought : (the : Stmt Expr Constant TypeName (List ℕ)) (n : ℕ) (x : Expr) (y z : Box (Stmt Expr Constant TypeName (List ℕ)) Global) (s a b c d : Seek) → the ≡ stmt.IfElse n x y z → a ≡ passed n s
     → b ≡ sought (places_expr (plain_expr x)) a → c ≡ sought (places_stmt (plain_stmt y.value)) b → d ≡ sought (places_stmt (plain_stmt z.value)) c → d ≡ sought (places_stmt (plain_stmt the)) s
-if_else_sought the n x y z s a b c d is = three _ _ _ _ n s a b c d (ap places_stmt (plain_if_else the n x y z is))
+if_else_sought the n x y z s a b c d is = three _ _ _ _ n s a b c d (ap (λ s. places_stmt (map_stmt plain_expr s)) (tree_if_else the n x y z is))
 
 -- the lists of a tree, each by the nodes of one member
 pub exprs_each : (xs : List Expr) → places_exprs (plain_exprs xs) ≡ places_each (λ x. places_expr (plain_expr x)) xs
@@ -72,19 +75,19 @@ unfolding plain_exprs
 exprs_each [] = refl
 exprs_each (x ∷ xs) = ap (λ ys. places_expr (plain_expr x) ++ ys) (exprs_each xs)
 
-pub stmts_each : (xs : List Stmt) → places_stmts (plain_stmts xs) ≡ places_each (λ x. places_stmt (plain_stmt x)) xs
-unfolding plain_stmts
+pub stmts_each : (xs : List (Stmt Expr Constant TypeName (List ℕ))) → places_stmts (plain_stmts xs) ≡ places_each (λ x. places_stmt (plain_stmt x)) xs
+unfolding tree_of_stmts
 stmts_each [] = refl
 stmts_each (x ∷ xs) = ap (λ ys. places_stmt (plain_stmt x) ++ ys) (stmts_each xs)
 
-pub names_each : (xs : List DeclaredName) → places_each places_declared (plain_names xs) ≡ places_each (λ x. places_declared (plain_name x)) xs
+pub names_each : (xs : List (DeclaredName Expr (List ℕ))) → places_each places_declared (plain_names xs) ≡ places_each (λ x. places_declared (plain_name x)) xs
 names_each [] = refl
 names_each (x ∷ xs) = ap (λ ys. places_declared (plain_name x) ++ ys) (names_each xs)
 
-pub items_each : (t : Tree) → places (plain_tree t) ≡ places_each (λ x. places_item (plain_item x)) t.items
+pub items_each : (t : Tree Expr Constant TypeName (List ℕ)) → places (plain_tree t) ≡ places_each (λ x. places_item (plain_item x)) t.items
 unfolding places
 items_each t = each t.items where
-  each : (xs : List Item) → places_each places_item (map plain_item xs) ≡ places_each (λ x. places_item (plain_item x)) xs
+  each : (xs : List (Item Expr Constant TypeName (List ℕ))) → places_each places_item (map plain_item xs) ≡ places_each (λ x. places_item (plain_item x)) xs
   each [] = refl
   each (x ∷ xs) = ap (λ ys. places_item (plain_item x) ++ ys) (each xs)
 
@@ -97,7 +100,7 @@ each_next f xs i d s h = rw (add-one i, drop-cons xs i d h) (sought_append (f (g
 pub at_expr : (x y : Expr) (s t : Seek) → x ≡ y → t ≡ sought (places_expr (plain_expr x)) s → t ≡ sought (places_expr (plain_expr y)) s
 at_expr x y s t is = subst (λ z. t ≡ sought (places_expr (plain_expr z)) s) is
 
-pub at_stmt : (x y : Stmt) (s t : Seek) → x ≡ y → t ≡ sought (places_stmt (plain_stmt x)) s → t ≡ sought (places_stmt (plain_stmt y)) s
+pub at_stmt : (x y : Stmt Expr Constant TypeName (List ℕ)) (s t : Seek) → x ≡ y → t ≡ sought (places_stmt (plain_stmt x)) s → t ≡ sought (places_stmt (plain_stmt y)) s
 at_stmt x y s t is = subst (λ z. t ≡ sought (places_stmt (plain_stmt z)) s) is
 
 -- the invariant of a loop over a list, after one more member
@@ -111,7 +114,7 @@ pub each_end : {A : Type 0} (f : A → List ℕ) (xs : List A) (i : ℕ) (s : Se
 each_end f xs i s h = rw (drop_all i xs h) (sought_none s)
 
 -- the walk over all items gives what stands at the number
-pub place_is : (t : Tree) (n i : ℕ) (s : Seek) → length t.items ≤ i
+pub place_is : (t : Tree Expr Constant TypeName (List ℕ)) (n i : ℕ) (s : Seek) → length t.items ≤ i
     → sought (places_each (λ x. places_item (plain_item x)) (drop i t.items)) s ≡ sought (places_each (λ x. places_item (plain_item x)) t.items) (Ahead n)
     → token_found s ≡ slice_get (places (plain_tree t)) n
 place_is t n i s past walked =

@@ -1,6 +1,9 @@
 pub mod Expressions
 pub mod Statements
 pub mod Units
+pub mod Source
 pub mod Reading
+pub mod Readings
+pub mod Counts
 pub mod Places
 pub mod Seeking

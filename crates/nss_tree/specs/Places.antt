@@ -2,16 +2,18 @@
 -- each by the number of its token. Nodes are: structs, field lines, fields, const lines and their names,
 -- constants, declarations, declared names, functions, parameters, statements, labels and expressions.
 -- No node are: types, the body of a function and the list of a switch's body, whose items are.
-use Rattle.std.specs.Prelude.{ℕ, List, [], ◌∷◌, ◌++◌, map}
+use Rattle.std.specs.Prelude.{ℕ, List, [], ◌∷◌, ◌++◌}
 use Rattle.std.specs.Prelude.{Option, None, Some}
 use Rattle.nss_tree.specs.declared.constants.Constant.{Constant}
 use Rattle.nss_tree.specs.declared.constants.Constant.TheVariants as c
+use Rattle.nss_tree.specs.declared.constants.TypeName.{TypeName}
 use Rattle.nss_tree.specs.declared.units.FieldLine.{FieldLine}
 use Rattle.nss_tree.specs.declared.units.Identifier.{Identifier}
 use Rattle.nss_tree.specs.declared.units.Parameter.{Parameter}
 use Rattle.nss_tree.specs.Expressions.{PlainExpr, PlainExprs, int, float, text, object_self, object_invalid, name, call, member, prefix, postfix, binary, assign, no_expr, more_exprs}
-use Rattle.nss_tree.specs.Statements.{PlainDeclared, PlainStmt, PlainStmts, block, empty, expression, if_only, if_else, while_loop, do_loop, for_loop, switch, break_off, continue_on, return_from, declaration, case_label, default_label, no_stmt, more_stmts}
-use Rattle.nss_tree.specs.Units.{PlainItem, PlainTree, structure, constant, global, function}
+use Rattle.nss_tree.specs.Source.{SourceDeclared, SourceItem, SourceStmt, SourceStmts, SourceTree}
+use Rattle.nss_tree.specs.Statements.{block, empty, expression, if_only, if_else, while_loop, do_loop, for_loop, switch, break_off, continue_on, return_from, declaration, case_label, default_label, no_stmt, more_stmts}
+use Rattle.nss_tree.specs.Units.{structure, constant, global, function}
 
 abbrev pub token_of : Constant → ℕ
 token_of (c.Int n negated v) = n
@@ -53,11 +55,11 @@ abbrev mutual
   places_exprs (more_exprs x xs) = places_expr x ++ places_exprs xs
 
 -- a declared name, then its first value
-abbrev pub places_declared : PlainDeclared → List ℕ
+abbrev pub places_declared : SourceDeclared → List ℕ
 places_declared d = d.token ∷ places_if places_expr d.value
 
 abbrev mutual
-  pub places_stmt : PlainStmt → List ℕ
+  pub places_stmt : SourceStmt → List ℕ
   places_stmt (block n xs) = n ∷ places_stmts xs
   places_stmt (empty n) = n ∷ []
   places_stmt (expression n x) = n ∷ places_expr x
@@ -74,25 +76,25 @@ abbrev mutual
   places_stmt (case_label n c) = n ∷ of_constant c
   places_stmt (default_label n) = n ∷ []
 
-  pub places_stmts : PlainStmts → List ℕ
+  pub places_stmts : SourceStmts → List ℕ
   places_stmts no_stmt = []
   places_stmts (more_stmts x xs) = places_stmt x ++ places_stmts xs
 
 abbrev pub places_identifier : Identifier → List ℕ
 places_identifier x = x.token ∷ []
 
-abbrev pub places_line : FieldLine → List ℕ
+abbrev pub places_line : FieldLine TypeName → List ℕ
 places_line x = x.token ∷ places_each places_identifier x.names
 
 -- a parameter, then its default
-abbrev pub places_parameter : Parameter → List ℕ
+abbrev pub places_parameter : Parameter Constant TypeName (List ℕ) → List ℕ
 places_parameter x = x.token ∷ places_if of_constant x.default
 
-abbrev pub places_item : PlainItem → List ℕ
+abbrev pub places_item : SourceItem → List ℕ
 places_item (structure n f lines) = n ∷ places_each places_line lines
 places_item (constant n t x c) = n ∷ (x.token ∷ of_constant c)
 places_item (global n t ds) = n ∷ places_each places_declared ds
 places_item (function n t f ps body) = n ∷ (places_each places_parameter ps ++ places_if places_stmts body)
 
-unfoldable pub places : PlainTree → List ℕ
-places = places_each places_item
+unfoldable pub places : SourceTree → List ℕ
+places t = places_each places_item t.items

@@ -1,12 +1,15 @@
 -- The one reading of the plain tree from the tree that code holds.
-use Rattle.std.specs.Prelude.{List, [], ◌∷◌, map}
+use Rattle.std.specs.Prelude.{ℕ, List, [], ◌∷◌, map}
 use Rattle.std.specs.Option.{option_map}
 use Rattle.nss_tree.specs.Expressions as e
 use Rattle.nss_tree.specs.Expressions.{PlainExpr, PlainExprs}
 use Rattle.nss_tree.specs.Statements as s
-use Rattle.nss_tree.specs.Statements.{PlainDeclared, PlainStmt, PlainStmts}
+use Rattle.nss_tree.specs.Statements.{PlainStmt, PlainStmts, map_declared, map_stmt, map_stmts}
 use Rattle.nss_tree.specs.Units as u
-use Rattle.nss_tree.specs.Units.{PlainItem, PlainTree}
+use Rattle.nss_tree.specs.Units.{PlainItem, PlainTree, map_item, map_items}
+use Rattle.nss_tree.specs.Source.{SourceDeclared, SourceItem, SourceStmt, SourceStmts, SourceTree}
+use Rattle.nss_tree.specs.declared.constants.Constant.{Constant}
+use Rattle.nss_tree.specs.declared.constants.TypeName.{TypeName}
 use Rattle.nss_tree.specs.declared.expressions.Expr.{Expr, Int, Float, Text, ObjectSelf, ObjectInvalid, Name, Call', Member', Prefix', Postfix', Binary', Assign', Row_of-Expr, end_of-Expr, more_of-Expr}
 use Rattle.nss_tree.specs.declared.statements.DeclaredName.{DeclaredName}
 use Rattle.nss_tree.specs.declared.statements.Stmt.{Stmt, Block', Empty, Expression, If', IfElse', While', Do', For', Switch', Break, Continue, Return, Declaration, Case, Default, Row_of-Stmt, end_of-Stmt, more_of-Stmt}
@@ -38,43 +41,54 @@ unfoldable pub plain_exprs : List Expr → PlainExprs
 plain_exprs [] = e.no_expr
 plain_exprs (x ∷ xs) = e.more_exprs (plain_expr x) (plain_exprs xs)
 
-abbrev pub plain_name : DeclaredName → PlainDeclared
-plain_name d = record { token = d.token; name = d.name; value = option_map plain_expr d.value }
+-- Statements with their expressions as they are, whatever these are.
+unfoldable mutual
+  pub tree_of_stmt : {E C T N : Type 0} → Stmt E C T N → PlainStmt E C T N
+  tree_of_stmt (Block' n shape xs) = s.block n (tree_of_row xs)
+  tree_of_stmt (Empty n) = s.empty n
+  tree_of_stmt (Expression n x) = s.expression n x
+  tree_of_stmt (If' n x p a) = s.if_only n x (tree_of_stmt a)
+  tree_of_stmt (IfElse' n x p a q b) = s.if_else n x (tree_of_stmt a) (tree_of_stmt b)
+  tree_of_stmt (While' n x p a) = s.while_loop n x (tree_of_stmt a)
+  tree_of_stmt (Do' n p a x) = s.do_loop n (tree_of_stmt a) x
+  tree_of_stmt (For' n x y z p a) = s.for_loop n x y z (tree_of_stmt a)
+  tree_of_stmt (Switch' n x shape xs) = s.switch n x (tree_of_row xs)
+  tree_of_stmt (Break n) = s.break_off n
+  tree_of_stmt (Continue n) = s.continue_on n
+  tree_of_stmt (Return n x) = s.return_from n x
+  tree_of_stmt (Declaration n t ds) = s.declaration n t ds
+  tree_of_stmt (Case n c) = s.case_label n c
+  tree_of_stmt (Default n) = s.default_label n
 
-abbrev pub plain_names : List DeclaredName → List PlainDeclared
+  pub tree_of_row : {E C T N : Type 0} {m : _} → Row_of-Stmt E C T N m → PlainStmts E C T N
+  tree_of_row end_of-Stmt = s.no_stmt
+  tree_of_row (more_of-Stmt x xs) = s.more_stmts (tree_of_stmt x) (tree_of_row xs)
+
+unfoldable pub tree_of_stmts : {E C T N : Type 0} → List (Stmt E C T N) → PlainStmts E C T N
+tree_of_stmts [] = s.no_stmt
+tree_of_stmts (x ∷ xs) = s.more_stmts (tree_of_stmt x) (tree_of_stmts xs)
+
+abbrev pub tree_of_item : {E C T N : Type 0} → Item E C T N → PlainItem E C T N
+tree_of_item (Struct n f lines) = u.structure n f lines
+tree_of_item (Const n t x c) = u.constant n t x c
+tree_of_item (Global n t ds) = u.global n t ds
+tree_of_item (Function n t f ps body) = u.function n t f ps (option_map tree_of_stmts body)
+
+-- The same with their expressions seen through a view, as the plain expressions of a script.
+abbrev pub plain_name : DeclaredName Expr (List ℕ) → SourceDeclared
+plain_name = map_declared plain_expr
+
+abbrev pub plain_names : List (DeclaredName Expr (List ℕ)) → List SourceDeclared
 plain_names = map plain_name
 
-unfoldable mutual
-  pub plain_stmt : Stmt → PlainStmt
-  plain_stmt (Block' n shape xs) = s.block n (plain_stmt_row xs)
-  plain_stmt (Empty n) = s.empty n
-  plain_stmt (Expression n x) = s.expression n (plain_expr x)
-  plain_stmt (If' n x p a) = s.if_only n (plain_expr x) (plain_stmt a)
-  plain_stmt (IfElse' n x p a q b) = s.if_else n (plain_expr x) (plain_stmt a) (plain_stmt b)
-  plain_stmt (While' n x p a) = s.while_loop n (plain_expr x) (plain_stmt a)
-  plain_stmt (Do' n p a x) = s.do_loop n (plain_stmt a) (plain_expr x)
-  plain_stmt (For' n x y z p a) = s.for_loop n (option_map plain_expr x) (option_map plain_expr y) (option_map plain_expr z) (plain_stmt a)
-  plain_stmt (Switch' n x shape xs) = s.switch n (plain_expr x) (plain_stmt_row xs)
-  plain_stmt (Break n) = s.break_off n
-  plain_stmt (Continue n) = s.continue_on n
-  plain_stmt (Return n x) = s.return_from n (option_map plain_expr x)
-  plain_stmt (Declaration n t ds) = s.declaration n t (plain_names ds)
-  plain_stmt (Case n c) = s.case_label n c
-  plain_stmt (Default n) = s.default_label n
+abbrev pub plain_stmt : Stmt Expr Constant TypeName (List ℕ) → SourceStmt
+plain_stmt x = map_stmt plain_expr (tree_of_stmt x)
 
-  pub plain_stmt_row : {m : _} → Row_of-Stmt m → PlainStmts
-  plain_stmt_row end_of-Stmt = s.no_stmt
-  plain_stmt_row (more_of-Stmt x xs) = s.more_stmts (plain_stmt x) (plain_stmt_row xs)
+abbrev pub plain_stmts : List (Stmt Expr Constant TypeName (List ℕ)) → SourceStmts
+plain_stmts xs = map_stmts plain_expr (tree_of_stmts xs)
 
-unfoldable pub plain_stmts : List Stmt → PlainStmts
-plain_stmts [] = s.no_stmt
-plain_stmts (x ∷ xs) = s.more_stmts (plain_stmt x) (plain_stmts xs)
+abbrev pub plain_item : Item Expr Constant TypeName (List ℕ) → SourceItem
+plain_item x = map_item plain_expr (tree_of_item x)
 
-abbrev pub plain_item : Item → PlainItem
-plain_item (Struct n f lines) = u.structure n f lines
-plain_item (Const n t x c) = u.constant n t x c
-plain_item (Global n t ds) = u.global n t (plain_names ds)
-plain_item (Function n t f ps body) = u.function n t f ps (option_map plain_stmts body)
-
-abbrev pub plain_tree : Tree → PlainTree
-plain_tree t = map plain_item t.items
+abbrev pub plain_tree : Tree Expr Constant TypeName (List ℕ) → SourceTree
+plain_tree t = record { items = map plain_item t.items; count = t.count }

@@ -5,7 +5,7 @@ ghost use Rattle.nss_tree.specs.declared.constants.Constant.TheVariants as const
 use nwq_value::Text;
 
 /// A type as it is written.
-#[derive(Debug, Drop)]
+#[derive(Drop)]
 pub enum TypeName {
     Void,
     Int,
@@ -27,7 +27,7 @@ pub enum TypeName {
 ///
 /// The token is that of the literal or word, also where a `-` stands before it. An int keeps the literal's
 /// value and whether it is negated. A float keeps no value, since no type of a float is ever accepted.
-#[derive(Debug, Drop)]
+#[derive(Drop)]
 pub enum Constant {
     Int {
         token: u32,

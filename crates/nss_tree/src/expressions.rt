@@ -11,7 +11,7 @@ use std::alloc::Global;
 ///
 /// The token of an operation is its operator, of a call its name, of a member its `.`, of a literal or a
 /// name itself.
-#[derive(Debug, Drop)]
+#[derive(Drop)]
 pub enum Expr {
     Int {
         token: u32,
@@ -68,7 +68,7 @@ pub enum Expr {
     },
 }
 
-#[tactic(auto, using(crate::proofs::ReadingLaws::plain_laws))]
+#[tactic(auto, using(crate::specs::Readings::plain_laws))]
 impl Expr {
     /// An int literal, whose number is taken as a signed one of 32 bits.
     pub fn int(token: u32, value: u32) -> Expr

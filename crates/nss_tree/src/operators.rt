@@ -1,5 +1,5 @@
 /// An operator before its operand.
-#[derive(Clone, Copy, Debug, PartialEq, Eq)]
+#[derive(Clone, Copy)]
 pub enum PrefixOperator {
     /// `-`
     Minus,
@@ -14,7 +14,7 @@ pub enum PrefixOperator {
 }
 
 /// An operator after its operand.
-#[derive(Clone, Copy, Debug, PartialEq, Eq)]
+#[derive(Clone, Copy)]
 pub enum PostfixOperator {
     /// `++`
     Increment,
@@ -23,7 +23,7 @@ pub enum PostfixOperator {
 }
 
 /// An operator between two operands that writes nothing.
-#[derive(Clone, Copy, Debug, PartialEq, Eq)]
+#[derive(Clone, Copy)]
 pub enum BinaryOperator {
     /// `||`
     Or,
@@ -66,7 +66,7 @@ pub enum BinaryOperator {
 }
 
 /// An operator that writes its left operand.
-#[derive(Clone, Copy, Debug, PartialEq, Eq)]
+#[derive(Clone, Copy)]
 pub enum AssignOperator {
     /// `=`
     Set,

@@ -1,7 +1,6 @@
-ghost use Rattle.std.specs.Prelude.{◌≡◌, IfOk};
-ghost use Rattle.std.specs.Option.{option_map};
+ghost use Rattle.std.specs.Prelude.{◌≡◌, IfOk, OnErr, OnOk, ◌++◌, ◌∷◌, []};
 ghost use Rattle.nss_tree.specs.Statements as tree;
-ghost use Rattle.nss_tree.specs.Reading.{plain_expr, plain_stmt, plain_stmts, plain_names, plain_name};
+ghost use Rattle.nss_tree.specs.Reading.{tree_of_stmt, tree_of_stmts};
 
 use crate::constants::{Constant, TypeName};
 use crate::expressions::Expr;
@@ -9,61 +8,62 @@ use nwq_value::{Items, NoMemory, Text};
 use std::alloc::Global;
 
 /// A name that a declaration declares, with its first value where one is written. The token is the name.
-#[derive(Debug, Drop)]
-pub struct DeclaredName {
+#[derive(Drop)]
+pub struct DeclaredName<E = Expr, N = Text> {
     pub token: u32,
-    pub name: Text,
-    pub value: Option<Expr>,
+    pub name: N,
+    pub value: Option<E>,
 }
 
-/// What stands in a block or in the body of a switch: a statement, a declaration or a label.
+/// What stands in a block or in the body of a switch: a statement, a declaration or a label, with its
+/// expressions `E`, constants `C`, types `T` and declared names `N`.
 ///
 /// The token of a statement or a label is its first token, of a declaration the first token of its type.
-#[derive(Debug, Drop)]
-pub enum Stmt {
+#[derive(Drop)]
+pub enum Stmt<E = Expr, C = Constant, T = TypeName, N = Text> {
     Block {
         token: u32,
-        items: Vec<Stmt>,
+        items: Vec<Stmt<E, C, T, N>>,
     },
     Empty {
         token: u32,
     },
     Expression {
         token: u32,
-        value: Expr,
+        value: E,
     },
     If {
         token: u32,
-        condition: Expr,
-        then: Box<Stmt>,
+        condition: E,
+        then: Box<Stmt<E, C, T, N>>,
     },
     IfElse {
         token: u32,
-        condition: Expr,
-        then: Box<Stmt>,
-        otherwise: Box<Stmt>,
+        condition: E,
+        then: Box<Stmt<E, C, T, N>>,
+        otherwise: Box<Stmt<E, C, T, N>>,
     },
     While {
         token: u32,
-        condition: Expr,
-        body: Box<Stmt>,
+        condition: E,
+        body: Box<Stmt<E, C, T, N>>,
     },
     Do {
         token: u32,
-        body: Box<Stmt>,
-        condition: Expr,
+        body: Box<Stmt<E, C, T, N>>,
+        condition: E,
     },
     For {
         token: u32,
-        start: Option<Expr>,
-        condition: Option<Expr>,
-        step: Option<Expr>,
-        body: Box<Stmt>,
+        start: Option<E>,
+        condition: Option<E>,
+        step: Option<E>,
+        body: Box<Stmt<E, C, T, N>>,
     },
     Switch {
         token: u32,
-        value: Expr,
-        body: Vec<Stmt>,
+        value: E,
+        body: Vec<Stmt<E, C, T, N>>,
     },
     Break {
         token: u32,
@@ -73,34 +73,26 @@ pub enum Stmt {
     },
     Return {
         token: u32,
-        value: Option<Expr>,
+        value: Option<E>,
     },
     Declaration {
         token: u32,
-        ty: TypeName,
-        names: Items<DeclaredName>,
+        ty: T,
+        names: Items<DeclaredName<E, N>>,
     },
     Case {
         token: u32,
-        value: Constant,
+        value: C,
     },
     Default {
         token: u32,
     },
 }
 
-impl DeclaredName {
-    pub fn new(token: u32, name: Text, value: Option<Expr>) -> DeclaredName
-        ensures { plain_name result ≡ record { token = token; name = name; value = option_map plain_expr value } }
-    {
-        DeclaredName { token, name, value }
-    }
-}
-
-#[tactic(auto, using(crate::proofs::ReadingLaws::plain_laws))]
-impl Stmt {
-    pub fn block(token: u32, items: Items<Stmt>) -> Stmt
-        ensures { plain_stmt result ≡ tree.block token (plain_stmts items) }
+#[tactic(auto, using(crate::specs::Readings::plain_laws))]
+impl<E: Drop, C: Drop, T: Drop, N: Drop> Stmt<E, C, T, N> {
+    pub fn block(token: u32, items: Items<Stmt<E, C, T, N>>) -> Stmt<E, C, T, N>
+        ensures { tree_of_stmt result ≡ tree.block token (tree_of_stmts items) }
     {
         Stmt::Block {
             token,
@@ -108,20 +100,25 @@ impl Stmt {
         }
     }
 
-    pub fn empty(token: u32) -> Stmt
-        ensures { plain_stmt result ≡ tree.empty token }
+    pub fn empty(token: u32) -> Stmt<E, C, T, N>
+        ensures { tree_of_stmt result ≡ tree.empty token }
     {
         Stmt::Empty { token }
     }
 
-    pub fn expression(token: u32, value: Expr) -> Stmt
-        ensures { plain_stmt result ≡ tree.expression token (plain_expr value) }
+    pub fn expression(token: u32, value: E) -> Stmt<E, C, T, N>
+        ensures { tree_of_stmt result ≡ tree.expression token value }
     {
         Stmt::Expression { token, value }
     }
 
-    pub fn if_only(alloc: Global, token: u32, condition: Expr, then: Stmt) -> Result<Stmt, NoMemory>
-        ensures { IfOk result (λ s. plain_stmt s ≡ tree.if_only token (plain_expr condition) (plain_stmt then)) }
+    pub fn if_only(
+        alloc: Global,
+        token: u32,
+        condition: E,
+        then: Stmt<E, C, T, N>,
+    ) -> Result<Stmt<E, C, T, N>, NoMemory>
+        ensures { IfOk result (λ s. tree_of_stmt s ≡ tree.if_only token condition (tree_of_stmt then)) }
     {
         Ok(Stmt::If {
             token,
@@ -133,27 +130,33 @@ impl Stmt {
     pub fn if_else(
         alloc: Global,
         token: u32,
-        condition: Expr,
-        then: Stmt,
-        otherwise: Stmt,
-    ) -> Result<Stmt, NoMemory>
-        ensures { IfOk result (λ s. plain_stmt s ≡ tree.if_else token (plain_expr condition) (plain_stmt then) (plain_stmt otherwise)) }
+        condition: E,
+        then: Stmt<E, C, T, N>,
+        otherwise: Stmt<E, C, T, N>,
+    ) -> Result<Stmt<E, C, T, N>, NoMemory>
+        ensures { IfOk result (λ s. tree_of_stmt s ≡ tree.if_else token condition (tree_of_stmt then) (tree_of_stmt otherwise)) }
     {
-        Ok(Stmt::IfElse {
-            token,
-            condition,
-            then: Box::new(alloc, then)?,
-            otherwise: Box::new(alloc, otherwise)?,
-        })
+        match Box::new(alloc, then) {
+            Err(error) => {
+                drop(otherwise);
+                Err(NoMemory::from(error))
+            }
+            Ok(then) => Ok(Stmt::IfElse {
+                token,
+                condition,
+                then,
+                otherwise: Box::new(alloc, otherwise)?,
+            }),
+        }
     }
 
     pub fn while_loop(
         alloc: Global,
         token: u32,
-        condition: Expr,
-        body: Stmt,
-    ) -> Result<Stmt, NoMemory>
-        ensures { IfOk result (λ s. plain_stmt s ≡ tree.while_loop token (plain_expr condition) (plain_stmt body)) }
+        condition: E,
+        body: Stmt<E, C, T, N>,
+    ) -> Result<Stmt<E, C, T, N>, NoMemory>
+        ensures { IfOk result (λ s. tree_of_stmt s ≡ tree.while_loop token condition (tree_of_stmt body)) }
     {
         Ok(Stmt::While {
             token,
@@ -162,8 +165,13 @@ impl Stmt {
         })
     }
 
-    pub fn do_loop(alloc: Global, token: u32, body: Stmt, condition: Expr) -> Result<Stmt, NoMemory>
-        ensures { IfOk result (λ s. plain_stmt s ≡ tree.do_loop token (plain_stmt body) (plain_expr condition)) }
+    pub fn do_loop(
+        alloc: Global,
+        token: u32,
+        body: Stmt<E, C, T, N>,
+        condition: E,
+    ) -> Result<Stmt<E, C, T, N>, NoMemory>
+        ensures { IfOk result (λ s. tree_of_stmt s ≡ tree.do_loop token (tree_of_stmt body) condition) }
     {
         Ok(Stmt::Do {
             token,
@@ -175,12 +183,12 @@ impl Stmt {
     pub fn for_loop(
         alloc: Global,
         token: u32,
-        start: Option<Expr>,
-        condition: Option<Expr>,
-        step: Option<Expr>,
-        body: Stmt,
-    ) -> Result<Stmt, NoMemory>
-        ensures { IfOk result (λ s. plain_stmt s ≡ tree.for_loop token (option_map plain_expr start) (option_map plain_expr condition) (option_map plain_expr step) (plain_stmt body)) }
+        start: Option<E>,
+        condition: Option<E>,
+        step: Option<E>,
+        body: Stmt<E, C, T, N>,
+    ) -> Result<Stmt<E, C, T, N>, NoMemory>
+        ensures { IfOk result (λ s. tree_of_stmt s ≡ tree.for_loop token start condition step (tree_of_stmt body)) }
     {
         Ok(Stmt::For {
             token,
@@ -191,8 +199,8 @@ impl Stmt {
         })
     }
 
-    pub fn switch(token: u32, value: Expr, body: Items<Stmt>) -> Stmt
-        ensures { plain_stmt result ≡ tree.switch token (plain_expr value) (plain_stmts body) }
+    pub fn switch(token: u32, value: E, body: Items<Stmt<E, C, T, N>>) -> Stmt<E, C, T, N>
+        ensures { tree_of_stmt result ≡ tree.switch token value (tree_of_stmts body) }
     {
         Stmt::Switch {
             token,
@@ -201,38 +209,38 @@ impl Stmt {
         }
     }
 
-    pub fn break_off(token: u32) -> Stmt
-        ensures { plain_stmt result ≡ tree.break_off token }
+    pub fn break_off(token: u32) -> Stmt<E, C, T, N>
+        ensures { tree_of_stmt result ≡ tree.break_off token }
     {
         Stmt::Break { token }
     }
 
-    pub fn continue_on(token: u32) -> Stmt
-        ensures { plain_stmt result ≡ tree.continue_on token }
+    pub fn continue_on(token: u32) -> Stmt<E, C, T, N>
+        ensures { tree_of_stmt result ≡ tree.continue_on token }
     {
         Stmt::Continue { token }
     }
 
-    pub fn return_from(token: u32, value: Option<Expr>) -> Stmt
-        ensures { plain_stmt result ≡ tree.return_from token (option_map plain_expr value) }
+    pub fn return_from(token: u32, value: Option<E>) -> Stmt<E, C, T, N>
+        ensures { tree_of_stmt result ≡ tree.return_from token value }
     {
         Stmt::Return { token, value }
     }
 
-    pub fn declaration(token: u32, ty: TypeName, names: Items<DeclaredName>) -> Stmt
-        ensures { plain_stmt result ≡ tree.declaration token ty (plain_names names) }
+    pub fn declaration(token: u32, ty: T, names: Items<DeclaredName<E, N>>) -> Stmt<E, C, T, N>
+        ensures { tree_of_stmt result ≡ tree.declaration token ty names }
     {
         Stmt::Declaration { token, ty, names }
     }
 
-    pub fn case_label(token: u32, value: Constant) -> Stmt
-        ensures { plain_stmt result ≡ tree.case_label token value }
+    pub fn case_label(token: u32, value: C) -> Stmt<E, C, T, N>
+        ensures { tree_of_stmt result ≡ tree.case_label token value }
     {
         Stmt::Case { token, value }
     }
 
-    pub fn default_label(token: u32) -> Stmt
-        ensures { plain_stmt result ≡ tree.default_label token }
+    pub fn default_label(token: u32) -> Stmt<E, C, T, N>
+        ensures { tree_of_stmt result ≡ tree.default_label token }
     {
         Stmt::Default { token }
     }

@@ -1,70 +1,71 @@
-ghost use Rattle.std.specs.Prelude.{◌≡◌, map};
+ghost use Rattle.std.specs.Prelude.{◌≡◌};
 ghost use Rattle.std.specs.Option.{option_map};
 ghost use Rattle.nss_tree.specs.Units as tree;
-ghost use Rattle.nss_tree.specs.Reading.{plain_item, plain_names, plain_stmts, plain_tree};
+ghost use Rattle.nss_tree.specs.Reading.{tree_of_item, tree_of_stmts};
 
 use crate::constants::{Constant, TypeName};
+use crate::expressions::Expr;
 use crate::statements::{DeclaredName, Stmt};
 use nwq_value::{Items, Text};
 
 /// A name that is declared with no value of its own: that of a const line or of a field. The token is the name.
-#[derive(Debug, Drop)]
+#[derive(Drop)]
 pub struct Identifier {
     pub token: u32,
     pub name: Text,
 }
 
 /// A line of a struct: fields of one type. The token is the first of the type.
-#[derive(Debug, Drop)]
-pub struct FieldLine {
+#[derive(Drop)]
+pub struct FieldLine<T = TypeName> {
     pub token: u32,
-    pub ty: TypeName,
+    pub ty: T,
     pub names: Items<Identifier>,
 }
 
 /// A parameter of a function. The token is the first of the type.
-#[derive(Debug, Drop)]
-pub struct Parameter {
+#[derive(Drop)]
+pub struct Parameter<C = Constant, T = TypeName, N = Text> {
     pub token: u32,
-    pub ty: TypeName,
-    pub name: Text,
-    pub default: Option<Constant>,
+    pub ty: T,
+    pub name: N,
+    pub default: Option<C>,
 }
 
 /// What a unit consists of.
 ///
 /// The token of a struct or a function is its name, of a const line or a global's line the first of its type.
-#[derive(Debug, Drop)]
-pub enum Item {
+#[derive(Drop)]
+pub enum Item<E = Expr, C = Constant, T = TypeName, N = Text> {
     Struct {
         token: u32,
         name: Text,
-        fields: Items<FieldLine>,
+        fields: Items<FieldLine<T>>,
     },
     Const {
         token: u32,
-        ty: TypeName,
+        ty: T,
         name: Identifier,
-        value: Constant,
+        value: C,
     },
     Global {
         token: u32,
-        ty: TypeName,
-        names: Items<DeclaredName>,
+        ty: T,
+        names: Items<DeclaredName<E, N>>,
     },
     /// A function, or with no body a prototype
     Function {
         token: u32,
-        result: TypeName,
+        result: T,
         name: Text,
-        parameters: Items<Parameter>,
-        body: Option<Items<Stmt>>,
+        parameters: Items<Parameter<C, T, N>>,
+        body: Option<Items<Stmt<E, C, T, N>>>,
     },
 }
 
-impl Item {
-    pub fn structure(token: u32, name: Text, fields: Items<FieldLine>) -> Item
-        ensures { plain_item result ≡ tree.structure token name fields }
+impl<E: Drop, C: Drop, T: Drop, N: Drop> Item<E, C, T, N> {
+    pub fn structure(token: u32, name: Text, fields: Items<FieldLine<T>>) -> Item<E, C, T, N>
+        ensures { tree_of_item result ≡ tree.structure token name fields }
     {
         Item::Struct {
             token,
@@ -73,8 +74,8 @@ impl Item {
         }
     }
 
-    pub fn constant(token: u32, ty: TypeName, name: Identifier, value: Constant) -> Item
-        ensures { plain_item result ≡ tree.constant token ty name value }
+    pub fn constant(token: u32, ty: T, name: Identifier, value: C) -> Item<E, C, T, N>
+        ensures { tree_of_item result ≡ tree.constant token ty name value }
     {
         Item::Const {
             token,
@@ -84,20 +85,20 @@ impl Item {
         }
     }
 
-    pub fn global(token: u32, ty: TypeName, names: Items<DeclaredName>) -> Item
-        ensures { plain_item result ≡ tree.global token ty (plain_names names) }
+    pub fn global(token: u32, ty: T, names: Items<DeclaredName<E, N>>) -> Item<E, C, T, N>
+        ensures { tree_of_item result ≡ tree.global token ty names }
     {
         Item::Global { token, ty, names }
     }
 
     pub fn function(
         token: u32,
-        ty: TypeName,
+        ty: T,
         name: Text,
-        parameters: Items<Parameter>,
-        body: Option<Items<Stmt>>,
-    ) -> Item
-        ensures { plain_item result ≡ tree.function token ty name parameters (option_map plain_stmts body) }
+        parameters: Items<Parameter<C, T, N>>,
+        body: Option<Items<Stmt<E, C, T, N>>>,
+    ) -> Item<E, C, T, N>
+        ensures { tree_of_item result ≡ tree.function token ty name parameters (option_map tree_of_stmts body) }
     {
         Item::Function {
             token,
@@ -109,8 +110,9 @@ impl Item {
     }
 }
 
-/// The syntax tree of a unit.
-#[derive(Debug, Drop)]
-pub struct Tree {
-    pub items: Items<Item>,
+/// The syntax tree of a unit: its items, and how many tokens it has.
+#[derive(Drop)]
+pub struct Tree<E = Expr, C = Constant, T = TypeName, N = Text> {
+    pub items: Items<Item<E, C, T, N>>,
+    pub count: u32,
 }

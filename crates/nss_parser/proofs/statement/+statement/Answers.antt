@@ -1,10 +1,10 @@
 use Rattle.std.proofs.Common.{rules, arith, ◌+◌, ◌-◌, sym, ap, ◌∙◌}
 use Rattle.std.proofs.lemmas.Grind.{common_steps}
-use Rattle.nss_tree.specs.Statements.{PlainStmts}
+use Rattle.nss_tree.specs.Source.{SourceStmts}
 use Rattle.nss_tree.specs.Reading.{plain_expr, plain_stmt, plain_stmts}
 use Rattle.nss_parser.specs.ReadStatement as read
 use Rattle.nss_parser.proofs.LoopTurns.{entry_more}
-use Rattle.nss_parser.proofs.PartLaws.{if_is, do_is}
+use Rattle.nss_parser.proofs.PartLaws.{if_is, do_is, for_is}
 use Rattle.nss_parser.proofs.Turns.{one_more, deeper}
 use Rattle.nss_parser.proofs.statement.+statement.Goals as goal
 
@@ -13,7 +13,7 @@ entries-loop-turn-preserved t c =
     let e = one_more (λ n. read.entries_from c.args.depth (read.statement c.args.depth) c.args.labels n (plain_stmts c.loop-turn.all) c.loop-turn.tokens) c.args.depth _ c.loop-turn._turn c.loop-turn-test.true c.loop-turn.invariant in
     let more = entry_more c.args.depth (c.args.depth - (c.loop-turn._turn + 1)) (read.statement c.args.depth) c.args.labels (plain_stmts c.loop-turn.all) (plain_stmt c.in_ok-next.next)
     c.loop-turn.tokens c.entry.new.tokens (sym c.sees.ensures ∙ c.if-sees.false) c.in_ok-next.ensures in
-    e ∙ more ∙ ap (λ (z : PlainStmts). read.entries_from c.args.depth (read.statement c.args.depth) c.args.labels (c.args.depth - (c.loop-turn._turn + 1)) z c.entry.new.tokens) (sym c.in_ok-push_stmt.ensures)
+    e ∙ more ∙ ap (λ (z : SourceStmts). read.entries_from c.args.depth (read.statement c.args.depth) c.args.labels (c.args.depth - (c.loop-turn._turn + 1)) z c.entry.new.tokens) (sym c.in_ok-push_stmt.ensures)
 
 pub statement-returns : goal.statement-returns
 unfolding read.statement

@@ -1,6 +1,6 @@
 use Rattle.std.proofs.Common.{◌+◌, ◌-◌, map, false, sym, ap, ◌∙◌}
+use Rattle.nss_tree.specs.Source.{SourceItems}
 use Rattle.nss_tree.specs.Reading.{plain_item}
-use Rattle.nss_tree.specs.Units.{PlainTree}
 use Rattle.nss_parser.specs.ReadStatement as statements
 use Rattle.nss_parser.specs.ReadUnit as read
 use Rattle.nss_parser.proofs.Turns.{one_more}
@@ -14,4 +14,4 @@ loop-turn-preserved c =
     let e = one_more (λ n. read.items_from c.args.depth inside n (map plain_item c.loop-turn.items) c.loop-turn.tokens) c.args.depth _ c.loop-turn._turn c.loop-turn-test.true c.loop-turn.invariant in
     let more = items_more c.args.depth left inside (map plain_item c.loop-turn.items) (plain_item c.in_ok-next.next) c.loop-turn.tokens c.item.new.tokens
     (sym c.is_at_end.ensures ∙ c.if-is_at_end.false) c.in_ok-next.ensures in
-    e ∙ more ∙ ap (λ (z : PlainTree). read.items_from c.args.depth inside left z c.item.new.tokens) (sym c.in_ok-push_item.ensures)
+    e ∙ more ∙ ap (λ (z : SourceItems). read.items_from c.args.depth inside left z c.item.new.tokens) (sym c.in_ok-push_item.ensures)

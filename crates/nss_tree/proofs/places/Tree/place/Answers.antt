@@ -1,7 +1,7 @@
 use Rattle.nss_tree.specs.Places.{places_item}
 use Rattle.nss_tree.specs.Reading.{plain_item}
 use Rattle.nss_tree.proofs.SeekLaws.{each_step}
-use Rattle.nss_tree.proofs.units.Tree.place.Goals as goal
+use Rattle.nss_tree.proofs.places.Tree.place.Goals as goal
 
 pub loop-item-preserved : goal.loop-item-preserved
 loop-item-preserved c =
