@@ -1,4 +1,6 @@
 pub mod Lists
+pub mod Pieces
 pub mod Places
 mod Resuming
+pub mod Rows
 mod Views

@@ -4,18 +4,23 @@
 //! is the number of cells beneath it, so it doesn't move when others are pushed or dropped over it. The
 //! lists of a [`Saved`] state stand in the order of their places, the lowest cell first.
 //!
-//! Promised: each call changes just what its clause says, [`Stack::capture`] gives copies that no later
+//! Promised: each call changes just what its clause says, [`Stack::capture`] gives lists that no later
 //! write or drop reaches, and [`resume`] makes the stack with which a captured state begins to run. Want of
 //! memory is the one error, and leaves a stack as it was.
+//!
+//! A list of cells is kept as pieces of pages, which stacks and states share: to capture copies no cell,
+//! and who writes to a shared page copies it first. No contract speaks of pages.
 #![tactic(auto)]
 
 mod cell;
+mod cells;
 mod laws;
+mod piece;
+mod saved;
 mod stack;
 
-pub use cell::{Cell, Cells, Saved};
+pub use cell::Cell;
+pub use cells::Cells;
 pub use laws::{captured_values, captures_again, resumed_values};
+pub use saved::Saved;
 pub use stack::{Stack, resume};
-
-#[cfg(test)]
-mod tests;

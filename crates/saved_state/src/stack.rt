@@ -1,8 +1,10 @@
-ghost use Rattle.std.specs.Prelude.{◌≡◌, ◌<◌, ◌≤◌, Some, [], ◌∷◌, length, drop, OnOk, OnErr, IfOk};
+ghost use Rattle.std.specs.Prelude.{◌≡◌, ◌≢◌, ◌<◌, ◌≤◌, ℕ, Some, [], ◌∷◌, length, drop, OnOk, OnErr, IfOk};
 ghost use Rattle.saved_state.specs.Cells.{cell_at, with_cell, captured, resumed};
-ghost use Rattle.saved_state.specs.declared.cell.Cell.TheVariants.{Value as ValueCell};
+ghost use Rattle.saved_state.specs.declared.cell.Cell.TheVariants.{Value as ValueCell, Base as BaseCell};
 
-use crate::cell::{Cell, Cells, Saved};
+use crate::cell::Cell;
+use crate::cells::Cells;
+use crate::saved::Saved;
 use nwq_value::{NoMemory, Value};
 use std::alloc::Global;
 use std::marker::Model;
@@ -12,7 +14,7 @@ use std::marker::Model;
 /// Places count the cells beneath, from 0 at the bottom.
 #[derive(Drop)]
 pub struct Stack {
-    cells: Vec<Cell>,
+    cells: Cells,
     bp: usize,
 }
 
@@ -22,16 +24,16 @@ impl Model for Stack {
 
     ghost Value = { StackView };
 
-    ghost view = { λ s. record { cells = reverse s.cells.items; bp = s.bp } };
+    ghost view = { λ s. record { cells = reverse s.cells; bp = s.bp } };
 }
 
 impl Stack {
     /// The stack without cells, whose BP is 0.
     pub fn new(alloc: Global) -> Stack
-        ensures { result ≡ record { cells = []; bp = 0 } }
+        ensures empty { result ≡ record { cells = []; bp = 0 } }
     {
         Stack {
-            cells: Vec::new(alloc),
+            cells: Cells::new(alloc),
             bp: 0,
         }
     }
@@ -41,63 +43,63 @@ impl Stack {
         ensures ok { OnOk result (self.new ≡ record self.old { cells = cell ∷ self.old.cells }) }
         ensures err { OnErr result (self.new ≡ self.old) }
     {
-        self.cells.push(cell)?;
-        Ok(())
+        self.cells.push(cell)
     }
 
     /// How many cells there are: the place of the next one that is pushed.
     pub fn len(&self) -> usize
-        ensures { result ≡ length self.now.cells }
+        ensures count { result ≡ length self.now.cells }
     {
         self.cells.len()
     }
 
     /// BP: offsets from it reach the cells beneath it.
     pub fn bp(&self) -> usize
-        ensures { result ≡ self.now.bp }
+        ensures bp { result ≡ self.now.bp }
     {
         self.bp
     }
 
     /// The cell at a place.
     pub fn at(&self, place: usize) -> &Cell
-        requires { place < length self.now.cells }
-        ensures { cell_at self.now.cells place ≡ Some result.now }
+        requires inside { place < length self.now.cells }
+        ensures cell { cell_at self.now.cells place ≡ Some result.now }
     {
-        &self.cells[place]
+        self.cells.at(place)
     }
 
     /// Drops the `n` topmost cells. BP stays, even where its place is among them.
     pub fn drop_top(&mut self, n: usize)
-        requires { n ≤ length self.old.cells }
-        ensures { self.new ≡ record self.old { cells = drop n self.old.cells } }
+        requires inside { n ≤ length self.old.cells }
+        ensures dropped { self.new ≡ record self.old { cells = drop n self.old.cells } }
     {
         let left = self.cells.len() - n;
         self.cells.truncate(left);
     }
 
-    /// Puts a value into the cell at a place.
-    pub fn set(&mut self, place: usize, value: Value)
-        requires { place < length self.old.cells }
-        ensures { self.new ≡ record self.old { cells = with_cell self.old.cells place (ValueCell value) } }
+    /// Puts a value into the cell at a place. After `NoMemory` it is dropped and the stack is as before.
+    pub fn set(&mut self, place: usize, value: Value) -> Result<(), NoMemory>
+        requires inside { place < length self.old.cells }
+        requires no_base { (bp : ℕ) → cell_at self.old.cells place ≢ Some (BaseCell bp) }
+        ensures ok { OnOk result (self.new ≡ record self.old { cells = with_cell self.old.cells place (ValueCell value) }) }
+        ensures err { OnErr result (self.new ≡ self.old) }
     {
-        self.cells[place] = Cell::Value(value);
+        self.cells.set(place, Cell::Value(value))
     }
 
     /// Sets BP to a place, which may be the one over the top.
     pub fn set_bp(&mut self, place: usize)
-        requires { place ≤ length self.old.cells }
-        ensures { self.new ≡ record self.old { bp = place } }
+        requires inside { place ≤ length self.old.cells }
+        ensures bp { self.new ≡ record self.old { bp = place } }
     {
         self.bp = place;
     }
 
-    /// The state of a script that is to resume at a place of its code, with copies of the `globals` cells
-    /// right beneath BP and of the `locals` topmost cells. A base cell among them is copied like any other;
-    /// compiled code asks for none.
+    /// The state of a script that is to resume at a place of its code, with the `globals` cells right
+    /// beneath BP and the `locals` topmost cells. A base cell among them is kept like any other; compiled
+    /// code asks for none.
     pub fn capture(
         &self,
-        alloc: Global,
         script: u32,
         place: u32,
         globals: usize,
@@ -106,38 +108,26 @@ impl Stack {
         requires bp { self.now.bp ≤ length self.now.cells }
         requires globals { globals ≤ self.now.bp }
         requires locals { locals ≤ length self.now.cells }
-        ensures { IfOk result (λ saved. saved ≡ captured script place globals locals self.now) }
+        ensures state { IfOk result (λ saved. saved ≡ captured script place globals locals self.now) }
     {
-        let cells = self.cells.as_slice();
+        let len = self.cells.len();
         Ok(Saved {
             script,
             place,
-            globals: copies(alloc, &cells[self.bp - globals..self.bp])?,
-            locals: copies(alloc, &cells[cells.len() - locals..])?,
+            globals: self.cells.part(self.bp - globals, self.bp)?,
+            locals: self.cells.part(len - locals, len)?,
         })
     }
 }
 
 /// The stack with which a captured state begins: its globals, over them a base cell that holds BP 0, over
 /// it its locals, and BP at the base cell's place. After `NoMemory` the state is dropped.
-pub fn resume(alloc: Global, saved: Saved) -> Result<Stack, NoMemory>
-    ensures { IfOk result (λ stack. stack ≡ resumed saved) }
+pub fn resume(saved: Saved) -> Result<Stack, NoMemory>
+    ensures stack { IfOk result (λ stack. stack ≡ resumed saved) }
 {
-    let mut cells = Vec::new(alloc);
-    cells.append(&mut saved.globals.into_vec())?;
+    let mut cells = saved.globals;
     let bp = cells.len();
-    cells.push(Cell::Base(0))?;
-    cells.append(&mut saved.locals.into_vec())?;
+    cells.begin_page(Cell::Base(0))?;
+    cells.append(&saved.locals)?;
     Ok(Stack { cells, bp })
-}
-
-/// Equal cells, in the same order.
-fn copies(alloc: Global, cells: &[Cell]) -> Result<Cells, NoMemory>
-    ensures { IfOk result (λ all. all ≡ cells.now) }
-{
-    let mut all = Cells::new(alloc);
-    for cell in cells {
-        all.push(cell.copy(alloc)?)?;
-    }
-    Ok(all)
 }
