@@ -1,2 +1,2 @@
-mod OrderLemmas
-mod LawLemmas
+pub mod Placing
+pub mod Turns

@@ -1,3 +1,4 @@
 pub mod Order
-pub mod Posted
+pub mod Waiting
+pub mod Queues
 pub mod Laws

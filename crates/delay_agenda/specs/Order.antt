@@ -1,6 +1,6 @@
--- The order in which entries are taken, and what every agenda keeps of its list.
+-- The order in which entries are taken.
 use Rattle.std.specs.Prelude.{◌≡◌, ◌≢◌, ◌<◌, ◌≤◌, ◌⊎◌, ℕ, Bool, true, false, List, [], ◌∷◌, Option, None, Some, nat_eq, nat_lt, slice_get, if◌then◌else◌}
-use Rattle.delay_agenda.specs.declared.agenda.Entry.{Entry}
+use Rattle.delay_agenda.specs.declared.entry.Entry.{Entry}
 
 -- a is taken before b: it is due earlier, or at the same time with a lesser number
 abbrev pub IsBefore : {X : Type 0} → Entry X → Entry X → Type 0
@@ -50,9 +50,3 @@ HasNone number (e ∷ es) = (e.number ≢ number) × HasNone number es
 abbrev pub AreDistinct : {X : Type 0} → List (Entry X) → Type 0
 AreDistinct [] = Unit {0}
 AreDistinct (e ∷ es) = HasNone e.number es × AreDistinct es
-
--- what every agenda keeps of its entries and its next number
-pub record IsAgenda {X : Type 0} (next : ℕ) (es : List (Entry X)) : Type 0 where
-  pub order : AreInOrder es
-  pub below : AreBelow next es
-  pub distinct : AreDistinct es

@@ -2,4 +2,10 @@
 #![tactic(auto)]
 
 #[cfg(test)]
+mod agenda;
+#[cfg(test)]
+mod queues;
+#[cfg(test)]
 mod shapes;
+#[cfg(test)]
+mod states;

@@ -1,0 +1,214 @@
+-- Entries put in order, one by one: what the test of the order gives, and where an entry comes to stand.
+use Rattle.std.proofs.Common.{◌≡◌, ◌<◌, ◌≤◌, ◌+◌, ◌-◌, ◌++◌, ◌∷◌, [], ℕ, zero, suc, Bool, true, false, List, length, take, drop, get_or, refl, sym, ap, subst, ◌∙◌, inl, inr, arith}
+use Rattle.std.specs.Prelude.{◌⊎◌, if◌then◌else◌}
+use Rattle.std.specs.List.{remove}
+use Rattle.std.proofs.lemmas.Bool.Decides.{nat_tests}
+use Rattle.std.proofs.lemmas.List.{take-append-drop, get_or_default}
+use Rattle.delay_agenda.specs.declared.entry.Entry.{Entry}
+use Rattle.delay_agenda.specs.Order.{is_before, put_entry}
+use Rattle.delay_agenda.specs.Queues.{put_all, NoneBefore, AreSorted, StopsAt, IsLeastAt, IsInQueues}
+
+-- ---- the test
+
+-- what isn't before b isn't before what b isn't before
+none_trans : {X : Type 0} (a b c : Entry X) → is_before a b ≡ false → is_before b c ≡ false → is_before a c ≡ false
+none_trans a b c first second = grind (arith, nat_tests)
+
+before_none : {X : Type 0} (a b c : Entry X) → is_before a b ≡ true → is_before c b ≡ false → is_before a c ≡ true
+before_none a b c first second = grind (arith, nat_tests)
+
+none_before : {X : Type 0} (a b c : Entry X) → is_before b a ≡ false → is_before b c ≡ true → is_before a c ≡ true
+none_before a b c first second = grind (arith, nat_tests)
+
+pub one_way : {X : Type 0} (a b : Entry X) → is_before a b ≡ true → is_before b a ≡ false
+one_way a b is = grind (arith, nat_tests)
+
+-- ---- one entry put
+
+pub put_stops : {X : Type 0} (e : Entry X) (es : List (Entry X)) → StopsAt e es → put_entry e es ≡ e ∷ es
+put_stops e [] stops = refl
+put_stops e (x ∷ rest) stops = ap (λ (b : Bool). if b then x ∷ put_entry e rest else e ∷ x ∷ rest) stops
+
+pub put_passes : {X : Type 0} (e x : Entry X) (es : List (Entry X)) → is_before x e ≡ true → put_entry e (x ∷ es) ≡ x ∷ put_entry e es
+put_passes e x es is = ap (λ (b : Bool). if b then x ∷ put_entry e es else e ∷ x ∷ es) is
+
+joined_if : {X : Type 0} (b : Bool) (e x : Entry X) (xs more ys all : List (Entry X)) → all ≡ more ++ ys
+    → (if b then x ∷ all else e ∷ x ∷ xs ++ ys) ≡ (if b then x ∷ more else e ∷ x ∷ xs) ++ ys
+joined_if true e x xs more ys all is = ap (λ t. x ∷ t) is
+joined_if false e x xs more ys all is = refl
+
+-- in the first of two lists, where it doesn't pass the second's head
+pub put_joined : {X : Type 0} (e : Entry X) (xs ys : List (Entry X)) → StopsAt e ys → put_entry e (xs ++ ys) ≡ put_entry e xs ++ ys
+put_joined e [] ys stops = put_stops e ys stops
+put_joined e (x ∷ xs) ys stops = joined_if (is_before x e) e x xs (put_entry e xs) ys (put_entry e (xs ++ ys)) (put_joined e xs ys stops)
+
+-- each of these is taken before e
+abbrev pub AllBefore : {X : Type 0} → Entry X → List (Entry X) → Type 0
+AllBefore e [] = Unit {0}
+AllBefore e (x ∷ xs) = (is_before x e ≡ true) × AllBefore e xs
+
+-- in the second, where all of the first are taken before it
+pub put_behind : {X : Type 0} (e : Entry X) (xs ys : List (Entry X)) → AllBefore e xs → put_entry e (xs ++ ys) ≡ xs ++ put_entry e ys
+put_behind e [] ys all = refl
+put_behind e (x ∷ xs) ys all = put_passes e x (xs ++ ys) all.0 ∙ ap (λ t. x ∷ t) (put_behind e xs ys all.1)
+
+-- ---- the place of an entry among those in order
+
+none_at : {X : Type 0} (e : Entry X) (es : List (Entry X)) (i : ℕ) (d : Entry X) → NoneBefore e es → i < length es → is_before (get_or es i d) e ≡ false
+none_at e [] i d none less = absurd (omega arith)
+none_at e (x ∷ xs) zero d none less = none.0
+none_at e (x ∷ xs) (suc i) d none less = none_at e xs i d none.1 (omega arith)
+
+-- all up to one that is taken before e
+all_before : {X : Type 0} (e : Entry X) (es : List (Entry X)) (i : ℕ) (d : Entry X) → AreSorted es → i < length es
+    → is_before (get_or es i d) e ≡ true → AllBefore e (take (suc i) es)
+all_before e [] i d sorted less is = absurd (omega arith)
+all_before e (x ∷ xs) zero d sorted less is = (is, tt)
+all_before e (x ∷ xs) (suc i) d sorted less is =
+    (none_before x (get_or xs i d) e (none_at x xs i d sorted.0 (omega arith)) is, all_before e xs i d sorted.1 (omega arith) is)
+
+pub put_at : {X : Type 0} (e : Entry X) (es : List (Entry X)) (n at : ℕ) (d : Entry X) → AreSorted es → at ≡ suc n → n < length es
+    → is_before (get_or es n d) e ≡ true → StopsAt e (drop at es) → take at es ++ e ∷ drop at es ≡ put_entry e es
+put_at e es n at d sorted is less before stops =
+    let all = all_before e es n d sorted less before in
+    ap (λ t. take at es ++ t) (sym (put_stops e (drop at es) stops))
+    ∙ sym (put_behind e (take at es) (drop at es) (subst (λ k. AllBefore e (take k es)) (sym is) all))
+    ∙ ap (put_entry e) (take-append-drop at es)
+
+pub put_first : {X : Type 0} (e : Entry X) (es : List (Entry X)) → StopsAt e es → e ∷ es ≡ put_entry e es
+put_first e es stops = sym (put_stops e es stops)
+
+pub stops_next : {X : Type 0} (e : Entry X) (es : List (Entry X)) (i : ℕ) (d : Entry X) → i < length es → is_before (get_or es i d) e ≡ false → StopsAt e (drop i es)
+stops_next e [] i d less is = absurd (omega arith)
+stops_next e (x ∷ xs) zero d less is = is
+stops_next e (x ∷ xs) (suc i) d less is = stops_next e xs i d (omega arith) is
+
+pub stops_end : {X : Type 0} (e : Entry X) (es : List (Entry X)) (n : ℕ) → n ≡ length es → StopsAt e (drop n es)
+stops_end e [] n is = subst (λ k. StopsAt e (drop k [])) (sym is) tt
+stops_end e (x ∷ xs) zero is = absurd (omega (arith, is))
+stops_end e (x ∷ xs) (suc n) is = stops_end e xs n (omega (arith, is))
+
+-- ---- sorted lists stay sorted
+
+none_put_if : {X : Type 0} (b : Bool) (a e x : Entry X) (rest more : List (Entry X)) → is_before e a ≡ false → NoneBefore a (x ∷ rest)
+    → NoneBefore a more → NoneBefore a (if b then x ∷ more else e ∷ x ∷ rest)
+none_put_if true a e x rest more here none next = (none.0, next)
+none_put_if false a e x rest more here none next = (here, none)
+
+pub none_put : {X : Type 0} (a e : Entry X) (es : List (Entry X)) → is_before e a ≡ false → NoneBefore a es → NoneBefore a (put_entry e es)
+none_put a e [] here none = (here, tt)
+none_put a e (x ∷ rest) here none = none_put_if (is_before x e) a e x rest (put_entry e rest) here none (none_put a e rest here none.1)
+
+pub none_all : {X : Type 0} (a b : Entry X) (es : List (Entry X)) → is_before b a ≡ false → NoneBefore b es → NoneBefore a es
+none_all a b [] here none = tt
+none_all a b (x ∷ xs) here none = (none_trans x b a none.0 here, none_all a b xs here none.1)
+
+sorted_if : {X : Type 0} (b : Bool) (e x : Entry X) (rest : List (Entry X)) → is_before x e ≡ b → AreSorted (x ∷ rest)
+    → AreSorted (put_entry e rest) → AreSorted (if b then x ∷ put_entry e rest else e ∷ x ∷ rest)
+sorted_if true e x rest is sorted next = (none_put x e rest (one_way x e is) sorted.0, next)
+sorted_if false e x rest is sorted next = ((is, none_all e x rest is sorted.0), sorted)
+
+pub sorted_put : {X : Type 0} (e : Entry X) (es : List (Entry X)) → AreSorted es → AreSorted (put_entry e es)
+sorted_put e [] sorted = (tt, tt)
+sorted_put e (x ∷ rest) sorted = sorted_if (is_before x e) e x rest refl sorted (sorted_put e rest sorted.1)
+
+-- ---- the first of an inbox and of a row
+
+pub all_more : {X : Type 0} (inbox row : List (Entry X)) (e : Entry X) → put_all (inbox ++ e ∷ []) row ≡ put_entry e (put_all inbox row)
+all_more [] row e = refl
+all_more (x ∷ xs) row e = all_more xs (put_entry x row) e
+
+-- the head stays the head, where it is taken before all that come in
+pub all_behind : {X : Type 0} (inbox : List (Entry X)) (m : Entry X) (row : List (Entry X))
+    → ((i : ℕ) (d : Entry X) → i < length inbox → is_before m (get_or inbox i d) ≡ true) → put_all inbox (m ∷ row) ≡ m ∷ put_all inbox row
+all_behind [] m row all = refl
+all_behind (x ∷ xs) m row all =
+    ap (put_all xs) (put_passes x m row (all zero x (omega arith)))
+    ∙ all_behind xs m (put_entry x row) (λ i d less. all (suc i) d (omega (arith, less)))
+
+stops_if : {X : Type 0} (b : Bool) (a e x : Entry X) (rest more : List (Entry X)) → is_before e a ≡ false → is_before x a ≡ false
+    → StopsAt a (if b then x ∷ more else e ∷ x ∷ rest)
+stops_if true a e x rest more here stops = stops
+stops_if false a e x rest more here stops = here
+
+stops_put : {X : Type 0} (a e : Entry X) (es : List (Entry X)) → is_before e a ≡ false → StopsAt a es → StopsAt a (put_entry e es)
+stops_put a e [] here stops = here
+stops_put a e (x ∷ rest) here stops = stops_if (is_before x e) a e x rest (put_entry e rest) here stops
+
+-- the entry of the inbox that is taken before all others is the head
+pub all_least : {X : Type 0} (inbox row : List (Entry X)) (at : ℕ) (e : Entry X) → at < length inbox → get_or inbox at e ≡ e
+    → ((i : ℕ) (d : Entry X) → i < at → is_before (get_or inbox i d) e ≡ false)
+    → ((i : ℕ) (d : Entry X) → at < i → i < length inbox → is_before e (get_or inbox i d) ≡ true)
+    → StopsAt e row → put_all inbox row ≡ e ∷ put_all (remove inbox at) row
+all_least [] row at e inside is before behind stops = absurd (omega arith)
+all_least (x ∷ xs) row zero e inside is before behind stops =
+    ap (λ t. put_all xs (put_entry t row)) is
+    ∙ ap (put_all xs) (put_stops e row stops)
+    ∙ all_behind xs e row (λ i d less. behind (suc i) d (omega arith) (omega (arith, less)))
+all_least (x ∷ xs) row (suc at) e inside is before behind stops =
+    all_least xs (put_entry x row) at e (omega arith) is (λ i d less. before (suc i) d (omega (arith, less)))
+    (λ i d over less. behind (suc i) d (omega (arith, over)) (omega (arith, less)))
+    (stops_put e x row (before zero x (omega arith)) stops)
+
+-- ---- the search for the first of an inbox
+
+pub least_start : {X : Type 0} (es : List (Entry X)) → IsLeastAt 0 1 es
+least_start es = record {
+  inside = omega arith;
+  before = λ i d less. absurd (omega (arith, less));
+  behind = λ i d over less. absurd (omega (arith, over, less));
+}
+
+last_or : (i n : ℕ) → i < n + 1 → (i < n) ⊎ (i ≡ n)
+last_or i n less = grind arith
+
+split_three : (i at n : ℕ) → i < n → ((i < at) ⊎ (i ≡ at)) ⊎ (at < i)
+split_three i at n less = grind arith
+
+tested : {X : Type 0} (b : Bool) (a c e f : Entry X) → is_before a c ≡ b → a ≡ e → c ≡ f → is_before e f ≡ b
+tested b a c e f is left right = subst (λ z. is_before z f ≡ b) left (subst (λ z. is_before a z ≡ b) right is)
+
+-- an element as it was read, at any default
+read : {X : Type 0} (es : List X) (i : ℕ) (e d : X) → e ≡ get_or es i e → i < length es → e ≡ get_or es i d
+read es i e d is less = is ∙ get_or_default es i e d less
+
+kept_behind : {X : Type 0} (at n : ℕ) (es : List (Entry X)) → IsLeastAt at n es → ((d : Entry X) → is_before (get_or es at d) (get_or es n d) ≡ true)
+    → (i : ℕ) (d : Entry X) → at < i → (i < n) ⊎ (i ≡ n) → is_before (get_or es at d) (get_or es i d) ≡ true
+kept_behind at n es found test i d over (inl under) = found.behind i d over under
+kept_behind at n es found test i d over (inr same) = subst (λ k. is_before (get_or es at d) (get_or es k d) ≡ true) (sym same) (test d)
+
+pub least_kept : {X : Type 0} (at n : ℕ) (es : List (Entry X)) (e x : Entry X) → IsLeastAt at n es → n < length es
+    → e ≡ get_or es at e → x ≡ get_or es n x → is_before e x ≡ true → IsLeastAt at (n + 1) es
+least_kept at n es e x found less is_e is_x test =
+    let inside = found.inside in
+    let tests : (d : Entry _) → is_before (get_or es at d) (get_or es n d) ≡ true =
+    (λ d. tested true e x (get_or es at d) (get_or es n d) test (read es at e d is_e (omega (arith, inside, less))) (read es n x d is_x less)) in
+    record {
+      inside = omega (arith, inside);
+      before = found.before;
+      behind = λ i d over under. kept_behind at n es found tests i d over (last_or i n under);
+    }
+
+moved_before : {X : Type 0} (at n : ℕ) (es : List (Entry X)) → IsLeastAt at n es → ((d : Entry X) → is_before (get_or es at d) (get_or es n d) ≡ false)
+    → (i : ℕ) (d : Entry X) → i < n → ((i < at) ⊎ (i ≡ at)) ⊎ (at < i) → is_before (get_or es i d) (get_or es n d) ≡ false
+moved_before at n es found test i d less (inl (inl under)) =
+    none_trans (get_or es i d) (get_or es at d) (get_or es n d) (found.before i d under) (test d)
+moved_before at n es found test i d less (inl (inr same)) = subst (λ k. is_before (get_or es k d) (get_or es n d) ≡ false) (sym same) (test d)
+moved_before at n es found test i d less (inr over) =
+    none_trans (get_or es i d) (get_or es at d) (get_or es n d) (one_way (get_or es at d) (get_or es i d) (found.behind i d over less)) (test d)
+
+pub least_moved : {X : Type 0} (at n : ℕ) (es : List (Entry X)) (e x : Entry X) → IsLeastAt at n es → n < length es
+    → e ≡ get_or es at e → x ≡ get_or es n x → is_before e x ≡ false → IsLeastAt n (n + 1) es
+least_moved at n es e x found less is_e is_x test =
+    let inside = found.inside in
+    let tests : (d : Entry _) → is_before (get_or es at d) (get_or es n d) ≡ false =
+    (λ d. tested false e x (get_or es at d) (get_or es n d) test (read es at e d is_e (omega (arith, inside, less))) (read es n x d is_x less)) in
+    record {
+      inside = omega arith;
+      before = λ i d under. moved_before at n es found tests i d under (split_three i at n under);
+      behind = λ i d over under. absurd (omega (arith, over, under));
+    }
+
+pub none_stops : {X : Type 0} (e : Entry X) (es : List (Entry X)) → NoneBefore e es → StopsAt e es
+none_stops e [] none = tt
+none_stops e (x ∷ xs) none = none.0

@@ -1,0 +1,88 @@
+-- How the entries are kept: in queues by due time, and in an inbox that moves into them. No public clause speaks of it.
+use Rattle.std.specs.Prelude.{◌≡◌, ◌≢◌, ◌<◌, ℕ, Bool, true, false, List, [], ◌∷◌, ◌++◌, length, get_or}
+use Rattle.std.specs.Global.{Global}
+use Rattle.std.specs.declared.collections.VecDeque.{VecDeque}
+use Rattle.delay_agenda.specs.declared.entry.Entry.{Entry}
+use Rattle.delay_agenda.specs.Order.{is_before, put_entry}
+use Rattle.delay_agenda.specs.Waiting.{is_turn_of, IsAgenda}
+
+-- queues by due time, as a map has them
+abbrev pub Row : Type 0 → Type 0
+Row X = List (ℕ × VecDeque (Entry X) Global)
+
+-- the entries of the queues, one queue after the other
+abbrev pub in_row : {X : Type 0} → Row X → List (Entry X)
+in_row [] = []
+in_row (q ∷ qs) = q.1.items ++ in_row qs
+
+-- entries, the first of them first, put among those that stand in order
+abbrev pub put_all : {X : Type 0} → List (Entry X) → List (Entry X) → List (Entry X)
+put_all [] es = es
+put_all (x ∷ xs) es = put_all xs (put_entry x es)
+
+-- none of these is taken before e
+abbrev pub NoneBefore : {X : Type 0} → Entry X → List (Entry X) → Type 0
+NoneBefore e [] = Unit {0}
+NoneBefore e (x ∷ xs) = (is_before x e ≡ false) × NoneBefore e xs
+
+-- none is taken before one that stands before it
+abbrev pub AreSorted : {X : Type 0} → List (Entry X) → Type 0
+AreSorted [] = Unit {0}
+AreSorted (e ∷ es) = NoneBefore e es × AreSorted es
+
+-- the head isn't taken before e
+abbrev pub StopsAt : {X : Type 0} → Entry X → List (Entry X) → Type 0
+StopsAt e [] = Unit {0}
+StopsAt e (x ∷ xs) = is_before x e ≡ false
+
+-- each is due at this time
+abbrev pub AreDue : {X : Type 0} → ℕ → List (Entry X) → Type 0
+AreDue due [] = Unit {0}
+AreDue due (e ∷ es) = (e.due ≡ due) × AreDue due es
+
+-- a queue of the entries that are due at one time
+pub record IsQueue {X : Type 0} (due : ℕ) (es : List (Entry X)) : Type 0 where
+  pub filled : es ≢ []
+  pub together : AreDue due es
+  pub sorted : AreSorted es
+
+-- each queue is of a later time
+abbrev pub AreLater : {X : Type 0} → ℕ → Row X → Type 0
+AreLater due [] = Unit {0}
+AreLater due (q ∷ qs) = (due < q.0) × AreLater due qs
+
+-- each queue is of its time, and those behind it are of later ones
+abbrev pub AreQueues : {X : Type 0} → Row X → Type 0
+AreQueues [] = Unit {0}
+AreQueues (q ∷ qs) = IsQueue q.0 q.1.items × AreLater q.0 qs × AreQueues qs
+
+-- the first queue is of this time
+abbrev pub IsFirst : {X : Type 0} → ℕ → Row X → Type 0
+IsFirst due [] = ⊥
+IsFirst due (q ∷ qs) = q.0 ≡ due
+
+-- of the first n entries of an inbox, the one at this place is taken first; of several alike it is the last
+pub record IsLeastAt {X : Type 0} (at n : ℕ) (es : List (Entry X)) : Type 0 where
+  pub inside : at < n
+  pub before : (i : ℕ) (d : Entry X) → i < at → is_before (get_or es i d) (get_or es at d) ≡ false
+  pub behind : (i : ℕ) (d : Entry X) → at < i → i < n → is_before (get_or es at d) (get_or es i d) ≡ true
+
+-- the entry of the inbox at this place is taken before all others
+pub record IsInInbox {X : Type 0} (at : ℕ) (inbox row : List (Entry X)) : Type 0 where
+  pub least : IsLeastAt at (length inbox) inbox
+  pub first : (d : Entry X) → StopsAt (get_or inbox at d) row
+
+-- the head of the row is taken before all of the inbox
+abbrev pub IsInQueues : {X : Type 0} → List (Entry X) → List (Entry X) → Type 0
+IsInQueues inbox [] = inbox ≡ []
+IsInQueues {X = X} inbox (m ∷ row) = (i : ℕ) (d : Entry X) → i < length inbox → is_before m (get_or inbox i d) ≡ true
+
+-- a Turn of the object stands at this place
+pub record IsTurnAt {X : Type 0} (object at : ℕ) (es : List (Entry X)) : Type 0 where
+  pub inside : at < length es
+  pub turn : (d : Entry X) → is_turn_of object (get_or es at d) ≡ true
+
+-- what an agenda keeps of its parts
+pub record IsKept {X : Type 0} (inbox : List (Entry X)) (queues : Row X) (next : ℕ) : Type 0 where
+  pub sorted : AreQueues queues
+  pub agenda : IsAgenda (record { entries = put_all inbox (in_row queues); next = next })
