@@ -1,2 +1,6 @@
+pub mod Kept
+mod LawLemmas
+pub mod OrderLemmas
 pub mod Placing
+pub mod Rows
 pub mod Turns

@@ -1,12 +1,13 @@
 -- Entries put in order, one by one: what the test of the order gives, and where an entry comes to stand.
-use Rattle.std.proofs.Common.{◌≡◌, ◌<◌, ◌≤◌, ◌+◌, ◌-◌, ◌++◌, ◌∷◌, [], ℕ, zero, suc, Bool, true, false, List, length, take, drop, get_or, refl, sym, ap, subst, ◌∙◌, inl, inr, arith}
-use Rattle.std.specs.Prelude.{◌⊎◌, if◌then◌else◌}
+use Rattle.std.proofs.Common.{◌≡◌, ◌<◌, ◌+◌, ◌++◌, ◌∷◌, [], ℕ, zero, suc, Bool, true, false, List, length, take, drop, get_or, slice_get, refl, sym, ap, subst, ◌∙◌, inl, inr, arith}
+use Rattle.std.specs.Prelude.{◌≢◌, ◌⊎◌, if◌then◌else◌}
 use Rattle.std.specs.List.{remove}
 use Rattle.std.proofs.lemmas.Bool.Decides.{nat_tests}
 use Rattle.std.proofs.lemmas.List.{take-append-drop, get_or_default}
+use Rattle.std.proofs.lemmas.Option.{slice_get-get_or}
 use Rattle.delay_agenda.specs.declared.entry.Entry.{Entry}
 use Rattle.delay_agenda.specs.Order.{is_before, put_entry}
-use Rattle.delay_agenda.specs.Queues.{put_all, NoneBefore, AreSorted, StopsAt, IsLeastAt, IsInQueues}
+use Rattle.delay_agenda.specs.Queues.{put_all, NoneBefore, AreSorted, StopsAt, IsLeastAt, IsHead, IsInInbox, IsInQueues}
 
 -- ---- the test
 
@@ -212,3 +213,84 @@ least_moved at n es e x found less is_e is_x test =
 pub none_stops : {X : Type 0} (e : Entry X) (es : List (Entry X)) → NoneBefore e es → StopsAt e es
 none_stops e [] none = tt
 none_stops e (x ∷ xs) none = none.0
+
+read_self : {X : Type 0} (es : List X) (i : ℕ) (d : X) → i < length es → get_or es i d ≡ get_or es i (get_or es i d)
+read_self es i d less = get_or_default es i d (get_or es i d) less
+
+-- ---- heads
+
+pub some_there : {X : Type 0} (xs : List X) → xs ≢ [] → 0 < length xs
+some_there [] filled = absurd (filled refl)
+some_there (x ∷ xs) filled = omega arith
+
+pub head_got : {X : Type 0} (es : List (Entry X)) (e : Entry X) → es ≢ [] → e ≡ get_or es 0 e → IsHead e es
+head_got [] e filled is = absurd (filled refl)
+head_got (x ∷ xs) e filled is = sym is
+
+-- ---- the first of an inbox and of the queues' row
+
+pub in_queues_empty : {X : Type 0} (inbox row : List (Entry X)) → inbox ≡ [] → IsInQueues inbox row
+in_queues_empty inbox [] empty = empty
+in_queues_empty inbox (m ∷ row) empty = λ i d less. absurd (let none = ap length empty in omega (arith, none, less))
+
+pub in_inbox_none : {X : Type 0} (at : ℕ) (inbox row : List (Entry X)) → IsLeastAt at (length inbox) inbox → row ≡ [] → IsInInbox at inbox row
+in_inbox_none at inbox row least empty = record { least = least; first = λ d. subst (λ t. StopsAt (get_or inbox at d) t) (sym empty) tt }
+
+stops_head : {X : Type 0} (e m : Entry X) (row : List (Entry X)) → IsHead m row → is_before m e ≡ false → StopsAt e row
+stops_head e m [] head is = tt
+stops_head e m (x ∷ row) head is = subst (λ t. is_before t e ≡ false) (sym head) is
+
+pub in_inbox_some : {X : Type 0} (at : ℕ) (inbox row : List (Entry X)) (m e : Entry X) → IsLeastAt at (length inbox) inbox → IsHead m row
+    → e ≡ get_or inbox at e → is_before m e ≡ false → IsInInbox at inbox row
+in_inbox_some at inbox row m e least head is test = record {
+  least = least;
+  first = λ d. subst (λ t. StopsAt t row) (read inbox at e d is least.inside) (stops_head e m row head test);
+}
+
+before_by : {X : Type 0} (at : ℕ) (inbox : List (Entry X)) (m e : Entry X) → IsLeastAt at (length inbox) inbox → e ≡ get_or inbox at e
+    → is_before m e ≡ true → (i : ℕ) (d : Entry X) → i < length inbox → ((i < at) ⊎ (i ≡ at)) ⊎ (at < i) → is_before m (get_or inbox i d) ≡ true
+before_by at inbox m e least is test i d less (inl (inl under)) =
+    before_none m e (get_or inbox i d) test
+    (tested false (get_or inbox i d) (get_or inbox at d) (get_or inbox i d) e (least.before i d under) refl (sym (read inbox at e d is least.inside)))
+before_by at inbox m e least is test i d less (inl (inr same)) =
+    tested true m e m (get_or inbox i d) test refl (read inbox at e d is least.inside ∙ ap (λ k. get_or inbox k d) (sym same))
+before_by at inbox m e least is test i d less (inr over) =
+    before_none m e (get_or inbox i d) test
+    (one_way e (get_or inbox i d) (tested true (get_or inbox at d) (get_or inbox i d) e (get_or inbox i d) (least.behind i d over less) (sym (read inbox at e d is least.inside)) refl))
+
+pub in_queues_some : {X : Type 0} (at : ℕ) (inbox row : List (Entry X)) (m e : Entry X) → IsLeastAt at (length inbox) inbox → IsHead m row
+    → e ≡ get_or inbox at e → is_before m e ≡ true → IsInQueues inbox row
+in_queues_some at inbox [] m e least head is test = absurd head
+in_queues_some at inbox (x ∷ row) m e least head is test =
+    λ i d less. subst (λ t. is_before t (get_or inbox i d) ≡ true) (sym head) (before_by at inbox m e least is test i d less (split_three i at (length inbox) less))
+
+-- what was taken, and what is left
+
+pub inbox_first : {X : Type 0} (at : ℕ) (inbox row : List (Entry X)) (e : Entry X) → IsInInbox at inbox row → e ≡ get_or inbox at e
+    → put_all inbox row ≡ e ∷ put_all (remove inbox at) row
+inbox_first at inbox row e first is =
+    let least = first.least in
+    all_least inbox row at e least.inside (sym is)
+    (λ i d less. tested false (get_or inbox i d) (get_or inbox at d) (get_or inbox i d) e (least.before i d less) refl (sym (read inbox at e d is least.inside)))
+    (λ i d over less. tested true (get_or inbox at d) (get_or inbox i d) e (get_or inbox i d) (least.behind i d over less) (sym (read inbox at e d is least.inside)) refl)
+    (subst (λ t. StopsAt t row) (sym is) (first.first e))
+
+pub inbox_taken : {X : Type 0} (at : ℕ) (inbox row now : List (Entry X)) → IsInInbox at inbox row → now ≡ remove inbox at
+    → (slice_get inbox at ≡ slice_get (put_all inbox row) 0) × (put_all now row ≡ drop 1 (put_all inbox row))
+inbox_taken at [] row now first is = absurd (let inside = first.least.inside in omega arith)
+inbox_taken at (x ∷ xs) row now first is =
+    let e = get_or (x ∷ xs) at x in
+    let here = read_self (x ∷ xs) at x first.least.inside in
+    let whole = inbox_first at (x ∷ xs) row e first here in (
+      slice_get-get_or (x ∷ xs) at x first.least.inside ∙ sym (ap (λ t. slice_get t 0) whole),
+      ap (λ t. put_all t row) is ∙ sym (ap (drop 1) whole),
+    )
+
+pub queues_taken : {X : Type 0} (inbox row now : List (Entry X)) → IsInQueues inbox row → now ≡ drop 1 row
+    → (slice_get row 0 ≡ slice_get (put_all inbox row) 0) × (put_all inbox now ≡ drop 1 (put_all inbox row))
+queues_taken inbox [] now first is =
+    let none = ap (λ t. put_all t []) first in
+    (sym (ap (λ t. slice_get t 0) none), ap (put_all inbox) is ∙ none ∙ sym (ap (drop 1) none))
+queues_taken inbox (m ∷ row) now first is =
+    let whole = all_behind inbox m row first in
+    (sym (ap (λ t. slice_get t 0) whole), ap (put_all inbox) is ∙ sym (ap (drop 1) whole))

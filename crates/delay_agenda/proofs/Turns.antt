@@ -1,12 +1,15 @@
 -- Turns of an object: how many there are, where one stands, and the entries without them.
-use Rattle.std.proofs.Common.{◌≡◌, ◌≢◌, ◌<◌, ◌≤◌, ◌+◌, ◌++◌, ◌∷◌, [], ℕ, zero, suc, Bool, true, false, List, length, take, drop, get_or, refl, sym, ap, subst, ◌∙◌, inl, inr, arith}
+use Rattle.std.proofs.Common.{◌≡◌, ◌≢◌, ◌<◌, ◌≤◌, ◌+◌, ◌++◌, ◌∷◌, [], ℕ, zero, suc, Bool, true, false, List, length, take, get_or, refl, sym, ap, ◌∙◌, inl, inr, arith}
 use Rattle.std.specs.Prelude.{◌⊎◌, if◌then◌else◌}
 use Rattle.std.specs.List.{remove}
 use Rattle.std.proofs.lemmas.List.{take_more}
 use Rattle.delay_agenda.specs.declared.entry.Entry.{Entry}
 use Rattle.delay_agenda.specs.Order.{is_before, put_entry}
-use Rattle.delay_agenda.specs.Waiting.{is_turn_of, turn_count, without_turns}
-use Rattle.delay_agenda.specs.Queues.{put_all, NoneBefore, AreSorted, StopsAt, IsTurnAt}
+use Rattle.delay_agenda.specs.Waiting.{is_turn_kind, is_turn_of, turn_count, without_turns}
+use Rattle.delay_agenda.specs.declared.entry.Kind.{Kind}
+use Rattle.delay_agenda.specs.declared.entry.Kind.TheVariants.{Event, Stored, Turn, Unapply}
+use Rattle.std.proofs.lemmas.Bool.Decides.{nat_tests}
+use Rattle.delay_agenda.specs.Queues.{put_all, NoneBefore, AreSorted, IsTurnAt}
 use Rattle.delay_agenda.proofs.Placing.{put_stops, put_passes, sorted_put, none_all, none_stops}
 
 -- ---- how many
@@ -204,3 +207,31 @@ pub row_cancelled : {X : Type 0} (object : ℕ) (inbox row now : List (Entry X))
 row_cancelled object inbox row now sorted none is =
     ap (put_all inbox) is
     ∙ sym (without_all object inbox row sorted ∙ ap (λ t. put_all t (without_turns object row)) (without_none object inbox none))
+
+-- ---- how many are left
+
+left_if : {X : Type 0} (b : Bool) (object : ℕ) (e : Entry X) (es : List (Entry X)) → is_turn_of object e ≡ b → turn_count object es ≡ 0
+    → turn_count object (if b then es else e ∷ es) ≡ 0
+left_if true object e es is none = none
+left_if false object e es is none = count_when false object e es is ∙ none
+
+pub none_left : {X : Type 0} (object : ℕ) (es : List (Entry X)) → turn_count object (without_turns object es) ≡ 0
+none_left object [] = refl
+none_left object (e ∷ es) = left_if (is_turn_of object e) object e (without_turns object es) refl (none_left object es)
+
+same_object : {X : Type 0} (object : ℕ) (kind : Kind X) → is_turn_kind object kind ≡ true → (other : ℕ) → other ≢ object → is_turn_kind other kind ≡ false
+same_object object (Turn o) is other apart = grind (arith, nat_tests)
+same_object object (Event o script user) is other apart = refl
+same_object object (Stored o action) is other apart = refl
+same_object object (Unapply o) is other apart = refl
+
+others_if : {X : Type 0} (b : Bool) (object other : ℕ) (e : Entry X) (es more : List (Entry X)) → is_turn_of object e ≡ b → other ≢ object
+    → turn_count other more ≡ turn_count other es → turn_count other (if b then more else e ∷ more) ≡ turn_count other (e ∷ es)
+others_if true object other e es more is apart next = next ∙ sym (count_when false other e es (same_object object e.kind is other apart))
+others_if false object other e es more is apart next = ap (λ n. if is_turn_of other e then suc n else n) next
+
+pub others_left : {X : Type 0} (object other : ℕ) (es : List (Entry X)) → other ≢ object
+    → turn_count other (without_turns object es) ≡ turn_count other es
+others_left object other [] apart = refl
+others_left object other (e ∷ es) apart =
+    others_if (is_turn_of object e) object other e es (without_turns object es) refl apart (others_left object other es apart)

@@ -1,5 +1,8 @@
 -- How the entries are kept: in queues by due time, and in an inbox that moves into them. No public clause speaks of it.
-use Rattle.std.specs.Prelude.{◌≡◌, ◌≢◌, ◌<◌, ℕ, Bool, true, false, List, [], ◌∷◌, ◌++◌, length, get_or}
+use Rattle.std.specs.Prelude.{◌≡◌, ◌≢◌, ◌<◌, ℕ, true, false, List, [], ◌∷◌, ◌++◌, length, get_or, if◌then◌else◌}
+use Rattle.std.specs.List.{remove}
+use Rattle.std.specs.Ordering.{nat_cmp}
+use Rattle.std.specs.BTreeMap.{is_at}
 use Rattle.std.specs.Global.{Global}
 use Rattle.std.specs.declared.collections.VecDeque.{VecDeque}
 use Rattle.delay_agenda.specs.declared.entry.Entry.{Entry}
@@ -14,6 +17,16 @@ Row X = List (ℕ × VecDeque (Entry X) Global)
 abbrev pub in_row : {X : Type 0} → Row X → List (Entry X)
 in_row [] = []
 in_row (q ∷ qs) = q.1.items ++ in_row qs
+
+-- the entries of one queue, none where there is no such queue
+abbrev pub queue_at : {X : Type 0} → ℕ → Row X → List (Entry X)
+queue_at due [] = []
+queue_at due (q ∷ qs) = if is_at (nat_cmp due) q.0 then q.1.items else queue_at due qs
+
+-- the entries of the queues without the one at a place of a queue
+abbrev pub row_without : {X : Type 0} → ℕ → ℕ → Row X → List (Entry X)
+row_without due at [] = []
+row_without due at (q ∷ qs) = if is_at (nat_cmp due) q.0 then remove q.1.items at ++ in_row qs else q.1.items ++ row_without due at qs
 
 -- entries, the first of them first, put among those that stand in order
 abbrev pub put_all : {X : Type 0} → List (Entry X) → List (Entry X) → List (Entry X)
@@ -55,6 +68,11 @@ AreLater due (q ∷ qs) = (due < q.0) × AreLater due qs
 abbrev pub AreQueues : {X : Type 0} → Row X → Type 0
 AreQueues [] = Unit {0}
 AreQueues (q ∷ qs) = IsQueue q.0 q.1.items × AreLater q.0 qs × AreQueues qs
+
+-- e is the head
+abbrev pub IsHead : {X : Type 0} → Entry X → List (Entry X) → Type 0
+IsHead e [] = ⊥
+IsHead e (x ∷ xs) = x ≡ e
 
 -- the first queue is of this time
 abbrev pub IsFirst : {X : Type 0} → ℕ → Row X → Type 0

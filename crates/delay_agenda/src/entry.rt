@@ -8,13 +8,24 @@ use nwq_value::Text;
 #[derive(Drop)]
 pub enum Kind<X> {
     /// An event of an object: the script of this name runs there, and may ask for the user number.
-    Event { object: u32, script: Text, user: i32 },
+    Event {
+        object: u32,
+        script: Text,
+        user: i32,
+    },
     /// Stored code, as AssignCommand and DelayCommand leave it, that runs as this object.
-    Stored { object: u32, action: X },
+    Stored {
+        object: u32,
+        action: X,
+    },
     /// The object turns to the next action of its queue.
-    Turn { object: u32 },
+    Turn {
+        object: u32,
+    },
     /// The effect that stands on the object under this entry's number ends.
-    Unapply { object: u32 },
+    Unapply {
+        object: u32,
+    },
 }
 
 /// One piece of delayed work: when it is due, in milliseconds, and which post made it, counted from 0.

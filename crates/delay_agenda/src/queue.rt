@@ -1,9 +1,10 @@
 //! Calls on a queue of entries.
-ghost use Rattle.std.specs.Prelude.{◌≡◌, ◌<◌, ◌≤◌, [], length, insert, MatchOption, IfErr, OnOk, OnErr};
-ghost use Rattle.std.specs.VecDeque.{deque_len};
+ghost use Rattle.std.specs.Prelude.{◌≡◌, ◌≢◌, ◌<◌, ◌≤◌, ◌+◌, [], length, insert, slice_get, MatchOption, IfErr, OnOk, OnErr};
+ghost use Rattle.std.specs.List.{remove};
+ghost use Rattle.std.specs.VecDeque.{deque_capacity, deque_len};
 ghost use Rattle.delay_agenda.specs.Order.{put_entry};
 ghost use Rattle.delay_agenda.specs.Waiting.{turn_count};
-ghost use Rattle.delay_agenda.specs.Queues.{AreSorted, IsLeastAt, IsTurnAt};
+ghost use Rattle.delay_agenda.specs.Queues.{AreSorted, IsLeastAt, IsTurnAt, IsHead};
 
 use crate::entry::Entry;
 use std::alloc::AllocFailed;
@@ -27,7 +28,10 @@ fn place_of<X>(entry: &Entry<X>, queue: &VecDeque<Entry<X>>) -> usize
 }
 
 /// Puts an entry where it belongs among entries in order. For want of memory it comes back.
-pub(crate) fn put_in_queue<X>(queue: &mut VecDeque<Entry<X>>, entry: Entry<X>) -> Result<(), AllocFailed<Entry<X>>>
+pub(crate) fn put_in_queue<X>(
+    queue: &mut VecDeque<Entry<X>>,
+    entry: Entry<X>,
+) -> Result<(), AllocFailed<Entry<X>>>
     requires sorted { AreSorted queue.old.items }
     ensures ok { OnOk result (queue.new.items ≡ put_entry entry queue.old.items) }
     ensures err { OnErr result (queue.new.items ≡ queue.old.items) }
@@ -63,4 +67,24 @@ pub(crate) fn place_of_turn<X>(queue: &VecDeque<Entry<X>>, object: u32) -> Optio
         }
     }
     None
+}
+
+/// The first entry.
+#[tactic(auto, using(crate::proofs::Placing::head_got, crate::proofs::Placing::some_there))]
+pub(crate) fn front_of<X>(queue: &VecDeque<Entry<X>>) -> &Entry<X>
+    requires filled { queue.now.items ≢ [] }
+    ensures head { IsHead result.now queue.now.items }
+{
+    &queue[0]
+}
+
+/// Takes the entry at a place out.
+pub(crate) fn take_from<X>(queue: &mut VecDeque<Entry<X>>, at: usize) -> Option<Entry<X>>
+    requires inside { at < length queue.old.items }
+    ensures entry { result ≡ slice_get queue.old.items at }
+    ensures left { queue.new.items ≡ remove queue.old.items at }
+    ensures room { deque_capacity queue.new ≡ deque_capacity queue.old }
+    ensures count { deque_len queue.new + 1 ≡ deque_len queue.old }
+{
+    queue.remove(at)
 }
