@@ -1,11 +1,9 @@
 //! The action queue of an object: what the object is to do, one action after another.
 //!
-//! Contracts see a [`Queue`] as the list of its actions, the next one first, and a busy mark.
+//! Contracts see a [`Queue`] as the list of its actions, the next one first, and a busy mark
+//! (`specs/Queued.antt`). Each call changes just what its clause says.
 #![tactic(auto)]
 
-pub mod queue;
+mod queue;
 
 pub use queue::{Item, Queue};
-
-#[cfg(test)]
-mod tests;

@@ -1,4 +1,4 @@
-ghost use Rattle.std.specs.Prelude.{◌≡◌, false, [], ◌∷◌, ◌++◌, slice_get, MatchOption, OnOk, OnErr};
+ghost use Rattle.std.specs.Prelude.{◌≡◌, false, [], ◌∷◌, ◌++◌, drop, slice_get, OnOk, OnErr};
 ghost use Rattle.std.specs.Option.{option_copied};
 
 use nwq_value::{NoMemory, Text};
@@ -7,7 +7,7 @@ use std::collections::VecDeque;
 use std::marker::Model;
 
 /// One action that an object is to do.
-#[derive(Debug, Drop)]
+#[derive(Drop)]
 pub enum Item<X> {
     /// Stored code, as ActionDoCommand leaves it.
     Do(X),
@@ -19,8 +19,8 @@ pub enum Item<X> {
 
 /// The actions that an object is still to do, in order, and its busy mark.
 ///
-/// The mark says that the object is at an action that has left the queue. Neither `append`, `take_head` nor
-/// `clear` changes it.
+/// The mark says that a Turn of the object is posted, or that its `Do` is being run, so that nobody need post
+/// another one. Only `set_busy` changes it.
 #[derive(Drop)]
 pub struct Queue<X> {
     waiting: VecDeque<Item<X>>,
@@ -35,10 +35,10 @@ impl<X> Model for Queue<X> {
     ghost view = { λ q. record { actions = q.waiting.items; busy = q.busy } };
 }
 
-impl<X> Queue<X> {
+impl<X: Drop> Queue<X> {
     /// The queue of an object that has nothing to do and is not busy; takes no memory.
     pub fn new(alloc: Global) -> Queue<X>
-        ensures { result ≡ record { actions = []; busy = false } }
+        ensures empty { result ≡ record { actions = []; busy = false } }
     {
         Queue {
             waiting: VecDeque::new(alloc),
@@ -46,38 +46,6 @@ impl<X> Queue<X> {
         }
     }
 
-    /// Takes the first action off the queue; `None` exactly where the queue is empty.
-    pub fn take_head(&mut self) -> Option<Item<X>>
-        ensures taken { MatchOption result (self.old.actions ≡ []) (λ head. self.old.actions ≡ head ∷ self.new.actions) }
-        ensures empty { self.old.actions ≡ [] → self.new.actions ≡ [] }
-        ensures mark { self.new.busy ≡ self.old.busy }
-    {
-        self.waiting.pop_front()
-    }
-
-    /// Whether the object is busy.
-    pub fn is_busy(&self) -> bool
-        ensures { result ≡ self.now.busy }
-    {
-        self.busy
-    }
-
-    /// Sets the busy mark; the actions stay.
-    pub fn set_busy(&mut self, busy: bool)
-        ensures { self.new ≡ record self.old { busy = busy } }
-    {
-        self.busy = busy;
-    }
-
-    /// The action at place `i`, counted from 0, the next one; `None` exactly from the count of actions on.
-    pub fn at(&self, i: usize) -> Option<&Item<X>>
-        ensures { option_copied result ≡ slice_get self.now.actions i }
-    {
-        self.waiting.get(i)
-    }
-}
-
-impl<X: Drop> Queue<X> {
     /// Puts an action last. After `NoMemory` it is dropped and the queue is as before.
     pub fn append(&mut self, item: Item<X>) -> Result<(), NoMemory>
         ensures ok { OnOk result (self.new ≡ record self.old { actions = self.old.actions ++ item ∷ [] }) }
@@ -87,10 +55,39 @@ impl<X: Drop> Queue<X> {
         Ok(())
     }
 
+    /// Takes the first action off the queue; `None` exactly where the queue is empty.
+    pub fn take_head(&mut self) -> Option<Item<X>>
+        ensures taken { result ≡ slice_get self.old.actions 0 }
+        ensures left { self.new ≡ record self.old { actions = drop 1 self.old.actions } }
+    {
+        self.waiting.pop_front()
+    }
+
     /// Drops every action, as ClearAllActions does; the busy mark stays.
     pub fn clear(&mut self)
-        ensures { self.new ≡ record self.old { actions = [] } }
+        ensures empty { self.new ≡ record self.old { actions = [] } }
     {
         self.waiting.clear();
+    }
+
+    /// Whether the object is busy.
+    pub fn is_busy(&self) -> bool
+        ensures mark { result ≡ self.now.busy }
+    {
+        self.busy
+    }
+
+    /// Sets the busy mark; the actions stay.
+    pub fn set_busy(&mut self, busy: bool)
+        ensures mark { self.new ≡ record self.old { busy = busy } }
+    {
+        self.busy = busy;
+    }
+
+    /// The action at place `i`, counted from 0, the next one; `None` exactly from the count of actions on.
+    pub fn at(&self, i: usize) -> Option<&Item<X>>
+        ensures action { option_copied result ≡ slice_get self.now.actions i }
+    {
+        self.waiting.get(i)
     }
 }
