@@ -5,7 +5,7 @@ ghost use Rattle.nwq_outside.specs.Outside.{next};
 pub const FILE_BYTES: usize = 16_777_216;
 
 /// The answer to a read.
-#[derive(Debug, Drop)]
+#[derive(Drop)]
 pub enum Read {
     /// The content of the name.
     Bytes(Vec<u8>),

@@ -93,7 +93,8 @@ impl<R: HostFiles> Files for RealFiles<R> {
     }
 }
 
-/// A sink over a writer, as standard output. It does not tell what it took. Contracts see its count of faults.
+/// A sink over a writer, as standard output. It does not tell what it took. Contracts see its count of faults, and
+/// the bytes that the writer holds where a writer of its kind says so.
 #[derive(Drop)]
 pub struct RealSink<W: Write> {
     writer: W,
@@ -101,30 +102,42 @@ pub struct RealSink<W: Write> {
 }
 
 impl<W: Write> Model for RealSink<W> {
-    ghost use Rattle.std.specs.Prelude.{ℕ};
+    ghost use Rattle.nwq_outside.specs.Written.{Written};
 
-    ghost Value = { ℕ };
+    ghost Value = { Written };
 
-    ghost view = { λ s. s.faults };
+    ghost view = { λ s. record { faults = s.faults; known = W.contents s.writer } };
 }
 
 impl<W: Write> RealSink<W> {
     pub fn new(writer: W) -> Self
-        ensures { result ≡ 0 }
+        ensures { result ≡ record { faults = 0; known = W.contents writer } }
     {
         RealSink { writer, faults: 0 }
+    }
+
+    pub fn writer(&self) -> &W
+        ensures { W.contents result.now ≡ self.now.known }
+    {
+        &self.writer
     }
 }
 
 impl<W: Write> Sink for RealSink<W> {
+    ghost use Rattle.nwq_outside.specs.Outside.{CountsDone};
+    ghost use Rattle.nwq_outside.specs.Written.{Hands};
+
     ghost tells = { false };
 
     ghost taken = { λ _. [] };
 
-    ghost faults = { λ s. s };
+    ghost faults = { λ s. s.faults };
 
     /// A writer that takes nothing of a piece that is not empty is a fault, as `write_all` has it.
-    fn put(&mut self, piece: &[u8]) -> Done {
+    fn put(&mut self, piece: &[u8]) -> Done
+        ensures counts { CountsDone result self.old.faults self.new.faults }
+        ensures hands { Hands piece.now self.old.known self.new.known result }
+    {
         match self.writer.write_all(piece) {
             Ok(()) => Done::Ok,
             Err(error) => match error.kind() {

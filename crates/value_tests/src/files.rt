@@ -56,16 +56,78 @@ fn sink_in_memory(rt: HostRuntime) -> Result<(), Fail> {
     Ok(())
 }
 
+/// Reads what is under the name, and says whether it is just these bytes.
+fn holds<F: Files>(alloc: Global, files: &mut F, name: &str, bytes: &[u8]) -> bool {
+    match files.read(alloc, name) {
+        Read::Bytes(read) => read.as_slice() == bytes,
+        _ => false,
+    }
+}
+
 #[test]
 fn real_files(rt: HostRuntime) -> Result<(), Fail> {
     let mut files = RealFiles::new(rt.clone()?);
-    let mut out = RealSink::new(Vec::new(rt.alloc()));
-    assert_eq!(rt; files.write("a.txt", b"kept"), Done::Ok);
-    assert!(rt; show(rt.alloc(), &mut files, "a.txt", &mut out));
-    assert!(rt; matches!(files.read(rt.alloc(), "b.txt"), Read::Missing));
+    assert_eq!(rt; files.write("kept.txt", b"kept \x00\xff\n"), Done::Ok);
+    assert!(rt; holds(rt.alloc(), &mut files, "kept.txt", b"kept \x00\xff\n"));
+    assert_eq!(rt; files.write("kept.txt", b"new"), Done::Ok);
+    assert!(rt; holds(rt.alloc(), &mut files, "kept.txt", b"new"));
+    fs::remove_file(&rt, "kept.txt")?;
+    assert!(rt; matches!(files.read(rt.alloc(), "kept.txt"), Read::Missing));
     assert!(rt; matches!(files.read(rt.alloc(), "."), Read::Failed));
-    fs::remove_file(&rt, "a.txt")?;
+    assert_eq!(rt; files.write(".", b"lost"), Done::Failed);
     Ok(())
+}
+
+#[test]
+fn long_real_files(rt: HostRuntime) -> Result<(), Fail> {
+    let mut files = RealFiles::new(rt.clone()?);
+    let mut bytes = vec![in rt.alloc(); 7u8; 16_777_216]?;
+    assert_eq!(rt; files.write("long.bin", bytes.as_slice()), Done::Ok);
+    assert!(rt; holds(rt.alloc(), &mut files, "long.bin", bytes.as_slice()));
+    bytes.push(7)?;
+    assert_eq!(rt; files.write("long.bin", bytes.as_slice()), Done::Ok);
+    assert!(rt; matches!(files.read(rt.alloc(), "long.bin"), Read::Long));
+    fs::remove_file(&rt, "long.bin")?;
+    Ok(())
+}
+
+/// A writer that takes one byte at a time, and keeps it.
+#[derive(Drop)]
+struct OneByOne {
+    took: Vec<u8>,
+}
+
+impl Write for OneByOne {
+    fn write(&mut self, bytes: &[u8]) -> io::Result<usize> {
+        match bytes.first() {
+            None => Ok(0),
+            Some(byte) => {
+                self.took.push(*byte)?;
+                Ok(1)
+            }
+        }
+    }
+
+    fn flush(&mut self) -> io::Result<()> {
+        Ok(())
+    }
+}
+
+#[test]
+fn real_sink(rt: HostRuntime) {
+    let mut whole = RealSink::new(Vec::new(rt.alloc()));
+    let mut single = RealSink::new(OneByOne {
+        took: Vec::new(rt.alloc()),
+    });
+    for piece in [b"one ".as_slice(), b"", b"t\x00wo\n"] {
+        assert_eq!(rt; whole.put(piece), Done::Ok);
+        assert_eq!(rt; single.put(piece), Done::Ok);
+    }
+    assert_eq!(rt; whole.writer().as_slice(), b"one t\x00wo\n".as_slice());
+    assert_eq!(rt;
+        single.writer().took.as_slice(),
+        b"one t\x00wo\n".as_slice()
+    );
 }
 
 /// A writer that takes nothing.

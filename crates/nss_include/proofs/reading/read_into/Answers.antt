@@ -6,7 +6,7 @@ use Rattle.nss_include.proofs.reading.read_into.Goals as goal
 pub returns-in_ok-open-in-Bytes-clause-holds : goal.returns-in_ok-open-in-Bytes-clause-holds
 returns-in_ok-open-in-Bytes-clause-holds g c = λ told.
     let grown : List ℕ → List ℕ → Gathered = λ (name bytes : List ℕ). record { files = c.args.unit.now.files ++ source name bytes ∷ []; tokens = c.args.unit.now.tokens }
-    in let named : c.in_ok-copy-in-Bytes.copy ≡ c.args.name.now = c.in_ok-copy-in-Bytes.ensures {u = tt} ∙ c.as_bytes.ensures.value
+    in let named : c.in_ok-copy-in-Bytes.copy ≡ c.args.name.now = c.in_ok-copy-in-Bytes.ensures {u = tt} ∙ c.as_bytes-in-Bytes.ensures.value
     in (
       record {
         bytes = c.in-Bytes.bytes.items;
