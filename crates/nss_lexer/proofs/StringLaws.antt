@@ -1,6 +1,6 @@
 -- Reading a string byte by byte finds what its grammar has, and nothing else.
 use Rattle.std.specs.Prelude.{Option, Some, None, option_map, ◌==◌}
-use Rattle.std.proofs.Common.{◌≡◌, ℕ, suc, ◌+◌, ◌*◌, ◌≤◌, true, false, List, [], ◌∷◌, ◌++◌, length, take, refl, ap, sym, ◌∙◌, arith, ⊎_elim, append-nil}
+use Rattle.std.proofs.Common.{◌≡◌, ℕ, suc, ◌+◌, ◌*◌, ◌≤◌, true, false, List, [], ◌∷◌, ◌++◌, length, take, drop, refl, ap, sym, ◌∙◌, arith, ⊎_elim, append-nil}
 use Rattle.std.specs.Char.{digit_value}
 use Rattle.std.proofs.lemmas.Bool.{cases_Bool, cond_both, eqb-true}
 use Rattle.nss_lexer.specs.declared.string.Escape.{Escape}
@@ -8,8 +8,8 @@ use Rattle.nss_lexer.specs.declared.string.Escape.TheVariants.{Outside, AfterBac
 use Rattle.nss_lexer.specs.declared.string.Step.{Step}
 use Rattle.nss_lexer.specs.declared.string.Step.TheVariants.{Gives, Leads, Closes, Fails}
 use Rattle.nss_lexer.specs.Bytes.{newline, is_hexadecimal}
-use Rattle.nss_lexer.specs.Strings.{Spelling, plain, escaped, line_end, hexadecimal, Inside, closed, more, StandsFor, quoted, step, value_from, string_value, is_plain, is_escaped, quote, backslash, small_n, small_x}
-use Rattle.nss_lexer.specs.Reading.{closing, length_after}
+use Rattle.nss_lexer.specs.Strings.{Spelling, plain, escaped, line_end, hexadecimal, Inside, closed, more, StandsFor, quoted, IsString, inside_value, escape_value, string_value, is_plain, is_escaped, quote, backslash, small_n, small_x}
+use Rattle.nss_lexer.specs.Reading.{step, value_from, closing, length_after}
 
 option_same : (m n : ℕ) → Some m ≡ Some n → m ≡ n
 option_same m n e = cc
@@ -49,10 +49,32 @@ pub inside_read : (text more bytes : List ℕ) → Inside text bytes → Reads t
 inside_read text rest bytes closed = record { ends = refl; value = refl }
 inside_read text rest bytes (more b one after ones s i) = one_read b one after rest ones s (inside_read after rest ones i)
 
+-- ---- and stands for its value
+
+plain_value : (b : ℕ) (text : List ℕ) → is_plain b ≡ true → inside_value (b ∷ text) ≡ b ∷ inside_value text
+plain_value b text h = grind arith
+
+escaped_value : (b : ℕ) (text : List ℕ) → is_escaped b ≡ true → escape_value (b ∷ text) ≡ b ∷ inside_value text
+escaped_value b text h = grind arith
+
+spelled_value : (b : ℕ) (one text : List ℕ) → Spelling one b → inside_value (one ++ text) ≡ b ∷ inside_value text
+spelled_value b one text (plain c h) = plain_value c text h
+spelled_value b one text (escaped c h) = escaped_value c text h
+spelled_value b one text line_end = refl
+spelled_value b one text (hexadecimal high low h l) = refl
+
+inside_is : (text bytes : List ℕ) → Inside text bytes → bytes ≡ inside_value text
+inside_is text bytes closed = refl
+inside_is text bytes (more b one after ones s i) = ap (λ rest. b ∷ rest) (inside_is after ones i) ∙ sym (spelled_value b one after s)
+
 pub one_value : (text bytes : List ℕ) → StandsFor text bytes → bytes ≡ string_value text
 unfolding string_value
-one_value text bytes (quoted rest ones i) =
-    let r = inside_read rest [] ones i in sym (ap (value_from Outside) (sym (append-nil rest)) ∙ r.value)
+one_value text bytes (quoted rest ones i) = inside_is rest ones i
+
+-- reading a string gives its value
+pub read_value : (text : List ℕ) → IsString text → value_from Outside (drop 1 text) ≡ string_value text
+read_value text (bytes, quoted rest ones i) =
+    ap (value_from Outside) (sym (append-nil rest)) ∙ (inside_read rest [] ones i).value ∙ one_value (quote ∷ rest) ones (quoted rest ones i)
 
 -- ---- what is read is spelled so
 

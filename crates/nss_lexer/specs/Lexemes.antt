@@ -2,6 +2,7 @@
 use Rattle.std.specs.Prelude.{◌≡◌, ℕ, ◌^◌, ◌<◌, ◌≤◌, Bool, false, ◌||◌, ◌==◌, IsTrue, List, [], ◌∷◌, ◌++◌, length, codes, bytes_eq}
 use Rattle.std.specs.List.{list_any, AllByRecursion}
 use Rattle.std.specs.Str.Parse.{IsNumeral, AllDigits, digits_value}
+use Rattle.nwq_value.specs.Limits.{name_limit}
 use Rattle.nss_lexer.specs.declared.token.Kind.{Kind}
 use Rattle.nss_lexer.specs.declared.token.Kind.TheVariants.{Name, Word, Int, Float, Text, Sign}
 use Rattle.nss_lexer.specs.declared.token.Token.{Token}
@@ -69,7 +70,7 @@ HasForm Sign text = IsTrue (is_sign text)
 
 -- a name has at most 255 bytes, and an int fits 32 bits
 abbrev pub IsWithin : Kind → List ℕ → Type 0
-IsWithin Name text = length text ≤ 255
+IsWithin Name text = length text ≤ name_limit
 IsWithin (Int n) text = n < 2 ^ 32
 IsWithin _ text = Unit {0}
 

@@ -1,20 +1,22 @@
 -- Reading from the left, as the code does it. No public contract names this: reading is proved to find exactly
 -- what the grammar has.
-use Rattle.std.specs.Prelude.{ℕ, ◌+◌, ◌^◌, Bool, true, false, ◌&&◌, ◌||◌, ◌==◌, nat_lt, nat_le, List, [], ◌∷◌, length, take, drop, slice_index, Option, Some, None, option_map, option_and_then, if◌then◌else◌, not}
+use Rattle.std.specs.Prelude.{ℕ, ◌+◌, ◌*◌, ◌^◌, ◌<◌, Bool, true, false, ◌&&◌, ◌||◌, ◌==◌, nat_lt, nat_le, List, [], ◌∷◌, length, take, drop, slice_index, Option, Some, None, option_map, option_and_then, if◌then◌else◌, not}
 use Rattle.std.specs.List.{prefix_len}
+use Rattle.std.specs.Char.{digit_value}
 use Rattle.std.specs.Str.Parse.{digits_value}
+use Rattle.nwq_value.specs.Limits.{name_limit}
 use Rattle.nss_lexer.specs.declared.bytes.Class.{Class}
 use Rattle.nss_lexer.specs.declared.bytes.Class.TheVariants.{Name as InName, Decimal, Hexadecimal, Line}
 use Rattle.nss_lexer.specs.declared.token.Kind.{Kind}
 use Rattle.nss_lexer.specs.declared.token.Kind.TheVariants.{Name, Word, Int, Float, Text, Sign}
 use Rattle.nss_lexer.specs.declared.scan.Front.{Front}
 use Rattle.nss_lexer.specs.declared.string.Escape.{Escape}
-use Rattle.nss_lexer.specs.declared.string.Escape.TheVariants.{Outside}
+use Rattle.nss_lexer.specs.declared.string.Escape.TheVariants.{Outside, AfterBackslash, AfterX, AfterDigit}
 use Rattle.nss_lexer.specs.declared.string.Step.{Step}
 use Rattle.nss_lexer.specs.declared.string.Step.TheVariants.{Gives, Leads, Closes, Fails}
 use Rattle.nss_lexer.specs.Bytes.{newline, is_blank, is_letter, is_decimal, is_hexadecimal, is_name_byte}
 use Rattle.nss_lexer.specs.Lexemes.{is_word, signs}
-use Rattle.nss_lexer.specs.Strings.{step, quote}
+use Rattle.nss_lexer.specs.Strings.{quote, backslash, small_n, small_x}
 
 abbrev pub is_in : Class → ℕ → Bool
 is_in InName b = is_name_byte b
@@ -35,7 +37,7 @@ small n = if nat_lt n (2 ^ 32) then Some n else None
 
 -- within the limits, or nothing
 abbrev pub limited : Kind → ℕ → Option Front
-limited Name n = if nat_le n 255 then Some (front Name n) else None
+limited Name n = if nat_le n name_limit then Some (front Name n) else None
 limited (Int v) n = option_map (λ w. front (Int w) n) (small v)
 limited Word n = Some (front Word n)
 limited Float n = Some (front Float n)
@@ -74,6 +76,35 @@ hexadecimal_form bytes =
 
 abbrev pub number_form : List ℕ → Front
 number_form bytes = if begins_hexadecimal bytes then hexadecimal_form bytes else decimal_form bytes
+
+-- what one more byte of a string does, after bytes that have led so far into an escape
+abbrev pub step : Escape → ℕ → Step
+step Outside b =
+    if b == newline then Fails else (if b == quote then Closes else (if b == backslash then Leads AfterBackslash else Gives b))
+step AfterBackslash b =
+    if b == newline then Fails else (if b == small_x then Leads AfterX else Gives (if b == small_n then newline else b))
+step AfterX b = if is_hexadecimal b then Leads (AfterDigit (digit_value b)) else Fails
+step (AfterDigit high) b = if is_hexadecimal b then Gives (16 * high + digit_value b) else Fails
+
+-- a first digit's value is below 16
+abbrev pub FitsByte : Escape → Type 0
+FitsByte (AfterDigit high) = high < 16
+FitsByte _ = Unit {0}
+
+abbrev pub Keeps : Step → Type 0
+Keeps (Leads state) = FitsByte state
+Keeps _ = Unit {0}
+
+abbrev pub value_after : Step → (Escape → List ℕ) → List ℕ
+value_after (Gives b) rest = b ∷ rest Outside
+value_after (Leads state) rest = rest state
+value_after Closes rest = []
+value_after Fails rest = []
+
+-- the bytes that the rest of a string stands for
+abbrev pub value_from : Escape → List ℕ → List ℕ
+value_from state [] = []
+value_from state (b ∷ text) = value_after (step state b) (λ next. value_from next text)
 
 -- how many bytes come up to and with the closing quote
 abbrev pub length_after : Step → (Escape → Option ℕ) → Option ℕ

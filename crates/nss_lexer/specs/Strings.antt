@@ -1,10 +1,6 @@
 -- How a string is written, and the bytes that it stands for.
-use Rattle.std.specs.Prelude.{ℕ, ◌+◌, ◌*◌, ◌<◌, Bool, not, ◌||◌, ◌==◌, IsTrue, List, [], ◌∷◌, ◌++◌, drop, if◌then◌else◌}
+use Rattle.std.specs.Prelude.{ℕ, ◌+◌, ◌*◌, Bool, not, ◌||◌, ◌==◌, IsTrue, List, [], ◌∷◌, ◌++◌, drop, if◌then◌else◌}
 use Rattle.std.specs.Char.{digit_value}
-use Rattle.nss_lexer.specs.declared.string.Escape.{Escape}
-use Rattle.nss_lexer.specs.declared.string.Escape.TheVariants.{Outside, AfterBackslash, AfterX, AfterDigit}
-use Rattle.nss_lexer.specs.declared.string.Step.{Step}
-use Rattle.nss_lexer.specs.declared.string.Step.TheVariants.{Gives, Leads, Closes, Fails}
 use Rattle.nss_lexer.specs.Bytes.{newline, is_hexadecimal}
 
 abbrev pub quote : ℕ
@@ -47,35 +43,21 @@ pub data StandsFor : List ℕ → List ℕ → Type 0 where
 abbrev pub IsString : List ℕ → Type 0
 IsString text = (bytes : List ℕ) × StandsFor text bytes
 
--- what one more byte does, after bytes that have led so far into an escape
-abbrev pub step : Escape → ℕ → Step
-step Outside b =
-    if b == newline then Fails else (if b == quote then Closes else (if b == backslash then Leads AfterBackslash else Gives b))
-step AfterBackslash b =
-    if b == newline then Fails else (if b == small_x then Leads AfterX else Gives (if b == small_n then newline else b))
-step AfterX b = if is_hexadecimal b then Leads (AfterDigit (digit_value b)) else Fails
-step (AfterDigit high) b = if is_hexadecimal b then Gives (16 * high + digit_value b) else Fails
+-- The bytes that a string stands for, as a function: those of what follows its opening quote, of what follows a `\`, and
+-- of what follows `\x`. By law they are the bytes that `StandsFor` relates to the string.
+abbrev mutual
+  pub inside_value : List ℕ → List ℕ
+  inside_value [] = []
+  inside_value (b ∷ text) = if b == quote then [] else (if b == backslash then escape_value text else b ∷ inside_value text)
 
-abbrev pub value_after : Step → (Escape → List ℕ) → List ℕ
-value_after (Gives b) rest = b ∷ rest Outside
-value_after (Leads state) rest = rest state
-value_after Closes rest = []
-value_after Fails rest = []
+  pub escape_value : List ℕ → List ℕ
+  escape_value [] = []
+  escape_value (b ∷ text) = if b == small_x then number_value text else (if b == small_n then newline else b) ∷ inside_value text
 
--- the bytes that the rest of a string stands for
-abbrev pub value_from : Escape → List ℕ → List ℕ
-value_from state [] = []
-value_from state (b ∷ text) = value_after (step state b) (λ next. value_from next text)
+  pub number_value : List ℕ → List ℕ
+  number_value [] = []
+  number_value (high ∷ []) = []
+  number_value (high ∷ low ∷ text) = (16 * digit_value high + digit_value low) ∷ inside_value text
 
--- The bytes that a string stands for, as a function. By law they are those that `StandsFor` relates to it.
 unfoldable pub string_value : List ℕ → List ℕ
-string_value text = value_from Outside (drop 1 text)
-
--- a first digit's value is below 16
-abbrev pub FitsByte : Escape → Type 0
-FitsByte (AfterDigit high) = high < 16
-FitsByte _ = Unit {0}
-
-abbrev pub Keeps : Step → Type 0
-Keeps (Leads state) = FitsByte state
-Keeps _ = Unit {0}
+string_value text = inside_value (drop 1 text)

@@ -4,7 +4,7 @@ ghost use Rattle.nss_lexer.specs.Bytes.{is_blank, is_letter};
 ghost use Rattle.nss_lexer.specs.Reading.{is_in, run};
 
 /// Bytes that stand in a row.
-#[derive(Clone, Copy, Debug)]
+#[derive(Clone, Copy)]
 pub enum Class {
     Name,
     Decimal,

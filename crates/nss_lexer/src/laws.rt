@@ -7,12 +7,14 @@ ghost use Rattle.nss_lexer.specs.Splitting.{First, IsFirst, Lexeme, Splits};
 
 /// A place of a file has one first token, or the file ends there, or nothing begins there.
 pub fn one_first()
-    ensures { (bytes : List ℕ) (file at : ℕ) (x y : First) → IsFirst bytes file at x → IsFirst bytes file at y → x ≡ y }
+    ensures { (bytes : List ℕ) (file at : ℕ) (x y : First)
+        → IsFirst bytes file at x → IsFirst bytes file at y → x ≡ y }
 {}
 
 /// A file is split into tokens and gaps in at most one way, and ends in one way.
 pub fn one_split()
-    ensures { (bytes : List ℕ) (file at : ℕ) (ts us : List Lexeme) (e f : Option ℕ) → Splits bytes file at ts e → Splits bytes file at us f → (ts ≡ us) × (e ≡ f) }
+    ensures { (bytes : List ℕ) (file at : ℕ) (ts us : List Lexeme) (e f : Option ℕ)
+        → Splits bytes file at ts e → Splits bytes file at us f → (ts ≡ us) × (e ≡ f) }
 {}
 
 /// What a string stands for is its value, and nothing else.

@@ -1,11 +1,12 @@
 ghost use Rattle.std.specs.Prelude.{◌≡◌, ◌≤◌, ◌<◌, ◌^◌, length, take, MatchOption, None};
+ghost use Rattle.nwq_value.specs.Limits.{file_limit};
 ghost use Rattle.nss_lexer.specs.Splitting.{Begins, IsFirst, IsStuck, first};
 ghost use Rattle.nss_lexer.specs.Reading as reading;
 
 use crate::bytes::{head, tail};
 use crate::gap::{comment_begins, past_gap};
 use crate::scan::{Front, scan};
-use crate::token::{Lexed, SOURCE_BYTES, Token};
+use crate::token::{Lexed, Token};
 
 /// The token that begins the bytes, which no blank and no closed comment begins.
 fn front_of(bytes: &[u8]) -> Option<Front>
@@ -22,7 +23,7 @@ fn front_of(bytes: &[u8]) -> Option<Front>
 
 /// The first token of the file at or after `at`; takes no memory.
 pub fn next(bytes: &[u8], file: u16, at: u32) -> Lexed<'_>
-    requires size { length bytes.now ≤ SOURCE_BYTES }
+    requires size { length bytes.now ≤ file_limit }
     requires place { at ≤ length bytes.now }
     ensures { IsFirst bytes.now file at (first result) }
 {

@@ -3,7 +3,7 @@
 //!
 //! What a token is stands in `specs/Lexemes.antt` and `specs/Strings.antt`, as a grammar of bytes, and how a file is
 //! split into tokens and gaps in `specs/Splitting.antt`. `next` is proved to give exactly what those define, and the
-//! laws in `laws.rt` say that a file is split in one way only.
+//! laws in `laws.rt` say that a file is split in one way only. See docs/TOKENS.md.
 #![tactic(auto)]
 
 mod bytes;
@@ -17,8 +17,4 @@ pub mod unquote;
 
 pub use lexer::next;
 pub use token::{Kind, Lexed, SOURCE_BYTES, Token};
-
-#[cfg(test)]
-mod tests;
-
 pub use unquote::literal;

@@ -9,11 +9,14 @@ use crate::string::closing_quote;
 use crate::token::Kind;
 
 /// A token's kind and its length, where it begins the bytes.
-#[derive(Clone, Copy, Debug)]
+#[derive(Clone, Copy)]
 pub struct Front {
     pub kind: Kind,
     pub length: usize,
 }
+
+/// How many bytes a name has at most.
+const NAME_BYTES: usize = 255;
 
 /// The words that are no names.
 pub const WORDS: [&[u8]; 27] = [
@@ -94,7 +97,7 @@ fn scan_name(bytes: &[u8]) -> Option<Front>
             kind: Kind::Word,
             length,
         })
-    } else if length <= 255 {
+    } else if length <= NAME_BYTES {
         Some(Front {
             kind: Kind::Name,
             length,

@@ -1,12 +1,11 @@
 ghost use Rattle.std.specs.Prelude.{◌≡◌, ◌<◌, ◌≤◌, ◌^◌, length, IfSome};
-ghost use Rattle.nss_lexer.specs.Strings.{FitsByte, Keeps, step};
-ghost use Rattle.nss_lexer.specs.Reading.{closing};
+ghost use Rattle.nss_lexer.specs.Reading.{FitsByte, Keeps, step, closing};
 ghost use Rattle.nss_lexer.specs.declared.string.Escape.TheVariants.{Outside};
 
 use crate::bytes::{Class, belongs, digit};
 
 /// How far into an escape the bytes before have led.
-#[derive(Clone, Copy, Debug)]
+#[derive(Clone, Copy)]
 pub enum Escape {
     Outside,
     AfterBackslash,
@@ -15,7 +14,7 @@ pub enum Escape {
 }
 
 /// What one more byte of a string does.
-#[derive(Clone, Copy, Debug)]
+#[derive(Clone, Copy)]
 pub enum Step {
     Gives(u8),
     Leads(Escape),

@@ -18,7 +18,7 @@ pub enum Kind {
 }
 
 /// A token with its bytes, the number of its file and its span there.
-#[derive(Clone, Copy, Debug)]
+#[derive(Clone, Copy)]
 pub struct Token<'a> {
     pub kind: Kind,
     pub text: &'a [u8],
@@ -28,7 +28,7 @@ pub struct Token<'a> {
 }
 
 /// What stands first from a place on.
-#[derive(Clone, Copy, Debug)]
+#[derive(Clone, Copy)]
 pub enum Lexed<'a> {
     Token(Token<'a>),
     /// Nothing but blanks and comments is left.

@@ -1,9 +1,10 @@
 ghost use Rattle.std.specs.Prelude.{◌≡◌, drop, take, IfOk};
-ghost use Rattle.nss_lexer.specs.Strings.{IsString, string_value, value_from};
+ghost use Rattle.nwq_value.specs.Limits.{text_limit};
+ghost use Rattle.nss_lexer.specs.Reading.{value_from};
+ghost use Rattle.nss_lexer.specs.Strings.{IsString, string_value};
 ghost use Rattle.nss_lexer.specs.declared.string.Escape.TheVariants.{Outside};
 
 use crate::string::{Escape, Step, step_by};
-use nwq_value::text::TEXT_BYTES;
 use nwq_value::{NoMemory, Text};
 use std::alloc::Global;
 
@@ -35,11 +36,11 @@ fn value_of(alloc: Global, rest: &[u8]) -> Result<Vec<u8>, NoMemory>
     Ok(bytes)
 }
 
-/// The first [`TEXT_BYTES`] of the bytes that a string token stands for.
-#[tactic(auto, unfolding(crate::specs::Strings::string_value))]
+/// The first 8,192 of the bytes that a string token stands for.
+#[tactic(auto, using(crate::proofs::StringLaws::read_value))]
 pub fn literal(alloc: Global, text: &[u8]) -> Result<Text, NoMemory>
     requires { IsString text.now }
-    ensures { IfOk result (λ made. made ≡ take TEXT_BYTES (string_value text.now)) }
+    ensures { IfOk result (λ made. made ≡ take text_limit (string_value text.now)) }
 {
     let bytes = value_of(alloc, past_quote(text))?;
     Text::of(alloc, bytes.as_slice())

@@ -1,7 +1,6 @@
 use Rattle.std.proofs.Common.{◌≡◌, ◌+◌, drop}
 use Rattle.std.specs.Prelude.{option_map}
-use Rattle.nss_lexer.specs.Strings.{FitsByte}
-use Rattle.nss_lexer.specs.Reading.{closing}
+use Rattle.nss_lexer.specs.Reading.{FitsByte, closing}
 use Rattle.nss_lexer.specs.declared.string.Escape.TheVariants.{Outside}
 use Rattle.nss_lexer.proofs.string.closing_quote.Given as goal
 

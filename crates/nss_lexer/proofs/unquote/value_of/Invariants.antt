@@ -1,5 +1,5 @@
 use Rattle.std.proofs.Common.{◌≡◌, ◌++◌, drop}
-use Rattle.nss_lexer.specs.Strings.{FitsByte, value_from}
+use Rattle.nss_lexer.specs.Reading.{FitsByte, value_from}
 use Rattle.nss_lexer.specs.declared.string.Escape.TheVariants.{Outside}
 use Rattle.nss_lexer.proofs.unquote.value_of.Given as goal
 

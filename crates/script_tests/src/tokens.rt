@@ -1,4 +1,4 @@
-use crate::{Kind, Lexed, SOURCE_BYTES, literal, next};
+use nss_lexer::{Kind, Lexed, SOURCE_BYTES, literal, next};
 use nwq_value::{NoMemory, Text};
 use std::alloc::Global;
 use std::test::Fail;
