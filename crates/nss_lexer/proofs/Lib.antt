@@ -4,5 +4,6 @@ pub mod GapLaws
 pub mod FormLaws
 pub mod FoundLaws
 pub mod FirstLaws
+pub mod SomeSplit
 pub mod ComputedLaws
 mod Examples

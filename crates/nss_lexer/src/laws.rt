@@ -17,6 +17,12 @@ pub fn one_split()
         → Splits bytes file at ts e → Splits bytes file at us f → (ts ≡ us) × (e ≡ f) }
 {}
 
+/// Each file is split from each place on.
+pub fn some_split()
+    ensures { (bytes : List ℕ) (file at : ℕ)
+        → (tokens : List Lexeme) × (ending : Option ℕ) × Splits bytes file at tokens ending }
+{}
+
 /// What a string stands for is its value, and nothing else.
 pub fn one_value()
     ensures { (text bytes : List ℕ) → StandsFor text bytes → bytes ≡ string_value text }

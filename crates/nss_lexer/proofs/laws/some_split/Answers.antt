@@ -1,0 +1,5 @@
+use Rattle.nss_lexer.proofs.SomeSplit.{some_split}
+use Rattle.nss_lexer.proofs.laws.some_split.Goals as goal
+
+pub returns : goal.returns
+returns c = some_split
