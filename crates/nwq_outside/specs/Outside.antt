@@ -3,14 +3,11 @@ use Rattle.std.specs.Prelude.{◌≡◌, ◌≢◌, ℕ, ◌+◌, ◌-◌, ◌^�
 use Rattle.std.specs.Ordering.{nat_cmp}
 use Rattle.std.specs.Cmp.Lexicographic.{slice_cmp}
 use Rattle.std.specs.FinMap as map
+use Rattle.nwq_value.specs.Limits.{file_limit}
 use Rattle.nwq_outside.specs.declared.answer.Read.{Read}
 use Rattle.nwq_outside.specs.declared.answer.Read.TheVariants.{Bytes, Missing, Failed, Long, NoMemory}
 use Rattle.nwq_outside.specs.declared.answer.Done.{Done}
 use Rattle.nwq_outside.specs.declared.answer.Done.TheVariants as done
-
--- how many bytes a file has at most
-abbrev pub file_limit : ℕ
-file_limit = 16777216
 
 -- what files hold: bytes under names, a name being the bytes of its text
 abbrev pub Contents : Type 0
