@@ -1,4 +1,5 @@
 mod StepLemmas
 mod UnitLemmas
+mod PieceLemmas
 mod ProgressLemmas
 mod OneUnit

@@ -8,7 +8,9 @@ use Rattle.nss_include.specs.declared.step.Span.{Span}
 use Rattle.nss_lexer.specs.Lexemes.{IsLexeme}
 use Rattle.nss_lexer.specs.Splitting.{Lexeme, IsFirstToken}
 use Rattle.nss_include.specs.Names.{is_include_name}
-use Rattle.nss_include.specs.Steps.{named_step, IsWithin, IsStep, Behind, GoesOn, lexeme_in, is_hash, no_hash, no_include, include, other, sign, begins}
+use Rattle.nwq_value.specs.Limits.{text_limit}
+use Rattle.nss_include.specs.Pieces.{is_hash}
+use Rattle.nss_include.specs.Steps.{named_step, IsWithin, IsStep, Behind, GoesOn, lexeme_in, no_hash, no_include, include, other, sign, begins}
 
 short : (name : List ℕ) → is_include_name name ≡ true → length name ≤ 16
 unfolding is_include_name
@@ -25,10 +27,10 @@ length_cut : (n : ℕ) (s : List ℕ) → (length s ≤ n) ⊎ (n ≤ length (ta
 length_cut n s = length_cut_by n s (nat_le (length s) n) refl
 
 -- a name that is short after it was cut was not cut
-kept : (s : List ℕ) → is_include_name (take 8192 s) ≡ true → take 8192 s ≡ s
-kept s h = elim (length_cut 8192 s) as (λ _. take 8192 s ≡ s) [ inl few ↦ take_all 8192 s few | inr many ↦ absurd (let few = short (take 8192 s) h in omega arith) ]
+kept : (s : List ℕ) → is_include_name (take text_limit s) ≡ true → take text_limit s ≡ s
+kept s h = elim (length_cut text_limit s) as (λ _. take text_limit s ≡ s) [ inl few ↦ take_all text_limit s few | inr many ↦ absurd (let few = short (take text_limit s) h in omega arith) ]
 
-pub names : (hash end : ℕ) (text name : List ℕ) → name ≡ take 8192 (string_value text) → is_include_name name ≡ true
+pub names : (hash end : ℕ) (text name : List ℕ) → name ≡ take text_limit (string_value text) → is_include_name name ≡ true
     → Mentions hash name end ≡ named_step hash text end
 unfolding named_step
 names hash end text name is h =
@@ -40,14 +42,14 @@ long : (name : List ℕ) → 17 ≤ length name → is_include_name name ≡ fal
 unfolding is_include_name
 long name h = grind (arith, nat_tests)
 
-cut_by_length : (s : List ℕ) → (length s ≤ 8192) ⊎ (8192 ≤ length (take 8192 s)) → is_include_name (take 8192 s) ≡ false → is_include_name s ≡ false
-cut_by_length s (inl few) h = ap is_include_name (sym (take_all 8192 s few)) ∙ h
-cut_by_length s (inr many) h = let more : 17 ≤ length s = omega (arith, length-take 8192 s) in long s more
+cut_by_length : (s : List ℕ) → (length s ≤ text_limit) ⊎ (text_limit ≤ length (take text_limit s)) → is_include_name (take text_limit s) ≡ false → is_include_name s ≡ false
+cut_by_length s (inl few) h = ap is_include_name (sym (take_all text_limit s few)) ∙ h
+cut_by_length s (inr many) h = let more : 17 ≤ length s = omega (arith, length-take text_limit s) in long s more
 
-cut_too : (s : List ℕ) → is_include_name (take 8192 s) ≡ false → is_include_name s ≡ false
-cut_too s h = cut_by_length s (length_cut 8192 s) h
+cut_too : (s : List ℕ) → is_include_name (take text_limit s) ≡ false → is_include_name s ≡ false
+cut_too s h = cut_by_length s (length_cut text_limit s) h
 
-pub names_not : (hash end : ℕ) (text name : List ℕ) → name ≡ take 8192 (string_value text) → is_include_name name ≡ false
+pub names_not : (hash end : ℕ) (text name : List ℕ) → name ≡ take text_limit (string_value text) → is_include_name name ≡ false
     → Misses hash ≡ named_step hash text end
 unfolding named_step
 names_not hash end text name is h =

@@ -1,12 +1,16 @@
-use Rattle.std.proofs.Common.{◌≡◌, ℕ, ◌+◌, ◌<◌, ◌≤◌, suc, zero, List, [], ◌∷◌, ◌++◌, length, get_or, take, map, refl, sym, ap, subst, ◌∙◌, arith, length-append}
+use Rattle.std.proofs.Common.{◌≡◌, ◌≢◌, ℕ, ◌+◌, ◌<◌, ◌≤◌, suc, zero, Bool, true, false, ◌||◌, List, [], ◌∷◌, ◌++◌, length, get_or, take, map, refl, sym, ap, subst, ◌∙◌, arith, length-append}
 use Rattle.std.proofs.lemmas.List.{take_more, map-append}
-use Rattle.std.specs.List.{AllByRecursion, slice_get}
+use Rattle.std.specs.List.{AllByRecursion, slice_get, list_any}
+use Rattle.std.specs.Str.{bytes_eq}
+use Rattle.std.proofs.lemmas.Slice.Eq.{bytes_eq-Decides}
+use Rattle.nwq_value.specs.Limits.{file_limit}
 use Rattle.nss_lexer.specs.declared.token.Token.{Token}
 use Rattle.nss_lexer.specs.Lexemes.{IsLexeme}
 use Rattle.nss_lexer.specs.Splitting.{plain}
 use Rattle.nss_include.specs.declared.file.Source.{Source}
 use Rattle.nss_include.specs.declared.step.Span.{Span}
 use Rattle.nss_include.specs.Steps.{lexeme_in}
+use Rattle.nss_include.specs.Units.{is_among, HaveDistinctNames, source}
 use Rattle.nss_include.specs.View.{IsSpan, StandsIn, IsSound, lexeme_of, bytes_of}
 
 -- what a list has at a place stays where the list grows
@@ -28,6 +32,22 @@ pub all_at : {A : Type 0} (P : A → Type 0) (xs : List A) (i : ℕ) (d : A) →
 all_at P [] i d h below = absurd (omega arith)
 all_at P (x ∷ xs) zero d h below = h.0
 all_at P (x ∷ xs) (suc i) d h below = let rest : i < length xs = omega arith in all_at P xs i d h.1 rest
+
+apart_or : (a b : Bool) → (a || b) ≡ false → (a ≡ false) × (b ≡ false)
+apart_or true b h = absurd cc
+apart_or false b h = (refl, h)
+
+-- a file of a new name keeps names distinct
+pub distinct_more : (files : List Source) (name bytes : List ℕ) → is_among files name ≡ false → HaveDistinctNames files
+    → HaveDistinctNames (files ++ source name bytes ∷ [])
+unfolding is_among
+distinct_more [] name bytes new h = (tt, tt)
+distinct_more (f ∷ files) name bytes new h =
+    let parts = apart_or (bytes_eq f.name name) (list_any (λ g. bytes_eq g.name name) files) new
+    in let other : name ≢ f.name = λ same.
+    let is : bytes_eq f.name name ≡ true = (bytes_eq-Decides f.name name).1 (sym same)
+    in let e : false ≡ true = sym parts.0 ∙ is in cc
+    in (all_push (λ g. g.name ≢ f.name) files (source name bytes) h.0 other, distinct_more files name bytes parts.1 h.1)
 
 pub bytes_stay : (files more : List Source) (i : ℕ) → i < length files → bytes_of (slice_get (files ++ more) i) ≡ bytes_of (slice_get files i)
 bytes_stay files more i h = ap bytes_of (slice_get-append files more i h)
@@ -53,10 +73,10 @@ lexemes_stay files more (span ∷ spans) h =
     ∙ ap (λ ts. lexeme_of files span ∷ ts) (lexemes_stay files more spans h.1)
 
 -- one more file keeps a unit sound
-pub sound_more : (files : List Source) (spans : List Span) (file : Source) → IsSound files spans → length file.bytes ≤ 16777216 → length files < 65536
+pub sound_more : (files : List Source) (spans : List Span) (file : Source) → IsSound files spans → length file.bytes ≤ file_limit → length files < 65536
     → IsSound (files ++ file ∷ []) spans
 sound_more files spans file sound size few = record {
-  sizes = all_push (λ f. length f.bytes ≤ 16777216) files file sound.sizes size;
+  sizes = all_push (λ f. length f.bytes ≤ file_limit) files file sound.sizes size;
   few = omega (arith, few, length-append files (file ∷ []));
   short = sound.short;
   inside = all_map (IsSpan files) (IsSpan (files ++ file ∷ [])) spans (span_stays files (file ∷ [])) sound.inside;

@@ -1,6 +1,8 @@
 pub mod Names
-pub mod Steps
+pub mod Pieces
 pub mod Units
 pub mod View
 pub mod Gather
+pub mod Steps
+pub mod Walks
 pub mod Progress

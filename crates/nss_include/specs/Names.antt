@@ -2,6 +2,7 @@
 use Rattle.std.specs.Prelude.{ℕ, Bool, ◌&&◌, nat_lt, nat_le, List, ◌++◌, length, map, take, codes}
 use Rattle.std.specs.List.{list_all}
 use Rattle.std.specs.Char.{to_ascii_lowercase}
+use Rattle.nwq_value.specs.Limits.{text_limit}
 use Rattle.nss_lexer.specs.Bytes.{is_name_byte}
 use Rattle.nwq_text.specs.Line.{line_number}
 use Rattle.nss_include.specs.declared.file.Source.{Source}
@@ -17,4 +18,4 @@ is_include_name name = nat_lt 0 (length name) && nat_le (length name) 16 && list
 
 -- a place of a file: the file's name, cut as texts are, the place's line and the place
 abbrev pub spot_in : Source → ℕ → Spot
-spot_in file at = record { name = take 8192 file.name; line = line_number file.bytes at; at = at }
+spot_in file at = record { name = take text_limit file.name; line = line_number file.bytes at; at = at }

@@ -1,46 +1,49 @@
--- A unit while it is read: the files that are open, the innermost first, and what is left to come of them.
+-- A unit while it is read: the files that are open, the innermost first, and what is left to come of them. No public contract
+-- names this.
 use Rattle.std.specs.Prelude.{◌≡◌, ℕ, ◌+◌, ◌-◌, ◌*◌, ◌<◌, ◌≤◌, List, [], ◌∷◌, ◌++◌, length, slice_get, take, Option, Some, None, IsSomeAnd}
 use Rattle.std.specs.List.{AllByRecursion}
+use Rattle.nwq_value.specs.Limits.{file_limit, text_limit, token_limit}
 use Rattle.nss_lexer.specs.Splitting.{Lexeme}
 use Rattle.nss_include.specs.declared.fault.GatherFault.{GatherFault}
 use Rattle.nss_include.specs.declared.fault.GatherFault.TheVariants.{Missing, Fault, Long, Bad, Tokens, Include, NoMemory}
 use Rattle.nss_include.specs.declared.file.Source.{Source}
 use Rattle.nss_include.specs.declared.opened.Open.{Open}
-use Rattle.nss_include.specs.declared.reading.Reading.{Reading}
+use Rattle.nss_include.specs.declared.gatherer.Gatherer.{Gatherer}
 use Rattle.nss_include.specs.declared.step.Step.{Step}
 use Rattle.nss_include.specs.Names.{file_name}
 use Rattle.nss_include.specs.Steps.{IsStep, IsWithin}
-use Rattle.nss_include.specs.Units.{Contents, Unfolds, source}
+use Rattle.nss_include.specs.Units.{source, HaveDistinctNames}
 use Rattle.nss_include.specs.View.{Gathered, bytes_of}
+use Rattle.nss_include.specs.Walks.{Lookup, Walks}
 
 -- what is left to come of open files: up to the end of all, or up to a fault
-pub data Rest (contents : Contents) : List Open → List Source → ℕ → List Lexeme → List Source → ℕ → Option GatherFault → Type 0 where
+pub data Rest (contents : Lookup) : List Open → List Source → ℕ → List Lexeme → List Source → ℕ → Option GatherFault → Type 0 where
   closed : (files : List Source) (count : ℕ) → Rest contents [] files count [] files count None
   stops : (here : Open) (stack : List Open) (files : List Source) (count : ℕ) (tokens : List Lexeme) (last : List Source) (total : ℕ)
-      (fault : GatherFault) → Unfolds contents here.file here.at files count tokens last total (Some fault)
+      (fault : GatherFault) → Walks contents here.file here.at files count tokens last total (Some fault)
       → Rest contents (here ∷ stack) files count tokens last total (Some fault)
   goes : (here : Open) (stack : List Open) (files : List Source) (count : ℕ) (inner : List Lexeme) (between : List Source) (counted : ℕ)
       (tokens : List Lexeme) (last : List Source) (total : ℕ) (ending : Option GatherFault)
-      → Unfolds contents here.file here.at files count inner between counted None
+      → Walks contents here.file here.at files count inner between counted None
       → Rest contents stack between counted tokens last total ending
       → Rest contents (here ∷ stack) files count (inner ++ tokens) last total ending
 
 -- a reading ends with these tokens, its own among them, and with these files and this count
-pub record Ends (contents : Contents) (r : Reading) (tokens : List Lexeme) (last : List Source) (total : ℕ) (ending : Option GatherFault) : Type 0 where
+pub record Ends (contents : Lookup) (r : Gatherer) (tokens : List Lexeme) (last : List Source) (total : ℕ) (ending : Option GatherFault) : Type 0 where
   pub left : List Lexeme
   pub parts : tokens ≡ r.unit.tokens ++ left
   pub rest : Rest contents r.stack r.unit.files r.count left last total ending
 
 -- whatever a later reading ends with, the earlier one ends with
-abbrev pub Leads : Contents → Reading → Reading → Type 0
+abbrev pub Leads : Lookup → Gatherer → Gatherer → Type 0
 Leads contents old new =
     (tokens : List Lexeme) (last : List Source) (total : ℕ) (ending : Option GatherFault) → Ends contents new tokens last total ending
     → Ends contents old tokens last total ending
 
 -- where a fault comes of what is under a name, that is so
-abbrev pub Explains : Contents → GatherFault → Type 0
+abbrev pub Explains : Lookup → GatherFault → Type 0
 Explains contents (Missing name) = contents name ≡ None
-Explains contents (Long name) = IsSomeAnd (contents name) (λ bytes. 16777216 < length bytes)
+Explains contents (Long name) = IsSomeAnd (contents name) (λ bytes. file_limit < length bytes)
 Explains contents Fault = Unit {0}
 Explains contents (Bad spot) = Unit {0}
 Explains contents (Tokens spot) = Unit {0}
@@ -52,50 +55,52 @@ pub record IsOpen (files : List Source) (here : Open) : Type 0 where
   pub file : here.file < length files
   pub place : here.at ≤ length (bytes_of (slice_get files here.file))
 
--- the open files are of the unit, each of its tokens was counted, and each file but the script was paid for by a directive
-pub record IsReady (r : Reading) : Type 0 where
+-- the open files are of the unit, each of its tokens was counted, and each file but the script was paid for by a directive; no two
+-- files have one name
+pub record IsReady (r : Gatherer) : Type 0 where
   pub places : AllByRecursion (IsOpen r.unit.files) r.stack
-  pub few : r.count ≤ 100000
+  pub few : r.count ≤ token_limit
   pub counted : length r.unit.tokens ≤ r.count
   pub paid : 3 * length r.unit.files ≤ r.count + 3
+  pub distinct : HaveDistinctNames r.unit.files
 
 -- these files are the others with some more behind them
 abbrev pub Extends : List Source → List Source → Type 0
 Extends old new = (more : List Source) × (new ≡ old ++ more)
 
 -- a reading with one more file open
-abbrev pub reopened : Open → Reading → Reading
+abbrev pub reopened : Open → Gatherer → Gatherer
 reopened here r = record r { stack = here ∷ r.stack }
 
 -- what falls with each step of a reading
-abbrev pub steps_left : Reading → ℕ
-steps_left r = 2 * (100000 - r.count) + length r.stack
+abbrev pub steps_left : Gatherer → ℕ
+steps_left r = 2 * (token_limit - r.count) + length r.stack
 
 -- the unit's file in which one goes on here goes on so, within its bounds
-pub record HasStep (r : Reading) (here : Open) (s : Step) : Type 0 where
+pub record HasStep (r : Gatherer) (here : Open) (s : Step) : Type 0 where
   pub file : Source
   pub is : slice_get r.unit.files here.file ≡ Some file
   pub step : IsStep file.bytes here.file here.at s
   pub within : IsWithin file.bytes here.file s
 
 -- a reading ends with this fault and what it has so far
-abbrev pub Stops : Contents → Reading → GatherFault → Type 0
+abbrev pub Stops : Lookup → Gatherer → GatherFault → Type 0
 Stops contents r fault = Ends contents r r.unit.tokens r.unit.files r.count (Some fault)
 
 -- the unit has one more file, of this name and of no more bytes than a file has
 pub record Opens (old new : Gathered) (name : List ℕ) : Type 0 where
   pub bytes : List ℕ
-  pub size : length bytes ≤ 16777216
+  pub size : length bytes ≤ file_limit
   pub is : new ≡ record { files = old.files ++ source name bytes ∷ []; tokens = old.tokens }
 
 -- the file that the unit has more is what is under its name
-abbrev pub Opened : Contents → Gathered → Gathered → List ℕ → Type 0
+abbrev pub Opened : Lookup → Gathered → Gathered → List ℕ → Type 0
 Opened contents old new name = (opens : Opens old new name) × (contents name ≡ Some opens.bytes)
 
 -- a fault of reading this name
 abbrev pub IsReadFault : List ℕ → GatherFault → Type 0
-IsReadFault name (Missing given) = given ≡ take 8192 name
-IsReadFault name (Long given) = given ≡ take 8192 name
+IsReadFault name (Missing given) = given ≡ take text_limit name
+IsReadFault name (Long given) = given ≡ take text_limit name
 IsReadFault name Fault = Unit {0}
 IsReadFault name (Bad spot) = ⊥
 IsReadFault name (Tokens spot) = ⊥
@@ -103,9 +108,9 @@ IsReadFault name (Include spot) = ⊥
 IsReadFault name NoMemory = Unit {0}
 
 -- where a fault of reading this name comes of what is under it, that is so
-abbrev pub ExplainsRead : Contents → List ℕ → GatherFault → Type 0
+abbrev pub ExplainsRead : Lookup → List ℕ → GatherFault → Type 0
 ExplainsRead contents name (Missing given) = contents name ≡ None
-ExplainsRead contents name (Long given) = IsSomeAnd (contents name) (λ bytes. 16777216 < length bytes)
+ExplainsRead contents name (Long given) = IsSomeAnd (contents name) (λ bytes. file_limit < length bytes)
 ExplainsRead contents name Fault = Unit {0}
 ExplainsRead contents name (Bad spot) = Unit {0}
 ExplainsRead contents name (Tokens spot) = Unit {0}
@@ -113,11 +118,11 @@ ExplainsRead contents name (Include spot) = Unit {0}
 ExplainsRead contents name NoMemory = Unit {0}
 
 -- a directive behind which the file goes on was passed
-abbrev pub passed : Reading → Open → ℕ → Reading
+abbrev pub passed : Gatherer → Open → ℕ → Gatherer
 passed r here after = record r { stack = record { file = here.file; at = after } ∷ r.stack; count = r.count + 3 }
 
 -- a directive was passed, and the file that it names is open
-pub record Includes (old new : Reading) (here : Open) (name : List ℕ) (after : ℕ) : Type 0 where
+pub record Includes (old new : Gatherer) (here : Open) (name : List ℕ) (after : ℕ) : Type 0 where
   pub opens : Opens old.unit new.unit name
   pub stack : new.stack ≡ record { file = length old.unit.files; at = 0 } ∷ record { file = here.file; at = after } ∷ old.stack
   pub count : new.count ≡ old.count + 3
@@ -133,16 +138,16 @@ IsOwnFault (Include spot) = ⊥
 IsOwnFault NoMemory = Unit {0}
 
 -- from here a reading comes to this fault
-pub record ComesTo (contents : Contents) (r : Reading) (fault : GatherFault) : Type 0 where
+pub record ComesTo (contents : Lookup) (r : Gatherer) (fault : GatherFault) : Type 0 where
   pub tokens : List Lexeme
   pub last : List Source
   pub total : ℕ
   pub ends : Ends contents r tokens last total (Some fault)
 
 -- a reading that begins with the file of a script
-pub record Begins (r : Reading) (script : List ℕ) : Type 0 where
+pub record Begins (r : Gatherer) (script : List ℕ) : Type 0 where
   pub bytes : List ℕ
-  pub size : length bytes ≤ 16777216
+  pub size : length bytes ≤ file_limit
   pub unit : r.unit ≡ record { files = source (file_name script) bytes ∷ []; tokens = [] }
   pub stack : r.stack ≡ record { file = 0; at = 0 } ∷ []
   pub count : r.count ≡ 0

@@ -1,7 +1,6 @@
--- What a file goes on with at a place: a token, an include, a fault or its end.
+-- What a file goes on with at a place, as the code finds it: a token, an include, a fault or its end. No public contract
+-- names this: a unit is proved to be what its pieces come to.
 use Rattle.std.specs.Prelude.{◌≡◌, ℕ, ◌-◌, ◌≤◌, Bool, true, false, List, length, take, drop, codes, bytes_eq, if◌then◌else◌, Option, Some, None}
-use Rattle.nss_lexer.specs.declared.token.Kind.{Kind}
-use Rattle.nss_lexer.specs.declared.token.Kind.TheVariants.{Name, Word, Int, Float, Text, Sign}
 use Rattle.nss_lexer.specs.Lexemes.{IsLexeme}
 use Rattle.nss_lexer.specs.Strings.{string_value}
 use Rattle.nss_lexer.specs.Splitting.{Lexeme, First, Found, AtEnd, BadAt, IsFirst}
@@ -9,6 +8,7 @@ use Rattle.nss_include.specs.declared.step.Span.{Span}
 use Rattle.nss_include.specs.declared.step.Step.{Step}
 use Rattle.nss_include.specs.declared.step.Step.TheVariants.{Ends, Breaks, Gives, Mentions, Misses}
 use Rattle.nss_include.specs.Names.{is_include_name}
+use Rattle.nss_include.specs.Pieces.{is_hash, is_include, is_string}
 
 -- the token of a span of a file's bytes
 abbrev pub lexeme_in : List ℕ → Span → Lexeme
@@ -20,32 +20,21 @@ lexeme_in bytes span = record {
   end = span.end;
 }
 
-abbrev pub is_hash : Lexeme → Bool
-is_hash t = bytes_eq t.text (codes "#")
-
 -- the name `include` stands first
-abbrev pub is_include : First → Bool
-is_include (Found t) = bytes_eq t.text (codes "include")
-is_include AtEnd = false
-is_include (BadAt place) = false
-
-abbrev pub is_string : Kind → Bool
-is_string Text = true
-is_string Name = false
-is_string Word = false
-is_string (Int n) = false
-is_string Float = false
-is_string Sign = false
+abbrev pub begins_include : First → Bool
+begins_include (Found t) = is_include t
+begins_include AtEnd = false
+begins_include (BadAt place) = false
 
 -- a directive whose string this is, up to this end
 unfoldable pub named_step : ℕ → List ℕ → ℕ → Step
 named_step hash text end = if is_include_name (string_value text) then Mentions hash (string_value text) end else Misses hash
 
 -- A directive whose `#` stands at this place goes on so, where this stands first behind its `include`.
-abbrev pub directive : ℕ → First → Step
-directive hash AtEnd = Misses hash
-directive hash (BadAt place) = Breaks place
-directive hash (Found t) = if is_string t.kind then named_step hash t.text t.end else Misses hash
+abbrev pub directive_step : ℕ → First → Step
+directive_step hash AtEnd = Misses hash
+directive_step hash (BadAt place) = Breaks place
+directive_step hash (Found t) = if is_string t.kind then named_step hash t.text t.end else Misses hash
 
 -- What a file, by its bytes and number, goes on with at a place. A `#` with the name `include` behind it, in the same
 -- file, begins a directive.
@@ -55,24 +44,24 @@ pub data IsStep (bytes : List ℕ) (file : ℕ) : ℕ → Step → Type 0 where
   other : (at : ℕ) (span : Span) → IsFirst bytes file at (Found (lexeme_in bytes span)) → is_hash (lexeme_in bytes span) ≡ false
       → IsStep bytes file at (Gives span)
   sign : (at : ℕ) (span : Span) (x : First) → IsFirst bytes file at (Found (lexeme_in bytes span))
-      → IsFirst bytes file span.end x → is_include x ≡ false → IsStep bytes file at (Gives span)
+      → IsFirst bytes file span.end x → begins_include x ≡ false → IsStep bytes file at (Gives span)
   begins : (at : ℕ) (t u : Lexeme) (x : First) (step : Step) → IsFirst bytes file at (Found t) → is_hash t ≡ true
-      → IsFirst bytes file t.end (Found u) → is_include (Found u) ≡ true → IsFirst bytes file u.end x
-      → step ≡ directive t.start x → IsStep bytes file at step
+      → IsFirst bytes file t.end (Found u) → is_include u ≡ true → IsFirst bytes file u.end x
+      → step ≡ directive_step t.start x → IsStep bytes file at step
 
 -- What stands behind a token with this text and end: the end of the name `include`, where the token is a `#` and
 -- that name stands first behind it.
 pub data Behind (bytes : List ℕ) (file : ℕ) (text : List ℕ) (end : ℕ) : Option ℕ → Type 0 where
   no_hash : bytes_eq text (codes "#") ≡ false → Behind bytes file text end None
-  no_include : (x : First) → IsFirst bytes file end x → is_include x ≡ false → Behind bytes file text end None
-  include : (u : Lexeme) → bytes_eq text (codes "#") ≡ true → IsFirst bytes file end (Found u) → is_include (Found u) ≡ true
+  no_include : (x : First) → IsFirst bytes file end x → begins_include x ≡ false → Behind bytes file text end None
+  include : (u : Lexeme) → bytes_eq text (codes "#") ≡ true → IsFirst bytes file end (Found u) → is_include u ≡ true
       → Behind bytes file text end (Some u.end)
 
 -- a directive goes on so behind its `include`
 pub record GoesOn (bytes : List ℕ) (file hash at : ℕ) (step : Step) : Type 0 where
   pub first : First
   pub stands : IsFirst bytes file at first
-  pub is : step ≡ directive hash first
+  pub is : step ≡ directive_step hash first
 
 -- the places of a step lie in the file, and its token is one
 abbrev pub IsWithin : List ℕ → ℕ → Step → Type 0

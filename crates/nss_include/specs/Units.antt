@@ -1,92 +1,105 @@
--- The unit of a script: the tokens of its file, with each include replaced by the tokens of the file that it names,
+-- The unit of a script: the tokens of its file, with each directive replaced by the tokens of the file that it names,
 -- at the first mention, and by nothing later.
-use Rattle.std.specs.Prelude.{◌≡◌, ℕ, ◌+◌, ◌≤◌, Bool, true, false, nat_lt, nat_le, if◌then◌else◌, List, [], ◌∷◌, ◌++◌, length, take, bytes_eq, slice_get, Option, Some, None}
-use Rattle.std.specs.List.{list_any}
+use Rattle.std.specs.Prelude.{◌≡◌, ◌≢◌, ℕ, ◌+◌, ◌≤◌, Bool, true, false, nat_lt, nat_le, if◌then◌else◌, List, [], ◌∷◌, ◌++◌, length, take, bytes_eq, Option, Some, None}
+use Rattle.std.specs.List.{list_any, AllByRecursion}
+use Rattle.std.specs.FinMap as map
+use Rattle.nwq_value.specs.Limits.{file_limit, text_limit, token_limit}
+use Rattle.nwq_outside.specs.Outside.{Contents}
 use Rattle.nss_lexer.specs.Splitting.{Lexeme}
 use Rattle.nss_include.specs.declared.fault.GatherFault.{GatherFault}
 use Rattle.nss_include.specs.declared.fault.GatherFault.TheVariants.{Missing, Long, Bad, Tokens, Include}
 use Rattle.nss_include.specs.declared.file.Source.{Source}
-use Rattle.nss_include.specs.declared.step.Step.{Step}
-use Rattle.nss_include.specs.declared.step.Step.TheVariants.{Ends, Breaks, Gives, Mentions, Misses}
 use Rattle.nss_include.specs.Names.{file_name, spot_in}
-use Rattle.nss_include.specs.Steps.{IsStep, lexeme_in}
-
--- what is under each name
-abbrev pub Contents : Type 0
-Contents = List ℕ → Option (List ℕ)
+use Rattle.nss_include.specs.Pieces.{Piece, Token, Directive, BadDirective, BadByte, HasPieces}
 
 -- what keeps a file with this content, or with none, from being read
 abbrev pub reading_fault : List ℕ → Option (List ℕ) → Option GatherFault
-reading_fault name None = Some (Missing (take 8192 name))
-reading_fault name (Some bytes) = if nat_le (length bytes) 16777216 then None else Some (Long (take 8192 name))
+reading_fault name None = Some (Missing (take text_limit name))
+reading_fault name (Some bytes) = if nat_le (length bytes) file_limit then None else Some (Long (take text_limit name))
 
 -- a file of this name is in the unit
 unfoldable pub is_among : List Source → List ℕ → Bool
 is_among files name = list_any (λ f. bytes_eq f.name name) files
 
--- What an include of this name fails with where so many tokens were counted. A directive counts as three tokens at
--- its `#`, and then a file that is not in the unit yet is read.
-abbrev pub include_fault : Contents → List Source → ℕ → Source → ℕ → List ℕ → Option GatherFault
-include_fault contents files count file at name =
-    if nat_lt 100000 (count + 3) then Some (Tokens (spot_in file at))
-    else if is_among files name then None else reading_fault name (contents name)
-
--- what a step of a file fails with, if it does
-abbrev pub step_fault : Contents → List Source → ℕ → Source → Step → Option GatherFault
-step_fault contents files count file Ends = None
-step_fault contents files count file (Breaks place) = Some (Bad (spot_in file place))
-step_fault contents files count file (Gives span) = if nat_lt count 100000 then None else Some (Tokens (spot_in file span.start))
-step_fault contents files count file (Mentions at name after) = include_fault contents files count file at (file_name name)
-step_fault contents files count file (Misses place) = Some (Include (spot_in file place))
+-- no two files have one name
+abbrev pub HaveDistinctNames : List Source → Type 0
+HaveDistinctNames [] = Unit {0}
+HaveDistinctNames (file ∷ files) = AllByRecursion (λ other. other.name ≢ file.name) files × HaveDistinctNames files
 
 -- the source with which the unit's files grow
 abbrev pub source : List ℕ → List ℕ → Source
 source name bytes = record { name = name; bytes = bytes }
 
--- From a place of a file on, where these files are in the unit and so many tokens were counted, these tokens come,
--- with the files and the count at their end: up to the file's end, or up to a fault.
-pub data Unfolds (contents : Contents) : ℕ → ℕ → List Source → ℕ → List Lexeme → List Source → ℕ → Option GatherFault → Type 0 where
-  ends : (number at : ℕ) (files : List Source) (count : ℕ) (file : Source) → slice_get files number ≡ Some file
-      → IsStep file.bytes number at Ends → Unfolds contents number at files count [] files count None
-  fails : (number at : ℕ) (files : List Source) (count : ℕ) (file : Source) (step : Step) (fault : GatherFault)
-      → slice_get files number ≡ Some file → IsStep file.bytes number at step → step_fault contents files count file step ≡ Some fault
-      → Unfolds contents number at files count [] files count (Some fault)
-  gives : (number at : ℕ) (files : List Source) (count : ℕ) (file : Source) (span : _) (tokens : List Lexeme) (last : List Source) (total : ℕ)
-      (ending : Option GatherFault)
-      → slice_get files number ≡ Some file → IsStep file.bytes number at (Gives span) → step_fault contents files count file (Gives span) ≡ None
-      → Unfolds contents number span.end files (count + 1) tokens last total ending
-      → Unfolds contents number at files count (lexeme_in file.bytes span ∷ tokens) last total ending
-  again : (number at : ℕ) (files : List Source) (count : ℕ) (file : Source) (hash : ℕ) (name : List ℕ) (after : ℕ)
-      (tokens : List Lexeme) (last : List Source) (total : ℕ) (ending : Option GatherFault)
-      → slice_get files number ≡ Some file → IsStep file.bytes number at (Mentions hash name after)
-      → step_fault contents files count file (Mentions hash name after) ≡ None → is_among files (file_name name) ≡ true
-      → Unfolds contents number after files (count + 3) tokens last total ending
-      → Unfolds contents number at files count tokens last total ending
-  breaks_off : (number at : ℕ) (files : List Source) (count : ℕ) (file : Source) (hash : ℕ) (name : List ℕ) (after : ℕ) (bytes : List ℕ)
-      (tokens : List Lexeme) (last : List Source) (total : ℕ) (fault : GatherFault)
-      → slice_get files number ≡ Some file → IsStep file.bytes number at (Mentions hash name after)
-      → step_fault contents files count file (Mentions hash name after) ≡ None → is_among files (file_name name) ≡ false
-      → contents (file_name name) ≡ Some bytes
-      → Unfolds contents (length files) 0 (files ++ source (file_name name) bytes ∷ []) (count + 3) tokens last total (Some fault)
-      → Unfolds contents number at files count tokens last total (Some fault)
-  includes : (number at : ℕ) (files : List Source) (count : ℕ) (file : Source) (hash : ℕ) (name : List ℕ) (after : ℕ) (bytes : List ℕ)
-      (inner : List Lexeme) (between : List Source) (counted : ℕ) (tokens : List Lexeme) (last : List Source) (total : ℕ)
-      (ending : Option GatherFault)
-      → slice_get files number ≡ Some file → IsStep file.bytes number at (Mentions hash name after)
-      → step_fault contents files count file (Mentions hash name after) ≡ None → is_among files (file_name name) ≡ false
-      → contents (file_name name) ≡ Some bytes
-      → Unfolds contents (length files) 0 (files ++ source (file_name name) bytes ∷ []) (count + 3) inner between counted None
-      → Unfolds contents number after between counted tokens last total ending
-      → Unfolds contents number at files count (inner ++ tokens) last total ending
+-- the files of a unit so far, and how many tokens were counted, a directive being three
+pub record Held : Type 0 where
+  pub files : List Source
+  pub count : ℕ
 
--- The unit of a script has these tokens and files, or its tokens up to its first fault.
+abbrev pub with_token : Held → Held
+with_token held = record held { count = held.count + 1 }
+
+abbrev pub with_directive : Held → Held
+with_directive held = record held { count = held.count + 3 }
+
+abbrev pub with_file : Held → List ℕ → List ℕ → Held
+with_file held name bytes = record { files = held.files ++ source name bytes ∷ []; count = held.count + 3 }
+
+-- What a directive with its `#` there fails with: the count of tokens comes first, and then a file that is not in the unit yet
+-- is read.
+abbrev pub include_fault : Contents → Held → Source → ℕ → List ℕ → Option GatherFault
+include_fault contents held file hash name =
+    if nat_lt token_limit (held.count + 3) then Some (Tokens (spot_in file hash))
+    else if is_among held.files name then None else reading_fault name (map.get contents name)
+
+-- what a piece of a file fails with, if it does
+abbrev pub piece_fault : Contents → Held → Source → Piece → Option GatherFault
+piece_fault contents held file (Token t) = if nat_lt held.count token_limit then None else Some (Tokens (spot_in file t.start))
+piece_fault contents held file (Directive hash name) = include_fault contents held file hash (file_name name)
+piece_fault contents held file (BadDirective hash) = Some (Include (spot_in file hash))
+piece_fault contents held file (BadByte place) = Some (Bad (spot_in file place))
+
+-- From what is held before, these pieces of a file come to these tokens and to what is held after them: all of them, or
+-- those up to the first fault.
+pub data Unfolds (contents : Contents) : Source → List Piece → Held → List Lexeme → Held → Option GatherFault → Type 0 where
+  ends : (file : Source) (held : Held) → Unfolds contents file [] held [] held None
+  fails : (file : Source) (piece : Piece) (more : List Piece) (held : Held) (fault : GatherFault)
+      → piece_fault contents held file piece ≡ Some fault
+      → Unfolds contents file (piece ∷ more) held [] held (Some fault)
+  gives : (file : Source) (t : Lexeme) (more : List Piece) (held : Held) (tokens : List Lexeme) (after : Held) (ending : Option GatherFault)
+      → piece_fault contents held file (Token t) ≡ None
+      → Unfolds contents file more (with_token held) tokens after ending
+      → Unfolds contents file (Token t ∷ more) held (t ∷ tokens) after ending
+  again : (file : Source) (hash : ℕ) (name : List ℕ) (more : List Piece) (held : Held) (tokens : List Lexeme) (after : Held)
+      (ending : Option GatherFault)
+      → piece_fault contents held file (Directive hash name) ≡ None → is_among held.files (file_name name) ≡ true
+      → Unfolds contents file more (with_directive held) tokens after ending
+      → Unfolds contents file (Directive hash name ∷ more) held tokens after ending
+  breaks_off : (file : Source) (hash : ℕ) (name : List ℕ) (more : List Piece) (held : Held) (bytes : List ℕ) (inner : List Piece)
+      (tokens : List Lexeme) (after : Held) (fault : GatherFault)
+      → piece_fault contents held file (Directive hash name) ≡ None → is_among held.files (file_name name) ≡ false
+      → map.get contents (file_name name) ≡ Some bytes → HasPieces bytes (length held.files) 0 inner
+      → Unfolds contents (source (file_name name) bytes) inner (with_file held (file_name name) bytes) tokens after (Some fault)
+      → Unfolds contents file (Directive hash name ∷ more) held tokens after (Some fault)
+  includes : (file : Source) (hash : ℕ) (name : List ℕ) (more : List Piece) (held : Held) (bytes : List ℕ) (inner : List Piece)
+      (first : List Lexeme) (between : Held) (tokens : List Lexeme) (after : Held) (ending : Option GatherFault)
+      → piece_fault contents held file (Directive hash name) ≡ None → is_among held.files (file_name name) ≡ false
+      → map.get contents (file_name name) ≡ Some bytes → HasPieces bytes (length held.files) 0 inner
+      → Unfolds contents (source (file_name name) bytes) inner (with_file held (file_name name) bytes) first between None
+      → Unfolds contents file more between tokens after ending
+      → Unfolds contents file (Directive hash name ∷ more) held (first ++ tokens) after ending
+
+-- what is held where the script alone was read
+abbrev pub script_alone : List ℕ → List ℕ → Held
+script_alone name bytes = record { files = source name bytes ∷ []; count = 0 }
+
+-- The unit of a script has these tokens and files, or its tokens and files up to its first fault.
 pub data IsUnit (contents : Contents) (script : List ℕ) : List Lexeme → List Source → Option GatherFault → Type 0 where
-  unread : (fault : GatherFault) → reading_fault (file_name script) (contents (file_name script)) ≡ Some fault
+  unread : (fault : GatherFault) → reading_fault (file_name script) (map.get contents (file_name script)) ≡ Some fault
       → IsUnit contents script [] [] (Some fault)
-  is_read : (bytes : List ℕ) (tokens : List Lexeme) (files : List Source) (total : ℕ) (ending : Option GatherFault)
-      → contents (file_name script) ≡ Some bytes → length bytes ≤ 16777216
-      → Unfolds contents 0 0 (source (file_name script) bytes ∷ []) 0 tokens files total ending
-      → IsUnit contents script tokens files ending
+  is_read : (bytes : List ℕ) (all : List Piece) (tokens : List Lexeme) (after : Held) (ending : Option GatherFault)
+      → map.get contents (file_name script) ≡ Some bytes → length bytes ≤ file_limit → HasPieces bytes 0 0 all
+      → Unfolds contents (source (file_name script) bytes) all (script_alone (file_name script) bytes) tokens after ending
+      → IsUnit contents script tokens after.files ending
 
 -- a script has one unit, or one first fault
 abbrev pub OneUnit : Type 0

@@ -1,6 +1,7 @@
 -- A unit as contracts see it, and what each unit keeps.
 use Rattle.std.specs.Prelude.{ℕ, ◌<◌, ◌≤◌, List, [], length, slice_get, Option, Some, None}
 use Rattle.std.specs.List.{AllByRecursion}
+use Rattle.nwq_value.specs.Limits.{file_limit, token_limit}
 use Rattle.nss_lexer.specs.Lexemes.{IsLexeme}
 use Rattle.nss_lexer.specs.Splitting.{Lexeme}
 use Rattle.nss_include.specs.declared.file.Source.{Source}
@@ -35,7 +36,7 @@ pub record StandsIn (files : List Source) (t : Lexeme) : Type 0 where
 
 -- what every unit keeps: its files have the size of files, its tokens are few, and its spans lie in its files
 pub record IsSound (files : List Source) (spans : List Span) : Type 0 where
-  pub sizes : AllByRecursion (λ f. length f.bytes ≤ 16777216) files
+  pub sizes : AllByRecursion (λ f. length f.bytes ≤ file_limit) files
   pub few : length files ≤ 65536
-  pub short : length spans ≤ 100000
+  pub short : length spans ≤ token_limit
   pub inside : AllByRecursion (IsSpan files) spans

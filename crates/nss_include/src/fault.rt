@@ -2,11 +2,9 @@ ghost use Rattle.std.specs.Prelude.{◌≡◌};
 ghost use Rattle.nss_include.specs.declared.fault.GatherFault.TheVariants.{NoMemory as OutOfMemory};
 
 use nwq_value::{NoMemory, Text};
-use std::alloc::{AllocError, AllocFailed};
-use thiserror::Error;
 
 /// A place of a unit: the name of its file, its line and its offset in the file.
-#[derive(Debug, Drop)]
+#[derive(Drop)]
 pub struct Spot {
     pub name: Text,
     pub line: u32,
@@ -14,21 +12,20 @@ pub struct Spot {
 }
 
 /// Why there is no unit.
-#[derive(Debug, Drop, Error)]
+#[derive(Drop)]
 pub enum GatherFault {
-    #[error("a file of the unit is not there")]
+    /// No file is under this name.
     Missing(Text),
-    #[error("reading a file of the unit failed")]
+    /// The outside failed.
     Fault,
-    #[error("a file of the unit is too long")]
+    /// The file of this name is too long.
     Long(Text),
-    #[error("no token begins at a place of the unit")]
+    /// No token, blank or closed comment begins at this place.
     Bad(Spot),
-    #[error("the unit has too many tokens")]
+    /// The count of tokens passes its limit by what stands at this place.
     Tokens(Spot),
-    #[error("an include has no name")]
+    /// The directive at this place names no include.
     Include(Spot),
-    #[error("out of memory")]
     NoMemory,
 }
 
@@ -36,22 +33,6 @@ impl From<NoMemory> for GatherFault {
     ghost from_gives = { λ _ e. e ≡ OutOfMemory };
 
     fn from(_error: NoMemory) -> GatherFault {
-        GatherFault::NoMemory
-    }
-}
-
-impl From<AllocError> for GatherFault {
-    ghost from_gives = { λ _ e. e ≡ OutOfMemory };
-
-    fn from(_error: AllocError) -> GatherFault {
-        GatherFault::NoMemory
-    }
-}
-
-impl<T: Drop> From<AllocFailed<T>> for GatherFault {
-    ghost from_gives = { λ _ e. e ≡ OutOfMemory };
-
-    fn from(_error: AllocFailed<T>) -> GatherFault {
         GatherFault::NoMemory
     }
 }

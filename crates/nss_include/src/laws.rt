@@ -2,11 +2,11 @@
 
 ghost use Rattle.nss_include.specs.Units.{OneUnit};
 
-use nss_lexer::laws::one_first;
+use nss_lexer::laws::one_split;
 
 /// A script has one unit, or one first fault.
 pub fn one_unit()
     ensures { OneUnit }
 {
-    one_first();
+    one_split();
 }

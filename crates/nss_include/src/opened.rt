@@ -5,14 +5,14 @@ use std::alloc::Global;
 use std::marker::Model;
 
 /// A file that is read, and the place where it goes on.
-#[derive(Clone, Copy, Debug)]
+#[derive(Clone, Copy)]
 pub struct Open {
     pub file: u16,
     pub at: u32,
 }
 
 /// The files that are open. Contracts see the innermost first.
-#[derive(Debug, Drop)]
+#[derive(Drop)]
 pub struct OpenFiles {
     files: Vec<Open>,
 }
@@ -44,7 +44,8 @@ impl OpenFiles {
     }
 
     pub fn pop(&mut self) -> Option<Open>
-        ensures { MatchOption result ((self.old ≡ []) × (self.new ≡ [])) (λ file. self.old ≡ file ∷ self.new) }
+        ensures { MatchOption result ((self.old ≡ []) × (self.new ≡ []))
+            (λ file. self.old ≡ file ∷ self.new) }
     {
         self.files.pop()
     }

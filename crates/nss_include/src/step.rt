@@ -1,11 +1,12 @@
 ghost use Rattle.std.specs.Prelude.{◌≡◌, ◌≤◌, length, IfOk, IfSome, bytes_eq};
 ghost use Rattle.std.specs.List.{list_all};
+ghost use Rattle.nwq_value.specs.Limits.{file_limit};
 ghost use Rattle.nss_lexer.specs.Bytes.{is_name_byte};
 ghost use Rattle.nss_lexer.specs.Strings.{IsString};
 ghost use Rattle.nss_include.specs.Names.{is_include_name};
 ghost use Rattle.nss_include.specs.Steps.{IsStep, IsWithin, Behind, GoesOn, named_step};
 
-use nss_lexer::{Kind, Lexed, SOURCE_BYTES, literal, next};
+use nss_lexer::{Kind, Lexed, literal, next};
 use nwq_value::{NoMemory, Text};
 use std::alloc::Global;
 
@@ -13,7 +14,7 @@ use std::alloc::Global;
 const NAME_BYTES: usize = 16;
 
 /// Where a token of a unit stands.
-#[derive(Clone, Copy, Debug)]
+#[derive(Clone, Copy)]
 pub struct Span {
     pub kind: Kind,
     pub file: u16,
@@ -22,13 +23,14 @@ pub struct Span {
 }
 
 /// What a file goes on with at a place.
-#[derive(Debug, Drop)]
+#[derive(Drop)]
 pub enum Step {
     Ends,
     /// No token, blank or closed comment begins at this place.
     Breaks(u32),
     Gives(Span),
-    /// The directive with its `#` at the first place names this include, and ends before the second.
+    /// The directive with its `#` at the first place names this include, and ends before the
+    /// second.
     Mentions(u32, Text, u32),
     /// The directive with its `#` at this place names no include.
     Misses(u32),
@@ -37,7 +39,7 @@ pub enum Step {
 /// What the file goes on with at this place.
 #[tactic(auto, using(crate::proofs::StepLemmas::token_within))]
 pub fn next_step(alloc: Global, bytes: &[u8], file: u16, at: u32) -> Result<Step, NoMemory>
-    requires size { length bytes.now ≤ SOURCE_BYTES }
+    requires size { length bytes.now ≤ file_limit }
     requires place { at ≤ length bytes.now }
     ensures step { IfOk result (λ step. IsStep bytes.now file at step) }
     ensures within { IfOk result (λ step. IsWithin bytes.now file step) }
@@ -62,7 +64,7 @@ pub fn next_step(alloc: Global, bytes: &[u8], file: u16, at: u32) -> Result<Step
 
 /// The end of the name `include` that stands first behind a `#`.
 fn include_behind(bytes: &[u8], file: u16, text: &[u8], end: u32) -> Option<u32>
-    requires size { length bytes.now ≤ SOURCE_BYTES }
+    requires size { length bytes.now ≤ file_limit }
     requires place { end ≤ length bytes.now }
     ensures behind { Behind bytes.now file text.now end result }
     ensures within { IfSome result (λ last. last ≤ length bytes.now) }
@@ -89,8 +91,8 @@ fn reads(text: &[u8], word: &[u8]) -> bool
     text == word
 }
 
-#[tactic(auto, using(crate::proofs::StepLemmas::named_within))]
 /// What a directive with its `#` at `hash` goes on with behind its `include`.
+#[tactic(auto, using(crate::proofs::StepLemmas::named_within))]
 fn behind_include(
     alloc: Global,
     bytes: &[u8],
@@ -98,7 +100,7 @@ fn behind_include(
     hash: u32,
     at: u32,
 ) -> Result<Step, NoMemory>
-    requires size { length bytes.now ≤ SOURCE_BYTES }
+    requires size { length bytes.now ≤ file_limit }
     requires place { at ≤ length bytes.now }
     requires before { hash ≤ length bytes.now }
     ensures step { IfOk result (λ step. GoesOn bytes.now file hash at step) }

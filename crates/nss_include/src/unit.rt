@@ -1,6 +1,7 @@
 ghost use Rattle.std.specs.Prelude.{◌≡◌, ◌<◌, ◌≤◌, [], ◌∷◌, ◌++◌, length, map, slice_get, OnOk, OnErr, IfOk, Some};
 ghost use Rattle.std.specs.List.{AllByRecursion};
 ghost use Rattle.std.specs.Option.{option_map};
+ghost use Rattle.nwq_value.specs.Limits.{file_limit, token_limit};
 ghost use Rattle.nss_lexer.specs.Lexemes.{IsToken};
 ghost use Rattle.nss_lexer.specs.Splitting.{plain};
 ghost use Rattle.nss_include.specs.Names.{spot_in};
@@ -10,14 +11,14 @@ ghost use Rattle.nss_include.specs.View.{IsSpan, StandsIn, lexeme_of, bytes_of};
 use crate::fault::Spot;
 use crate::file::Source;
 use crate::step::Span;
-use nss_lexer::{SOURCE_BYTES, Token};
+use nss_lexer::Token;
 use nwq_text::line_of;
 use nwq_value::{Items, NoMemory, Text};
 use std::alloc::Global;
 use std::marker::Model;
 
 /// The files of a script and its includes, and their tokens in a row.
-#[derive(Debug, Drop)]
+#[derive(Drop)]
 pub struct Unit {
     files: Items<Source>,
     spans: Items<Span>,
@@ -49,13 +50,14 @@ impl Unit {
     pub fn tokens(&self, alloc: Global) -> Result<Vec<Token<'_>>, NoMemory>
         ensures tokens { IfOk result (λ made. map plain made.items ≡ self.now.tokens) }
         ensures spelled { IfOk result (λ made. AllByRecursion IsToken made.items) }
-        ensures few { length self.now.tokens ≤ 100_000 }
+        ensures few { length self.now.tokens ≤ token_limit }
         ensures placed { AllByRecursion (StandsIn self.now.files) self.now.tokens }
     {
         tokens_of(alloc, self.files.as_slice(), self.spans.as_slice())
     }
 
-    /// The name of a file, with `.nss`. The script is file 0, and the others follow in order of first mention.
+    /// The name of a file, with `.nss`. The script is file 0, and the others follow in order of
+    /// first mention.
     pub fn file_name(&self, file: u16) -> &[u8]
         requires { file < length self.now.files }
         ensures { option_map (λ f. f.name) (slice_get self.now.files file) ≡ Some result.now }
@@ -66,8 +68,9 @@ impl Unit {
     /// The bytes of a file.
     pub fn file_bytes(&self, file: u16) -> &[u8]
         requires { file < length self.now.files }
-        ensures bytes { option_map (λ f. f.bytes) (slice_get self.now.files file) ≡ Some result.now }
-        ensures size { length result.now ≤ SOURCE_BYTES }
+        ensures bytes { option_map (λ f. f.bytes) (slice_get self.now.files file)
+            ≡ Some result.now }
+        ensures size { length result.now ≤ file_limit }
     {
         self.files.as_slice()[file as usize].bytes.as_slice()
     }
@@ -80,8 +83,8 @@ impl Unit {
         self.files.len()
     }
 
-    #[tactic(auto, unfolding(crate::specs::Units::is_among))]
     /// Whether a file of this name is in the unit.
+    #[tactic(auto, unfolding(crate::specs::Units::is_among))]
     pub(crate) fn has(&self, name: &[u8]) -> bool
         ensures { result ≡ is_among self.now.files name.now }
     {
@@ -93,9 +96,12 @@ impl Unit {
 
     /// Puts a file last.
     pub(crate) fn open(&mut self, name: Items<u8>, bytes: Items<u8>) -> Result<(), NoMemory>
-        requires size { length bytes ≤ SOURCE_BYTES }
+        requires size { length bytes ≤ file_limit }
         requires few { length self.old.files < 65_536 }
-        ensures ok { OnOk result (self.new ≡ record { files = self.old.files ++ source name bytes ∷ []; tokens = self.old.tokens }) }
+        ensures ok { OnOk result (self.new ≡ record {
+          files = self.old.files ++ source name bytes ∷ [];
+          tokens = self.old.tokens;
+        }) }
         ensures err { OnErr result (self.new ≡ self.old) }
     {
         self.files.push(Source { name, bytes })?;
@@ -105,19 +111,24 @@ impl Unit {
     /// Puts a token last.
     pub(crate) fn push(&mut self, span: Span) -> Result<(), NoMemory>
         requires span { IsSpan self.old.files span }
-        requires short { length self.old.tokens < 100_000 }
-        ensures ok { OnOk result (self.new ≡ record { files = self.old.files; tokens = self.old.tokens ++ lexeme_of self.old.files span ∷ [] }) }
+        requires short { length self.old.tokens < token_limit }
+        ensures ok { OnOk result (self.new ≡ record {
+          files = self.old.files;
+          tokens = self.old.tokens ++ lexeme_of self.old.files span ∷ [];
+        }) }
         ensures err { OnErr result (self.new ≡ self.old) }
     {
         self.spans.push(span)?;
         Ok(())
     }
 
-    /// The place of the unit at this offset of a file: the file's name, the line there, and the offset.
+    /// The place of the unit at this offset of a file: the file's name, the line there, and the
+    /// offset.
     pub fn spot(&self, alloc: Global, file: u16, at: u32) -> Result<Spot, NoMemory>
         requires file { file < length self.now.files }
         requires place { at ≤ length (bytes_of (slice_get self.now.files file)) }
-        ensures { IfOk result (λ spot. option_map (λ f. spot_in f at) (slice_get self.now.files file) ≡ Some spot) }
+        ensures { IfOk result
+            (λ spot. option_map (λ f. spot_in f at) (slice_get self.now.files file) ≡ Some spot) }
     {
         let source = &self.files.as_slice()[file as usize];
         Ok(Spot {
@@ -135,7 +146,8 @@ fn tokens_of<'a>(
     spans: &[Span],
 ) -> Result<Vec<Token<'a>>, NoMemory>
     requires { AllByRecursion (IsSpan files.now) spans.now }
-    ensures tokens { IfOk result (λ made. map plain made.items ≡ map (lexeme_of files.now) spans.now) }
+    ensures tokens { IfOk result
+        (λ made. map plain made.items ≡ map (lexeme_of files.now) spans.now) }
     ensures spelled { IfOk result (λ made. AllByRecursion IsToken made.items) }
 {
     let mut tokens = Vec::new(alloc);

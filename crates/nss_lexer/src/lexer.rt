@@ -13,7 +13,9 @@ fn front_of(bytes: &[u8]) -> Option<Front>
     requires some { 0 < length bytes.now }
     requires size { length bytes.now < 2 ^ 32 }
     requires stops { reading.pass bytes.now ≡ None }
-    ensures { MatchOption result (IsStuck bytes.now) (λ front. (0 < front.length) × (front.length ≤ length bytes.now) × Begins bytes.now front.kind (take front.length bytes.now)) }
+    ensures { MatchOption result (IsStuck bytes.now)
+        (λ front. (0 < front.length) × (front.length ≤ length bytes.now)
+        × Begins bytes.now front.kind (take front.length bytes.now)) }
 {
     if comment_begins(bytes) {
         return None;

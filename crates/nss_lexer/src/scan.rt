@@ -110,7 +110,8 @@ fn scan_name(bytes: &[u8]) -> Option<Front>
 /// An int, if its value fits 32 bits.
 fn int(radix: u8, digits: &[u8], length: usize) -> Option<Front>
     requires { (2 ≤ radix) × (radix ≤ 16) }
-    ensures { result ≡ reading.within (reading.front (Kind.Int (digits_value radix digits.now)) length) }
+    ensures { result
+        ≡ reading.within (reading.front (Kind.Int (digits_value radix digits.now)) length) }
 {
     match number(radix, digits) {
         None => None,

@@ -27,6 +27,9 @@ pub record FileCounts : Type 0 where
   pub absences : ℕ
   pub longs : ℕ
 
+abbrev pub file_counts : (faults absences longs : ℕ) → FileCounts
+file_counts faults absences longs = record { faults = faults; absences = absences; longs = longs }
+
 -- no count of files changed
 abbrev pub NoneRises : FileCounts → FileCounts → Type 0
 NoneRises before now = (now.faults ≡ before.faults) × (now.absences ≡ before.absences) × (now.longs ≡ before.longs)

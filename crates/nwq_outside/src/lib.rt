@@ -1,10 +1,12 @@
-//! The outside of the product: files that are read and written, and a sink that takes the printed text.
+//! The outside of the product: files that are read and written, and a sink that takes the printed
+//! text.
 //!
-//! Everything above is written over the traits [`Files`] and [`Sink`], whose contracts say what an answer
-//! means, and that a count of failures rises only with its answer, and then by one. Kinds that tell their
-//! contents, as [`MemFiles`] and [`MemSink`], make those contracts exact. The real ones, [`RealFiles`] and
-//! [`RealSink`], are the trusted edge: of them the counts are told, and which bytes a put hands to its writer.
-//! The words of the contracts stand in `specs/Outside.antt`. See docs/OUTSIDE.md.
+//! Everything above is written over the traits [`Files`] and [`Sink`], whose contracts say what an
+//! answer means, and that a count of failures rises only with its answer, and then by one. Kinds
+//! that tell their contents, as [`MemFiles`] and [`MemSink`], make those contracts exact. The real
+//! ones, [`RealFiles`] and [`RealSink`], are the trusted edge: of them the counts are told, and
+//! which bytes a put hands to its writer. The words of the contracts stand in `specs/Outside.antt`.
+//! See docs/OUTSIDE.md.
 #![tactic(auto)]
 
 pub mod answer;

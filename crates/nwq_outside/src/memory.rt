@@ -27,7 +27,8 @@ fn hold(
     name: &str,
     bytes: &[u8],
 ) -> Result<(), NoMemory>
-    ensures ok { OnOk result (contents_of held.new ≡ map.insert (contents_of held.old) name.now bytes.now) }
+    ensures ok { OnOk result
+        (contents_of held.new ≡ map.insert (contents_of held.old) name.now bytes.now) }
     ensures err { OnErr result (contents_of held.new ≡ contents_of held.old) }
 {
     let key = String::from_str(alloc, name)?;
@@ -70,7 +71,14 @@ impl MemFiles {
 
     /// Files without names. No call was made, and none is to fail.
     pub fn new(alloc: Global) -> MemFiles
-        ensures { result ≡ record { contents = map.empty; failing = []; calls = 0; faults = 0; absences = 0; longs = 0 } }
+        ensures { result ≡ record {
+          contents = map.empty;
+          failing = [];
+          calls = 0;
+          faults = 0;
+          absences = 0;
+          longs = 0;
+        } }
     {
         MemFiles {
             alloc,
@@ -85,7 +93,8 @@ impl MemFiles {
 
     /// Puts these bytes under the name. This is no call.
     pub fn add(&mut self, name: &str, bytes: &[u8]) -> Result<(), NoMemory>
-        ensures ok { OnOk result (self.new ≡ record self.old { contents = map.insert self.old.contents name.now bytes.now }) }
+        ensures ok { OnOk result (self.new
+            ≡ record self.old { contents = map.insert self.old.contents name.now bytes.now }) }
         ensures err { OnErr result (self.new ≡ self.old) }
     {
         hold(&mut self.held, self.alloc, name, bytes)
@@ -103,7 +112,8 @@ impl MemFiles {
 
     /// Lets that call fail, calls being counted from 0. This is no call.
     pub fn fail_at(&mut self, call: u64) -> Result<(), NoMemory>
-        ensures ok { OnOk result (self.new ≡ record self.old { failing = self.old.failing ++ call ∷ [] }) }
+        ensures ok { OnOk result
+            (self.new ≡ record self.old { failing = self.old.failing ++ call ∷ [] }) }
         ensures err { OnErr result (self.new ≡ self.old) }
     {
         self.failing.push(call)
@@ -191,7 +201,12 @@ impl Model for MemSink {
 
     ghost Value = { Tape };
 
-    ghost view = { λ s. record { taken = s.taken; failing = s.failing; calls = s.calls; faults = s.faults } };
+    ghost view = { λ s. record {
+      taken = s.taken;
+      failing = s.failing;
+      calls = s.calls;
+      faults = s.faults;
+    } };
 }
 
 impl MemSink {
@@ -223,7 +238,8 @@ impl MemSink {
 
     /// Lets that put fail, puts being counted from 0.
     pub fn fail_at(&mut self, call: u64) -> Result<(), NoMemory>
-        ensures ok { OnOk result (self.new ≡ record self.old { failing = self.old.failing ++ call ∷ [] }) }
+        ensures ok { OnOk result
+            (self.new ≡ record self.old { failing = self.old.failing ++ call ∷ [] }) }
         ensures err { OnErr result (self.new ≡ self.old) }
     {
         self.failing.push(call)

@@ -39,7 +39,8 @@ impl<R: HostFiles> RealFiles<R> {
     }
 }
 
-/// The content of a file, or its first bytes where it is too long: one byte more than a file has at most.
+/// The content of a file, or its first bytes where it is too long: one byte more than a file has at
+/// most.
 fn prefix_of<R: HostFiles>(host: &R, alloc: Global, name: &str) -> io::Result<Vec<u8>> {
     let file = File::open(host, name)?;
     let mut bytes = Vec::new(alloc);
@@ -93,8 +94,8 @@ impl<R: HostFiles> Files for RealFiles<R> {
     }
 }
 
-/// A sink over a writer, as standard output. It does not tell what it took. Contracts see its count of faults, and
-/// the bytes that the writer holds where a writer of its kind says so.
+/// A sink over a writer, as standard output. It does not tell what it took. Contracts see its count
+/// of faults, and the bytes that the writer holds where a writer of its kind says so.
 #[derive(Drop)]
 pub struct RealSink<W: Write> {
     writer: W,

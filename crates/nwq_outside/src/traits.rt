@@ -1,20 +1,20 @@
 ghost use Rattle.std.specs.Prelude.{◌≡◌, ℕ, Bool, List, IsTrue};
 ghost use Rattle.std.specs.FinMap as map;
-ghost use Rattle.nwq_outside.specs.Outside.{Contents, CountsRead, CountsDone, ReadsContent, IsFileSize, KeepsOthers, Leaves, Takes};
+ghost use Rattle.nwq_outside.specs.Outside.{Contents, CountsRead, CountsDone, file_counts, ReadsContent, IsFileSize, KeepsOthers, Leaves, Takes};
 
 use crate::answer::{Done, Read};
 use std::alloc::Global;
 
-/// Files under names. Kinds of files that tell their contents have every answer explained by them; of the
-/// others, which say nothing of their contents, only the counts are known.
+/// Files under names. Kinds of files that tell their contents have every answer explained by them;
+/// of the others, which say nothing of their contents, only the counts are known.
 pub trait Files {
     /// Whether this kind of files tells its contents.
     ghost tells: { Bool };
 
     ghost contents: { Self → Contents };
 
-    /// How often the outside failed. Each count rises only with its answer, and then by one, up to the
-    /// greatest `u64`.
+    /// How often the outside failed. Each count rises only with its answer, and then by one, up to
+    /// the greatest `u64`.
     ghost faults: { Self → ℕ };
 
     /// How often a name was not there.
@@ -25,12 +25,13 @@ pub trait Files {
 
     /// What is under the name.
     fn read(&mut self, alloc: Global, name: &str) -> Read
-        ensures content { IsTrue tells → ReadsContent (map.get (contents self.old) name.now) result }
+        ensures content { IsTrue tells →
+            ReadsContent (map.get (contents self.old) name.now) result }
         ensures size { IsFileSize result }
         ensures same { contents self.new ≡ contents self.old }
         ensures counts { CountsRead result
-            (record { faults = faults self.old; absences = absences self.old; longs = longs self.old })
-            (record { faults = faults self.new; absences = absences self.new; longs = longs self.new }) };
+            (file_counts (faults self.old) (absences self.old) (longs self.old))
+            (file_counts (faults self.new) (absences self.new) (longs self.new)) };
 
     /// Puts these bytes under the name, in place of what was there.
     fn write(&mut self, name: &str, bytes: &[u8]) -> Done
@@ -49,7 +50,8 @@ pub trait Sink {
 
     ghost taken: { Self → List ℕ };
 
-    /// How often the outside failed. It rises only with that answer, and then by one, up to the greatest `u64`.
+    /// How often the outside failed. It rises only with that answer, and then by one, up to the
+    /// greatest `u64`.
     ghost faults: { Self → ℕ };
 
     /// Takes the piece after what was taken before.

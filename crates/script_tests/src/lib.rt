@@ -5,3 +5,5 @@
 mod headers;
 #[cfg(test)]
 mod tokens;
+#[cfg(test)]
+mod units;

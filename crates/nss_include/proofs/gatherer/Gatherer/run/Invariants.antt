@@ -2,7 +2,7 @@ use Rattle.std.proofs.Common.{◌≡◌}
 use Rattle.std.specs.FinMap as map
 use Rattle.nss_include.specs.Progress.{steps_left}
 use Rattle.nss_include.proofs.ProgressLemmas.{RunSoFar}
-use Rattle.nss_include.proofs.reading.Reading.run.Given as goal
+use Rattle.nss_include.proofs.gatherer.Gatherer.run.Given as goal
 
 abbrev pub invariant-loop-here : goal.invariant-loop-here
 invariant-loop-here g l =

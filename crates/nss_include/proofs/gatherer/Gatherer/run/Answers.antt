@@ -1,22 +1,22 @@
 use Rattle.std.proofs.Common.{◌≡◌, List, ◌∷◌, ap, subst, ◌∙◌}
 use Rattle.std.specs.FinMap as map
 use Rattle.nss_include.specs.declared.opened.Open.{Open}
-use Rattle.nss_include.specs.declared.reading.Reading.{Reading}
-use Rattle.nss_include.specs.Gather.{HoldsFiles}
-use Rattle.nss_include.specs.Units.{Contents}
+use Rattle.nss_include.specs.declared.gatherer.Gatherer.{Gatherer}
+use Rattle.nss_include.specs.Walks.{HoldsAll}
+use Rattle.nss_include.specs.Walks.{Lookup}
 use Rattle.nss_include.specs.Progress.{Explains}
 use Rattle.nss_include.proofs.ProgressLemmas.{run-more, run-stops, run-whole}
-use Rattle.nss_include.proofs.reading.Reading.run.Goals as goal
+use Rattle.nss_include.proofs.gatherer.Gatherer.run.Goals as goal
 
 pub loop-here-preserved : goal.loop-here-preserved
 loop-here-preserved g c =
-    let at : List Open → Reading = λ (s : List Open). record { unit = c.loop-here.self.unit; stack = s; count = c.loop-here.self.count }
+    let at : List Open → Gatherer = λ (s : List Open). record { unit = c.loop-here.self.unit; stack = s; count = c.loop-here.self.count }
     in let is : c.loop-here.self ≡ at (c.in-Some.here ∷ c.pop.new.self) = ap at (c.in-Some.ensures {u = tt})
     in let outside : map.get (g.F.Files.contents c.loop-here.files) ≡ map.get (g.F.Files.contents c.args.files.now) = ap map.get c.loop-here.invariant.1
     in (
       run-more _ _ c.args.self.now c.loop-here.self (at c.pop.new.self) c.advance.new.self c.in-Some.here c.loop-here.invariant.0 is
           c.in-Ok.ensures.ready c.in-Ok.ensures.leads c.in-Ok.ensures.keeps
-          (λ told. subst (λ (o : Contents). HoldsFiles o c.loop-here.self.unit.files → HoldsFiles o c.advance.new.self.unit.files) outside
+          (λ told. subst (λ (o : Lookup). HoldsAll o c.loop-here.self.unit.files → HoldsAll o c.advance.new.self.unit.files) outside
           (c.in-Ok.ensures.holds told))
           c.in-Ok.ensures.grows,
       c.in-Ok.ensures.same ∙ c.loop-here.invariant.1,
@@ -27,11 +27,11 @@ loop-here-preserved g c =
 
 pub returns-in-Err-clause-stops : goal.returns-in-Err-clause-stops
 returns-in-Err-clause-stops g c = λ told held.
-    let at : List Open → Reading = λ (s : List Open). record { unit = c.loop-here.self.unit; stack = s; count = c.loop-here.self.count }
+    let at : List Open → Gatherer = λ (s : List Open). record { unit = c.loop-here.self.unit; stack = s; count = c.loop-here.self.count }
     in let is : c.loop-here.self ≡ at (c.in-Some.here ∷ c.pop.new.self) = ap at (c.in-Some.ensures {u = tt})
     in let outside : map.get (g.F.Files.contents c.loop-here.files) ≡ map.get (g.F.Files.contents c.args.files.now) = ap map.get c.loop-here.invariant.1
     in run-stops _ _ c.args.self.now c.loop-here.self (at c.pop.new.self) c.in-Some.here c.in-Err.fault c.loop-here.invariant.0 is told held
-    c.in-Err.ensures.stops (subst (λ (o : Contents). Explains o c.in-Err.fault) outside (c.in-Err.ensures.told told))
+    c.in-Err.ensures.stops (subst (λ (o : Lookup). Explains o c.in-Err.fault) outside (c.in-Err.ensures.told told))
 
 pub returns-clause-whole : goal.returns-clause-whole
 returns-clause-whole g c = run-whole _ _ _ c.loop-here.self c.loop-here.invariant.0 c.in_default.ensures.0

@@ -2,7 +2,7 @@ use Rattle.std.proofs.Common.{ap, subst}
 use Rattle.std.specs.FinMap as map
 use Rattle.nss_include.specs.View.{Gathered}
 use Rattle.nss_include.specs.Progress.{Opened}
-use Rattle.nss_include.proofs.reading.Reading.include.Goals as goal
+use Rattle.nss_include.proofs.gatherer.Gatherer.include.Goals as goal
 
 pub returns-clause-holds : goal.returns-clause-holds
 returns-clause-holds g c = λ told.

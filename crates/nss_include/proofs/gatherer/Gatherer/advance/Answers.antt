@@ -2,7 +2,7 @@ use Rattle.std.proofs.Common.{subst}
 use Rattle.nss_include.specs.declared.step.Step.{Step}
 use Rattle.nss_include.specs.Progress.{HasStep}
 use Rattle.nss_include.proofs.ProgressLemmas.{leads-ends, stops-breaks, stops-misses}
-use Rattle.nss_include.proofs.reading.Reading.advance.Goals as goal
+use Rattle.nss_include.proofs.gatherer.Gatherer.advance.Goals as goal
 
 pub returns-in-Ends-clause-leads : goal.returns-in-Ends-clause-leads
 returns-in-Ends-clause-leads g c = λ contents _.

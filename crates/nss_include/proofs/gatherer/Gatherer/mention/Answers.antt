@@ -1,10 +1,11 @@
 use Rattle.std.proofs.Common.{◌≡◌, ◌+◌, ◌≤◌, arith, ap, sym, ◌∙◌, true, false}
 use Rattle.std.specs.FinMap as map
 use Rattle.std.specs.String.{string_bytes}
+use Rattle.nwq_value.specs.Limits.{token_limit}
 use Rattle.nss_include.specs.Names.{file_name}
 use Rattle.nss_include.specs.Units.{is_among}
 use Rattle.nss_include.proofs.ProgressLemmas.{stops-mentions, stops-include, explains-include, leads-again, leads-include, ready-includes, place-behind, IsUtf8-name}
-use Rattle.nss_include.proofs.reading.Reading.mention.Goals as goal
+use Rattle.nss_include.proofs.gatherer.Gatherer.mention.Goals as goal
 
 pub returns-then-self-gt-MOST_TOKENS-clause-stops : goal.returns-then-self-gt-MOST_TOKENS-clause-stops
 returns-then-self-gt-MOST_TOKENS-clause-stops g c = λ contents _.
@@ -19,22 +20,24 @@ returns-then-has-clause-leads g c = λ contents _.
     in let named : string_bytes c.in_ok-file.file ≡ file_name c.args.name.now = c.in_ok-file.ensures {u = tt} ∙ ap file_name c.bytes.ensures.same
     in let known : is_among c.args.self.now.unit.files (file_name c.args.name.now) ≡ true
     = ap (is_among c.args.self.now.unit.files) (sym (c.as_bytes.ensures.value ∙ named)) ∙ sym c.has.ensures ∙ c.if-has.true
-    in let room : c.args.self.now.count + 3 ≤ 100000 = omega arith
+    in let room : c.args.self.now.count + 3 ≤ token_limit = omega arith
     in leads-again c.args.self.now c.pass.new.self c.args.here c.args.hash c.args.name.now c.args.after c.requires.step room known
     (ap (λ r. r.unit) passed) (ap (λ r. r.stack) passed) (ap (λ r. r.count) passed) contents
 
 pub returns-in-Ok-clause-ready : goal.returns-in-Ok-clause-ready
 returns-in-Ok-clause-ready g c =
-    let room : c.args.self.now.count + 3 ≤ 100000 = omega arith
+    let room : c.args.self.now.count + 3 ≤ token_limit = omega arith
+    in let alone : is_among c.args.self.now.unit.files c.as_str.result.now ≡ false
+    = ap (is_among c.args.self.now.unit.files) (c.as_str.ensures.value ∙ sym c.as_bytes.ensures.value) ∙ sym c.has.ensures ∙ c.if-has.false
     in ready-includes c.args.self.now c.include.new.self c.args.here _ c.args.after c.requires.ready c.in-Ok.ensures.includes
-    (place-behind c.args.self.now c.args.here c.args.hash c.args.name.now c.args.after c.requires.step) room
+    (place-behind c.args.self.now c.args.here c.args.hash c.args.name.now c.args.after c.requires.step) room alone
 
 pub returns-in-Ok-clause-leads : goal.returns-in-Ok-clause-leads
 returns-in-Ok-clause-leads g c =
     let named : string_bytes c.in_ok-file.file ≡ file_name c.args.name.now = c.in_ok-file.ensures {u = tt} ∙ ap file_name c.bytes.ensures.same
     in let new : is_among c.args.self.now.unit.files (file_name c.args.name.now) ≡ false
     = ap (is_among c.args.self.now.unit.files) (sym (c.as_bytes.ensures.value ∙ named)) ∙ sym c.has.ensures ∙ c.if-has.false
-    in let room : c.args.self.now.count + 3 ≤ 100000 = omega arith
+    in let room : c.args.self.now.count + 3 ≤ token_limit = omega arith
     in leads-include c.args.self.now c.include.new.self c.args.here c.args.hash c.args.name.now c.args.after c.requires.step room new
     c.as_str.result.now (c.as_str.ensures.value ∙ named) c.in-Ok.ensures.includes
 
@@ -43,7 +46,7 @@ returns-clause-stops g c =
     let named : string_bytes c.in_ok-file.file ≡ file_name c.args.name.now = c.in_ok-file.ensures {u = tt} ∙ ap file_name c.bytes.ensures.same
     in let new : is_among c.args.self.now.unit.files (file_name c.args.name.now) ≡ false
     = ap (is_among c.args.self.now.unit.files) (sym (c.as_bytes.ensures.value ∙ named)) ∙ sym c.has.ensures ∙ c.if-has.false
-    in let room : c.args.self.now.count + 3 ≤ 100000 = omega arith
+    in let room : c.args.self.now.count + 3 ≤ token_limit = omega arith
     in stops-include c.args.self.now c.args.here c.args.hash c.args.name.now c.args.after c.requires.step room new
     c.as_str.result.now (c.as_str.ensures.value ∙ named) c.in-Err.fault c.in-Err.ensures.fault
 

@@ -2,16 +2,20 @@ ghost use Rattle.std.specs.Prelude.{◌≡◌, ◌<◌, ◌≤◌, ◌+◌, leng
 ghost use Rattle.std.specs.FinMap as map;
 ghost use Rattle.std.specs.String.{string_bytes};
 ghost use Rattle.std.specs.Str.{IsUtf8};
+ghost use Rattle.nwq_value.specs.Limits.{token_limit};
+ghost use Rattle.nwq_outside.specs.Outside.{Contents, file_counts};
 ghost use Rattle.nss_include.specs.declared.step.Step.TheVariants as step;
 ghost use Rattle.nss_include.specs.Names.{file_name};
-ghost use Rattle.nss_include.specs.Units.{Contents, IsUnit};
-ghost use Rattle.nss_include.specs.Progress.{Opens, Opened, Extends, IsReadFault, ExplainsRead, IsOwnFault, Begins, ComesTo};
+ghost use Rattle.nss_include.specs.Units.{IsUnit, HaveDistinctNames};
 ghost use Rattle.nss_include.specs.Gather.{CountsGathered, HoldsFiles, Claims, HasScript, Gathers};
+ghost use Rattle.nss_include.specs.Walks.{Lookup, HoldsAll};
+ghost use Rattle.nss_include.specs.Progress.{Opens, Opened, Extends, IsReadFault, ExplainsRead, IsOwnFault, Begins, ComesTo};
 
 use crate::fault::GatherFault;
 use crate::opened::{Open, OpenFiles};
 use crate::step::{Span, Step, next_step};
 use crate::unit::Unit;
+use nss_lexer::laws::{one_first, some_split};
 use nwq_outside::{Files, Read};
 use nwq_value::{Items, NoMemory, Text};
 use std::alloc::Global;
@@ -40,15 +44,17 @@ fn read_into<F: Files>(
 ) -> Result<(), GatherFault>
     requires { length unit.old.files < 65_536 }
     ensures opens { OnOk result (Opens unit.old unit.new name.now) }
-    ensures holds { IsTrue F.tells → OnOk result (Opened (map.get (F.contents files.old)) unit.old unit.new name.now) }
+    ensures holds { IsTrue F.tells → OnOk result (Opened
+        (map.get (F.contents files.old)) unit.old unit.new name.now) }
     ensures err { OnErr result (unit.new ≡ unit.old) }
     ensures fault { IfErr result (IsReadFault name.now) }
-    ensures told { IsTrue F.tells → IfErr result (ExplainsRead (map.get (F.contents files.old)) name.now) }
+    ensures told { IsTrue F.tells → IfErr result (ExplainsRead
+        (map.get (F.contents files.old)) name.now) }
 
     ensures same { F.contents files.new ≡ F.contents files.old }
     ensures counts { CountsGathered result
-        (record { faults = F.faults files.old; absences = F.absences files.old; longs = F.longs files.old })
-        (record { faults = F.faults files.new; absences = F.absences files.new; longs = F.longs files.new }) }
+        (file_counts (F.faults files.old) (F.absences files.old) (F.longs files.old))
+        (file_counts (F.faults files.new) (F.absences files.new) (F.longs files.new)) }
 {
     let refused = Text::of(alloc, name.as_bytes())?;
     match files.read(alloc, name) {
@@ -64,16 +70,16 @@ fn read_into<F: Files>(
     }
 }
 
-/// A unit while it is read.
-#[derive(Debug, Drop)]
-pub struct Reading {
+/// A unit while its files are read.
+#[derive(Drop)]
+pub struct Gatherer {
     pub unit: Unit,
     pub stack: OpenFiles,
     /// How many tokens were counted, a directive being three.
     pub count: u32,
 }
 
-impl Reading {
+impl Gatherer {
     ghost use Rattle.nss_include.specs.Progress.{HasStep, Stops, Ends, Leads, Explains, IsReady, reopened, steps_left, passed, Includes};
 
     /// Goes on behind a token.
@@ -81,11 +87,13 @@ impl Reading {
         requires ready { IsReady (reopened here self.old) }
         requires step { HasStep self.old here (step.Gives span) }
         ensures ready { OnOk result (IsReady self.new) }
-        ensures leads { OnOk result ((contents : Contents) → Leads contents (reopened here self.old) self.new) }
+        ensures leads { OnOk result ((contents : Lookup)
+            → Leads contents (reopened here self.old) self.new) }
         ensures falls { OnOk result (steps_left self.new < steps_left (reopened here self.old)) }
         ensures files { self.new.unit.files ≡ self.old.unit.files }
         ensures own { IfErr result IsOwnFault }
-        ensures stops { IfErr result (λ fault. Claims fault ((contents : Contents) → Stops contents (reopened here self.old) fault)) }
+        ensures stops { IfErr result (λ fault. Claims fault ((contents : Lookup)
+            → Stops contents (reopened here self.old) fault)) }
     {
         if self.count == MOST_TOKENS {
             return Err(GatherFault::Tokens(self.unit.spot(alloc, here.file, span.start)?));
@@ -101,7 +109,7 @@ impl Reading {
 
     /// Goes on behind a directive.
     fn pass(&mut self, here: Open, after: u32) -> Result<(), NoMemory>
-        requires { self.old.count + 3 ≤ 100000 }
+        requires { self.old.count + 3 ≤ token_limit }
         ensures { OnOk result (self.new ≡ passed self.old here after) }
     {
         self.stack.push(Open {
@@ -122,16 +130,18 @@ impl Reading {
         after: u32,
     ) -> Result<(), GatherFault>
         requires ready { IsReady (reopened here self.old) }
-        requires room { self.old.count + 3 ≤ 100000 }
+        requires room { self.old.count + 3 ≤ token_limit }
         ensures includes { OnOk result (Includes self.old self.new here name.now after) }
-        ensures holds { IsTrue F.tells → OnOk result (Opened (map.get (F.contents files.old)) self.old.unit self.new.unit name.now) }
+        ensures holds { IsTrue F.tells → OnOk result (Opened
+            (map.get (F.contents files.old)) self.old.unit self.new.unit name.now) }
         ensures fault { IfErr result (IsReadFault name.now) }
-        ensures told { IsTrue F.tells → IfErr result (ExplainsRead (map.get (F.contents files.old)) name.now) }
+        ensures told { IsTrue F.tells → IfErr result (ExplainsRead
+            (map.get (F.contents files.old)) name.now) }
 
         ensures same { F.contents files.new ≡ F.contents files.old }
         ensures counts { CountsGathered result
-            (record { faults = F.faults files.old; absences = F.absences files.old; longs = F.longs files.old })
-            (record { faults = F.faults files.new; absences = F.absences files.new; longs = F.longs files.new }) }
+            (file_counts (F.faults files.old) (F.absences files.old) (F.longs files.old))
+            (file_counts (F.faults files.new) (F.absences files.new) (F.longs files.new)) }
     {
         self.pass(here, after)?;
         let number = self.unit.count() as u16;
@@ -156,18 +166,24 @@ impl Reading {
         requires ready { IsReady (reopened here self.old) }
         requires step { HasStep self.old here (step.Mentions hash name.now after) }
         ensures ready { OnOk result (IsReady self.new) }
-        ensures leads { OnOk result ((contents : Contents) → HoldsFiles contents self.new.unit.files → Leads contents (reopened here self.old) self.new) }
-        ensures keeps { OnOk result ((contents : Contents) → HoldsFiles contents self.new.unit.files → HoldsFiles contents self.old.unit.files) }
+        ensures leads { OnOk result ((contents : Lookup)
+            → HoldsAll contents self.new.unit.files
+            → Leads contents (reopened here self.old) self.new) }
+        ensures keeps { OnOk result ((contents : Lookup)
+            → HoldsAll contents self.new.unit.files → HoldsAll contents self.old.unit.files) }
         ensures grows { OnOk result (Extends self.old.unit.files self.new.unit.files) }
         ensures falls { OnOk result (steps_left self.new < steps_left (reopened here self.old)) }
-        ensures holds { IsTrue F.tells → OnOk result (HoldsFiles (map.get (F.contents files.old)) self.old.unit.files → HoldsFiles (map.get (F.contents files.old)) self.new.unit.files) }
-        ensures stops { IfErr result (λ fault. Claims fault ((contents : Contents) → Explains contents fault → Stops contents (reopened here self.old) fault)) }
+        ensures holds { IsTrue F.tells → OnOk result (HoldsAll
+            (map.get (F.contents files.old)) self.old.unit.files → HoldsAll
+            (map.get (F.contents files.old)) self.new.unit.files) }
+        ensures stops { IfErr result (λ fault. Claims fault ((contents : Lookup)
+            → Explains contents fault → Stops contents (reopened here self.old) fault)) }
         ensures told { IsTrue F.tells → IfErr result (Explains (map.get (F.contents files.old))) }
 
         ensures same { F.contents files.new ≡ F.contents files.old }
         ensures counts { CountsGathered result
-            (record { faults = F.faults files.old; absences = F.absences files.old; longs = F.longs files.old })
-            (record { faults = F.faults files.new; absences = F.absences files.new; longs = F.longs files.new }) }
+            (file_counts (F.faults files.old) (F.absences files.old) (F.longs files.old))
+            (file_counts (F.faults files.new) (F.absences files.new) (F.longs files.new)) }
     {
         if self.count + 3 > MOST_TOKENS {
             return Err(GatherFault::Tokens(self.unit.spot(alloc, here.file, hash)?));
@@ -184,8 +200,8 @@ impl Reading {
         }
     }
 
-    #[tactic(auto, using(crate::proofs::ProgressLemmas::has_step))]
     /// What the file goes on with here.
+    #[tactic(auto, using(crate::proofs::ProgressLemmas::has_step))]
     fn step_at(&self, alloc: Global, here: Open) -> Result<Step, NoMemory>
         requires { IsReady (reopened here self.now) }
         ensures { IfOk result (HasStep self.now here) }
@@ -203,18 +219,24 @@ impl Reading {
     ) -> Result<(), GatherFault>
         requires { IsReady (reopened here self.old) }
         ensures ready { OnOk result (IsReady self.new) }
-        ensures leads { OnOk result ((contents : Contents) → HoldsFiles contents self.new.unit.files → Leads contents (reopened here self.old) self.new) }
-        ensures keeps { OnOk result ((contents : Contents) → HoldsFiles contents self.new.unit.files → HoldsFiles contents self.old.unit.files) }
+        ensures leads { OnOk result ((contents : Lookup)
+            → HoldsAll contents self.new.unit.files
+            → Leads contents (reopened here self.old) self.new) }
+        ensures keeps { OnOk result ((contents : Lookup)
+            → HoldsAll contents self.new.unit.files → HoldsAll contents self.old.unit.files) }
         ensures grows { OnOk result (Extends self.old.unit.files self.new.unit.files) }
         ensures falls { OnOk result (steps_left self.new < steps_left (reopened here self.old)) }
-        ensures holds { IsTrue F.tells → OnOk result (HoldsFiles (map.get (F.contents files.old)) self.old.unit.files → HoldsFiles (map.get (F.contents files.old)) self.new.unit.files) }
-        ensures stops { IfErr result (λ fault. Claims fault ((contents : Contents) → Explains contents fault → Stops contents (reopened here self.old) fault)) }
+        ensures holds { IsTrue F.tells → OnOk result (HoldsAll
+            (map.get (F.contents files.old)) self.old.unit.files → HoldsAll
+            (map.get (F.contents files.old)) self.new.unit.files) }
+        ensures stops { IfErr result (λ fault. Claims fault ((contents : Lookup)
+            → Explains contents fault → Stops contents (reopened here self.old) fault)) }
         ensures told { IsTrue F.tells → IfErr result (Explains (map.get (F.contents files.old))) }
 
         ensures same { F.contents files.new ≡ F.contents files.old }
         ensures counts { CountsGathered result
-            (record { faults = F.faults files.old; absences = F.absences files.old; longs = F.longs files.old })
-            (record { faults = F.faults files.new; absences = F.absences files.new; longs = F.longs files.new }) }
+            (file_counts (F.faults files.old) (F.absences files.old) (F.longs files.old))
+            (file_counts (F.faults files.new) (F.absences files.new) (F.longs files.new)) }
     {
         match self.step_at(alloc, here)? {
             Step::Ends => Ok(()),
@@ -238,16 +260,24 @@ impl Reading {
     /// Reads all open files to their ends.
     fn run<F: Files>(&mut self, alloc: Global, files: &mut F) -> Result<(), GatherFault>
         requires { IsReady self.old }
-        ensures whole { OnOk result ((contents : Contents) → HoldsFiles contents self.new.unit.files → Ends contents self.old self.new.unit.tokens self.new.unit.files self.new.count None) }
-        ensures keeps { OnOk result ((contents : Contents) → HoldsFiles contents self.new.unit.files → HoldsFiles contents self.old.unit.files) }
+        ensures whole { OnOk result ((contents : Lookup)
+            → HoldsAll contents self.new.unit.files
+            → Ends contents self.old self.new.unit.tokens self.new.unit.files self.new.count None) }
+        ensures keeps { OnOk result ((contents : Lookup)
+            → HoldsAll contents self.new.unit.files → HoldsAll contents self.old.unit.files) }
         ensures grows { OnOk result (Extends self.old.unit.files self.new.unit.files) }
-        ensures holds { IsTrue F.tells → HoldsFiles (map.get (F.contents files.old)) self.old.unit.files → OnOk result (HoldsFiles (map.get (F.contents files.old)) self.new.unit.files) }
-        ensures stops { IsTrue F.tells → HoldsFiles (map.get (F.contents files.old)) self.old.unit.files → IfErr result (λ fault. Claims fault (ComesTo (map.get (F.contents files.old)) self.old fault)) }
+        ensures distinct { OnOk result (HaveDistinctNames self.new.unit.files) }
+        ensures holds { IsTrue F.tells → HoldsAll
+            (map.get (F.contents files.old)) self.old.unit.files → OnOk result (HoldsAll
+            (map.get (F.contents files.old)) self.new.unit.files) }
+        ensures stops { IsTrue F.tells → HoldsAll
+            (map.get (F.contents files.old)) self.old.unit.files → IfErr result
+            (λ fault. Claims fault (ComesTo (map.get (F.contents files.old)) self.old fault)) }
 
         ensures same { F.contents files.new ≡ F.contents files.old }
         ensures counts { CountsGathered result
-            (record { faults = F.faults files.old; absences = F.absences files.old; longs = F.longs files.old })
-            (record { faults = F.faults files.new; absences = F.absences files.new; longs = F.longs files.new }) }
+            (file_counts (F.faults files.old) (F.absences files.old) (F.longs files.old))
+            (file_counts (F.faults files.new) (F.absences files.new) (F.longs files.new)) }
     {
         while let Some(here) = self.stack.pop() {
             match self.advance(alloc, files, here) {
@@ -259,56 +289,61 @@ impl Reading {
     }
 }
 
-/// Begins to read the unit of a script with its file.
-fn begin<F: Files>(alloc: Global, files: &mut F, script: &str) -> Result<Reading, GatherFault>
-    ensures begins { IfOk result (λ reading. Begins reading script.now) }
-    ensures holds { IsTrue F.tells → IfOk result (λ reading. HoldsFiles (map.get (F.contents files.old)) reading.unit.files) }
+/// Begins to gather the unit of a script with its file.
+fn begin<F: Files>(alloc: Global, files: &mut F, script: &str) -> Result<Gatherer, GatherFault>
+    ensures begins { IfOk result (λ gatherer. Begins gatherer script.now) }
+    ensures holds { IsTrue F.tells → IfOk result (λ gatherer. HoldsAll
+        (map.get (F.contents files.old)) gatherer.unit.files) }
     ensures fault { IfErr result (IsReadFault (file_name script.now)) }
-    ensures told { IsTrue F.tells → IfErr result (ExplainsRead (map.get (F.contents files.old)) (file_name script.now)) }
+    ensures told { IsTrue F.tells → IfErr result (ExplainsRead
+        (map.get (F.contents files.old)) (file_name script.now)) }
 
     ensures same { F.contents files.new ≡ F.contents files.old }
     ensures counts { CountsGathered result
-        (record { faults = F.faults files.old; absences = F.absences files.old; longs = F.longs files.old })
-        (record { faults = F.faults files.new; absences = F.absences files.new; longs = F.longs files.new }) }
+        (file_counts (F.faults files.old) (F.absences files.old) (F.longs files.old))
+        (file_counts (F.faults files.new) (F.absences files.new) (F.longs files.new)) }
 {
-    let mut unit = Unit::new(alloc);
     let file = file_of(alloc, script.as_bytes())?;
-    match read_into(alloc, files, &mut unit, file.as_str()) {
-        Ok(()) => {}
-        Err(fault) => return Err(fault),
-    }
     let mut stack = OpenFiles::new(alloc);
     stack.push(Open { file: 0, at: 0 })?;
-    Ok(Reading {
-        unit,
-        stack,
-        count: 0,
-    })
+    let mut unit = Unit::new(alloc);
+    match read_into(alloc, files, &mut unit, file.as_str()) {
+        Ok(()) => Ok(Gatherer {
+            unit,
+            stack,
+            count: 0,
+        }),
+        Err(fault) => Err(fault),
+    }
 }
 
-/// The unit of a script: its tokens and those of its includes, or its first fault. Letters A to Z count as a to z in
-/// the name.
+/// The unit of a script: its tokens and those of its includes, or its first fault. Letters A to Z
+/// count as a to z in the name. A read that fails ends the work at once: of the counts none rises
+/// but that of the answer.
 pub fn gather<F: Files>(alloc: Global, files: &mut F, name: &str) -> Result<Unit, GatherFault>
     // The unit is that of its files, whatever else there is.
-    ensures unit { IfOk result (λ unit. (contents : Contents) → HoldsFiles contents unit.files → IsUnit contents name.now unit.tokens unit.files None) }
+    ensures unit { IfOk result (λ unit. (contents : Contents) → HoldsFiles contents unit.files
+        → IsUnit contents name.now unit.tokens unit.files None) }
     ensures script { IfOk result (λ unit. HasScript unit.files name.now) }
-    ensures told { IsTrue F.tells → Gathers (map.get (F.contents files.old)) name.now result }
-
+    ensures distinct { IfOk result (λ unit. HaveDistinctNames unit.files) }
+    ensures told { IsTrue F.tells → Gathers (F.contents files.old) name.now result }
     ensures same { F.contents files.new ≡ F.contents files.old }
     ensures counts { CountsGathered result
-        (record { faults = F.faults files.old; absences = F.absences files.old; longs = F.longs files.old })
-        (record { faults = F.faults files.new; absences = F.absences files.new; longs = F.longs files.new }) }
+        (file_counts (F.faults files.old) (F.absences files.old) (F.longs files.old))
+        (file_counts (F.faults files.new) (F.absences files.new) (F.longs files.new)) }
 {
+    one_first();
+    some_split();
     match begin(alloc, files, name) {
         Err(fault) => Err(fault),
-        Ok(mut reading) => match reading.run(alloc, files) {
+        Ok(mut gatherer) => match gatherer.run(alloc, files) {
             Err(fault) => Err(fault),
             Ok(()) => {
-                let Reading {
+                let Gatherer {
                     unit,
                     stack: _,
                     count: _,
-                } = reading;
+                } = gatherer;
                 Ok(unit)
             }
         },
