@@ -1,5 +1,5 @@
 -- The tokens of a text, one after another.
-use Rattle.std.proofs.Common.{◌≡◌, ℕ, ◌-◌, ◌<◌, ◌≤◌, List, [], ◌∷◌, length, Option, Some, None, Result, Ok, Err, IfOk, IfErr, refl, sym, ap, subst, ◌∙◌, arith}
+use Rattle.std.proofs.Common.{◌≡◌, ◌≢◌, ℕ, ◌-◌, ◌<◌, ◌≤◌, List, [], ◌∷◌, length, Option, Some, None, Result, Ok, Err, IfOk, IfErr, refl, sym, ap, subst, ◌∙◌, arith}
 use Rattle.std.proofs.lemmas.Option.{none-some}
 use Rattle.nss_lexer.specs.Splitting.{Lexeme, First, Found, AtEnd, BadAt, IsFirst, Splits, AreTokens, whole, broken, token}
 use Rattle.nwq_value.specs.Engine.{EngineTable}
@@ -13,7 +13,7 @@ use Rattle.engine_table.specs.declared.stage.Turn.{Turn}
 use Rattle.engine_table.specs.declared.stage.Turn.TheVariants.{Goes, Gives}
 use Rattle.engine_table.specs.Symbols.{Placed, at, placed_of, placed_all}
 use Rattle.engine_table.specs.Headers as header
-use Rattle.engine_table.specs.Headers.{Fails, Comes, HasTable, IsFaulty, IsRefused, after, nothing}
+use Rattle.engine_table.specs.Headers.{Fails, Comes, HasTable, IsFaulty, IsRefused, IsAnswer, after, nothing}
 use Rattle.engine_table.specs.Turns.{Next, known_of, turn_at, ended, run_by, run, Leads, Follows, Answers, KeepsStage, HasTokens, HasTokensUpTo}
 use Rattle.engine_table.proofs.Whole.{right, IsClash, clash_is}
 
@@ -209,3 +209,28 @@ read_broken one bytes at r t NoMemory so first e = tt
 
 pub never_bad : OneFirst → (bytes : List ℕ) (at p : ℕ) (r : Reader) → IsRead bytes at r → IsFirst bytes 0 at (BadAt p) → ⊥
 never_bad one bytes at p r so first = bad_in one bytes at so.left None p refl so.split first
+
+-- ---- each text has an answer
+
+abbrev pub SomeSplit : Type 0
+SomeSplit = (bytes : List ℕ) (file at : ℕ) → (tokens : List Lexeme) × (ending : Option ℕ) × Splits bytes file at tokens ending
+
+not_memory : (f : HeaderFault) → IsToken_fault f → f ≢ NoMemory
+not_memory (Header p) h = λ e. cc
+not_memory (Twice p) h = λ e. cc
+not_memory (Many p) h = λ e. cc
+not_memory (Bad p) h = absurd h
+not_memory NoMemory h = absurd h
+
+answered : (bytes : List ℕ) (ts : List Lexeme) (o : Result EngineTable HeaderFault) → AreTokens bytes 0 ts → Comes (length bytes) nothing (placed_all ts) o → IsAnswer bytes o
+answered bytes ts (Ok table) are comes = (ts, are, comes)
+answered bytes ts (Err f) are fails =
+    let is = fails_fault (length bytes) nothing f (placed_all ts) fails in (not_memory f is, refused_by bytes f is (ts, are, fails))
+
+some_by : (bytes : List ℕ) (ts : List Lexeme) (ending : Option ℕ) → Splits bytes 0 0 ts ending → (answer : Result EngineTable HeaderFault) × IsAnswer bytes answer
+some_by bytes ts None are =
+    let o = run (length bytes) nothing stage.Start (placed_all ts) in (o, answered bytes ts o are (right (length bytes) nothing (placed_all ts)))
+some_by bytes ts (Some place) are = (Err (Bad place), ((λ e. cc), (ts, are)))
+
+pub some_answer : SomeSplit → (bytes : List ℕ) → (answer : Result EngineTable HeaderFault) × IsAnswer bytes answer
+some_answer split bytes = let (ts, ending, are) = split bytes 0 0 in some_by bytes ts ending are

@@ -19,7 +19,7 @@ use Rattle.engine_table.specs.Symbols.{Placed, placed_all}
 use Rattle.engine_table.specs.Grammar as grammar
 use Rattle.engine_table.specs.Grammar.{sign_at, structure_of, has_constants, Loose, Value, Heading, Line}
 use Rattle.engine_table.specs.Headers as header
-use Rattle.engine_table.specs.Headers.{function_fault, constant_fault, value_fault, differs, fault_unless, same_const, IsClear, Clashes, IsPrefix, IsInside, IsMisfit, Lines, Fails, Comes, HasTable, IsFaulty, IsRefused, OneHeader, after, after_all, nothing}
+use Rattle.engine_table.specs.Headers.{function_fault, constant_fault, value_fault, differs, fault_unless, same_const, IsClear, Clashes, IsPrefix, IsInside, IsMisfit, Lines, Fails, Comes, HasTable, IsFaulty, IsRefused, IsAnswer, OneHeader, after, after_all, nothing}
 use Rattle.engine_table.specs.Turns.{Next, turn, ended, run_by, run, HasBegun}
 use Rattle.engine_table.proofs.Progress as progress
 use Rattle.engine_table.proofs.Progress.{two, three, four, moved, Begun, After, step, clear_made}
@@ -466,10 +466,10 @@ not_both one bytes a f (ts, s, x) (bad p us t) = none-some p (one bytes 0 0 ts u
 not_both one bytes a f (ts, s, x) (faulty g us t e) =
     ok_err a f (sym (table_run bytes a ts x) ∙ ap (λ (z : List Lexeme). run (length bytes) nothing stage.Start (placed_all z)) (one bytes 0 0 ts us _ _ s t).0 ∙ e)
 
-pub one_header : OneSplit → OneHeader
-one_header one = record {
+pub one_header : OneSplit → ((bytes : List ℕ) → (answer : Result EngineTable HeaderFault) × IsAnswer bytes answer) → OneHeader
+one_header one some_answer = record {
   one_table = one_table one;
   one_fault = λ bytes f g some other x y. one_fault one bytes f g (refusal_of bytes f some x) (refusal_of bytes g other y);
-  some_answer = λ bytes tokens are. (run (length bytes) nothing stage.Start (placed_all tokens), right (length bytes) nothing (placed_all tokens));
+  some_answer = some_answer;
   not_both = λ bytes a f some x y. not_both one bytes a f x (refusal_of bytes f some y);
 }

@@ -184,10 +184,14 @@ IsWithin size (Twice place) = place < size
 IsWithin size (Many place) = place < size
 IsWithin size NoMemory = Unit {0}
 
--- A text has one table or one first fault, and tokens have one of the two.
+-- a table of the text, or a first fault of it
+abbrev pub IsAnswer : List ℕ → Result EngineTable HeaderFault → Type 0
+IsAnswer bytes (Ok table) = HasTable bytes table
+IsAnswer bytes (Err f) = (f ≢ NoMemory) × IsRefused bytes f
+
+-- each text has a table or a first fault, and only one
 pub record OneHeader : Type 0 where
   pub one_table : (bytes : List ℕ) (a b : EngineTable) → HasTable bytes a → HasTable bytes b → a ≡ b
   pub one_fault : (bytes : List ℕ) (f g : HeaderFault) → f ≢ NoMemory → g ≢ NoMemory → IsRefused bytes f → IsRefused bytes g → f ≡ g
-  pub some_answer : (bytes : List ℕ) (tokens : List Lexeme) → AreTokens bytes 0 tokens
-      → (answer : Result EngineTable HeaderFault) × Comes (length bytes) nothing (placed_all tokens) answer
+  pub some_answer : (bytes : List ℕ) → (answer : Result EngineTable HeaderFault) × IsAnswer bytes answer
   pub not_both : (bytes : List ℕ) (a : EngineTable) (f : HeaderFault) → f ≢ NoMemory → HasTable bytes a → IsRefused bytes f → ⊥

@@ -2,12 +2,13 @@
 
 ghost use Rattle.engine_table.specs.Headers.{OneHeader};
 
-use nss_lexer::laws::{one_first, one_split};
+use nss_lexer::laws::{one_first, one_split, some_split};
 
-/// A text has one table or one first fault.
+/// Each text has a table or a first fault, and only one.
 pub fn one_header()
     ensures one { OneHeader }
 {
     one_first();
     one_split();
+    some_split();
 }

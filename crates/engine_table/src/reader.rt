@@ -107,9 +107,12 @@ impl Reader {
         let Reader { known, stage } = self;
         let is_whole = matches!(&stage, Stage::Start);
         drop(stage);
+        let Known { words, table, .. } = known;
+        drop(words);
         if is_whole {
-            Ok(known.table)
+            Ok(table)
         } else {
+            drop(table);
             Err(HeaderFault::Header(end))
         }
     }

@@ -1,5 +1,5 @@
 /// What CONST pushes.
-#[derive(Clone, Copy, Debug)]
+#[derive(Clone, Copy)]
 pub enum Lit<'a> {
     Int(i32),
     /// The four bytes of a float, as they are spelled.
@@ -11,7 +11,7 @@ pub enum Lit<'a> {
 
 /// An instruction: one variant for each name, with its arguments in the order of their spelling.
 /// `kind` is the type byte, where the instruction has several.
-#[derive(Clone, Copy, Debug)]
+#[derive(Clone, Copy)]
 pub enum Op<'a> {
     CpDownSp { offset: i32, size: u16 },
     RsAdd { kind: u8 },

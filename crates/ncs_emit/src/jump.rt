@@ -1,5 +1,5 @@
 /// The four instructions that lead to another place.
-#[derive(Clone, Copy, Debug, PartialEq, Eq)]
+#[derive(Clone, Copy)]
 pub enum Jump {
     Jmp,
     Jsr,

@@ -3,11 +3,9 @@ ghost use Rattle.std.specs.Prelude.{◌≡◌};
 use ncs_code::CodeFault;
 use nwq_value::NoMemory as OutOfMemory;
 use std::alloc::{AllocError, AllocFailed};
-use std::error::Error;
-use std::fmt;
 
 /// Why bytes were not loaded: the first test that fails, in this order.
-#[derive(Clone, Copy, Debug, PartialEq, Eq)]
+#[derive(Clone, Copy)]
 pub enum LoadFault {
     /// The file does not begin with `NCS V1.0` and the byte 0x42.
     Magic,
@@ -21,23 +19,6 @@ pub enum LoadFault {
     /// Memory ran out.
     NoMemory,
 }
-
-impl fmt::Display for LoadFault {
-    fn fmt<W: fmt::Write>(&self, f: &mut fmt::Formatter<W>) -> fmt::Result {
-        match self {
-            LoadFault::Magic => f.write_str("no file of bytecode"),
-            LoadFault::Length => f.write_str("the file gives another length than its own"),
-            LoadFault::At(place, fault) => write!(f, "at {place}: {fault}"),
-            LoadFault::Target(place) => write!(
-                f,
-                "at {place}: no instruction begins where this leads"
-            ),
-            LoadFault::NoMemory => f.write_str("out of memory"),
-        }
-    }
-}
-
-impl Error for LoadFault {}
 
 impl From<OutOfMemory> for LoadFault {
     ghost use Rattle.ncs_file.specs.declared.fault.LoadFault.TheVariants.{NoMemory};

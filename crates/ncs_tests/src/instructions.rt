@@ -1,6 +1,7 @@
 ghost use Rattle.std.specs.Prelude.{◌<◌, ◌≤◌, length};
+ghost use Rattle.nwq_value.specs.Limits.{file_limit};
 
-use super::*;
+use ncs_code::{CodeFault, decode, opcode_named};
 use nwq_value::NoMemory;
 use std::alloc::Global;
 use std::test::*;
@@ -74,17 +75,19 @@ const ROWS: [(u8, &[u8], &[u8]); 47] = [
     (0x2d, &[0x00], &[]),
 ];
 
-/// Are these bytes one instruction, which is spelled so again?
+/// Are these bytes one instruction, which is spelled so again and has the name of their opcode?
 fn reads_back(alloc: Global, bytes: &[u8]) -> Result<bool, NoMemory>
     requires some { 0 < length bytes.now }
-    requires bounded { length bytes.now ≤ FILE_BYTES }
+    requires bounded { length bytes.now ≤ file_limit }
 {
     match decode(bytes, 0) {
         Err(_) => Ok(false),
         Ok((op, size)) => {
             let mut out = Vec::new(alloc);
             op.encode(&mut out)?;
-            Ok(out.as_slice() == bytes && op.size() == size && size as usize == bytes.len())
+            let spelled = out.as_slice() == bytes && op.opcode() == bytes[0];
+            let named = opcode_named(op.name().as_bytes()) == Some(bytes[0]);
+            Ok(spelled && named && op.size() == size && size as usize == bytes.len())
         }
     }
 }
@@ -115,4 +118,15 @@ fn faults(rt: HostRuntime) {
             Err(CodeFault::Short)
         )
     );
+}
+
+#[test]
+fn kinds_and_names(rt: HostRuntime) {
+    assert!(rt; matches!(decode(&[0x02, 0x11], 0), Ok((op, 2)) if op.kind() == 0x11));
+    assert!(rt;
+        matches!(decode(&[0x2c, 0x10, 0, 0, 0, 0, 0, 0, 0, 0], 0), Ok((op, 10)) if op.name() == "STORE_STATE")
+    );
+    assert!(rt; opcode_named(b"JNZ") == Some(0x25));
+    assert!(rt; opcode_named(b"").is_none());
+    assert!(rt; opcode_named(b"STORE_STATEALL").is_none());
 }

@@ -1,7 +1,8 @@
 ghost use Rattle.std.specs.Prelude.{◌≤◌, length};
+ghost use Rattle.nwq_value.specs.Limits.{file_limit};
 
-use super::*;
 use ncs_code::{CodeFault, Op};
+use ncs_file::{Code, LoadFault, load, store};
 use std::alloc::Global;
 use std::test::*;
 
@@ -11,24 +12,28 @@ const EMPTY: [u8; 13] = *b"NCS V1.0B\x00\x00\x00\x0d";
 const CALL: [u8; 23] = *b"NCS V1.0B\x00\x00\x00\x17\x1e\x00\x00\x00\x00\x08\x20\x00\x20\x00";
 
 fn loaded(alloc: Global, bytes: &[u8]) -> Result<Code, LoadFault>
-    requires { length bytes.now ≤ 16777216 }
+    requires { length bytes.now ≤ file_limit }
 {
     load(alloc, Vec::from_slice(alloc, bytes)?)
 }
 
+fn is_empty_file(code: &Code) -> bool {
+    code.count() == 0 && code.op_at(13).is_none() && store(code) == EMPTY.as_slice()
+}
+
+fn is_call(code: &Code) -> bool {
+    code.count() == 3
+        && store(code) == CALL.as_slice()
+        && matches!(code.op_at(13), Some((Op::Jsr { offset: 8 }, 6)))
+        && code.op_at(14).is_none()
+        && matches!(code.op_at(21), Some((Op::Retn, 2)))
+        && code.op_at(23).is_none()
+}
+
 #[test]
-fn small_files(rt: HostRuntime) -> Result<(), Fail> {
-    let code = loaded(rt.alloc(), &EMPTY)?;
-    assert_eq!(rt; code.count(), 0);
-    assert!(rt; code.op_at(13).is_none());
-    let code = loaded(rt.alloc(), &CALL)?;
-    assert_eq!(rt; code.count(), 3);
-    assert_eq!(rt; store(&code), CALL.as_slice());
-    assert!(rt; matches!(code.op_at(13), Some((Op::Jsr { offset: 8 }, 6))));
-    assert!(rt; code.op_at(14).is_none());
-    assert!(rt; matches!(code.op_at(21), Some((Op::Retn, 2))));
-    assert!(rt; code.op_at(23).is_none());
-    Ok(())
+fn small_files(rt: HostRuntime) {
+    assert!(rt; matches!(loaded(rt.alloc(), &EMPTY), Ok(code) if is_empty_file(&code)));
+    assert!(rt; matches!(loaded(rt.alloc(), &CALL), Ok(code) if is_call(&code)));
 }
 
 #[test]
@@ -52,6 +57,15 @@ fn refused_files(rt: HostRuntime) {
             loaded(
                 rt.alloc(),
                 b"NCS V1.0B\x00\x00\x00\x15\x1d\x00\x00\x00\x00\x07\x20\x00"
+            ),
+            Err(LoadFault::Target(13))
+        )
+    );
+    assert!(rt;
+        matches!(
+            loaded(
+                rt.alloc(),
+                b"NCS V1.0B\x00\x00\x00\x1d\x2c\x10\x00\x00\x00\x00\x00\x00\x00\x00\x1d\x00\x00\x00\x00\x06"
             ),
             Err(LoadFault::Target(13))
         )

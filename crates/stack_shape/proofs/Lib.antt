@@ -1,2 +1,5 @@
+mod EffectLemmas
+mod RangeLemmas
 mod Rows
+mod RuleLemmas
 mod Tops

@@ -6,8 +6,8 @@ use Rattle.std.proofs.Math.Seq.{drop-append_seam, take-append_seam}
 use Rattle.nwq_value.specs.declared.value.Ty.{Ty}
 use Rattle.stack_shape.specs.declared.shape.Slot.{Slot}
 use Rattle.stack_shape.specs.declared.shape.Slot.TheVariants.{Of, Base}
-use Rattle.stack_shape.specs.Trades.{types_on}
-use Rattle.stack_shape.specs.Common.{HasSuffix, LongestSuffix}
+use Rattle.stack_shape.specs.TopFirst.{types_on}
+use Rattle.stack_shape.specs.Suffix.{HasSuffix, LongestSuffix}
 
 plus_one : (i : ℕ) → suc i ≡ i + 1
 plus_one i = omega arith

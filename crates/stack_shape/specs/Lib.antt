@@ -1,4 +1,8 @@
 pub mod Ranges
-pub mod Trades
+pub mod TopFirst
+pub mod StackEffects
+pub mod Calls
+pub mod Stored
 pub mod Rule
-pub mod Common
+pub mod Suffix
+pub mod Laws

@@ -14,7 +14,7 @@ pub type Slots = Items<Slot>;
 pub type Unders = Items<Slots>;
 
 /// What is known of the stack at a place of a routine.
-#[derive(Debug, Drop)]
+#[derive(Drop)]
 pub struct Shape {
     /// The cells that the routine found on top when it began, and those that it has pushed since.
     pub cells: Slots,
@@ -28,7 +28,7 @@ pub struct Shape {
 
 /// How control comes to a routine: as the script's start, by a call of the place, or by resuming the state
 /// that the instruction at this place stored.
-#[derive(Clone, Copy, Debug, PartialEq, Eq)]
+#[derive(Clone, Copy, PartialEq, Eq)]
 pub enum Entry {
     Start,
     Called(u32),

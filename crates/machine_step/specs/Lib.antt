@@ -1,0 +1,9 @@
+pub mod Operators
+pub mod Values
+pub mod Cells
+pub mod Frames
+pub mod Calls
+pub mod Act
+pub mod Machine
+pub mod Runs
+pub mod Laws
