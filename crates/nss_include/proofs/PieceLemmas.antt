@@ -1,9 +1,7 @@
 -- From steps to pieces: what a file goes on with at a place are its pieces there, and what its steps come to, its pieces come to.
-use Rattle.std.specs.FinMap as map
 use Rattle.std.proofs.Common.{◌≡◌, ℕ, zero, suc, ◌+◌, Bool, true, false, ◌&&◌, List, [], ◌∷◌, ◌++◌, length, Option, Some, None, refl, sym, ap, subst, ◌∙◌, append_assoc, append-nil}
 use Rattle.std.proofs.lemmas.Option.{same_Some, none-some}
 use Rattle.std.specs.List.{slice_get}
-use Rattle.nwq_outside.specs.Outside.{Contents}
 use Rattle.nss_lexer.specs.Splitting.{Lexeme, First, Found, AtEnd, BadAt, IsFirst, Splits, whole, broken, token}
 use Rattle.nss_lexer.specs.Strings.{string_value}
 use Rattle.nss_include.specs.declared.fault.GatherFault.{GatherFault}
@@ -13,7 +11,7 @@ use Rattle.nss_include.specs.declared.step.Step.TheVariants as step
 use Rattle.nss_include.specs.Names.{file_name, is_include_name}
 use Rattle.nss_include.specs.Pieces.{Piece, Token, Directive, BadDirective, BadByte, is_hash, is_include, is_string, directive, pieces, HasPieces}
 use Rattle.nss_include.specs.Steps.{IsStep, lexeme_in, begins_include, named_step, directive_step, ends as step_ends, breaks, other, sign, begins}
-use Rattle.nss_include.specs.Units.{Held, source, Unfolds, ends as no_piece, fails as piece_fails, gives as piece_gives, again as piece_again, breaks_off as piece_breaks_off, includes as piece_includes}
+use Rattle.nss_include.specs.Units.{Lookup, Held, source, Unfolds, ends as no_piece, fails as piece_fails, gives as piece_gives, again as piece_again, breaks_off as piece_breaks_off, includes as piece_includes}
 use Rattle.nss_include.specs.Walks.{Walks, step_fault, ends, fails, gives, again, breaks_off, includes}
 
 -- one thing stands first at a place, and each file is split from each place on
@@ -138,17 +136,17 @@ abbrev held : List Source → ℕ → Held
 held files count = record { files = files; count = count }
 
 -- from a place of this file on, its pieces come to this
-pub record ReadsAs (contents : Contents) (file : Source) (number at : ℕ) (files : List Source) (count : ℕ) (tokens : List Lexeme) (last : List Source)
+pub record ReadsAs (lookup : Lookup) (file : Source) (number at : ℕ) (files : List Source) (count : ℕ) (tokens : List Lexeme) (last : List Source)
     (total : ℕ) (ending : Option GatherFault) : Type 0 where
   pub all : List Piece
   pub has : HasPieces file.bytes number at all
-  pub unfolds : Unfolds contents file all (held files count) tokens (held last total) ending
+  pub unfolds : Unfolds lookup file all (held files count) tokens (held last total) ending
 
-pub record Reads (contents : Contents) (number at : ℕ) (files : List Source) (count : ℕ) (tokens : List Lexeme) (last : List Source) (total : ℕ)
+pub record Reads (lookup : Lookup) (number at : ℕ) (files : List Source) (count : ℕ) (tokens : List Lexeme) (last : List Source) (total : ℕ)
     (ending : Option GatherFault) : Type 0 where
   pub file : Source
   pub is : slice_get files number ≡ Some file
-  pub here : ReadsAs contents file number at files count tokens last total ending
+  pub here : ReadsAs lookup file number at files count tokens last total ending
   pub more : List Source
   pub grows : last ≡ files ++ more
 
@@ -162,68 +160,68 @@ slice_get-last [] x = refl
 slice_get-last (y ∷ xs) x = slice_get-last xs x
 
 -- what is read of the file of this number is read of this file
-pub of_file : (contents : Contents) (file : Source) (number at : ℕ) (files : List Source) (count : ℕ) (tokens : List Lexeme) (last : List Source)
-    (total : ℕ) (ending : Option GatherFault) (r : Reads contents number at files count tokens last total ending) → slice_get files number ≡ Some file
-    → ReadsAs contents file number at files count tokens last total ending
-of_file contents file number at files count tokens last total ending r is =
-    subst (λ f. ReadsAs contents f number at files count tokens last total ending) (same_Some r.file file (sym r.is ∙ is)) r.here
+pub of_file : (lookup : Lookup) (file : Source) (number at : ℕ) (files : List Source) (count : ℕ) (tokens : List Lexeme) (last : List Source)
+    (total : ℕ) (ending : Option GatherFault) (r : Reads lookup number at files count tokens last total ending) → slice_get files number ≡ Some file
+    → ReadsAs lookup file number at files count tokens last total ending
+of_file lookup file number at files count tokens last total ending r is =
+    subst (λ f. ReadsAs lookup f number at files count tokens last total ending) (same_Some r.file file (sym r.is ∙ is)) r.here
 
 -- a file stops at a step that fails
-fails_at : (one : OneFirst) (some : SomeSplit) (contents : Contents) (number at : ℕ) (files : List Source) (count : ℕ) (file : Source) (s : Step)
+fails_at : (one : OneFirst) (some : SomeSplit) (lookup : Lookup) (number at : ℕ) (files : List Source) (count : ℕ) (file : Source) (s : Step)
     (fault : GatherFault) → slice_get files number ≡ Some file → IsStep file.bytes number at s
-    → step_fault (map.get contents) files count file s ≡ Some fault → ReadsAs contents file number at files count [] files count (Some fault)
-fails_at one some contents number at files count file step.Ends fault is stands h = absurd (none-some fault h)
-fails_at one some contents number at files count file (step.Breaks place) fault is stands h = record {
+    → step_fault lookup files count file s ≡ Some fault → ReadsAs lookup file number at files count [] files count (Some fault)
+fails_at one some lookup number at files count file step.Ends fault is stands h = absurd (none-some fault h)
+fails_at one some lookup number at files count file (step.Breaks place) fault is stands h = record {
   all = BadByte place ∷ [];
   has = step_pieces one some file.bytes number at (step.Breaks place) stands;
   unfolds = piece_fails file (BadByte place) [] (held files count) fault h;
 }
-fails_at one some contents number at files count file (step.Gives span) fault is stands h =
+fails_at one some lookup number at files count file (step.Gives span) fault is stands h =
     let rest = some_pieces some file.bytes number span.end
     in record {
       all = Token (lexeme_in file.bytes span) ∷ rest.0;
       has = step_pieces one some file.bytes number at (step.Gives span) stands rest.0 rest.1;
       unfolds = piece_fails file (Token (lexeme_in file.bytes span)) rest.0 (held files count) fault h;
     }
-fails_at one some contents number at files count file (step.Mentions hash name after) fault is stands h =
+fails_at one some lookup number at files count file (step.Mentions hash name after) fault is stands h =
     let rest = some_pieces some file.bytes number after
     in record {
       all = Directive hash name ∷ rest.0;
       has = step_pieces one some file.bytes number at (step.Mentions hash name after) stands rest.0 rest.1;
       unfolds = piece_fails file (Directive hash name) rest.0 (held files count) fault h;
     }
-fails_at one some contents number at files count file (step.Misses hash) fault is stands h =
+fails_at one some lookup number at files count file (step.Misses hash) fault is stands h =
     let there = step_pieces one some file.bytes number at (step.Misses hash) stands
     in record { all = BadDirective hash ∷ there.0; has = there.1; unfolds = piece_fails file (BadDirective hash) there.0 (held files count) fault h }
 
 -- a file that is new to the unit, by its own pieces
-inner_of : (contents : Contents) (files : List Source) (count : ℕ) (name bytes : List ℕ) (tokens : List Lexeme) (last : List Source)
-    (total : ℕ) (ending : Option GatherFault) → Reads contents (length files) 0 (files ++ source name bytes ∷ []) count tokens last total ending
-    → ReadsAs contents (source name bytes) (length files) 0 (files ++ source name bytes ∷ []) count tokens last total ending
-inner_of contents files count name bytes tokens last total ending r =
-    of_file contents (source name bytes) (length files) 0 (files ++ source name bytes ∷ []) count tokens last total ending r
+inner_of : (lookup : Lookup) (files : List Source) (count : ℕ) (name bytes : List ℕ) (tokens : List Lexeme) (last : List Source)
+    (total : ℕ) (ending : Option GatherFault) → Reads lookup (length files) 0 (files ++ source name bytes ∷ []) count tokens last total ending
+    → ReadsAs lookup (source name bytes) (length files) 0 (files ++ source name bytes ∷ []) count tokens last total ending
+inner_of lookup files count name bytes tokens last total ending r =
+    of_file lookup (source name bytes) (length files) 0 (files ++ source name bytes ∷ []) count tokens last total ending r
     (slice_get-last files (source name bytes))
 
-pub reads : (one : OneFirst) (some : SomeSplit) (contents : Contents) (number at : ℕ) (files : List Source) (count : ℕ) (tokens : List Lexeme)
-    (last : List Source) (total : ℕ) (ending : Option GatherFault) → Walks (map.get contents) number at files count tokens last total ending
-    → Reads contents number at files count tokens last total ending
-reads one some contents number at files count tokens last total ending (ends n a fs c file is stands) = record {
+pub reads : (one : OneFirst) (some : SomeSplit) (lookup : Lookup) (number at : ℕ) (files : List Source) (count : ℕ) (tokens : List Lexeme)
+    (last : List Source) (total : ℕ) (ending : Option GatherFault) → Walks lookup number at files count tokens last total ending
+    → Reads lookup number at files count tokens last total ending
+reads one some lookup number at files count tokens last total ending (ends n a fs c file is stands) = record {
   file = file;
   is = is;
   here = record { all = []; has = step_pieces one some file.bytes n a step.Ends stands; unfolds = no_piece file (held fs c) };
   more = [];
   grows = sym (append-nil fs);
 }
-reads one some contents number at files count tokens last total ending (fails n a fs c file s fault is stands h) = record {
+reads one some lookup number at files count tokens last total ending (fails n a fs c file s fault is stands h) = record {
   file = file;
   is = is;
-  here = fails_at one some contents n a fs c file s fault is stands h;
+  here = fails_at one some lookup n a fs c file s fault is stands h;
   more = [];
   grows = sym (append-nil fs);
 }
-reads one some contents number at files count tokens last total ending (gives n a fs c file span ts l t e is stands h w) =
-    let r = reads one some contents n span.end fs (c + 1) ts l t e w
-    in let rest = of_file contents file n span.end fs (c + 1) ts l t e r is
+reads one some lookup number at files count tokens last total ending (gives n a fs c file span ts l t e is stands h w) =
+    let r = reads one some lookup n span.end fs (c + 1) ts l t e w
+    in let rest = of_file lookup file n span.end fs (c + 1) ts l t e r is
     in record {
       file = file;
       is = is;
@@ -235,9 +233,9 @@ reads one some contents number at files count tokens last total ending (gives n 
       more = r.more;
       grows = r.grows;
     }
-reads one some contents number at files count tokens last total ending (again n a fs c file hash name after ts l t e is stands h known w) =
-    let r = reads one some contents n after fs (c + 3) ts l t e w
-    in let rest = of_file contents file n after fs (c + 3) ts l t e r is
+reads one some lookup number at files count tokens last total ending (again n a fs c file hash name after ts l t e is stands h known w) =
+    let r = reads one some lookup n after fs (c + 3) ts l t e w
+    in let rest = of_file lookup file n after fs (c + 3) ts l t e r is
     in record {
       file = file;
       is = is;
@@ -249,9 +247,9 @@ reads one some contents number at files count tokens last total ending (again n 
       more = r.more;
       grows = r.grows;
     }
-reads one some contents number at files count tokens last total ending (breaks_off n a fs c file hash name after bytes ts l t f is stands h new content w) =
-    let r = reads one some contents (length fs) 0 (fs ++ source (file_name name) bytes ∷ []) (c + 3) ts l t (Some f) w
-    in let inner = inner_of contents fs (c + 3) (file_name name) bytes ts l t (Some f) r
+reads one some lookup number at files count tokens last total ending (breaks_off n a fs c file hash name after bytes ts l t f is stands h new content w) =
+    let r = reads one some lookup (length fs) 0 (fs ++ source (file_name name) bytes ∷ []) (c + 3) ts l t (Some f) w
+    in let inner = inner_of lookup fs (c + 3) (file_name name) bytes ts l t (Some f) r
     in let rest = some_pieces some file.bytes n after
     in record {
       file = file;
@@ -264,15 +262,15 @@ reads one some contents number at files count tokens last total ending (breaks_o
       more = source (file_name name) bytes ∷ r.more;
       grows = r.grows ∙ append_assoc fs (source (file_name name) bytes ∷ []) r.more;
     }
-reads one some contents number at files count tokens last total ending
+reads one some lookup number at files count tokens last total ending
     (includes n a fs c file hash name after bytes first between counted ts l t e is stands h new content v w) =
-    let r = reads one some contents (length fs) 0 (fs ++ source (file_name name) bytes ∷ []) (c + 3) first between counted None v
-    in let inner = inner_of contents fs (c + 3) (file_name name) bytes first between counted None r
-    in let q = reads one some contents n after between counted ts l t e w
+    let r = reads one some lookup (length fs) 0 (fs ++ source (file_name name) bytes ∷ []) (c + 3) first between counted None v
+    in let inner = inner_of lookup fs (c + 3) (file_name name) bytes first between counted None r
+    in let q = reads one some lookup n after between counted ts l t e w
     in let grown : between ≡ fs ++ source (file_name name) bytes ∷ r.more = r.grows ∙ append_assoc fs (source (file_name name) bytes ∷ []) r.more
     in let there : slice_get between n ≡ Some file =
     ap (λ xs. slice_get xs n) grown ∙ slice_get-grows fs (source (file_name name) bytes ∷ r.more) n file is
-    in let rest = of_file contents file n after between counted ts l t e q there
+    in let rest = of_file lookup file n after between counted ts l t e q there
     in record {
       file = file;
       is = is;

@@ -2,7 +2,6 @@ use Rattle.std.proofs.Common.{◌≡◌, ℕ, ◌+◌, ◌<◌, ◌≤◌, Bool,
 use Rattle.std.proofs.lemmas.Bool.Decides.{nat_tests}
 use Rattle.std.proofs.lemmas.Option.{same_Some, none-some}
 use Rattle.std.proofs.lemmas.List.{take_all, length-map}
-use Rattle.std.specs.FinMap as map
 use Rattle.std.specs.Char.{to_ascii_lowercase}
 use Rattle.std.proofs.lemmas.Str.{IsUtf8-from_ascii}
 use Rattle.std.specs.List.{slice_get, list_all, AllByRecursion}
@@ -11,7 +10,6 @@ use Rattle.nwq_value.specs.Limits.{file_limit, text_limit, token_limit}
 use Rattle.nss_lexer.specs.Bytes.{is_name_byte}
 use Rattle.std.specs.Option.{option_map}
 use Rattle.nss_lexer.specs.Splitting.{Lexeme}
-use Rattle.nwq_outside.specs.Outside.{Contents}
 use Rattle.nss_include.specs.declared.fault.GatherFault.{GatherFault}
 use Rattle.nss_include.specs.declared.fault.GatherFault.TheVariants.{Missing, Fault, Long, Bad, Tokens, Include, NoMemory}
 use Rattle.nss_include.specs.declared.fault.Spot.{Spot}
@@ -23,101 +21,101 @@ use Rattle.nss_include.specs.declared.step.Step.{Step}
 use Rattle.nss_include.specs.declared.step.Step.TheVariants as step
 use Rattle.nss_include.specs.Names.{file_name, is_include_name, spot_in}
 use Rattle.nss_include.specs.Steps.{IsStep, IsWithin, lexeme_in}
-use Rattle.nss_include.specs.Units.{reading_fault, is_among, source, HaveDistinctNames, IsUnit, unread, is_read}
-use Rattle.nss_include.specs.Walks.{Lookup, HoldsAll, Walks, step_fault, ends, fails, gives, again, breaks_off, includes}
-use Rattle.nss_include.specs.View.{Gathered, lexeme_of, bytes_of}
+use Rattle.nss_include.specs.Units.{Lookup, reading_fault, is_among, source, HaveDistinctNames, IsUnit, unread, is_read}
+use Rattle.nss_include.specs.Walks.{Walks, step_fault, ends, fails, gives, again, breaks_off, includes}
+use Rattle.nss_include.specs.View.{lexeme_of, bytes_of}
 use Rattle.nss_include.proofs.PieceLemmas.{OneFirst, SomeSplit, reads, of_file}
 use Rattle.nss_include.proofs.UnitLemmas.{bytes_stay, all_map, distinct_more}
-use Rattle.nss_include.specs.Gather.{Claims, HasScript}
+use Rattle.nss_include.specs.Gather.{HoldsFiles, Claims}
 use Rattle.nss_include.specs.Progress.{Rest, closed, stops, goes, Ends, Leads, Stops, HasStep, Explains, ExplainsRead, IsReadFault, Includes, IsOpen, IsReady, Begins, ComesTo, Extends, reopened}
 
 -- an open file at a place
 abbrev pub file_at : ℕ → ℕ → Open
 file_at file at = record { file = file; at = at }
 
-pub rest-ends : (contents : Lookup) (number at : ℕ) (stack : List Open) (files : List Source) (count : ℕ) (file : Source)
+pub rest-ends : (lookup : Lookup) (number at : ℕ) (stack : List Open) (files : List Source) (count : ℕ) (file : Source)
     (tokens : List Lexeme) (last : List Source) (total : ℕ) (ending : Option GatherFault)
     → slice_get files number ≡ Some file → IsStep file.bytes number at step.Ends
-    → Rest contents stack files count tokens last total ending
-    → Rest contents (file_at number at ∷ stack) files count tokens last total ending
-rest-ends contents number at stack files count file tokens last total ending is here rest =
+    → Rest lookup stack files count tokens last total ending
+    → Rest lookup (file_at number at ∷ stack) files count tokens last total ending
+rest-ends lookup number at stack files count file tokens last total ending is here rest =
     goes (file_at number at) stack files count [] files count tokens last total ending (ends number at files count file is here) rest
 
-pub rest-fails : (contents : Lookup) (number at : ℕ) (stack : List Open) (files : List Source) (count : ℕ) (file : Source) (s : Step)
-    (fault : GatherFault) → slice_get files number ≡ Some file → IsStep file.bytes number at s → step_fault contents files count file s ≡ Some fault
-    → Rest contents (file_at number at ∷ stack) files count [] files count (Some fault)
-rest-fails contents number at stack files count file s fault is here failing =
+pub rest-fails : (lookup : Lookup) (number at : ℕ) (stack : List Open) (files : List Source) (count : ℕ) (file : Source) (s : Step)
+    (fault : GatherFault) → slice_get files number ≡ Some file → IsStep file.bytes number at s → step_fault lookup files count file s ≡ Some fault
+    → Rest lookup (file_at number at ∷ stack) files count [] files count (Some fault)
+rest-fails lookup number at stack files count file s fault is here failing =
     stops (file_at number at) stack files count [] files count fault (fails number at files count file s fault is here failing)
 
-pub rest-gives : (contents : Lookup) (number at : ℕ) (stack : List Open) (files : List Source) (count : ℕ) (file : Source) (span : Span)
+pub rest-gives : (lookup : Lookup) (number at : ℕ) (stack : List Open) (files : List Source) (count : ℕ) (file : Source) (span : Span)
     (tokens : List Lexeme) (last : List Source) (total : ℕ) (ending : Option GatherFault)
-    → slice_get files number ≡ Some file → IsStep file.bytes number at (step.Gives span) → step_fault contents files count file (step.Gives span) ≡ None
-    → Rest contents (file_at number span.end ∷ stack) files (count + 1) tokens last total ending
-    → Rest contents (file_at number at ∷ stack) files count (lexeme_in file.bytes span ∷ tokens) last total ending
-rest-gives contents number at stack files count file span tokens last total ending is here fine (stops h o f c ts l t fault unfolds) =
+    → slice_get files number ≡ Some file → IsStep file.bytes number at (step.Gives span) → step_fault lookup files count file (step.Gives span) ≡ None
+    → Rest lookup (file_at number span.end ∷ stack) files (count + 1) tokens last total ending
+    → Rest lookup (file_at number at ∷ stack) files count (lexeme_in file.bytes span ∷ tokens) last total ending
+rest-gives lookup number at stack files count file span tokens last total ending is here fine (stops h o f c ts l t fault unfolds) =
     stops (file_at number at) stack files count (lexeme_in file.bytes span ∷ tokens) last total fault
     (gives number at files count file span tokens last total (Some fault) is here fine unfolds)
-rest-gives contents number at stack files count file span tokens last total ending is here fine (goes h o f c inner between counted ts l t e unfolds rest) =
+rest-gives lookup number at stack files count file span tokens last total ending is here fine (goes h o f c inner between counted ts l t e unfolds rest) =
     goes (file_at number at) stack files count (lexeme_in file.bytes span ∷ inner) between counted ts last total ending
     (gives number at files count file span inner between counted None is here fine unfolds) rest
 
-pub rest-again : (contents : Lookup) (number at : ℕ) (stack : List Open) (files : List Source) (count : ℕ) (file : Source) (hash : ℕ)
+pub rest-again : (lookup : Lookup) (number at : ℕ) (stack : List Open) (files : List Source) (count : ℕ) (file : Source) (hash : ℕ)
     (name : List ℕ) (after : ℕ) (tokens : List Lexeme) (last : List Source) (total : ℕ) (ending : Option GatherFault)
     → slice_get files number ≡ Some file → IsStep file.bytes number at (step.Mentions hash name after)
-    → step_fault contents files count file (step.Mentions hash name after) ≡ None → is_among files (file_name name) ≡ true
-    → Rest contents (file_at number after ∷ stack) files (count + 3) tokens last total ending
-    → Rest contents (file_at number at ∷ stack) files count tokens last total ending
-rest-again contents number at stack files count file hash name after tokens last total ending is here fine known (stops h o f c ts l t fault unfolds) =
+    → step_fault lookup files count file (step.Mentions hash name after) ≡ None → is_among files (file_name name) ≡ true
+    → Rest lookup (file_at number after ∷ stack) files (count + 3) tokens last total ending
+    → Rest lookup (file_at number at ∷ stack) files count tokens last total ending
+rest-again lookup number at stack files count file hash name after tokens last total ending is here fine known (stops h o f c ts l t fault unfolds) =
     stops (file_at number at) stack files count tokens last total fault
     (again number at files count file hash name after tokens last total (Some fault) is here fine known unfolds)
-rest-again contents number at stack files count file hash name after tokens last total ending is here fine known
+rest-again lookup number at stack files count file hash name after tokens last total ending is here fine known
     (goes h o f c inner between counted ts l t e unfolds rest) =
     goes (file_at number at) stack files count inner between counted ts last total ending
     (again number at files count file hash name after inner between counted None is here fine known unfolds) rest
 
 -- behind an included file its includer goes on
-rest-behind : (contents : Lookup) (number at : ℕ) (stack : List Open) (files : List Source) (count : ℕ) (file : Source) (hash : ℕ)
+rest-behind : (lookup : Lookup) (number at : ℕ) (stack : List Open) (files : List Source) (count : ℕ) (file : Source) (hash : ℕ)
     (name : List ℕ) (after : ℕ) (bytes : List ℕ) (inner : List Lexeme) (between : List Source) (counted : ℕ)
     (tokens : List Lexeme) (last : List Source) (total : ℕ) (ending : Option GatherFault)
     → slice_get files number ≡ Some file → IsStep file.bytes number at (step.Mentions hash name after)
-    → step_fault contents files count file (step.Mentions hash name after) ≡ None → is_among files (file_name name) ≡ false
-    → contents (file_name name) ≡ Some bytes
-    → Walks contents (length files) 0 (files ++ source (file_name name) bytes ∷ []) (count + 3) inner between counted None
-    → Rest contents (file_at number after ∷ stack) between counted tokens last total ending
-    → Rest contents (file_at number at ∷ stack) files count (inner ++ tokens) last total ending
-rest-behind contents number at stack files count file hash name after bytes inner between counted tokens last total ending is here fine new read unfolds
+    → step_fault lookup files count file (step.Mentions hash name after) ≡ None → is_among files (file_name name) ≡ false
+    → lookup (file_name name) ≡ Some bytes
+    → Walks lookup (length files) 0 (files ++ source (file_name name) bytes ∷ []) (count + 3) inner between counted None
+    → Rest lookup (file_at number after ∷ stack) between counted tokens last total ending
+    → Rest lookup (file_at number at ∷ stack) files count (inner ++ tokens) last total ending
+rest-behind lookup number at stack files count file hash name after bytes inner between counted tokens last total ending is here fine new read unfolds
     (stops h o f c ts l t fault behind) =
     stops (file_at number at) stack files count (inner ++ tokens) last total fault
     (includes number at files count file hash name after bytes inner between counted tokens last total (Some fault) is here fine new read unfolds behind)
-rest-behind contents number at stack files count file hash name after bytes inner between counted tokens last total ending is here fine new read unfolds
+rest-behind lookup number at stack files count file hash name after bytes inner between counted tokens last total ending is here fine new read unfolds
     (goes h o f c more between2 counted2 ts l t e behind rest) =
-    subst (λ tokens. Rest contents (file_at number at ∷ stack) files count tokens last total ending) (append_assoc inner more ts)
+    subst (λ tokens. Rest lookup (file_at number at ∷ stack) files count tokens last total ending) (append_assoc inner more ts)
     (goes (file_at number at) stack files count (inner ++ more) between2 counted2 ts last total ending
     (includes number at files count file hash name after bytes inner between counted more between2 counted2 None is here fine new read unfolds behind) rest)
 
-pub rest-includes : (contents : Lookup) (number at : ℕ) (stack : List Open) (files : List Source) (count : ℕ) (file : Source) (hash : ℕ)
+pub rest-includes : (lookup : Lookup) (number at : ℕ) (stack : List Open) (files : List Source) (count : ℕ) (file : Source) (hash : ℕ)
     (name : List ℕ) (after : ℕ) (bytes : List ℕ) (tokens : List Lexeme) (last : List Source) (total : ℕ) (ending : Option GatherFault)
     → slice_get files number ≡ Some file → IsStep file.bytes number at (step.Mentions hash name after)
-    → step_fault contents files count file (step.Mentions hash name after) ≡ None → is_among files (file_name name) ≡ false
-    → contents (file_name name) ≡ Some bytes
-    → Rest contents (file_at (length files) 0 ∷ file_at number after ∷ stack) (files ++ source (file_name name) bytes ∷ []) (count + 3)
+    → step_fault lookup files count file (step.Mentions hash name after) ≡ None → is_among files (file_name name) ≡ false
+    → lookup (file_name name) ≡ Some bytes
+    → Rest lookup (file_at (length files) 0 ∷ file_at number after ∷ stack) (files ++ source (file_name name) bytes ∷ []) (count + 3)
     tokens last total ending
-    → Rest contents (file_at number at ∷ stack) files count tokens last total ending
-rest-includes contents number at stack files count file hash name after bytes tokens last total ending is here fine new read (stops h o f c ts l t fault unfolds) =
+    → Rest lookup (file_at number at ∷ stack) files count tokens last total ending
+rest-includes lookup number at stack files count file hash name after bytes tokens last total ending is here fine new read (stops h o f c ts l t fault unfolds) =
     stops (file_at number at) stack files count tokens last total fault
     (breaks_off number at files count file hash name after bytes tokens last total fault is here fine new read unfolds)
-rest-includes contents number at stack files count file hash name after bytes tokens last total ending is here fine new read
+rest-includes lookup number at stack files count file hash name after bytes tokens last total ending is here fine new read
     (goes h o f c inner between counted ts l t e unfolds rest) =
-    rest-behind contents number at stack files count file hash name after bytes inner between counted ts last total ending is here fine new read unfolds rest
+    rest-behind lookup number at stack files count file hash name after bytes inner between counted ts last total ending is here fine new read unfolds rest
 
 -- a stack, files and a count under other names
-rest_at : (contents : Lookup) (stack stack' : List Open) (files files' : List Source) (count count' : ℕ) (tokens : List Lexeme)
+rest_at : (lookup : Lookup) (stack stack' : List Open) (files files' : List Source) (count count' : ℕ) (tokens : List Lexeme)
     (last : List Source) (total : ℕ) (ending : Option GatherFault) → stack ≡ stack' → files ≡ files' → count ≡ count'
-    → Rest contents stack files count tokens last total ending → Rest contents stack' files' count' tokens last total ending
-rest_at contents stack stack' files files' count count' tokens last total ending hs hf hc rest =
-    subst (λ s. Rest contents s files' count' tokens last total ending) hs
-    (subst (λ f. Rest contents stack f count' tokens last total ending) hf
-    (subst (λ n. Rest contents stack files n tokens last total ending) hc rest))
+    → Rest lookup stack files count tokens last total ending → Rest lookup stack' files' count' tokens last total ending
+rest_at lookup stack stack' files files' count count' tokens last total ending hs hf hc rest =
+    subst (λ s. Rest lookup s files' count' tokens last total ending) hs
+    (subst (λ f. Rest lookup stack f count' tokens last total ending) hf
+    (subst (λ n. Rest lookup stack files n tokens last total ending) hc rest))
 
 -- ---- readings
 
@@ -126,78 +124,78 @@ spot_is : (files : List Source) (i at : ℕ) (file : Source) (spot : Spot) → s
 spot_is files i at file spot is h = same_Some (spot_in file at) spot (ap (option_map (λ f. spot_in f at)) (sym is) ∙ h)
 
 -- a reading stops with what a step fails with
-pub stops-fault : (contents : Lookup) (r : Gatherer) (here : Open) (s : Step) (h : HasStep r here s) (fault : GatherFault)
-    → step_fault contents r.unit.files r.count h.file s ≡ Some fault → Stops contents (reopened here r) fault
-stops-fault contents r here s h fault failing = record {
+pub stops-fault : (lookup : Lookup) (r : Gatherer) (here : Open) (s : Step) (h : HasStep r here s) (fault : GatherFault)
+    → step_fault lookup r.unit.files r.count h.file s ≡ Some fault → Stops lookup (reopened here r) fault
+stops-fault lookup r here s h fault failing = record {
   left = [];
   parts = sym (append-nil r.unit.tokens);
-  rest = rest-fails contents here.file here.at r.stack r.unit.files r.count h.file s fault h.is h.step failing;
+  rest = rest-fails lookup here.file here.at r.stack r.unit.files r.count h.file s fault h.is h.step failing;
 }
 
 pub stops-breaks : (r : Gatherer) (here : Open) (place : ℕ) (h : HasStep r here (step.Breaks place)) (spot : Spot)
-    → option_map (λ f. spot_in f place) (slice_get r.unit.files here.file) ≡ Some spot → (contents : Lookup) → Stops contents (reopened here r) (Bad spot)
-stops-breaks r here place h spot is contents =
-    stops-fault contents r here (step.Breaks place) h (Bad spot) (ap (λ s. Some (Bad s)) (spot_is r.unit.files here.file place h.file spot h.is is))
+    → option_map (λ f. spot_in f place) (slice_get r.unit.files here.file) ≡ Some spot → (lookup : Lookup) → Stops lookup (reopened here r) (Bad spot)
+stops-breaks r here place h spot is lookup =
+    stops-fault lookup r here (step.Breaks place) h (Bad spot) (ap (λ s. Some (Bad s)) (spot_is r.unit.files here.file place h.file spot h.is is))
 
 pub stops-misses : (r : Gatherer) (here : Open) (place : ℕ) (h : HasStep r here (step.Misses place)) (spot : Spot)
-    → option_map (λ f. spot_in f place) (slice_get r.unit.files here.file) ≡ Some spot → (contents : Lookup) → Stops contents (reopened here r) (Include spot)
-stops-misses r here place h spot is contents =
-    stops-fault contents r here (step.Misses place) h (Include spot) (ap (λ s. Some (Include s)) (spot_is r.unit.files here.file place h.file spot h.is is))
+    → option_map (λ f. spot_in f place) (slice_get r.unit.files here.file) ≡ Some spot → (lookup : Lookup) → Stops lookup (reopened here r) (Include spot)
+stops-misses r here place h spot is lookup =
+    stops-fault lookup r here (step.Misses place) h (Include spot) (ap (λ s. Some (Include s)) (spot_is r.unit.files here.file place h.file spot h.is is))
 
 pub stops-gives : (r : Gatherer) (here : Open) (span : Span) (h : HasStep r here (step.Gives span)) (spot : Spot) → r.count ≡ token_limit
-    → option_map (λ f. spot_in f span.start) (slice_get r.unit.files here.file) ≡ Some spot → (contents : Lookup) → Stops contents (reopened here r) (Tokens spot)
-stops-gives r here span h spot full is contents =
+    → option_map (λ f. spot_in f span.start) (slice_get r.unit.files here.file) ≡ Some spot → (lookup : Lookup) → Stops lookup (reopened here r) (Tokens spot)
+stops-gives r here span h spot full is lookup =
     let over : nat_lt r.count token_limit ≡ false = grind (arith, nat_tests)
-    in stops-fault contents r here (step.Gives span) h (Tokens spot)
+    in stops-fault lookup r here (step.Gives span) h (Tokens spot)
     (rw over (ap (λ s. Some (Tokens s)) (spot_is r.unit.files here.file span.start h.file spot h.is is)))
 
 pub stops-mentions : (r : Gatherer) (here : Open) (hash : ℕ) (name : List ℕ) (after : ℕ) (h : HasStep r here (step.Mentions hash name after)) (spot : Spot)
     → token_limit < r.count + 3 → option_map (λ f. spot_in f hash) (slice_get r.unit.files here.file) ≡ Some spot
-    → (contents : Lookup) → Stops contents (reopened here r) (Tokens spot)
-stops-mentions r here hash name after h spot full is contents =
+    → (lookup : Lookup) → Stops lookup (reopened here r) (Tokens spot)
+stops-mentions r here hash name after h spot full is lookup =
     let over : nat_lt token_limit (r.count + 3) ≡ true = grind (arith, nat_tests)
-    in stops-fault contents r here (step.Mentions hash name after) h (Tokens spot)
+    in stops-fault lookup r here (step.Mentions hash name after) h (Tokens spot)
     (rw over (ap (λ s. Some (Tokens s)) (spot_is r.unit.files here.file hash h.file spot h.is is)))
 
 -- a token leads on
 pub leads-gives : (old new : Gatherer) (here : Open) (span : Span) (h : HasStep old here (step.Gives span)) → old.count < token_limit
     → new.unit ≡ record { files = old.unit.files; tokens = old.unit.tokens ++ lexeme_of old.unit.files span ∷ [] }
-    → new.stack ≡ file_at here.file span.end ∷ old.stack → new.count ≡ old.count + 1 → (contents : Lookup) → Leads contents (reopened here old) new
-leads-gives old new here span h room unit stack count contents tokens last total ending e =
+    → new.stack ≡ file_at here.file span.end ∷ old.stack → new.count ≡ old.count + 1 → (lookup : Lookup) → Leads lookup (reopened here old) new
+leads-gives old new here span h room unit stack count lookup tokens last total ending e =
     let below : nat_lt old.count token_limit ≡ true = grind (arith, nat_tests)
-    in let fine : step_fault contents old.unit.files old.count h.file (step.Gives span) ≡ None = rw below refl
+    in let fine : step_fault lookup old.unit.files old.count h.file (step.Gives span) ≡ None = rw below refl
     in let token : lexeme_of old.unit.files span ≡ lexeme_in h.file.bytes span
     = ap (λ i. lexeme_in (bytes_of (slice_get old.unit.files i)) span) h.within.0 ∙ ap (λ o. lexeme_in (bytes_of o) span) h.is
     in record {
       left = lexeme_in h.file.bytes span ∷ e.left;
       parts = e.parts ∙ ap (λ u. u.tokens ++ e.left) unit ∙ append_assoc old.unit.tokens (lexeme_of old.unit.files span ∷ []) e.left
           ∙ ap (λ t. old.unit.tokens ++ t ∷ e.left) token;
-      rest = rest-gives contents here.file here.at old.stack old.unit.files old.count h.file span e.left last total ending h.is h.step fine
-          (rest_at contents new.stack (file_at here.file span.end ∷ old.stack) new.unit.files old.unit.files new.count (old.count + 1) e.left last total ending
+      rest = rest-gives lookup here.file here.at old.stack old.unit.files old.count h.file span e.left last total ending h.is h.step fine
+          (rest_at lookup new.stack (file_at here.file span.end ∷ old.stack) new.unit.files old.unit.files new.count (old.count + 1) e.left last total ending
           stack (ap (λ u. u.files) unit) count e.rest);
     }
 
 -- so does the end of a file
-pub leads-ends : (old : Gatherer) (here : Open) (h : HasStep old here step.Ends) → (contents : Lookup) → Leads contents (reopened here old) old
-leads-ends old here h contents tokens last total ending e = record {
+pub leads-ends : (old : Gatherer) (here : Open) (h : HasStep old here step.Ends) → (lookup : Lookup) → Leads lookup (reopened here old) old
+leads-ends old here h lookup tokens last total ending e = record {
   left = e.left;
   parts = e.parts;
-  rest = rest-ends contents here.file here.at old.stack old.unit.files old.count h.file e.left last total ending h.is h.step e.rest;
+  rest = rest-ends lookup here.file here.at old.stack old.unit.files old.count h.file e.left last total ending h.is h.step e.rest;
 }
 
 -- and an include of a file that is in the unit
 pub leads-again : (old new : Gatherer) (here : Open) (hash : ℕ) (name : List ℕ) (after : ℕ) (h : HasStep old here (step.Mentions hash name after))
     → old.count + 3 ≤ token_limit → is_among old.unit.files (file_name name) ≡ true
     → new.unit ≡ old.unit → new.stack ≡ file_at here.file after ∷ old.stack → new.count ≡ old.count + 3
-    → (contents : Lookup) → Leads contents (reopened here old) new
-leads-again old new here hash name after h room known unit stack count contents tokens last total ending e =
+    → (lookup : Lookup) → Leads lookup (reopened here old) new
+leads-again old new here hash name after h room known unit stack count lookup tokens last total ending e =
     let below : nat_lt token_limit (old.count + 3) ≡ false = grind (arith, nat_tests)
-    in let fine : step_fault contents old.unit.files old.count h.file (step.Mentions hash name after) ≡ None = rw (below, known) refl
+    in let fine : step_fault lookup old.unit.files old.count h.file (step.Mentions hash name after) ≡ None = rw (below, known) refl
     in record {
       left = e.left;
       parts = e.parts ∙ ap (λ u. u.tokens ++ e.left) unit;
-      rest = rest-again contents here.file here.at old.stack old.unit.files old.count h.file hash name after e.left last total ending h.is h.step fine known
-          (rest_at contents new.stack (file_at here.file after ∷ old.stack) new.unit.files old.unit.files new.count (old.count + 3) e.left last total ending
+      rest = rest-again lookup here.file here.at old.stack old.unit.files old.count h.file hash name after e.left last total ending h.is h.step fine known
+          (rest_at lookup new.stack (file_at here.file after ∷ old.stack) new.unit.files old.unit.files new.count (old.count + 3) e.left last total ending
           stack (ap (λ u. u.files) unit) count e.rest);
     }
 
@@ -206,17 +204,17 @@ pub leads-includes : (old new : Gatherer) (here : Open) (hash : ℕ) (name : Lis
     (bytes : List ℕ) → old.count + 3 ≤ token_limit → is_among old.unit.files (file_name name) ≡ false → length bytes ≤ file_limit
     → new.unit ≡ record { files = old.unit.files ++ source (file_name name) bytes ∷ []; tokens = old.unit.tokens }
     → new.stack ≡ file_at (length old.unit.files) 0 ∷ file_at here.file after ∷ old.stack → new.count ≡ old.count + 3
-    → (contents : Lookup) → contents (file_name name) ≡ Some bytes → Leads contents (reopened here old) new
-leads-includes old new here hash name after h bytes room new_file size unit stack count contents read tokens last total ending e =
+    → (lookup : Lookup) → lookup (file_name name) ≡ Some bytes → Leads lookup (reopened here old) new
+leads-includes old new here hash name after h bytes room new_file size unit stack count lookup read tokens last total ending e =
     let below : nat_lt token_limit (old.count + 3) ≡ false = grind (arith, nat_tests)
     in let fits : nat_le (length bytes) file_limit ≡ true = grind (arith, nat_tests)
-    in let fine : step_fault contents old.unit.files old.count h.file (step.Mentions hash name after) ≡ None = rw (below, new_file, read, fits) refl
+    in let fine : step_fault lookup old.unit.files old.count h.file (step.Mentions hash name after) ≡ None = rw (below, new_file, read, fits) refl
     in record {
       left = e.left;
       parts = e.parts ∙ ap (λ u. u.tokens ++ e.left) unit;
-      rest = rest-includes contents here.file here.at old.stack old.unit.files old.count h.file hash name after bytes e.left last total ending
+      rest = rest-includes lookup here.file here.at old.stack old.unit.files old.count h.file hash name after bytes e.left last total ending
           h.is h.step fine new_file read
-          (rest_at contents new.stack (file_at (length old.unit.files) 0 ∷ file_at here.file after ∷ old.stack) new.unit.files
+          (rest_at lookup new.stack (file_at (length old.unit.files) 0 ∷ file_at here.file after ∷ old.stack) new.unit.files
           (old.unit.files ++ source (file_name name) bytes ∷ []) new.count (old.count + 3) e.left last total ending
           stack (ap (λ u. u.files) unit) count e.rest);
     }
@@ -262,25 +260,25 @@ long_fault : (name : List ℕ) (content : Option (List ℕ)) → IsSomeAnd conte
 long_fault name None h = absurd h
 long_fault name (Some bytes) h = let over : nat_le (length bytes) file_limit ≡ false = grind (arith, nat_tests) in rw over refl
 
-include_fails : (contents : Lookup) (r : Gatherer) (here : Open) (hash : ℕ) (name : List ℕ) (after : ℕ)
+include_fails : (lookup : Lookup) (r : Gatherer) (here : Open) (hash : ℕ) (name : List ℕ) (after : ℕ)
     (h : HasStep r here (step.Mentions hash name after)) (fault : GatherFault) → r.count + 3 ≤ token_limit → is_among r.unit.files (file_name name) ≡ false
-    → reading_fault (file_name name) (contents (file_name name)) ≡ Some fault → Stops contents (reopened here r) fault
-include_fails contents r here hash name after h fault room new failing =
+    → reading_fault (file_name name) (lookup (file_name name)) ≡ Some fault → Stops lookup (reopened here r) fault
+include_fails lookup r here hash name after h fault room new failing =
     let below : nat_lt token_limit (r.count + 3) ≡ false = grind (arith, nat_tests)
-    in stops-fault contents r here (step.Mentions hash name after) h fault (rw (below, new) failing)
+    in stops-fault lookup r here (step.Mentions hash name after) h fault (rw (below, new) failing)
 
 pub stops-include : (r : Gatherer) (here : Open) (hash : ℕ) (name : List ℕ) (after : ℕ) (h : HasStep r here (step.Mentions hash name after))
     → r.count + 3 ≤ token_limit → is_among r.unit.files (file_name name) ≡ false → (given : List ℕ) → given ≡ file_name name
     → (fault : GatherFault) → IsReadFault given fault
-    → Claims fault ((contents : Lookup) → Explains contents fault → Stops contents (reopened here r) fault)
-stops-include r here hash name after h room new given is (Missing n) cut = λ contents none.
+    → Claims fault ((lookup : Lookup) → Explains lookup fault → Stops lookup (reopened here r) fault)
+stops-include r here hash name after h room new given is (Missing n) cut = λ lookup none.
     let named : n ≡ file_name name = cut ∙ uncut given name is h.within.2
-    in include_fails contents r here hash name after h (Missing n) room new
-    (ap (reading_fault (file_name name)) (ap contents (sym named) ∙ none) ∙ ap (λ m. Some (Missing m)) (ap (take text_limit) (sym is) ∙ sym cut))
-stops-include r here hash name after h room new given is (Long n) cut = λ contents long.
+    in include_fails lookup r here hash name after h (Missing n) room new
+    (ap (reading_fault (file_name name)) (ap lookup (sym named) ∙ none) ∙ ap (λ m. Some (Missing m)) (ap (take text_limit) (sym is) ∙ sym cut))
+stops-include r here hash name after h room new given is (Long n) cut = λ lookup long.
     let named : n ≡ file_name name = cut ∙ uncut given name is h.within.2
-    in include_fails contents r here hash name after h (Long n) room new
-    (long_fault (file_name name) (contents (file_name name)) (subst (λ m. IsSomeAnd (contents m) (λ bytes. file_limit < length bytes)) named long)
+    in include_fails lookup r here hash name after h (Long n) room new
+    (long_fault (file_name name) (lookup (file_name name)) (subst (λ m. IsSomeAnd (lookup m) (λ bytes. file_limit < length bytes)) named long)
     ∙ ap (λ m. Some (Long m)) (ap (take text_limit) (sym is) ∙ sym cut))
 stops-include r here hash name after h room new given is Fault cut = tt
 stops-include r here hash name after h room new given is (Bad spot) cut = absurd cut
@@ -289,16 +287,16 @@ stops-include r here hash name after h room new given is (Include spot) cut = ab
 stops-include r here hash name after h room new given is NoMemory cut = tt
 
 -- what explains a fault of reading an include explains it by the name that it tells
-pub explains-include : (contents : Lookup) (given name : List ℕ) → given ≡ file_name name → is_include_name name ≡ true
-    → (fault : GatherFault) → IsReadFault given fault → ExplainsRead contents given fault → Explains contents fault
-explains-include contents given name is h (Missing n) cut e = ap contents (cut ∙ uncut given name is h ∙ sym is) ∙ e
-explains-include contents given name is h (Long n) cut e =
-    subst (λ m. IsSomeAnd (contents m) (λ bytes. file_limit < length bytes)) (sym (cut ∙ uncut given name is h ∙ sym is)) e
-explains-include contents given name is h Fault cut e = tt
-explains-include contents given name is h (Bad spot) cut e = tt
-explains-include contents given name is h (Tokens spot) cut e = tt
-explains-include contents given name is h (Include spot) cut e = tt
-explains-include contents given name is h NoMemory cut e = tt
+pub explains-include : (lookup : Lookup) (given name : List ℕ) → given ≡ file_name name → is_include_name name ≡ true
+    → (fault : GatherFault) → IsReadFault given fault → ExplainsRead lookup given fault → Explains lookup fault
+explains-include lookup given name is h (Missing n) cut e = ap lookup (cut ∙ uncut given name is h ∙ sym is) ∙ e
+explains-include lookup given name is h (Long n) cut e =
+    subst (λ m. IsSomeAnd (lookup m) (λ bytes. file_limit < length bytes)) (sym (cut ∙ uncut given name is h ∙ sym is)) e
+explains-include lookup given name is h Fault cut e = tt
+explains-include lookup given name is h (Bad spot) cut e = tt
+explains-include lookup given name is h (Tokens spot) cut e = tt
+explains-include lookup given name is h (Include spot) cut e = tt
+explains-include lookup given name is h NoMemory cut e = tt
 
 -- an open file stays one where the unit grows
 open_stays : (files more : List Source) (here : Open) → IsOpen files here → IsOpen (files ++ more) here
@@ -334,27 +332,23 @@ pub place-behind : (r : Gatherer) (here : Open) (hash : ℕ) (name : List ℕ) (
     → after ≤ length (bytes_of (slice_get r.unit.files here.file))
 place-behind r here hash name after h = subst (λ o. after ≤ length (bytes_of o)) (sym h.is) h.within.1
 
-holds-last : (contents : Lookup) (files : List Source) (name bytes : List ℕ) → HoldsAll contents (files ++ source name bytes ∷ [])
-    → contents name ≡ Some bytes
-holds-last contents [] name bytes h = h.0
-holds-last contents (f ∷ files) name bytes h = holds-last contents files name bytes h.1
+holds-last : (lookup : Lookup) (files : List Source) (name bytes : List ℕ) → HoldsFiles lookup (files ++ source name bytes ∷ [])
+    → lookup name ≡ Some bytes
+holds-last lookup [] name bytes h = h.0
+holds-last lookup (f ∷ files) name bytes h = holds-last lookup files name bytes h.1
 
 -- an include of a file that is new to the unit leads on
 pub leads-include : (old new : Gatherer) (here : Open) (hash : ℕ) (name : List ℕ) (after : ℕ) (h : HasStep old here (step.Mentions hash name after))
     → old.count + 3 ≤ token_limit → is_among old.unit.files (file_name name) ≡ false → (given : List ℕ) → given ≡ file_name name
-    → Includes old new here given after → (contents : Lookup) → HoldsAll contents new.unit.files → Leads contents (reopened here old) new
-leads-include old new here hash name after h room new_file given is i contents holds =
+    → Includes old new here given after → (lookup : Lookup) → HoldsFiles lookup new.unit.files → Leads lookup (reopened here old) new
+leads-include old new here hash name after h room new_file given is i lookup holds =
     let unit : new.unit ≡ record { files = old.unit.files ++ source (file_name name) i.opens.bytes ∷ []; tokens = old.unit.tokens }
     = i.opens.is ∙ ap (λ n. record { files = old.unit.files ++ source n i.opens.bytes ∷ []; tokens = old.unit.tokens }) is
-    in let read : contents (file_name name) ≡ Some i.opens.bytes
-    = holds-last contents old.unit.files (file_name name) i.opens.bytes (subst (HoldsAll contents) (ap (λ u. u.files) unit) holds)
-    in leads-includes old new here hash name after h i.opens.bytes room new_file i.opens.size unit i.stack i.count contents read
+    in let read : lookup (file_name name) ≡ Some i.opens.bytes
+    = holds-last lookup old.unit.files (file_name name) i.opens.bytes (subst (HoldsFiles lookup) (ap (λ u. u.files) unit) holds)
+    in leads-includes old new here hash name after h i.opens.bytes room new_file i.opens.size unit i.stack i.count lookup read
 
 -- ---- a whole reading
-
-pub holds-front : (contents : Lookup) (files more : List Source) → HoldsAll contents (files ++ more) → HoldsAll contents files
-holds-front contents [] more h = tt
-holds-front contents (f ∷ files) more h = (h.0, holds-front contents files more h.1)
 
 has_step_by : (r : Gatherer) (here : Open) (s : Step) (bytes : List ℕ) (o : Option Source) → slice_get r.unit.files here.file ≡ o
     → option_map (λ f. f.bytes) o ≡ Some bytes → IsStep bytes here.file here.at s → IsWithin bytes here.file s → HasStep r here s
@@ -375,33 +369,29 @@ has_step r here s bytes h is within = has_step_by r here s bytes (slice_get r.un
 -- what a reading has come to
 pub record RunSoFar (tells : Bool) (outside : Lookup) (first now : Gatherer) : Type 0 where
   pub ready : IsReady now
-  pub leads : (contents : Lookup) → HoldsAll contents now.unit.files → Leads contents first now
-  pub keeps : (contents : Lookup) → HoldsAll contents now.unit.files → HoldsAll contents first.unit.files
-  pub holds : IsTrue tells → HoldsAll outside first.unit.files → HoldsAll outside now.unit.files
+  pub leads : (lookup : Lookup) → HoldsFiles lookup now.unit.files → Leads lookup first now
+  pub keeps : (lookup : Lookup) → HoldsFiles lookup now.unit.files → HoldsFiles lookup first.unit.files
+  pub holds : IsTrue tells → HoldsFiles outside first.unit.files → HoldsFiles outside now.unit.files
   pub grows : Extends first.unit.files now.unit.files
 
 pub extends_more : (files more most : List Source) → Extends files more → Extends more most → Extends files most
 extends_more files more most (xs, is) (ys, so) = (xs ++ ys, so ∙ ap (λ fs. fs ++ ys) is ∙ append_assoc files xs ys)
 
-pub has_script : (r : Gatherer) (script : List ℕ) (files : List Source) → Begins r script → Extends r.unit.files files → HasScript files script
-has_script r script files begins (more, is) =
-    subst (λ fs. HasScript fs script) (sym (is ∙ ap (λ (u : Gathered). u.files ++ more) begins.unit)) refl
-
 pub run-more : (tells : Bool) (outside : Lookup) (first now popped new : Gatherer) (here : Open) → RunSoFar tells outside first now
     → now ≡ reopened here popped → IsReady new
-    → ((contents : Lookup) → HoldsAll contents new.unit.files → Leads contents (reopened here popped) new)
-    → ((contents : Lookup) → HoldsAll contents new.unit.files → HoldsAll contents popped.unit.files)
-    → (IsTrue tells → HoldsAll outside popped.unit.files → HoldsAll outside new.unit.files)
+    → ((lookup : Lookup) → HoldsFiles lookup new.unit.files → Leads lookup (reopened here popped) new)
+    → ((lookup : Lookup) → HoldsFiles lookup new.unit.files → HoldsFiles lookup popped.unit.files)
+    → (IsTrue tells → HoldsFiles outside popped.unit.files → HoldsFiles outside new.unit.files)
     → Extends popped.unit.files new.unit.files → RunSoFar tells outside first new
 run-more tells outside first now popped new here so is ready leads keeps holds grows =
     let files : now.unit.files ≡ popped.unit.files = ap (λ r. r.unit.files) is
     in record {
       ready = ready;
-      leads = λ contents held tokens last total ending e.
-          so.leads contents (subst (HoldsAll contents) (sym files) (keeps contents held)) tokens last total ending
-          (subst (λ r. Ends contents r tokens last total ending) (sym is) (leads contents held tokens last total ending e));
-      keeps = λ contents held. so.keeps contents (subst (HoldsAll contents) (sym files) (keeps contents held));
-      holds = λ told held. holds told (subst (HoldsAll outside) files (so.holds told held));
+      leads = λ lookup held tokens last total ending e.
+          so.leads lookup (subst (HoldsFiles lookup) (sym files) (keeps lookup held)) tokens last total ending
+          (subst (λ r. Ends lookup r tokens last total ending) (sym is) (leads lookup held tokens last total ending e));
+      keeps = λ lookup held. so.keeps lookup (subst (HoldsFiles lookup) (sym files) (keeps lookup held));
+      holds = λ told held. holds told (subst (HoldsFiles outside) files (so.holds told held));
       grows = extends_more first.unit.files now.unit.files new.unit.files so.grows (subst (λ fs. Extends fs new.unit.files) (sym files) grows);
     }
 
@@ -416,11 +406,11 @@ claims-map NoMemory P Q p f = tt
 
 -- where a step fails, the whole reading comes to its fault
 pub run-stops : (tells : Bool) (outside : Lookup) (first now popped : Gatherer) (here : Open) (fault : GatherFault) → RunSoFar tells outside first now
-    → now ≡ reopened here popped → IsTrue tells → HoldsAll outside first.unit.files
-    → Claims fault ((contents : Lookup) → Explains contents fault → Stops contents (reopened here popped) fault) → Explains outside fault
+    → now ≡ reopened here popped → IsTrue tells → HoldsFiles outside first.unit.files
+    → Claims fault ((lookup : Lookup) → Explains lookup fault → Stops lookup (reopened here popped) fault) → Explains outside fault
     → Claims fault (ComesTo outside first fault)
 run-stops tells outside first now popped here fault so is told held halts explained =
-    claims-map fault ((contents : Lookup) → Explains contents fault → Stops contents (reopened here popped) fault) (ComesTo outside first fault) halts
+    claims-map fault ((lookup : Lookup) → Explains lookup fault → Stops lookup (reopened here popped) fault) (ComesTo outside first fault) halts
     (λ stop. record {
       tokens = popped.unit.tokens;
       last = popped.unit.files;
@@ -431,62 +421,62 @@ run-stops tells outside first now popped here fault so is told held halts explai
 
 -- where no file is open any more, a reading ends with what it has
 pub run-whole : (tells : Bool) (outside : Lookup) (first now : Gatherer) → RunSoFar tells outside first now → now.stack ≡ []
-    → (contents : Lookup) → HoldsAll contents now.unit.files → Ends contents first now.unit.tokens now.unit.files now.count None
-run-whole tells outside first now so empty contents held =
-    so.leads contents held now.unit.tokens now.unit.files now.count None (record {
+    → (lookup : Lookup) → HoldsFiles lookup now.unit.files → Ends lookup first now.unit.tokens now.unit.files now.count None
+run-whole tells outside first now so empty lookup held =
+    so.leads lookup held now.unit.tokens now.unit.files now.count None (record {
       left = [];
       parts = sym (append-nil now.unit.tokens);
-      rest = subst (λ s. Rest contents s now.unit.files now.count [] now.unit.files now.count None) (sym empty) (closed now.unit.files now.count);
+      rest = subst (λ s. Rest lookup s now.unit.files now.count [] now.unit.files now.count None) (sym empty) (closed now.unit.files now.count);
     })
 
-rest_done : (contents : Lookup) (number at : ℕ) (files : List Source) (count : ℕ) (inner : List Lexeme) (between : List Source) (counted : ℕ)
+rest_done : (lookup : Lookup) (number at : ℕ) (files : List Source) (count : ℕ) (inner : List Lexeme) (between : List Source) (counted : ℕ)
     (tokens : List Lexeme) (last : List Source) (total : ℕ) (ending : Option GatherFault)
-    → Walks contents number at files count inner between counted None → Rest contents [] between counted tokens last total ending
-    → Walks contents number at files count (inner ++ tokens) last total ending
-rest_done contents number at files count inner between counted tokens last total ending unfolds (closed f c) =
-    subst (λ ts. Walks contents number at files count ts between counted None) (sym (append-nil inner)) unfolds
+    → Walks lookup number at files count inner between counted None → Rest lookup [] between counted tokens last total ending
+    → Walks lookup number at files count (inner ++ tokens) last total ending
+rest_done lookup number at files count inner between counted tokens last total ending unfolds (closed f c) =
+    subst (λ ts. Walks lookup number at files count ts between counted None) (sym (append-nil inner)) unfolds
 
-rest_one : (contents : Lookup) (number at : ℕ) (files : List Source) (count : ℕ) (tokens : List Lexeme) (last : List Source) (total : ℕ)
-    (ending : Option GatherFault) → Rest contents (file_at number at ∷ []) files count tokens last total ending
-    → Walks contents number at files count tokens last total ending
-rest_one contents number at files count tokens last total ending (stops h s f c ts l t failing unfolds) = unfolds
-rest_one contents number at files count tokens last total ending (goes h s f c inner between counted ts l t e unfolds rest) =
-    rest_done contents number at files count inner between counted ts last total ending unfolds rest
+rest_one : (lookup : Lookup) (number at : ℕ) (files : List Source) (count : ℕ) (tokens : List Lexeme) (last : List Source) (total : ℕ)
+    (ending : Option GatherFault) → Rest lookup (file_at number at ∷ []) files count tokens last total ending
+    → Walks lookup number at files count tokens last total ending
+rest_one lookup number at files count tokens last total ending (stops h s f c ts l t failing unfolds) = unfolds
+rest_one lookup number at files count tokens last total ending (goes h s f c inner between counted ts l t e unfolds rest) =
+    rest_done lookup number at files count inner between counted ts last total ending unfolds rest
 
 -- what a reading from the beginning ends with is the unit of the script
-pub begins-unit : (one : OneFirst) (some : SomeSplit) (contents : Contents) (script : List ℕ) (r : Gatherer) (tokens : List Lexeme) (files : List Source)
-    (total : ℕ) (ending : Option GatherFault) → Begins r script → HoldsAll (map.get contents) r.unit.files
-    → Ends (map.get contents) r tokens files total ending → IsUnit contents script tokens files ending
-begins-unit one some contents script r tokens files total ending b held e =
+pub begins-unit : (one : OneFirst) (some : SomeSplit) (lookup : Lookup) (script : List ℕ) (r : Gatherer) (tokens : List Lexeme) (files : List Source)
+    (total : ℕ) (ending : Option GatherFault) → Begins r script → HoldsFiles lookup r.unit.files
+    → Ends lookup r tokens files total ending → IsUnit lookup script tokens files ending
+begins-unit one some lookup script r tokens files total ending b held e =
     let first : List Source = source (file_name script) b.bytes ∷ []
-    in let have : HoldsAll (map.get contents) first = subst (HoldsAll (map.get contents)) (ap (λ u. u.files) b.unit) held
-    in let walks : Walks (map.get contents) 0 0 first 0 e.left files total ending
-    = rest_one (map.get contents) 0 0 first 0 e.left files total ending
-    (rest_at (map.get contents) r.stack (file_at 0 0 ∷ []) r.unit.files first r.count 0 e.left files total ending b.stack (ap (λ u. u.files) b.unit)
+    in let have : HoldsFiles lookup first = subst (HoldsFiles lookup) (ap (λ u. u.files) b.unit) held
+    in let walks : Walks lookup 0 0 first 0 e.left files total ending
+    = rest_one lookup 0 0 first 0 e.left files total ending
+    (rest_at lookup r.stack (file_at 0 0 ∷ []) r.unit.files first r.count 0 e.left files total ending b.stack (ap (λ u. u.files) b.unit)
     b.count e.rest)
     in let all : e.left ≡ tokens = sym (e.parts ∙ ap (λ u. u.tokens ++ e.left) b.unit)
-    in let read = of_file contents (source (file_name script) b.bytes) 0 0 first 0 e.left files total ending
-    (reads one some contents 0 0 first 0 e.left files total ending walks) refl
-    in subst (λ ts. IsUnit contents script ts files ending) all
+    in let read = of_file lookup (source (file_name script) b.bytes) 0 0 first 0 e.left files total ending
+    (reads one some lookup 0 0 first 0 e.left files total ending walks) refl
+    in subst (λ ts. IsUnit lookup script ts files ending) all
     (is_read b.bytes read.all e.left (record { files = files; count = total }) ending have.0 b.size read.has read.unfolds)
 
 -- a script that is not read has no more than that fault
-pub begins-fails : (contents : Contents) (script : List ℕ) (fault : GatherFault) → IsReadFault (file_name script) fault
-    → ExplainsRead (map.get contents) (file_name script) fault
-    → Claims fault ((tokens : List Lexeme) × (files : List Source) × IsUnit contents script tokens files (Some fault))
-begins-fails contents script (Missing n) cut e =
+pub begins-fails : (lookup : Lookup) (script : List ℕ) (fault : GatherFault) → IsReadFault (file_name script) fault
+    → ExplainsRead lookup (file_name script) fault
+    → Claims fault ((tokens : List Lexeme) × (files : List Source) × IsUnit lookup script tokens files (Some fault))
+begins-fails lookup script (Missing n) cut e =
     ([], [], unread (Missing n) (ap (reading_fault (file_name script)) e ∙ ap (λ m. Some (Missing m)) (sym cut)))
-begins-fails contents script (Long n) cut e =
-    ([], [], unread (Long n) (long_fault (file_name script) (map.get contents (file_name script)) e ∙ ap (λ m. Some (Long m)) (sym cut)))
-begins-fails contents script Fault cut e = tt
-begins-fails contents script (Bad spot) cut e = absurd cut
-begins-fails contents script (Tokens spot) cut e = absurd cut
-begins-fails contents script (Include spot) cut e = absurd cut
-begins-fails contents script NoMemory cut e = tt
+begins-fails lookup script (Long n) cut e =
+    ([], [], unread (Long n) (long_fault (file_name script) (lookup (file_name script)) e ∙ ap (λ m. Some (Long m)) (sym cut)))
+begins-fails lookup script Fault cut e = tt
+begins-fails lookup script (Bad spot) cut e = absurd cut
+begins-fails lookup script (Tokens spot) cut e = absurd cut
+begins-fails lookup script (Include spot) cut e = absurd cut
+begins-fails lookup script NoMemory cut e = tt
 
-pub begins-stops : (one : OneFirst) (some : SomeSplit) (contents : Contents) (script : List ℕ) (r : Gatherer) (fault : GatherFault) → Begins r script
-    → HoldsAll (map.get contents) r.unit.files → Claims fault (ComesTo (map.get contents) r fault)
-    → Claims fault ((tokens : List Lexeme) × (files : List Source) × IsUnit contents script tokens files (Some fault))
-begins-stops one some contents script r fault b held claims =
-    claims-map fault (ComesTo (map.get contents) r fault) ((tokens : List Lexeme) × (files : List Source) × IsUnit contents script tokens files (Some fault)) claims
-    (λ c. (c.tokens, c.last, begins-unit one some contents script r c.tokens c.last c.total (Some fault) b held c.ends))
+pub begins-stops : (one : OneFirst) (some : SomeSplit) (lookup : Lookup) (script : List ℕ) (r : Gatherer) (fault : GatherFault) → Begins r script
+    → HoldsFiles lookup r.unit.files → Claims fault (ComesTo lookup r fault)
+    → Claims fault ((tokens : List Lexeme) × (files : List Source) × IsUnit lookup script tokens files (Some fault))
+begins-stops one some lookup script r fault b held claims =
+    claims-map fault (ComesTo lookup r fault) ((tokens : List Lexeme) × (files : List Source) × IsUnit lookup script tokens files (Some fault)) claims
+    (λ c. (c.tokens, c.last, begins-unit one some lookup script r c.tokens c.last c.total (Some fault) b held c.ends))

@@ -73,7 +73,7 @@ span_of t = record { kind = t.kind; file = t.file; start = t.start; end = t.end 
 same_text : (bytes : List ℕ) (file at : ℕ) (t : Lexeme) → IsFirstToken bytes file at t → take (t.end - t.start) (drop t.start bytes) ≡ t.text
 same_text bytes file at t first =
     let size : t.end - t.start ≡ length t.text = omega (arith, first.last)
-    in ap (λ n. take n (drop t.start bytes)) size ∙ sym first.begins.front
+    in ap (λ n. take n (drop t.start bytes)) size ∙ sym first.begins.prefix
 
 -- the token of a first token's span is that token
 pub lexeme_in-span_of : (bytes : List ℕ) (file at : ℕ) (t : Lexeme) → IsFirstToken bytes file at t → lexeme_in bytes (span_of t) ≡ t

@@ -1,17 +1,13 @@
-use Rattle.std.proofs.Common.{◌≡◌, ◌≢◌, ℕ, ◌+◌, ◌<◌, ◌≤◌, suc, zero, Bool, true, false, ◌||◌, List, [], ◌∷◌, ◌++◌, length, get_or, take, map, refl, sym, ap, subst, ◌∙◌, arith, length-append}
-use Rattle.std.proofs.lemmas.List.{take_more, map-append}
+use Rattle.std.proofs.Common.{◌≡◌, ◌≢◌, ℕ, ◌<◌, ◌≤◌, suc, zero, Bool, true, false, ◌||◌, List, [], ◌∷◌, ◌++◌, length, get_or, map, refl, sym, ap, subst, ◌∙◌, arith, length-append}
 use Rattle.std.specs.List.{AllByRecursion, slice_get, list_any}
 use Rattle.std.specs.Str.{bytes_eq}
 use Rattle.std.proofs.lemmas.Slice.Eq.{bytes_eq-Decides}
-use Rattle.nwq_value.specs.Limits.{file_limit}
-use Rattle.nss_lexer.specs.declared.token.Token.{Token}
 use Rattle.nss_lexer.specs.Lexemes.{IsLexeme}
-use Rattle.nss_lexer.specs.Splitting.{plain}
 use Rattle.nss_include.specs.declared.file.Source.{Source}
 use Rattle.nss_include.specs.declared.step.Span.{Span}
 use Rattle.nss_include.specs.Steps.{lexeme_in}
 use Rattle.nss_include.specs.Units.{is_among, HaveDistinctNames, source}
-use Rattle.nss_include.specs.View.{IsSpan, StandsIn, IsSound, lexeme_of, bytes_of}
+use Rattle.nss_include.specs.View.{IsSpan, StandsIn, lexeme_of, bytes_of}
 
 -- what a list has at a place stays where the list grows
 pub slice_get-append : {A : Type 0} (xs ys : List A) (i : ℕ) → i < length xs → slice_get (xs ++ ys) i ≡ slice_get xs i
@@ -72,25 +68,7 @@ lexemes_stay files more (span ∷ spans) h =
     ap (λ t. t ∷ map (lexeme_of (files ++ more)) spans) (lexeme_stays files more span h.0.file)
     ∙ ap (λ ts. lexeme_of files span ∷ ts) (lexemes_stay files more spans h.1)
 
--- one more file keeps a unit sound
-pub sound_more : (files : List Source) (spans : List Span) (file : Source) → IsSound files spans → length file.bytes ≤ file_limit → length files < 65536
-    → IsSound (files ++ file ∷ []) spans
-sound_more files spans file sound size few = record {
-  sizes = all_push (λ f. length f.bytes ≤ file_limit) files file sound.sizes size;
-  few = omega (arith, few, length-append files (file ∷ []));
-  short = sound.short;
-  inside = all_map (IsSpan files) (IsSpan (files ++ file ∷ [])) spans (span_stays files (file ∷ [])) sound.inside;
-}
-
 -- the tokens of spans of these files stand in them
 pub stand_in : (files : List Source) (spans : List Span) → AllByRecursion (IsSpan files) spans → AllByRecursion (StandsIn files) (map (lexeme_of files) spans)
 stand_in files [] h = tt
 stand_in files (span ∷ spans) h = (record { file = h.0.file; order = h.0.order; within = h.0.within }, stand_in files spans h.1)
-
--- the tokens of one more span
-pub tokens_more : (files : List Source) (spans : List Span) (made : List Token) (i : ℕ) (d : Span) (t : Token) → i < length spans
-    → map plain made ≡ map (lexeme_of files) (take i spans) → plain t ≡ lexeme_of files (get_or spans i d)
-    → map plain (made ++ t ∷ []) ≡ map (lexeme_of files) (take (i + 1) spans)
-tokens_more files spans made i d t h so is =
-    map-append plain made (t ∷ []) ∙ ap (λ ts. ts ++ plain t ∷ []) so ∙ ap (λ x. map (lexeme_of files) (take i spans) ++ x ∷ []) is
-    ∙ sym (map-append (lexeme_of files) (take i spans) (get_or spans i d ∷ [])) ∙ ap (map (lexeme_of files)) (sym (take_more spans i d h))

@@ -1,19 +1,18 @@
 -- What is answered of a unit, of whichever files.
 use Rattle.std.specs.Prelude.{◌≡◌, ℕ, List, [], ◌∷◌, Some, None, Result, Ok, Err}
-use Rattle.std.specs.FinMap as map
 use Rattle.std.specs.List.{AllByRecursion}
-use Rattle.nwq_outside.specs.Outside.{Contents, FileCounts, NoneRises, FaultsRise, AbsencesRise, LongsRise}
+use Rattle.nwq_outside.specs.Outside.{FileCounts, NoneRises, FaultsRise, AbsencesRise, LongsRise}
 use Rattle.nss_lexer.specs.Splitting.{Lexeme}
 use Rattle.nss_include.specs.declared.fault.GatherFault.{GatherFault}
 use Rattle.nss_include.specs.declared.fault.GatherFault.TheVariants.{Missing, Fault, Long, Bad, Tokens, Include, NoMemory}
 use Rattle.nss_include.specs.declared.file.Source.{Source}
 use Rattle.nss_include.specs.Names.{file_name}
-use Rattle.nss_include.specs.Units.{IsUnit}
+use Rattle.nss_include.specs.Units.{Lookup, IsUnit}
 use Rattle.nss_include.specs.View.{Gathered}
 
 -- each file of the unit has what is under its name
-abbrev pub HoldsFiles : Contents → List Source → Type 0
-HoldsFiles contents files = AllByRecursion (λ f. map.get contents f.name ≡ Some f.bytes) files
+abbrev pub HoldsFiles : Lookup → List Source → Type 0
+HoldsFiles lookup files = AllByRecursion (λ f. lookup f.name ≡ Some f.bytes) files
 
 -- a claim on a fault that is neither want of memory nor a failure of the outside
 abbrev pub Claims : GatherFault → Type 0 → Type 0
@@ -42,6 +41,6 @@ HasScript [] script = ⊥
 HasScript (file ∷ files) script = file.name ≡ file_name script
 
 -- the unit of this script, or its first fault
-abbrev pub Gathers : Contents → List ℕ → Result Gathered GatherFault → Type 0
-Gathers contents script (Ok unit) = IsUnit contents script unit.tokens unit.files None
-Gathers contents script (Err fault) = Claims fault ((tokens : List Lexeme) × (files : List Source) × IsUnit contents script tokens files (Some fault))
+abbrev pub Gathers : Lookup → List ℕ → Result Gathered GatherFault → Type 0
+Gathers lookup script (Ok unit) = IsUnit lookup script unit.tokens unit.files None
+Gathers lookup script (Err fault) = Claims fault ((tokens : List Lexeme) × (files : List Source) × IsUnit lookup script tokens files (Some fault))

@@ -12,9 +12,13 @@ use Rattle.nss_include.specs.declared.fault.Spot.{Spot}
 unfoldable pub file_name : List ℕ → List ℕ
 file_name name = map to_ascii_lowercase name ++ codes ".nss"
 
--- a name that an include may have: 1 to 16 letters, digits and `_`
+-- bytes of the name of an include
+abbrev pub include_name_limit : ℕ
+include_name_limit = 16
+
+-- a name that an include may have: letters, digits and `_`, one at least
 unfoldable pub is_include_name : List ℕ → Bool
-is_include_name name = nat_lt 0 (length name) && nat_le (length name) 16 && list_all is_name_byte name
+is_include_name name = nat_lt 0 (length name) && nat_le (length name) include_name_limit && list_all is_name_byte name
 
 -- a place of a file: the file's name, cut as texts are, the place's line and the place
 abbrev pub spot_in : Source → ℕ → Spot

@@ -12,43 +12,43 @@ use Rattle.nss_include.specs.declared.gatherer.Gatherer.{Gatherer}
 use Rattle.nss_include.specs.declared.step.Step.{Step}
 use Rattle.nss_include.specs.Names.{file_name}
 use Rattle.nss_include.specs.Steps.{IsStep, IsWithin}
-use Rattle.nss_include.specs.Units.{source, HaveDistinctNames}
+use Rattle.nss_include.specs.Units.{Lookup, source, HaveDistinctNames}
 use Rattle.nss_include.specs.View.{Gathered, bytes_of}
-use Rattle.nss_include.specs.Walks.{Lookup, Walks}
+use Rattle.nss_include.specs.Walks.{Walks}
 
 -- what is left to come of open files: up to the end of all, or up to a fault
-pub data Rest (contents : Lookup) : List Open → List Source → ℕ → List Lexeme → List Source → ℕ → Option GatherFault → Type 0 where
-  closed : (files : List Source) (count : ℕ) → Rest contents [] files count [] files count None
+pub data Rest (lookup : Lookup) : List Open → List Source → ℕ → List Lexeme → List Source → ℕ → Option GatherFault → Type 0 where
+  closed : (files : List Source) (count : ℕ) → Rest lookup [] files count [] files count None
   stops : (here : Open) (stack : List Open) (files : List Source) (count : ℕ) (tokens : List Lexeme) (last : List Source) (total : ℕ)
-      (fault : GatherFault) → Walks contents here.file here.at files count tokens last total (Some fault)
-      → Rest contents (here ∷ stack) files count tokens last total (Some fault)
+      (fault : GatherFault) → Walks lookup here.file here.at files count tokens last total (Some fault)
+      → Rest lookup (here ∷ stack) files count tokens last total (Some fault)
   goes : (here : Open) (stack : List Open) (files : List Source) (count : ℕ) (inner : List Lexeme) (between : List Source) (counted : ℕ)
       (tokens : List Lexeme) (last : List Source) (total : ℕ) (ending : Option GatherFault)
-      → Walks contents here.file here.at files count inner between counted None
-      → Rest contents stack between counted tokens last total ending
-      → Rest contents (here ∷ stack) files count (inner ++ tokens) last total ending
+      → Walks lookup here.file here.at files count inner between counted None
+      → Rest lookup stack between counted tokens last total ending
+      → Rest lookup (here ∷ stack) files count (inner ++ tokens) last total ending
 
 -- a reading ends with these tokens, its own among them, and with these files and this count
-pub record Ends (contents : Lookup) (r : Gatherer) (tokens : List Lexeme) (last : List Source) (total : ℕ) (ending : Option GatherFault) : Type 0 where
+pub record Ends (lookup : Lookup) (r : Gatherer) (tokens : List Lexeme) (last : List Source) (total : ℕ) (ending : Option GatherFault) : Type 0 where
   pub left : List Lexeme
   pub parts : tokens ≡ r.unit.tokens ++ left
-  pub rest : Rest contents r.stack r.unit.files r.count left last total ending
+  pub rest : Rest lookup r.stack r.unit.files r.count left last total ending
 
 -- whatever a later reading ends with, the earlier one ends with
 abbrev pub Leads : Lookup → Gatherer → Gatherer → Type 0
-Leads contents old new =
-    (tokens : List Lexeme) (last : List Source) (total : ℕ) (ending : Option GatherFault) → Ends contents new tokens last total ending
-    → Ends contents old tokens last total ending
+Leads lookup old new =
+    (tokens : List Lexeme) (last : List Source) (total : ℕ) (ending : Option GatherFault) → Ends lookup new tokens last total ending
+    → Ends lookup old tokens last total ending
 
 -- where a fault comes of what is under a name, that is so
 abbrev pub Explains : Lookup → GatherFault → Type 0
-Explains contents (Missing name) = contents name ≡ None
-Explains contents (Long name) = IsSomeAnd (contents name) (λ bytes. file_limit < length bytes)
-Explains contents Fault = Unit {0}
-Explains contents (Bad spot) = Unit {0}
-Explains contents (Tokens spot) = Unit {0}
-Explains contents (Include spot) = Unit {0}
-Explains contents NoMemory = Unit {0}
+Explains lookup (Missing name) = lookup name ≡ None
+Explains lookup (Long name) = IsSomeAnd (lookup name) (λ bytes. file_limit < length bytes)
+Explains lookup Fault = Unit {0}
+Explains lookup (Bad spot) = Unit {0}
+Explains lookup (Tokens spot) = Unit {0}
+Explains lookup (Include spot) = Unit {0}
+Explains lookup NoMemory = Unit {0}
 
 -- an open file is one of these, and goes on inside it
 pub record IsOpen (files : List Source) (here : Open) : Type 0 where
@@ -85,7 +85,7 @@ pub record HasStep (r : Gatherer) (here : Open) (s : Step) : Type 0 where
 
 -- a reading ends with this fault and what it has so far
 abbrev pub Stops : Lookup → Gatherer → GatherFault → Type 0
-Stops contents r fault = Ends contents r r.unit.tokens r.unit.files r.count (Some fault)
+Stops lookup r fault = Ends lookup r r.unit.tokens r.unit.files r.count (Some fault)
 
 -- the unit has one more file, of this name and of no more bytes than a file has
 pub record Opens (old new : Gathered) (name : List ℕ) : Type 0 where
@@ -95,7 +95,7 @@ pub record Opens (old new : Gathered) (name : List ℕ) : Type 0 where
 
 -- the file that the unit has more is what is under its name
 abbrev pub Opened : Lookup → Gathered → Gathered → List ℕ → Type 0
-Opened contents old new name = (opens : Opens old new name) × (contents name ≡ Some opens.bytes)
+Opened lookup old new name = (opens : Opens old new name) × (lookup name ≡ Some opens.bytes)
 
 -- a fault of reading this name
 abbrev pub IsReadFault : List ℕ → GatherFault → Type 0
@@ -109,13 +109,13 @@ IsReadFault name NoMemory = Unit {0}
 
 -- where a fault of reading this name comes of what is under it, that is so
 abbrev pub ExplainsRead : Lookup → List ℕ → GatherFault → Type 0
-ExplainsRead contents name (Missing given) = contents name ≡ None
-ExplainsRead contents name (Long given) = IsSomeAnd (contents name) (λ bytes. file_limit < length bytes)
-ExplainsRead contents name Fault = Unit {0}
-ExplainsRead contents name (Bad spot) = Unit {0}
-ExplainsRead contents name (Tokens spot) = Unit {0}
-ExplainsRead contents name (Include spot) = Unit {0}
-ExplainsRead contents name NoMemory = Unit {0}
+ExplainsRead lookup name (Missing given) = lookup name ≡ None
+ExplainsRead lookup name (Long given) = IsSomeAnd (lookup name) (λ bytes. file_limit < length bytes)
+ExplainsRead lookup name Fault = Unit {0}
+ExplainsRead lookup name (Bad spot) = Unit {0}
+ExplainsRead lookup name (Tokens spot) = Unit {0}
+ExplainsRead lookup name (Include spot) = Unit {0}
+ExplainsRead lookup name NoMemory = Unit {0}
 
 -- a directive behind which the file goes on was passed
 abbrev pub passed : Gatherer → Open → ℕ → Gatherer
@@ -138,11 +138,11 @@ IsOwnFault (Include spot) = ⊥
 IsOwnFault NoMemory = Unit {0}
 
 -- from here a reading comes to this fault
-pub record ComesTo (contents : Lookup) (r : Gatherer) (fault : GatherFault) : Type 0 where
+pub record ComesTo (lookup : Lookup) (r : Gatherer) (fault : GatherFault) : Type 0 where
   pub tokens : List Lexeme
   pub last : List Source
   pub total : ℕ
-  pub ends : Ends contents r tokens last total (Some fault)
+  pub ends : Ends lookup r tokens last total (Some fault)
 
 -- a reading that begins with the file of a script
 pub record Begins (r : Gatherer) (script : List ℕ) : Type 0 where

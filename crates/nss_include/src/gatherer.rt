@@ -3,12 +3,11 @@ ghost use Rattle.std.specs.FinMap as map;
 ghost use Rattle.std.specs.String.{string_bytes};
 ghost use Rattle.std.specs.Str.{IsUtf8};
 ghost use Rattle.nwq_value.specs.Limits.{token_limit};
-ghost use Rattle.nwq_outside.specs.Outside.{Contents, file_counts};
+ghost use Rattle.nwq_outside.specs.Outside.{file_counts};
 ghost use Rattle.nss_include.specs.declared.step.Step.TheVariants as step;
 ghost use Rattle.nss_include.specs.Names.{file_name};
-ghost use Rattle.nss_include.specs.Units.{IsUnit, HaveDistinctNames};
+ghost use Rattle.nss_include.specs.Units.{Lookup, IsUnit, HaveDistinctNames};
 ghost use Rattle.nss_include.specs.Gather.{CountsGathered, HoldsFiles, Claims, HasScript, Gathers};
-ghost use Rattle.nss_include.specs.Walks.{Lookup, HoldsAll};
 ghost use Rattle.nss_include.specs.Progress.{Opens, Opened, Extends, IsReadFault, ExplainsRead, IsOwnFault, Begins, ComesTo};
 
 use crate::fault::GatherFault;
@@ -87,13 +86,13 @@ impl Gatherer {
         requires ready { IsReady (reopened here self.old) }
         requires step { HasStep self.old here (step.Gives span) }
         ensures ready { OnOk result (IsReady self.new) }
-        ensures leads { OnOk result ((contents : Lookup)
-            → Leads contents (reopened here self.old) self.new) }
+        ensures leads { OnOk result ((lookup : Lookup)
+            → Leads lookup (reopened here self.old) self.new) }
         ensures falls { OnOk result (steps_left self.new < steps_left (reopened here self.old)) }
         ensures files { self.new.unit.files ≡ self.old.unit.files }
         ensures own { IfErr result IsOwnFault }
-        ensures stops { IfErr result (λ fault. Claims fault ((contents : Lookup)
-            → Stops contents (reopened here self.old) fault)) }
+        ensures stops { IfErr result (λ fault. Claims fault ((lookup : Lookup)
+            → Stops lookup (reopened here self.old) fault)) }
     {
         if self.count == MOST_TOKENS {
             return Err(GatherFault::Tokens(self.unit.spot(alloc, here.file, span.start)?));
@@ -166,18 +165,18 @@ impl Gatherer {
         requires ready { IsReady (reopened here self.old) }
         requires step { HasStep self.old here (step.Mentions hash name.now after) }
         ensures ready { OnOk result (IsReady self.new) }
-        ensures leads { OnOk result ((contents : Lookup)
-            → HoldsAll contents self.new.unit.files
-            → Leads contents (reopened here self.old) self.new) }
-        ensures keeps { OnOk result ((contents : Lookup)
-            → HoldsAll contents self.new.unit.files → HoldsAll contents self.old.unit.files) }
+        ensures leads { OnOk result ((lookup : Lookup)
+            → HoldsFiles lookup self.new.unit.files
+            → Leads lookup (reopened here self.old) self.new) }
+        ensures keeps { OnOk result ((lookup : Lookup)
+            → HoldsFiles lookup self.new.unit.files → HoldsFiles lookup self.old.unit.files) }
         ensures grows { OnOk result (Extends self.old.unit.files self.new.unit.files) }
         ensures falls { OnOk result (steps_left self.new < steps_left (reopened here self.old)) }
-        ensures holds { IsTrue F.tells → OnOk result (HoldsAll
-            (map.get (F.contents files.old)) self.old.unit.files → HoldsAll
+        ensures holds { IsTrue F.tells → OnOk result (HoldsFiles
+            (map.get (F.contents files.old)) self.old.unit.files → HoldsFiles
             (map.get (F.contents files.old)) self.new.unit.files) }
-        ensures stops { IfErr result (λ fault. Claims fault ((contents : Lookup)
-            → Explains contents fault → Stops contents (reopened here self.old) fault)) }
+        ensures stops { IfErr result (λ fault. Claims fault ((lookup : Lookup)
+            → Explains lookup fault → Stops lookup (reopened here self.old) fault)) }
         ensures told { IsTrue F.tells → IfErr result (Explains (map.get (F.contents files.old))) }
 
         ensures same { F.contents files.new ≡ F.contents files.old }
@@ -219,18 +218,18 @@ impl Gatherer {
     ) -> Result<(), GatherFault>
         requires { IsReady (reopened here self.old) }
         ensures ready { OnOk result (IsReady self.new) }
-        ensures leads { OnOk result ((contents : Lookup)
-            → HoldsAll contents self.new.unit.files
-            → Leads contents (reopened here self.old) self.new) }
-        ensures keeps { OnOk result ((contents : Lookup)
-            → HoldsAll contents self.new.unit.files → HoldsAll contents self.old.unit.files) }
+        ensures leads { OnOk result ((lookup : Lookup)
+            → HoldsFiles lookup self.new.unit.files
+            → Leads lookup (reopened here self.old) self.new) }
+        ensures keeps { OnOk result ((lookup : Lookup)
+            → HoldsFiles lookup self.new.unit.files → HoldsFiles lookup self.old.unit.files) }
         ensures grows { OnOk result (Extends self.old.unit.files self.new.unit.files) }
         ensures falls { OnOk result (steps_left self.new < steps_left (reopened here self.old)) }
-        ensures holds { IsTrue F.tells → OnOk result (HoldsAll
-            (map.get (F.contents files.old)) self.old.unit.files → HoldsAll
+        ensures holds { IsTrue F.tells → OnOk result (HoldsFiles
+            (map.get (F.contents files.old)) self.old.unit.files → HoldsFiles
             (map.get (F.contents files.old)) self.new.unit.files) }
-        ensures stops { IfErr result (λ fault. Claims fault ((contents : Lookup)
-            → Explains contents fault → Stops contents (reopened here self.old) fault)) }
+        ensures stops { IfErr result (λ fault. Claims fault ((lookup : Lookup)
+            → Explains lookup fault → Stops lookup (reopened here self.old) fault)) }
         ensures told { IsTrue F.tells → IfErr result (Explains (map.get (F.contents files.old))) }
 
         ensures same { F.contents files.new ≡ F.contents files.old }
@@ -260,17 +259,17 @@ impl Gatherer {
     /// Reads all open files to their ends.
     fn run<F: Files>(&mut self, alloc: Global, files: &mut F) -> Result<(), GatherFault>
         requires { IsReady self.old }
-        ensures whole { OnOk result ((contents : Lookup)
-            → HoldsAll contents self.new.unit.files
-            → Ends contents self.old self.new.unit.tokens self.new.unit.files self.new.count None) }
-        ensures keeps { OnOk result ((contents : Lookup)
-            → HoldsAll contents self.new.unit.files → HoldsAll contents self.old.unit.files) }
+        ensures whole { OnOk result ((lookup : Lookup)
+            → HoldsFiles lookup self.new.unit.files
+            → Ends lookup self.old self.new.unit.tokens self.new.unit.files self.new.count None) }
+        ensures keeps { OnOk result ((lookup : Lookup)
+            → HoldsFiles lookup self.new.unit.files → HoldsFiles lookup self.old.unit.files) }
         ensures grows { OnOk result (Extends self.old.unit.files self.new.unit.files) }
         ensures distinct { OnOk result (HaveDistinctNames self.new.unit.files) }
-        ensures holds { IsTrue F.tells → HoldsAll
-            (map.get (F.contents files.old)) self.old.unit.files → OnOk result (HoldsAll
+        ensures holds { IsTrue F.tells → HoldsFiles
+            (map.get (F.contents files.old)) self.old.unit.files → OnOk result (HoldsFiles
             (map.get (F.contents files.old)) self.new.unit.files) }
-        ensures stops { IsTrue F.tells → HoldsAll
+        ensures stops { IsTrue F.tells → HoldsFiles
             (map.get (F.contents files.old)) self.old.unit.files → IfErr result
             (λ fault. Claims fault (ComesTo (map.get (F.contents files.old)) self.old fault)) }
 
@@ -292,7 +291,7 @@ impl Gatherer {
 /// Begins to gather the unit of a script with its file.
 fn begin<F: Files>(alloc: Global, files: &mut F, script: &str) -> Result<Gatherer, GatherFault>
     ensures begins { IfOk result (λ gatherer. Begins gatherer script.now) }
-    ensures holds { IsTrue F.tells → IfOk result (λ gatherer. HoldsAll
+    ensures holds { IsTrue F.tells → IfOk result (λ gatherer. HoldsFiles
         (map.get (F.contents files.old)) gatherer.unit.files) }
     ensures fault { IfErr result (IsReadFault (file_name script.now)) }
     ensures told { IsTrue F.tells → IfErr result (ExplainsRead
@@ -322,11 +321,11 @@ fn begin<F: Files>(alloc: Global, files: &mut F, script: &str) -> Result<Gathere
 /// but that of the answer.
 pub fn gather<F: Files>(alloc: Global, files: &mut F, name: &str) -> Result<Unit, GatherFault>
     // The unit is that of its files, whatever else there is.
-    ensures unit { IfOk result (λ unit. (contents : Contents) → HoldsFiles contents unit.files
-        → IsUnit contents name.now unit.tokens unit.files None) }
+    ensures unit { IfOk result (λ unit. (lookup : Lookup) → HoldsFiles lookup unit.files
+        → IsUnit lookup name.now unit.tokens unit.files None) }
     ensures script { IfOk result (λ unit. HasScript unit.files name.now) }
     ensures distinct { IfOk result (λ unit. HaveDistinctNames unit.files) }
-    ensures told { IsTrue F.tells → Gathers (F.contents files.old) name.now result }
+    ensures told { IsTrue F.tells → Gathers (map.get (F.contents files.old)) name.now result }
     ensures same { F.contents files.new ≡ F.contents files.old }
     ensures counts { CountsGathered result
         (file_counts (F.faults files.old) (F.absences files.old) (F.longs files.old))

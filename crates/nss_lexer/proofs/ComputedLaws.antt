@@ -3,7 +3,7 @@ use Rattle.std.proofs.Common.{◌≡◌, ℕ, zero, suc, ◌+◌, ◌≤◌, Boo
 use Rattle.std.specs.Option.{option_map}
 use Rattle.std.proofs.lemmas.Option.{same_Some, none-some}
 use Rattle.std.proofs.lemmas.Grind.{common_steps}
-use Rattle.nss_lexer.specs.declared.scan.Front.{Front}
+use Rattle.nss_lexer.specs.declared.scan.Scanned.{Scanned}
 use Rattle.nss_lexer.specs.Computed.{lexeme_of, tokens_by, tokens_after, tokens_in, ComputedAreTokens}
 use Rattle.nss_lexer.specs.Reading.{pass, lexeme}
 use Rattle.nss_lexer.specs.Splitting.{Lexeme, Begins, IsFirstToken, Skips, Gap, Splits, begins_comment, nothing, more as more_gap, whole, broken, token}
@@ -26,7 +26,7 @@ gap_before all at from ts ending none before skips (token q t us e h rest) =
       file = h.file;
     }) rest
 
-first_token : (all : List ℕ) (at : ℕ) (bytes : List ℕ) (f : Front) → bytes ≡ drop at all → begins_comment bytes ≡ false → lexeme bytes ≡ Some f
+first_token : (all : List ℕ) (at : ℕ) (bytes : List ℕ) (f : Scanned) → bytes ≡ drop at all → begins_comment bytes ≡ false → lexeme bytes ≡ Some f
     → IsFirstToken all 0 at (lexeme_of bytes at f)
 first_token all at bytes f is plain found =
     let begins = lexeme_begins bytes f plain found in
@@ -47,7 +47,7 @@ mapped : (x : Lexeme) (o : Option (List Lexeme)) (ts : List Lexeme) (P : List Le
 mapped x None ts P e h = absurd (none-some ts e)
 mapped x (Some us) ts P e h = subst P (same_Some (x ∷ us) ts e) (h us refl)
 
-token_right : (all : List ℕ) (at : ℕ) (bytes : List ℕ) (ts : List Lexeme) (plain : Bool) (o : Option Front) (on : ℕ → Option (List Lexeme)) → bytes ≡ drop at all
+token_right : (all : List ℕ) (at : ℕ) (bytes : List ℕ) (ts : List Lexeme) (plain : Bool) (o : Option Scanned) (on : ℕ → Option (List Lexeme)) → bytes ≡ drop at all
     → begins_comment bytes ≡ plain → lexeme bytes ≡ o
     → ((m : ℕ) (us : List Lexeme) → on m ≡ Some us → Splits all 0 (at + m) us None) → tokens_by plain bytes at o on ≡ Some ts → Splits all 0 at ts None
 token_right all at bytes ts true o on is c l more e = absurd (none-some ts e)

@@ -3,19 +3,19 @@
 use Rattle.std.specs.Prelude.{Some, None, codes}
 use Rattle.std.proofs.Common.{◌≡◌, [], ◌∷◌, refl}
 use Rattle.nss_lexer.specs.declared.token.Kind.TheVariants.{Name, Word, Int, Float, Sign}
-use Rattle.nss_lexer.specs.Reading.{front, form, lexeme, pass}
+use Rattle.nss_lexer.specs.Reading.{scanned, form, lexeme, pass}
 use Rattle.nss_lexer.specs.Lexemes.{is_word}
 use Rattle.nss_lexer.specs.Strings.{string_value}
 
-prefix_without_digits : lexeme (codes "0x") ≡ Some (front (Int 0) 1)
+prefix_without_digits : lexeme (codes "0x") ≡ Some (scanned (Int 0) 1)
 unfolding form
 prefix_without_digits = refl
 
-hexadecimal : lexeme (codes "0xFFg") ≡ Some (front (Int 255) 4)
+hexadecimal : lexeme (codes "0xFFg") ≡ Some (scanned (Int 255) 4)
 unfolding form
 hexadecimal = refl
 
-greatest_int : lexeme (codes "4294967295") ≡ Some (front (Int 4294967295) 10)
+greatest_int : lexeme (codes "4294967295") ≡ Some (scanned (Int 4294967295) 10)
 unfolding form
 greatest_int = refl
 
@@ -23,15 +23,15 @@ too_great : lexeme (codes "4294967296") ≡ None
 unfolding form
 too_great = refl
 
-floats : (lexeme (codes "5f") ≡ Some (front Float 2)) × (lexeme (codes "1.f") ≡ Some (front Float 3)) × (lexeme (codes ".5") ≡ Some (front Float 2)) × (lexeme (codes "4294967296.") ≡ Some (front Float 11))
+floats : (lexeme (codes "5f") ≡ Some (scanned Float 2)) × (lexeme (codes "1.f") ≡ Some (scanned Float 3)) × (lexeme (codes ".5") ≡ Some (scanned Float 2)) × (lexeme (codes "4294967296.") ≡ Some (scanned Float 11))
 unfolding form
 floats = (refl, refl, refl, refl)
 
-longest_sign : (lexeme (codes ">>>=") ≡ Some (front Sign 4)) × (lexeme (codes "..") ≡ Some (front Sign 1))
+longest_sign : (lexeme (codes ">>>=") ≡ Some (scanned Sign 4)) × (lexeme (codes "..") ≡ Some (scanned Sign 1))
 unfolding form
 longest_sign = (refl, refl)
 
-word_or_name : (lexeme (codes "while") ≡ Some (front Word 5)) × (lexeme (codes "while1") ≡ Some (front Name 6))
+word_or_name : (lexeme (codes "while") ≡ Some (scanned Word 5)) × (lexeme (codes "while1") ≡ Some (scanned Name 6))
 unfolding form is_word
 word_or_name = (refl, refl)
 

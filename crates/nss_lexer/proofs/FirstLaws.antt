@@ -7,11 +7,11 @@ use Rattle.std.proofs.lemmas.List.{take-append-drop, length-drop, drop-drop}
 use Rattle.std.proofs.lemmas.Bool.{cases_Bool, and_cases, or_parts, false≢true, cond-true, cond-false, leb-true, le-leb, ltb-true, lt-ltb, not-true}
 use Rattle.nss_lexer.specs.declared.token.Kind.{Kind}
 use Rattle.nss_lexer.specs.declared.token.Kind.TheVariants.{Name, Word, Int, Float, Text, Sign}
-use Rattle.nss_lexer.specs.declared.scan.Front.{Front}
+use Rattle.nss_lexer.specs.declared.scan.Scanned.{Scanned}
 use Rattle.nss_lexer.specs.Bytes.{is_blank, is_letter, is_decimal}
 use Rattle.nss_lexer.specs.Lexemes.{HasForm, IsWithin, signs}
 use Rattle.nss_lexer.specs.Splitting.{Skips, Gap, nothing, more, begins_comment, Begins, IsStuck, Lexeme, First, Found, AtEnd, BadAt, IsFirst, IsFirstToken, IsFirstBad, Splits, whole, broken, token}
-use Rattle.nss_lexer.specs.Reading.{front, limited, within, form, lexeme, comment, pass, first_front}
+use Rattle.nss_lexer.specs.Reading.{scanned, limited, within, form, lexeme, comment, pass, first_prefix}
 use Rattle.nss_lexer.proofs.FormLaws.{AtLeast, reads, any_passes, form_sign}
 use Rattle.nss_lexer.proofs.FoundLaws.{IsFound, IsFoundIf, form_found, length_taken, first_found, signs_some}
 use Rattle.nss_lexer.proofs.GapLaws.{skips_passed, pass_skips}
@@ -22,58 +22,58 @@ none_some x e = cc
 some_same : {A : Type 0} (x y : A) → Some x ≡ Some y → y ≡ x
 some_same x y e = cc
 
-same_front : (kind other : Kind) (m n : ℕ) → Some (front kind m) ≡ Some (front other n) → (kind ≡ other) × (m ≡ n)
-same_front kind other m n e =
-    let fronts : front other n ≡ front kind m = some_same (front kind m) (front other n) e in
-    (sym (ap (λ (f : Front). f.kind) fronts), sym (ap (λ (f : Front). f.length) fronts))
+same_scanned : (kind other : Kind) (m n : ℕ) → Some (scanned kind m) ≡ Some (scanned other n) → (kind ≡ other) × (m ≡ n)
+same_scanned kind other m n e =
+    let scans : scanned other n ≡ scanned kind m = some_same (scanned kind m) (scanned other n) e in
+    (sym (ap (λ (f : Scanned). f.kind) scans), sym (ap (λ (f : Scanned). f.length) scans))
 
 -- ---- the limits
 
-limited_within : (kind : Kind) (text : List ℕ) (n : ℕ) → length text ≡ n → IsWithin kind text → limited kind n ≡ Some (front kind n)
+limited_within : (kind : Kind) (text : List ℕ) (n : ℕ) → length text ≡ n → IsWithin kind text → limited kind n ≡ Some (scanned kind n)
 limited_within Name text n size h = cond-true (nat_le n 255) _ _ (le-leb n 255 (omega (arith, size, h)))
-limited_within (Int v) text n size h = ap (option_map (λ w. front (Int w) n)) (cond-true (nat_lt v (2 ^ 32)) (Some v) None (lt-ltb v (2 ^ 32) h))
+limited_within (Int v) text n size h = ap (option_map (λ w. scanned (Int w) n)) (cond-true (nat_lt v (2 ^ 32)) (Some v) None (lt-ltb v (2 ^ 32) h))
 limited_within Word text n size h = refl
 limited_within Float text n size h = refl
 limited_within Text text n size h = refl
 limited_within Sign text n size h = refl
 
-record Limits (kind : Kind) (text : List ℕ) (n : ℕ) (f : Front) : Type 0 where
-  pub is : f ≡ front kind n
+record Limits (kind : Kind) (text : List ℕ) (n : ℕ) (f : Scanned) : Type 0 where
+  pub is : f ≡ scanned kind n
   pub fits : IsWithin kind text
 
-within_limited : (kind : Kind) (text : List ℕ) (n : ℕ) (f : Front) → length text ≡ n → limited kind n ≡ Some f → Limits kind text n f
+within_limited : (kind : Kind) (text : List ℕ) (n : ℕ) (f : Scanned) → length text ≡ n → limited kind n ≡ Some f → Limits kind text n f
 within_limited Name text n f size h =
     ⊎_elim
     (λ fits. record {
-      is = some_same (front Name n) f (sym (cond-true (nat_le n 255) (Some (front Name n)) None fits) ∙ h);
+      is = some_same (scanned Name n) f (sym (cond-true (nat_le n 255) (Some (scanned Name n)) None fits) ∙ h);
       fits = omega (arith, size, leb-true n 255 fits);
     })
-    (λ over. absurd (none_some f (sym (cond-false (nat_le n 255) (Some (front Name n)) None over) ∙ h)))
+    (λ over. absurd (none_some f (sym (cond-false (nat_le n 255) (Some (scanned Name n)) None over) ∙ h)))
     (cases_Bool (nat_le n 255))
 within_limited (Int v) text n f size h =
     ⊎_elim
     (λ fits. record {
-      is = some_same (front (Int v) n) f (sym (ap (option_map (λ w. front (Int w) n)) (cond-true (nat_lt v (2 ^ 32)) (Some v) None fits)) ∙ h);
+      is = some_same (scanned (Int v) n) f (sym (ap (option_map (λ w. scanned (Int w) n)) (cond-true (nat_lt v (2 ^ 32)) (Some v) None fits)) ∙ h);
       fits = ltb-true v (2 ^ 32) fits;
     })
-    (λ over. absurd (none_some f (sym (ap (option_map (λ w. front (Int w) n)) (cond-false (nat_lt v (2 ^ 32)) (Some v) None over)) ∙ h)))
+    (λ over. absurd (none_some f (sym (ap (option_map (λ w. scanned (Int w) n)) (cond-false (nat_lt v (2 ^ 32)) (Some v) None over)) ∙ h)))
     (cases_Bool (nat_lt v (2 ^ 32)))
-within_limited Word text n f size h = record { is = some_same (front Word n) f h; fits = tt }
-within_limited Float text n f size h = record { is = some_same (front Float n) f h; fits = tt }
-within_limited Text text n f size h = record { is = some_same (front Text n) f h; fits = tt }
-within_limited Sign text n f size h = record { is = some_same (front Sign n) f h; fits = tt }
+within_limited Word text n f size h = record { is = some_same (scanned Word n) f h; fits = tt }
+within_limited Float text n f size h = record { is = some_same (scanned Float n) f h; fits = tt }
+within_limited Text text n f size h = record { is = some_same (scanned Text n) f h; fits = tt }
+within_limited Sign text n f size h = record { is = some_same (scanned Sign n) f h; fits = tt }
 
 -- ---- the token that begins the bytes
 
-reads_front : (bytes : List ℕ) (kind : Kind) (k : ℕ) → k ≤ length bytes → HasForm kind (take k bytes) → AtLeast kind k (form bytes)
-reads_front bytes kind k fits h =
+reads_prefix : (bytes : List ℕ) (kind : Kind) (k : ℕ) → k ≤ length bytes → HasForm kind (take k bytes) → AtLeast kind k (form bytes)
+reads_prefix bytes kind k fits h =
     subst (λ m. AtLeast kind m (form bytes)) (length_taken k bytes fits)
     (subst (λ t. AtLeast kind (length (take k bytes)) (form t)) (take-append-drop k bytes) (reads kind (take k bytes) (drop k bytes) h))
 
-abbrev pub BeginsAs : List ℕ → Front → Type 0
+abbrev pub BeginsAs : List ℕ → Scanned → Type 0
 BeginsAs bytes f = (0 < f.length) × (f.length ≤ length bytes) × Begins bytes f.kind (take f.length bytes)
 
-begins_at : (bytes : List ℕ) (g f : Front) → begins_comment bytes ≡ false → form bytes ≡ Some g → limited g.kind g.length ≡ Some f
+begins_at : (bytes : List ℕ) (g f : Scanned) → begins_comment bytes ≡ false → form bytes ≡ Some g → limited g.kind g.length ≡ Some f
     → BeginsAs bytes f
 begins_at bytes g f plain is fits =
     let found : IsFound bytes g = subst (IsFoundIf bytes) is (form_found bytes) in
@@ -83,37 +83,37 @@ begins_at bytes g f plain is fits =
       found.some,
       found.within,
       record {
-        front = ap (λ n. take n bytes) (sym size);
+        prefix = ap (λ n. take n bytes) (sym size);
         lexeme = (found.has, limits.fits);
         longest = λ other k inside h.
-            let least = (subst (AtLeast other k) is (reads_front bytes other k inside h)).0 in omega (arith, least, size);
+            let least = (subst (AtLeast other k) is (reads_prefix bytes other k inside h)).0 in omega (arith, least, size);
         no_comment = plain;
       },
     )
 
-begins_from : (bytes : List ℕ) (f : Front) (o : Option Front) → begins_comment bytes ≡ false → form bytes ≡ o → option_and_then within o ≡ Some f
+begins_from : (bytes : List ℕ) (f : Scanned) (o : Option Scanned) → begins_comment bytes ≡ false → form bytes ≡ o → option_and_then within o ≡ Some f
     → BeginsAs bytes f
 begins_from bytes f None plain is h = absurd (none_some f h)
 begins_from bytes f (Some g) plain is h = begins_at bytes g f plain is h
 
-pub lexeme_begins : (bytes : List ℕ) (f : Front) → begins_comment bytes ≡ false → lexeme bytes ≡ Some f → BeginsAs bytes f
+pub lexeme_begins : (bytes : List ℕ) (f : Scanned) → begins_comment bytes ≡ false → lexeme bytes ≡ Some f → BeginsAs bytes f
 lexeme_begins bytes f plain h = begins_from bytes f (form bytes) plain refl h
 
-lexeme_at : (bytes : List ℕ) (kind : Kind) (text : List ℕ) (o : Option Front) → Begins bytes kind text → form bytes ≡ o → AtLeast kind (length text) o
-    → option_and_then within o ≡ Some (front kind (length text))
+lexeme_at : (bytes : List ℕ) (kind : Kind) (text : List ℕ) (o : Option Scanned) → Begins bytes kind text → form bytes ≡ o → AtLeast kind (length text) o
+    → option_and_then within o ≡ Some (scanned kind (length text))
 lexeme_at bytes kind text None b is least = absurd least
 lexeme_at bytes kind text (Some g) b is least =
     let found : IsFound bytes g = subst (IsFoundIf bytes) is (form_found bytes) in
     let most : g.length ≤ length text = b.longest g.kind g.length found.within found.has in
     let same : length text ≡ g.length = omega (arith, least.0, most) in
     let kinds : kind ≡ g.kind = least.1 same in
-    let at : limited kind (length text) ≡ Some (front kind (length text)) = limited_within kind text (length text) refl b.lexeme.1 in
+    let at : limited kind (length text) ≡ Some (scanned kind (length text)) = limited_within kind text (length text) refl b.lexeme.1 in
     ap (λ k. limited k g.length) (sym kinds) ∙ ap (limited kind) (sym same) ∙ at
 
-pub begins_lexeme : (bytes : List ℕ) (kind : Kind) (text : List ℕ) → Begins bytes kind text → lexeme bytes ≡ Some (front kind (length text))
+pub begins_lexeme : (bytes : List ℕ) (kind : Kind) (text : List ℕ) → Begins bytes kind text → lexeme bytes ≡ Some (scanned kind (length text))
 begins_lexeme bytes kind text b =
     let whole : text ++ drop (length text) bytes ≡ bytes =
-    ap (λ t. t ++ drop (length text) bytes) b.front ∙ take-append-drop (length text) bytes in
+    ap (λ t. t ++ drop (length text) bytes) b.prefix ∙ take-append-drop (length text) bytes in
     lexeme_at bytes kind text (form bytes) b refl
     (subst (λ t. AtLeast kind (length text) (form t)) whole (reads kind text (drop (length text) bytes) b.lexeme.0))
 
@@ -125,7 +125,7 @@ stuck_from bytes some no_pass why = record {
   no_gap = λ after skips. let p = skips_passed bytes after skips in none_some p.count (sym no_pass ∙ p.found);
   no_token = λ kind text b. ⊎_elim
       (λ comment. false≢true (sym b.no_comment ∙ comment))
-      (λ none. none_some (front kind (length text)) (sym none ∙ begins_lexeme bytes kind text b))
+      (λ none. none_some (scanned kind (length text)) (sym none ∙ begins_lexeme bytes kind text b))
       why;
 }
 
@@ -169,28 +169,28 @@ blank_no_quote b h = grind arith
 blank_no_point : (b : ℕ) → is_blank b ≡ true → (b == 46) ≡ false
 blank_no_point b h = grind arith
 
-no_sign_blank : (b : ℕ) (bytes : List ℕ) (n : ℕ) → is_blank b ≡ true → first_front signs (b ∷ bytes) ≡ Some n → ⊥
+no_sign_blank : (b : ℕ) (bytes : List ℕ) (n : ℕ) → is_blank b ≡ true → first_prefix signs (b ∷ bytes) ≡ Some n → ⊥
 no_sign_blank b bytes zero h is = let f = first_found signs (b ∷ bytes) 0 signs_some is in omega (arith, f.some)
 no_sign_blank b bytes (suc n) h is =
     let f = first_found signs (b ∷ bytes) (suc n) signs_some is in
     let black = not-true (is_blank b) (any_passes (λ s. not (is_blank (slice_index s 0))) (b ∷ take n bytes) signs f.among sign_begins_black) in
     false≢true (sym black ∙ h)
 
-blank_sign : (b : ℕ) (bytes : List ℕ) (o : Option ℕ) → is_blank b ≡ true → first_front signs (b ∷ bytes) ≡ o → o ≡ None
+blank_sign : (b : ℕ) (bytes : List ℕ) (o : Option ℕ) → is_blank b ≡ true → first_prefix signs (b ∷ bytes) ≡ o → o ≡ None
 blank_sign b bytes None h is = refl
 blank_sign b bytes (Some n) h is = absurd (no_sign_blank b bytes n h is)
 
 blank_form : (b : ℕ) (bytes : List ℕ) → is_blank b ≡ true → form (b ∷ bytes) ≡ None
 blank_form b bytes h =
     form_sign (b ∷ bytes) (blank_no_letter b h) (blank_no_decimal b h) (ap (λ x. x && is_decimal (slice_index bytes 0)) (blank_no_point b h)) (blank_no_quote b h)
-    ∙ ap (option_map (front Sign)) (blank_sign b bytes (first_front signs (b ∷ bytes)) h refl)
+    ∙ ap (option_map (scanned Sign)) (blank_sign b bytes (first_prefix signs (b ∷ bytes)) h refl)
 
 pub begins_pass : (bytes : List ℕ) (kind : Kind) (text : List ℕ) → Begins bytes kind text → pass bytes ≡ None
 unfolding pass
 begins_pass [] kind text b = refl
 begins_pass (c ∷ bytes) kind text b =
     ⊎_elim
-    (λ blank. absurd (none_some (front kind (length text)) (sym (ap (option_and_then within) (blank_form c bytes blank)) ∙ begins_lexeme (c ∷ bytes) kind text b)))
+    (λ blank. absurd (none_some (scanned kind (length text)) (sym (ap (option_and_then within) (blank_form c bytes blank)) ∙ begins_lexeme (c ∷ bytes) kind text b)))
     (λ black. cond-false (is_blank c) (Some 1) (comment (c ∷ bytes)) black ∙ no_comment (c ∷ bytes) b.no_comment)
     (cases_Bool (is_blank c))
 
@@ -251,20 +251,20 @@ one_token : (bytes : List ℕ) (file at : ℕ) (t u : Lexeme) → IsFirstToken b
 one_token bytes file at t u h k =
     let rests : drop t.start bytes ≡ drop u.start bytes = one_stop bytes at _ _ (token_stop bytes file at t h) (token_stop bytes file at u k) in
     let starts : t.start ≡ u.start = same_place bytes t.start u.start (omega (arith, h.last, h.within)) (omega (arith, k.last, k.within)) rests in
-    let fronts = same_front t.kind u.kind (length t.text) (length u.text)
+    let scans = same_scanned t.kind u.kind (length t.text) (length u.text)
     (sym (begins_lexeme (drop t.start bytes) t.kind t.text h.begins) ∙ ap lexeme rests
     ∙ begins_lexeme (drop u.start bytes) u.kind u.text k.begins) in
     let texts : t.text ≡ u.text =
-    h.begins.front ∙ ap (λ n. take n (drop t.start bytes)) fronts.1 ∙ ap (λ r. take (length u.text) r) rests ∙ sym k.begins.front in
+    h.begins.prefix ∙ ap (λ n. take n (drop t.start bytes)) scans.1 ∙ ap (λ r. take (length u.text) r) rests ∙ sym k.begins.prefix in
     same_lexeme t.kind u.kind t.text u.text t.file u.file t.start u.start t.end u.end
-    fronts.0 texts (h.file ∙ sym k.file) starts (h.last ∙ ap (λ n. n + length t.text) starts ∙ ap (λ n. u.start + n) fronts.1 ∙ sym k.last)
+    scans.0 texts (h.file ∙ sym k.file) starts (h.last ∙ ap (λ n. n + length t.text) starts ∙ ap (λ n. u.start + n) scans.1 ∙ sym k.last)
 
 lexeme_nil : lexeme [] ≡ None
 unfolding form
 lexeme_nil = refl
 
 nothing_begins : (kind : Kind) (text : List ℕ) → Begins [] kind text → ⊥
-nothing_begins kind text b = none_some (front kind (length text)) (sym lexeme_nil ∙ begins_lexeme [] kind text b)
+nothing_begins kind text b = none_some (scanned kind (length text)) (sym lexeme_nil ∙ begins_lexeme [] kind text b)
 
 no_end : (bytes : List ℕ) (file at : ℕ) (t : Lexeme) → IsFirstToken bytes file at t → Gap (drop at bytes) [] → ⊥
 no_end bytes file at t h k =
@@ -333,10 +333,10 @@ gap_further bytes at place n gap is =
     subst (Gap (drop at bytes)) (drop-drop n place bytes)
     (gap_snoc (drop at bytes) (drop place bytes) (drop n (drop place bytes)) gap (pass_skips (drop place bytes) n is))
 
-pub front_stuck : (bytes : List ℕ) → 0 < length bytes → pass bytes ≡ None → begins_comment bytes ≡ true → IsStuck bytes
-front_stuck bytes some stops is = stuck_from bytes some stops (inl is)
+pub comment_stuck : (bytes : List ℕ) → 0 < length bytes → pass bytes ≡ None → begins_comment bytes ≡ true → IsStuck bytes
+comment_stuck bytes some stops is = stuck_from bytes some stops (inl is)
 
-pub front_found : (bytes : List ℕ) (o : Option Front) → 0 < length bytes → pass bytes ≡ None → begins_comment bytes ≡ false → o ≡ lexeme bytes
+pub lexeme_found : (bytes : List ℕ) (o : Option Scanned) → 0 < length bytes → pass bytes ≡ None → begins_comment bytes ≡ false → o ≡ lexeme bytes
     → MatchOption o (IsStuck bytes) (λ f. (0 < f.length) × (f.length ≤ length bytes) × Begins bytes f.kind (take f.length bytes))
-front_found bytes None some stops plain is = stuck_from bytes some stops (inr (sym is))
-front_found bytes (Some f) some stops plain is = lexeme_begins bytes f plain (sym is)
+lexeme_found bytes None some stops plain is = stuck_from bytes some stops (inr (sym is))
+lexeme_found bytes (Some f) some stops plain is = lexeme_begins bytes f plain (sym is)

@@ -12,11 +12,11 @@ use Rattle.std.proofs.lemmas.Bool.{cases_Bool, and_parts, and_from, and_left, an
 use Rattle.nss_lexer.specs.declared.bytes.Class.TheVariants.{Name as InName, Decimal, Hexadecimal}
 use Rattle.nss_lexer.specs.declared.token.Kind.{Kind}
 use Rattle.nss_lexer.specs.declared.token.Kind.TheVariants.{Name, Word, Int, Float, Text, Sign}
-use Rattle.nss_lexer.specs.declared.scan.Front.{Front}
+use Rattle.nss_lexer.specs.declared.scan.Scanned.{Scanned}
 use Rattle.nss_lexer.specs.Bytes.{is_letter, is_decimal, is_hexadecimal, is_name_byte}
 use Rattle.nss_lexer.specs.Lexemes.{IsIdentifier, IsInt, decimal, hexadecimal, IsSuffix, none, suffix, IsFloat, pointed, fraction, marked, HasForm, is_word, is_sign, words, signs}
 use Rattle.nss_lexer.specs.Strings.{StandsFor, quoted}
-use Rattle.nss_lexer.specs.Reading.{is_in, run, front, name_form, fraction_length, float_form, decimal_form, begins_hexadecimal, hexadecimal_form, number_form, string_form, is_front, first_front, sign_form, form}
+use Rattle.nss_lexer.specs.Reading.{is_in, run, scanned, name_form, fraction_length, float_form, decimal_form, begins_hexadecimal, hexadecimal_form, number_form, string_form, is_prefix, first_prefix, sign_form, form}
 use Rattle.nss_lexer.proofs.StringLaws.{inside_read}
 
 -- ---- the cases of reading
@@ -77,7 +77,7 @@ digit_is_no_letter b h = grind arith
 -- ---- names and words
 
 -- The bytes are read as at least so many, and where these are all, as of this kind.
-abbrev pub AtLeast : Kind → ℕ → Option Front → Type 0
+abbrev pub AtLeast : Kind → ℕ → Option Scanned → Type 0
 AtLeast kind m None = ⊥
 AtLeast kind m (Some f) = (m ≤ f.length) × (m ≡ f.length → kind ≡ f.kind)
 
@@ -101,7 +101,7 @@ digit_is_no_x b h = grind arith
 decimal_at : (bytes : List ℕ) (n : ℕ) → run Decimal bytes ≡ n → slice_index bytes n ≡ 46 → decimal_form bytes ≡ float_form bytes n
 decimal_at bytes n count is_point = rw count (rw is_point refl)
 
-marked_at : (bytes : List ℕ) (n : ℕ) → run Decimal bytes ≡ n → slice_index bytes n ≡ 102 → decimal_form bytes ≡ front Float (n + 1)
+marked_at : (bytes : List ℕ) (n : ℕ) → run Decimal bytes ≡ n → slice_index bytes n ≡ 102 → decimal_form bytes ≡ scanned Float (n + 1)
 marked_at bytes n count is_mark = rw count (rw is_mark refl)
 
 marked_fraction : (bytes : List ℕ) (n : ℕ) → run Decimal bytes ≡ n → slice_index bytes n ≡ 102 → fraction_length bytes ≡ n + 1
@@ -128,7 +128,7 @@ number_front d ds c tail h all stops =
     ∙ ap Some (cond-false (begins_hexadecimal (d ∷ (ds ++ c ∷ tail))) _ _ (no_hexadecimal d ds c tail all stops))
 
 -- a float with a point behind digits
-point_form : (digits tail : List ℕ) → IsNumeral 10 digits → form (digits ++ 46 ∷ tail) ≡ Some (front Float (length digits + 1 + fraction_length tail))
+point_form : (digits tail : List ℕ) → IsNumeral 10 digits → form (digits ++ 46 ∷ tail) ≡ Some (scanned Float (length digits + 1 + fraction_length tail))
 point_form [] tail h = absurd (omega (arith, h.0))
 point_form (d ∷ ds) tail h =
     let w : List ℕ = d ∷ (ds ++ 46 ∷ tail) in
@@ -136,10 +136,10 @@ point_form (d ∷ ds) tail h =
     let is_point : slice_index w (length (d ∷ ds)) ≡ 46 = get_or_at (d ∷ ds) 46 tail 0 (length (d ∷ ds)) refl in
     let left : drop (length (d ∷ ds) + 1) w ≡ tail = drop-append-add (d ∷ ds) (46 ∷ tail) 1 in
     number_front d ds 46 tail h.1.0 h.1.1 refl
-    ∙ ap Some (decimal_at w (length (d ∷ ds)) count is_point ∙ ap (λ t. front Float (length (d ∷ ds) + 1 + fraction_length t)) left)
+    ∙ ap Some (decimal_at w (length (d ∷ ds)) count is_point ∙ ap (λ t. scanned Float (length (d ∷ ds) + 1 + fraction_length t)) left)
 
 -- and one without a point
-marked_form : (digits tail : List ℕ) → IsNumeral 10 digits → form (digits ++ 102 ∷ tail) ≡ Some (front Float (length digits + 1))
+marked_form : (digits tail : List ℕ) → IsNumeral 10 digits → form (digits ++ 102 ∷ tail) ≡ Some (scanned Float (length digits + 1))
 marked_form [] tail h = absurd (omega (arith, h.0))
 marked_form (d ∷ ds) tail h =
     let w : List ℕ = d ∷ (ds ++ 102 ∷ tail) in
@@ -185,14 +185,14 @@ decimal_reads (d ∷ ds) more h =
     let kind : Kind = Int (digits_value 10 (d ∷ ds)) in
     let m : ℕ = length (d ∷ ds) in
     let least : m ≤ run Decimal w = run_least (is_in Decimal) (d ∷ ds) more (decimals_pass (d ∷ ds) h.1) in
-    let P : Front → Type 0 = λ f. AtLeast kind m (Some f) in
+    let P : Scanned → Type 0 = λ f. AtLeast kind m (Some f) in
     subst (AtLeast kind m) (sym (form_digit w (digit_is_no_letter d h.1.0) (lt-ltb (digit_value d) 10 h.1.0)))
     (cond_both (begins_hexadecimal w) (hexadecimal_form w) (decimal_form w) P
     (λ hex. let one : length ds ≡ 0 = hexadecimal_no_decimal d ds more h.1.1 hex in
     (omega (arith, one), λ same. absurd (omega (arith, one, same))))
     (λ _. cond_both (slice_index w (run Decimal w) == 46) (float_form w (run Decimal w)) _ P
     (λ _. (omega (arith, least), λ same. absurd (omega (arith, least, same))))
-    (λ _. cond_both (slice_index w (run Decimal w) == 102) (front Float (run Decimal w + 1)) (front (Int (digits_value 10 (take (run Decimal w) w))) (run Decimal w)) P
+    (λ _. cond_both (slice_index w (run Decimal w) == 102) (scanned Float (run Decimal w + 1)) (scanned (Int (digits_value 10 (take (run Decimal w) w))) (run Decimal w)) P
     (λ _. (omega (arith, least), λ same. absurd (omega (arith, least, same))))
     (λ _. (least, λ same. ap (λ t. Int (digits_value 10 t)) (sym (take_run (d ∷ ds) more (run Decimal w) same)))))))
 
@@ -258,9 +258,9 @@ any_passes test text (entry ∷ table) found all =
     (λ later. any_passes test text table later both.1)
     (or_cases (bytes_eq entry text) (list_any (λ e. bytes_eq e text) table) found)
 
-front_found : (text more : List ℕ) → is_front text (text ++ more) ≡ true
-front_found [] more = refl
-front_found (b ∷ text) more = and_from (b == b) (is_front text (text ++ more)) (eq-eqb b b refl) (front_found text more)
+lexeme_found : (text more : List ℕ) → is_prefix text (text ++ more) ≡ true
+lexeme_found [] more = refl
+lexeme_found (b ∷ text) more = and_from (b == b) (is_prefix text (text ++ more)) (eq-eqb b b refl) (lexeme_found text more)
 
 record FoundLeast (m : ℕ) (found : Option ℕ) : Type 0 where
   pub count : ℕ
@@ -268,7 +268,7 @@ record FoundLeast (m : ℕ) (found : Option ℕ) : Type 0 where
   pub least : m ≤ count
 
 first_least : (text more : List ℕ) (table : List (List ℕ)) → falling table ≡ true → list_any (λ entry. bytes_eq entry text) table ≡ true
-    → FoundLeast (length text) (first_front table (text ++ more))
+    → FoundLeast (length text) (first_prefix table (text ++ more))
 unfolding falling
 first_least text more [] fall found = absurd (false≢true found)
 first_least text more (sign ∷ table) fall found =
@@ -277,23 +277,23 @@ first_least text more (sign ∷ table) fall found =
     ⊎_elim
     (λ here. record {
       count = length sign;
-      is = cond-true (is_front sign (text ++ more)) (Some (length sign)) (first_front table (text ++ more)) here;
+      is = cond-true (is_prefix sign (text ++ more)) (Some (length sign)) (first_prefix table (text ++ more)) here;
       least = ⊎_elim
           (λ same. let e : length sign ≡ length text = ap length ((bytes_eq-Decides sign text).0 same) in omega (arith, e))
           (λ later. leb-true (length text) (length sign) (any_passes (λ t. nat_le (length t) (length sign)) text table later both.0))
           among;
     })
     (λ here. ⊎_elim
-    (λ same. absurd (false≢true (sym here ∙ ap (λ t. is_front t (text ++ more)) ((bytes_eq-Decides sign text).0 same) ∙ front_found text more)))
+    (λ same. absurd (false≢true (sym here ∙ ap (λ t. is_prefix t (text ++ more)) ((bytes_eq-Decides sign text).0 same) ∙ lexeme_found text more)))
     (λ later.
     let rest = first_least text more table both.1 later in
     record {
       count = rest.count;
-      is = cond-false (is_front sign (text ++ more)) (Some (length sign)) (first_front table (text ++ more)) here ∙ rest.is;
+      is = cond-false (is_prefix sign (text ++ more)) (Some (length sign)) (first_prefix table (text ++ more)) here ∙ rest.is;
       least = rest.least;
     })
     among)
-    (cases_Bool (is_front sign (text ++ more)))
+    (cases_Bool (is_prefix sign (text ++ more)))
 
 -- a sign's first byte, as tests
 record Head (b : ℕ) (text : List ℕ) : Type 0 where

@@ -14,21 +14,21 @@ use Rattle.nss_lexer.specs.declared.bytes.Class.{Class}
 use Rattle.nss_lexer.specs.declared.bytes.Class.TheVariants.{Name as InName, Decimal, Hexadecimal}
 use Rattle.nss_lexer.specs.declared.token.Kind.{Kind}
 use Rattle.nss_lexer.specs.declared.token.Kind.TheVariants.{Name, Word, Int, Float, Text, Sign}
-use Rattle.nss_lexer.specs.declared.scan.Front.{Front}
+use Rattle.nss_lexer.specs.declared.scan.Scanned.{Scanned}
 use Rattle.nss_lexer.specs.declared.string.Escape.TheVariants.{Outside}
 use Rattle.nss_lexer.specs.Bytes.{is_letter, is_decimal, is_hexadecimal, is_name_byte}
 use Rattle.nss_lexer.specs.Lexemes.{IsIdentifier, decimal, hexadecimal, IsSuffix, none, suffix, IsFloat, pointed, fraction, marked, HasForm, is_word, is_sign, signs}
 use Rattle.nss_lexer.specs.Strings.{quoted}
-use Rattle.nss_lexer.specs.Reading.{is_in, run, front, name_form, fraction_length, float_form, decimal_form, begins_hexadecimal, hexadecimal_form, number_form, string_form, is_front, first_front, sign_form, form, closing}
+use Rattle.nss_lexer.specs.Reading.{is_in, run, scanned, name_form, fraction_length, float_form, decimal_form, begins_hexadecimal, hexadecimal_form, number_form, string_form, is_prefix, first_prefix, sign_form, form, closing}
 use Rattle.nss_lexer.proofs.StringLaws.{closing_finishes}
 
 -- the bytes have the form that was read, with one byte at least
-pub record IsFound (bytes : List ℕ) (f : Front) : Type 0 where
+pub record IsFound (bytes : List ℕ) (f : Scanned) : Type 0 where
   pub has : HasForm f.kind (take f.length bytes)
   pub some : 0 < f.length
   pub within : f.length ≤ length bytes
 
-abbrev pub IsFoundIf : List ℕ → Option Front → Type 0
+abbrev pub IsFoundIf : List ℕ → Option Scanned → Type 0
 IsFoundIf bytes None = Unit {0}
 IsFoundIf bytes (Some f) = IsFound bytes f
 
@@ -80,7 +80,7 @@ name_found (b ∷ bytes) h =
     let one : run InName w ≡ suc (run InName bytes) = run_some (is_in InName) b bytes (or_left (is_letter b) (is_decimal b) h) in
     let all : AllByRecursion (λ c. is_name_byte c ≡ true) (take (run InName bytes) bytes) = run_passes (is_in InName) bytes in
     let fits : run InName bytes ≤ length bytes = run_within InName bytes in
-    subst (λ n. IsFound w (front (kind_of_name (take n w)) n)) (sym one) (record {
+    subst (λ n. IsFound w (scanned (kind_of_name (take n w)) n)) (sym one) (record {
       has = name_has (b ∷ take (run InName bytes) bytes) (h, all);
       some = omega arith;
       within = omega (arith, fits);
@@ -154,7 +154,7 @@ decimal_found d bytes h =
       some = omega arith;
       within = omega (arith, split.within, length-drop (n + 1) w, inside);
     })
-    (λ _. cond_both (slice_index w n == 102) (front Float (n + 1)) (front (Int (digits_value 10 (take n w))) n) (IsFound w)
+    (λ _. cond_both (slice_index w n == 102) (scanned Float (n + 1)) (scanned (Int (digits_value 10 (take n w))) n) (IsFound w)
     (λ mark.
     let is : slice_index w n ≡ 102 = eqb-true (slice_index w n) 102 mark in
     let inside : n < length w = inside_from w n 102 is (omega arith) in
@@ -176,7 +176,7 @@ hexadecimal_at x d bytes is h =
     let size : length (take n rest) ≡ n = length_taken n rest fits in
     let numeral : IsNumeral 16 (take n rest) = (omega (arith, one, size), run_hexadecimals rest) in
     let two : n + 2 ≡ suc (suc n) = omega arith in
-    subst (λ k. IsFound w (front (Int (digits_value 16 (take n rest))) k)) (sym two) (record {
+    subst (λ k. IsFound w (scanned (Int (digits_value 16 (take n rest))) k)) (sym two) (record {
       has = hexadecimal x (take n rest) is numeral;
       some = omega arith;
       within = omega (arith, fits);
@@ -195,9 +195,9 @@ hexadecimal_found (z ∷ []) h = absurd (false≢true (sym (no_x (z == 48)) ∙ 
 hexadecimal_found (z ∷ x ∷ []) h = absurd (false≢true (and_parts ((z == 48) && (x == 120 || x == 88)) false h).1)
 hexadecimal_found (z ∷ x ∷ d ∷ bytes) h =
     let both = and_parts ((z == 48) && (x == 120 || x == 88)) (is_hexadecimal d) h in
-    let front = and_parts (z == 48) (x == 120 || x == 88) both.0 in
-    let zero_is : z ≡ 48 = eqb-true z 48 front.0 in
-    subst (λ z. IsFound (z ∷ x ∷ d ∷ bytes) (hexadecimal_form (z ∷ x ∷ d ∷ bytes))) (sym zero_is) (hexadecimal_at x d bytes front.1 both.1)
+    let parts = and_parts (z == 48) (x == 120 || x == 88) both.0 in
+    let zero_is : z ≡ 48 = eqb-true z 48 parts.0 in
+    subst (λ z. IsFound (z ∷ x ∷ d ∷ bytes) (hexadecimal_form (z ∷ x ∷ d ∷ bytes))) (sym zero_is) (hexadecimal_at x d bytes parts.1 both.1)
 
 number_found : (bytes : List ℕ) → is_decimal (slice_index bytes 0) ≡ true → IsFound bytes (number_form bytes)
 number_found [] h = absurd (false≢true h)
@@ -210,7 +210,7 @@ fraction_at d bytes h =
     let tail : List ℕ = d ∷ bytes in
     let split = fraction_split tail in
     let count : 0 + 1 + fraction_length tail ≡ suc (fraction_length tail) = omega arith in
-    subst (λ k. IsFound (46 ∷ tail) (front Float k)) (sym count) (record {
+    subst (λ k. IsFound (46 ∷ tail) (scanned Float k)) (sym count) (record {
       has = subst (λ t. IsFloat (46 ∷ t)) (sym split.is) (fraction (take (run Decimal tail) tail) split.end (numeral_found d bytes h) split.ends);
       some = omega arith;
       within = omega (arith, split.within);
@@ -227,13 +227,13 @@ fraction_found (b ∷ d ∷ bytes) h =
 -- ---- strings and signs
 
 string_at : (text : List ℕ) (found : Option ℕ) → closing Outside text ≡ found
-    → IsFoundIf (34 ∷ text) (option_map (λ n. front Text (n + 1)) found)
+    → IsFoundIf (34 ∷ text) (option_map (λ n. scanned Text (n + 1)) found)
 string_at text None is = tt
 string_at text (Some n) is =
     let f = closing_finishes Outside text n is in
     let inside = f.finishes in
     let one : n + 1 ≡ suc n = omega arith in
-    subst (λ k. IsFound (34 ∷ text) (front Text k)) (sym one) (record {
+    subst (λ k. IsFound (34 ∷ text) (scanned Text k)) (sym one) (record {
       has = (inside.0, quoted (take n text) inside.0 inside.1);
       some = omega arith;
       within = omega (arith, f.within);
@@ -245,13 +245,13 @@ string_found (q ∷ text) h =
     let is : q ≡ 34 = eqb-true q 34 h in
     subst (λ q. IsFoundIf (q ∷ text) (string_form (q ∷ text))) (sym is) (string_at text (closing Outside text) refl)
 
-front_taken : (sign bytes : List ℕ) → is_front sign bytes ≡ true → (take (length sign) bytes ≡ sign) × (length sign ≤ length bytes)
-front_taken [] bytes h = (refl, omega arith)
-front_taken (b ∷ sign) [] h = absurd (false≢true h)
-front_taken (b ∷ sign) (c ∷ bytes) h =
-    let both = and_parts (b == c) (is_front sign bytes) h in
+prefix_taken : (sign bytes : List ℕ) → is_prefix sign bytes ≡ true → (take (length sign) bytes ≡ sign) × (length sign ≤ length bytes)
+prefix_taken [] bytes h = (refl, omega arith)
+prefix_taken (b ∷ sign) [] h = absurd (false≢true h)
+prefix_taken (b ∷ sign) (c ∷ bytes) h =
+    let both = and_parts (b == c) (is_prefix sign bytes) h in
     let is : b ≡ c = eqb-true b c both.0 in
-    let rest = front_taken sign bytes both.1 in
+    let rest = prefix_taken sign bytes both.1 in
     (ap (λ x. x ∷ take (length sign) bytes) (sym is) ∙ ap (λ t. b ∷ t) rest.0, omega (arith, rest.1))
 
 pub record FirstFound (table : List (List ℕ)) (bytes : List ℕ) (n : ℕ) : Type 0 where
@@ -260,33 +260,33 @@ pub record FirstFound (table : List (List ℕ)) (bytes : List ℕ) (n : ℕ) : T
   pub some : 0 < n
 
 pub first_found : (table : List (List ℕ)) (bytes : List ℕ) (n : ℕ) → list_all (λ t. nat_lt 0 (length t)) table ≡ true
-    → first_front table bytes ≡ Some n → FirstFound table bytes n
+    → first_prefix table bytes ≡ Some n → FirstFound table bytes n
 first_found [] bytes n all is = absurd (cc)
 first_found (sign ∷ table) bytes n all is =
     let both = and_parts (nat_lt 0 (length sign)) (list_all (λ t. nat_lt 0 (length t)) table) all in
     ⊎_elim
     (λ here.
-    let front = front_taken sign bytes here in
-    let count : length sign ≡ n = some_same (length sign) n (sym (cond-true (is_front sign bytes) (Some (length sign)) (first_front table bytes) here) ∙ is) in
-    let text : sign ≡ take n bytes = sym front.0 ∙ ap (λ k. take k bytes) count in
+    let here_is = prefix_taken sign bytes here in
+    let count : length sign ≡ n = some_same (length sign) n (sym (cond-true (is_prefix sign bytes) (Some (length sign)) (first_prefix table bytes) here) ∙ is) in
+    let text : sign ≡ take n bytes = sym here_is.0 ∙ ap (λ k. take k bytes) count in
     record {
       among = or_left (bytes_eq sign (take n bytes)) (list_any (λ e. bytes_eq e (take n bytes)) table) ((bytes_eq-Decides sign (take n bytes)).1 text);
-      within = omega (arith, front.1, count);
+      within = omega (arith, here_is.1, count);
       some = omega (arith, ltb-true 0 (length sign) both.0, count);
     })
     (λ here.
-    let rest = first_found table bytes n both.1 (sym (cond-false (is_front sign bytes) (Some (length sign)) (first_front table bytes) here) ∙ is) in
+    let rest = first_found table bytes n both.1 (sym (cond-false (is_prefix sign bytes) (Some (length sign)) (first_prefix table bytes) here) ∙ is) in
     record {
       among = or_right (bytes_eq sign (take n bytes)) (list_any (λ e. bytes_eq e (take n bytes)) table) rest.among;
       within = rest.within;
       some = rest.some;
     })
-    (cases_Bool (is_front sign bytes))
+    (cases_Bool (is_prefix sign bytes))
 
 pub signs_some : list_all (λ t. nat_lt 0 (length t)) signs ≡ true
 signs_some = refl
 
-sign_at : (bytes : List ℕ) (found : Option ℕ) → first_front signs bytes ≡ found → IsFoundIf bytes (option_map (front Sign) found)
+sign_at : (bytes : List ℕ) (found : Option ℕ) → first_prefix signs bytes ≡ found → IsFoundIf bytes (option_map (scanned Sign) found)
 unfolding is_sign
 sign_at bytes None is = tt
 sign_at bytes (Some n) is =
@@ -298,9 +298,9 @@ sign_at bytes (Some n) is =
 pub form_found : (bytes : List ℕ) → IsFoundIf bytes (form bytes)
 unfolding form
 form_found bytes =
-    let P : Option Front → Type 0 = IsFoundIf bytes in
+    let P : Option Scanned → Type 0 = IsFoundIf bytes in
     cond_both (is_letter (slice_index bytes 0)) (Some (name_form bytes)) _ P (λ h. name_found bytes h)
     (λ _. cond_both (is_decimal (slice_index bytes 0)) (Some (number_form bytes)) _ P (λ h. number_found bytes h)
     (λ _. cond_both ((slice_index bytes 0 == 46) && is_decimal (slice_index bytes 1)) (Some (float_form bytes 0)) _ P (λ h. fraction_found bytes h)
     (λ _. cond_both (slice_index bytes 0 == 34) (string_form bytes) (sign_form bytes) P (λ h. string_found bytes h)
-    (λ _. sign_at bytes (first_front signs bytes) refl))))
+    (λ _. sign_at bytes (first_prefix signs bytes) refl))))

@@ -4,6 +4,6 @@ pub mod GapLaws
 pub mod FormLaws
 pub mod FoundLaws
 pub mod FirstLaws
-pub mod ComputedLaws
 pub mod SomeSplit
+pub mod ComputedLaws
 mod Examples

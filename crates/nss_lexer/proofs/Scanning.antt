@@ -5,7 +5,7 @@ use Rattle.std.proofs.Math.Nat.{mul-le-mul_left}
 use Rattle.std.proofs.lemmas.Bool.{le-ltb}
 use Rattle.std.specs.Prelude.{None}
 use Rattle.std.specs.Str.Parse.{digits_value_after, digits_value}
-use Rattle.nss_lexer.specs.Reading.{small, is_front}
+use Rattle.nss_lexer.specs.Reading.{small, is_prefix}
 use Rattle.std.proofs.lemmas.List.{drop_all}
 use Rattle.std.specs.Char.{digit_value}
 
@@ -29,9 +29,9 @@ too_great radix n i ds two inside more is =
     rw (le-ltb (digits_value radix ds) (2 ^ 32) great) refl
 
 -- bytes that end before a sign does do not begin with it
-ends_before : (i : ℕ) (sign bytes : List ℕ) → i < length sign → length bytes ≤ i → is_front (drop i sign) (drop i bytes) ≡ false
+ends_before : (i : ℕ) (sign bytes : List ℕ) → i < length sign → length bytes ≤ i → is_prefix (drop i sign) (drop i bytes) ≡ false
 ends_before i sign bytes more short = rw (drop-cons sign i 0 more, drop_all i bytes short) refl
 
 pub too_short : (i : ℕ) (sign bytes : List ℕ) → i < length sign → length bytes ≤ i
-    → is_front (drop i sign) (drop i bytes) ≡ is_front sign bytes → false ≡ is_front sign bytes
+    → is_prefix (drop i sign) (drop i bytes) ≡ is_prefix sign bytes → false ≡ is_prefix sign bytes
 too_short i sign bytes more short is = sym (ends_before i sign bytes more short) ∙ is

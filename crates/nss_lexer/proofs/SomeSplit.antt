@@ -2,12 +2,12 @@
 use Rattle.std.specs.Prelude.{Option, Some, None}
 use Rattle.std.proofs.Common.{◌≡◌, ℕ, zero, suc, ◌+◌, ◌<◌, ◌≤◌, Bool, true, false, List, [], ◌∷◌, length, take, drop, refl, ap, sym, subst, arith, inr, length-append}
 use Rattle.std.proofs.lemmas.List.{length-drop}
-use Rattle.nss_lexer.specs.declared.scan.Front.{Front}
+use Rattle.nss_lexer.specs.declared.scan.Scanned.{Scanned}
 use Rattle.nss_lexer.specs.Splitting.{Skips, blank, line, block, Gap, nothing, begins_comment, Lexeme, First, Found, AtEnd, BadAt, IsFirst, Splits, whole, broken, token}
 use Rattle.nss_lexer.specs.Reading.{lexeme, pass}
 use Rattle.nss_lexer.proofs.FoundLaws.{length_taken}
 use Rattle.nss_lexer.proofs.GapLaws.{pass_skips}
-use Rattle.nss_lexer.proofs.FirstLaws.{lexeme_begins, stuck_from, front_stuck, gap_further}
+use Rattle.nss_lexer.proofs.FirstLaws.{lexeme_begins, stuck_from, comment_stuck, gap_further}
 
 skips_shorter : (bytes after : List ℕ) → Skips bytes after → length after < length bytes
 skips_shorter bytes after (blank b rest is) = omega arith
@@ -56,12 +56,12 @@ comment_first bytes file at l some is = (
   record {
     from = l.from;
     gap = l.gap;
-    stuck = front_stuck (drop l.place bytes) some l.stops is;
+    stuck = comment_stuck (drop l.place bytes) some l.stops is;
     within = omega (arith, some, length-drop l.place bytes);
   },
 )
 
-token_first : (bytes : List ℕ) (file at : ℕ) (l : Landing bytes at) (f : Front) → begins_comment (drop l.place bytes) ≡ false
+token_first : (bytes : List ℕ) (file at : ℕ) (l : Landing bytes at) (f : Scanned) → begins_comment (drop l.place bytes) ≡ false
     → lexeme (drop l.place bytes) ≡ Some f → SomeFirst bytes file at
 token_first bytes file at l f plain is =
     let begins = lexeme_begins (drop l.place bytes) f plain is in
@@ -78,7 +78,7 @@ token_first bytes file at l f plain is =
       },
     )
 
-first_by : (bytes : List ℕ) (file at : ℕ) (l : Landing bytes at) (comment : Bool) (o : Option Front) → 0 < length (drop l.place bytes)
+first_by : (bytes : List ℕ) (file at : ℕ) (l : Landing bytes at) (comment : Bool) (o : Option Scanned) → 0 < length (drop l.place bytes)
     → begins_comment (drop l.place bytes) ≡ comment → lexeme (drop l.place bytes) ≡ o → SomeFirst bytes file at
 first_by bytes file at l true o some c is = comment_first bytes file at l some c
 first_by bytes file at l false None some c is = stuck_first bytes file at l some is

@@ -1,14 +1,14 @@
 -- The tokens of a file by computing, for files that are given. By a law they are its tokens.
 use Rattle.std.specs.Prelude.{◌≡◌, ℕ, zero, suc, ◌+◌, Bool, true, false, List, [], ◌∷◌, take, drop, Option, Some, None, option_map}
-use Rattle.nss_lexer.specs.declared.scan.Front.{Front}
+use Rattle.nss_lexer.specs.declared.scan.Scanned.{Scanned}
 use Rattle.nss_lexer.specs.Reading.{pass, lexeme}
 use Rattle.nss_lexer.specs.Splitting.{Lexeme, AreTokens, begins_comment}
 
-abbrev pub lexeme_of : List ℕ → ℕ → Front → Lexeme
+abbrev pub lexeme_of : List ℕ → ℕ → Scanned → Lexeme
 lexeme_of bytes at f = record { kind = f.kind; text = take f.length bytes; file = 0; start = at; end = at + f.length }
 
 -- where a comment begins that isn't closed, or nothing begins, there are no tokens
-abbrev pub tokens_by : Bool → List ℕ → ℕ → Option Front → (ℕ → Option (List Lexeme)) → Option (List Lexeme)
+abbrev pub tokens_by : Bool → List ℕ → ℕ → Option Scanned → (ℕ → Option (List Lexeme)) → Option (List Lexeme)
 tokens_by true bytes at o rest = None
 tokens_by false bytes at None rest = None
 tokens_by false bytes at (Some f) rest = option_map (λ ts. lexeme_of bytes at f ∷ ts) (rest f.length)

@@ -9,7 +9,7 @@ use Rattle.nss_lexer.specs.declared.bytes.Class.{Class}
 use Rattle.nss_lexer.specs.declared.bytes.Class.TheVariants.{Name as InName, Decimal, Hexadecimal, Line}
 use Rattle.nss_lexer.specs.declared.token.Kind.{Kind}
 use Rattle.nss_lexer.specs.declared.token.Kind.TheVariants.{Name, Word, Int, Float, Text, Sign}
-use Rattle.nss_lexer.specs.declared.scan.Front.{Front}
+use Rattle.nss_lexer.specs.declared.scan.Scanned.{Scanned}
 use Rattle.nss_lexer.specs.declared.string.Escape.{Escape}
 use Rattle.nss_lexer.specs.declared.string.Escape.TheVariants.{Outside, AfterBackslash, AfterX, AfterDigit}
 use Rattle.nss_lexer.specs.declared.string.Step.{Step}
@@ -24,57 +24,57 @@ is_in Decimal b = is_decimal b
 is_in Hexadecimal b = is_hexadecimal b
 is_in Line b = not (b == newline)
 
--- how many bytes of the class stand in front
+-- how many bytes of the class begin the bytes
 abbrev pub run : Class → List ℕ → ℕ
 run class bytes = prefix_len (is_in class) bytes
 
-abbrev pub front : Kind → ℕ → Front
-front kind n = record { kind = kind; length = n }
+abbrev pub scanned : Kind → ℕ → Scanned
+scanned kind n = record { kind = kind; length = n }
 
 -- a number that fits 32 bits
 abbrev pub small : ℕ → Option ℕ
 small n = if nat_lt n (2 ^ 32) then Some n else None
 
 -- within the limits, or nothing
-abbrev pub limited : Kind → ℕ → Option Front
-limited Name n = if nat_le n name_limit then Some (front Name n) else None
-limited (Int v) n = option_map (λ w. front (Int w) n) (small v)
-limited Word n = Some (front Word n)
-limited Float n = Some (front Float n)
-limited Text n = Some (front Text n)
-limited Sign n = Some (front Sign n)
+abbrev pub limited : Kind → ℕ → Option Scanned
+limited Name n = if nat_le n name_limit then Some (scanned Name n) else None
+limited (Int v) n = option_map (λ w. scanned (Int w) n) (small v)
+limited Word n = Some (scanned Word n)
+limited Float n = Some (scanned Float n)
+limited Text n = Some (scanned Text n)
+limited Sign n = Some (scanned Sign n)
 
-abbrev pub within : Front → Option Front
+abbrev pub within : Scanned → Option Scanned
 within f = limited f.kind f.length
 
 -- the longest form that begins the bytes
 
-abbrev pub name_form : List ℕ → Front
-name_form bytes = let n = run InName bytes in front (if is_word (take n bytes) then Word else Name) n
+abbrev pub name_form : List ℕ → Scanned
+name_form bytes = let n = run InName bytes in scanned (if is_word (take n bytes) then Word else Name) n
 
 -- how many bytes of a float follow its point: digits, and maybe an `f`
 abbrev pub fraction_length : List ℕ → ℕ
 fraction_length tail = let n = run Decimal tail in if slice_index tail n == 102 then n + 1 else n
 
 -- a float whose point stands at this place
-abbrev pub float_form : List ℕ → ℕ → Front
-float_form bytes point = front Float (point + 1 + fraction_length (drop (point + 1) bytes))
+abbrev pub float_form : List ℕ → ℕ → Scanned
+float_form bytes point = scanned Float (point + 1 + fraction_length (drop (point + 1) bytes))
 
-abbrev pub decimal_form : List ℕ → Front
+abbrev pub decimal_form : List ℕ → Scanned
 decimal_form bytes =
     let n = run Decimal bytes in
     if slice_index bytes n == 46 then float_form bytes n
-    else (if slice_index bytes n == 102 then front Float (n + 1) else front (Int (digits_value 10 (take n bytes))) n)
+    else (if slice_index bytes n == 102 then scanned Float (n + 1) else scanned (Int (digits_value 10 (take n bytes))) n)
 
 abbrev pub begins_hexadecimal : List ℕ → Bool
 begins_hexadecimal bytes =
     slice_index bytes 0 == 48 && (slice_index bytes 1 == 120 || slice_index bytes 1 == 88) && is_hexadecimal (slice_index bytes 2)
 
-abbrev pub hexadecimal_form : List ℕ → Front
+abbrev pub hexadecimal_form : List ℕ → Scanned
 hexadecimal_form bytes =
-    let n = run Hexadecimal (drop 2 bytes) in front (Int (digits_value 16 (take n (drop 2 bytes)))) (n + 2)
+    let n = run Hexadecimal (drop 2 bytes) in scanned (Int (digits_value 16 (take n (drop 2 bytes)))) (n + 2)
 
-abbrev pub number_form : List ℕ → Front
+abbrev pub number_form : List ℕ → Scanned
 number_form bytes = if begins_hexadecimal bytes then hexadecimal_form bytes else decimal_form bytes
 
 -- what one more byte of a string does, after bytes that have led so far into an escape
@@ -117,23 +117,23 @@ abbrev pub closing : Escape → List ℕ → Option ℕ
 closing state [] = None
 closing state (b ∷ text) = length_after (step state b) (λ next. closing next text)
 
-abbrev pub string_form : List ℕ → Option Front
-string_form bytes = option_map (λ n. front Text (n + 1)) (closing Outside (drop 1 bytes))
+abbrev pub string_form : List ℕ → Option Scanned
+string_form bytes = option_map (λ n. scanned Text (n + 1)) (closing Outside (drop 1 bytes))
 
-abbrev pub is_front : List ℕ → List ℕ → Bool
-is_front [] bytes = true
-is_front (b ∷ sign) [] = false
-is_front (b ∷ sign) (c ∷ bytes) = b == c && is_front sign bytes
+abbrev pub is_prefix : List ℕ → List ℕ → Bool
+is_prefix [] bytes = true
+is_prefix (b ∷ sign) [] = false
+is_prefix (b ∷ sign) (c ∷ bytes) = b == c && is_prefix sign bytes
 
 -- the length of the first entry that begins the bytes
-abbrev pub first_front : List (List ℕ) → List ℕ → Option ℕ
-first_front [] bytes = None
-first_front (sign ∷ table) bytes = if is_front sign bytes then Some (length sign) else first_front table bytes
+abbrev pub first_prefix : List (List ℕ) → List ℕ → Option ℕ
+first_prefix [] bytes = None
+first_prefix (sign ∷ table) bytes = if is_prefix sign bytes then Some (length sign) else first_prefix table bytes
 
-abbrev pub sign_form : List ℕ → Option Front
-sign_form bytes = option_map (front Sign) (first_front signs bytes)
+abbrev pub sign_form : List ℕ → Option Scanned
+sign_form bytes = option_map (scanned Sign) (first_prefix signs bytes)
 
-unfoldable pub form : List ℕ → Option Front
+unfoldable pub form : List ℕ → Option Scanned
 form bytes =
     let b = slice_index bytes 0 in
     if is_letter b then Some (name_form bytes)
@@ -143,7 +143,7 @@ form bytes =
     else sign_form bytes)))
 
 -- the token that begins the bytes, if no comment does
-abbrev pub lexeme : List ℕ → Option Front
+abbrev pub lexeme : List ℕ → Option Scanned
 lexeme bytes = option_and_then within (form bytes)
 
 -- what may be passed over

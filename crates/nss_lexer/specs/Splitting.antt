@@ -38,10 +38,10 @@ begins_comment [] = false
 begins_comment (b ∷ []) = false
 begins_comment (b ∷ c ∷ bytes) = b == 47 && (c == 47 || c == 42)
 
--- A token of this kind with this text begins the bytes: no comment begins them, and no longer front of them has
+-- A token of this kind with this text begins the bytes: no comment begins them, and no longer prefix of them has
 -- the form of a token.
 pub record Begins (bytes : List ℕ) (kind : Kind) (text : List ℕ) : Type 0 where
-  pub front : text ≡ take (length text) bytes
+  pub prefix : text ≡ take (length text) bytes
   pub lexeme : IsLexeme kind text
   pub longest : (other : Kind) (n : ℕ) → n ≤ length bytes → HasForm other (take n bytes) → n ≤ length text
   pub no_comment : begins_comment bytes ≡ false

@@ -1,7 +1,7 @@
 ghost use Rattle.std.specs.Prelude.{◌≡◌, ◌≢◌, ◌<◌, ◌≤◌, ◌-◌, length, take, drop, slice_index};
-ghost use Rattle.std.specs.Char.{digit_value};
-ghost use Rattle.nss_lexer.specs.Bytes.{is_blank, is_letter};
-ghost use Rattle.nss_lexer.specs.Reading.{is_in, run};
+ghost use Rattle.std.specs.Char as char;
+ghost use Rattle.nss_lexer.specs.Bytes as classes;
+ghost use Rattle.nss_lexer.specs.Reading as reading;
 
 /// Bytes that stand in a row.
 #[derive(Clone, Copy)]
@@ -14,8 +14,8 @@ pub enum Class {
 }
 
 /// The value of a digit or a letter, or 36.
-pub fn digit(b: u8) -> u8
-    ensures { result ≡ digit_value b }
+pub fn digit_value(b: u8) -> u8
+    ensures { result ≡ char.digit_value b }
 {
     match b {
         b'0'..=b'9' => b - b'0',
@@ -25,25 +25,25 @@ pub fn digit(b: u8) -> u8
     }
 }
 
-pub fn blank(b: u8) -> bool
-    ensures { result ≡ is_blank b }
+pub fn is_blank(b: u8) -> bool
+    ensures { result ≡ classes.is_blank b }
 {
     (9 <= b && b <= 13) || b == b' '
 }
 
-pub fn letter(b: u8) -> bool
-    ensures { result ≡ is_letter b }
+pub fn is_letter(b: u8) -> bool
+    ensures { result ≡ classes.is_letter b }
 {
     b.is_ascii_alphabetic() || b == b'_'
 }
 
-pub fn belongs(class: Class, b: u8) -> bool
-    ensures { result ≡ is_in class b }
+pub fn is_in(class: Class, b: u8) -> bool
+    ensures { result ≡ reading.is_in class b }
 {
     match class {
-        Class::Name => letter(b) || digit(b) < 10,
-        Class::Decimal => digit(b) < 10,
-        Class::Hexadecimal => digit(b) < 16,
+        Class::Name => is_letter(b) || digit_value(b) < 10,
+        Class::Decimal => digit_value(b) < 10,
+        Class::Hexadecimal => digit_value(b) < 16,
         Class::Line => !(b == b'\n'),
     }
 }
@@ -56,13 +56,13 @@ pub fn byte(bytes: &[u8], at: usize) -> u8
     if at < bytes.len() { bytes[at] } else { 0 }
 }
 
-/// How many bytes of the class stand in front.
-pub fn row(class: Class, bytes: &[u8]) -> usize
-    ensures count { result ≡ run class bytes.now }
+/// How many bytes of the class begin the bytes.
+pub fn run(class: Class, bytes: &[u8]) -> usize
+    ensures count { result ≡ reading.run class bytes.now }
     ensures within { result ≤ length bytes.now }
 {
     let mut n = 0;
-    while n < bytes.len() && belongs(class, bytes[n]) {
+    while n < bytes.len() && is_in(class, bytes[n]) {
         n += 1;
     }
     n

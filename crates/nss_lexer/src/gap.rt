@@ -1,8 +1,8 @@
 ghost use Rattle.std.specs.Prelude.{◌≡◌, ◌≤◌, ◌<◌, ◌^◌, length, drop, IfSome, None};
-ghost use Rattle.nss_lexer.specs.Splitting.{Gap, begins_comment};
+ghost use Rattle.nss_lexer.specs.Splitting as splitting;
 ghost use Rattle.nss_lexer.specs.Reading as reading;
 
-use crate::bytes::{Class, blank, byte, row, tail};
+use crate::bytes::{Class, byte, is_blank, run, tail};
 
 /// How many bytes come up to and with the next `*/`.
 fn closing_comment(text: &[u8]) -> Option<usize>
@@ -19,8 +19,8 @@ fn closing_comment(text: &[u8]) -> Option<usize>
 }
 
 /// Whether a comment begins the bytes, closed or not.
-pub fn comment_begins(bytes: &[u8]) -> bool
-    ensures { result ≡ begins_comment bytes.now }
+pub fn begins_comment(bytes: &[u8]) -> bool
+    ensures { result ≡ splitting.begins_comment bytes.now }
 {
     match bytes {
         [b'/', b'/' | b'*', ..] => true,
@@ -35,7 +35,7 @@ fn comment(bytes: &[u8]) -> Option<usize>
     ensures within { IfSome result (λ n. (0 < n) × (n ≤ length bytes.now)) }
 {
     match bytes {
-        [b'/', b'/', text @ ..] => Some(row(Class::Line, text) + 2),
+        [b'/', b'/', text @ ..] => Some(run(Class::Line, text) + 2),
         [b'/', b'*', text @ ..] => match closing_comment(text) {
             None => None,
             Some(n) => Some(n + 2),
@@ -53,7 +53,13 @@ fn pass(bytes: &[u8]) -> Option<usize>
 {
     match bytes {
         [] => None,
-        [b, ..] => { if blank(*b) { Some(1) } else { comment(bytes) } }
+        [b, ..] => {
+            if is_blank(*b) {
+                Some(1)
+            } else {
+                comment(bytes)
+            }
+        }
     }
 }
 
@@ -61,7 +67,7 @@ fn pass(bytes: &[u8]) -> Option<usize>
 pub fn past_gap(bytes: &[u8], at: usize) -> usize
     requires place { at ≤ length bytes.now }
     requires size { length bytes.now < 2 ^ 32 }
-    ensures gap { Gap (drop at bytes.now) (drop result bytes.now) }
+    ensures gap { splitting.Gap (drop at bytes.now) (drop result bytes.now) }
     ensures stops { reading.pass (drop result bytes.now) ≡ None }
     ensures range { (at ≤ result) × (result ≤ length bytes.now) }
 {

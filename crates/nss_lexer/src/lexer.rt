@@ -4,20 +4,20 @@ ghost use Rattle.nss_lexer.specs.Splitting.{Begins, IsFirst, IsStuck, first};
 ghost use Rattle.nss_lexer.specs.Reading as reading;
 
 use crate::bytes::{head, tail};
-use crate::gap::{comment_begins, past_gap};
-use crate::scan::{Front, scan};
+use crate::gap::{begins_comment, past_gap};
+use crate::scan::{Scanned, scan};
 use crate::token::{Lexed, Token};
 
 /// The token that begins the bytes, which no blank and no closed comment begins.
-fn front_of(bytes: &[u8]) -> Option<Front>
+fn token_at_start(bytes: &[u8]) -> Option<Scanned>
     requires some { 0 < length bytes.now }
     requires size { length bytes.now < 2 ^ 32 }
     requires stops { reading.pass bytes.now ≡ None }
     ensures { MatchOption result (IsStuck bytes.now)
-        (λ front. (0 < front.length) × (front.length ≤ length bytes.now)
-        × Begins bytes.now front.kind (take front.length bytes.now)) }
+        (λ scanned. (0 < scanned.length) × (scanned.length ≤ length bytes.now)
+        × Begins bytes.now scanned.kind (take scanned.length bytes.now)) }
 {
-    if comment_begins(bytes) {
+    if begins_comment(bytes) {
         return None;
     }
     scan(bytes)
@@ -34,14 +34,14 @@ pub fn next(bytes: &[u8], file: u16, at: u32) -> Lexed<'_>
     if rest.is_empty() {
         return Lexed::End;
     }
-    match front_of(rest) {
+    match token_at_start(rest) {
         None => Lexed::Bad(start as u32),
-        Some(front) => Lexed::Token(Token {
-            kind: front.kind,
-            text: head(rest, front.length),
+        Some(scanned) => Lexed::Token(Token {
+            kind: scanned.kind,
+            text: head(rest, scanned.length),
             file,
             start: start as u32,
-            end: (start + front.length) as u32,
+            end: (start + scanned.length) as u32,
         }),
     }
 }

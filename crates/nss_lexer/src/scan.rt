@@ -4,13 +4,13 @@ ghost use Rattle.std.specs.Str.Parse.{digits_value};
 ghost use Rattle.nss_lexer.specs.Lexemes as grammar;
 ghost use Rattle.nss_lexer.specs.Reading as reading;
 
-use crate::bytes::{Class, belongs, byte, digit, letter, row};
+use crate::bytes::{Class, byte, digit_value, is_in, is_letter, run};
 use crate::string::closing_quote;
 use crate::token::Kind;
 
 /// A token's kind and its length, where it begins the bytes.
 #[derive(Clone, Copy)]
-pub struct Front {
+pub struct Scanned {
     pub kind: Kind,
     pub length: usize,
 }
@@ -78,7 +78,7 @@ fn number(radix: u8, digits: &[u8]) -> Option<u32>
 {
     let mut n = 0;
     for b in digits {
-        let more = n as u64 * radix as u64 + digit(*b) as u64;
+        let more = n as u64 * radix as u64 + digit_value(*b) as u64;
         if more > u32::MAX as u64 {
             return None;
         }
@@ -88,17 +88,17 @@ fn number(radix: u8, digits: &[u8]) -> Option<u32>
 }
 
 /// A name or a word.
-fn scan_name(bytes: &[u8]) -> Option<Front>
+fn scan_name(bytes: &[u8]) -> Option<Scanned>
     ensures { result ≡ reading.within (reading.name_form bytes.now) }
 {
-    let length = row(Class::Name, bytes);
+    let length = run(Class::Name, bytes);
     if is_word(&bytes[..length]) {
-        Some(Front {
+        Some(Scanned {
             kind: Kind::Word,
             length,
         })
     } else if length <= NAME_BYTES {
-        Some(Front {
+        Some(Scanned {
             kind: Kind::Name,
             length,
         })
@@ -108,14 +108,14 @@ fn scan_name(bytes: &[u8]) -> Option<Front>
 }
 
 /// An int, if its value fits 32 bits.
-fn int(radix: u8, digits: &[u8], length: usize) -> Option<Front>
+fn int(radix: u8, digits: &[u8], length: usize) -> Option<Scanned>
     requires { (2 ≤ radix) × (radix ≤ 16) }
     ensures { result
-        ≡ reading.within (reading.front (Kind.Int (digits_value radix digits.now)) length) }
+        ≡ reading.within (reading.scanned (Kind.Int (digits_value radix digits.now)) length) }
 {
     match number(radix, digits) {
         None => None,
-        Some(value) => Some(Front {
+        Some(value) => Some(Scanned {
             kind: Kind::Int(value),
             length,
         }),
@@ -127,7 +127,7 @@ fn fraction_length(tail: &[u8]) -> usize
     ensures value { result ≡ reading.fraction_length tail.now }
     ensures within { result ≤ length tail.now }
 {
-    let digits = row(Class::Decimal, tail);
+    let digits = run(Class::Decimal, tail);
     if byte(tail, digits) == b'f' {
         digits + 1
     } else {
@@ -136,24 +136,24 @@ fn fraction_length(tail: &[u8]) -> usize
 }
 
 /// A float whose point stands at a place.
-fn scan_fraction(bytes: &[u8], point: usize) -> Front
+fn scan_fraction(bytes: &[u8], point: usize) -> Scanned
     requires { point < length bytes.now }
     ensures { result ≡ reading.float_form bytes.now point }
 {
-    Front {
+    Scanned {
         kind: Kind::Float,
         length: point + 1 + fraction_length(&bytes[point + 1..]),
     }
 }
 
 /// An int or a float that begins with a digit and isn't hexadecimal.
-fn scan_decimal(bytes: &[u8]) -> Option<Front>
+fn scan_decimal(bytes: &[u8]) -> Option<Scanned>
     ensures { result ≡ reading.within (reading.decimal_form bytes.now) }
 {
-    let end = row(Class::Decimal, bytes);
+    let end = run(Class::Decimal, bytes);
     match byte(bytes, end) {
         b'.' => Some(scan_fraction(bytes, end)),
-        b'f' => Some(Front {
+        b'f' => Some(Scanned {
             kind: Kind::Float,
             length: end + 1,
         }),
@@ -166,20 +166,20 @@ fn begins_hexadecimal(bytes: &[u8]) -> bool
 {
     byte(bytes, 0) == b'0'
         && (byte(bytes, 1) == b'x' || byte(bytes, 1) == b'X')
-        && belongs(Class::Hexadecimal, byte(bytes, 2))
+        && is_in(Class::Hexadecimal, byte(bytes, 2))
 }
 
-fn scan_hexadecimal(bytes: &[u8]) -> Option<Front>
+fn scan_hexadecimal(bytes: &[u8]) -> Option<Scanned>
     requires { 2 ≤ length bytes.now }
     ensures { result ≡ reading.within (reading.hexadecimal_form bytes.now) }
 {
     let digits = &bytes[2..];
-    let count = row(Class::Hexadecimal, digits);
+    let count = run(Class::Hexadecimal, digits);
     int(16, &digits[..count], count + 2)
 }
 
 /// A number that begins with a digit.
-fn scan_number(bytes: &[u8]) -> Option<Front>
+fn scan_number(bytes: &[u8]) -> Option<Scanned>
     ensures { result ≡ reading.within (reading.number_form bytes.now) }
 {
     if begins_hexadecimal(bytes) {
@@ -190,21 +190,21 @@ fn scan_number(bytes: &[u8]) -> Option<Front>
 }
 
 /// A string that begins with its quote.
-fn scan_string(bytes: &[u8]) -> Option<Front>
+fn scan_string(bytes: &[u8]) -> Option<Scanned>
     requires { (0 < length bytes.now) × (length bytes.now < 2 ^ 32) }
     ensures { result ≡ reading.string_form bytes.now }
 {
     match closing_quote(&bytes[1..]) {
         None => None,
-        Some(end) => Some(Front {
+        Some(end) => Some(Scanned {
             kind: Kind::Text,
             length: end + 1,
         }),
     }
 }
 
-fn is_front(sign: &[u8], bytes: &[u8]) -> bool
-    ensures { result ≡ reading.is_front sign.now bytes.now }
+fn is_prefix(sign: &[u8], bytes: &[u8]) -> bool
+    ensures { result ≡ reading.is_prefix sign.now bytes.now }
 {
     for (at, b) in sign.iter().enumerate() {
         if at >= bytes.len() {
@@ -218,11 +218,11 @@ fn is_front(sign: &[u8], bytes: &[u8]) -> bool
 }
 
 /// The length of the first entry that begins the bytes.
-fn first_front(table: &[&[u8]], bytes: &[u8]) -> Option<usize>
-    ensures { result ≡ reading.first_front (map (λ sign. sign.now) table.now) bytes.now }
+fn first_prefix(table: &[&[u8]], bytes: &[u8]) -> Option<usize>
+    ensures { result ≡ reading.first_prefix (map (λ sign. sign.now) table.now) bytes.now }
 {
     for sign in table {
-        if is_front(sign, bytes) {
+        if is_prefix(sign, bytes) {
             return Some(sign.len());
         }
     }
@@ -230,12 +230,12 @@ fn first_front(table: &[&[u8]], bytes: &[u8]) -> Option<usize>
 }
 
 /// The longest sign.
-fn scan_sign(bytes: &[u8]) -> Option<Front>
+fn scan_sign(bytes: &[u8]) -> Option<Scanned>
     ensures { result ≡ option_and_then reading.within (reading.sign_form bytes.now) }
 {
-    match first_front(&SIGNS, bytes) {
+    match first_prefix(&SIGNS, bytes) {
         None => None,
-        Some(length) => Some(Front {
+        Some(length) => Some(Scanned {
             kind: Kind::Sign,
             length,
         }),
@@ -244,16 +244,16 @@ fn scan_sign(bytes: &[u8]) -> Option<Front>
 
 /// The longest token that begins the bytes, if it is within the limits.
 #[tactic(auto, unfolding(crate::specs::Reading::form))]
-pub fn scan(bytes: &[u8]) -> Option<Front>
+pub fn scan(bytes: &[u8]) -> Option<Scanned>
     requires { (0 < length bytes.now) × (length bytes.now < 2 ^ 32) }
     ensures { result ≡ reading.lexeme bytes.now }
 {
     let first = byte(bytes, 0);
-    if letter(first) {
+    if is_letter(first) {
         scan_name(bytes)
-    } else if belongs(Class::Decimal, first) {
+    } else if is_in(Class::Decimal, first) {
         scan_number(bytes)
-    } else if first == b'.' && belongs(Class::Decimal, byte(bytes, 1)) {
+    } else if first == b'.' && is_in(Class::Decimal, byte(bytes, 1)) {
         Some(scan_fraction(bytes, 0))
     } else if first == b'"' {
         scan_string(bytes)

@@ -2,7 +2,7 @@ ghost use Rattle.std.specs.Prelude.{◌≡◌, ◌<◌, ◌≤◌, ◌^◌, leng
 ghost use Rattle.nss_lexer.specs.Reading.{FitsByte, Keeps, step, closing};
 ghost use Rattle.nss_lexer.specs.declared.string.Escape.TheVariants.{Outside};
 
-use crate::bytes::{Class, belongs, digit};
+use crate::bytes::{Class, digit_value, is_in};
 
 /// How far into an escape the bytes before have led.
 #[derive(Clone, Copy)]
@@ -42,15 +42,15 @@ pub fn step_by(state: Escape, b: u8) -> Step
             _ => Step::Gives(b),
         },
         Escape::AfterX => {
-            if belongs(Class::Hexadecimal, b) {
-                Step::Leads(Escape::AfterDigit(digit(b)))
+            if is_in(Class::Hexadecimal, b) {
+                Step::Leads(Escape::AfterDigit(digit_value(b)))
             } else {
                 Step::Fails
             }
         }
         Escape::AfterDigit(high) => {
-            if belongs(Class::Hexadecimal, b) {
-                Step::Gives(16 * high + digit(b))
+            if is_in(Class::Hexadecimal, b) {
+                Step::Gives(16 * high + digit_value(b))
             } else {
                 Step::Fails
             }

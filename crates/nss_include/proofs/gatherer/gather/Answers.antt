@@ -1,7 +1,7 @@
 use Rattle.std.proofs.Common.{◌≡◌, ap, subst}
 use Rattle.std.specs.FinMap as map
-use Rattle.nss_include.specs.Gather.{Claims}
-use Rattle.nss_include.specs.Walks.{Lookup, HoldsAll}
+use Rattle.nss_include.specs.Gather.{HoldsFiles, Claims}
+use Rattle.nss_include.specs.Units.{Lookup}
 use Rattle.nss_include.specs.Progress.{ComesTo}
 use Rattle.nss_include.proofs.ProgressLemmas.{begins-unit, begins-fails, begins-stops}
 use Rattle.nss_include.proofs.gatherer.gather.Goals as goal
@@ -12,21 +12,21 @@ returns-in-Err-clause-told g c = λ told. begins-fails _ c.args.name.now c.in-Er
 pub returns-in-Err-run-clause-told : goal.returns-in-Err-run-clause-told
 returns-in-Err-run-clause-told g c = λ told.
     let outside : map.get (g.F.Files.contents c.begin.new.files) ≡ map.get (g.F.Files.contents c.args.files.now) = ap map.get c.in-Ok.ensures.same
-    in begins-stops c.one_first.ensures c.some_split.ensures (g.F.Files.contents c.args.files.now) c.args.name.now c.in-Ok.gatherer c.in-Err-run.fault
+    in begins-stops c.one_first.ensures c.some_split.ensures (map.get (g.F.Files.contents c.args.files.now)) c.args.name.now c.in-Ok.gatherer c.in-Err-run.fault
     c.in-Ok.ensures.begins (c.in-Ok.ensures.holds told)
-    (subst (λ (o : Lookup). HoldsAll o c.in-Ok.gatherer.unit.files → Claims c.in-Err-run.fault (ComesTo o c.in-Ok.gatherer c.in-Err-run.fault)) outside
+    (subst (λ (o : Lookup). HoldsFiles o c.in-Ok.gatherer.unit.files → Claims c.in-Err-run.fault (ComesTo o c.in-Ok.gatherer c.in-Err-run.fault)) outside
     (c.in-Err-run.ensures.stops told) (c.in-Ok.ensures.holds told))
 
 pub returns-in-Ok-run-clause-unit : goal.returns-in-Ok-run-clause-unit
-returns-in-Ok-run-clause-unit g c = λ contents held.
-    begins-unit c.one_first.ensures c.some_split.ensures contents c.args.name.now c.in-Ok.gatherer _ _ _ _ c.in-Ok.ensures.begins
-    (c.in-Ok-run.ensures.keeps (map.get contents) held) (c.in-Ok-run.ensures.whole (map.get contents) held)
+returns-in-Ok-run-clause-unit g c = λ lookup held.
+    begins-unit c.one_first.ensures c.some_split.ensures lookup c.args.name.now c.in-Ok.gatherer _ _ _ _ c.in-Ok.ensures.begins
+    (c.in-Ok-run.ensures.keeps lookup held) (c.in-Ok-run.ensures.whole lookup held)
 
 pub returns-in-Ok-run-clause-told : goal.returns-in-Ok-run-clause-told
 returns-in-Ok-run-clause-told g c = λ told.
     let outside : map.get (g.F.Files.contents c.begin.new.files) ≡ map.get (g.F.Files.contents c.args.files.now) = ap map.get c.in-Ok.ensures.same
     in let lookup : Lookup = map.get (g.F.Files.contents c.args.files.now)
-    in let held = subst (λ (o : Lookup). HoldsAll o c.in-Ok.gatherer.unit.files → HoldsAll o c.run.new.self.unit.files) outside
+    in let held = subst (λ (o : Lookup). HoldsFiles o c.in-Ok.gatherer.unit.files → HoldsFiles o c.run.new.self.unit.files) outside
     (c.in-Ok-run.ensures.holds told) (c.in-Ok.ensures.holds told)
-    in begins-unit c.one_first.ensures c.some_split.ensures (g.F.Files.contents c.args.files.now) c.args.name.now c.in-Ok.gatherer _ _ _ _
+    in begins-unit c.one_first.ensures c.some_split.ensures lookup c.args.name.now c.in-Ok.gatherer _ _ _ _
     c.in-Ok.ensures.begins (c.in-Ok.ensures.holds told) (c.in-Ok-run.ensures.whole lookup held)

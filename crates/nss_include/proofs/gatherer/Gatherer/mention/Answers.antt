@@ -8,21 +8,21 @@ use Rattle.nss_include.proofs.ProgressLemmas.{stops-mentions, stops-include, exp
 use Rattle.nss_include.proofs.gatherer.Gatherer.mention.Goals as goal
 
 pub returns-then-self-gt-MOST_TOKENS-clause-stops : goal.returns-then-self-gt-MOST_TOKENS-clause-stops
-returns-then-self-gt-MOST_TOKENS-clause-stops g c = λ contents _.
-    stops-mentions c.args.self.now c.args.here c.args.hash c.args.name.now c.args.after c.requires.step _ c.if-self-gt-MOST_TOKENS.true c.in_ok-spot.ensures contents
+returns-then-self-gt-MOST_TOKENS-clause-stops g c = λ lookup _.
+    stops-mentions c.args.self.now c.args.here c.args.hash c.args.name.now c.args.after c.requires.step _ c.if-self-gt-MOST_TOKENS.true c.in_ok-spot.ensures lookup
 
 pub file_of-requires : goal.file_of-requires
 file_of-requires g c = rw c.bytes.ensures.same (IsUtf8-name c.args.name.now c.requires.step.within.2)
 
 pub returns-then-has-clause-leads : goal.returns-then-has-clause-leads
-returns-then-has-clause-leads g c = λ contents _.
+returns-then-has-clause-leads g c = λ lookup _.
     let passed = c.in_ok-pass.ensures {u = tt}
     in let named : string_bytes c.in_ok-file.file ≡ file_name c.args.name.now = c.in_ok-file.ensures {u = tt} ∙ ap file_name c.bytes.ensures.same
     in let known : is_among c.args.self.now.unit.files (file_name c.args.name.now) ≡ true
     = ap (is_among c.args.self.now.unit.files) (sym (c.as_bytes.ensures.value ∙ named)) ∙ sym c.has.ensures ∙ c.if-has.true
     in let room : c.args.self.now.count + 3 ≤ token_limit = omega arith
     in leads-again c.args.self.now c.pass.new.self c.args.here c.args.hash c.args.name.now c.args.after c.requires.step room known
-    (ap (λ r. r.unit) passed) (ap (λ r. r.stack) passed) (ap (λ r. r.count) passed) contents
+    (ap (λ r. r.unit) passed) (ap (λ r. r.stack) passed) (ap (λ r. r.count) passed) lookup
 
 pub returns-in-Ok-clause-ready : goal.returns-in-Ok-clause-ready
 returns-in-Ok-clause-ready g c =

@@ -2,8 +2,8 @@ use Rattle.std.proofs.Common.{◌≡◌, List, ◌∷◌, ap, subst, ◌∙◌}
 use Rattle.std.specs.FinMap as map
 use Rattle.nss_include.specs.declared.opened.Open.{Open}
 use Rattle.nss_include.specs.declared.gatherer.Gatherer.{Gatherer}
-use Rattle.nss_include.specs.Walks.{HoldsAll}
-use Rattle.nss_include.specs.Walks.{Lookup}
+use Rattle.nss_include.specs.Gather.{HoldsFiles}
+use Rattle.nss_include.specs.Units.{Lookup}
 use Rattle.nss_include.specs.Progress.{Explains}
 use Rattle.nss_include.proofs.ProgressLemmas.{run-more, run-stops, run-whole}
 use Rattle.nss_include.proofs.gatherer.Gatherer.run.Goals as goal
@@ -16,7 +16,7 @@ loop-here-preserved g c =
     in (
       run-more _ _ c.args.self.now c.loop-here.self (at c.pop.new.self) c.advance.new.self c.in-Some.here c.loop-here.invariant.0 is
           c.in-Ok.ensures.ready c.in-Ok.ensures.leads c.in-Ok.ensures.keeps
-          (λ told. subst (λ (o : Lookup). HoldsAll o c.loop-here.self.unit.files → HoldsAll o c.advance.new.self.unit.files) outside
+          (λ told. subst (λ (o : Lookup). HoldsFiles o c.loop-here.self.unit.files → HoldsFiles o c.advance.new.self.unit.files) outside
           (c.in-Ok.ensures.holds told))
           c.in-Ok.ensures.grows,
       c.in-Ok.ensures.same ∙ c.loop-here.invariant.1,

@@ -1,5 +1,5 @@
 use Rattle.nss_lexer.proofs.Scanning.{too_short}
-use Rattle.nss_lexer.proofs.scan.is_front.Goals as goal
+use Rattle.nss_lexer.proofs.scan.is_prefix.Goals as goal
 
 pub returns-then-at-bytes : goal.returns-then-at-bytes
 returns-then-at-bytes c =

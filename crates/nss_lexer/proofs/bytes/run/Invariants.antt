@@ -1,6 +1,6 @@
 use Rattle.std.proofs.Common.{◌≡◌, ◌+◌, ◌-◌, ◌≤◌, length, drop}
 use Rattle.nss_lexer.specs.Reading.{run}
-use Rattle.nss_lexer.proofs.bytes.row.Given as goal
+use Rattle.nss_lexer.proofs.bytes.run.Given as goal
 
 abbrev pub invariant-loop-n : goal.invariant-loop-n
 invariant-loop-n l = (l.n + run l.class (drop l.n l.bytes) ≡ run l.class l.bytes) × (l.n ≤ length l.bytes)

@@ -1,7 +1,0 @@
-use Rattle.std.proofs.Common.{◌≡◌, drop, map}
-use Rattle.nss_lexer.specs.Reading.{first_front}
-use Rattle.nss_lexer.proofs.scan.first_front.Given as goal
-
-abbrev pub invariant-loop-sign : goal.invariant-loop-sign
-invariant-loop-sign l =
-    first_front (map (λ sign. sign.now) (drop l.sign-index l.table)) l.bytes ≡ first_front (map (λ sign. sign.now) l.table) l.bytes
