@@ -1,7 +1,6 @@
 -- A part and then its closing terminal.
 use Rattle.std.proofs.Common.{◌≡◌, ◌∙◌, ℕ, List, [], ◌∷◌, ◌++◌, refl, sym, ap, append_assoc}
 use Rattle.nss_symbols.specs.declared.terminal.Terminal.{Terminal}
-use Rattle.nss_symbols.specs.Symbols as symbol
 use Rattle.nss_symbols.specs.Symbols.{Numbered, fixed}
 use Rattle.nss_parser.proofs.Right.{Viable, viable_then}
 use Rattle.nss_parser.proofs.Completions.{by_terminal}

@@ -1,8 +1,7 @@
 -- Symbols that complete a list of tokens: each with the proof that a token spells it.
-use Rattle.std.proofs.Common.{◌≡◌, ℕ, ◌≤◌, ◌<◌, ◌^◌, List, [], ◌∷◌, ◌++◌, codes, map, refl, ap, arith, rules}
-use Rattle.nwq_value.specs.Limits.{name_limit}
+use Rattle.std.proofs.Common.{◌≡◌, ℕ, List, [], ◌∷◌, ◌++◌, codes, refl, ap, arith, rules}
 use Rattle.nss_lexer.specs.declared.token.Kind.TheVariants as kind
-use Rattle.nss_lexer.specs.Lexemes.{is_word, IsLexeme}
+use Rattle.nss_lexer.specs.Lexemes.{is_word}
 use Rattle.nss_lexer.specs.Lexemes.IsInt.{decimal}
 use Rattle.nss_symbols.specs.declared.terminal.Terminal.{Terminal}
 use Rattle.nss_symbols.specs.Spellings.{each_is_spelled}

@@ -23,3 +23,5 @@ pub mod StatementRight
 pub mod Whole
 pub mod OneRefusal
 pub mod ReaderLemmas
+pub mod Sits
+pub mod Weight

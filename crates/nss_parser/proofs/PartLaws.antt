@@ -6,10 +6,9 @@ use Rattle.nss_tree.specs.Statements as stmt
 use Rattle.nss_symbols.specs.declared.terminal.Terminal.TheVariants as terminal
 use Rattle.nss_symbols.specs.Symbols.{Numbered}
 use Rattle.nss_symbols.specs.Outcome.{Outcome, Got, Stuck, Deep, Parser, and_then, ◌>>=◌, pure, branch, sees, take, expect}
-use Rattle.nss_tree.specs.declared.expressions.Expr.{Expr}
 use Rattle.nss_symbols.specs.declared.terminal.Terminal.{Terminal}
 use Rattle.nss_parser.specs.declared.statement.ForHead.{ForHead}
-use Rattle.nss_parser.specs.ReadStatement.{condition, optional, after_then, if_statement, do_statement, for_statement}
+use Rattle.nss_parser.specs.ReadStatement.{condition, optional, after_then, if_statement, do_statement, for_statement, switch_body, switch_statement}
 use Rattle.nss_parser.specs.ReadParts.{else_part, if_of, if_rest, do_end, do_rest, for_part, for_head, for_rest}
 
 module _ (n : ℕ) (x : PlainExpr) (s : SourceStmt) where
@@ -101,3 +100,9 @@ head_is d f i =
 pub for_is : (d : ℕ) (statement : Parser SourceStmt) (i : List Numbered) → for_statement d statement i ≡ and_then (take i) (λ n. for_head d >>= for_rest statement n)
 unfolding for_statement
 for_is d statement i = same_after (take i) _ _ (λ n r. sym (head_is d (for_rest statement n) r))
+
+pub switch_is : (d : ℕ) (statement : Parser SourceStmt) (i : List Numbered)
+    → switch_statement d statement i ≡ and_then (take i) (λ n. condition d >>= λ x. switch_body d statement >>= λ all. pure (stmt.switch n x all))
+unfolding switch_statement
+switch_is d statement i =
+    same_after (take i) _ _ (λ n r. same_after (condition d r) _ _ (λ x r2. sym (regroup (expect terminal.OpenBrace r2) _ _)))

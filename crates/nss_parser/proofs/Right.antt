@@ -148,14 +148,13 @@ pub viable_then : {A B : Type 0} (N : A → List Numbered → Type 0) (M : B →
     → ((x : A) (ys : List Numbered) (n : ℕ) → N x ys → (y : B) × M y (ys ++ numbered_from n (symbols tail))) → Viable M xs
 viable_then N M xs tail v h n =
     let (more, x, p) = v n in
-    let (y, q) = h x (xs ++ numbered_from n (symbols more)) (n + length (symbols more)) p in
-    (
+    let (y, q) = h x (xs ++ numbered_from n (symbols more)) (n + length (symbols more)) p in (
       more ++ tail,
       y,
       subst (λ (z : List Numbered). M y z)
-      (append_assoc xs (numbered_from n (symbols more)) (numbered_from (n + length (symbols more)) (symbols tail))
-      ∙ ap (λ r. xs ++ r) (sym (numbered_append n (symbols more) (symbols tail)) ∙ ap (λ r. numbered_from n r) (sym (symbols_append more tail))))
-      q,
+          (append_assoc xs (numbered_from n (symbols more)) (numbered_from (n + length (symbols more)) (symbols tail))
+          ∙ ap (λ r. xs ++ r) (sym (numbered_append n (symbols more) (symbols tail)) ∙ ap (λ r. numbered_from n r) (sym (symbols_append more tail))))
+          q,
     )
 
 pub viable_as : {A B : Type 0} (N : A → List Numbered → Type 0) (M : B → List Numbered → Type 0) (xs : List Numbered) → Viable N xs

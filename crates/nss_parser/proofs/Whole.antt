@@ -105,10 +105,10 @@ prefix_of tokens xs left e v =
       tree = record { items = x; count = length (take (length xs) tokens ++ symbols more) };
       parses = record {
         items =
-          subst (λ (z : List Numbered). Items x z)
-          (ap (λ (l : List Numbered). l ++ numbered_from (0 + length (take (length xs) tokens)) (symbols more)) (sym (take_numbered 0 tokens xs left e))
-          ∙ sym (numbered_append 0 (take (length xs) tokens) (symbols more)))
-          p;
+            subst (λ (z : List Numbered). Items x z)
+            (ap (λ (l : List Numbered). l ++ numbered_from (0 + length (take (length xs) tokens)) (symbols more)) (sym (take_numbered 0 tokens xs left e))
+            ∙ sym (numbered_append 0 (take (length xs) tokens) (symbols more)))
+            p;
         count = refl;
       };
     }
@@ -143,8 +143,8 @@ place_of tokens d xs left lt stuck is v within = record {
   prefix = prefix_of tokens xs left is v;
   dead = dead left stuck is;
   none = λ x p.
-    let a : unit d (numbered_from 0 tokens) ≡ Got x.items [] = whole_reads p.items d (let l = numbered_length 0 tokens in omega arith) in
-    let bad : Got x.items [] ≡ Stuck left = sym a ∙ stuck in cc;
+      let a : unit d (numbered_from 0 tokens) ≡ Got x.items [] = whole_reads p.items d (let l = numbered_length 0 tokens in omega arith) in
+      let bad : Got x.items [] ≡ Stuck left = sym a ∙ stuck in cc;
 }
   where
     dead : (end : List Numbered) → unit d (numbered_from 0 tokens) ≡ Stuck end → numbered_from 0 tokens ≡ xs ++ end → length xs < length tokens → IsDead (take (length xs + 1) tokens)

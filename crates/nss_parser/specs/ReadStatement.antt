@@ -95,6 +95,9 @@ module _ (d : ℕ) (statement : Parser SourceStmt) where
       optional d terminal.Close >>= λ z. expect terminal.Close >>= λ e.
       statement >>= λ s. pure (stmt.for_loop n x y z s)
 
+  abbrev pub switch_body : Parser SourceStmts
+  switch_body = expect terminal.OpenBrace >>= λ c. entries true
+
   unfoldable pub switch_statement : Parser SourceStmt
   switch_statement = take >>= λ n. condition d >>= λ x. expect terminal.OpenBrace >>= λ c. entries true >>= λ all. pure (stmt.switch n x all)
 

@@ -9,7 +9,7 @@ ghost use Rattle.nss_symbols.specs.Cursor.{plain_symbol, Reads};
 
 use crate::expression::expression;
 use nss_lexer::literal;
-use nss_symbols::{Cursor, Terminal, Seen, Stop, name_text};
+use nss_symbols::{Cursor, Seen, Stop, Terminal, name_text};
 use nss_tree::{Constant, DeclaredName, Identifier, TypeName};
 use nwq_value::{Items, NoMemory};
 use std::alloc::Global;

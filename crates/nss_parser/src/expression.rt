@@ -6,7 +6,7 @@ ghost use Rattle.nss_symbols.specs.Cursor.{Reads};
 
 use crate::operator::{Suffix, assign_of, binary_of, level_of, prefix_of, suffix_of};
 use nss_lexer::literal;
-use nss_symbols::{Cursor, Terminal, Seen, Stop, name_text};
+use nss_symbols::{Cursor, Seen, Stop, Terminal, name_text};
 use nss_tree::{BinaryOperator, Expr};
 use nwq_value::{Items, NoMemory, Text};
 use std::alloc::Global;
@@ -15,12 +15,7 @@ use std::alloc::Global;
 const UNARY_LEVEL: u32 = 11;
 
 /// A member of an expression, after its `.`.
-fn member(
-    alloc: Global,
-    tokens: &mut Cursor<'_>,
-    number: u32,
-    of: Expr,
-) -> Result<Expr, Stop>
+fn member(alloc: Global, tokens: &mut Cursor<'_>, number: u32, of: Expr) -> Result<Expr, Stop>
     ensures { Reads plain_expr (read.member number (plain_expr of) tokens.old) result tokens.new }
 {
     match tokens.name(alloc) {

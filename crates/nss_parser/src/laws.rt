@@ -1,6 +1,7 @@
 //! Laws of the grammar, each the contract of a function that does nothing.
 
 ghost use Rattle.nss_parser.specs.Fault.{NoRefusalOfTrees, OneRefusal};
+ghost use Rattle.nss_parser.specs.Weight.{EachTreeWithinTokens};
 ghost use Rattle.nss_parser.specs.Sentence.{OneTree, TreeOrPlace};
 
 /// A list of tokens has at most one tree.
@@ -18,4 +19,10 @@ pub fn tree_or_place()
 pub fn one_refusal()
     ensures one { OneRefusal }
     ensures none { NoRefusalOfTrees }
+{}
+
+/// A tree has no more nodes, variables, structs and bodies than its unit has tokens, and each node's token is the
+/// unit's.
+pub fn within_tokens()
+    ensures { EachTreeWithinTokens }
 {}

@@ -4,7 +4,7 @@ ghost use Rattle.nss_parser.specs.Operators as table;
 ghost use Rattle.nss_parser.specs.ReadExpression as read;
 ghost use Rattle.nss_symbols.specs.Cursor.{plain_symbol};
 
-use nss_symbols::{Terminal, Seen};
+use nss_symbols::{Seen, Terminal};
 use nss_tree::{AssignOperator, BinaryOperator, PostfixOperator, PrefixOperator};
 
 /// What may go on an expression after it: a `.` with a name, or an operator.

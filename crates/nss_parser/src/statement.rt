@@ -9,7 +9,7 @@ ghost use Rattle.nss_symbols.specs.Cursor.{Reads};
 
 use crate::declaration::{begins_type, constant_value, declared_names, typed};
 use crate::expression::expression;
-use nss_symbols::{Cursor, Terminal, Seen, Stop};
+use nss_symbols::{Cursor, Seen, Stop, Terminal};
 use nss_tree::{Expr, Stmt};
 use nwq_value::{Items, NoMemory};
 use std::alloc::Global;
@@ -87,8 +87,13 @@ fn expression_statement(alloc: Global, tokens: &mut Cursor<'_>, depth: usize) ->
 {
     let number = tokens.here()?;
     let value = expression(alloc, tokens, depth)?;
-    tokens.expect(Terminal::Semicolon)?;
-    Ok(Stmt::expression(number, value))
+    match tokens.expect(Terminal::Semicolon) {
+        Err(misfit) => {
+            drop(value);
+            Err(Stop::from(misfit))
+        }
+        Ok(_) => Ok(Stmt::expression(number, value)),
+    }
 }
 
 /// `break`.
@@ -118,8 +123,13 @@ fn return_statement(alloc: Global, tokens: &mut Cursor<'_>, depth: usize) -> Res
 {
     let number = tokens.take()?;
     let value = optional(alloc, tokens, depth, Terminal::Semicolon)?;
-    tokens.expect(Terminal::Semicolon)?;
-    Ok(Stmt::return_from(number, value))
+    match tokens.expect(Terminal::Semicolon) {
+        Err(misfit) => {
+            drop(value);
+            Err(Stop::from(misfit))
+        }
+        Ok(_) => Ok(Stmt::return_from(number, value)),
+    }
 }
 
 /// No entries.
@@ -253,8 +263,13 @@ fn if_statement(alloc: Global, tokens: &mut Cursor<'_>, depth: usize) -> Result<
 {
     let number = tokens.take()?;
     let value = condition(alloc, tokens, depth)?;
-    let inner = statement(alloc, tokens, depth)?;
-    if_rest(alloc, tokens, depth, number, value, inner)
+    match statement(alloc, tokens, depth) {
+        Err(stop) => {
+            drop(value);
+            Err(stop)
+        }
+        Ok(inner) => if_rest(alloc, tokens, depth, number, value, inner),
+    }
 }
 
 /// `while`.
@@ -265,8 +280,13 @@ fn while_statement(alloc: Global, tokens: &mut Cursor<'_>, depth: usize) -> Resu
 {
     let number = tokens.take()?;
     let condition = condition(alloc, tokens, depth)?;
-    let body = statement(alloc, tokens, depth)?;
-    Ok(Stmt::while_loop(alloc, number, condition, body)?)
+    match statement(alloc, tokens, depth) {
+        Err(stop) => {
+            drop(condition);
+            Err(stop)
+        }
+        Ok(body) => Ok(Stmt::while_loop(alloc, number, condition, body)?),
+    }
 }
 
 /// What stands behind the body of a `do`.
@@ -276,8 +296,13 @@ fn do_end(alloc: Global, tokens: &mut Cursor<'_>, depth: usize) -> Result<Expr, 
 {
     tokens.expect(Terminal::While)?;
     let value = condition(alloc, tokens, depth)?;
-    tokens.expect(Terminal::Semicolon)?;
-    Ok(value)
+    match tokens.expect(Terminal::Semicolon) {
+        Err(misfit) => {
+            drop(value);
+            Err(Stop::from(misfit))
+        }
+        Ok(_) => Ok(value),
+    }
 }
 
 /// What follows the body of a `do`.
@@ -395,17 +420,30 @@ fn for_statement(alloc: Global, tokens: &mut Cursor<'_>, depth: usize) -> Result
     }
 }
 
+/// The body of a `switch`, a block with labels.
+#[cycle(statement)]
+fn switch_body(alloc: Global, tokens: &mut Cursor<'_>, depth: usize) -> Result<Items<Stmt>, Stop>
+    ensures { Reads plain_stmts (read.switch_body depth (read.statement depth) tokens.old) result tokens.new }
+{
+    tokens.expect(Terminal::OpenBrace)?;
+    entries(alloc, tokens, depth, true)
+}
+
 /// `switch`, whose body is a block with labels.
 #[cycle(statement)]
-#[tactic(auto, unfolding(crate::specs::ReadStatement::switch_statement))]
+#[tactic(auto, using(crate::proofs::PartLaws::switch_is))]
 fn switch_statement(alloc: Global, tokens: &mut Cursor<'_>, depth: usize) -> Result<Stmt, Stop>
     ensures { Reads plain_stmt (read.switch_statement depth (read.statement depth) tokens.old) result tokens.new }
 {
     let number = tokens.take()?;
     let value = condition(alloc, tokens, depth)?;
-    tokens.expect(Terminal::OpenBrace)?;
-    let body = entries(alloc, tokens, depth, true)?;
-    Ok(Stmt::switch(number, value, body))
+    match switch_body(alloc, tokens, depth) {
+        Err(stop) => {
+            drop(value);
+            Err(stop)
+        }
+        Ok(body) => Ok(Stmt::switch(number, value, body)),
+    }
 }
 
 /// The statement that its first token begins.

@@ -8,7 +8,7 @@ ghost use Rattle.nss_symbols.specs.Cursor.{Reads};
 
 use crate::declaration::{constant_value, declared_after, identifier, more_declared, typed};
 use crate::statement::entries;
-use nss_symbols::{Cursor, Terminal, Stop};
+use nss_symbols::{Cursor, Stop, Terminal};
 use nss_tree::{FieldLine, Identifier, Item, Parameter, Stmt, TypeName};
 use nwq_value::{Items, NoMemory, Text};
 use std::alloc::Global;
@@ -206,11 +206,7 @@ fn body(alloc: Global, tokens: &mut Cursor<'_>, depth: usize) -> Result<Option<I
 }
 
 /// A function, after its name.
-#[tactic(
-    auto,
-    using(nss_tree::specs::Readings::map_body),
-    unfolding(crate::specs::ReadUnit::function)
-)]
+#[tactic(auto, using(nss_tree::specs::Readings::map_body), unfolding(crate::specs::ReadUnit::function))]
 fn function(
     alloc: Global,
     tokens: &mut Cursor<'_>,

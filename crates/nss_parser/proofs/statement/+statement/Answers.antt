@@ -4,7 +4,7 @@ use Rattle.nss_tree.specs.Source.{SourceStmts}
 use Rattle.nss_tree.specs.Reading.{plain_expr, plain_stmt, plain_stmts}
 use Rattle.nss_parser.specs.ReadStatement as read
 use Rattle.nss_parser.proofs.LoopTurns.{entry_more}
-use Rattle.nss_parser.proofs.PartLaws.{if_is, do_is, for_is}
+use Rattle.nss_parser.proofs.PartLaws.{if_is, do_is}
 use Rattle.nss_parser.proofs.Turns.{one_more, deeper}
 use Rattle.nss_parser.proofs.statement.+statement.Goals as goal
 
@@ -21,10 +21,10 @@ statement-returns t c =
     let e = deeper (λ n. read.statement n c.args.tokens.now) c.args.depth (omega arith) in
     first_of (search rules, grind (arith, common_steps))
 
-pub if_statement-returns : goal.if_statement-returns
-if_statement-returns t c =
-    let e = if_is c.args.depth (read.statement c.args.depth) c.in_ok-number.number (plain_expr c.in_ok-value.value) (plain_stmt c.in_ok-inner.inner)
-    c.args.tokens.now c.take.new.self c.condition.new.tokens c.statement.new.tokens c.in_ok-number.ensures c.in_ok-value.ensures c.in_ok-inner.ensures in
+pub if_statement-returns-in-Ok : goal.if_statement-returns-in-Ok
+if_statement-returns-in-Ok t c =
+    let e = if_is c.args.depth (read.statement c.args.depth) c.in_ok-number.number (plain_expr c.in_ok-value.value) (plain_stmt c.in-Ok.inner)
+    c.args.tokens.now c.take.new.self c.condition.new.tokens c.statement.new.tokens c.in_ok-number.ensures c.in_ok-value.ensures c.in-Ok.ensures in
     rw e c.if_rest.ensures
 
 pub do_statement-returns : goal.do_statement-returns
