@@ -282,7 +282,8 @@ fn after_first(
     }
 }
 
-/// An expression of a level: 0 may be an assignment, then come the levels of operators, and the last is unary.
+/// An expression of a level: 0 may be an assignment, then come the levels of operators, and the
+/// last is unary.
 #[cycle(level)]
 #[tactic(auto, unfolding(crate::specs::ReadExpression::level))]
 pub fn level(alloc: Global, tokens: &mut Cursor<'_>, depth: usize, least: u32) -> Result<Expr, Stop>

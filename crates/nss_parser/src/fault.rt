@@ -7,7 +7,8 @@ use nwq_value::NoMemory as OutOfMemory;
 pub enum ParseFault {
     /// The first token whose nest passes the limit.
     Nested(u32),
-    /// The first token that can't stand where it stands, or the count where the tokens end too early.
+    /// The first token that can't stand where it stands, or the count where the tokens end too
+    /// early.
     Syntax(u32),
     NoMemory,
 }

@@ -14,15 +14,15 @@ pub fn tree_or_place()
     ensures { TreeOrPlace }
 {}
 
-/// A list of tokens is refused for one reason, and one that has a tree and nests within the limit for none, want of
-/// memory aside.
+/// A list of tokens is refused for one reason, and one that has a tree and nests within the limit
+/// for none, want of memory aside.
 pub fn one_refusal()
     ensures one { OneRefusal }
     ensures none { NoRefusalOfTrees }
 {}
 
-/// A tree has no more nodes, variables, structs and bodies than its unit has tokens, and each node's token is the
-/// unit's.
+/// A tree has no more nodes, variables, structs and bodies than its unit has tokens, and each
+/// node's token is the unit's.
 pub fn within_tokens()
     ensures { EachTreeWithinTokens }
 {}

@@ -1,8 +1,8 @@
-ghost use Rattle.std.specs.Prelude.{◌≡◌, [], ◌∷◌, ◌++◌, false, map, IfOk};
+ghost use Rattle.std.specs.Prelude.{◌≡◌, [], ◌∷◌, ◌++◌, map, IfOk};
 ghost use Rattle.std.specs.Option.{option_map};
 ghost use Rattle.nss_tree.specs.Reading.{plain_item, plain_name, plain_stmts};
-ghost use Rattle.nss_parser.specs.ReadStatement as statements;
 ghost use Rattle.nss_parser.specs.ReadUnit as read;
+ghost use Rattle.nss_parser.specs.ReadWhole.{body_rest};
 ghost use Rattle.nss_symbols.specs.Outcome.{first};
 ghost use Rattle.nss_symbols.specs.Cursor.{Reads};
 
@@ -193,7 +193,7 @@ fn global(
 /// The body of a function, or the `;` of a prototype.
 #[tactic(auto, unfolding(crate::specs::ReadUnit::body))]
 fn body(alloc: Global, tokens: &mut Cursor<'_>, depth: usize) -> Result<Option<Items<Stmt>>, Stop>
-    ensures { Reads (option_map plain_stmts) (read.body depth (statements.entries depth (statements.statement depth) false) tokens.old) result tokens.new }
+    ensures { Reads (option_map plain_stmts) (read.body depth (body_rest depth) tokens.old) result tokens.new }
 {
     if tokens.sees(Terminal::Semicolon) {
         tokens.take()?;
@@ -214,7 +214,7 @@ fn function(
     ty: TypeName,
     of: Identifier,
 ) -> Result<Item, Stop>
-    ensures { Reads plain_item (read.function depth (statements.entries depth (statements.statement depth) false) ty of tokens.old) result tokens.new }
+    ensures { Reads plain_item (read.function depth (body_rest depth) ty of tokens.old) result tokens.new }
 {
     tokens.take()?;
     let all = parameters(alloc, tokens, depth)?;
@@ -231,7 +231,7 @@ fn after_type(
     token: u32,
     ty: TypeName,
 ) -> Result<Item, Stop>
-    ensures { Reads plain_item (read.after_type depth (statements.entries depth (statements.statement depth) false) token ty tokens.old) result tokens.new }
+    ensures { Reads plain_item (read.after_type depth (body_rest depth) token ty tokens.old) result tokens.new }
 {
     let of = identifier(alloc, tokens)?;
     if tokens.sees(Terminal::Open) {
@@ -244,7 +244,7 @@ fn after_type(
 /// What begins with `struct`: a struct, or what has a struct as its type.
 #[tactic(auto, unfolding(crate::specs::ReadUnit::after_struct))]
 fn after_struct(alloc: Global, tokens: &mut Cursor<'_>, depth: usize) -> Result<Item, Stop>
-    ensures { Reads plain_item (read.after_struct depth (statements.entries depth (statements.statement depth) false) tokens.old) result tokens.new }
+    ensures { Reads plain_item (read.after_struct depth (body_rest depth) tokens.old) result tokens.new }
 {
     let token = tokens.take()?;
     let of = identifier(alloc, tokens)?;
@@ -257,7 +257,7 @@ fn after_struct(alloc: Global, tokens: &mut Cursor<'_>, depth: usize) -> Result<
 
 /// What begins with a type that is no struct.
 fn typed_item(alloc: Global, tokens: &mut Cursor<'_>, depth: usize) -> Result<Item, Stop>
-    ensures { Reads plain_item (read.typed_item depth (statements.entries depth (statements.statement depth) false) tokens.old) result tokens.new }
+    ensures { Reads plain_item (read.typed_item depth (body_rest depth) tokens.old) result tokens.new }
 {
     let (token, ty) = typed(alloc, tokens)?;
     after_type(alloc, tokens, depth, token, ty)
@@ -266,7 +266,7 @@ fn typed_item(alloc: Global, tokens: &mut Cursor<'_>, depth: usize) -> Result<It
 /// One item of a unit.
 #[tactic(auto, unfolding(crate::specs::ReadUnit::item))]
 fn item(alloc: Global, tokens: &mut Cursor<'_>, depth: usize) -> Result<Item, Stop>
-    ensures { Reads plain_item (read.item depth (statements.entries depth (statements.statement depth) false) tokens.old) result tokens.new }
+    ensures { Reads plain_item (read.item depth (body_rest depth) tokens.old) result tokens.new }
 {
     if tokens.sees(Terminal::Struct) {
         after_struct(alloc, tokens, depth)
@@ -297,7 +297,7 @@ fn push_item(items: &mut Items<Item>, next: Item) -> Result<(), NoMemory>
 /// All items of a unit.
 #[tactic(auto, unfolding(crate::specs::ReadUnit::items))]
 pub fn unit(alloc: Global, tokens: &mut Cursor<'_>, depth: usize) -> Result<Items<Item>, Stop>
-    ensures { Reads (map plain_item) (read.items depth (statements.entries depth (statements.statement depth) false) tokens.old) result tokens.new }
+    ensures { Reads (map plain_item) (read.items depth (body_rest depth) tokens.old) result tokens.new }
 {
     let mut items = Items::new(alloc);
     for _turn in 0..depth {

@@ -1,13 +1,15 @@
 //! What the grammar of NWScript sees of a unit's tokens.
 //!
-//! [`seen_all`] gives it for each token: a name's bytes, a literal's value, or which [`Terminal`] it is, that is
-//! a word or sign of one fixed spelling. [`Cursor`] hands these out in order, each with its number in the unit,
-//! and [`first_over`] answers the first token that nests too deep, by the tokens alone.
+//! [`seen_all`] gives it for each token: a name's bytes, a literal's value, or which [`Terminal`]
+//! it is, that is a word or sign of one fixed spelling. [`Cursor`] hands these out in order, each
+//! with its number in the unit, and [`first_over`] answers the first token that nests too deep, by
+//! the tokens alone.
 //!
-//! How terminals are written stands in `specs/Terminals.antt`, what is seen of a token and which symbols tokens
-//! spell in `specs/Symbols.antt` and `specs/Tokens.antt`, the nest in `specs/Nest.antt`, and what a reader makes
-//! of the tokens that are left in `specs/Outcome.antt` and `specs/Cursor.antt`. `specs/Spellings.antt` has laws
-//! for proofs above. The page on it is docs/GRAMMAR.md.
+//! How terminals are written stands in `specs/Terminals.antt`, what is seen of a token and which
+//! symbols tokens spell in `specs/Symbols.antt` and `specs/Tokens.antt`, the nest in
+//! `specs/Nest.antt`, and what a reader makes of the tokens that are left in `specs/Outcome.antt`
+//! and `specs/Cursor.antt`. `specs/Spellings.antt` has laws for proofs above. The page on it is
+//! docs/GRAMMAR.md.
 #![tactic(auto)]
 
 pub mod cursor;

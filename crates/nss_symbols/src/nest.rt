@@ -1,6 +1,7 @@
 ghost use Rattle.std.specs.Prelude.{◌≡◌, drop, ◌+◌, ◌<◌, ◌≤◌, ◌^◌, length, map, IfOk, OnOk};
 ghost use Rattle.nss_symbols.specs.Nest as nest;
-ghost use Rattle.nss_symbols.specs.Nest.{IsNestAnswer, head_of, terminal_in, changed, closed, counted, headed, opened, reset, start, total, uncounted};
+ghost use Rattle.nss_symbols.specs.Nest.{IsNestAnswer, head_of, terminal_in, changed, closed};
+ghost use Rattle.nss_symbols.specs.Nest.{counted, headed, opened, reset, start, total, uncounted};
 ghost use Rattle.nss_symbols.specs.Cursor.{plain_symbol};
 
 use crate::symbol::Seen;
@@ -37,7 +38,9 @@ impl Model for Nest {
 
     ghost view = { λ n. record { last = n.last; below = reverse n.below.items } };
 
-    ghost invariant = { λ n. (n.sum ≡ total (record { last = n.last; below = reverse n.below.items })) × AreCounted n.last (reverse n.below.items) };
+    ghost invariant = { λ n.
+        (n.sum ≡ total (record { last = n.last; below = reverse n.below.items }))
+        × AreCounted n.last (reverse n.below.items) };
 }
 
 fn opens(terminal: Terminal) -> bool

@@ -25,8 +25,9 @@ pub enum TypeName {
 
 /// A constant: the value of a const line, of a parameter's default or of a case.
 ///
-/// The token is that of the literal or word, also where a `-` stands before it. An int keeps the literal's
-/// value and whether it is negated. A float keeps no value, since no type of a float is ever accepted.
+/// The token is that of the literal or word, also where a `-` stands before it. An int keeps the
+/// literal's value and whether it is negated. A float keeps no value, since no type of a float is
+/// ever accepted.
 #[derive(Drop)]
 pub enum Constant {
     Int {
@@ -55,7 +56,8 @@ pub enum Constant {
 }
 
 impl Constant {
-    /// An int, whose number is taken as a signed one of 32 bits; `negated` where a `-` stands before it.
+    /// An int, whose number is taken as a signed one of 32 bits; `negated` where a `-` stands
+    /// before it.
     pub fn int(token: u32, negated: bool, value: u32) -> Constant
         ensures { result ≡ constant.Int token negated (cast_signed w32 value) }
     {

@@ -9,8 +9,8 @@ use std::alloc::Global;
 
 /// An expression.
 ///
-/// The token of an operation is its operator, of a call its name, of a member its `.`, of a literal or a
-/// name itself.
+/// The token of an operation is its operator, of a call its name, of a member its `.`, of a literal
+/// or a name itself.
 #[derive(Drop)]
 pub enum Expr {
     Int {
@@ -167,7 +167,8 @@ impl Expr {
         left: Expr,
         right: Expr,
     ) -> Result<Expr, NoMemory>
-        ensures { IfOk result (λ e. plain_expr e ≡ tree.binary token operator (plain_expr left) (plain_expr right)) }
+        ensures { IfOk result
+            (λ e. plain_expr e ≡ tree.binary token operator (plain_expr left) (plain_expr right)) }
     {
         Ok(Expr::Binary {
             token,
@@ -184,7 +185,8 @@ impl Expr {
         place: Expr,
         value: Expr,
     ) -> Result<Expr, NoMemory>
-        ensures { IfOk result (λ e. plain_expr e ≡ tree.assign token operator (plain_expr place) (plain_expr value)) }
+        ensures { IfOk result
+            (λ e. plain_expr e ≡ tree.assign token operator (plain_expr place) (plain_expr value)) }
     {
         Ok(Expr::Assign {
             token,

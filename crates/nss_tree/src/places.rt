@@ -1,7 +1,11 @@
 ghost use Rattle.std.specs.Prelude.{◌≡◌, slice_get};
 ghost use Rattle.std.specs.Option.{option_map};
-ghost use Rattle.nss_tree.specs.Reading.{plain_expr, plain_exprs, plain_item, plain_name, plain_names, plain_stmt, plain_stmts, plain_tree};
-ghost use Rattle.nss_tree.specs.Places.{of_constant, places, places_declared, places_each, places_expr, places_exprs, places_identifier, places_if, places_item, places_line, places_parameter, places_stmt, places_stmts};
+ghost use Rattle.nss_tree.specs.Reading.{plain_expr, plain_exprs, plain_item, plain_name};
+ghost use Rattle.nss_tree.specs.Reading.{plain_names, plain_stmt, plain_stmts, plain_tree};
+ghost use Rattle.nss_tree.specs.Places.{of_constant, places, places_declared, places_each};
+ghost use Rattle.nss_tree.specs.Places.{places_expr, places_exprs, places_identifier, places_if};
+ghost use Rattle.nss_tree.specs.Places.{places_item, places_line, places_parameter, places_stmt};
+ghost use Rattle.nss_tree.specs.Places.{places_stmts};
 ghost use Rattle.nss_tree.specs.Seeking.{passed, sought, token_found};
 
 use crate::constants::Constant;

@@ -7,7 +7,8 @@ use crate::expressions::Expr;
 use nwq_value::{Items, NoMemory, Text};
 use std::alloc::Global;
 
-/// A name that a declaration declares, with its first value where one is written. The token is the name.
+/// A name that a declaration declares, with its first value where one is written. The token is the
+/// name.
 #[derive(Drop)]
 pub struct DeclaredName<E = Expr, N = Text> {
     pub token: u32,
@@ -15,10 +16,11 @@ pub struct DeclaredName<E = Expr, N = Text> {
     pub value: Option<E>,
 }
 
-/// What stands in a block or in the body of a switch: a statement, a declaration or a label, with its
-/// expressions `E`, constants `C`, types `T` and declared names `N`.
+/// What stands in a block or in the body of a switch: a statement, a declaration or a label, with
+/// its expressions `E`, constants `C`, types `T` and declared names `N`.
 ///
-/// The token of a statement or a label is its first token, of a declaration the first token of its type.
+/// The token of a statement or a label is its first token, of a declaration the first token of its
+/// type.
 #[derive(Drop)]
 pub enum Stmt<E = Expr, C = Constant, T = TypeName, N = Text> {
     Block {
@@ -118,7 +120,8 @@ impl<E: Drop, C: Drop, T: Drop, N: Drop> Stmt<E, C, T, N> {
         condition: E,
         then: Stmt<E, C, T, N>,
     ) -> Result<Stmt<E, C, T, N>, NoMemory>
-        ensures { IfOk result (λ s. tree_of_stmt s ≡ tree.if_only token condition (tree_of_stmt then)) }
+        ensures { IfOk result
+            (λ s. tree_of_stmt s ≡ tree.if_only token condition (tree_of_stmt then)) }
     {
         Ok(Stmt::If {
             token,
@@ -134,7 +137,9 @@ impl<E: Drop, C: Drop, T: Drop, N: Drop> Stmt<E, C, T, N> {
         then: Stmt<E, C, T, N>,
         otherwise: Stmt<E, C, T, N>,
     ) -> Result<Stmt<E, C, T, N>, NoMemory>
-        ensures { IfOk result (λ s. tree_of_stmt s ≡ tree.if_else token condition (tree_of_stmt then) (tree_of_stmt otherwise)) }
+        ensures { IfOk result
+            (λ s. tree_of_stmt s ≡ tree.if_else token condition (tree_of_stmt then)
+            (tree_of_stmt otherwise)) }
     {
         match Box::new(alloc, then) {
             Err(error) => {
@@ -156,7 +161,8 @@ impl<E: Drop, C: Drop, T: Drop, N: Drop> Stmt<E, C, T, N> {
         condition: E,
         body: Stmt<E, C, T, N>,
     ) -> Result<Stmt<E, C, T, N>, NoMemory>
-        ensures { IfOk result (λ s. tree_of_stmt s ≡ tree.while_loop token condition (tree_of_stmt body)) }
+        ensures { IfOk result
+            (λ s. tree_of_stmt s ≡ tree.while_loop token condition (tree_of_stmt body)) }
     {
         Ok(Stmt::While {
             token,
@@ -171,7 +177,8 @@ impl<E: Drop, C: Drop, T: Drop, N: Drop> Stmt<E, C, T, N> {
         body: Stmt<E, C, T, N>,
         condition: E,
     ) -> Result<Stmt<E, C, T, N>, NoMemory>
-        ensures { IfOk result (λ s. tree_of_stmt s ≡ tree.do_loop token (tree_of_stmt body) condition) }
+        ensures { IfOk result
+            (λ s. tree_of_stmt s ≡ tree.do_loop token (tree_of_stmt body) condition) }
     {
         Ok(Stmt::Do {
             token,
@@ -188,7 +195,8 @@ impl<E: Drop, C: Drop, T: Drop, N: Drop> Stmt<E, C, T, N> {
         step: Option<E>,
         body: Stmt<E, C, T, N>,
     ) -> Result<Stmt<E, C, T, N>, NoMemory>
-        ensures { IfOk result (λ s. tree_of_stmt s ≡ tree.for_loop token start condition step (tree_of_stmt body)) }
+        ensures { IfOk result
+            (λ s. tree_of_stmt s ≡ tree.for_loop token start condition step (tree_of_stmt body)) }
     {
         Ok(Stmt::For {
             token,

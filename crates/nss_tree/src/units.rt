@@ -8,7 +8,8 @@ use crate::expressions::Expr;
 use crate::statements::{DeclaredName, Stmt};
 use nwq_value::{Items, Text};
 
-/// A name that is declared with no value of its own: that of a const line or of a field. The token is the name.
+/// A name that is declared with no value of its own: that of a const line or of a field. The token
+/// is the name.
 #[derive(Drop)]
 pub struct Identifier {
     pub token: u32,
@@ -34,7 +35,8 @@ pub struct Parameter<C = Constant, T = TypeName, N = Text> {
 
 /// What a unit consists of.
 ///
-/// The token of a struct or a function is its name, of a const line or a global's line the first of its type.
+/// The token of a struct or a function is its name, of a const line or a global's line the first of
+/// its type.
 #[derive(Drop)]
 pub enum Item<E = Expr, C = Constant, T = TypeName, N = Text> {
     Struct {
@@ -98,7 +100,8 @@ impl<E: Drop, C: Drop, T: Drop, N: Drop> Item<E, C, T, N> {
         parameters: Items<Parameter<C, T, N>>,
         body: Option<Items<Stmt<E, C, T, N>>>,
     ) -> Item<E, C, T, N>
-        ensures { tree_of_item result ≡ tree.function token ty name parameters (option_map tree_of_stmts body) }
+        ensures { tree_of_item result ≡ tree.function token ty name parameters
+            (option_map tree_of_stmts body) }
     {
         Item::Function {
             token,

@@ -4,6 +4,8 @@
 #[cfg(test)]
 mod headers;
 #[cfg(test)]
+mod parsing;
+#[cfg(test)]
 mod tokens;
 #[cfg(test)]
 mod units;

@@ -2,9 +2,9 @@ ghost use Rattle.std.specs.Prelude.{◌≤◌, length, IfOk};
 ghost use Rattle.std.specs.List.{AllByRecursion};
 ghost use Rattle.nss_lexer.specs.Lexemes.{IsToken};
 
-use crate::{ParseFault, parse};
 use nss_lexer::{Lexed, SOURCE_BYTES, Token, next};
-use nss_tree::{Item, Stmt, Tree};
+use nss_parser::{ParseFault, parse};
+use nss_tree::{Expr, Item, Stmt, Tree};
 use nwq_value::NoMemory;
 use std::alloc::Global;
 use std::test::Fail;
@@ -39,6 +39,30 @@ fn tree_of(alloc: Global, source: &[u8]) -> Result<Tree, ParseFault> {
     parse(alloc, tokens.as_slice())
 }
 
+/// The place of a script's fault of syntax.
+fn syntax_of(alloc: Global, source: &[u8]) -> Option<u32> {
+    match tree_of(alloc, source) {
+        Ok(tree) => {
+            drop(tree);
+            None
+        }
+        Err(ParseFault::Syntax(place)) => Some(place),
+        Err(_fault) => None,
+    }
+}
+
+/// The first token of a script that nests too deep.
+fn nested_of(alloc: Global, source: &[u8]) -> Option<u32> {
+    match tree_of(alloc, source) {
+        Ok(tree) => {
+            drop(tree);
+            None
+        }
+        Err(ParseFault::Nested(place)) => Some(place),
+        Err(_fault) => None,
+    }
+}
+
 /// Whether these are the tokens of the nodes, in preorder, and no more.
 fn has_places(tree: &Tree, want: &[u32]) -> bool {
     for (node, token) in (0u32..100).zip(want) {
@@ -53,7 +77,7 @@ fn has_places(tree: &Tree, want: &[u32]) -> bool {
 }
 
 /// Each script with the tokens of its tree's nodes in preorder.
-const TREES: [(&[u8], &[u32]); 14] = [
+const TREES: [(&[u8], &[u32]); 15] = [
     (b"", &[]),
     // levels, loosest first, and the other way round
     (
@@ -76,6 +100,11 @@ const TREES: [(&[u8], &[u32]); 14] = [
     (
         b"int g = -f(a, !p.x++)--;",
         &[0, 1, 3, 14, 4, 6, 8, 12, 10, 9],
+    ),
+    // each kind of literal, and a member that is assigned to
+    (
+        b"int g = p.x += f(~1, \"s\", OBJECT_SELF, OBJECT_INVALID, 1.0, -2f) * p;",
+        &[0, 1, 6, 4, 3, 23, 7, 9, 10, 12, 14, 16, 18, 20, 21, 24],
     ),
     // parentheses are no node, and what they hold may be assigned to
     (b"void f() { (a + 1) = 2; }", &[1, 5, 10, 7, 6, 8, 11]),
@@ -112,43 +141,41 @@ const TREES: [(&[u8], &[u32]); 14] = [
 ];
 
 #[test]
-fn trees(rt: HostRuntime) -> Result<(), Fail> {
+fn trees(rt: HostRuntime) {
     for (source, places) in TREES {
-        let tree = tree_of(rt.alloc(), source)?;
-        assert!(rt; has_places(&tree, places));
+        match tree_of(rt.alloc(), source) {
+            Ok(tree) => {
+                assert!(rt; has_places(&tree, places));
+                drop(tree);
+            }
+            Err(_fault) => assert!(rt; false),
+        }
     }
-    Ok(())
 }
 
-/// Each script with its fault.
-const FAULTS: [(&[u8], ParseFault); 15] = [
-    (b"void main() { int 5; }", ParseFault::Syntax(6)),
-    (b"void main() { int a; a + 1 = 2; }", ParseFault::Syntax(11)),
-    (b"void main() {", ParseFault::Syntax(5)),
-    (b"void main() { else; }", ParseFault::Syntax(5)),
-    (b"void main() { if (a) int b; }", ParseFault::Syntax(9)),
-    (b"void main() { case 1: }", ParseFault::Syntax(5)),
-    (
-        b"void main() { switch (a) default: ; }",
-        ParseFault::Syntax(9),
-    ),
-    (b"void main() { do ; while (a) }", ParseFault::Syntax(11)),
-    (b"void main() { f(a,); }", ParseFault::Syntax(9)),
-    (b"void main() { a ? b : c; }", ParseFault::Syntax(6)),
-    (b"int a[2];", ParseFault::Syntax(2)),
-    (b"int", ParseFault::Syntax(1)),
-    (b"struct P { };", ParseFault::Syntax(3)),
-    (b"const int C = +1;", ParseFault::Syntax(4)),
-    (b"#include \"a\"", ParseFault::Syntax(0)),
+/// Each script with the place of its fault.
+const FAULTS: [(&[u8], u32); 15] = [
+    (b"void main() { int 5; }", 6),
+    (b"void main() { int a; a + 1 = 2; }", 11),
+    (b"void main() {", 5),
+    (b"void main() { else; }", 5),
+    (b"void main() { if (a) int b; }", 9),
+    (b"void main() { case 1: }", 5),
+    (b"void main() { switch (a) default: ; }", 9),
+    (b"void main() { do ; while (a) }", 11),
+    (b"void main() { f(a,); }", 9),
+    (b"void main() { a ? b : c; }", 6),
+    (b"int a[2];", 2),
+    (b"int", 1),
+    (b"struct P { };", 3),
+    (b"const int C = +1;", 4),
+    (b"#include \"a\"", 0),
 ];
 
 #[test]
 fn faults(rt: HostRuntime) {
-    for (source, want) in FAULTS {
-        match tree_of(rt.alloc(), source) {
-            Ok(_) => assert!(rt; false),
-            Err(fault) => assert_eq!(rt; fault, want),
-        }
+    for (source, place) in FAULTS {
+        assert_eq!(rt; syntax_of(rt.alloc(), source), Some(place), "{place}");
     }
 }
 
@@ -173,24 +200,53 @@ fn inner_has_else(tree: &Tree) -> bool {
 }
 
 #[test]
-fn nearest_if(rt: HostRuntime) -> Result<(), Fail> {
-    let tree = tree_of(
+fn nearest_if(rt: HostRuntime) {
+    match tree_of(
         rt.alloc(),
         b"void f() { if (1) if (0) g(1); else g(2); }".as_slice(),
-    )?;
-    assert!(rt; inner_has_else(&tree));
-    Ok(())
+    ) {
+        Ok(tree) => {
+            assert!(rt; inner_has_else(&tree) && tree.count == 25);
+            drop(tree);
+        }
+        Err(_fault) => assert!(rt; false),
+    }
+}
+
+/// The int that is a script's first global's first value.
+fn first_int(tree: &Tree) -> Option<i32> {
+    match tree.items.as_slice() {
+        [Item::Global { names, .. }, ..] => match names.as_slice() {
+            [name, ..] => match &name.value {
+                Some(Expr::Int { value, .. }) => Some(*value),
+                _ => None,
+            },
+            [] => None,
+        },
+        _ => None,
+    }
+}
+
+#[test]
+fn literals(rt: HostRuntime) {
+    for (source, value) in [
+        (b"int g = 0;".as_slice(), 0),
+        (b"int g = 0x80000000;", i32::MIN),
+        (b"int g = 4294967295;", -1),
+    ] {
+        match tree_of(rt.alloc(), source) {
+            Ok(tree) => {
+                assert_eq!(rt; first_int(&tree), Some(value));
+                drop(tree);
+            }
+            Err(_fault) => assert!(rt; false),
+        }
+    }
 }
 
 #[test]
 fn nest(rt: HostRuntime) {
     let open = [b'('; 257];
-    match tree_of(rt.alloc(), &open) {
-        Ok(_) => assert!(rt; false),
-        Err(fault) => assert_eq!(rt; fault, ParseFault::Nested(256)),
-    }
-    match tree_of(rt.alloc(), &open[..256]) {
-        Ok(_) => assert!(rt; false),
-        Err(fault) => assert_eq!(rt; fault, ParseFault::Syntax(0)),
-    }
+    assert_eq!(rt; nested_of(rt.alloc(), &open), Some(256));
+    assert_eq!(rt; syntax_of(rt.alloc(), &open[..256]), Some(0));
 }
