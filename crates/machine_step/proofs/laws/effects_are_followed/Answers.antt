@@ -1,5 +1,5 @@
-use Rattle.machine_step.proofs.FollowLemmas.{ty_is}
+use Rattle.machine_step.proofs.FollowLemmas.{effects_are_followed}
 use Rattle.machine_step.proofs.laws.effects_are_followed.Goals as goal
 
 pub returns : goal.returns
-returns c = ?
+returns c = effects_are_followed
