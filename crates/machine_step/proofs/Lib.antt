@@ -1,3 +1,4 @@
+mod FollowLemmas
 mod Rows
 mod RunLemmas
 mod ValueLemmas

@@ -4,6 +4,7 @@ pub mod Cells
 pub mod Frames
 pub mod Calls
 pub mod Act
+pub mod Outlines
 pub mod Machine
 pub mod Runs
 pub mod Laws

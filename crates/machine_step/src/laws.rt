@@ -1,8 +1,14 @@
-ghost use Rattle.machine_step.specs.Laws.{CountsInstructions, EqualityIsTested, FewWait, RunsGoOn};
+ghost use Rattle.machine_step.specs.Laws.{CountsInstructions, EffectsAreFollowed, EqualityIsTested, FewWait, RunsGoOn};
 
 /// The definition's test of two values tells whether they are equal.
 pub fn equality_is_tested()
     ensures { EqualityIsTested }
+{}
+
+/// Where an instruction has a stack effect on the slots of a stack, it has a case there, and the cells after it
+/// have the outlines that the effect says: the types, and the bases as they were.
+pub fn effects_are_followed()
+    ensures { EffectsAreFollowed }
 {}
 
 /// In a world of any kind, no more scripts wait than may.

@@ -11,4 +11,4 @@
 
 mod laws;
 
-pub use laws::{equality_is_tested, few_scripts_wait, limits_count_instructions};
+pub use laws::{effects_are_followed, equality_is_tested, few_scripts_wait, limits_count_instructions};
