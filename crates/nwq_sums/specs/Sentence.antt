@@ -49,4 +49,4 @@ pub data IsNoSentence (tokens : List Symbol) : ℕ → Type 0 where
 abbrev pub first_print : List Symbol → Option ℕ
 first_print [] = None
 first_print (PrintInteger ∷ more) = Some 0
-first_print (other ∷ more) = option_map suc (first_print more)
+first_print (symbol ∷ more) = option_map suc (first_print more)

@@ -139,6 +139,7 @@ pub fn play(alloc: Global, printer: u16, sums: &[Items<u32>]) -> Result<Played, 
     requires sums { AreSums sums.now }
     requires small { length (spelled sums.now) ≤ 100_000 }
     ensures printed { IfOk result (λ played. played.printed ≡ prints_of sums.now) }
+    ensures length { IfOk result (λ played. played.count ≡ length (code_of printer sums.now)) }
     ensures count { IfOk result (λ played. RunsTo printer (code_of printer sums.now) played.count (prints_of sums.now)) }
 {
     begun_stands();

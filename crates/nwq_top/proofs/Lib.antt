@@ -1,13 +1,4 @@
-mod SentenceLemmas
-mod CodeLemmas
-mod MachineLemmas
-mod StepLemmas
-mod ParseLemmas
+mod EndingLemmas
+mod PlayLemmas
 mod TextLemmas
-mod OneSentence
-mod OneRun
-mod OneWork
-mod WorkLemmas
-mod PlaceLemmas
-mod RunLemmas
-mod Rows
+mod WordLemmas

@@ -1,7 +1,8 @@
 -- What the answers of a read and of a write do, in the words of their own clauses.
 use Rattle.std.proofs.Common.{◌≡◌, ℕ, ◌<◌, ◌≤◌, inl, inr, List, length, Option, Some, None, IsSomeAnd, nat_lt, true, false, Result, Ok, Err, refl, sym, subst, arith}
 use Rattle.std.specs.FinMap as map
-use Rattle.nwq_outside.specs.Outside.{Contents, KeepsOthers, file_limit}
+use Rattle.nwq_value.specs.Limits.{file_limit}
+use Rattle.nwq_outside.specs.Outside.{Contents, KeepsOthers}
 use Rattle.nwq_work.specs.declared.status.Status.{Status}
 use Rattle.nwq_work.specs.Refusal.{Absent, TooLong}
 use Rattle.nwq_work.specs.Work.{CutsShort, Does, by_size, bytes_of, file_named, writes}

@@ -33,27 +33,35 @@ abbrev pub MemoryCounted : Counts → Counts → Type 0
 MemoryCounted (Counted faults absences longs puts) (Counted faults' absences' longs' puts') =
     (faults' ≡ faults) × (puts' ≡ puts) × RefusesOne absences longs absences' longs'
 
--- A call that was refused outside is the last one, and the answer says which it was: with every other answer each count is as before. Only
--- a call outside, or want of memory, may fail after an absent or long file was counted, while its line is put.
+-- How the counts stand where a part ended with this status. A call that was refused outside is the last one, and the status says which it
+-- was: with every other status each count is as before. Only a call outside, or want of memory, may fail after an absent or long file was
+-- counted, while its line is put.
+abbrev pub TalliesEnd : Status → Counts → Counts → Type 0
+TalliesEnd Done before now = ⊥
+TalliesEnd Words before now = now ≡ before
+TalliesEnd Script before now = now ≡ before
+TalliesEnd Code before now = now ≡ before
+TalliesEnd Area before now = now ≡ before
+TalliesEnd Limit before now = now ≡ before
+TalliesEnd Missing before now = AbsenceCounted before now
+TalliesEnd Fault before now = FaultCounted before now
+TalliesEnd Memory before now = MemoryCounted before now
+TalliesEnd Long before now = LongCounted before now
+
 abbrev pub Tallies : {A : Type 0} → Result A Status → Counts → Counts → Type 0
 Tallies (Ok a) before now = now ≡ before
-Tallies (Err Done) before now = ⊥
-Tallies (Err Words) before now = now ≡ before
-Tallies (Err Script) before now = now ≡ before
-Tallies (Err Code) before now = now ≡ before
-Tallies (Err Area) before now = now ≡ before
-Tallies (Err Limit) before now = now ≡ before
-Tallies (Err Missing) before now = AbsenceCounted before now
-Tallies (Err Fault) before now = FaultCounted before now
-Tallies (Err Memory) before now = MemoryCounted before now
-Tallies (Err Long) before now = LongCounted before now
+Tallies (Err status) before now = TalliesEnd status before now
+
+-- the sink's count where a put ended so
+abbrev pub CutsPut : Status → ℕ → ℕ → Type 0
+CutsPut Fault puts puts' = Rises puts puts'
+CutsPut Memory puts puts' = puts' ≡ puts
+CutsPut _ puts puts' = ⊥
 
 -- the sink's count after a put, by its answer
 abbrev pub CountsPut : {A : Type 0} → Result A Status → ℕ → ℕ → Type 0
 CountsPut (Ok a) puts puts' = puts' ≡ puts
-CountsPut (Err Fault) puts puts' = Rises puts puts'
-CountsPut (Err Memory) puts puts' = puts' ≡ puts
-CountsPut (Err _) puts puts' = ⊥
+CountsPut (Err status) puts puts' = CutsPut status puts puts'
 
 -- every name that may not be written has what it had
 abbrev pub KeepsBut : (List ℕ → Type 0) → Contents → Contents → Type 0
@@ -66,6 +74,11 @@ StopsRead Long = Unit {0}
 StopsRead Fault = Unit {0}
 StopsRead Memory = Unit {0}
 StopsRead _ = ⊥
+
+-- what stops a part that reads a source text: it isn't there, is too long or refused, or the work is cut
+abbrev pub StopsSource : Status → Type 0
+StopsSource Script = Unit {0}
+StopsSource status = StopsRead status
 
 -- a refusal answers its own status, or the work is cut
 abbrev pub Refusing : Status → Status → Type 0

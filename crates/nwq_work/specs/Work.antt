@@ -1,7 +1,8 @@
 -- The work of a command in order, and what it is to do it.
 use Rattle.std.specs.Prelude.{◌≡◌, ℕ, nat_lt, Bool, true, false, ◌⊎◌, List, ◌++◌, length, Option, Some, None, Result, Ok, Err}
 use Rattle.std.specs.FinMap as map
-use Rattle.nwq_outside.specs.Outside.{Contents, KeepsOthers, TookPrefix, file_limit}
+use Rattle.nwq_value.specs.Limits.{file_limit}
+use Rattle.nwq_outside.specs.Outside.{Contents, KeepsOthers, TookPrefix}
 use Rattle.nwq_work.specs.declared.status.Status.{Status}
 use Rattle.nwq_work.specs.declared.status.Status.TheVariants.{Done, Fault, Memory}
 use Rattle.nwq_work.specs.Refusal.{Refusal, Absent, TooLong, line_of, status_of}

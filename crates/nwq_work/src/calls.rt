@@ -1,5 +1,5 @@
 ghost use Rattle.std.specs.Prelude.{◌≡◌, ◌≤◌, ℕ, List, length, IsTrue, IfOk, IfErr};
-ghost use Rattle.nwq_outside.specs.Outside.{file_limit};
+ghost use Rattle.nwq_value.specs.Limits.{file_limit};
 ghost use Rattle.nwq_work.specs.Work.{Does, CutsShort, file_named, writes};
 ghost use Rattle.nwq_work.specs.Parts.{PutsWhole};
 ghost use Rattle.nwq_work.specs.Counts.{Counted, Tallies, CountsPut, KeepsBut, StopsRead};

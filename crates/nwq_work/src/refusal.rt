@@ -1,10 +1,9 @@
-ghost use Rattle.std.specs.Prelude.{◌≡◌, ◌++◌, ℕ, Err, codes, OnOk, IfOk, IsTrue};
+ghost use Rattle.std.specs.Prelude.{◌≡◌, ◌++◌, ℕ, codes, OnOk, IfOk, IsTrue};
 ghost use Rattle.nwq_outside.specs.Outside.{Rises};
 ghost use Rattle.nwq_text.specs.Escape.{escaped};
 ghost use Rattle.nwq_work.specs.Refusal.{line_of, NoForm, Absent, TooLong, At};
-ghost use Rattle.nwq_work.specs.Work.{Finished};
 ghost use Rattle.nwq_work.specs.Parts.{Refuses};
-ghost use Rattle.nwq_work.specs.Counts.{Counted, Tallies, Refusing};
+ghost use Rattle.nwq_work.specs.Counts.{Counted, TalliesEnd, Refusing};
 
 use crate::calls::put_line;
 use crate::cause::Cause;
@@ -66,7 +65,7 @@ fn form_line(alloc: Global) -> Result<Vec<u8>, NoMemory>
 #[tactic(auto, using(crate::proofs::Tallied::put_cut))]
 pub fn refuse_form<S: Sink>(alloc: Global, out: &mut S) -> Status
     ensures does { IsTrue S.tells → Refuses NoForm (S.taken out.old) result (S.taken out.new) }
-    ensures counts { (faults absences longs : ℕ) → Tallies {A = Finished} (Err result)
+    ensures counts { (faults absences longs : ℕ) → TalliesEnd result
         (Counted faults absences longs (S.faults out.old)) (Counted faults absences longs (S.faults out.new)) }
     ensures only { Refusing Status.Words result }
 {
@@ -87,7 +86,7 @@ pub fn refuse_at<S: Sink>(
     out: &mut S,
 ) -> Status
     ensures does { IsTrue S.tells → Refuses (At name.now line at cause) (S.taken out.old) result (S.taken out.new) }
-    ensures counts { (faults absences longs : ℕ) → Tallies {A = Finished} (Err result)
+    ensures counts { (faults absences longs : ℕ) → TalliesEnd result
         (Counted faults absences longs (S.faults out.old)) (Counted faults absences longs (S.faults out.new)) }
     ensures only { Refusing Status.Script result }
 {
@@ -101,7 +100,7 @@ pub fn refuse_at<S: Sink>(
 #[tactic(auto, using(crate::proofs::Tallied::absent_cut))]
 pub fn refuse_absent<S: Sink>(alloc: Global, name: &[u8], out: &mut S) -> Status
     ensures does { IsTrue S.tells → Refuses (Absent name.now) (S.taken out.old) result (S.taken out.new) }
-    ensures counts { (faults absences absences' longs : ℕ) → Rises absences absences' → Tallies {A = Finished} (Err result)
+    ensures counts { (faults absences absences' longs : ℕ) → Rises absences absences' → TalliesEnd result
         (Counted faults absences longs (S.faults out.old)) (Counted faults absences' longs (S.faults out.new)) }
     ensures only { Refusing Status.Missing result }
 {
@@ -115,7 +114,7 @@ pub fn refuse_absent<S: Sink>(alloc: Global, name: &[u8], out: &mut S) -> Status
 #[tactic(auto, using(crate::proofs::Tallied::long_cut))]
 pub fn refuse_long<S: Sink>(alloc: Global, name: &[u8], out: &mut S) -> Status
     ensures does { IsTrue S.tells → Refuses (TooLong name.now) (S.taken out.old) result (S.taken out.new) }
-    ensures counts { (faults absences longs longs' : ℕ) → Rises longs longs' → Tallies {A = Finished} (Err result)
+    ensures counts { (faults absences longs longs' : ℕ) → Rises longs longs' → TalliesEnd result
         (Counted faults absences longs (S.faults out.old)) (Counted faults absences longs' (S.faults out.new)) }
     ensures only { Refusing Status.Long result }
 {

@@ -40,3 +40,10 @@ returns-in-Ends-clause-count c =
     (turned c.begun_stands.ensures.stands c.sizes_are_lengths.ensures.ops c.args.printer (omega (arith, c.ranges.printer)) c.args.sums.now c.as_slice.result.now c.loop-machine.machine
     c.loop-machine.count c.loop-machine.invariant (c.as_slice.ensures.value ∙ c.in_ok-file.ensures) c.step.new.m c.in_ok-next.next c.in_ok-next.ensures) in
     ran c.args.printer c.args.sums.now (c.loop-machine.count + 1) c.requires.sums ended.1
+
+pub returns-in-Ends-clause-length : goal.returns-in-Ends-clause-length
+returns-in-Ends-clause-length c =
+    let ended = subst (λ next. Turned c.args.printer c.args.sums.now next c.step.new.m c.loop-machine.count) c.in-Ends.is
+    (turned c.begun_stands.ensures.stands c.sizes_are_lengths.ensures.ops c.args.printer (omega (arith, c.ranges.printer)) c.args.sums.now c.as_slice.result.now c.loop-machine.machine
+    c.loop-machine.count c.loop-machine.invariant (c.as_slice.ensures.value ∙ c.in_ok-file.ensures) c.step.new.m c.in_ok-next.next c.in_ok-next.ensures) in
+    ended.1

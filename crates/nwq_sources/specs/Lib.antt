@@ -1,0 +1,3 @@
+pub mod Headers
+pub mod Units
+pub mod Gathering
