@@ -1,5 +1,5 @@
-//! The program: it makes the real files, standard output and standard error, hands them with its words to [`nwq_program`], and
-//! ends with the number that comes back.
+//! The program: it makes the real files, standard output and standard error, hands them with its
+//! words to [`nwq_program`], and ends with the number that comes back.
 #![tactic(auto)]
 
 ghost use Rattle.std.specs.Prelude.{◌≡◌};
@@ -39,8 +39,8 @@ fn run(rt: HostRuntime) -> io::Result<u8> {
     ))
 }
 
-/// How the program ends: with the number that came back, or, where there was no memory for the words, the files or
-/// the sinks, as where a command wants it.
+/// How the program ends: with the number that came back, or, where there was no memory for the
+/// words, the files or the sinks, as where a command wants it.
 fn end(outcome: io::Result<u8>) -> ExitCode
     ensures { exit_status result ≡ end_number outcome }
 {

@@ -10,7 +10,8 @@ use Rattle.nss_include.specs.declared.file.Source.{Source}
 use Rattle.nss_include.specs.Names.{spot_in}
 use Rattle.nss_include.specs.Units.{source}
 use Rattle.nss_include.specs.View.{StandsIn}
-use Rattle.nwq_sources.specs.Units.{file_at, spot_of, spot_at}
+use Rattle.nss_symbols.specs.Tokens.{symbol_of, symbols_of}
+use Rattle.nwq_sources.specs.Units.{grammar_symbols, file_at, spot_of, spot_at}
 
 map_get : {A B : Type 0} (f : A → B) (xs : List A) (i : ℕ) → slice_get (map f xs) i ≡ option_map f (slice_get xs i)
 map_get f [] i = refl
@@ -68,3 +69,11 @@ module _ (files : List Source) (tokens : List Token) (lexemes : List Lexeme) (i 
       → IfOk r (λ spot. option_map (λ (f : Source). spot_in f end) (slice_get files 0) ≡ Some spot) → IfOk r (λ spot. spot ≡ spot_at files lexemes i)
   end_spots (Ok spot) bytes end none held ends e = end_spot files tokens lexemes i bytes end spot same none held ends e
   end_spots (Err error) bytes end none held ends e = tt
+
+-- the parser sees the same of the lexer's tokens and of the unit's
+seen : (tokens : List Token) → grammar_symbols (map plain tokens) ≡ symbols_of tokens
+seen [] = refl
+seen (t ∷ tokens) = ap (λ ss. symbol_of t ∷ ss) (seen tokens)
+
+pub seen_same : (tokens : List Token) (lexemes : List Lexeme) → map plain tokens ≡ lexemes → symbols_of tokens ≡ grammar_symbols lexemes
+seen_same tokens lexemes same = sym (seen tokens) ∙ ap grammar_symbols same

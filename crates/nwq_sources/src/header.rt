@@ -37,7 +37,8 @@ fn refuse_header<S: Sink>(
     ensures does { IsTrue S.tells → IsRefused bytes.now fault → (c : Contents) →
         Does (table_in name.now bytes.now) c (S.taken out.old) (Err result) c (S.taken out.new) }
     ensures counts { (faults absences longs : ℕ) → TalliesEnd result
-        (Counted faults absences longs (S.faults out.old)) (Counted faults absences longs (S.faults out.new)) }
+        (Counted faults absences longs (S.faults out.old))
+        (Counted faults absences longs (S.faults out.new)) }
     ensures only { Refusing Status.Script result }
 {
     match fault {
@@ -65,7 +66,8 @@ fn table_of_text<S: Sink>(
     ensures does { IsTrue S.tells → (c : Contents) →
         Does (table_in name.now bytes.now) c (S.taken out.old) result c (S.taken out.new) }
     ensures counts { (faults absences longs : ℕ) → Tallies result
-        (Counted faults absences longs (S.faults out.old)) (Counted faults absences longs (S.faults out.new)) }
+        (Counted faults absences longs (S.faults out.old))
+        (Counted faults absences longs (S.faults out.new)) }
     ensures only { IfErr result (Refusing Status.Script) }
 {
     match read_header(alloc, bytes) {
@@ -87,10 +89,12 @@ fn table_of_file<F: Files, S: Sink>(
     out: &mut S,
 ) -> Result<Table, Status>
     ensures does { IsTrue F.tells → IsTrue S.tells →
-        Does (table_named name.now) (F.contents files.old) (S.taken out.old) result (F.contents files.new) (S.taken out.new) }
+        Does (table_named name.now) (F.contents files.old) (S.taken out.old)
+            result (F.contents files.new) (S.taken out.new) }
     ensures counts { Tallies result
         (Counted (F.faults files.old) (F.absences files.old) (F.longs files.old) (S.faults out.old))
-        (Counted (F.faults files.new) (F.absences files.new) (F.longs files.new) (S.faults out.new)) }
+        (Counted (F.faults files.new) (F.absences files.new)
+            (F.longs files.new) (S.faults out.new)) }
     ensures same { F.contents files.new ≡ F.contents files.old }
     ensures only { IfErr result StopsSource }
 {
@@ -115,10 +119,12 @@ pub fn read_table<F: Files, S: Sink>(
     out: &mut S,
 ) -> Result<Table, Status>
     ensures does { IsTrue F.tells → IsTrue S.tells →
-        Does (table_of header.now) (F.contents files.old) (S.taken out.old) result (F.contents files.new) (S.taken out.new) }
+        Does (table_of header.now) (F.contents files.old) (S.taken out.old)
+            result (F.contents files.new) (S.taken out.new) }
     ensures counts { Tallies result
         (Counted (F.faults files.old) (F.absences files.old) (F.longs files.old) (S.faults out.old))
-        (Counted (F.faults files.new) (F.absences files.new) (F.longs files.new) (S.faults out.new)) }
+        (Counted (F.faults files.new) (F.absences files.new)
+            (F.longs files.new) (S.faults out.new)) }
     ensures same { F.contents files.new ≡ F.contents files.old }
     ensures only { IfErr result StopsSource }
 {

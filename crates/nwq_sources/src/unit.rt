@@ -1,53 +1,35 @@
-ghost use Rattle.std.specs.Prelude.{◌≡◌, ◌<◌, ℕ, List, length, map, slice_get, IsTrue, IfErr, IfOk, Err, Some, None};
+ghost use Rattle.std.specs.Prelude.{◌≡◌, ◌<◌, ℕ, List, length, map, slice_get, IsTrue, IfErr, IfOk};
+ghost use Rattle.std.specs.Prelude.{Err, Some, None};
 ghost use Rattle.std.specs.FinMap as fin_map;
 ghost use Rattle.nwq_outside.specs.Outside.{Contents};
 ghost use Rattle.nss_include.specs.Units.{IsUnit};
+ghost use Rattle.nss_tree.specs.Reading.{plain_tree};
 ghost use Rattle.nss_include.specs.Gather.{Gathers, CountsGathered};
 ghost use Rattle.nwq_work.specs.Work.{Does};
 ghost use Rattle.nwq_work.specs.Parts.{Refuses};
 ghost use Rattle.nwq_work.specs.Counts.{Counted, Tallies, TalliesEnd, Refusing, StopsSource};
-ghost use Rattle.nwq_sources.specs.Gathering.{IsCounted};
+ghost use Rattle.nwq_sources.specs.Reading.{HasFault, HasTree, IsCounted};
+ghost use Rattle.nwq_sources.specs.Scripts.{plain_script, plain_answer};
 ghost use Rattle.nwq_sources.specs.Units.{spot_at, at_spot, at_token, unit_of};
 
+use crate::script::Script;
 use nss_include::{GatherFault, Spot, Unit, gather};
 use nss_lexer::Token;
+use nss_parser::{ParseFault, parse};
+use nss_tree::Tree;
 use nwq_outside::{Files, Sink};
 use nwq_value::NoMemory;
 use nwq_work::{Cause, Status, refuse_absent, refuse_at, refuse_long};
 use std::alloc::Global;
-use std::marker::Model;
-
-/// The unit of a script.
-#[derive(Drop)]
-pub struct Script {
-    unit: Unit,
-}
-
-impl Model for Script {
-    ghost use Rattle.std.specs.Prelude.{◌<◌, length};
-    ghost use Rattle.nwq_sources.specs.Units.{PlainScript};
-
-    ghost Value = { PlainScript };
-
-    ghost view = { λ s. record { tokens = s.unit.tokens; files = s.unit.files } };
-
-    ghost invariant = { λ s. 0 < length s.unit.files };
-}
 
 impl Script {
-    /// The unit's files and tokens.
-    pub fn unit(&self) -> &Unit
-        ensures files { result.now.files ≡ self.now.files }
-        ensures tokens { result.now.tokens ≡ self.now.tokens }
-    {
-        &self.unit
-    }
-
     /// Refuses the script at token `i`, or, where there is none, at the end of its file.
     pub fn refuse<S: Sink>(&self, alloc: Global, i: usize, cause: Cause, out: &mut S) -> Status
-        ensures does { IsTrue S.tells → Refuses (at_token self.now i cause) (S.taken out.old) result (S.taken out.new) }
+        ensures does { IsTrue S.tells → Refuses (at_token (plain_script self.now) i cause)
+            (S.taken out.old) result (S.taken out.new) }
         ensures counts { (faults absences longs : ℕ) → TalliesEnd result
-            (Counted faults absences longs (S.faults out.old)) (Counted faults absences longs (S.faults out.new)) }
+            (Counted faults absences longs (S.faults out.old))
+            (Counted faults absences longs (S.faults out.new)) }
         ensures only { Refusing Status.Script result }
     {
         refuse_token(alloc, &self.unit, i, cause, out)
@@ -74,9 +56,11 @@ fn spot_of(alloc: Global, unit: &Unit, i: usize) -> Result<Spot, NoMemory>
 
 /// Refuses a unit at this place.
 fn refuse_spot<S: Sink>(alloc: Global, cause: Cause, spot: &Spot, out: &mut S) -> Status
-    ensures does { IsTrue S.tells → Refuses (at_spot cause spot.now) (S.taken out.old) result (S.taken out.new) }
+    ensures does { IsTrue S.tells →
+        Refuses (at_spot cause spot.now) (S.taken out.old) result (S.taken out.new) }
     ensures counts { (faults absences longs : ℕ) → TalliesEnd result
-        (Counted faults absences longs (S.faults out.old)) (Counted faults absences longs (S.faults out.new)) }
+        (Counted faults absences longs (S.faults out.old))
+        (Counted faults absences longs (S.faults out.new)) }
     ensures only { Refusing Status.Script result }
 {
     refuse_at(alloc, spot.name.bytes(), spot.line, spot.at, cause, out)
@@ -93,9 +77,11 @@ fn refuse_token<S: Sink>(
 ) -> Status
     requires { 0 < length unit.now.files }
     ensures does { IsTrue S.tells →
-        Refuses (at_spot cause (spot_at unit.now.files unit.now.tokens i)) (S.taken out.old) result (S.taken out.new) }
+        Refuses (at_spot cause (spot_at unit.now.files unit.now.tokens i))
+            (S.taken out.old) result (S.taken out.new) }
     ensures counts { (faults absences longs : ℕ) → TalliesEnd result
-        (Counted faults absences longs (S.faults out.old)) (Counted faults absences longs (S.faults out.new)) }
+        (Counted faults absences longs (S.faults out.old))
+        (Counted faults absences longs (S.faults out.new)) }
     ensures only { Refusing Status.Script result }
 {
     match spot_of(alloc, unit, i) {
@@ -117,12 +103,14 @@ fn refuse_token<S: Sink>(
     )
 )]
 fn refuse_gather<S: Sink>(alloc: Global, fault: GatherFault, out: &mut S) -> Status
-    ensures does { IsTrue S.tells → (c : Contents) (name : List ℕ) → Gathers (fin_map.get c) name (Err fault) →
+    ensures does { IsTrue S.tells → (c : Contents) (name : List ℕ) →
+        Gathers (fin_map.get c) name (Err fault) →
         Does (unit_of name) c (S.taken out.old) (Err result) c (S.taken out.new) }
     // Each count before and now, where the fault came with them.
     ensures counts { (faults faults' absences absences' longs longs' : ℕ) →
         IsCounted fault faults faults' absences absences' longs longs' →
-        TalliesEnd result (Counted faults absences longs (S.faults out.old)) (Counted faults' absences' longs' (S.faults out.new)) }
+        TalliesEnd result (Counted faults absences longs (S.faults out.old))
+        (Counted faults' absences' longs' (S.faults out.new)) }
     ensures only { StopsSource result }
 {
     match fault {
@@ -136,8 +124,66 @@ fn refuse_gather<S: Sink>(alloc: Global, fault: GatherFault, out: &mut S) -> Sta
     }
 }
 
-/// The unit of the script of this name.
+/// The tree of a unit.
+#[tactic(auto, using(crate::proofs::PlaceLemmas::seen_same))]
+fn tree_of(alloc: Global, unit: &Unit) -> Result<Tree, ParseFault>
+    ensures tree { IfOk result (λ tree. HasTree unit.now (plain_tree tree)) }
+    ensures refused { IfErr result (HasFault unit.now) }
+{
+    let tokens = unit.tokens(alloc)?;
+    match parse(alloc, tokens.as_slice()) {
+        Err(fault) => Err(fault),
+        Ok(tree) => Ok(tree),
+    }
+}
+
+/// Refuses a unit that has no tree.
+#[tactic(
+    auto,
+    using(
+        crate::proofs::UnitLemmas::nested_does,
+        crate::proofs::UnitLemmas::syntax_does,
+        crate::proofs::UnitLemmas::cut_does
+    )
+)]
+fn refuse_parse<S: Sink>(alloc: Global, unit: &Unit, fault: ParseFault, out: &mut S) -> Status
+    requires script { 0 < length unit.now.files }
+    requires fault { HasFault unit.now fault }
+    ensures does { IsTrue S.tells → (c : Contents) (name : List ℕ) →
+        IsUnit (fin_map.get c) name unit.now.tokens unit.now.files None →
+        Does (unit_of name) c (S.taken out.old) (Err result) c (S.taken out.new) }
+    ensures counts { (faults absences longs : ℕ) → TalliesEnd result
+        (Counted faults absences longs (S.faults out.old))
+        (Counted faults absences longs (S.faults out.new)) }
+    ensures only { Refusing Status.Script result }
+{
+    match fault {
+        ParseFault::Nested(i) => refuse_token(alloc, unit, i as usize, Cause::Nested, out),
+        ParseFault::Syntax(i) => refuse_token(alloc, unit, i as usize, Cause::Syntax, out),
+        ParseFault::NoMemory => Status::Memory,
+    }
+}
+
+/// The script of a unit.
 #[tactic(auto, using(crate::proofs::UnitLemmas::whole_does))]
+fn parsed<S: Sink>(alloc: Global, unit: Unit, out: &mut S) -> Result<Script, Status>
+    requires { 0 < length unit.files }
+    ensures does { IsTrue S.tells → (c : Contents) (name : List ℕ) →
+        IsUnit (fin_map.get c) name unit.tokens unit.files None →
+        Does (unit_of name) c (S.taken out.old) (plain_answer result) c (S.taken out.new) }
+    ensures counts { (faults absences longs : ℕ) → Tallies result
+        (Counted faults absences longs (S.faults out.old))
+        (Counted faults absences longs (S.faults out.new)) }
+    ensures only { IfErr result (Refusing Status.Script) }
+{
+    match tree_of(alloc, &unit) {
+        Err(fault) => Err(refuse_parse(alloc, &unit, fault, out)),
+        Ok(tree) => Ok(Script { unit, tree }),
+    }
+}
+
+/// The unit of the script of this name, with its tree.
+#[tactic(auto, using(crate::proofs::UnitLemmas::has_some))]
 pub fn read_unit<F: Files, S: Sink>(
     alloc: Global,
     script: &str,
@@ -145,15 +191,17 @@ pub fn read_unit<F: Files, S: Sink>(
     out: &mut S,
 ) -> Result<Script, Status>
     ensures does { IsTrue F.tells → IsTrue S.tells →
-        Does (unit_of script.now) (F.contents files.old) (S.taken out.old) result (F.contents files.new) (S.taken out.new) }
+        Does (unit_of script.now) (F.contents files.old) (S.taken out.old)
+            (plain_answer result) (F.contents files.new) (S.taken out.new) }
     ensures counts { Tallies result
         (Counted (F.faults files.old) (F.absences files.old) (F.longs files.old) (S.faults out.old))
-        (Counted (F.faults files.new) (F.absences files.new) (F.longs files.new) (S.faults out.new)) }
+        (Counted (F.faults files.new) (F.absences files.new)
+            (F.longs files.new) (S.faults out.new)) }
     ensures same { F.contents files.new ≡ F.contents files.old }
     ensures only { IfErr result StopsSource }
 {
     match gather(alloc, files, script) {
         Err(fault) => Err(refuse_gather(alloc, fault, out)),
-        Ok(unit) => Ok(Script { unit }),
+        Ok(unit) => parsed(alloc, unit, out),
     }
 }

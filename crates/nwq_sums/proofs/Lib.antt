@@ -7,3 +7,4 @@ mod OneSentence
 mod OneRun
 mod BuildingLemmas
 mod OneBuilding
+mod Rows

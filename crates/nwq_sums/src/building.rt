@@ -59,8 +59,10 @@ fn printer(table: &Table) -> Option<u16>
 /// What is built of a sentence of these sums.
 #[tactic(auto, using(crate::proofs::BuildingLemmas::builds_by, crate::proofs::BuildingLemmas::builds_none, crate::proofs::BuildingLemmas::unbuilt_first, crate::proofs::BuildingLemmas::may_play))]
 fn build(table: &Table, sums: Items<Items<u32>>) -> Sums
-    ensures builds { (tokens : List Symbol) → IsSentence tokens sums → Builds table.now tokens result }
-    ensures plays { (tokens : List Symbol) → IsSentence tokens sums → MayPlay (length tokens) result }
+    ensures builds { (tokens : List Symbol) → IsSentence tokens sums →
+        Builds table.now tokens result }
+    ensures plays { (tokens : List Symbol) → IsSentence tokens sums →
+        MayPlay (length tokens) result }
 {
     match printer(table) {
         Some(number) => Sums::Prints(number, sums),

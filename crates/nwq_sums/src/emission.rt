@@ -67,7 +67,8 @@ fn put_adds(out: &mut Vec<u8>, ints: &[u32]) -> Result<(), NoMemory>
 }
 
 fn put_print(out: &mut Vec<u8>, routine: u16, sum: &[u32]) -> Result<(), NoMemory>
-    ensures { OnOk result (out.new.items ≡ out.old.items ++ spellings (print_code routine sum.now)) }
+    ensures { OnOk result (out.new.items
+        ≡ out.old.items ++ spellings (print_code routine sum.now)) }
 {
     match sum {
         [] => Ok(()),
@@ -80,7 +81,8 @@ fn put_print(out: &mut Vec<u8>, routine: u16, sum: &[u32]) -> Result<(), NoMemor
 }
 
 fn put_prints(out: &mut Vec<u8>, routine: u16, sums: &[Items<u32>]) -> Result<(), NoMemory>
-    ensures { OnOk result (out.new.items ≡ out.old.items ++ spellings (flat_map (print_code routine) sums.now)) }
+    ensures { OnOk result (out.new.items
+        ≡ out.old.items ++ spellings (flat_map (print_code routine) sums.now)) }
 {
     for sum in sums {
         put_print(out, routine, sum.as_slice())?;

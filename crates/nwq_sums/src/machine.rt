@@ -5,7 +5,8 @@ ghost use Rattle.ncs_code.specs.File.{jump_place};
 ghost use Rattle.nwq_sums.specs.Sentence.{AreSums, spelled};
 ghost use Rattle.nwq_sums.specs.Meaning.{prints_of};
 ghost use Rattle.nwq_sums.specs.Emission.{code_of};
-ghost use Rattle.nwq_sums.specs.Machine.{step_of, add_top, print_top, called, returned, Stuck, entry, RunsTo};
+ghost use Rattle.nwq_sums.specs.Machine.{step_of, add_top, print_top, called, returned, Stuck};
+ghost use Rattle.nwq_sums.specs.Machine.{entry, RunsTo};
 ghost use Rattle.nwq_sums.specs.Stepping.{after_of, HasStep};
 
 use crate::emission::{TWO_INTS, write_file};
@@ -104,7 +105,8 @@ fn act(printer: u16, op: &Op<'_>, size: u32, m: &mut Machine) -> Result<Next, No
     requires sized { size ≡ op_size (plain op.now) }
     requires room { m.old.place + size < 2 ^ 31 }
     requires runs { step_of printer (Some (plain op.now)) m.old ≢ Stuck }
-    ensures { IfOk result (λ next. step_of printer (Some (plain op.now)) m.old ≡ after_of next m.new) }
+    ensures { IfOk result
+        (λ next. step_of printer (Some (plain op.now)) m.old ≡ after_of next m.new) }
 {
     let next = m.place + size;
     match *op {
@@ -125,7 +127,8 @@ fn act(printer: u16, op: &Op<'_>, size: u32, m: &mut Machine) -> Result<Next, No
 fn step(printer: u16, file: &[u8], m: &mut Machine) -> Result<Next, NoMemory>
     requires runs { (op : PlainOp) × (rest : List ℕ) × HasStep printer file.now m.old op rest }
     requires bounded { length file.now ≤ 16_777_216 }
-    ensures { IfOk result (λ next. (op : PlainOp) (rest : List ℕ) → HasStep printer file.now m.old op rest →
+    ensures { IfOk result (λ next. (op : PlainOp) (rest : List ℕ) →
+        HasStep printer file.now m.old op rest →
         step_of printer (Some op) m.old ≡ after_of next m.new) }
 {
     match decode(file, m.place) {
@@ -140,7 +143,8 @@ pub fn play(alloc: Global, printer: u16, sums: &[Items<u32>]) -> Result<Played, 
     requires small { length (spelled sums.now) ≤ 100_000 }
     ensures printed { IfOk result (λ played. played.printed ≡ prints_of sums.now) }
     ensures length { IfOk result (λ played. played.count ≡ length (code_of printer sums.now)) }
-    ensures count { IfOk result (λ played. RunsTo printer (code_of printer sums.now) played.count (prints_of sums.now)) }
+    ensures count { IfOk result
+        (λ played. RunsTo printer (code_of printer sums.now) played.count (prints_of sums.now)) }
 {
     begun_stands();
     sizes_are_lengths();

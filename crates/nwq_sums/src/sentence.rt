@@ -1,4 +1,5 @@
-ghost use Rattle.std.specs.Prelude.{◌≡◌, ◌++◌, [], ◌∷◌, length, map, nat_lt, option_map, Some, None, OnOk, IfOk, MatchBool};
+ghost use Rattle.std.specs.Prelude.{◌≡◌, ◌++◌, [], ◌∷◌, length, map, nat_lt, option_map, Some};
+ghost use Rattle.std.specs.Prelude.{None, OnOk, IfOk, MatchBool};
 ghost use Rattle.nss_lexer.specs.Splitting.{plain};
 ghost use Rattle.nwq_sums.specs.Symbols.{symbols};
 ghost use Rattle.nwq_sums.specs.Reading.{Means, next_stage, kept, goes, fresh, at_end, parse};
@@ -45,7 +46,8 @@ pub enum Parsed {
     Unfinished,
 }
 
-/// The stage after a token, if the token may come there. `room` says that a sum may have one int more.
+/// The stage after a token, if the token may come there. `room` says that a sum may have one int
+/// more.
 fn stage_after(stage: Stage, symbol: Symbol, room: bool) -> Option<Stage>
     ensures { result ≡ next_stage stage symbol room }
 {
@@ -94,7 +96,8 @@ impl Reader {
 
     /// Takes one token more, and says whether it may come there.
     fn take(&mut self, alloc: Global, symbol: Symbol) -> Result<bool, NoMemory>
-        ensures { IfOk result (λ taken. MatchBool taken (goes self.old symbol ≡ Some self.new) (goes self.old symbol ≡ None)) }
+        ensures { IfOk result (λ taken. MatchBool taken (goes self.old symbol
+            ≡ Some self.new) (goes self.old symbol ≡ None)) }
     {
         match stage_after(self.stage, symbol, self.sum.len() < SUM_INTS) {
             None => Ok(false),

@@ -1,4 +1,6 @@
 mod EndingLemmas
 mod PlayLemmas
+mod Rows
+mod Sure
 mod TextLemmas
 mod WordLemmas

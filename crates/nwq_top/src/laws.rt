@@ -1,3 +1,17 @@
-//! Laws about the work of commands, each the contract of a function that does nothing.
+//! Laws about the work of commands, as the contract of a function that does nothing.
 
 ghost use Rattle.nwq_top.specs.Laws.{OneOutcome, Prefixes};
+
+use nwq_sources::laws::one_source;
+use nwq_sums::laws::{one_building, one_run};
+
+/// A command that isn't cut has one outcome, and one that is cut has put a prefix of what it puts
+/// whole.
+pub fn one_outcome()
+    ensures one { OneOutcome }
+    ensures prefixes { Prefixes }
+{
+    one_source();
+    one_building();
+    one_run();
+}

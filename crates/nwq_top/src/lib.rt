@@ -1,12 +1,14 @@
 //! The top call: what the words of a command do with files and a sink, in order, and how it ends.
 //!
-//! [`nwq_main`] is the whole program but for the real files, the real sink and the words; [`nwq_program`] is what `main` calls. What a command does
-//! is a [`Work`](../../nwq_work/specs/Work.antt), a function of the form of its words (`specs/Command.antt`), and the clause `does` says that the
-//! call did it. The parts of that work that read sources are `nwq_sources`'. See docs/COMMANDS.md and docs/THEOREMS.md.
+//! [`nwq_main`] is the whole program but for the real files, the real sink and the words;
+//! [`nwq_program`] is what `main` calls. What a command does is a
+//! [`Work`](../../nwq_work/specs/Work.antt), a function of the form of its words
+//! (`specs/Command.antt`), and the clause `does` says that the call did it. The parts of that work
+//! that read sources are `nwq_sources`'. See docs/COMMANDS.md and docs/THEOREMS.md.
 #![tactic(auto)]
 
 mod command;
-mod laws;
+pub mod laws;
 mod program;
 mod run;
 mod texts;
@@ -35,13 +37,17 @@ pub fn nwq_main<F: Files, S: Sink>(
 ) -> Status
     // Where files and sink tell what they hold: the call did the work of the words, in order.
     ensures does { IsTrue F.tells → IsTrue S.tells →
-        Does (work_of (form_of (map string_bytes words.now))) (F.contents files.old) (S.taken out.old) (ending result) (F.contents files.new) (S.taken out.new) }
+        Does (work_of (form_of (map string_bytes words.now)))
+            (F.contents files.old) (S.taken out.old)
+            (ending result) (F.contents files.new) (S.taken out.new) }
     // A read, write or put that was refused is the last one, and the status says which.
     ensures counts { Tallies (ending result)
         (Counted (F.faults files.old) (F.absences files.old) (F.longs files.old) (S.faults out.old))
-        (Counted (F.faults files.new) (F.absences files.new) (F.longs files.new) (S.faults out.new)) }
+        (Counted (F.faults files.new) (F.absences files.new)
+            (F.longs files.new) (S.faults out.new)) }
     // Every name that the command may not write has what it had.
-    ensures names { KeepsBut (MayWrite (form_of (map string_bytes words.now))) (F.contents files.old) (F.contents files.new) }
+    ensures names { KeepsBut (MayWrite (form_of (map string_bytes words.now)))
+        (F.contents files.old) (F.contents files.new) }
     ensures only { ComesOf (form_of (map string_bytes words.now)) result }
 {
     match command(alloc, words, files, out) {

@@ -4,7 +4,8 @@ ghost use Rattle.nwq_work.specs.Counts.{Counted, Tallies, KeepsBut};
 ghost use Rattle.nwq_top.specs.Words.{form_of};
 ghost use Rattle.nwq_top.specs.Command.{work_of, MayWrite};
 ghost use Rattle.nwq_top.specs.Endings.{ComesOf};
-ghost use Rattle.nwq_top.specs.Program.{status_number, status_numbered, words_of, usage_line, TellsUsage};
+ghost use Rattle.nwq_top.specs.Program.{status_number, status_numbered, words_of, usage_line};
+ghost use Rattle.nwq_top.specs.Program.{TellsUsage};
 
 use crate::nwq_main;
 use nwq_outside::{Files, Sink};
@@ -12,7 +13,7 @@ use nwq_work::Status;
 use std::alloc::Global;
 
 /// What is said on standard error after words that are no form of a command.
-const USAGE: &str = "usage: nwq run HEADER SCRIPT, where HEADER is the name of a header file, or - for the built-in header\n";
+const USAGE: &str = "usage: nwq run HEADER SCRIPT (HEADER: a header file, or - for the built-in one)\n";
 
 /// The words after the program's name, which is the first of all.
 fn after_name(all: &[String]) -> &[String]
@@ -32,7 +33,8 @@ fn number_of(status: Status) -> u8
     status as u8
 }
 
-/// After words that are no form of a command, says how the words go. Where standard error doesn't take it, nothing more is done.
+/// After words that are no form of a command, says how the words go. Where standard error doesn't
+/// take it, nothing more is done.
 fn tell_usage<E: Sink>(status: Status, err: &mut E)
     ensures { IsTrue E.tells → TellsUsage status (E.taken err.old) (E.taken err.new) }
 {
@@ -44,7 +46,8 @@ fn tell_usage<E: Sink>(status: Status, err: &mut E)
     }
 }
 
-/// The whole program, given all its words, the files, standard output and standard error: the number with which it ends.
+/// The whole program, given all its words, the files, standard output and standard error: the
+/// number with which it ends.
 pub fn nwq_program<F: Files, S: Sink, E: Sink>(
     alloc: Global,
     all: &[String],
@@ -52,16 +55,21 @@ pub fn nwq_program<F: Files, S: Sink, E: Sink>(
     out: &mut S,
     err: &mut E,
 ) -> u8
-    // It is the number of a status, and the top call did what it promises for the words with this status.
+    // It is the number of a status, and the top call did what it promises for the words with this
+    // status.
     ensures number { status_number (status_numbered result) ≡ result }
     ensures does { IsTrue F.tells → IsTrue S.tells →
-        Does (work_of (form_of (words_of all.now))) (F.contents files.old) (S.taken out.old) (ending (status_numbered result)) (F.contents files.new) (S.taken out.new) }
+        Does (work_of (form_of (words_of all.now))) (F.contents files.old) (S.taken out.old)
+            (ending (status_numbered result)) (F.contents files.new) (S.taken out.new) }
     ensures counts { Tallies (ending (status_numbered result))
         (Counted (F.faults files.old) (F.absences files.old) (F.longs files.old) (S.faults out.old))
-        (Counted (F.faults files.new) (F.absences files.new) (F.longs files.new) (S.faults out.new)) }
-    ensures names { KeepsBut (MayWrite (form_of (words_of all.now))) (F.contents files.old) (F.contents files.new) }
+        (Counted (F.faults files.new) (F.absences files.new)
+            (F.longs files.new) (S.faults out.new)) }
+    ensures names { KeepsBut (MayWrite (form_of (words_of all.now)))
+        (F.contents files.old) (F.contents files.new) }
     ensures only { ComesOf (form_of (words_of all.now)) (status_numbered result) }
-    ensures usage { IsTrue E.tells → TellsUsage (status_numbered result) (E.taken err.old) (E.taken err.new) }
+    ensures usage { IsTrue E.tells →
+        TellsUsage (status_numbered result) (E.taken err.old) (E.taken err.new) }
 {
     let status = nwq_main(alloc, after_name(all), files, out);
     tell_usage(status, err);

@@ -2,6 +2,7 @@ ghost use Rattle.std.specs.Prelude.{◌≡◌, ◌≤◌, ◌++◌, ℕ, List, l
 ghost use Rattle.nwq_outside.specs.Outside.{Contents};
 ghost use Rattle.nwq_work.specs.Work.{Does, CutsShort};
 ghost use Rattle.nwq_work.specs.Counts.{Counted, Tallies, Refusing, StopsSource};
+ghost use Rattle.nwq_sources.specs.Scripts.{plain_script};
 ghost use Rattle.nwq_sums.specs.Symbols.{symbols};
 ghost use Rattle.nwq_sums.specs.Sentence.{AreSums, spelled};
 ghost use Rattle.nwq_sums.specs.Printing.{Builds, MayPlay};
@@ -23,7 +24,8 @@ use std::alloc::Global;
 fn text_of_play(alloc: Global, printer: u16, sums: &[Items<u32>]) -> Result<Vec<u8>, NoMemory>
     requires sums { AreSums sums.now }
     requires small { length (spelled sums.now) ≤ 100_000 }
-    ensures { IfOk result (λ text. text.items ≡ trace_text (prints_of sums.now) ++ end_text (length (code_of printer sums.now))) }
+    ensures { IfOk result (λ text. text.items
+        ≡ trace_text (prints_of sums.now) ++ end_text (length (code_of printer sums.now))) }
 {
     let played = play(alloc, printer, sums)?;
     played_text(alloc, &played)
@@ -39,9 +41,11 @@ fn play_sums<S: Sink>(
 ) -> Result<(), Status>
     requires sums { AreSums sums.now }
     requires small { length (spelled sums.now) ≤ 100_000 }
-    ensures does { IsTrue S.tells → (c : Contents) → Does (plays printer sums.now) c (S.taken out.old) result c (S.taken out.new) }
+    ensures does { IsTrue S.tells → (c : Contents) →
+        Does (plays printer sums.now) c (S.taken out.old) result c (S.taken out.new) }
     ensures counts { (faults absences longs : ℕ) → Tallies result
-        (Counted faults absences longs (S.faults out.old)) (Counted faults absences longs (S.faults out.new)) }
+        (Counted faults absences longs (S.faults out.old))
+        (Counted faults absences longs (S.faults out.new)) }
     ensures only { IfErr result CutsShort }
 {
     code_does_what_is_meant();
@@ -50,11 +54,10 @@ fn play_sums<S: Sink>(
 
 /// What is built of a script under a header.
 fn build(alloc: Global, table: &Table, script: &Script) -> Result<Sums, NoMemory>
-    ensures builds { IfOk result (Builds table.now (symbols script.now.tokens)) }
+    ensures builds { IfOk result (Builds table.now (symbols script.now.unit.tokens)) }
     ensures plays { IfOk result (MayPlay 100_000) }
 {
-    let unit = script.unit();
-    let tokens = unit.tokens(alloc)?;
+    let tokens = script.unit.tokens(alloc)?;
     read_sums(alloc, table, tokens.as_slice())
 }
 
@@ -67,9 +70,11 @@ fn play_script<S: Sink>(
     out: &mut S,
 ) -> Result<(), Status>
     ensures does { IsTrue S.tells → (c : Contents) →
-        Does (play_of table.now script.now) c (S.taken out.old) result c (S.taken out.new) }
+        Does (play_of table.now (plain_script script.now)) c
+            (S.taken out.old) result c (S.taken out.new) }
     ensures counts { (faults absences longs : ℕ) → Tallies result
-        (Counted faults absences longs (S.faults out.old)) (Counted faults absences longs (S.faults out.new)) }
+        (Counted faults absences longs (S.faults out.old))
+        (Counted faults absences longs (S.faults out.new)) }
     ensures only { IfErr result (Refusing Status.Script) }
 {
     match build(alloc, table, script) {
@@ -93,10 +98,12 @@ fn run_under<F: Files, S: Sink>(
     out: &mut S,
 ) -> Result<(), Status>
     ensures does { IsTrue F.tells → IsTrue S.tells →
-        Does (runs_under script.now table.now) (F.contents files.old) (S.taken out.old) result (F.contents files.new) (S.taken out.new) }
+        Does (runs_under script.now table.now) (F.contents files.old) (S.taken out.old)
+            result (F.contents files.new) (S.taken out.new) }
     ensures counts { Tallies result
         (Counted (F.faults files.old) (F.absences files.old) (F.longs files.old) (S.faults out.old))
-        (Counted (F.faults files.new) (F.absences files.new) (F.longs files.new) (S.faults out.new)) }
+        (Counted (F.faults files.new) (F.absences files.new)
+            (F.longs files.new) (S.faults out.new)) }
     ensures same { F.contents files.new ≡ F.contents files.old }
     ensures only { IfErr result StopsSource }
 {
@@ -120,10 +127,12 @@ pub fn run<F: Files, S: Sink>(
     out: &mut S,
 ) -> Result<(), Status>
     ensures does { IsTrue F.tells → IsTrue S.tells →
-        Does (runs header.now script.now) (F.contents files.old) (S.taken out.old) result (F.contents files.new) (S.taken out.new) }
+        Does (runs header.now script.now) (F.contents files.old) (S.taken out.old)
+            result (F.contents files.new) (S.taken out.new) }
     ensures counts { Tallies result
         (Counted (F.faults files.old) (F.absences files.old) (F.longs files.old) (S.faults out.old))
-        (Counted (F.faults files.new) (F.absences files.new) (F.longs files.new) (S.faults out.new)) }
+        (Counted (F.faults files.new) (F.absences files.new)
+            (F.longs files.new) (S.faults out.new)) }
     ensures same { F.contents files.new ≡ F.contents files.old }
     ensures only { IfErr result StopsSource }
 {

@@ -49,7 +49,8 @@ fn put_end(out: &mut Vec<u8>, count: u32) -> Result<(), NoMemory>
 
 /// The trace and the end of a play.
 pub fn played_text(alloc: Global, played: &Played) -> Result<Vec<u8>, NoMemory>
-    ensures { IfOk result (λ text. text.items ≡ trace_text played.now.printed ++ end_text played.now.count) }
+    ensures { IfOk result
+        (λ text. text.items ≡ trace_text played.now.printed ++ end_text played.now.count) }
 {
     let mut text = Vec::new(alloc);
     put_trace(&mut text, played.printed.as_slice())?;

@@ -1,6 +1,7 @@
 ghost use Rattle.std.specs.Prelude.{◌≡◌, map, string_bytes, bytes_eq, codes};
 ghost use Rattle.std.specs.List.{list_all, list_any};
-ghost use Rattle.nwq_top.specs.Words.{is_script_byte, is_script_name, is_option, command_form, form_of, IsCommand};
+ghost use Rattle.nwq_top.specs.Words.{is_script_byte, is_script_name, is_option, command_form};
+ghost use Rattle.nwq_top.specs.Words.{form_of, IsCommand};
 
 /// How many characters the name of a script has at most.
 const NAME_MOST: usize = 16;

@@ -33,7 +33,8 @@ pub fn put<S: Sink>(text: Result<Vec<u8>, NoMemory>, out: &mut S) -> Result<(), 
     ensures does { IsTrue S.tells → (whole : List ℕ) → IfOk text (λ t. t.items ≡ whole) →
         PutsWhole whole (S.taken out.old) result (S.taken out.new) }
     ensures counts { (faults absences longs : ℕ) → Tallies result
-        (Counted faults absences longs (S.faults out.old)) (Counted faults absences longs (S.faults out.new)) }
+        (Counted faults absences longs (S.faults out.old))
+        (Counted faults absences longs (S.faults out.new)) }
     ensures only { IfErr result CutsShort }
 {
     match put_line(text, out) {
@@ -51,10 +52,12 @@ pub fn read_file<F: Files, S: Sink>(
     out: &mut S,
 ) -> Result<Items<u8>, Status>
     ensures does { IsTrue F.tells → IsTrue S.tells →
-        Does (file_named name.now) (F.contents files.old) (S.taken out.old) result (F.contents files.new) (S.taken out.new) }
+        Does (file_named name.now) (F.contents files.old) (S.taken out.old)
+            result (F.contents files.new) (S.taken out.new) }
     ensures counts { Tallies result
         (Counted (F.faults files.old) (F.absences files.old) (F.longs files.old) (S.faults out.old))
-        (Counted (F.faults files.new) (F.absences files.new) (F.longs files.new) (S.faults out.new)) }
+        (Counted (F.faults files.new) (F.absences files.new)
+            (F.longs files.new) (S.faults out.new)) }
     ensures same { F.contents files.new ≡ F.contents files.old }
     ensures size { IfOk result (λ bytes. length bytes ≤ file_limit) }
     ensures only { IfErr result StopsRead }
@@ -76,7 +79,8 @@ pub fn write_file<F: Files>(name: &str, bytes: &[u8], files: &mut F) -> Result<(
     ensures counts { (puts : ℕ) → Tallies result
         (Counted (F.faults files.old) (F.absences files.old) (F.longs files.old) puts)
         (Counted (F.faults files.new) (F.absences files.new) (F.longs files.new) puts) }
-    ensures names { KeepsBut (λ other. other ≡ name.now) (F.contents files.old) (F.contents files.new) }
+    ensures names { KeepsBut (λ other. other ≡ name.now)
+        (F.contents files.old) (F.contents files.new) }
     ensures only { IfErr result CutsShort }
 {
     match files.write(name, bytes) {

@@ -66,7 +66,8 @@ fn form_line(alloc: Global) -> Result<Vec<u8>, NoMemory>
 pub fn refuse_form<S: Sink>(alloc: Global, out: &mut S) -> Status
     ensures does { IsTrue S.tells → Refuses NoForm (S.taken out.old) result (S.taken out.new) }
     ensures counts { (faults absences longs : ℕ) → TalliesEnd result
-        (Counted faults absences longs (S.faults out.old)) (Counted faults absences longs (S.faults out.new)) }
+        (Counted faults absences longs (S.faults out.old))
+        (Counted faults absences longs (S.faults out.new)) }
     ensures only { Refusing Status.Words result }
 {
     match put_line(form_line(alloc), out) {
@@ -85,9 +86,11 @@ pub fn refuse_at<S: Sink>(
     cause: Cause,
     out: &mut S,
 ) -> Status
-    ensures does { IsTrue S.tells → Refuses (At name.now line at cause) (S.taken out.old) result (S.taken out.new) }
+    ensures does { IsTrue S.tells →
+        Refuses (At name.now line at cause) (S.taken out.old) result (S.taken out.new) }
     ensures counts { (faults absences longs : ℕ) → TalliesEnd result
-        (Counted faults absences longs (S.faults out.old)) (Counted faults absences longs (S.faults out.new)) }
+        (Counted faults absences longs (S.faults out.old))
+        (Counted faults absences longs (S.faults out.new)) }
     ensures only { Refusing Status.Script result }
 {
     match put_line(place_line(alloc, name, line, at, cause), out) {
@@ -99,9 +102,12 @@ pub fn refuse_at<S: Sink>(
 /// Refuses a file of this name, which isn't there: its absence was counted just before.
 #[tactic(auto, using(crate::proofs::Tallied::absent_cut))]
 pub fn refuse_absent<S: Sink>(alloc: Global, name: &[u8], out: &mut S) -> Status
-    ensures does { IsTrue S.tells → Refuses (Absent name.now) (S.taken out.old) result (S.taken out.new) }
-    ensures counts { (faults absences absences' longs : ℕ) → Rises absences absences' → TalliesEnd result
-        (Counted faults absences longs (S.faults out.old)) (Counted faults absences' longs (S.faults out.new)) }
+    ensures does { IsTrue S.tells →
+        Refuses (Absent name.now) (S.taken out.old) result (S.taken out.new) }
+    ensures counts { (faults absences absences' longs : ℕ) → Rises absences absences' →
+        TalliesEnd result
+        (Counted faults absences longs (S.faults out.old))
+        (Counted faults absences' longs (S.faults out.new)) }
     ensures only { Refusing Status.Missing result }
 {
     match put_line(name_line(alloc, "missing ", name), out) {
@@ -113,9 +119,11 @@ pub fn refuse_absent<S: Sink>(alloc: Global, name: &[u8], out: &mut S) -> Status
 /// Refuses a file of this name, which is too long: that was counted just before.
 #[tactic(auto, using(crate::proofs::Tallied::long_cut))]
 pub fn refuse_long<S: Sink>(alloc: Global, name: &[u8], out: &mut S) -> Status
-    ensures does { IsTrue S.tells → Refuses (TooLong name.now) (S.taken out.old) result (S.taken out.new) }
+    ensures does { IsTrue S.tells →
+        Refuses (TooLong name.now) (S.taken out.old) result (S.taken out.new) }
     ensures counts { (faults absences longs longs' : ℕ) → Rises longs longs' → TalliesEnd result
-        (Counted faults absences longs (S.faults out.old)) (Counted faults absences longs' (S.faults out.new)) }
+        (Counted faults absences longs (S.faults out.old))
+        (Counted faults absences longs' (S.faults out.new)) }
     ensures only { Refusing Status.Long result }
 {
     match put_line(name_line(alloc, "long ", name), out) {

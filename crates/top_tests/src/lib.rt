@@ -1,4 +1,5 @@
-//! Tests of the top call: its parts, its commands by the rows of their pages, and the whole program over memory.
+//! Tests of the top call: its parts, its commands by the rows of their pages, and the whole program
+//! over memory.
 #![tactic(auto)]
 
 #[cfg(test)]

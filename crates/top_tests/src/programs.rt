@@ -4,7 +4,8 @@ use nwq_value::NoMemory;
 use std::alloc::Global;
 use std::test::Fail;
 
-/// The program with these words, over one script: the number with which it ends, standard output and standard error.
+/// The program with these words, over one script: the number with which it ends, standard output
+/// and standard error.
 fn ends(alloc: Global, all: &[&str]) -> Result<(u8, MemSink, MemSink), NoMemory> {
     let mut owned: Vec<String> = Vec::new(alloc);
     for word in all {
