@@ -1,25 +1,19 @@
-//! The program: it hands its words, the real files and standard output to the top call, and ends with the status number.
+//! The program: it makes the real files, standard output and standard error, hands them with its
+//! words to [`nwq_program`], and ends with the number that comes back.
 #![tactic(auto)]
 
-ghost use Rattle.std.specs.Prelude.{◌≡◌, drop};
+ghost use Rattle.std.specs.Prelude.{◌≡◌};
 ghost use Rattle.std.specs.Process.{exit_status};
 ghost use Rattle.nwq.specs.Ending.{end_number};
 
 use nwq_outside::{RealFiles, RealSink};
-use nwq_top::{Status, nwq_main};
+use nwq_top::nwq_program;
 use std::env;
 use std::io::{self, ErrorKind};
 use std::process::ExitCode;
 
-/// The words after the program's name, which is the first of all.
-fn after_name(all: &[String]) -> &[String]
-    ensures { result.now ≡ drop 1 all.now }
-{
-    match all.split_first() {
-        Some((_name, words)) => words,
-        None => all,
-    }
-}
+/// The number of the status for want of memory.
+const WANT_OF_MEMORY: u8 = 8;
 
 /// The program's name and the words after it.
 fn all_words(rt: &HostRuntime) -> io::Result<Vec<String>> {
@@ -31,21 +25,28 @@ fn all_words(rt: &HostRuntime) -> io::Result<Vec<String>> {
     }
 }
 
-fn run(rt: HostRuntime) -> io::Result<Status> {
+fn run(rt: HostRuntime) -> io::Result<u8> {
     let all = all_words(&rt)?;
     let mut files = RealFiles::new(rt.clone()?);
     let mut out = RealSink::new(rt.stdout());
-    let words = after_name(all.as_slice());
-    Ok(nwq_main(rt.alloc(), words, &mut files, &mut out))
+    let mut err = RealSink::new(rt.stderr());
+    Ok(nwq_program(
+        rt.alloc(),
+        all.as_slice(),
+        &mut files,
+        &mut out,
+        &mut err,
+    ))
 }
 
-/// How the program ends, by its status number.
-fn end(outcome: io::Result<Status>) -> ExitCode
+/// How the program ends: with the number that came back, or, where there was no memory for the
+/// words, the files or the sinks, as where a command wants it.
+fn end(outcome: io::Result<u8>) -> ExitCode
     ensures { exit_status result ≡ end_number outcome }
 {
     match outcome {
-        Ok(status) => ExitCode::from(status as u8),
-        Err(_) => ExitCode::from(Status::Memory as u8),
+        Ok(number) => ExitCode::from(number),
+        Err(_) => ExitCode::from(WANT_OF_MEMORY),
     }
 }
 

@@ -1,48 +1,48 @@
 -- What each form of words does: the seed of the main theorem.
-use Rattle.std.specs.Prelude.{ℕ, List, ◌++◌, Some, Result}
-use Rattle.std.specs.FinMap as map
+use Rattle.std.specs.Prelude.{ℕ, List, ◌++◌}
 use Rattle.nwq_outside.specs.Outside.{Contents}
-use Rattle.nss_lexer.specs.Splitting.{Lexeme}
-use Rattle.nss_tree.specs.Units.{PlainTree}
-use Rattle.nss_include.specs.declared.fault.GatherFault.TheVariants as fault
-use Rattle.nss_include.specs.declared.fault.Spot.{Spot}
-use Rattle.nss_include.specs.declared.file.Source.{Source}
-use Rattle.nss_include.specs.Units.{IsUnit}
-use Rattle.nwq_top.specs.declared.cause.Cause.{Cause}
-use Rattle.nwq_top.specs.declared.status.Status.{Status}
-use Rattle.nwq_top.specs.declared.status.Status.TheVariants.{Words, Script, Missing, Long}
-use Rattle.nwq_top.specs.Work.{Work, Gives, Ends, Puts, Stops, Does, Finished}
-use Rattle.nwq_top.specs.Texts.{words_line, missing_line, long_line, refusal_line, trace_text, end_text}
+use Rattle.nwq_value.specs.Engine.{EngineTable}
+use Rattle.nwq_work.specs.declared.cause.Cause.TheVariants.{NotBuilt as not_built}
+use Rattle.nwq_work.specs.Refusal as refusal
+use Rattle.nwq_work.specs.Work.{Work, Gives, Refused, Finds, then, Finished, puts}
+use Rattle.nwq_sources.specs.Headers.{table_of}
+use Rattle.nwq_sources.specs.Units.{PlainScript, at_token, unit_of}
+use Rattle.nwq_sums.specs.declared.building.Sums.{Sums}
+use Rattle.nwq_sums.specs.declared.building.Sums.TheVariants.{Prints, NotBuilt}
+use Rattle.nwq_sums.specs.Symbols.{symbols}
+use Rattle.nwq_sums.specs.Printing.{Builds}
+use Rattle.nwq_sums.specs.Meaning.{prints_of}
+use Rattle.nwq_sums.specs.Emission.{code_of}
+use Rattle.nwq_sums.specs.Machine.{RunsTo}
+use Rattle.nwq_top.specs.Texts.{trace_text, end_text}
 use Rattle.nwq_top.specs.Words.{Form, Run, NoForm}
-use Rattle.nwq_top.specs.Symbols.{symbols}
-use Rattle.nwq_top.specs.Sentence.{IsSentence}
-use Rattle.nwq_top.specs.Units.{IsParsed}
-use Rattle.nwq_top.specs.Refusal.{IsRefused}
-use Rattle.nwq_top.specs.Meaning.{prints_of}
-use Rattle.nwq_top.specs.Emission.{code_of}
-use Rattle.nwq_top.specs.Machine.{RunsTo}
 
--- What is done with the unit of a script, by what the files hold: its work is cut before the unit is known; a file of the unit is absent
--- or too long; the unit is refused; or, being the sentence of these sums, its text is what they mean, with the number of instructions
--- that the machine executes on their code.
-pub data IsPlay (c : Contents) (script : List ℕ) : Work Finished → Type 0 where
-  stops : IsPlay c script Stops
-  missing : (tokens : List Lexeme) (files : List Source) (name : List ℕ) → IsUnit (map.get c) script tokens files (Some (fault.Missing name))
-      → IsPlay c script (Puts (missing_line name) (Ends Missing))
-  long : (tokens : List Lexeme) (files : List Source) (name : List ℕ) → IsUnit (map.get c) script tokens files (Some (fault.Long name))
-      → IsPlay c script (Puts (long_line name) (Ends Long))
-  refuses : (cause : Cause) (spot : Spot) → IsRefused (map.get c) script cause spot → IsPlay c script (Puts (refusal_line cause spot) (Ends Script))
-  plays : (tokens : List Lexeme) (files : List Source) (tree : PlainTree) (sums : List (List ℕ)) (count : ℕ)
-      → IsParsed (map.get c) script tokens files tree → IsSentence (symbols tokens) sums → RunsTo (code_of sums) count (prints_of sums)
-      → IsPlay c script (Puts (trace_text (prints_of sums) ++ end_text count) (Gives tt))
+-- The play of sums: the text is what they mean, with the number of instructions that the machine executes on their code.
+unfoldable pub plays : ℕ → List (List ℕ) → Work Finished
+plays printer sums =
+    Finds (λ (c : Contents) count. RunsTo printer (code_of printer sums) count (prints_of sums)) (λ count. puts (trace_text (prints_of sums) ++ end_text count))
 
--- the work of each form of words, where files hold this
-pub data IsWorkOf (c : Contents) : Form → Work Finished → Type 0 where
-  no_form : IsWorkOf c NoForm (Puts words_line (Ends Words))
-  run : (script : List ℕ) (work : Work Finished) → IsPlay c script work → IsWorkOf c (Run script) work
+abbrev pub play_by : PlainScript → Sums → Work Finished
+play_by script (Prints printer sums) = plays printer sums
+play_by script (NotBuilt i) = Refused (at_token script i not_built)
 
--- the call did the work of this form
-pub record DoesWorkOf (form : Form) (c : Contents) (t : List ℕ) (r : Result Finished Status) (c' : Contents) (t' : List ℕ) : Type 0 where
-  pub work : Work Finished
-  pub is : IsWorkOf c form work
-  pub does : Does work c t r c' t'
+-- the play of a script under a header: only sentences of sums are built
+unfoldable pub play_of : EngineTable → PlainScript → Work Finished
+play_of table script = Finds (λ (c : Contents) built. Builds table (symbols script.tokens) built) (play_by script)
+
+-- a script is read and played under a header
+unfoldable pub runs_under : List ℕ → EngineTable → Work Finished
+runs_under script table = then (unit_of script) (play_of table)
+
+unfoldable pub runs : List ℕ → List ℕ → Work Finished
+runs header script = then (table_of header) (runs_under script)
+
+-- the work of each form of words
+abbrev pub work_of : Form → Work Finished
+work_of (Run header script) = runs header script
+work_of NoForm = Refused refusal.NoForm
+
+-- which names a command may write
+abbrev pub MayWrite : Form → List ℕ → Type 0
+MayWrite (Run header script) name = ⊥
+MayWrite NoForm name = ⊥

@@ -1,29 +1,18 @@
--- Statements about the definitions alone. Each stands on the contract of a function of `laws`.
-use Rattle.std.specs.Prelude.{◌≡◌, ℕ, ℤ, ◌⊎◌, List, length}
+-- Statements about the work of commands. Each stands on the contract of a function of `laws`.
+use Rattle.std.specs.Prelude.{ℕ, List, Result}
 use Rattle.nwq_outside.specs.Outside.{Contents}
-use Rattle.ncs_code.specs.Plain.{PlainOp}
-use Rattle.nwq_top.specs.declared.symbol.Symbol.{Symbol}
-use Rattle.nwq_top.specs.Sentence.{AreSums, IsSentence, IsNoSentence}
-use Rattle.nwq_top.specs.Meaning.{prints_of}
-use Rattle.nwq_top.specs.Emission.{code_of}
-use Rattle.nwq_top.specs.Machine.{RunsTo}
+use Rattle.nwq_work.specs.declared.status.Status.{Status}
+use Rattle.nwq_work.specs.Work.{IsCut, Does, Finished}
+use Rattle.nwq_work.specs.Outcomes.{Agrees, IsPrefix}
 use Rattle.nwq_top.specs.Words.{Form}
-use Rattle.nwq_top.specs.Work.{Work, IsDecided, Finished}
-use Rattle.nwq_top.specs.Command.{IsWorkOf}
+use Rattle.nwq_top.specs.Command.{work_of}
 
-abbrev pub CodeDoesWhatIsMeant : Type 0
-CodeDoesWhatIsMeant = (sums : List (List ℕ)) → AreSums sums → RunsTo (code_of sums) (length (code_of sums)) (prints_of sums)
+-- What a command does by the files and the bytes taken, where it isn't cut, is one thing: its answer, what it leaves, what it puts.
+abbrev pub OneOutcome : Type 0
+OneOutcome = (form : Form) (r s : Result Finished Status) (c d e : Contents) (t u v : List ℕ) → (IsCut r → ⊥) → (IsCut s → ⊥)
+    → Does (work_of form) c t r d u → Does (work_of form) c t s e v → Agrees r s d e u v
 
-abbrev pub OneRun : Type 0
-OneRun = (ops : List PlainOp) (n m : ℕ) (out other : List ℤ) → RunsTo ops n out → RunsTo ops m other → (n ≡ m) × (out ≡ other)
-
--- tokens are a sentence of one list of sums, or none with one place where that shows, and not both
-pub record OneSentence : Type 0 where
-  pub some : (tokens : List Symbol) → ((sums : List (List ℕ)) × IsSentence tokens sums) ⊎ ((i : ℕ) × IsNoSentence tokens i)
-  pub one_list : (tokens : List Symbol) (a b : List (List ℕ)) → IsSentence tokens a → IsSentence tokens b → a ≡ b
-  pub one_place : (tokens : List Symbol) (i j : ℕ) → IsNoSentence tokens i → IsNoSentence tokens j → i ≡ j
-  pub not_both : (tokens : List Symbol) (sums : List (List ℕ)) (i : ℕ) → IsSentence tokens sums → IsNoSentence tokens i → ⊥
-
--- what files hold decides the work of each form of words
-abbrev pub OneWork : Type 0
-OneWork = (c : Contents) (form : Form) (a b : Work Finished) → IsDecided a → IsDecided b → IsWorkOf c form a → IsWorkOf c form b → a ≡ b
+-- What a command puts, cut or not, is a prefix of what it puts where it isn't cut.
+abbrev pub Prefixes : Type 0
+Prefixes = (form : Form) (r s : Result Finished Status) (c d e : Contents) (t u v : List ℕ) → (IsCut s → ⊥)
+    → Does (work_of form) c t r d u → Does (work_of form) c t s e v → IsPrefix u v

@@ -1,11 +1,11 @@
 -- The words of the command line.
-use Rattle.std.specs.Prelude.{◌≡◌, ℕ, Bool, cond, ◌&&◌, ◌||◌, ◌==◌, nat_le, List, [], ◌∷◌, length, codes, bytes_eq}
-use Rattle.std.specs.List.{list_all}
+use Rattle.std.specs.Prelude.{◌≡◌, ℕ, Bool, true, false, not, cond, ◌&&◌, ◌||◌, ◌==◌, nat_le, List, [], ◌∷◌, length, codes, bytes_eq}
+use Rattle.std.specs.List.{list_all, list_any}
 use Rattle.nwq_top.specs.declared.words.Command.{Command}
 use Rattle.nwq_top.specs.declared.words.Command.TheVariants as command
 
 pub data Form : Type 0 where
-  Run : (script : List ℕ) → Form  -- with the built-in header
+  Run : (header script : List ℕ) → Form  -- the header is a file's name, or `-` for the built-in one
   NoForm : Form
 
 abbrev pub is_between : ℕ → ℕ → ℕ → Bool
@@ -19,16 +19,25 @@ is_script_byte b = is_between 97 122 b || is_between 48 57 b || b == 95
 abbrev pub is_script_name : List ℕ → Bool
 is_script_name name = nat_le 1 (length name) && nat_le (length name) 16 && list_all is_script_byte name
 
-abbrev pub run_form : List ℕ → List ℕ → List ℕ → Form
-run_form command header script =
-    cond (bytes_eq command (codes "run") && bytes_eq header (codes "-") && is_script_name script) (Run script) NoForm
+-- a word that begins with `-` and isn't `-` alone
+abbrev pub is_option : List ℕ → Bool
+is_option [] = false
+is_option (b ∷ []) = false
+is_option (b ∷ more) = b == 45
 
--- which command these words are, if they are one
+abbrev pub run_form : List ℕ → List ℕ → Form
+run_form header script = cond (is_script_name script) (Run header script) NoForm
+
+-- which command these words are, by the first of them
+abbrev pub command_form : List (List ℕ) → Form
+command_form (command ∷ (header ∷ (script ∷ []))) = cond (bytes_eq command (codes "run")) (run_form header script) NoForm
+command_form _ = NoForm
+
+-- which command these words are, if they are one: there are no options
 abbrev pub form_of : List (List ℕ) → Form
-form_of (command ∷ (header ∷ (script ∷ []))) = run_form command header script
-form_of _ = NoForm
+form_of words = cond (list_any is_option words) NoForm (command_form words)
 
 -- the command that the words are
 abbrev pub IsCommand : Command → Form → Type 0
 IsCommand command.NoForm form = form ≡ NoForm
-IsCommand (command.Run script) form = form ≡ Run script.now
+IsCommand (command.Run header script) form = form ≡ Run header.now script.now

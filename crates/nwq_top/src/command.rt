@@ -1,17 +1,18 @@
-ghost use Rattle.std.specs.Prelude.{◌≡◌, ◌⊎◌, map, string_bytes, IsTrue, IfErr, IsErrAnd, Err};
-ghost use Rattle.nwq_outside.specs.Outside.{Rose};
-ghost use Rattle.nwq_top.specs.Words.{form_of, NoForm};
-ghost use Rattle.nwq_top.specs.Command.{DoesWorkOf};
-ghost use Rattle.nwq_top.specs.Causes.{IsOfNoForm, StopsCommand};
+ghost use Rattle.std.specs.Prelude.{◌≡◌, map, string_bytes, IsTrue};
+ghost use Rattle.nwq_work.specs.Work.{Does};
+ghost use Rattle.nwq_work.specs.Counts.{Counted, Tallies, KeepsBut};
+ghost use Rattle.nwq_top.specs.Words.{form_of};
+ghost use Rattle.nwq_top.specs.Command.{work_of, MayWrite};
+ghost use Rattle.nwq_top.specs.Endings.{ComesOfResult};
 
-use crate::run::{refuse, run};
-use crate::status::Status;
-use crate::texts::words_text;
+use crate::run::run;
 use crate::words::{Command, command_of};
 use nwq_outside::{Files, Sink};
+use nwq_work::{Status, refuse_form};
 use std::alloc::Global;
 
 /// Does the command that the words are.
+#[tactic(auto, using(nwq_work::specs::Parts::refused))]
 pub fn command<F: Files, S: Sink>(
     alloc: Global,
     words: &[String],
@@ -19,17 +20,19 @@ pub fn command<F: Files, S: Sink>(
     out: &mut S,
 ) -> Result<(), Status>
     ensures does { IsTrue F.tells → IsTrue S.tells →
-        DoesWorkOf (form_of (map string_bytes words.now)) (F.contents files.old) (S.taken out.old) result (F.contents files.new) (S.taken out.new) }
-    ensures names { F.contents files.new ≡ F.contents files.old }
-    ensures words { result ≡ Err Status.Words → form_of (map string_bytes words.now) ≡ NoForm }
-    ensures no_form { form_of (map string_bytes words.now) ≡ NoForm → IsErrAnd result IsOfNoForm }
-    ensures missing { result ≡ Err Status.Missing → Rose (F.absences files.old) (F.absences files.new) }
-    ensures long { result ≡ Err Status.Long → Rose (F.longs files.old) (F.longs files.new) }
-    ensures fault { result ≡ Err Status.Fault → Rose (F.faults files.old) (F.faults files.new) ⊎ Rose (S.faults out.old) (S.faults out.new) }
-    ensures only { IfErr result StopsCommand }
+        Does (work_of (form_of (map string_bytes words.now)))
+            (F.contents files.old) (S.taken out.old)
+            result (F.contents files.new) (S.taken out.new) }
+    ensures counts { Tallies result
+        (Counted (F.faults files.old) (F.absences files.old) (F.longs files.old) (S.faults out.old))
+        (Counted (F.faults files.new) (F.absences files.new)
+            (F.longs files.new) (S.faults out.new)) }
+    ensures names { KeepsBut (MayWrite (form_of (map string_bytes words.now)))
+        (F.contents files.old) (F.contents files.new) }
+    ensures only { ComesOfResult (form_of (map string_bytes words.now)) result }
 {
     match command_of(words) {
-        Command::NoForm => Err(refuse(words_text(alloc), Status::Words, out)),
-        Command::Run(script) => run(alloc, script, files, out),
+        Command::NoForm => Err(refuse_form(alloc, out)),
+        Command::Run(header, script) => run(alloc, header, script, files, out),
     }
 }

@@ -1,29 +1,17 @@
-//! Laws that join the definitions: what is proved of them for all inputs, beside what the calls promise.
+//! Laws about the work of commands, as the contract of a function that does nothing.
 
-ghost use Rattle.nwq_top.specs.Laws.{CodeDoesWhatIsMeant, OneRun, OneSentence, OneWork};
+ghost use Rattle.nwq_top.specs.Laws.{OneOutcome, Prefixes};
 
-use nss_include::laws::one_unit;
-use nss_parser::laws::one_refusal;
+use nwq_sources::laws::one_source;
+use nwq_sums::laws::{one_building, one_run};
 
-/// The machine, run on the code of a sentence, prints what the sentence means, in as many instructions as the code has.
-pub fn code_does_what_is_meant()
-    ensures { CodeDoesWhatIsMeant }
-{}
-
-/// A run prints one thing and takes one number of instructions.
-pub fn one_run()
-    ensures { OneRun }
-{}
-
-/// Tokens are a sentence of one list of sums, or none with one place where that shows, and never both.
-pub fn one_sentence()
-    ensures { OneSentence }
-{}
-
-/// What the files hold decides the work of each form of words.
-pub fn one_work()
-    ensures { OneWork }
+/// A command that isn't cut has one outcome, and one that is cut has put a prefix of what it puts
+/// whole.
+pub fn one_outcome()
+    ensures one { OneOutcome }
+    ensures prefixes { Prefixes }
 {
-    one_unit();
-    one_refusal();
+    one_source();
+    one_building();
+    one_run();
 }

@@ -1,40 +1,34 @@
 //! The top call: what the words of a command do with files and a sink, in order, and how it ends.
 //!
-//! [`nwq_main`] is the whole program but for the real files, the real sink and the words. What a command does is a value of
-//! `specs/Work.antt`, decided by the form of the words and by what the files hold (`specs/Command.antt`), and the clause `does` says that
-//! the call did that work. Which units are refused, and where, stands in `specs/Refusal.antt`. What a sentence is (`Sentence`), what it
-//! means (`Meaning`), its code (`Emission`) and the machine that runs the code (`Machine`) are definitions that know nothing of one
-//! another; laws join them.
+//! [`nwq_main`] is the whole program but for the real files, the real sink and the words;
+//! [`nwq_program`] is what `main` calls. What a command does is a
+//! [`Work`](../../nwq_work/specs/Work.antt), a function of the form of its words
+//! (`specs/Command.antt`), and the clause `does` says that the call did it. The parts of that work
+//! that read sources are `nwq_sources`'. See docs/COMMANDS.md and docs/THEOREMS.md.
 #![tactic(auto)]
 
-mod cause;
 mod command;
-mod emission;
 pub mod laws;
-mod machine;
-mod pile;
+mod program;
 mod run;
-mod sentence;
-mod status;
-mod symbol;
-#[cfg(test)]
-mod tests;
 mod texts;
 mod words;
 
-ghost use Rattle.std.specs.Prelude.{◌≡◌, ◌⊎◌, map, string_bytes, IsTrue};
-ghost use Rattle.nwq_outside.specs.Outside.{Rose};
-ghost use Rattle.nwq_top.specs.Words.{form_of, NoForm};
-ghost use Rattle.nwq_top.specs.Work.{ending};
-ghost use Rattle.nwq_top.specs.Command.{DoesWorkOf};
-ghost use Rattle.nwq_top.specs.Causes.{CanCome, IsOfNoForm};
+ghost use Rattle.std.specs.Prelude.{◌≡◌, map, string_bytes, IsTrue};
+ghost use Rattle.nwq_work.specs.Work.{Does, ending};
+ghost use Rattle.nwq_work.specs.Counts.{Counted, Tallies, KeepsBut};
+ghost use Rattle.nwq_top.specs.Words.{form_of};
+ghost use Rattle.nwq_top.specs.Command.{work_of, MayWrite};
+ghost use Rattle.nwq_top.specs.Endings.{ComesOf};
 
 use crate::command::command;
 use nwq_outside::{Files, Sink};
-pub use status::Status;
+pub use nwq_work::Status;
+pub use program::nwq_program;
 use std::alloc::Global;
 
 /// Does what the words say.
+#[tactic(auto, using(crate::proofs::EndingLemmas::stops_come))]
 pub fn nwq_main<F: Files, S: Sink>(
     alloc: Global,
     words: &[String],
@@ -43,14 +37,18 @@ pub fn nwq_main<F: Files, S: Sink>(
 ) -> Status
     // Where files and sink tell what they hold: the call did the work of the words, in order.
     ensures does { IsTrue F.tells → IsTrue S.tells →
-        DoesWorkOf (form_of (map string_bytes words.now)) (F.contents files.old) (S.taken out.old) (ending result) (F.contents files.new) (S.taken out.new) }
-    ensures names { F.contents files.new ≡ F.contents files.old }
-    ensures words { result ≡ Status.Words → form_of (map string_bytes words.now) ≡ NoForm }
-    ensures no_form { form_of (map string_bytes words.now) ≡ NoForm → IsOfNoForm result }
-    ensures missing { result ≡ Status.Missing → Rose (F.absences files.old) (F.absences files.new) }
-    ensures long { result ≡ Status.Long → Rose (F.longs files.old) (F.longs files.new) }
-    ensures fault { result ≡ Status.Fault → Rose (F.faults files.old) (F.faults files.new) ⊎ Rose (S.faults out.old) (S.faults out.new) }
-    ensures only { CanCome result }
+        Does (work_of (form_of (map string_bytes words.now)))
+            (F.contents files.old) (S.taken out.old)
+            (ending result) (F.contents files.new) (S.taken out.new) }
+    // A read, write or put that was refused is the last one, and the status says which.
+    ensures counts { Tallies (ending result)
+        (Counted (F.faults files.old) (F.absences files.old) (F.longs files.old) (S.faults out.old))
+        (Counted (F.faults files.new) (F.absences files.new)
+            (F.longs files.new) (S.faults out.new)) }
+    // Every name that the command may not write has what it had.
+    ensures names { KeepsBut (MayWrite (form_of (map string_bytes words.now)))
+        (F.contents files.old) (F.contents files.new) }
+    ensures only { ComesOf (form_of (map string_bytes words.now)) result }
 {
     match command(alloc, words, files, out) {
         Ok(()) => Status::Done,

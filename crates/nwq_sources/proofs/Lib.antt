@@ -1,0 +1,6 @@
+mod HeaderLemmas
+mod OneTable
+mod OneUnit
+mod PlaceLemmas
+mod UnitLemmas
+mod Rows

@@ -1,0 +1,5 @@
+pub mod Headers
+pub mod Units
+pub mod Scripts
+pub mod Reading
+pub mod Laws

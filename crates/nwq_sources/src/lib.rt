@@ -1,0 +1,16 @@
+//! What commands read of source texts: the table of a header, and the unit of a script with its
+//! tree.
+//!
+//! Each is a part of the work of a command (`specs/Headers.antt`, `specs/Units.antt`), for every
+//! command that names a header or a script. A header or unit that is refused is refused here, at
+//! its exact place. See docs/COMMANDS.md.
+#![tactic(auto)]
+
+mod header;
+pub mod laws;
+mod script;
+mod unit;
+
+pub use header::read_table;
+pub use script::Script;
+pub use unit::read_unit;

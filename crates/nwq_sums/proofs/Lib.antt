@@ -1,0 +1,10 @@
+mod CodeLemmas
+mod MachineLemmas
+mod StepLemmas
+mod ParseLemmas
+mod SentenceLemmas
+mod OneSentence
+mod OneRun
+mod BuildingLemmas
+mod OneBuilding
+mod Rows

@@ -1,0 +1,77 @@
+ghost use Rattle.std.specs.Prelude.{◌≡◌, drop, IsTrue};
+ghost use Rattle.nwq_work.specs.Work.{Does, ending};
+ghost use Rattle.nwq_work.specs.Counts.{Counted, Tallies, KeepsBut};
+ghost use Rattle.nwq_top.specs.Words.{form_of};
+ghost use Rattle.nwq_top.specs.Command.{work_of, MayWrite};
+ghost use Rattle.nwq_top.specs.Endings.{ComesOf};
+ghost use Rattle.nwq_top.specs.Program.{status_number, status_numbered, words_of, usage_line};
+ghost use Rattle.nwq_top.specs.Program.{TellsUsage};
+
+use crate::nwq_main;
+use nwq_outside::{Files, Sink};
+use nwq_work::Status;
+use std::alloc::Global;
+
+/// What is said on standard error after words that are no form of a command.
+const USAGE: &str = "usage: nwq run HEADER SCRIPT (HEADER: a header file, or - for the built-in one)\n";
+
+/// The words after the program's name, which is the first of all.
+fn after_name(all: &[String]) -> &[String]
+    ensures { result.now ≡ drop 1 all.now }
+{
+    match all.split_first() {
+        Some((_name, words)) => words,
+        None => all,
+    }
+}
+
+/// The number with which the program ends.
+fn number_of(status: Status) -> u8
+    ensures number { result ≡ status_number status }
+    ensures status { status_numbered result ≡ status }
+{
+    status as u8
+}
+
+/// After words that are no form of a command, says how the words go. Where standard error doesn't
+/// take it, nothing more is done.
+fn tell_usage<E: Sink>(status: Status, err: &mut E)
+    ensures { IsTrue E.tells → TellsUsage status (E.taken err.old) (E.taken err.new) }
+{
+    match status {
+        Status::Words => {
+            let _answer = err.put(USAGE.as_bytes());
+        }
+        _ => {}
+    }
+}
+
+/// The whole program, given all its words, the files, standard output and standard error: the
+/// number with which it ends.
+pub fn nwq_program<F: Files, S: Sink, E: Sink>(
+    alloc: Global,
+    all: &[String],
+    files: &mut F,
+    out: &mut S,
+    err: &mut E,
+) -> u8
+    // It is the number of a status, and the top call did what it promises for the words with this
+    // status.
+    ensures number { status_number (status_numbered result) ≡ result }
+    ensures does { IsTrue F.tells → IsTrue S.tells →
+        Does (work_of (form_of (words_of all.now))) (F.contents files.old) (S.taken out.old)
+            (ending (status_numbered result)) (F.contents files.new) (S.taken out.new) }
+    ensures counts { Tallies (ending (status_numbered result))
+        (Counted (F.faults files.old) (F.absences files.old) (F.longs files.old) (S.faults out.old))
+        (Counted (F.faults files.new) (F.absences files.new)
+            (F.longs files.new) (S.faults out.new)) }
+    ensures names { KeepsBut (MayWrite (form_of (words_of all.now)))
+        (F.contents files.old) (F.contents files.new) }
+    ensures only { ComesOf (form_of (words_of all.now)) (status_numbered result) }
+    ensures usage { IsTrue E.tells →
+        TellsUsage (status_numbered result) (E.taken err.old) (E.taken err.new) }
+{
+    let status = nwq_main(alloc, after_name(all), files, out);
+    tell_usage(status, err);
+    number_of(status)
+}

@@ -1,0 +1,2 @@
+mod Tallied
+mod FileLemmas

@@ -1,0 +1,5 @@
+pub mod Refusal
+pub mod Work
+pub mod Counts
+pub mod Parts
+pub mod Outcomes

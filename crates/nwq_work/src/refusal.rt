@@ -1,0 +1,133 @@
+ghost use Rattle.std.specs.Prelude.{◌≡◌, ◌++◌, ℕ, codes, OnOk, IfOk, IsTrue};
+ghost use Rattle.nwq_outside.specs.Outside.{Rises};
+ghost use Rattle.nwq_text.specs.Escape.{escaped};
+ghost use Rattle.nwq_work.specs.Refusal.{line_of, NoForm, Absent, TooLong, At};
+ghost use Rattle.nwq_work.specs.Parts.{Refuses};
+ghost use Rattle.nwq_work.specs.Counts.{Counted, TalliesEnd, Refusing};
+
+use crate::calls::put_line;
+use crate::cause::Cause;
+use crate::status::Status;
+use nwq_outside::Sink;
+use nwq_text::{put_number, put_text};
+use nwq_value::NoMemory;
+use std::alloc::Global;
+
+fn put_ascii(out: &mut Vec<u8>, text: &str) -> Result<(), NoMemory>
+    ensures { OnOk result (out.new.items ≡ out.old.items ++ text.now) }
+{
+    out.extend_from_slice(text.as_bytes())?;
+    Ok(())
+}
+
+/// A line of a word, a space and a file's name.
+fn name_line(alloc: Global, word: &str, name: &[u8]) -> Result<Vec<u8>, NoMemory>
+    ensures { IfOk result (λ text. text.items ≡ word.now ++ escaped name.now ++ codes "\n") }
+{
+    let mut text = Vec::new(alloc);
+    put_ascii(&mut text, word)?;
+    put_text(&mut text, name)?;
+    put_ascii(&mut text, "\n")?;
+    Ok(text)
+}
+
+/// The line for a place of a text.
+fn place_line(
+    alloc: Global,
+    name: &[u8],
+    line: u32,
+    at: u32,
+    cause: Cause,
+) -> Result<Vec<u8>, NoMemory>
+    ensures { IfOk result (λ text. text.items ≡ line_of (At name.now line at cause)) }
+{
+    let mut text = Vec::new(alloc);
+    put_ascii(&mut text, "refused ")?;
+    put_text(&mut text, name)?;
+    put_ascii(&mut text, " ")?;
+    put_number(&mut text, i64::from(line))?;
+    put_ascii(&mut text, " ")?;
+    put_number(&mut text, i64::from(at))?;
+    put_ascii(&mut text, " ")?;
+    put_ascii(&mut text, cause.word())?;
+    put_ascii(&mut text, "\n")?;
+    Ok(text)
+}
+
+/// The line for words that are no form of a command.
+fn form_line(alloc: Global) -> Result<Vec<u8>, NoMemory>
+    ensures { IfOk result (λ text. text.items ≡ line_of NoForm) }
+{
+    Ok(Vec::from_slice(alloc, b"refused words\n")?)
+}
+
+/// Refuses words that are no form of a command.
+#[tactic(auto, using(crate::proofs::Tallied::put_cut))]
+pub fn refuse_form<S: Sink>(alloc: Global, out: &mut S) -> Status
+    ensures does { IsTrue S.tells → Refuses NoForm (S.taken out.old) result (S.taken out.new) }
+    ensures counts { (faults absences longs : ℕ) → TalliesEnd result
+        (Counted faults absences longs (S.faults out.old))
+        (Counted faults absences longs (S.faults out.new)) }
+    ensures only { Refusing Status.Words result }
+{
+    match put_line(form_line(alloc), out) {
+        Ok(()) => Status::Words,
+        Err(cut) => cut,
+    }
+}
+
+/// Refuses the text of a script or of a header at this place of the file with this name.
+#[tactic(auto, using(crate::proofs::Tallied::put_cut))]
+pub fn refuse_at<S: Sink>(
+    alloc: Global,
+    name: &[u8],
+    line: u32,
+    at: u32,
+    cause: Cause,
+    out: &mut S,
+) -> Status
+    ensures does { IsTrue S.tells →
+        Refuses (At name.now line at cause) (S.taken out.old) result (S.taken out.new) }
+    ensures counts { (faults absences longs : ℕ) → TalliesEnd result
+        (Counted faults absences longs (S.faults out.old))
+        (Counted faults absences longs (S.faults out.new)) }
+    ensures only { Refusing Status.Script result }
+{
+    match put_line(place_line(alloc, name, line, at, cause), out) {
+        Ok(()) => Status::Script,
+        Err(cut) => cut,
+    }
+}
+
+/// Refuses a file of this name, which isn't there: its absence was counted just before.
+#[tactic(auto, using(crate::proofs::Tallied::absent_cut))]
+pub fn refuse_absent<S: Sink>(alloc: Global, name: &[u8], out: &mut S) -> Status
+    ensures does { IsTrue S.tells →
+        Refuses (Absent name.now) (S.taken out.old) result (S.taken out.new) }
+    ensures counts { (faults absences absences' longs : ℕ) → Rises absences absences' →
+        TalliesEnd result
+        (Counted faults absences longs (S.faults out.old))
+        (Counted faults absences' longs (S.faults out.new)) }
+    ensures only { Refusing Status.Missing result }
+{
+    match put_line(name_line(alloc, "missing ", name), out) {
+        Ok(()) => Status::Missing,
+        Err(cut) => cut,
+    }
+}
+
+/// Refuses a file of this name, which is too long: that was counted just before.
+#[tactic(auto, using(crate::proofs::Tallied::long_cut))]
+pub fn refuse_long<S: Sink>(alloc: Global, name: &[u8], out: &mut S) -> Status
+    ensures does { IsTrue S.tells →
+        Refuses (TooLong name.now) (S.taken out.old) result (S.taken out.new) }
+    ensures counts { (faults absences longs longs' : ℕ) → Rises longs longs' → TalliesEnd result
+        (Counted faults absences longs (S.faults out.old))
+        (Counted faults absences longs' (S.faults out.new)) }
+    ensures only { Refusing Status.Long result }
+{
+    match put_line(name_line(alloc, "long ", name), out) {
+        Ok(()) => Status::Long,
+        Err(cut) => cut,
+    }
+}

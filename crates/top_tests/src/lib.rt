@@ -1,0 +1,10 @@
+//! Tests of the top call: its parts, its commands by the rows of their pages, and the whole program
+//! over memory.
+#![tactic(auto)]
+
+#[cfg(test)]
+mod commands;
+#[cfg(test)]
+mod parts;
+#[cfg(test)]
+mod programs;
