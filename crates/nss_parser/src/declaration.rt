@@ -96,7 +96,8 @@ pub fn typed(alloc: Global, tokens: &mut Cursor<'_>) -> Result<(u32, TypeName), 
 
 /// A literal after a `-`.
 fn negated(tokens: &mut Cursor<'_>) -> Result<Constant, Stop>
-    ensures { Reads (λ c. c) (read.negated_by (outcome.first tokens.old) tokens.old) result tokens.new }
+    ensures { Reads (λ c. c) (read.negated_by (outcome.first tokens.old) tokens.old) result
+        tokens.new }
 {
     match tokens.peek() {
         Some(Seen::Int(value)) => {
@@ -211,7 +212,8 @@ pub fn more_declared(
     depth: usize,
     first: DeclaredName,
 ) -> Result<Items<DeclaredName>, Stop>
-    ensures { Reads plain_names (read.more_declared depth depth (plain_name first ∷ []) tokens.old) result tokens.new }
+    ensures { Reads plain_names (read.more_declared depth depth (plain_name first ∷ []) tokens.old)
+        result tokens.new }
 {
     let mut all = Items::new(alloc);
     push_name(&mut all, first)?;

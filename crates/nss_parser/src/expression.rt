@@ -70,7 +70,9 @@ fn no_exprs(alloc: Global) -> Items<Expr>
 /// One more expression at the end.
 #[tactic(auto, using(nss_tree::specs::Readings::plain_exprs_push))]
 fn push_expr(all: &mut Items<Expr>, next: Expr) -> Result<(), NoMemory>
-    ensures { IfOk result (λ _. plain_exprs all.new ≡ tree.joined_exprs (plain_exprs all.old) (tree.more_exprs (plain_expr next) tree.no_expr)) }
+    ensures { IfOk result
+        (λ _. plain_exprs all.new ≡ tree.joined_exprs (plain_exprs all.old)
+        (tree.more_exprs (plain_expr next) tree.no_expr)) }
 {
     all.push(next)
 }
@@ -78,7 +80,9 @@ fn push_expr(all: &mut Items<Expr>, next: Expr) -> Result<(), NoMemory>
 /// The arguments of a call up to `)`, of which there is one at least.
 #[cycle(level)]
 fn some_arguments(alloc: Global, tokens: &mut Cursor<'_>, depth: usize) -> Result<Items<Expr>, Stop>
-    ensures { Reads plain_exprs (read.arguments_from depth (read.level depth) depth tree.no_expr tokens.old) result tokens.new }
+    ensures { Reads plain_exprs
+        (read.arguments_from depth (read.level depth) depth tree.no_expr tokens.old) result
+        tokens.new }
 {
     let mut all = no_exprs(alloc);
     for _turn in 0..depth {
@@ -98,7 +102,8 @@ fn some_arguments(alloc: Global, tokens: &mut Cursor<'_>, depth: usize) -> Resul
 #[cycle(level)]
 #[tactic(auto, unfolding(crate::specs::ReadExpression::arguments))]
 fn arguments(alloc: Global, tokens: &mut Cursor<'_>, depth: usize) -> Result<Items<Expr>, Stop>
-    ensures { Reads plain_exprs (read.arguments depth (read.level depth) tokens.old) result tokens.new }
+    ensures { Reads plain_exprs (read.arguments depth (read.level depth) tokens.old) result
+        tokens.new }
 {
     if tokens.sees(Terminal::Close) {
         tokens.take()?;
@@ -118,7 +123,8 @@ fn after_name(
     number: u32,
     name: Text,
 ) -> Result<Expr, Stop>
-    ensures { Reads plain_expr (read.after_name depth (read.level depth) number name tokens.old) result tokens.new }
+    ensures { Reads plain_expr (read.after_name depth (read.level depth) number name tokens.old)
+        result tokens.new }
 {
     if tokens.sees(Terminal::Open) {
         tokens.take()?;
@@ -205,7 +211,9 @@ fn operation(
     operator: BinaryOperator,
     left: Expr,
 ) -> Result<Expr, Stop>
-    ensures { Reads plain_expr (read.operation depth (read.level depth) operator (plain_expr left) tokens.old) result tokens.new }
+    ensures { Reads plain_expr
+        (read.operation depth (read.level depth) operator (plain_expr left) tokens.old) result
+        tokens.new }
 {
     let number = tokens.take()?;
     match level(alloc, tokens, depth, level_of(operator) + 1) {
@@ -226,7 +234,9 @@ fn climb(
     least: u32,
     left: Expr,
 ) -> Result<Expr, Stop>
-    ensures { Reads plain_expr (read.climb depth (read.level depth) depth least (plain_expr left) tokens.old) result tokens.new }
+    ensures { Reads plain_expr
+        (read.climb depth (read.level depth) depth least (plain_expr left) tokens.old) result
+        tokens.new }
 {
     let mut left = left;
     for _turn in 0..depth {
@@ -246,7 +256,8 @@ fn climb(
 #[cycle(level)]
 #[tactic(auto, unfolding(crate::specs::ReadExpression::assigned))]
 fn assigned(alloc: Global, tokens: &mut Cursor<'_>, depth: usize, left: Expr) -> Result<Expr, Stop>
-    ensures { Reads plain_expr (read.assigned depth (read.level depth) (plain_expr left) tokens.old) result tokens.new }
+    ensures { Reads plain_expr
+        (read.assigned depth (read.level depth) (plain_expr left) tokens.old) result tokens.new }
 {
     match assign_of(tokens.peek()) {
         Some(operator) => {
@@ -273,7 +284,9 @@ fn after_first(
     least: u32,
     left: Expr,
 ) -> Result<Expr, Stop>
-    ensures { Reads plain_expr (read.after_first depth (read.level depth) least (plain_expr left) tokens.old) result tokens.new }
+    ensures { Reads plain_expr
+        (read.after_first depth (read.level depth) least (plain_expr left) tokens.old) result
+        tokens.new }
 {
     if least == 0 {
         assigned(alloc, tokens, depth, left)

@@ -143,7 +143,9 @@ fn no_stmts(alloc: Global) -> Items<Stmt>
 /// One more entry at the end.
 #[tactic(auto, using(nss_tree::specs::Readings::map_stmts_push))]
 fn push_stmt(all: &mut Items<Stmt>, next: Stmt) -> Result<(), NoMemory>
-    ensures { IfOk result (λ _. plain_stmts all.new ≡ tree.joined_stmts (plain_stmts all.old) (tree.more_stmts (plain_stmt next) tree.no_stmt)) }
+    ensures { IfOk result
+        (λ _. plain_stmts all.new ≡ tree.joined_stmts (plain_stmts all.old)
+        (tree.more_stmts (plain_stmt next) tree.no_stmt)) }
 {
     all.push(next)
 }
@@ -152,7 +154,8 @@ fn push_stmt(all: &mut Items<Stmt>, next: Stmt) -> Result<(), NoMemory>
 #[cycle(statement)]
 #[tactic(auto, unfolding(crate::specs::ReadStatement::labelled))]
 fn labelled(alloc: Global, tokens: &mut Cursor<'_>, depth: usize) -> Result<Stmt, Stop>
-    ensures { Reads plain_stmt (read.labelled depth (read.statement depth) tokens.old) result tokens.new }
+    ensures { Reads plain_stmt (read.labelled depth (read.statement depth) tokens.old) result
+        tokens.new }
 {
     if tokens.sees(Terminal::Case) {
         case_label(alloc, tokens)
@@ -167,7 +170,8 @@ fn labelled(alloc: Global, tokens: &mut Cursor<'_>, depth: usize) -> Result<Stmt
 #[cycle(statement)]
 #[tactic(auto, unfolding(crate::specs::ReadStatement::entry))]
 fn entry(alloc: Global, tokens: &mut Cursor<'_>, depth: usize, labels: bool) -> Result<Stmt, Stop>
-    ensures { Reads plain_stmt (read.entry depth (read.statement depth) labels tokens.old) result tokens.new }
+    ensures { Reads plain_stmt (read.entry depth (read.statement depth) labels tokens.old) result
+        tokens.new }
 {
     if begins_type(tokens.peek()) {
         declaration(alloc, tokens, depth)
@@ -187,7 +191,8 @@ pub fn entries(
     depth: usize,
     labels: bool,
 ) -> Result<Items<Stmt>, Stop>
-    ensures { Reads plain_stmts (read.entries depth (read.statement depth) labels tokens.old) result tokens.new }
+    ensures { Reads plain_stmts (read.entries depth (read.statement depth) labels tokens.old)
+        result tokens.new }
 {
     let mut all = no_stmts(alloc);
     for _turn in 0..depth {
@@ -205,7 +210,8 @@ pub fn entries(
 #[cycle(statement)]
 #[tactic(auto, unfolding(crate::specs::ReadParts::else_part))]
 fn else_part(alloc: Global, tokens: &mut Cursor<'_>, depth: usize) -> Result<Option<Stmt>, Stop>
-    ensures { Reads (option_map plain_stmt) (parts.else_part (read.statement depth) tokens.old) result tokens.new }
+    ensures { Reads (option_map plain_stmt) (parts.else_part (read.statement depth) tokens.old)
+        result tokens.new }
 {
     if tokens.sees(Terminal::Else) {
         tokens.take()?;
@@ -224,7 +230,9 @@ fn if_of(
     then: Stmt,
     otherwise: Option<Stmt>,
 ) -> Result<Stmt, NoMemory>
-    ensures { IfOk result (λ s. plain_stmt s ≡ parts.if_of number (plain_expr condition) (plain_stmt then) (option_map plain_stmt otherwise)) }
+    ensures { IfOk result
+        (λ s. plain_stmt s ≡ parts.if_of number (plain_expr condition) (plain_stmt then)
+        (option_map plain_stmt otherwise)) }
 {
     match otherwise {
         Some(otherwise) => Stmt::if_else(alloc, number, condition, then, otherwise),
@@ -243,7 +251,9 @@ fn if_rest(
     condition: Expr,
     then: Stmt,
 ) -> Result<Stmt, Stop>
-    ensures { Reads plain_stmt (parts.if_rest (read.statement depth) number (plain_expr condition) (plain_stmt then) tokens.old) result tokens.new }
+    ensures { Reads plain_stmt
+        (parts.if_rest (read.statement depth) number (plain_expr condition) (plain_stmt then)
+        tokens.old) result tokens.new }
 {
     match else_part(alloc, tokens, depth) {
         Err(stop) => {
@@ -259,7 +269,8 @@ fn if_rest(
 #[cycle(statement)]
 #[tactic(auto, unfolding(crate::specs::ReadStatement::if_statement))]
 fn if_statement(alloc: Global, tokens: &mut Cursor<'_>, depth: usize) -> Result<Stmt, Stop>
-    ensures { Reads plain_stmt (read.if_statement depth (read.statement depth) tokens.old) result tokens.new }
+    ensures { Reads plain_stmt (read.if_statement depth (read.statement depth) tokens.old) result
+        tokens.new }
 {
     let number = tokens.take()?;
     let value = condition(alloc, tokens, depth)?;
@@ -276,7 +287,8 @@ fn if_statement(alloc: Global, tokens: &mut Cursor<'_>, depth: usize) -> Result<
 #[cycle(statement)]
 #[tactic(auto, unfolding(crate::specs::ReadStatement::while_statement))]
 fn while_statement(alloc: Global, tokens: &mut Cursor<'_>, depth: usize) -> Result<Stmt, Stop>
-    ensures { Reads plain_stmt (read.while_statement depth (read.statement depth) tokens.old) result tokens.new }
+    ensures { Reads plain_stmt (read.while_statement depth (read.statement depth) tokens.old)
+        result tokens.new }
 {
     let number = tokens.take()?;
     let condition = condition(alloc, tokens, depth)?;
@@ -314,7 +326,8 @@ fn do_rest(
     number: u32,
     body: Stmt,
 ) -> Result<Stmt, Stop>
-    ensures { Reads plain_stmt (parts.do_rest depth number (plain_stmt body) tokens.old) result tokens.new }
+    ensures { Reads plain_stmt (parts.do_rest depth number (plain_stmt body) tokens.old) result
+        tokens.new }
 {
     match do_end(alloc, tokens, depth) {
         Err(stop) => {
@@ -329,7 +342,8 @@ fn do_rest(
 #[cycle(statement)]
 #[tactic(auto, unfolding(crate::specs::ReadStatement::do_statement))]
 fn do_statement(alloc: Global, tokens: &mut Cursor<'_>, depth: usize) -> Result<Stmt, Stop>
-    ensures { Reads plain_stmt (read.do_statement depth (read.statement depth) tokens.old) result tokens.new }
+    ensures { Reads plain_stmt (read.do_statement depth (read.statement depth) tokens.old) result
+        tokens.new }
 {
     let number = tokens.take()?;
     let inner = statement(alloc, tokens, depth)?;
@@ -393,7 +407,8 @@ fn for_head(alloc: Global, tokens: &mut Cursor<'_>, depth: usize) -> Result<ForH
 
 /// A `for` of its parts.
 fn for_of(alloc: Global, number: u32, head: ForHead, body: Stmt) -> Result<Stmt, NoMemory>
-    ensures { IfOk result (λ s. plain_stmt s ≡ parts.for_of number (plain_head head) (plain_stmt body)) }
+    ensures { IfOk result
+        (λ s. plain_stmt s ≡ parts.for_of number (plain_head head) (plain_stmt body)) }
 {
     let ForHead {
         start,
@@ -407,7 +422,8 @@ fn for_of(alloc: Global, number: u32, head: ForHead, body: Stmt) -> Result<Stmt,
 #[cycle(statement)]
 #[tactic(auto, using(crate::proofs::PartLaws::for_is))]
 fn for_statement(alloc: Global, tokens: &mut Cursor<'_>, depth: usize) -> Result<Stmt, Stop>
-    ensures { Reads plain_stmt (read.for_statement depth (read.statement depth) tokens.old) result tokens.new }
+    ensures { Reads plain_stmt (read.for_statement depth (read.statement depth) tokens.old) result
+        tokens.new }
 {
     let number = tokens.take()?;
     let head = for_head(alloc, tokens, depth)?;
@@ -423,7 +439,8 @@ fn for_statement(alloc: Global, tokens: &mut Cursor<'_>, depth: usize) -> Result
 /// The body of a `switch`, a block with labels.
 #[cycle(statement)]
 fn switch_body(alloc: Global, tokens: &mut Cursor<'_>, depth: usize) -> Result<Items<Stmt>, Stop>
-    ensures { Reads plain_stmts (read.switch_body depth (read.statement depth) tokens.old) result tokens.new }
+    ensures { Reads plain_stmts (read.switch_body depth (read.statement depth) tokens.old) result
+        tokens.new }
 {
     tokens.expect(Terminal::OpenBrace)?;
     entries(alloc, tokens, depth, true)
@@ -433,7 +450,8 @@ fn switch_body(alloc: Global, tokens: &mut Cursor<'_>, depth: usize) -> Result<I
 #[cycle(statement)]
 #[tactic(auto, using(crate::proofs::PartLaws::switch_is))]
 fn switch_statement(alloc: Global, tokens: &mut Cursor<'_>, depth: usize) -> Result<Stmt, Stop>
-    ensures { Reads plain_stmt (read.switch_statement depth (read.statement depth) tokens.old) result tokens.new }
+    ensures { Reads plain_stmt (read.switch_statement depth (read.statement depth) tokens.old)
+        result tokens.new }
 {
     let number = tokens.take()?;
     let value = condition(alloc, tokens, depth)?;
@@ -450,7 +468,8 @@ fn switch_statement(alloc: Global, tokens: &mut Cursor<'_>, depth: usize) -> Res
 #[cycle(statement)]
 #[tactic(auto, unfolding(crate::specs::ReadStatement::some_statement, crate::specs::ReadStatement::block))]
 fn some_statement(alloc: Global, tokens: &mut Cursor<'_>, depth: usize) -> Result<Stmt, Stop>
-    ensures { Reads plain_stmt (read.some_statement depth (read.statement depth) tokens.old) result tokens.new }
+    ensures { Reads plain_stmt (read.some_statement depth (read.statement depth) tokens.old) result
+        tokens.new }
 {
     match tokens.peek() {
         Some(Seen::Fixed(Terminal::OpenBrace)) => {

@@ -20,7 +20,8 @@ fn more_fields(
     depth: usize,
     first: Identifier,
 ) -> Result<Items<Identifier>, Stop>
-    ensures { Reads (λ names. names) (read.more_fields depth (first ∷ []) tokens.old) result tokens.new }
+    ensures { Reads (λ names. names) (read.more_fields depth (first ∷ []) tokens.old) result
+        tokens.new }
 {
     let mut names = Items::new(alloc);
     names.push(first)?;
@@ -193,7 +194,8 @@ fn global(
 /// The body of a function, or the `;` of a prototype.
 #[tactic(auto, unfolding(crate::specs::ReadUnit::body))]
 fn body(alloc: Global, tokens: &mut Cursor<'_>, depth: usize) -> Result<Option<Items<Stmt>>, Stop>
-    ensures { Reads (option_map plain_stmts) (read.body depth (body_rest depth) tokens.old) result tokens.new }
+    ensures { Reads (option_map plain_stmts) (read.body depth (body_rest depth) tokens.old) result
+        tokens.new }
 {
     if tokens.sees(Terminal::Semicolon) {
         tokens.take()?;
@@ -214,7 +216,8 @@ fn function(
     ty: TypeName,
     of: Identifier,
 ) -> Result<Item, Stop>
-    ensures { Reads plain_item (read.function depth (body_rest depth) ty of tokens.old) result tokens.new }
+    ensures { Reads plain_item (read.function depth (body_rest depth) ty of tokens.old) result
+        tokens.new }
 {
     tokens.take()?;
     let all = parameters(alloc, tokens, depth)?;
@@ -231,7 +234,8 @@ fn after_type(
     token: u32,
     ty: TypeName,
 ) -> Result<Item, Stop>
-    ensures { Reads plain_item (read.after_type depth (body_rest depth) token ty tokens.old) result tokens.new }
+    ensures { Reads plain_item (read.after_type depth (body_rest depth) token ty tokens.old) result
+        tokens.new }
 {
     let of = identifier(alloc, tokens)?;
     if tokens.sees(Terminal::Open) {
@@ -244,7 +248,8 @@ fn after_type(
 /// What begins with `struct`: a struct, or what has a struct as its type.
 #[tactic(auto, unfolding(crate::specs::ReadUnit::after_struct))]
 fn after_struct(alloc: Global, tokens: &mut Cursor<'_>, depth: usize) -> Result<Item, Stop>
-    ensures { Reads plain_item (read.after_struct depth (body_rest depth) tokens.old) result tokens.new }
+    ensures { Reads plain_item (read.after_struct depth (body_rest depth) tokens.old) result
+        tokens.new }
 {
     let token = tokens.take()?;
     let of = identifier(alloc, tokens)?;
@@ -257,7 +262,8 @@ fn after_struct(alloc: Global, tokens: &mut Cursor<'_>, depth: usize) -> Result<
 
 /// What begins with a type that is no struct.
 fn typed_item(alloc: Global, tokens: &mut Cursor<'_>, depth: usize) -> Result<Item, Stop>
-    ensures { Reads plain_item (read.typed_item depth (body_rest depth) tokens.old) result tokens.new }
+    ensures { Reads plain_item (read.typed_item depth (body_rest depth) tokens.old) result
+        tokens.new }
 {
     let (token, ty) = typed(alloc, tokens)?;
     after_type(alloc, tokens, depth, token, ty)
@@ -289,7 +295,8 @@ fn is_at_end(tokens: &Cursor<'_>) -> bool
 
 /// One more item at the end.
 fn push_item(items: &mut Items<Item>, next: Item) -> Result<(), NoMemory>
-    ensures { IfOk result (λ _. map plain_item items.new ≡ map plain_item items.old ++ plain_item next ∷ []) }
+    ensures { IfOk result
+        (λ _. map plain_item items.new ≡ map plain_item items.old ++ plain_item next ∷ []) }
 {
     items.push(next)
 }
@@ -297,7 +304,8 @@ fn push_item(items: &mut Items<Item>, next: Item) -> Result<(), NoMemory>
 /// All items of a unit.
 #[tactic(auto, unfolding(crate::specs::ReadUnit::items))]
 pub fn unit(alloc: Global, tokens: &mut Cursor<'_>, depth: usize) -> Result<Items<Item>, Stop>
-    ensures { Reads (map plain_item) (read.items depth (body_rest depth) tokens.old) result tokens.new }
+    ensures { Reads (map plain_item) (read.items depth (body_rest depth) tokens.old) result
+        tokens.new }
 {
     let mut items = Items::new(alloc);
     for _turn in 0..depth {
