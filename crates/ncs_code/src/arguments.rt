@@ -1,7 +1,9 @@
 //! Big-endian numbers in the bytes behind an opcode and its type byte.
 
-ghost use Rattle.std.specs.Prelude.{◌≡◌, ◌≢◌, ◌==◌, if◌then◌else◌, ◌+◌, ◌<◌, ◌≤◌, ◌^◌, ◌∷◌, ◌++◌, [], length, take, drop, IsTrue, All};
-ghost use Rattle.ncs_code.specs.Spelling.{HasTextSize, IsByte, LitFits, is_between, lit_spelling, lit_size, first_two, signed, two, four, run_size};
+ghost use Rattle.std.specs.Prelude.{◌≡◌, ◌≢◌, ◌==◌, if◌then◌else◌, ◌+◌, ◌<◌, ◌≤◌, ◌^◌, ◌∷◌, ◌++◌};
+ghost use Rattle.std.specs.Prelude.{[], length, take, drop, IsTrue, All};
+ghost use Rattle.ncs_code.specs.Spelling.{HasTextSize, IsByte, LitFits, is_between, lit_spelling};
+ghost use Rattle.ncs_code.specs.Spelling.{lit_size, first_two, signed, two, four, run_size};
 ghost use Rattle.ncs_code.specs.Plain.{plain_lit};
 
 use crate::instruction::Lit;
@@ -77,7 +79,8 @@ pub(crate) fn run_size_at(kind: u8, args: &[u8]) -> u16
 fn text_at(args: &[u8]) -> &[u8]
     requires long { lit_size 0x05 args.now ≤ length args.now }
     requires has_length { 2 ≤ length args.now }
-    ensures spelled { two (length result.now) ++ result.now ≡ take (lit_size 0x05 args.now) args.now }
+    ensures spelled { two (length result.now) ++ result.now
+        ≡ take (lit_size 0x05 args.now) args.now }
     ensures bounded { length result.now < 2 ^ 16 }
     ensures bytes { All IsByte result.now }
 {
@@ -88,7 +91,8 @@ fn text_at(args: &[u8]) -> &[u8]
 pub(crate) fn lit_at(kind: u8, args: &[u8]) -> Lit<'_>
     requires known { IsTrue (is_between 0x03 0x06 kind) }
     requires long { lit_size kind args.now ≤ length args.now }
-    ensures spelled { lit_spelling (plain_lit result) ≡ kind ∷ take (lit_size kind args.now) args.now }
+    ensures spelled { lit_spelling (plain_lit result)
+        ≡ kind ∷ take (lit_size kind args.now) args.now }
     ensures fits { LitFits (plain_lit result) }
     ensures size { HasTextSize (plain_lit result) }
 {

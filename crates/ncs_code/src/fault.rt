@@ -1,5 +1,5 @@
-/// Why no instruction is spelled at a place: the first test that fails, in this order, where the second
-/// test of [`CodeFault::Short`] is the last.
+/// Why no instruction is spelled at a place: the first test that fails, in this order, where the
+/// second test of [`CodeFault::Short`] is the last.
 #[derive(Clone, Copy)]
 pub enum CodeFault {
     /// The byte is no opcode.

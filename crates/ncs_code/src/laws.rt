@@ -1,7 +1,8 @@
-ghost use Rattle.ncs_code.specs.Laws.{DistanceLeads, HasOpcode, OneFirstBad, OneName, PlaceLaws, SizeLaws, SpellingLaws};
+ghost use Rattle.ncs_code.specs.Laws.{DistanceLeads, HasOpcode, OneFirstBad, OneName, PlaceLaws};
+ghost use Rattle.ncs_code.specs.Laws.{SizeLaws, SpellingLaws};
 
-/// No spelling begins another, where an instruction is spelled there is no fault, and what is spelled
-/// in a row is read again.
+/// No spelling begins another, where an instruction is spelled there is no fault, and what is
+/// spelled in a row is read again.
 pub fn spelling_laws()
     ensures { SpellingLaws }
 {}

@@ -1,7 +1,9 @@
-ghost use Rattle.std.specs.Prelude.{◌≡◌, ◌≢◌, ◌+◌, ◌<◌, ◌≤◌, ◌∷◌, ◌++◌, ◌↔◌, List, ℕ, length, take, drop, Some, None, IfOk, IsOkAnd, MatchResult, IsTrue};
+ghost use Rattle.std.specs.Prelude.{◌≡◌, ◌≢◌, ◌+◌, ◌<◌, ◌≤◌, ◌∷◌, ◌++◌, ◌↔◌, List, ℕ, length, take};
+ghost use Rattle.std.specs.Prelude.{drop, Some, None, IfOk, IsOkAnd, MatchResult, IsTrue};
 ghost use Rattle.nwq_value.specs.Limits.{file_limit};
 ghost use Rattle.ncs_code.specs.Plain.{PlainOp, plain};
-ghost use Rattle.ncs_code.specs.Spelling.{IsOp, Spells, spelling, op_size, fault_of, is_opcode, has_type, args_size, lit_size};
+ghost use Rattle.ncs_code.specs.Spelling.{IsOp, Spells, spelling, op_size, fault_of, is_opcode};
+ghost use Rattle.ncs_code.specs.Spelling.{has_type, args_size, lit_size};
 
 use crate::arguments::{call_at, copy_at, kept_at, lit_at, offset_at, run_size_at, state_at};
 use crate::fault::CodeFault;
@@ -76,7 +78,8 @@ fn op_of(code: u8, kind: u8, args: &[u8]) -> Op<'_>
     requires gap { code ≢ 0x1C }
     requires type_byte { IsTrue (has_type code kind) }
     requires long { args_size code kind args.now ≤ length args.now }
-    ensures spelled { spelling (plain result) ≡ code ∷ kind ∷ take (args_size code kind args.now) args.now }
+    ensures spelled { spelling (plain result)
+        ≡ code ∷ kind ∷ take (args_size code kind args.now) args.now }
     ensures is_op { IsOp (plain result) }
 {
     match code {
@@ -185,7 +188,8 @@ fn decode_prefix(bytes: &[u8]) -> Result<(Op<'_>, u32), CodeFault>
     ensures is_op { IfOk result (λ x. IsOp (plain x.0)) }
     ensures prefix { IfOk result (λ x. bytes.now ≡ spelling (plain x.0) ++ drop x.1 bytes.now) }
     ensures length { IfOk result (λ x. x.1 ≡ length (spelling (plain x.0))) }
-    ensures fault { MatchResult result (λ _. fault_of bytes.now ≡ None) (λ fault. fault_of bytes.now ≡ Some fault) }
+    ensures fault { MatchResult result (λ _. fault_of bytes.now ≡ None)
+        (λ fault. fault_of bytes.now ≡ Some fault) }
 {
     let code = bytes[0];
     if !is_code(code) {
@@ -214,10 +218,12 @@ pub fn decode(bytes: &[u8], at: u32) -> Result<(Op<'_>, u32), CodeFault>
     // What is decoded is spelled there.
     ensures found { IfOk result (λ x. Spells (plain x.0) x.1 (drop at bytes.now)) }
     // What is spelled there is decoded, whatever follows.
-    ensures only { (op : PlainOp) (rest : List ℕ) → IsOp op → drop at bytes.now ≡ spelling op ++ rest →
+    ensures only { (op : PlainOp) (rest : List ℕ) → IsOp op →
+        drop at bytes.now ≡ spelling op ++ rest →
         IsOkAnd result (λ x. (plain x.0 ≡ op) × (x.1 ≡ op_size op)) }
     // The fault is the first that there is.
-    ensures fault { MatchResult result (λ _. fault_of (drop at bytes.now) ≡ None) (λ fault. fault_of (drop at bytes.now) ≡ Some fault) }
+    ensures fault { MatchResult result (λ _. fault_of (drop at bytes.now) ≡ None)
+        (λ fault. fault_of (drop at bytes.now) ≡ Some fault) }
 {
     decode_prefix(&bytes[at as usize..])
 }

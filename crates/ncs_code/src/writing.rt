@@ -1,6 +1,8 @@
 ghost use Rattle.std.specs.Prelude.{◌≡◌, ◌+◌, ◌<◌, ◌^◌, ◌∷◌, ◌++◌, [], length, OnOk, OnErr, All};
 ghost use Rattle.ncs_code.specs.Plain.{plain, plain_lit};
-ghost use Rattle.ncs_code.specs.Spelling.{Fits, HasRow, HasTextSize, IsByte, LitFits, spelling, lit_spelling, literal_size, op_size, run_size, signed, two, four};
+ghost use Rattle.ncs_code.specs.Spelling.{Fits, HasRow, HasTextSize, IsByte, LitFits, spelling};
+ghost use Rattle.ncs_code.specs.Spelling.{lit_spelling, literal_size, op_size, run_size, signed};
+ghost use Rattle.ncs_code.specs.Spelling.{two, four};
 
 use crate::instruction::{Lit, Op};
 use crate::opcode::*;
@@ -33,7 +35,8 @@ fn put_offset(out: &mut Vec<u8>, code: u8, kind: u8, offset: i32) -> Result<(), 
 
 #[tactic(auto, unfolding(crate::specs::Spelling::signed, crate::specs::Spelling::two))]
 fn put_copy(out: &mut Vec<u8>, code: u8, offset: i32, size: u16) -> Result<(), NoMemory>
-    ensures ok { OnOk result (out.new.items ≡ out.old.items ++ code ∷ 0x01 ∷ (signed offset ++ two size)) }
+    ensures ok { OnOk result (out.new.items
+        ≡ out.old.items ++ code ∷ 0x01 ∷ (signed offset ++ two size)) }
     ensures err { OnErr result (out.new.items ≡ out.old.items) }
 {
     let [a, b, c, d] = offset.cast_unsigned().to_be_bytes();
@@ -56,7 +59,8 @@ fn put_comparison(out: &mut Vec<u8>, code: u8, kind: u8, size: u16) -> Result<()
 
 #[tactic(auto, unfolding(crate::specs::Spelling::two))]
 fn put_call(out: &mut Vec<u8>, routine: u16, count: u8) -> Result<(), NoMemory>
-    ensures ok { OnOk result (out.new.items ≡ out.old.items ++ 0x05 ∷ 0x00 ∷ (two routine ++ count ∷ [])) }
+    ensures ok { OnOk result (out.new.items
+        ≡ out.old.items ++ 0x05 ∷ 0x00 ∷ (two routine ++ count ∷ [])) }
     ensures err { OnErr result (out.new.items ≡ out.old.items) }
 {
     let [a, b] = routine.to_be_bytes();
@@ -65,7 +69,8 @@ fn put_call(out: &mut Vec<u8>, routine: u16, count: u8) -> Result<(), NoMemory>
 
 #[tactic(auto, unfolding(crate::specs::Spelling::two))]
 fn put_destruct(out: &mut Vec<u8>, total: u16, offset: u16, size: u16) -> Result<(), NoMemory>
-    ensures ok { OnOk result (out.new.items ≡ out.old.items ++ 0x21 ∷ 0x01 ∷ (two total ++ two offset ++ two size)) }
+    ensures ok { OnOk result (out.new.items
+        ≡ out.old.items ++ 0x21 ∷ 0x01 ∷ (two total ++ two offset ++ two size)) }
     ensures err { OnErr result (out.new.items ≡ out.old.items) }
 {
     let [a, b] = total.to_be_bytes();
@@ -76,7 +81,8 @@ fn put_destruct(out: &mut Vec<u8>, total: u16, offset: u16, size: u16) -> Result
 
 #[tactic(auto, unfolding(crate::specs::Spelling::four))]
 fn put_state(out: &mut Vec<u8>, globals: u32, locals: u32) -> Result<(), NoMemory>
-    ensures ok { OnOk result (out.new.items ≡ out.old.items ++ 0x2C ∷ 0x10 ∷ (four globals ++ four locals)) }
+    ensures ok { OnOk result (out.new.items
+        ≡ out.old.items ++ 0x2C ∷ 0x10 ∷ (four globals ++ four locals)) }
     ensures err { OnErr result (out.new.items ≡ out.old.items) }
 {
     let [a, b, c, d] = globals.to_be_bytes();
@@ -87,7 +93,8 @@ fn put_state(out: &mut Vec<u8>, globals: u32, locals: u32) -> Result<(), NoMemor
 #[tactic(auto, unfolding(crate::specs::Spelling::two), using(crate::proofs::Pieces::taken_back))]
 fn put_text(out: &mut Vec<u8>, text: &[u8]) -> Result<(), NoMemory>
     requires { length text.now < 2 ^ 16 }
-    ensures ok { OnOk result (out.new.items ≡ out.old.items ++ 0x04 ∷ 0x05 ∷ (two (length text.now) ++ text.now)) }
+    ensures ok { OnOk result (out.new.items
+        ≡ out.old.items ++ 0x04 ∷ 0x05 ∷ (two (length text.now) ++ text.now)) }
     ensures err { OnErr result (out.new.items ≡ out.old.items) }
     ensures bytes { All IsByte text.now }
 {
@@ -106,7 +113,8 @@ fn put_text(out: &mut Vec<u8>, text: &[u8]) -> Result<(), NoMemory>
 #[tactic(auto, unfolding(crate::specs::Spelling::four, crate::specs::Spelling::signed))]
 fn put_lit(out: &mut Vec<u8>, lit: Lit<'_>) -> Result<(), NoMemory>
     requires { HasTextSize (plain_lit lit) }
-    ensures ok { OnOk result (out.new.items ≡ out.old.items ++ 0x04 ∷ lit_spelling (plain_lit lit.entry)) }
+    ensures ok { OnOk result (out.new.items
+        ≡ out.old.items ++ 0x04 ∷ lit_spelling (plain_lit lit.entry)) }
     ensures err { OnErr result (out.new.items ≡ out.old.items) }
     ensures fits { LitFits (plain_lit lit.entry) }
 {
@@ -122,7 +130,6 @@ fn put_lit(out: &mut Vec<u8>, lit: Lit<'_>) -> Result<(), NoMemory>
 }
 
 /// How many bytes stand for what CONST pushes, behind its type byte.
-#[tactic(auto, unfolding(crate::specs::Spelling::two, crate::specs::Spelling::four, crate::specs::Spelling::signed))]
 fn size_of_lit(lit: Lit<'_>) -> u32
     requires { HasTextSize (plain_lit lit) }
     ensures size { result ≡ literal_size (plain_lit lit.entry) }
@@ -136,7 +143,6 @@ fn size_of_lit(lit: Lit<'_>) -> u32
 
 impl Op<'_> {
     /// How many bytes its spelling has.
-    #[tactic(auto, unfolding(crate::specs::Spelling::two, crate::specs::Spelling::four, crate::specs::Spelling::signed))]
     pub fn size(&self) -> u32
         requires { HasRow (plain self.now) }
         ensures { result ≡ op_size (plain self.now) }

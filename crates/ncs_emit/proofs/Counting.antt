@@ -157,3 +157,12 @@ placed_once bytes all capacity placed missing h label =
       | inl below ↦ omega (arith, h.table label below, count_once (get_or placed label false))
       | inr above ↦ omega (arith, unplaced (length placed) bytes all label h.fits above)
     ]
+
+-- what each call's proof uses
+pub ruleset label_lemmas = (kept_made, kept_room, missing_few)
+
+pub ruleset place_lemmas = (kept_placed, missing_some, lines_and_label)
+
+pub ruleset op_lemmas = (kept_op, kept_room, lines_and_op)
+
+pub ruleset jump_lemmas = (kept_jump, kept_room, lines_and_jump)

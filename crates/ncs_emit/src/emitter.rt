@@ -1,4 +1,5 @@
-ghost use Rattle.std.specs.Prelude.{◌≡◌, ◌+◌, ◌-◌, ◌^◌, ◌<◌, ◌≤◌, ◌∷◌, ◌++◌, [], ℕ, List, false, true, IfOk, IfErr, OnOk, OnErr};
+ghost use Rattle.std.specs.Prelude.{◌≡◌, ◌+◌, ◌-◌, ◌^◌, ◌<◌, ◌≤◌, ◌∷◌, ◌++◌, [], ℕ, List, false};
+ghost use Rattle.std.specs.Prelude.{true, IfOk, IfErr, OnOk, OnErr};
 ghost use Rattle.nwq_value.specs.Limits.{file_limit};
 ghost use Rattle.ncs_code.specs.Plain.{plain};
 ghost use Rattle.ncs_code.specs.Spelling.{HasRow};
@@ -17,8 +18,9 @@ use nwq_value::NoMemory;
 use std::alloc::Global;
 use std::marker::Model;
 
-/// Labelled code that grows at its end. Contracts see the list of its lines, which are instructions, jumps
-/// to labels and labels, and how many labels were made: they are the numbers below that.
+/// Labelled code that grows at its end. Contracts see the list of its lines, which are
+/// instructions, jumps to labels and labels, and how many labels were made: they are the numbers
+/// below that.
 #[derive(Drop)]
 pub struct Emitter {
     /// The spellings of the instructions, without those of jumps to labels.
@@ -38,9 +40,13 @@ impl Model for Emitter {
 
     ghost Value = { LabelledCode };
 
-    ghost view = { λ e. record { lines = lines_of e.bytes.items e.kept.items; labels = length e.placed.items } };
+    ghost view = { λ e. record {
+      lines = lines_of e.bytes.items e.kept.items;
+      labels = length e.placed.items;
+    } };
 
-    ghost invariant = { λ e. IsKept e.bytes.items e.kept.items (vec_capacity e.kept) e.placed.items e.missing };
+    ghost invariant = { λ e.
+        IsKept e.bytes.items e.kept.items (vec_capacity e.kept) e.placed.items e.missing };
 }
 
 impl Emitter {
@@ -58,7 +64,7 @@ impl Emitter {
     }
 
     /// A new label, which is placed nowhere. After `NoMemory` the emitter is as before.
-    #[tactic(auto, using(crate::proofs::Counting::kept_made, crate::proofs::Counting::kept_room, crate::proofs::Counting::missing_few))]
+    #[tactic(auto, using(crate::proofs::Counting::label_lemmas))]
     pub fn label(&mut self) -> Result<u32, NoMemory>
         requires { self.old.labels + 1 < 2 ^ 32 }
         ensures number { IfOk result (λ label. label ≡ self.old.labels) }
@@ -74,7 +80,7 @@ impl Emitter {
     }
 
     /// Places a label: it stands behind all lines.
-    #[tactic(auto, using(crate::proofs::Counting::kept_placed, crate::proofs::Counting::missing_some, crate::proofs::Lines::lines_and_label))]
+    #[tactic(auto, using(crate::proofs::Counting::place_lemmas))]
     pub fn place(&mut self, label: u32)
         requires made { label < self.old.labels }
         requires unplaced { placements self.old.lines label ≡ 0 }
@@ -86,10 +92,11 @@ impl Emitter {
     }
 
     /// Puts an instruction last. After `NoMemory` the emitter is as before.
-    #[tactic(auto, using(crate::proofs::Counting::kept_op, crate::proofs::Counting::kept_room, crate::proofs::Lines::lines_and_op))]
+    #[tactic(auto, using(crate::proofs::Counting::op_lemmas))]
     pub fn op(&mut self, op: &Op<'_>) -> Result<(), NoMemory>
         requires { HasRow (plain op.now) }
-        ensures ok { OnOk result (self.new ≡ record self.old { lines = self.old.lines ++ Instruction (plain op.now) ∷ [] }) }
+        ensures ok { OnOk result (self.new
+            ≡ record self.old { lines = self.old.lines ++ Instruction (plain op.now) ∷ [] }) }
         ensures err { OnErr result (self.new ≡ self.old) }
     {
         spelling_laws();
@@ -101,10 +108,11 @@ impl Emitter {
     }
 
     /// Puts a jump to a label last. After `NoMemory` the emitter is as before.
-    #[tactic(auto, using(crate::proofs::Counting::kept_jump, crate::proofs::Counting::kept_room, crate::proofs::Lines::lines_and_jump))]
+    #[tactic(auto, using(crate::proofs::Counting::jump_lemmas))]
     pub fn jump(&mut self, jump: Jump, label: u32) -> Result<(), NoMemory>
         requires { label < self.old.labels }
-        ensures ok { OnOk result (self.new ≡ record self.old { lines = self.old.lines ++ JumpTo jump label ∷ [] }) }
+        ensures ok { OnOk result (self.new
+            ≡ record self.old { lines = self.old.lines ++ JumpTo jump label ∷ [] }) }
         ensures err { OnErr result (self.new ≡ self.old) }
     {
         self.kept.reserve(self.missing as usize + 1)?;
@@ -120,7 +128,8 @@ impl Emitter {
         let _ = &self.missing;
     }
 
-    /// The file of the code, where each jump has the distance from its own start to its label's place.
+    /// The file of the code, where each jump has the distance from its own start to its label's
+    /// place.
     pub fn finish(self, alloc: Global) -> Result<Vec<u8>, EmitFault>
         requires placed { (label : ℕ) → label < self.labels → 1 ≤ placements self.lines label }
         ensures file { IfOk result (λ bytes. bytes.items ≡ file_bytes (program self.lines)) }

@@ -1,6 +1,7 @@
 //! The file of labelled code, once all of it is there.
 
-ghost use Rattle.std.specs.Prelude.{◌≡◌, ◌+◌, ◌^◌, ◌<◌, ◌≤◌, ◌++◌, ℕ, length, vec_len, replicate, unwrap_or, slice_index_or, None, IfOk, OnOk};
+ghost use Rattle.std.specs.Prelude.{◌≡◌, ◌+◌, ◌^◌, ◌<◌, ◌≤◌, ◌++◌, ℕ, length, vec_len, replicate};
+ghost use Rattle.std.specs.Prelude.{unwrap_or, slice_index_or, None, IfOk, OnOk};
 ghost use Rattle.std.specs.List.{AllByRecursion};
 ghost use Rattle.nwq_value.specs.Limits.{file_limit};
 ghost use Rattle.ncs_code.specs.Plain.{plain};
@@ -36,7 +37,8 @@ pub(crate) fn places_of(
     requires labelled { AllByRecursion (HasLabels labels) kept.now }
     ensures size { IfOk result (λ x. x.1 ≡ 13 + kept_total kept.now) }
     ensures len { IfOk result (λ x. vec_len x.0 ≡ labels) }
-    ensures places { IfOk result (λ x. (label : ℕ) → unwrap_or (slice_index_or x.0.items label None) x.1 ≡ kept_place 13 kept.now label) }
+    ensures places { IfOk result (λ x. (label : ℕ) →
+        unwrap_or (slice_index_or x.0.items label None) x.1 ≡ kept_place 13 kept.now label) }
 {
     let mut places = no_places(alloc, labels)?;
     let mut at = HEADER_BYTES as u64;
@@ -71,7 +73,8 @@ fn jump_over(jump: Jump, distance: i32) -> Op<'static>
 fn put_jump(file: &mut Vec<u8>, jump: Jump, place: u64) -> Result<(), NoMemory>
     requires long { length file.old.items ≤ file_limit }
     requires near { place ≤ file_limit }
-    ensures { OnOk result (file.new.items ≡ file.old.items ++ spelling (jump_over jump (distance (length file.old.items) place))) }
+    ensures { OnOk result (file.new.items
+        ≡ file.old.items ++ spelling (jump_over jump (distance (length file.old.items) place))) }
 {
     let distance = place as i32 - file.len() as i32;
     jump_over(jump, distance).encode(file)
@@ -89,8 +92,10 @@ pub(crate) fn put_lines(
     requires fits { KeptFits (length places.now) bytes.now kept.now }
     requires whole { size ≡ 13 + kept_total kept.now }
     requires bounded { size ≤ file_limit }
-    requires placed { (label : ℕ) → unwrap_or (slice_index_or places.now label None) size ≡ kept_place 13 kept.now label }
-    ensures { OnOk result (file.new.items ≡ file.old.items ++ spellings (program (lines_of bytes.now kept.now))) }
+    requires placed { (label : ℕ) →
+        unwrap_or (slice_index_or places.now label None) size ≡ kept_place 13 kept.now label }
+    ensures { OnOk result (file.new.items
+        ≡ file.old.items ++ spellings (program (lines_of bytes.now kept.now))) }
 {
     size_laws();
     let mut rest = bytes;

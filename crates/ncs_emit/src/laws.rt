@@ -2,14 +2,14 @@ ghost use Rattle.ncs_emit.specs.Laws.{FinishedIsCode, PartLaws, ProgramSize, Pro
 
 use ncs_code::{distance_leads, place_laws, size_laws};
 
-/// Placements and sizes of two parts add up, each stands where both stand in a row, and they lead on and
-/// close together where each does.
+/// Placements and sizes of two parts add up, each stands where both stand in a row, and they lead
+/// on and close together where each does.
 pub fn part_laws()
     ensures { PartLaws }
 {}
 
-/// The program takes as many bytes as its lines, and where no label is placed twice, each line stands
-/// at its place in it.
+/// The program takes as many bytes as its lines, and where no label is placed twice, each line
+/// stands at its place in it.
 pub fn program_stands()
     ensures size { ProgramSize }
     ensures stands { ProgramStands }
@@ -19,8 +19,8 @@ pub fn program_stands()
     distance_leads();
 }
 
-/// A finished file is one that `ncs_file` loads, with the same instructions in order, where the code
-/// leads on and closes.
+/// A finished file is one that `ncs_file` loads, with the same instructions in order, where the
+/// code leads on and closes.
 pub fn finished_is_code()
     ensures { FinishedIsCode }
 {

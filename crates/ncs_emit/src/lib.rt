@@ -1,14 +1,16 @@
-//! NCS bytecode made with labels: instructions one after another, jumps by name, and the file at the end.
+//! NCS bytecode made with labels: instructions one after another, jumps by name, and the file at
+//! the end.
 //!
 //! Contracts see an [`Emitter`] as a list of lines: instructions, jumps to labels, and labels
-//! (`specs/Labelled.antt`). Promised: each call adds exactly its line, a new label is placed nowhere, no
-//! label is placed twice, and [`Emitter::finish`] gives the file of these instructions in which each jump
-//! has the distance from its own start to its label's place, or says how large the file would be.
+//! (`specs/Labelled.antt`). Promised: each call adds exactly its line, a new label is placed
+//! nowhere, no label is placed twice, and [`Emitter::finish`] gives the file of these instructions
+//! in which each jump has the distance from its own start to its label's place, or says how large
+//! the file would be.
 //!
-//! What the layers above use are laws (`specs/Laws.antt`): in the program of the lines each line stands
-//! at its place, and the file is one that `ncs_file` loads where the code leads on and closes
-//! (`specs/Leading.antt`). Both conditions, and all counts and sizes, are those of the code's parts put
-//! together. The page is `docs/NCS.md`.
+//! What the layers above use are laws (`specs/Laws.antt`): in the program of the lines each line
+//! stands at its place, and the file is one that `ncs_file` loads where the code leads on and
+//! closes (`specs/Leading.antt`). Both conditions, and all counts and sizes, are those of the
+//! code's parts put together. The page is `docs/NCS.md`.
 #![tactic(auto)]
 
 mod emitter;

@@ -164,3 +164,6 @@ module _ (spells : SpellingLaws) (sizes : SizeLaws) where
   refused places (At place why) bytes fails ops code is = absurd (stops_nowhere place why bytes ops fails code.each is)
   refused places (Target place) bytes fails ops code is = absurd (leads_nowhere places place bytes ops fails code is)
   refused places NoMemory bytes fails ops code is = refl
+
+-- what the proof of `load` uses
+pub ruleset load_lemmas = (loaded_code, refused, listing_is)

@@ -105,6 +105,9 @@ scan_stops bytes table at count fault so_far lt header reason = record {
   reason = reason;
 }
 
+-- what the proof of the first pass uses
+pub ruleset scan_lemmas = (scan_begins, scan_goes_on, scan_ends, scan_stops)
+
 -- ---- the second pass
 
 -- the instructions before `at` lead well

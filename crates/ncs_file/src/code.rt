@@ -1,4 +1,5 @@
-ghost use Rattle.std.specs.Prelude.{◌≡◌, ◌≤◌, List, length, IfOk, IfErr, MatchOption, MatchResult, None, Some};
+ghost use Rattle.std.specs.Prelude.{◌≡◌, ◌≤◌, List, length, IfOk, IfErr, MatchOption, MatchResult};
+ghost use Rattle.std.specs.Prelude.{None, Some};
 ghost use Rattle.nwq_value.specs.Limits.{file_limit};
 ghost use Rattle.ncs_code.specs.Plain.{PlainOp, plain};
 ghost use Rattle.ncs_code.specs.Spelling.{op_size};
@@ -12,8 +13,8 @@ use ncs_code::{Op, decode, place_laws, size_laws, spelling_laws};
 use std::alloc::Global;
 use std::marker::Model;
 
-/// A file of bytecode whose instructions fill it and lead to beginnings of instructions. Contracts see it
-/// as the list of its instructions, which tells their places and the bytes of the file.
+/// A file of bytecode whose instructions fill it and lead to beginnings of instructions. Contracts
+/// see it as the list of its instructions, which tells their places and the bytes of the file.
 #[derive(Drop)]
 pub struct Code {
     bytes: Vec<u8>,
@@ -35,14 +36,15 @@ impl Model for Code {
 }
 
 /// The file that these bytes are, which keeps them.
-#[tactic(auto, using(crate::proofs::Loaded::loaded_code, crate::proofs::Loaded::refused, crate::proofs::Scanning::listing_is))]
+#[tactic(auto, using(crate::proofs::Loaded::load_lemmas))]
 pub fn load(alloc: Global, bytes: Vec<u8>) -> Result<Code, LoadFault>
     requires { length bytes.items ≤ file_limit }
 
     // What is loaded is a file, spelled so.
     ensures loaded { IfOk result (λ code. IsCode code × (bytes.items ≡ file_bytes code)) }
     // What is spelled as a file is loaded, unless memory runs out.
-    ensures only { (ops : List PlainOp) → IsCode ops → bytes.items ≡ file_bytes ops → MatchResult result (λ code. code ≡ ops) (λ fault. fault ≡ NoMemory) }
+    ensures only { (ops : List PlainOp) → IsCode ops → bytes.items ≡ file_bytes ops →
+        MatchResult result (λ code. code ≡ ops) (λ fault. fault ≡ NoMemory) }
     // The fault is the first that there is.
     ensures fault { IfErr result (λ fault. Fails fault bytes.items) }
 {
@@ -70,7 +72,8 @@ pub fn store(code: &Code) -> &[u8]
 impl Code {
     /// The instruction that begins at a place, and how many bytes it takes.
     pub fn op_at(&self, at: u32) -> Option<(Op<'_>, u32)>
-        ensures { MatchOption result (op_at self.now at ≡ None) (λ x. (op_at self.now at ≡ Some (plain x.0)) × (x.1 ≡ op_size (plain x.0))) }
+        ensures { MatchOption result (op_at self.now at ≡ None)
+            (λ x. (op_at self.now at ≡ Some (plain x.0)) × (x.1 ≡ op_size (plain x.0))) }
     {
         size_laws();
         place_laws();

@@ -13,8 +13,8 @@ pub enum LoadFault {
     Length,
     /// No instruction begins at this place, the first where one had to.
     At(u32, CodeFault),
-    /// The jump at this place, or the stored code of the STORE_STATE there, leads to no beginning of an
-    /// instruction. It is the first such place.
+    /// The jump at this place, or the stored code of the STORE_STATE there, leads to no beginning
+    /// of an instruction. It is the first such place.
     Target(u32),
     /// Memory ran out.
     NoMemory,

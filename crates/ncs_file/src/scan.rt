@@ -1,6 +1,8 @@
 //! The tests that a file passes, one after another.
 
-ghost use Rattle.std.specs.Prelude.{◌≡◌, ◌+◌, ◌-◌, ◌^◌, ◌<◌, ◌≤◌, ◌∷◌, ◌++◌, [], ℕ, List, length, true, false, replicate, slice_index_or, take, IfOk, IfErr, IfSome, OnOk, Some, None, MatchResult, MatchOption, OnErr};
+ghost use Rattle.std.specs.Prelude.{◌≡◌, ◌+◌, ◌-◌, ◌^◌, ◌<◌, ◌≤◌, ◌∷◌, ◌++◌, [], ℕ, List, length};
+ghost use Rattle.std.specs.Prelude.{true, false, replicate, slice_index_or, take, IfOk, IfErr};
+ghost use Rattle.std.specs.Prelude.{IfSome, OnOk, Some, None, MatchResult, MatchOption, OnErr};
 ghost use Rattle.nwq_value.specs.Limits.{file_limit};
 ghost use Rattle.ncs_code.specs.Plain.{PlainOp, plain};
 ghost use Rattle.ncs_code.specs.Spelling.{op_size};
@@ -71,7 +73,7 @@ fn empty_table(alloc: Global, room: usize) -> Result<Vec<bool>, NoMemory>
 }
 
 /// Goes over the instructions, which must fill the file.
-#[tactic(auto, using(crate::proofs::Scanning::scan_begins, crate::proofs::Scanning::scan_goes_on, crate::proofs::Scanning::scan_ends, crate::proofs::Scanning::scan_stops))]
+#[tactic(auto, using(crate::proofs::Scanning::scan_lemmas))]
 pub(crate) fn starts_of(alloc: Global, bytes: &[u8]) -> Result<Starts, LoadFault>
     requires bounded { length bytes.now ≤ file_limit }
     requires begun { HasHeader bytes.now }
@@ -121,7 +123,8 @@ fn target_of(op: &Op<'_>, at: u32) -> Option<u32>
 #[tactic(auto, using(crate::proofs::Places::begins_marked))]
 fn leads_well(table: &[bool], op: &Op<'_>, at: u32) -> bool
     requires { at < 2 ^ 31 }
-    ensures { (ops : List PlainOp) → table.now ≡ marks ops → result ≡ leads_well ops at (plain op.now) }
+    ensures { (ops : List PlainOp) → table.now ≡ marks ops →
+        result ≡ leads_well ops at (plain op.now) }
 {
     size_laws();
     match target_of(op, at) {
@@ -135,7 +138,8 @@ fn leads_well(table: &[bool], op: &Op<'_>, at: u32) -> bool
 pub(crate) fn test_targets(bytes: &[u8], starts: &Starts) -> Result<(), LoadFault>
     requires bounded { length bytes.now ≤ file_limit }
     requires scanned { IsScanned bytes.now starts.now.table.items starts.now.count }
-    ensures { MatchResult result (λ _. AllLeadWell (listing bytes.now)) (λ fault. Fails fault bytes.now) }
+    ensures { MatchResult result (λ _. AllLeadWell (listing bytes.now))
+        (λ fault. Fails fault bytes.now) }
 {
     size_laws();
     place_laws();

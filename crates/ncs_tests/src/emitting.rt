@@ -1,4 +1,5 @@
-ghost use Rattle.std.specs.Prelude.{◌≡◌, ◌+◌, ◌<◌, ◌≤◌, ◌^◌, ◌∷◌, ◌++◌, [], ℕ, negsuc, IfOk, IfSome, OnOk};
+ghost use Rattle.std.specs.Prelude.{◌≡◌, ◌+◌, ◌<◌, ◌≤◌, ◌^◌, ◌∷◌, ◌++◌, [], ℕ, negsuc, IfOk};
+ghost use Rattle.std.specs.Prelude.{IfSome, OnOk};
 ghost use Rattle.ncs_code.specs.Plain.{CpTopSp, LogAnd, Retn, plain};
 ghost use Rattle.ncs_code.specs.Spelling.{HasRow};
 ghost use Rattle.ncs_emit.specs.Labelled.{Instruction, JumpTo, Label, placements, program};
@@ -15,7 +16,12 @@ use std::test::*;
 /// A call of what follows.
 #[tactic(auto, unfolding(ncs_code::specs::Spelling::has_type))]
 fn entry_call(alloc: Global) -> Result<Emitter, NoMemory>
-    ensures { IfOk result (λ out. out ≡ record { lines = JumpTo Jsr 0 ∷ Instruction Retn ∷ Label 0 ∷ []; labels = 1 }) }
+    ensures { IfOk result
+        (λ out. out ≡ record {
+          lines = JumpTo Jsr 0 ∷ Instruction Retn ∷ Label 0
+              ∷ [];
+          labels = 1;
+        }) }
 {
     let mut out = Emitter::new(alloc);
     let entry = out.label()?;
@@ -32,7 +38,9 @@ fn emit_and(out: &mut Emitter, a: &Op<'_>, b: &Op<'_>) -> Result<(), NoMemory>
     requires first { HasRow (plain a.now) }
     requires second { HasRow (plain b.now) }
     ensures { OnOk result (out.new ≡ record {
-      lines = out.old.lines ++ Instruction (plain a.now) ∷ Instruction (CpTopSp (negsuc 3) 4) ∷ JumpTo Jz out.old.labels ∷ Instruction (plain b.now) ∷ Instruction LogAnd ∷ Label out.old.labels ∷ [];
+      lines = out.old.lines ++ Instruction (plain a.now) ∷ Instruction (CpTopSp (negsuc 3) 4)
+          ∷ JumpTo Jz out.old.labels ∷ Instruction (plain b.now) ∷ Instruction LogAnd
+          ∷ Label out.old.labels ∷ [];
       labels = out.old.labels + 1;
     }) }
 {
@@ -61,8 +69,8 @@ fn want_of_memory(fault: LoadFault) -> NoMemory
     }
 }
 
-/// The file of code that leads on and closes, loaded again: nothing but its size or want of memory is in
-/// the way.
+/// The file of code that leads on and closes, loaded again: nothing but its size or want of memory
+/// is in the way.
 fn read_back(alloc: Global, out: Emitter) -> Result<Option<Code>, NoMemory>
     requires placed { (label : ℕ) → label < out.labels → 1 ≤ placements out.lines label }
     requires leads { LeadsOn out.lines out.lines }

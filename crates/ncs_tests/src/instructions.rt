@@ -75,6 +75,8 @@ const ROWS: [(u8, &[u8], &[u8]); 47] = [
     (0x2d, &[0x00], &[]),
 ];
 
+const STATE: [u8; 10] = [0x2c, 0x10, 0, 0, 0, 0, 0, 0, 0, 0];
+
 /// Are these bytes one instruction, which is spelled so again and has the name of their opcode?
 fn reads_back(alloc: Global, bytes: &[u8]) -> Result<bool, NoMemory>
     requires some { 0 < length bytes.now }
@@ -123,9 +125,7 @@ fn faults(rt: HostRuntime) {
 #[test]
 fn kinds_and_names(rt: HostRuntime) {
     assert!(rt; matches!(decode(&[0x02, 0x11], 0), Ok((op, 2)) if op.kind() == 0x11));
-    assert!(rt;
-        matches!(decode(&[0x2c, 0x10, 0, 0, 0, 0, 0, 0, 0, 0], 0), Ok((op, 10)) if op.name() == "STORE_STATE")
-    );
+    assert!(rt; matches!(decode(&STATE, 0), Ok((op, 10)) if op.name() == "STORE_STATE"));
     assert!(rt; opcode_named(b"JNZ") == Some(0x25));
     assert!(rt; opcode_named(b"").is_none());
     assert!(rt; opcode_named(b"STORE_STATEALL").is_none());

@@ -11,6 +11,10 @@ const EMPTY: [u8; 13] = *b"NCS V1.0B\x00\x00\x00\x0d";
 /// `JSR` over the next instruction, `RETN`, `RETN`.
 const CALL: [u8; 23] = *b"NCS V1.0B\x00\x00\x00\x17\x1e\x00\x00\x00\x00\x08\x20\x00\x20\x00";
 
+/// `STORE_STATE` before a jump that ends the file.
+const STATE: [u8; 29] = *b"NCS V1.0B\x00\x00\x00\x1d\x2c\x10\x00\x00\x00\x00\x00\x00\x00\x00\
+    \x1d\x00\x00\x00\x00\x06";
+
 fn loaded(alloc: Global, bytes: &[u8]) -> Result<Code, LoadFault>
     requires { length bytes.now ≤ file_limit }
 {
@@ -61,13 +65,5 @@ fn refused_files(rt: HostRuntime) {
             Err(LoadFault::Target(13))
         )
     );
-    assert!(rt;
-        matches!(
-            loaded(
-                rt.alloc(),
-                b"NCS V1.0B\x00\x00\x00\x1d\x2c\x10\x00\x00\x00\x00\x00\x00\x00\x00\x1d\x00\x00\x00\x00\x06"
-            ),
-            Err(LoadFault::Target(13))
-        )
-    );
+    assert!(rt; matches!(loaded(rt.alloc(), &STATE), Err(LoadFault::Target(13))));
 }
