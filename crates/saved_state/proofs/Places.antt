@@ -1,10 +1,11 @@
 -- A stack's cells are kept from the bottom up: where the cells of a list stand once it is seen from the top.
 use Rattle.std.proofs.Common.{◌≡◌, ◌<◌, ◌≤◌, ◌+◌, ◌-◌, ◌++◌, ◌∷◌, [], ℕ, suc, List, length, take, drop, reverse, get_or, set, slice_get, Some, Bool, if◌then◌else◌, refl, sym, ap, ◌∙◌, arith}
 use Rattle.std.proofs.lemmas.Bool.{ne_eqb, eq-eqb}
-use Rattle.std.proofs.lemmas.List.{length-reverse, length-take-le, length-append, take-append-drop, drop_more, drop-take, set_split}
+use Rattle.std.proofs.lemmas.List.{length-reverse, length-take-le, length-append, take-append-drop, drop_more, drop-take, set_split, drop_at}
 use Rattle.std.proofs.lemmas.Option.{slice_get-get_or}
 use Rattle.saved_state.specs.declared.cell.Cell.{Cell}
 use Rattle.saved_state.specs.Cells.{cell_at, with_cell, cells_beneath}
+use Rattle.saved_state.specs.Laws.{PlacesSplit}
 use Rattle.saved_state.proofs.Lists.{reverse_joined, drop_reversed, take_reversed}
 
 -- ---- one cell
@@ -26,6 +27,14 @@ put_here (c ∷ over) beneath cell new =
     let lower = ne_eqb (length beneath) (length (over ++ cell ∷ beneath)) (λ same. omega arith) in
     ap (λ (t : Bool). if t then new ∷ (over ++ cell ∷ beneath) else c ∷ with_cell (over ++ cell ∷ beneath) (length beneath) new) lower
     ∙ ap (λ (t : List Cell). c ∷ t) (put_here over beneath cell new)
+
+under_here : (over beneath : List Cell) → cells_beneath (length beneath) (over ++ beneath) ≡ beneath
+under_here over beneath =
+    let size = length-append over beneath in
+    drop_at over beneath (length (over ++ beneath) - length beneath) (omega (arith, size))
+
+pub split_places : PlacesSplit
+split_places over cell beneath = (cell_here over beneath cell, (λ new. put_here over beneath cell new), under_here over beneath)
 
 -- the list around one of its cells
 split_at : (cells : List Cell) (i : ℕ) (d : Cell) → i < length cells → cells ≡ take i cells ++ get_or cells i d ∷ drop (i + 1) cells

@@ -1,7 +1,8 @@
 -- What stands where in a captured state and in the stack that resumes it.
-use Rattle.std.specs.Prelude.{◌≡◌, ℕ, ◌+◌, ◌-◌, ◌<◌, ◌≤◌, length, slice_get}
-use Rattle.saved_state.specs.declared.saved.Saved.{Saved}
-use Rattle.saved_state.specs.Cells.{StackView, cell_at, captured, resumed}
+use Rattle.std.specs.Prelude.{◌≡◌, ℕ, ◌+◌, ◌-◌, ◌<◌, ◌≤◌, List, ◌∷◌, ◌++◌, Some, length, slice_get}
+use Rattle.saved_state.specs.declared.cell.Cell.{Cell}
+use Rattle.saved_state.specs.declared.cell.Saved.{Saved}
+use Rattle.saved_state.specs.Cells.{StackView, cell_at, with_cell, cells_beneath, captured, resumed}
 
 -- The captured globals are the cells whose places end at BP, and the captured locals those whose places end at the top.
 abbrev pub CapturedValues : Type 0
@@ -21,3 +22,11 @@ ResumedValues =
 -- A resumed stack that is captured again gives the same state.
 abbrev pub CapturesAgain : Type 0
 CapturesAgain = (saved : Saved) → captured saved.script saved.place (length saved.globals) (length saved.locals) (resumed saved) ≡ saved
+
+-- The place of a cell is the number of cells beneath it, whatever stands over it: there it is read and written.
+abbrev pub PlacesSplit : Type 0
+PlacesSplit =
+    (over : List Cell) (cell : Cell) (beneath : List Cell) →
+    (cell_at (over ++ cell ∷ beneath) (length beneath) ≡ Some cell)
+    × ((new : Cell) → with_cell (over ++ cell ∷ beneath) (length beneath) new ≡ over ++ new ∷ beneath)
+    × (cells_beneath (length beneath) (over ++ beneath) ≡ beneath)
