@@ -1,6 +1,6 @@
 -- The machine follows the stack effects of instructions.
-use Rattle.std.proofs.Common.{arith, ◌≡◌, ◌≤◌, ◌<◌, ◌+◌, ◌-◌, ℕ, zero, suc, List, [], ◌∷◌, ◌++◌, length, map, take, drop, Option, Some, None, Bool, true, false, sym, subst, ◌∙◌, ap, refl, zero-add}
-use Rattle.std.specs.Prelude.{ℤ, pos, not, ◌==◌, ◌&&◌, nat_le, if◌then◌else◌}
+use Rattle.std.proofs.Common.{arith, ◌≡◌, ◌≤◌, ◌+◌, ◌-◌, ℕ, zero, suc, List, [], ◌∷◌, ◌++◌, length, map, take, drop, Option, Some, None, Bool, true, false, sym, subst, ◌∙◌, ap, refl, zero-add}
+use Rattle.std.specs.Prelude.{ℤ, not, ◌==◌, ◌&&◌, nat_le, if◌then◌else◌}
 use Rattle.std.specs.Option.{option_map, option_and_then}
 use Rattle.std.proofs.lemmas.Bool.Decides.{Decides-eqb, nat_tests}
 use Rattle.std.proofs.lemmas.List.{drop-drop}
@@ -16,7 +16,6 @@ use Rattle.ncs_code.specs.Plain as ops
 use Rattle.saved_state.specs.declared.cell.Cell.{Cell}
 use Rattle.saved_state.specs.declared.cell.Cell.TheVariants.{Value as Holds, Base}
 use Rattle.saved_state.specs.Cells.{StackView, cells_beneath}
-use Rattle.stack_shape.specs.declared.shape.Slot.{Slot}
 use Rattle.stack_shape.specs.declared.range.CellRange.{CellRange}
 use Rattle.stack_shape.specs.declared.effect.StackEffect.{StackEffect}
 use Rattle.stack_shape.specs.Ranges.{cell_count, depth_of, range_at}
@@ -25,9 +24,9 @@ use Rattle.stack_shape.specs.StackEffects as rules
 use Rattle.machine_step.specs.Operators.{as_int, both, either, negation, bits_and, bits_or, bits_xor, complement, shift_left, shift_right, shift_right_unsigned, sum, difference, product, quotient, remainder, opposite, less, less_or_equal, greater, greater_or_equal}
 use Rattle.machine_step.specs.Values.{values_eq, joined_texts, literal_value, starting_value}
 use Rattle.machine_step.specs.Cells.{values_on, values_at, value_types, with_values, overwritten, from_bp, of_int, of_ints, of_texts, value_pushed, range_pushed, values_written, range_written, int_written, int_changed, values_dropped, values_kept, range_kept, runs_eq, runs_compared, pair_eq, pair_compared}
-use Rattle.machine_step.specs.Act.{cells_after, if_ints, compared, added, int_dropped, one_more, one_less, bp_range}
-use Rattle.machine_step.specs.Outlines.{Outline, Typed, outline, outlines, slot, slots, slots_under, outlines_after}
-use Rattle.machine_step.specs.Laws.{HasEffect, EffectsAreFollowed}
+use Rattle.machine_step.specs.Act.{cells_after, if_ints, compared, added, int_dropped, one_more, one_less}
+use Rattle.machine_step.specs.Outlines.{Outline, Typed, outline, outlines, slots, slots_under, outlines_after}
+use Rattle.machine_step.specs.Laws.{EffectsAreFollowed}
 
 -- ---- values of types
 
@@ -201,9 +200,10 @@ int_on_top : (n : ℕ) (cells : List Cell) (types : List Ty) → AreValues (suc 
 int_on_top n cells types a =
     let t = on_top n cells a.values a.are in
     let h = head_is (type_of t.value) IntTy (value_types t.others) types (ap value_types (sym t.values_are) ∙ a.types_are) in
-    let i = int_is t.value h.0 in
-    (record { int = i.0; rest = t.rest; cells_are = t.cells_are ∙ ap (λ (v : Value). Holds v ∷ t.rest) i.1 },
-    record { values = t.others; are = t.rest_are; types_are = h.1 })
+    let i = int_is t.value h.0 in (
+      record { int = i.0; rest = t.rest; cells_are = t.cells_are ∙ ap (λ (v : Value). Holds v ∷ t.rest) i.1 },
+      record { values = t.others; are = t.rest_are; types_are = h.1 },
+    )
 
 record TextOnTop (cells : List Cell) : Type 0 where
   bytes : List ℕ
@@ -214,16 +214,17 @@ text_on_top : (n : ℕ) (cells : List Cell) (types : List Ty) → AreValues (suc
 text_on_top n cells types a =
     let t = on_top n cells a.values a.are in
     let h = head_is (type_of t.value) TextTy (value_types t.others) types (ap value_types (sym t.values_are) ∙ a.types_are) in
-    let i = text_is t.value h.0 in
-    (record { bytes = i.0; rest = t.rest; cells_are = t.cells_are ∙ ap (λ (v : Value). Holds v ∷ t.rest) i.1 },
-    record { values = t.others; are = t.rest_are; types_are = h.1 })
+    let i = text_is t.value h.0 in (
+      record { bytes = i.0; rest = t.rest; cells_are = t.cells_are ∙ ap (λ (v : Value). Holds v ∷ t.rest) i.1 },
+      record { values = t.others; are = t.rest_are; types_are = h.1 },
+    )
 
 one_int_follows : (f : ℤ → ℤ) (cells : List Cell) (e : StackEffect) → rules.one_int (slots cells) ≡ Some e → Follows (of_int f cells) cells e
 one_int_follows f cells e h =
     let x = exchanged (IntTy ∷ []) (IntTy ∷ []) cells e h in
     let t = (int_on_top 0 cells [] x.values).0 in
     at_effect (of_int f cells) cells _ e x.effect (subst (λ (c : List Cell). Follows (of_int f c) c (record { pops = 1; pushes = IntTy ∷ [] })) (sym t.cells_are)
-        (goes (Int (f t.int) ∷ []) 1 (Holds (Int t.int) ∷ t.rest) _ refl))
+    (goes (Int (f t.int) ∷ []) 1 (Holds (Int t.int) ∷ t.rest) _ refl))
 
 -- two ints on top
 record IntsOnTop (cells : List Cell) : Type 0 where
@@ -243,7 +244,7 @@ two_ints_follow f cells e h =
     let x = exchanged (IntTy ∷ IntTy ∷ []) (IntTy ∷ []) cells e h in
     let t = ints_on_top cells x.values in
     at_effect (of_ints f cells) cells _ e x.effect (subst (λ (c : List Cell). Follows (of_ints f c) c (record { pops = 2; pushes = IntTy ∷ [] })) (sym t.cells_are)
-        (goes (Int (f t.lower t.upper) ∷ []) 2 (Holds (Int t.upper) ∷ Holds (Int t.lower) ∷ t.rest) _ refl))
+    (goes (Int (f t.lower t.upper) ∷ []) 2 (Holds (Int t.upper) ∷ Holds (Int t.lower) ∷ t.rest) _ refl))
 
 two_texts_follow : (f : List ℕ → List ℕ → List ℕ) (cells : List Cell) (e : StackEffect)
     → rules.exchange (TextTy ∷ TextTy ∷ []) (TextTy ∷ []) (slots cells) ≡ Some e → Follows (of_texts f cells) cells e
@@ -253,7 +254,7 @@ two_texts_follow f cells e h =
     let u = (text_on_top 0 t.0.rest [] t.1).0 in
     let is : cells ≡ Holds (Text t.0.bytes) ∷ Holds (Text u.bytes) ∷ u.rest = t.0.cells_are ∙ ap (λ (c : List Cell). Holds (Text t.0.bytes) ∷ c) u.cells_are in
     at_effect (of_texts f cells) cells _ e x.effect (subst (λ (c : List Cell). Follows (of_texts f c) c (record { pops = 2; pushes = TextTy ∷ [] })) (sym is)
-        (goes (Text (f u.bytes t.0.bytes) ∷ []) 2 (Holds (Text t.0.bytes) ∷ Holds (Text u.bytes) ∷ u.rest) _ refl))
+    (goes (Text (f u.bytes t.0.bytes) ∷ []) 2 (Holds (Text t.0.bytes) ∷ Holds (Text u.bytes) ∷ u.rest) _ refl))
 
 -- the int that a conditional jump takes
 int_drop_follows : (cells : List Cell) (e : StackEffect) → rules.exchange (IntTy ∷ []) [] (slots cells) ≡ Some e → Follows (int_dropped cells) cells e
@@ -261,7 +262,7 @@ int_drop_follows cells e h =
     let x = exchanged (IntTy ∷ []) [] cells e h in
     let t = (int_on_top 0 cells [] x.values).0 in
     at_effect (int_dropped cells) cells _ e x.effect (subst (λ (c : List Cell). Follows (int_dropped c) c (record { pops = 1; pushes = [] })) (sym t.cells_are)
-        (goes [] 1 (Holds (Int t.int) ∷ t.rest) _ refl))
+    (goes [] 1 (Holds (Int t.int) ∷ t.rest) _ refl))
 
 -- ---- pushes
 
@@ -347,7 +348,7 @@ copied_under_follows None s e inside h = absurd cc
 copied_under_follows (Some r) s e inside h =
     let m = on_map (λ (types : List Ty). record { pops = 0; pushes = types }) (types_at r (slots_under s)) e h in
     subst (λ (o : Option CellRange). Follows (range_pushed o s.cells) s.cells e) (sym (from_bp_is s r inside))
-        (at_effect _ s.cells _ e m.2 (range_copy_follows (record r { above = over_bp s + r.above }) s.cells m.0 (typed_under s r m.0 m.1)))
+    (at_effect _ s.cells _ e m.2 (range_copy_follows (record r { above = over_bp s + r.above }) s.cells m.0 (typed_under s r m.0 m.1)))
 
 -- ---- writes
 
@@ -366,7 +367,7 @@ outlines_split (suc n) [] vs h = absurd cc
 outlines_split (suc n) (Base bp ∷ cells) vs h = absurd cc
 outlines_split (suc n) (Holds v ∷ cells) vs h = let m = on_map (λ (vs : List Value). v ∷ vs) (values_on n cells) vs h in
     subst (λ (vs : List Value). outlines (Holds v ∷ cells) ≡ map Typed (value_types vs) ++ outlines (drop (length vs) (Holds v ∷ cells))) m.2
-        (ap (λ (os : List Outline). Typed (type_of v) ∷ os) (outlines_split n cells m.0 m.1))
+    (ap (λ (os : List Outline). Typed (type_of v) ∷ os) (outlines_split n cells m.0 m.1))
 
 suc_add : (m n : ℕ) → suc m + n ≡ suc (m + n)
 suc_add m n = omega arith
@@ -427,8 +428,8 @@ written_under_follows None s e inside h = absurd cc
 written_under_follows (Some r) s e inside h =
     let a = alike (types_on r.count (slots s.cells)) (types_at r (slots_under s)) rules.no_effect e h in
     subst (λ (o : Option CellRange). Follows (range_written o s.cells) s.cells e) (sym (from_bp_is s r inside))
-        (at_effect _ s.cells _ e a.effect (write_follows (record r { above = over_bp s + r.above }) s.cells a.first a.second
-            (typed r.count s.cells a.first a.first_is) (typed_under s r a.second a.second_is) a.test a.same))
+    (at_effect _ s.cells _ e a.effect (write_follows (record r { above = over_bp s + r.above }) s.cells a.first a.second
+    (typed r.count s.cells a.first a.first_is) (typed_under s r a.second a.second_is) a.test a.same))
 
 single_int : (vs : List Value) → value_types vs ≡ IntTy ∷ [] → (n : ℤ) × (vs ≡ Int n ∷ [])
 single_int [] h = absurd cc
@@ -461,8 +462,8 @@ counted_under_follows f None s e inside h = absurd cc
 counted_under_follows f (Some r) s e inside h =
     let a = alike (types_at r (slots_under s)) (Some (IntTy ∷ [])) rules.no_effect e h in
     subst (λ (o : Option CellRange). Follows (int_changed f o s.cells) s.cells e) (sym (from_bp_is s r inside))
-        (at_effect _ s.cells _ e a.effect (change_follows f (record r { above = over_bp s + r.above }) s.cells a.first
-            (typed_under s r a.first a.first_is) (a.same ∙ sym (some_is _ _ a.second_is))))
+    (at_effect _ s.cells _ e a.effect (change_follows f (record r { above = over_bp s + r.above }) s.cells a.first
+    (typed_under s r a.first a.first_is) (a.same ∙ sym (some_is _ _ a.second_is))))
 
 -- ---- removals
 
@@ -486,12 +487,12 @@ types_drop (suc n) (v ∷ vs) = types_drop n vs
 -- the part of these values that is kept
 keep_follows : (total first count : ℕ) (cells : List Cell) (types : List Ty) → AreValues total cells types
     → Follows (option_map (λ (vs : List Value). with_values (take count (drop first vs)) (drop total cells)) (values_on total cells)) cells
-      (record { pops = total; pushes = take count (drop first types) })
+    (record { pops = total; pushes = take count (drop first types) })
 keep_follows total first count cells types a =
     subst (λ (ts : List Ty). Follows (option_map (λ (vs : List Value). with_values (take count (drop first vs)) (drop total cells)) (values_on total cells)) cells
-          (record { pops = total; pushes = ts }))
-        (types_take count (drop first a.values) ∙ ap (take count) (types_drop first a.values ∙ ap (drop first) a.types_are))
-        (goes (take count (drop first a.values)) total cells _ (ap (option_map (λ (vs : List Value). with_values (take count (drop first vs)) (drop total cells))) a.are))
+    (record { pops = total; pushes = ts }))
+    (types_take count (drop first a.values) ∙ ap (take count) (types_drop first a.values ∙ ap (drop first) a.types_are))
+    (goes (take count (drop first a.values)) total cells _ (ap (option_map (λ (vs : List Value). with_values (take count (drop first vs)) (drop total cells))) a.are))
 
 -- where a test is passed on both sides
 if_follows : (b : Bool) (o : Option (List Cell)) (r : Option StackEffect) (cells : List Cell) (e : StackEffect) → (r ≡ Some e → Follows o cells e)
@@ -543,9 +544,9 @@ runs_follow answer (Some n) cells e h =
     let upper = typed n cells a.first a.first_is in
     let lower = typed n (drop n cells) a.second (sym (ap (types_on n) (slots_drop n cells)) ∙ a.second_is) in
     at_effect _ cells _ e a.effect (compare_follows answer upper.values lower.values (n + n) cells _
-        (ap (λ (ts : List Ty). tys_eq ts (value_types lower.values)) upper.types_are ∙ ap (tys_eq a.first) lower.types_are ∙ a.test)
-        (ap (option_and_then (λ (u : List Value). option_and_then (λ (l : List Value). runs_eq answer u l (drop (n + n) cells)) (values_on n (drop n cells)))) upper.are
-        ∙ ap (option_and_then (λ (l : List Value). runs_eq answer upper.values l (drop (n + n) cells))) lower.are))
+    (ap (λ (ts : List Ty). tys_eq ts (value_types lower.values)) upper.types_are ∙ ap (tys_eq a.first) lower.types_are ∙ a.test)
+    (ap (option_and_then (λ (u : List Value). option_and_then (λ (l : List Value). runs_eq answer u l (drop (n + n) cells)) (values_on n (drop n cells)))) upper.are
+    ∙ ap (option_and_then (λ (l : List Value). runs_eq answer upper.values l (drop (n + n) cells))) lower.are))
 
 ty_self : (t : Ty) → ty_eq t t ≡ true
 unfolding ty_eq
@@ -573,9 +574,9 @@ pair_follows answer t cells e h =
     let x = exchanged (t ∷ t ∷ []) (IntTy ∷ []) cells e h in
     let v = x.values in
     at_effect _ cells _ e x.effect (compare_follows answer (take 1 v.values) (drop 1 v.values) 2 cells _
-        (same_tys _ _ (types_take 1 v.values ∙ ap (take 1) v.types_are ∙ sym (types_drop 1 v.values ∙ ap (drop 1) v.types_are)))
-        (ap (option_and_then (λ (vs : List Value). pair_eq answer t vs (drop 2 cells))) v.are
-        ∙ passes v.values (same_tys (value_types v.values) (t ∷ t ∷ []) v.types_are)))
+    (same_tys _ _ (types_take 1 v.values ∙ ap (take 1) v.types_are ∙ sym (types_drop 1 v.values ∙ ap (drop 1) v.types_are)))
+    (ap (option_and_then (λ (vs : List Value). pair_eq answer t vs (drop 2 cells))) v.are
+    ∙ passes v.values (same_tys (value_types v.values) (t ∷ t ∷ []) v.types_are)))
   where
     passes : (vs : List Value) → tys_eq (value_types vs) (t ∷ t ∷ []) ≡ true → pair_eq answer t vs (drop 2 cells) ≡ runs_eq answer (take 1 vs) (drop 1 vs) (drop 2 cells)
     passes vs h = rw h

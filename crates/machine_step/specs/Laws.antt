@@ -10,7 +10,7 @@ use Rattle.machine_step.specs.Values.{value_eq}
 use Rattle.machine_step.specs.Act.{cells_after}
 use Rattle.machine_step.specs.Outlines.{outlines, outlines_after, slots, slots_under}
 use Rattle.machine_step.specs.Machine.{Host, State, Goes, depth_limit, step}
-use Rattle.machine_step.specs.Runs.{Ending, Over, ZeroDivisor, OutOfInstructions, StackFault, Ran, run}
+use Rattle.machine_step.specs.Runs.{Ending, OutOfInstructions, Ran, run}
 
 -- the test of two values tells whether they are equal
 abbrev pub EqualityIsTested : Type 0
