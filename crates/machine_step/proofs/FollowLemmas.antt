@@ -30,19 +30,19 @@ use Rattle.machine_step.specs.Laws.{EffectsAreFollowed}
 
 -- ---- values of types
 
-on_map : {A B : Type 0} (f : A → B) (o : Option A) (b : B) → option_map f o ≡ Some b → (a : A) × (o ≡ Some a) × (f a ≡ b)
+pub on_map : {A B : Type 0} (f : A → B) (o : Option A) (b : B) → option_map f o ≡ Some b → (a : A) × (o ≡ Some a) × (f a ≡ b)
 on_map f None b h = absurd cc
 on_map f (Some a) b h = (a, refl, cc)
 
-on_then : {A B : Type 0} (f : A → Option B) (o : Option A) (b : B) → option_and_then f o ≡ Some b → (a : A) × (o ≡ Some a) × (f a ≡ Some b)
+pub on_then : {A B : Type 0} (f : A → Option B) (o : Option A) (b : B) → option_and_then f o ≡ Some b → (a : A) × (o ≡ Some a) × (f a ≡ Some b)
 on_then f None b h = absurd cc
 on_then f (Some a) b h = (a, refl, h)
 
 -- the values of cells with these types on top
-record AreValues (n : ℕ) (cells : List Cell) (types : List Ty) : Type 0 where
-  values : List Value
-  are : values_on n cells ≡ Some values
-  types_are : value_types values ≡ types
+pub record AreValues (n : ℕ) (cells : List Cell) (types : List Ty) : Type 0 where
+  pub values : List Value
+  pub are : values_on n cells ≡ Some values
+  pub types_are : value_types values ≡ types
 
 one_value : (n : ℕ) (v : Value) (cells : List Cell) (types : List Ty) → AreValues n cells types → AreValues (suc n) (Holds v ∷ cells) (type_of v ∷ types)
 one_value n v cells types a = record {
@@ -51,10 +51,10 @@ one_value n v cells types a = record {
   types_are = ap (λ ts. type_of v ∷ ts) a.types_are;
 }
 
-none_typed : (cells : List Cell) (types : List Ty) → [] ≡ types → AreValues 0 cells types
+pub none_typed : (cells : List Cell) (types : List Ty) → [] ≡ types → AreValues 0 cells types
 none_typed cells types h = record { values = []; are = refl; types_are = h }
 
-typed : (n : ℕ) (cells : List Cell) (types : List Ty) → types_on n (slots cells) ≡ Some types → AreValues n cells types
+pub typed : (n : ℕ) (cells : List Cell) (types : List Ty) → types_on n (slots cells) ≡ Some types → AreValues n cells types
 typed zero cells types h = none_typed cells types cc
 typed (suc n) [] types h = absurd cc
 typed (suc n) (Base bp ∷ cells) types h = absurd cc
@@ -83,7 +83,7 @@ ty_is (Struct m) (Struct n) h = ap Struct ((Decides-eqb m n).0 h)
 ty_is Refused Refused h = refl
 ty_is t u h = absurd cc
 
-on_both : (a b : Bool) → (a && b) ≡ true → (a ≡ true) × (b ≡ true)
+pub on_both : (a b : Bool) → (a && b) ≡ true → (a ≡ true) × (b ≡ true)
 on_both true b h = (refl, h)
 on_both false b h = absurd cc
 
@@ -94,7 +94,7 @@ tys_are [] (u ∷ us) h = absurd cc
 tys_are (t ∷ ts) [] h = absurd cc
 tys_are (t ∷ ts) (u ∷ us) h = let b = on_both (ty_eq t u) (tys_eq ts us) h in let x = ty_is t u b.0 in let y = tys_are ts us b.1 in cc
 
-if_some : {A : Type 0} (b : Bool) (x y : A) → (if b then Some x else None) ≡ Some y → (b ≡ true) × (x ≡ y)
+pub if_some : {A : Type 0} (b : Bool) (x y : A) → (if b then Some x else None) ≡ Some y → (b ≡ true) × (x ≡ y)
 if_some true x y h = (refl, cc)
 if_some false x y h = absurd cc
 
@@ -116,7 +116,7 @@ alike (Some ts) (Some us) e f h = let w = if_some (tys_eq ts us) e f h in
 
 -- ---- outlines
 
-outlines_drop : (k : ℕ) (cells : List Cell) → outlines (drop k cells) ≡ drop k (outlines cells)
+pub outlines_drop : (k : ℕ) (cells : List Cell) → outlines (drop k cells) ≡ drop k (outlines cells)
 outlines_drop zero cells = refl
 outlines_drop (suc k) [] = refl
 outlines_drop (suc k) (c ∷ cells) = outlines_drop k cells
@@ -146,15 +146,15 @@ goes vs n cells o h = record { after = with_values vs (drop n cells); is = h; ou
 -- ---- one and two values
 
 -- the value on top
-record OnTop (n : ℕ) (cells : List Cell) (values : List Value) : Type 0 where
-  value : Value
-  others : List Value
-  rest : List Cell
-  cells_are : cells ≡ Holds value ∷ rest
-  values_are : values ≡ value ∷ others
-  rest_are : values_on n rest ≡ Some others
+pub record OnTop (n : ℕ) (cells : List Cell) (values : List Value) : Type 0 where
+  pub value : Value
+  pub others : List Value
+  pub rest : List Cell
+  pub cells_are : cells ≡ Holds value ∷ rest
+  pub values_are : values ≡ value ∷ others
+  pub rest_are : values_on n rest ≡ Some others
 
-on_top : (n : ℕ) (cells : List Cell) (values : List Value) → values_on (suc n) cells ≡ Some values → OnTop n cells values
+pub on_top : (n : ℕ) (cells : List Cell) (values : List Value) → values_on (suc n) cells ≡ Some values → OnTop n cells values
 on_top n [] values h = absurd cc
 on_top n (Base bp ∷ cells) values h = absurd cc
 on_top n (Holds v ∷ cells) values h = let m = on_map (λ vs. v ∷ vs) (values_on n cells) values h in
@@ -175,11 +175,11 @@ text_is (Effect e) h = absurd cc
 text_is (Event n) h = absurd cc
 
 -- so many values whose types are popped
-record Exchanged (pops pushes : List Ty) (cells : List Cell) (e : StackEffect) : Type 0 where
-  values : AreValues (length pops) cells pops
-  effect : record { pops = length pops; pushes = pushes } ≡ e
+pub record Exchanged (pops pushes : List Ty) (cells : List Cell) (e : StackEffect) : Type 0 where
+  pub values : AreValues (length pops) cells pops
+  pub effect : record { pops = length pops; pushes = pushes } ≡ e
 
-exchanged : (pops pushes : List Ty) (cells : List Cell) (e : StackEffect) → rules.exchange pops pushes (slots cells) ≡ Some e → Exchanged pops pushes cells e
+pub exchanged : (pops pushes : List Ty) (cells : List Cell) (e : StackEffect) → rules.exchange pops pushes (slots cells) ≡ Some e → Exchanged pops pushes cells e
 unfolding rules.exchange
 exchanged pops pushes cells e h = let a = alike (types_on (length pops) (slots cells)) (Some pops) (record { pops = length pops; pushes = pushes }) e h in
     record {
@@ -187,7 +187,7 @@ exchanged pops pushes cells e h = let a = alike (types_on (length pops) (slots c
       effect = a.effect;
     }
 
-head_is : {A : Type 0} (x y : A) (xs ys : List A) → x ∷ xs ≡ y ∷ ys → (x ≡ y) × (xs ≡ ys)
+pub head_is : {A : Type 0} (x y : A) (xs ys : List A) → x ∷ xs ≡ y ∷ ys → (x ≡ y) × (xs ≡ ys)
 head_is x y xs ys h = (cc, cc)
 
 -- an int on top
@@ -328,7 +328,7 @@ copied_follows (Some r) cells e h = let m = on_map (λ (types : List Ty). record
 
 -- ---- ranges from BP
 
-le_is : (m n : ℕ) → m ≤ n → nat_le m n ≡ true
+pub le_is : (m n : ℕ) → m ≤ n → nat_le m n ≡ true
 le_is m n h = grind (arith, nat_tests)
 
 -- how many cells lie over BP
@@ -352,12 +352,12 @@ copied_under_follows (Some r) s e inside h =
 
 -- ---- writes
 
-types_length : (vs : List Value) → length (value_types vs) ≡ length vs
+pub types_length : (vs : List Value) → length (value_types vs) ≡ length vs
 types_length [] = refl
 types_length (v ∷ vs) = ap suc (types_length vs)
 
 -- cells are their values and what lies beneath
-outlines_split : (n : ℕ) (cells : List Cell) (vs : List Value) → values_on n cells ≡ Some vs
+pub outlines_split : (n : ℕ) (cells : List Cell) (vs : List Value) → values_on n cells ≡ Some vs
     → outlines cells ≡ map Typed (value_types vs) ++ outlines (drop (length vs) cells)
 outlines_split zero cells vs h = none vs cc
   where
@@ -369,7 +369,7 @@ outlines_split (suc n) (Holds v ∷ cells) vs h = let m = on_map (λ (vs : List 
     subst (λ (vs : List Value). outlines (Holds v ∷ cells) ≡ map Typed (value_types vs) ++ outlines (drop (length vs) (Holds v ∷ cells))) m.2
     (ap (λ (os : List Outline). Typed (type_of v) ∷ os) (outlines_split n cells m.0 m.1))
 
-suc_add : (m n : ℕ) → suc m + n ≡ suc (m + n)
+pub suc_add : (m n : ℕ) → suc m + n ≡ suc (m + n)
 suc_add m n = omega arith
 
 overwritten_cons : (k : ℕ) (vs : List Value) (c : Cell) (cells : List Cell) → overwritten (suc k) vs (c ∷ cells) ≡ c ∷ overwritten k vs cells
@@ -548,7 +548,7 @@ runs_follow answer (Some n) cells e h =
     (ap (option_and_then (λ (u : List Value). option_and_then (λ (l : List Value). runs_eq answer u l (drop (n + n) cells)) (values_on n (drop n cells)))) upper.are
     ∙ ap (option_and_then (λ (l : List Value). runs_eq answer upper.values l (drop (n + n) cells))) lower.are))
 
-ty_self : (t : Ty) → ty_eq t t ≡ true
+pub ty_self : (t : Ty) → ty_eq t t ≡ true
 unfolding ty_eq
 ty_self Void = refl
 ty_self IntTy = refl
