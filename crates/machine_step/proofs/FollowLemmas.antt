@@ -1,6 +1,6 @@
 -- The machine follows the stack effects of instructions.
-use Rattle.std.proofs.Common.{arith, ◌≡◌, ◌≤◌, ◌<◌, ◌+◌, ◌-◌, ℕ, zero, suc, List, [], ◌∷◌, ◌++◌, length, map, take, drop, Option, Some, None, Bool, true, false, sym, subst, ◌∙◌, ap, refl, zero-add}
-use Rattle.std.specs.Prelude.{ℤ, pos, not, ◌==◌, ◌&&◌, nat_le, if◌then◌else◌}
+use Rattle.std.proofs.Common.{arith, ◌≡◌, ◌≤◌, ◌+◌, ◌-◌, ℕ, zero, suc, List, [], ◌∷◌, ◌++◌, length, map, take, drop, Option, Some, None, Bool, true, false, sym, subst, ◌∙◌, ap, refl, zero-add}
+use Rattle.std.specs.Prelude.{ℤ, not, ◌==◌, ◌&&◌, nat_le, if◌then◌else◌}
 use Rattle.std.specs.Option.{option_map, option_and_then}
 use Rattle.std.proofs.lemmas.Bool.Decides.{Decides-eqb, nat_tests}
 use Rattle.std.proofs.lemmas.List.{drop-drop}
@@ -16,7 +16,6 @@ use Rattle.ncs_code.specs.Plain as ops
 use Rattle.saved_state.specs.declared.cell.Cell.{Cell}
 use Rattle.saved_state.specs.declared.cell.Cell.TheVariants.{Value as Holds, Base}
 use Rattle.saved_state.specs.Cells.{StackView, cells_beneath}
-use Rattle.stack_shape.specs.declared.shape.Slot.{Slot}
 use Rattle.stack_shape.specs.declared.range.CellRange.{CellRange}
 use Rattle.stack_shape.specs.declared.effect.StackEffect.{StackEffect}
 use Rattle.stack_shape.specs.Ranges.{cell_count, depth_of, range_at}
@@ -25,25 +24,25 @@ use Rattle.stack_shape.specs.StackEffects as rules
 use Rattle.machine_step.specs.Operators.{as_int, both, either, negation, bits_and, bits_or, bits_xor, complement, shift_left, shift_right, shift_right_unsigned, sum, difference, product, quotient, remainder, opposite, less, less_or_equal, greater, greater_or_equal}
 use Rattle.machine_step.specs.Values.{values_eq, joined_texts, literal_value, starting_value}
 use Rattle.machine_step.specs.Cells.{values_on, values_at, value_types, with_values, overwritten, from_bp, of_int, of_ints, of_texts, value_pushed, range_pushed, values_written, range_written, int_written, int_changed, values_dropped, values_kept, range_kept, runs_eq, runs_compared, pair_eq, pair_compared}
-use Rattle.machine_step.specs.Act.{cells_after, if_ints, compared, added, int_dropped, one_more, one_less, bp_range}
-use Rattle.machine_step.specs.Outlines.{Outline, Typed, outline, outlines, slot, slots, slots_under, outlines_after}
-use Rattle.machine_step.specs.Laws.{HasEffect, EffectsAreFollowed}
+use Rattle.machine_step.specs.Act.{cells_after, if_ints, compared, added, int_dropped, one_more, one_less}
+use Rattle.machine_step.specs.Outlines.{Outline, Typed, outline, outlines, slots, slots_under, outlines_after}
+use Rattle.machine_step.specs.Laws.{EffectsAreFollowed}
 
 -- ---- values of types
 
-on_map : {A B : Type 0} (f : A → B) (o : Option A) (b : B) → option_map f o ≡ Some b → (a : A) × (o ≡ Some a) × (f a ≡ b)
+pub on_map : {A B : Type 0} (f : A → B) (o : Option A) (b : B) → option_map f o ≡ Some b → (a : A) × (o ≡ Some a) × (f a ≡ b)
 on_map f None b h = absurd cc
 on_map f (Some a) b h = (a, refl, cc)
 
-on_then : {A B : Type 0} (f : A → Option B) (o : Option A) (b : B) → option_and_then f o ≡ Some b → (a : A) × (o ≡ Some a) × (f a ≡ Some b)
+pub on_then : {A B : Type 0} (f : A → Option B) (o : Option A) (b : B) → option_and_then f o ≡ Some b → (a : A) × (o ≡ Some a) × (f a ≡ Some b)
 on_then f None b h = absurd cc
 on_then f (Some a) b h = (a, refl, h)
 
 -- the values of cells with these types on top
-record AreValues (n : ℕ) (cells : List Cell) (types : List Ty) : Type 0 where
-  values : List Value
-  are : values_on n cells ≡ Some values
-  types_are : value_types values ≡ types
+pub record AreValues (n : ℕ) (cells : List Cell) (types : List Ty) : Type 0 where
+  pub values : List Value
+  pub are : values_on n cells ≡ Some values
+  pub types_are : value_types values ≡ types
 
 one_value : (n : ℕ) (v : Value) (cells : List Cell) (types : List Ty) → AreValues n cells types → AreValues (suc n) (Holds v ∷ cells) (type_of v ∷ types)
 one_value n v cells types a = record {
@@ -52,10 +51,10 @@ one_value n v cells types a = record {
   types_are = ap (λ ts. type_of v ∷ ts) a.types_are;
 }
 
-none_typed : (cells : List Cell) (types : List Ty) → [] ≡ types → AreValues 0 cells types
+pub none_typed : (cells : List Cell) (types : List Ty) → [] ≡ types → AreValues 0 cells types
 none_typed cells types h = record { values = []; are = refl; types_are = h }
 
-typed : (n : ℕ) (cells : List Cell) (types : List Ty) → types_on n (slots cells) ≡ Some types → AreValues n cells types
+pub typed : (n : ℕ) (cells : List Cell) (types : List Ty) → types_on n (slots cells) ≡ Some types → AreValues n cells types
 typed zero cells types h = none_typed cells types cc
 typed (suc n) [] types h = absurd cc
 typed (suc n) (Base bp ∷ cells) types h = absurd cc
@@ -84,7 +83,7 @@ ty_is (Struct m) (Struct n) h = ap Struct ((Decides-eqb m n).0 h)
 ty_is Refused Refused h = refl
 ty_is t u h = absurd cc
 
-on_both : (a b : Bool) → (a && b) ≡ true → (a ≡ true) × (b ≡ true)
+pub on_both : (a b : Bool) → (a && b) ≡ true → (a ≡ true) × (b ≡ true)
 on_both true b h = (refl, h)
 on_both false b h = absurd cc
 
@@ -95,7 +94,7 @@ tys_are [] (u ∷ us) h = absurd cc
 tys_are (t ∷ ts) [] h = absurd cc
 tys_are (t ∷ ts) (u ∷ us) h = let b = on_both (ty_eq t u) (tys_eq ts us) h in let x = ty_is t u b.0 in let y = tys_are ts us b.1 in cc
 
-if_some : {A : Type 0} (b : Bool) (x y : A) → (if b then Some x else None) ≡ Some y → (b ≡ true) × (x ≡ y)
+pub if_some : {A : Type 0} (b : Bool) (x y : A) → (if b then Some x else None) ≡ Some y → (b ≡ true) × (x ≡ y)
 if_some true x y h = (refl, cc)
 if_some false x y h = absurd cc
 
@@ -117,7 +116,7 @@ alike (Some ts) (Some us) e f h = let w = if_some (tys_eq ts us) e f h in
 
 -- ---- outlines
 
-outlines_drop : (k : ℕ) (cells : List Cell) → outlines (drop k cells) ≡ drop k (outlines cells)
+pub outlines_drop : (k : ℕ) (cells : List Cell) → outlines (drop k cells) ≡ drop k (outlines cells)
 outlines_drop zero cells = refl
 outlines_drop (suc k) [] = refl
 outlines_drop (suc k) (c ∷ cells) = outlines_drop k cells
@@ -147,15 +146,15 @@ goes vs n cells o h = record { after = with_values vs (drop n cells); is = h; ou
 -- ---- one and two values
 
 -- the value on top
-record OnTop (n : ℕ) (cells : List Cell) (values : List Value) : Type 0 where
-  value : Value
-  others : List Value
-  rest : List Cell
-  cells_are : cells ≡ Holds value ∷ rest
-  values_are : values ≡ value ∷ others
-  rest_are : values_on n rest ≡ Some others
+pub record OnTop (n : ℕ) (cells : List Cell) (values : List Value) : Type 0 where
+  pub value : Value
+  pub others : List Value
+  pub rest : List Cell
+  pub cells_are : cells ≡ Holds value ∷ rest
+  pub values_are : values ≡ value ∷ others
+  pub rest_are : values_on n rest ≡ Some others
 
-on_top : (n : ℕ) (cells : List Cell) (values : List Value) → values_on (suc n) cells ≡ Some values → OnTop n cells values
+pub on_top : (n : ℕ) (cells : List Cell) (values : List Value) → values_on (suc n) cells ≡ Some values → OnTop n cells values
 on_top n [] values h = absurd cc
 on_top n (Base bp ∷ cells) values h = absurd cc
 on_top n (Holds v ∷ cells) values h = let m = on_map (λ vs. v ∷ vs) (values_on n cells) values h in
@@ -176,11 +175,11 @@ text_is (Effect e) h = absurd cc
 text_is (Event n) h = absurd cc
 
 -- so many values whose types are popped
-record Exchanged (pops pushes : List Ty) (cells : List Cell) (e : StackEffect) : Type 0 where
-  values : AreValues (length pops) cells pops
-  effect : record { pops = length pops; pushes = pushes } ≡ e
+pub record Exchanged (pops pushes : List Ty) (cells : List Cell) (e : StackEffect) : Type 0 where
+  pub values : AreValues (length pops) cells pops
+  pub effect : record { pops = length pops; pushes = pushes } ≡ e
 
-exchanged : (pops pushes : List Ty) (cells : List Cell) (e : StackEffect) → rules.exchange pops pushes (slots cells) ≡ Some e → Exchanged pops pushes cells e
+pub exchanged : (pops pushes : List Ty) (cells : List Cell) (e : StackEffect) → rules.exchange pops pushes (slots cells) ≡ Some e → Exchanged pops pushes cells e
 unfolding rules.exchange
 exchanged pops pushes cells e h = let a = alike (types_on (length pops) (slots cells)) (Some pops) (record { pops = length pops; pushes = pushes }) e h in
     record {
@@ -188,7 +187,7 @@ exchanged pops pushes cells e h = let a = alike (types_on (length pops) (slots c
       effect = a.effect;
     }
 
-head_is : {A : Type 0} (x y : A) (xs ys : List A) → x ∷ xs ≡ y ∷ ys → (x ≡ y) × (xs ≡ ys)
+pub head_is : {A : Type 0} (x y : A) (xs ys : List A) → x ∷ xs ≡ y ∷ ys → (x ≡ y) × (xs ≡ ys)
 head_is x y xs ys h = (cc, cc)
 
 -- an int on top
@@ -201,9 +200,10 @@ int_on_top : (n : ℕ) (cells : List Cell) (types : List Ty) → AreValues (suc 
 int_on_top n cells types a =
     let t = on_top n cells a.values a.are in
     let h = head_is (type_of t.value) IntTy (value_types t.others) types (ap value_types (sym t.values_are) ∙ a.types_are) in
-    let i = int_is t.value h.0 in
-    (record { int = i.0; rest = t.rest; cells_are = t.cells_are ∙ ap (λ (v : Value). Holds v ∷ t.rest) i.1 },
-    record { values = t.others; are = t.rest_are; types_are = h.1 })
+    let i = int_is t.value h.0 in (
+      record { int = i.0; rest = t.rest; cells_are = t.cells_are ∙ ap (λ (v : Value). Holds v ∷ t.rest) i.1 },
+      record { values = t.others; are = t.rest_are; types_are = h.1 },
+    )
 
 record TextOnTop (cells : List Cell) : Type 0 where
   bytes : List ℕ
@@ -214,16 +214,17 @@ text_on_top : (n : ℕ) (cells : List Cell) (types : List Ty) → AreValues (suc
 text_on_top n cells types a =
     let t = on_top n cells a.values a.are in
     let h = head_is (type_of t.value) TextTy (value_types t.others) types (ap value_types (sym t.values_are) ∙ a.types_are) in
-    let i = text_is t.value h.0 in
-    (record { bytes = i.0; rest = t.rest; cells_are = t.cells_are ∙ ap (λ (v : Value). Holds v ∷ t.rest) i.1 },
-    record { values = t.others; are = t.rest_are; types_are = h.1 })
+    let i = text_is t.value h.0 in (
+      record { bytes = i.0; rest = t.rest; cells_are = t.cells_are ∙ ap (λ (v : Value). Holds v ∷ t.rest) i.1 },
+      record { values = t.others; are = t.rest_are; types_are = h.1 },
+    )
 
 one_int_follows : (f : ℤ → ℤ) (cells : List Cell) (e : StackEffect) → rules.one_int (slots cells) ≡ Some e → Follows (of_int f cells) cells e
 one_int_follows f cells e h =
     let x = exchanged (IntTy ∷ []) (IntTy ∷ []) cells e h in
     let t = (int_on_top 0 cells [] x.values).0 in
     at_effect (of_int f cells) cells _ e x.effect (subst (λ (c : List Cell). Follows (of_int f c) c (record { pops = 1; pushes = IntTy ∷ [] })) (sym t.cells_are)
-        (goes (Int (f t.int) ∷ []) 1 (Holds (Int t.int) ∷ t.rest) _ refl))
+    (goes (Int (f t.int) ∷ []) 1 (Holds (Int t.int) ∷ t.rest) _ refl))
 
 -- two ints on top
 record IntsOnTop (cells : List Cell) : Type 0 where
@@ -243,7 +244,7 @@ two_ints_follow f cells e h =
     let x = exchanged (IntTy ∷ IntTy ∷ []) (IntTy ∷ []) cells e h in
     let t = ints_on_top cells x.values in
     at_effect (of_ints f cells) cells _ e x.effect (subst (λ (c : List Cell). Follows (of_ints f c) c (record { pops = 2; pushes = IntTy ∷ [] })) (sym t.cells_are)
-        (goes (Int (f t.lower t.upper) ∷ []) 2 (Holds (Int t.upper) ∷ Holds (Int t.lower) ∷ t.rest) _ refl))
+    (goes (Int (f t.lower t.upper) ∷ []) 2 (Holds (Int t.upper) ∷ Holds (Int t.lower) ∷ t.rest) _ refl))
 
 two_texts_follow : (f : List ℕ → List ℕ → List ℕ) (cells : List Cell) (e : StackEffect)
     → rules.exchange (TextTy ∷ TextTy ∷ []) (TextTy ∷ []) (slots cells) ≡ Some e → Follows (of_texts f cells) cells e
@@ -253,7 +254,7 @@ two_texts_follow f cells e h =
     let u = (text_on_top 0 t.0.rest [] t.1).0 in
     let is : cells ≡ Holds (Text t.0.bytes) ∷ Holds (Text u.bytes) ∷ u.rest = t.0.cells_are ∙ ap (λ (c : List Cell). Holds (Text t.0.bytes) ∷ c) u.cells_are in
     at_effect (of_texts f cells) cells _ e x.effect (subst (λ (c : List Cell). Follows (of_texts f c) c (record { pops = 2; pushes = TextTy ∷ [] })) (sym is)
-        (goes (Text (f u.bytes t.0.bytes) ∷ []) 2 (Holds (Text t.0.bytes) ∷ Holds (Text u.bytes) ∷ u.rest) _ refl))
+    (goes (Text (f u.bytes t.0.bytes) ∷ []) 2 (Holds (Text t.0.bytes) ∷ Holds (Text u.bytes) ∷ u.rest) _ refl))
 
 -- the int that a conditional jump takes
 int_drop_follows : (cells : List Cell) (e : StackEffect) → rules.exchange (IntTy ∷ []) [] (slots cells) ≡ Some e → Follows (int_dropped cells) cells e
@@ -261,7 +262,7 @@ int_drop_follows cells e h =
     let x = exchanged (IntTy ∷ []) [] cells e h in
     let t = (int_on_top 0 cells [] x.values).0 in
     at_effect (int_dropped cells) cells _ e x.effect (subst (λ (c : List Cell). Follows (int_dropped c) c (record { pops = 1; pushes = [] })) (sym t.cells_are)
-        (goes [] 1 (Holds (Int t.int) ∷ t.rest) _ refl))
+    (goes [] 1 (Holds (Int t.int) ∷ t.rest) _ refl))
 
 -- ---- pushes
 
@@ -327,7 +328,7 @@ copied_follows (Some r) cells e h = let m = on_map (λ (types : List Ty). record
 
 -- ---- ranges from BP
 
-le_is : (m n : ℕ) → m ≤ n → nat_le m n ≡ true
+pub le_is : (m n : ℕ) → m ≤ n → nat_le m n ≡ true
 le_is m n h = grind (arith, nat_tests)
 
 -- how many cells lie over BP
@@ -347,16 +348,16 @@ copied_under_follows None s e inside h = absurd cc
 copied_under_follows (Some r) s e inside h =
     let m = on_map (λ (types : List Ty). record { pops = 0; pushes = types }) (types_at r (slots_under s)) e h in
     subst (λ (o : Option CellRange). Follows (range_pushed o s.cells) s.cells e) (sym (from_bp_is s r inside))
-        (at_effect _ s.cells _ e m.2 (range_copy_follows (record r { above = over_bp s + r.above }) s.cells m.0 (typed_under s r m.0 m.1)))
+    (at_effect _ s.cells _ e m.2 (range_copy_follows (record r { above = over_bp s + r.above }) s.cells m.0 (typed_under s r m.0 m.1)))
 
 -- ---- writes
 
-types_length : (vs : List Value) → length (value_types vs) ≡ length vs
+pub types_length : (vs : List Value) → length (value_types vs) ≡ length vs
 types_length [] = refl
 types_length (v ∷ vs) = ap suc (types_length vs)
 
 -- cells are their values and what lies beneath
-outlines_split : (n : ℕ) (cells : List Cell) (vs : List Value) → values_on n cells ≡ Some vs
+pub outlines_split : (n : ℕ) (cells : List Cell) (vs : List Value) → values_on n cells ≡ Some vs
     → outlines cells ≡ map Typed (value_types vs) ++ outlines (drop (length vs) cells)
 outlines_split zero cells vs h = none vs cc
   where
@@ -366,9 +367,9 @@ outlines_split (suc n) [] vs h = absurd cc
 outlines_split (suc n) (Base bp ∷ cells) vs h = absurd cc
 outlines_split (suc n) (Holds v ∷ cells) vs h = let m = on_map (λ (vs : List Value). v ∷ vs) (values_on n cells) vs h in
     subst (λ (vs : List Value). outlines (Holds v ∷ cells) ≡ map Typed (value_types vs) ++ outlines (drop (length vs) (Holds v ∷ cells))) m.2
-        (ap (λ (os : List Outline). Typed (type_of v) ∷ os) (outlines_split n cells m.0 m.1))
+    (ap (λ (os : List Outline). Typed (type_of v) ∷ os) (outlines_split n cells m.0 m.1))
 
-suc_add : (m n : ℕ) → suc m + n ≡ suc (m + n)
+pub suc_add : (m n : ℕ) → suc m + n ≡ suc (m + n)
 suc_add m n = omega arith
 
 overwritten_cons : (k : ℕ) (vs : List Value) (c : Cell) (cells : List Cell) → overwritten (suc k) vs (c ∷ cells) ≡ c ∷ overwritten k vs cells
@@ -427,8 +428,8 @@ written_under_follows None s e inside h = absurd cc
 written_under_follows (Some r) s e inside h =
     let a = alike (types_on r.count (slots s.cells)) (types_at r (slots_under s)) rules.no_effect e h in
     subst (λ (o : Option CellRange). Follows (range_written o s.cells) s.cells e) (sym (from_bp_is s r inside))
-        (at_effect _ s.cells _ e a.effect (write_follows (record r { above = over_bp s + r.above }) s.cells a.first a.second
-            (typed r.count s.cells a.first a.first_is) (typed_under s r a.second a.second_is) a.test a.same))
+    (at_effect _ s.cells _ e a.effect (write_follows (record r { above = over_bp s + r.above }) s.cells a.first a.second
+    (typed r.count s.cells a.first a.first_is) (typed_under s r a.second a.second_is) a.test a.same))
 
 single_int : (vs : List Value) → value_types vs ≡ IntTy ∷ [] → (n : ℤ) × (vs ≡ Int n ∷ [])
 single_int [] h = absurd cc
@@ -461,8 +462,8 @@ counted_under_follows f None s e inside h = absurd cc
 counted_under_follows f (Some r) s e inside h =
     let a = alike (types_at r (slots_under s)) (Some (IntTy ∷ [])) rules.no_effect e h in
     subst (λ (o : Option CellRange). Follows (int_changed f o s.cells) s.cells e) (sym (from_bp_is s r inside))
-        (at_effect _ s.cells _ e a.effect (change_follows f (record r { above = over_bp s + r.above }) s.cells a.first
-            (typed_under s r a.first a.first_is) (a.same ∙ sym (some_is _ _ a.second_is))))
+    (at_effect _ s.cells _ e a.effect (change_follows f (record r { above = over_bp s + r.above }) s.cells a.first
+    (typed_under s r a.first a.first_is) (a.same ∙ sym (some_is _ _ a.second_is))))
 
 -- ---- removals
 
@@ -486,12 +487,12 @@ types_drop (suc n) (v ∷ vs) = types_drop n vs
 -- the part of these values that is kept
 keep_follows : (total first count : ℕ) (cells : List Cell) (types : List Ty) → AreValues total cells types
     → Follows (option_map (λ (vs : List Value). with_values (take count (drop first vs)) (drop total cells)) (values_on total cells)) cells
-      (record { pops = total; pushes = take count (drop first types) })
+    (record { pops = total; pushes = take count (drop first types) })
 keep_follows total first count cells types a =
     subst (λ (ts : List Ty). Follows (option_map (λ (vs : List Value). with_values (take count (drop first vs)) (drop total cells)) (values_on total cells)) cells
-          (record { pops = total; pushes = ts }))
-        (types_take count (drop first a.values) ∙ ap (take count) (types_drop first a.values ∙ ap (drop first) a.types_are))
-        (goes (take count (drop first a.values)) total cells _ (ap (option_map (λ (vs : List Value). with_values (take count (drop first vs)) (drop total cells))) a.are))
+    (record { pops = total; pushes = ts }))
+    (types_take count (drop first a.values) ∙ ap (take count) (types_drop first a.values ∙ ap (drop first) a.types_are))
+    (goes (take count (drop first a.values)) total cells _ (ap (option_map (λ (vs : List Value). with_values (take count (drop first vs)) (drop total cells))) a.are))
 
 -- where a test is passed on both sides
 if_follows : (b : Bool) (o : Option (List Cell)) (r : Option StackEffect) (cells : List Cell) (e : StackEffect) → (r ≡ Some e → Follows o cells e)
@@ -543,11 +544,11 @@ runs_follow answer (Some n) cells e h =
     let upper = typed n cells a.first a.first_is in
     let lower = typed n (drop n cells) a.second (sym (ap (types_on n) (slots_drop n cells)) ∙ a.second_is) in
     at_effect _ cells _ e a.effect (compare_follows answer upper.values lower.values (n + n) cells _
-        (ap (λ (ts : List Ty). tys_eq ts (value_types lower.values)) upper.types_are ∙ ap (tys_eq a.first) lower.types_are ∙ a.test)
-        (ap (option_and_then (λ (u : List Value). option_and_then (λ (l : List Value). runs_eq answer u l (drop (n + n) cells)) (values_on n (drop n cells)))) upper.are
-        ∙ ap (option_and_then (λ (l : List Value). runs_eq answer upper.values l (drop (n + n) cells))) lower.are))
+    (ap (λ (ts : List Ty). tys_eq ts (value_types lower.values)) upper.types_are ∙ ap (tys_eq a.first) lower.types_are ∙ a.test)
+    (ap (option_and_then (λ (u : List Value). option_and_then (λ (l : List Value). runs_eq answer u l (drop (n + n) cells)) (values_on n (drop n cells)))) upper.are
+    ∙ ap (option_and_then (λ (l : List Value). runs_eq answer upper.values l (drop (n + n) cells))) lower.are))
 
-ty_self : (t : Ty) → ty_eq t t ≡ true
+pub ty_self : (t : Ty) → ty_eq t t ≡ true
 unfolding ty_eq
 ty_self Void = refl
 ty_self IntTy = refl
@@ -573,9 +574,9 @@ pair_follows answer t cells e h =
     let x = exchanged (t ∷ t ∷ []) (IntTy ∷ []) cells e h in
     let v = x.values in
     at_effect _ cells _ e x.effect (compare_follows answer (take 1 v.values) (drop 1 v.values) 2 cells _
-        (same_tys _ _ (types_take 1 v.values ∙ ap (take 1) v.types_are ∙ sym (types_drop 1 v.values ∙ ap (drop 1) v.types_are)))
-        (ap (option_and_then (λ (vs : List Value). pair_eq answer t vs (drop 2 cells))) v.are
-        ∙ passes v.values (same_tys (value_types v.values) (t ∷ t ∷ []) v.types_are)))
+    (same_tys _ _ (types_take 1 v.values ∙ ap (take 1) v.types_are ∙ sym (types_drop 1 v.values ∙ ap (drop 1) v.types_are)))
+    (ap (option_and_then (λ (vs : List Value). pair_eq answer t vs (drop 2 cells))) v.are
+    ∙ passes v.values (same_tys (value_types v.values) (t ∷ t ∷ []) v.types_are)))
   where
     passes : (vs : List Value) → tys_eq (value_types vs) (t ∷ t ∷ []) ≡ true → pair_eq answer t vs (drop 2 cells) ≡ runs_eq answer (take 1 vs) (drop 1 vs) (drop 2 cells)
     passes vs h = rw h

@@ -1,4 +1,6 @@
+mod CallLemmas
 mod FollowLemmas
 mod Rows
 mod RunLemmas
+mod StoreLemmas
 mod ValueLemmas

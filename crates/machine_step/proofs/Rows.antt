@@ -1,6 +1,6 @@
 -- Whole entries, computed: the code of small scripts, as this project's compiler writes it, under the built-in header.
-use Rattle.std.proofs.Common.{◌≡◌, ℕ, List, [], ◌∷◌, ◌++◌, Option, Some, None, Bool, true, false, refl}
-use Rattle.std.specs.Prelude.{ℤ, pos, negsuc, codes, ◌==◌, ◌||◌, ◌*◌, neg_ℤ, map}
+use Rattle.std.proofs.Common.{◌≡◌, ℕ, List, [], ◌∷◌, ◌++◌, Option, Some, None, refl}
+use Rattle.std.specs.Prelude.{ℤ, pos, negsuc, codes, ◌==◌, ◌||◌, ◌*◌, neg_ℤ}
 use Rattle.nwq_value.specs.declared.value.Value.{Value}
 use Rattle.nwq_value.specs.declared.value.Value.TheVariants.{Int, Text, Object}
 use Rattle.nwq_value.specs.Header.{header_routines}

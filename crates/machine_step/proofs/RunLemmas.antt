@@ -1,13 +1,12 @@
 -- Runs with greater limits, and how many scripts wait.
-use Rattle.std.proofs.Common.{arith, ◌≡◌, ◌≤◌, ◌<◌, ◌+◌, ℕ, zero, suc, List, [], ◌∷◌, length, Option, Some, None, Bool, true, false, sym, subst, ◌∙◌, ap, refl, zero-add}
-use Rattle.std.specs.Prelude.{nat_lt, if◌then◌else◌}
+use Rattle.std.proofs.Common.{arith, ◌≡◌, ◌≤◌, ◌+◌, ℕ, zero, suc, List, [], ◌∷◌, length, Option, Some, None, Bool, true, false, sym, subst, ◌∙◌, ap, refl, zero-add}
+use Rattle.std.specs.Prelude.{nat_lt}
 use Rattle.std.specs.Option.{option_map, option_and_then}
 use Rattle.std.proofs.lemmas.Bool.Decides.{nat_tests}
-use Rattle.nwq_value.specs.declared.value.Value.{Value}
 use Rattle.ncs_code.specs.Plain.{PlainOp}
 use Rattle.machine_step.specs.Frames.{Frame}
 use Rattle.machine_step.specs.Act.{Act, Moves, Asks, Executes, Returns, Divides, act}
-use Rattle.machine_step.specs.Machine.{Host, State, Answered, Next, Goes, Ends, Divided, depth_limit, script_named, begun, executed, over, followed, next_op, step}
+use Rattle.machine_step.specs.Machine.{Host, State, Next, Goes, Ends, Divided, depth_limit, script_named, begun, executed, over, followed, next_op, step}
 use Rattle.machine_step.specs.Runs.{Ending, Over, ZeroDivisor, OutOfInstructions, StackFault, Ran, counted, after_step, run}
 use Rattle.machine_step.specs.Laws.{FewWait, CountsInstructions, run_on, RunsGoOn}
 

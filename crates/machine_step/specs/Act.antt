@@ -1,5 +1,5 @@
 -- What one instruction does in a running script. No world is looked at: an engine call says what it asks.
-use Rattle.std.specs.Prelude.{ℕ, ℤ, pos, ◌+◌, ◌-◌, ◌+ℤ◌, ◌-ℤ◌, List, [], ◌∷◌, ◌++◌, length, slice_get, Option, None, Some, Bool, true, false, not, ◌&&◌, ◌==◌, nat_le, if◌then◌else◌}
+use Rattle.std.specs.Prelude.{ℕ, ℤ, pos, ◌+◌, List, [], ◌∷◌, length, slice_get, Option, None, Some, Bool, true, false, not, ◌&&◌, ◌==◌, nat_le, if◌then◌else◌}
 use Rattle.std.specs.Option.{option_map, option_and_then}
 use Rattle.nwq_value.specs.declared.value.Value.{Value}
 use Rattle.nwq_value.specs.declared.value.Value.TheVariants.{Text, Object}
@@ -10,7 +10,7 @@ use Rattle.ncs_code.specs.Plain as ops
 use Rattle.ncs_code.specs.Spelling.{op_size}
 use Rattle.ncs_code.specs.File.{jump_place, resume_place}
 use Rattle.saved_state.specs.declared.cell.Cell.{Cell}
-use Rattle.saved_state.specs.declared.cell.Cell.TheVariants.{Value as Holds, Base}
+use Rattle.saved_state.specs.declared.cell.Cell.TheVariants.{Base}
 use Rattle.saved_state.specs.declared.saved.Saved.{Saved}
 use Rattle.saved_state.specs.Cells.{StackView, cells_beneath, captured}
 use Rattle.stack_shape.specs.declared.range.CellRange.{CellRange}
@@ -144,8 +144,10 @@ returned (place ∷ calls) f = Moves (record f { place = place; calls = calls })
 
 -- SAVEBP: BP stands beneath a new base cell, which keeps the old one.
 abbrev pub based : Frame → Act
-based f = Moves (record f { place = next_place f.place ops.SaveBp;
-    stack = record { cells = Base f.stack.bp ∷ f.stack.cells; bp = length f.stack.cells } })
+based f = Moves (record f {
+  place = next_place f.place ops.SaveBp;
+  stack = record { cells = Base f.stack.bp ∷ f.stack.cells; bp = length f.stack.cells };
+})
 
 -- RESTOREBP: the base cell on top is taken off.
 abbrev pub restored : List Cell → Frame → Option Act
@@ -157,7 +159,7 @@ abbrev pub stored_cells : ℕ → ℕ → Frame → Option Saved
 stored_cells globals locals f =
     if nat_le f.stack.bp (length f.stack.cells)
     then option_and_then (λ _. option_map (λ _. captured f.script (resume_place f.place) globals locals f.stack)
-        (values_on locals f.stack.cells)) (values_on globals (cells_beneath f.stack.bp f.stack.cells))
+    (values_on locals f.stack.cells)) (values_on globals (cells_beneath f.stack.bp f.stack.cells))
     else None
 
 abbrev pub stored : ℕ → ℕ → Frame → Option Act

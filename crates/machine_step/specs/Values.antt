@@ -5,7 +5,6 @@ use Rattle.std.specs.Ordering.{int_eq}
 use Rattle.std.specs.Str.{bytes_eq}
 use Rattle.nwq_value.specs.declared.value.Value.{Value}
 use Rattle.nwq_value.specs.declared.value.Value.TheVariants.{Int, Text, Object, Effect, Event}
-use Rattle.nwq_value.specs.declared.value.Effect.{Effect as EffectRecord}
 use Rattle.nwq_value.specs.Values.{start_value}
 use Rattle.nwq_value.specs.Limits.{text_limit}
 use Rattle.ncs_code.specs.Plain.{PlainLit}

@@ -1,4 +1,4 @@
-ghost use Rattle.machine_step.specs.Laws.{CountsInstructions, EffectsAreFollowed, EqualityIsTested, FewWait, RunsGoOn};
+ghost use Rattle.machine_step.specs.Laws.{CallsAreFollowed, CountsInstructions, EffectsAreFollowed, EqualityIsTested, FewWait, RunsGoOn, StoresAreFollowed};
 
 /// The definition's test of two values tells whether they are equal.
 pub fn equality_is_tested()
@@ -6,9 +6,12 @@ pub fn equality_is_tested()
 {}
 
 /// Where an instruction has a stack effect on the slots of a stack, it has a case there, and the cells after it
-/// have the outlines that the effect says: the types, and the bases as they were.
+/// have the outlines that the effect says: the types, and the bases as they were. The same holds of what a call
+/// takes, and of the state that STORE_STATE captures.
 pub fn effects_are_followed()
-    ensures { EffectsAreFollowed }
+    ensures effects { EffectsAreFollowed }
+    ensures calls { CallsAreFollowed }
+    ensures stores { StoresAreFollowed }
 {}
 
 /// In a world of any kind, no more scripts wait than may.

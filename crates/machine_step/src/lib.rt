@@ -11,4 +11,6 @@
 
 mod laws;
 
-pub use laws::{effects_are_followed, equality_is_tested, few_scripts_wait, limits_count_instructions};
+pub use laws::{
+    effects_are_followed, equality_is_tested, few_scripts_wait, limits_count_instructions,
+};

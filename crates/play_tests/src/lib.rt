@@ -4,6 +4,8 @@
 #[cfg(test)]
 mod agenda;
 #[cfg(test)]
+mod laws;
+#[cfg(test)]
 mod queues;
 #[cfg(test)]
 mod shapes;
