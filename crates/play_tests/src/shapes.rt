@@ -1,5 +1,5 @@
-//! The rule of one instruction, row by row. Shapes are written as letters, the lowest cell first: i, t, o, e and v for an
-//! int, a text, an object, an effect and an event, and B for a base.
+//! The rule of one instruction, row by row. Shapes are written as letters, the lowest cell first:
+//! i, t, o, e and v for an int, a text, an object, an effect and an event, and B for a base.
 ghost use Rattle.std.specs.Prelude.{◌≡◌, ◌<◌, ◌^◌, IfOk};
 ghost use Rattle.ncs_code.specs.Plain.{plain};
 ghost use Rattle.stack_shape.specs.Rule.{IsOneStep};

@@ -129,6 +129,9 @@ so_far_all slots count i types h past = sym (one_less slots count i 0 types h (a
 pub so_far_size : (slots : List Slot) (count i : ℕ) (types : List Ty) → SoFar slots count i types → count ≤ i → length types ≡ count
 so_far_size slots count i types h past = omega (arith, h.size, h.within, past)
 
+-- one more type is read, or there is none to read
+pub ruleset reading = (so_far_none, so_far_more, so_far_base, so_far_end, so_far_all, so_far_size)
+
 -- ---- types put on top, the last first
 
 put_next : (types : List Ty) (i : ℕ) (t : Ty) (slots : List Slot) → i < length types → t ≡ get_or types i t

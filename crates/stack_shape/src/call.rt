@@ -1,6 +1,7 @@
 ghost use Rattle.std.specs.Prelude.{◌≡◌, ◌≤◌, ◌++◌, IfOk, length, IsTrue};
 ghost use Rattle.std.specs.List.{list_any};
-ghost use Rattle.stack_shape.specs.Calls.{action_count, argument_types, call_effect, fits_call, is_action, is_callable, is_void, result_types};
+ghost use Rattle.stack_shape.specs.Calls.{action_count, argument_types, call_effect, fits_call};
+ghost use Rattle.stack_shape.specs.Calls.{is_action, is_callable, is_void, result_types};
 
 use crate::effect::{StackEffect, exchange};
 use crate::top_first::TopFirst;
@@ -28,7 +29,7 @@ fn any_void(params: &[Param]) -> bool
 /// Whether a call of the routine is carried out at all.
 #[tactic(auto, unfolding(crate::specs::Calls::is_callable))]
 pub fn is_callable(routine: &Routine) -> bool
-    ensures { result ≡ is_callable routine.now }
+    ensures callable { result ≡ is_callable routine.now }
 {
     match routine.role {
         Role::Uncallable => false,
@@ -97,8 +98,8 @@ fn fits_call(routine: &Routine, count: u8, pending: u32) -> bool
         && action_count(routine.params.as_slice()) <= pending as usize
 }
 
-/// The effect of a call of the routine with this count, where so many states are pending, or `None` where
-/// the call doesn't fit. It also takes `action_count` of the pending states.
+/// The effect of a call of the routine with this count, where so many states are pending, or `None`
+/// where the call doesn't fit. It also takes `action_count` of the pending states.
 #[tactic(auto, unfolding(crate::specs::Calls::call_effect))]
 pub fn call_effect<C: TopFirst>(
     alloc: Global,
@@ -107,7 +108,8 @@ pub fn call_effect<C: TopFirst>(
     pending: u32,
     cells: &C,
 ) -> Result<Option<StackEffect>, NoMemory>
-    ensures { IfOk result (λ effect. effect ≡ call_effect routine.now count pending (C.slots cells.now)) }
+    ensures effect { IfOk result (λ effect. effect
+        ≡ call_effect routine.now count pending (C.slots cells.now)) }
 {
     if !fits_call(routine, count, pending) {
         return Ok(None);

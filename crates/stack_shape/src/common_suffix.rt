@@ -12,7 +12,8 @@ fn common_count(a: &[Slot], b: &[Slot]) -> usize
     ensures first { result ≤ length a.now }
     ensures second { result ≤ length b.now }
     ensures same { take result (reverse a.now) ≡ take result (reverse b.now) }
-    ensures last { result < length a.now → result < length b.now → slice_get (reverse a.now) result ≢ slice_get (reverse b.now) result }
+    ensures last { result < length a.now → result < length b.now
+        → slice_get (reverse a.now) result ≢ slice_get (reverse b.now) result }
 {
     let mut count = 0;
     while count < a.len() && count < b.len() && same_at(a, b, count) {
@@ -28,8 +29,8 @@ fn longest_suffix(alloc: Global, a: &[Slot], b: &[Slot]) -> Result<Slots, NoMemo
     Slots::of_slice(alloc, &a[a.len() - common_count(a, b)..])
 }
 
-/// What two shapes have in common from the top: the longest lists with which the cells of both end, and
-/// with which what is beneath BP ends in both, and nothing saved or pending.
+/// What two shapes have in common from the top: the longest lists with which the cells of both end,
+/// and with which what is beneath BP ends in both, and nothing saved or pending.
 pub fn suffix(alloc: Global, a: &Shape, b: &Shape) -> Result<Shape, NoMemory>
     ensures cells { IfOk result (λ common. LongestSuffix a.now.cells b.now.cells common.cells) }
     ensures under { IfOk result (λ common. LongestSuffix a.now.under b.now.under common.under) }

@@ -1,6 +1,10 @@
 ghost use Rattle.std.specs.Prelude.{◌≡◌, ◌+◌, ◌<◌, ◌^◌, [], IfOk, IfSome};
 ghost use Rattle.ncs_code.specs.Plain.{plain, plain_lit};
-ghost use Rattle.stack_shape.specs.StackEffects.{added, compared, copied, counted, exchange, kept, kept_of, negated, no_effect, one_int, pushed, reckoned, removed, runs, stack_effect, two_alike, two_ints, type_of_both, type_of_lit, type_of_one, where_alike, written};
+ghost use Rattle.stack_shape.specs.StackEffects.{added, compared, copied, counted, exchange, kept};
+ghost use Rattle.stack_shape.specs.StackEffects.{kept_of, negated, no_effect, one_int, pushed};
+ghost use Rattle.stack_shape.specs.StackEffects.{reckoned, removed, runs, stack_effect, two_alike};
+ghost use Rattle.stack_shape.specs.StackEffects.{two_ints, type_of_both, type_of_lit, type_of_one};
+ghost use Rattle.stack_shape.specs.StackEffects.{where_alike, written};
 
 use crate::range::{CellRange, cell_count, depth_of, range_at};
 use crate::top_first::{TopFirst, same_types, top_types};
@@ -98,7 +102,8 @@ fn written<C: TopFirst, L: TopFirst>(
     cells: &C,
     slots: &L,
 ) -> Result<Option<StackEffect>, NoMemory>
-    ensures { IfOk result (λ effect. effect ≡ written range (C.slots cells.now) (L.slots slots.now)) }
+    ensures { IfOk result (λ effect. effect
+        ≡ written range (C.slots cells.now) (L.slots slots.now)) }
 {
     match range {
         None => Ok(None),
@@ -254,7 +259,7 @@ fn two_alike<C: TopFirst>(
 /// The type of one value, by its type byte.
 #[tactic(auto, unfolding(crate::specs::StackEffects::type_of_one))]
 pub fn type_of_one(kind: u8) -> Option<Ty>
-    ensures { result ≡ type_of_one kind }
+    ensures ty { result ≡ type_of_one kind }
 {
     match kind {
         0x03 => Some(Ty::Int),
@@ -268,8 +273,8 @@ pub fn type_of_one(kind: u8) -> Option<Ty>
 
 /// The type of two values that are compared, by their type byte.
 #[tactic(auto, unfolding(crate::specs::StackEffects::type_of_both))]
-fn type_of_both(kind: u8) -> Option<Ty>
-    ensures { result ≡ type_of_both kind }
+pub fn type_of_both(kind: u8) -> Option<Ty>
+    ensures ty { result ≡ type_of_both kind }
 {
     match kind {
         0x20 => Some(Ty::Int),
@@ -351,7 +356,8 @@ fn negated<C: TopFirst>(alloc: Global, kind: u8, cells: &C) -> Result<Option<Sta
     }
 }
 
-/// The effect of an instruction that changes nothing but the cells, or `None` where it has no rule on them.
+/// The effect of an instruction that changes nothing but the cells, or `None` where it has no rule
+/// on them.
 #[tactic(auto, unfolding(crate::specs::StackEffects::stack_effect))]
 pub fn stack_effect<U: TopFirst, C: TopFirst>(
     alloc: Global,
@@ -359,7 +365,8 @@ pub fn stack_effect<U: TopFirst, C: TopFirst>(
     under: &U,
     cells: &C,
 ) -> Result<Option<StackEffect>, NoMemory>
-    ensures { IfOk result (λ effect. effect ≡ stack_effect (plain op.now) (U.slots under.now) (C.slots cells.now)) }
+    ensures effect { IfOk result (λ effect. effect
+        ≡ stack_effect (plain op.now) (U.slots under.now) (C.slots cells.now)) }
 {
     match op {
         Op::CpDownSp { offset, size } => written(alloc, range_at(*offset, *size), cells, cells),

@@ -1,13 +1,17 @@
-ghost use Rattle.stack_shape.specs.Laws.{CallsLookFromTop, CallsPopValues, CellsOfBytes, DepthOfOffset, EffectsLookFromTop, EffectsPopValues, NumbersOfRange, RangeOfNumbers, RuleLooksFromTop, StoresLookFromTop, ValuesAreThere};
+ghost use Rattle.stack_shape.specs.Laws.{CallsLookFromTop, CallsPopValues, CellsOfBytes};
+ghost use Rattle.stack_shape.specs.Laws.{DepthOfOffset, EffectsLookFromTop, EffectsPopValues};
+ghost use Rattle.stack_shape.specs.Laws.{NumbersOfRange, RangeOfNumbers, RuleLooksFromTop};
+ghost use Rattle.stack_shape.specs.Laws.{StoresLookFromTop, ValuesAreThere};
 
-/// Four bytes are one cell, and an offset of four bytes down for each cell reaches so many cells down.
+/// Four bytes are one cell, and an offset of four bytes down for each cell reaches so many cells
+/// down.
 pub fn cells_of_bytes()
     ensures count { CellsOfBytes }
     ensures depth { DepthOfOffset }
 {}
 
-/// The ranges are those of a positive number of cells that begins at a depth and ends at or below the end
-/// from which the depth counts.
+/// The ranges are those of a positive number of cells that begins at a depth and ends at or below
+/// the end from which the depth counts.
 pub fn ranges_of_cells()
     ensures every { RangeOfNumbers }
     ensures no_other { NumbersOfRange }
@@ -20,8 +24,8 @@ pub fn effects_pop_values()
     ensures there { ValuesAreThere }
 {}
 
-/// Where an instruction has a rule, it has the same one with further cells beneath, and leaves those as they
-/// are.
+/// Where an instruction has a rule, it has the same one with further cells beneath, and leaves
+/// those as they are.
 pub fn rules_look_from_the_top()
     ensures effects { EffectsLookFromTop }
     ensures calls { CallsLookFromTop }

@@ -25,7 +25,7 @@ pub fn cell_count(bytes: u32) -> Option<usize>
 /// How many cells lie from an offset to the end that it counts from.
 #[tactic(auto, unfolding(crate::specs::Ranges::depth_of))]
 pub fn depth_of(offset: i32) -> Option<usize>
-    ensures { result ≡ depth_of offset }
+    ensures depth { result ≡ depth_of offset }
 {
     if 0 < offset {
         None
@@ -52,7 +52,7 @@ fn range_of(depth: usize, count: usize) -> Option<CellRange>
 /// The cells at an offset.
 #[tactic(auto, unfolding(crate::specs::Ranges::range_at))]
 pub fn range_at(offset: i32, size: u16) -> Option<CellRange>
-    ensures { result ≡ range_at offset size }
+    ensures range { result ≡ range_at offset size }
 {
     range_of(depth_of(offset)?, cell_count(size as u32)?)
 }

@@ -2,7 +2,8 @@ ghost use Rattle.std.specs.Prelude.{◌≡◌, ◌+◌, ◌<◌, ◌≤◌, ◌^
 ghost use Rattle.std.specs.Option.{option_map};
 ghost use Rattle.ncs_code.specs.Plain.{plain};
 ghost use Rattle.stack_shape.specs.Calls.{action_count};
-ghost use Rattle.stack_shape.specs.Rule.{IsOneStep, affected, based, called_with, restored, rule, stored, top_first};
+ghost use Rattle.stack_shape.specs.Rule.{IsOneStep, affected, based, called_with, restored, rule};
+ghost use Rattle.stack_shape.specs.Rule.{stored, top_first};
 
 use crate::call::{action_count, call_effect};
 use crate::effect::{StackEffect, stack_effect};
@@ -20,7 +21,8 @@ fn affected(
     shape: &Shape,
     pending: u32,
 ) -> Result<Option<Shape>, NoMemory>
-    ensures { IfOk result (λ after. option_map top_first after ≡ affected effect (record (top_first shape.now) { pending = pending })) }
+    ensures { IfOk result (λ after. option_map top_first after
+        ≡ affected effect (record (top_first shape.now) { pending = pending })) }
 {
     match effect {
         None => Ok(None),
@@ -51,7 +53,8 @@ fn based(alloc: Global, shape: &Shape) -> Result<Shape, NoMemory>
 
 /// RESTOREBP.
 fn restored(alloc: Global, shape: &Shape) -> Result<Option<Shape>, NoMemory>
-    ensures { IfOk result (λ after. option_map top_first after ≡ restored (top_first shape.now).cells (top_first shape.now).saved shape.now.pending) }
+    ensures { IfOk result (λ after. let before = top_first shape.now in
+        option_map top_first after ≡ restored before.cells before.saved before.pending) }
 {
     match (shape.cells.as_slice(), shape.saved.as_slice()) {
         ([cells @ .., Slot::Base], [saved @ .., under]) => Ok(Some(Shape {
@@ -72,7 +75,8 @@ fn stored(
     shape: &Shape,
 ) -> Result<Option<Shape>, NoMemory>
     requires { shape.now.pending < 2 ^ 31 }
-    ensures { IfOk result (λ after. option_map top_first after ≡ stored globals locals (top_first shape.now)) }
+    ensures { IfOk result (λ after. option_map top_first after
+        ≡ stored globals locals (top_first shape.now)) }
 {
     let under = shape.under.as_slice();
     let cells = shape.cells.as_slice();
@@ -94,7 +98,8 @@ fn called_with(
     count: u8,
     shape: &Shape,
 ) -> Result<Option<Shape>, NoMemory>
-    ensures { IfOk result (λ after. option_map top_first after ≡ called_with routine.now count (top_first shape.now)) }
+    ensures { IfOk result (λ after. option_map top_first after
+        ≡ called_with routine.now count (top_first shape.now)) }
 {
     let cells = shape.cells.as_slice();
     let effect = call_effect(alloc, routine, count, shape.pending, &cells)?;
@@ -103,8 +108,8 @@ fn called_with(
     affected(alloc, effect, shape, pending)
 }
 
-/// The shape after one instruction that is neither JSR nor RETN, or `None` exactly where it has no rule on
-/// this shape. A jump has the one shape at both of its places.
+/// The shape after one instruction that is neither JSR nor RETN, or `None` exactly where it has no
+/// rule on this shape. A jump has the one shape at both of its places.
 #[tactic(auto, unfolding(crate::specs::Rule::rule))]
 pub fn step(
     alloc: Global,
@@ -114,7 +119,8 @@ pub fn step(
 ) -> Result<Option<Shape>, NoMemory>
     requires one { IsOneStep (plain op.now) }
     requires pending { shape.now.pending < 2 ^ 31 }
-    ensures { IfOk result (λ after. option_map top_first after ≡ rule table.now (plain op.now) (top_first shape.now)) }
+    ensures after { IfOk result (λ after. option_map top_first after
+        ≡ rule table.now (plain op.now) (top_first shape.now)) }
 {
     match op {
         Op::Action { routine, count } => match table.routine(*routine) {

@@ -20,14 +20,15 @@ pub struct Shape {
     pub cells: Slots,
     /// The cells beneath BP that an offset from BP may reach.
     pub under: Slots,
-    /// For each SAVEBP of the routine that no RESTOREBP has ended yet: what was beneath BP before it.
+    /// For each SAVEBP of the routine that no RESTOREBP has ended yet: what was beneath BP before
+    /// it.
     pub saved: Unders,
     /// How many states the routine has stored that no engine call has taken yet.
     pub pending: u32,
 }
 
-/// How control comes to a routine: as the script's start, by a call of the place, or by resuming the state
-/// that the instruction at this place stored.
+/// How control comes to a routine: as the script's start, by a call of the place, or by resuming
+/// the state that the instruction at this place stored.
 #[derive(Clone, Copy, PartialEq, Eq)]
 pub enum Entry {
     Start,

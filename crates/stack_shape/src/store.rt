@@ -21,7 +21,8 @@ fn found_types<U: TopFirst, C: TopFirst>(
     under: &U,
     cells: &C,
 ) -> Result<Option<StoredTypes>, NoMemory>
-    ensures { IfOk result (λ types. types ≡ found_types globals locals (U.slots under.now) (C.slots cells.now)) }
+    ensures { IfOk result (λ types. types
+        ≡ found_types globals locals (U.slots under.now) (C.slots cells.now)) }
 {
     match top_types(alloc, under, globals)? {
         None => Ok(None),
@@ -32,8 +33,8 @@ fn found_types<U: TopFirst, C: TopFirst>(
     }
 }
 
-/// The types of so many bytes of globals and of locals, or `None` where one of these cells isn't there or is
-/// a base.
+/// The types of so many bytes of globals and of locals, or `None` where one of these cells isn't
+/// there or is a base.
 #[tactic(auto, unfolding(crate::specs::Stored::stored_types))]
 pub fn stored_types<U: TopFirst, C: TopFirst>(
     alloc: Global,
@@ -42,7 +43,8 @@ pub fn stored_types<U: TopFirst, C: TopFirst>(
     under: &U,
     cells: &C,
 ) -> Result<Option<StoredTypes>, NoMemory>
-    ensures { IfOk result (λ types. types ≡ stored_types globals locals (U.slots under.now) (C.slots cells.now)) }
+    ensures types { IfOk result (λ types. types
+        ≡ stored_types globals locals (U.slots under.now) (C.slots cells.now)) }
 {
     match (cell_count(globals), cell_count(locals)) {
         (Some(globals), Some(locals)) => found_types(alloc, globals, locals, under, cells),

@@ -1,4 +1,5 @@
-ghost use Rattle.std.specs.Prelude.{◌≡◌, ◌↔◌, IsTrue, IfSome, ◌∷◌, ◌++◌, [], IfOk, List, drop, map, reverse, slice_get, take, length, ◌≤◌, ◌-◌};
+ghost use Rattle.std.specs.Prelude.{◌≡◌, ◌↔◌, IsTrue, IfSome, ◌∷◌, ◌++◌, [], IfOk, List, drop, map};
+ghost use Rattle.std.specs.Prelude.{reverse, slice_get, take, length, ◌≤◌, ◌-◌};
 ghost use Rattle.nwq_value.specs.Roles.{tys_eq};
 ghost use Rattle.stack_shape.specs.StackEffects.{after_effect};
 ghost use Rattle.stack_shape.specs.TopFirst.{types_at, types_on};
@@ -11,16 +12,17 @@ use crate::shape::{Slot, Slots, Unders};
 use nwq_value::{NoMemory, Ty, Tys};
 use std::alloc::Global;
 
-/// A list of slots that is seen from its top. The rule of an instruction asks no more of a list than this,
-/// so lists that share their lower parts have the same rule as plain ones.
+/// A list of slots that is seen from its top. The rule of an instruction asks no more of a list
+/// than this, so lists that share their lower parts have the same rule as plain ones.
 pub trait TopFirst {
     /// The slots, the top one first.
     ghost slots: { Self → List Slot };
 
-    /// The types of the slots of a range, the top one first, where they are there and none is a base.
+    /// The types of the slots of a range, the top one first, where they are there and none is a
+    /// base.
     fn types_at(&self, alloc: Global, range: CellRange) -> Result<Option<Tys>, NoMemory>
         ensures types { IfOk result (λ types. types ≡ types_at range (slots self.now)) }
-        ensures length { IfOk result (λ types. IfSome types (λ types. length types ≡ range.count)) };
+        ensures count { IfOk result (λ types. IfSome types (λ types. length types ≡ range.count)) };
 }
 
 /// Slots that grow at their end: the top one is last.
@@ -67,8 +69,9 @@ fn lower(slots: &[Slot], above: usize) -> &[Slot]
     }
 }
 
-/// The types of so many slots from the top, the top one first, where they are there and none is a base.
-#[tactic(auto, using(crate::proofs::Tops::so_far_none, crate::proofs::Tops::so_far_more, crate::proofs::Tops::so_far_base, crate::proofs::Tops::so_far_end, crate::proofs::Tops::so_far_all, crate::proofs::Tops::so_far_size))]
+/// The types of so many slots from the top, the top one first, where they are there and none is a
+/// base.
+#[tactic(auto, using(crate::proofs::Tops::reading))]
 fn types_on(alloc: Global, slots: &[Slot], count: usize) -> Result<Option<Tys>, NoMemory>
     ensures types { IfOk result (λ types. types ≡ types_on count (reverse slots.now)) }
     ensures length { IfOk result (λ types. IfSome types (λ types. length types ≡ count)) }
