@@ -49,12 +49,12 @@ fn read_into<F: Files>(
     ensures fault { IfErr result (IsReadFault name.now) }
     ensures told { IsTrue F.tells → IfErr result (ExplainsRead
         (map.get (F.contents files.old)) name.now) }
-
     ensures same { F.contents files.new ≡ F.contents files.old }
     ensures counts { CountsGathered result
         (file_counts (F.faults files.old) (F.absences files.old) (F.longs files.old))
         (file_counts (F.faults files.new) (F.absences files.new) (F.longs files.new)) }
 {
+    // The name of a refusal is made before the read: so want of memory for it raises no count.
     let refused = Text::of(alloc, name.as_bytes())?;
     match files.read(alloc, name) {
         Read::Bytes(bytes) => {
@@ -136,7 +136,6 @@ impl Gatherer {
         ensures fault { IfErr result (IsReadFault name.now) }
         ensures told { IsTrue F.tells → IfErr result (ExplainsRead
             (map.get (F.contents files.old)) name.now) }
-
         ensures same { F.contents files.new ≡ F.contents files.old }
         ensures counts { CountsGathered result
             (file_counts (F.faults files.old) (F.absences files.old) (F.longs files.old))
@@ -178,7 +177,6 @@ impl Gatherer {
         ensures stops { IfErr result (λ fault. Claims fault ((lookup : Lookup)
             → Explains lookup fault → Stops lookup (reopened here self.old) fault)) }
         ensures told { IsTrue F.tells → IfErr result (Explains (map.get (F.contents files.old))) }
-
         ensures same { F.contents files.new ≡ F.contents files.old }
         ensures counts { CountsGathered result
             (file_counts (F.faults files.old) (F.absences files.old) (F.longs files.old))
@@ -231,7 +229,6 @@ impl Gatherer {
         ensures stops { IfErr result (λ fault. Claims fault ((lookup : Lookup)
             → Explains lookup fault → Stops lookup (reopened here self.old) fault)) }
         ensures told { IsTrue F.tells → IfErr result (Explains (map.get (F.contents files.old))) }
-
         ensures same { F.contents files.new ≡ F.contents files.old }
         ensures counts { CountsGathered result
             (file_counts (F.faults files.old) (F.absences files.old) (F.longs files.old))
@@ -272,7 +269,6 @@ impl Gatherer {
         ensures stops { IsTrue F.tells → HoldsFiles
             (map.get (F.contents files.old)) self.old.unit.files → IfErr result
             (λ fault. Claims fault (ComesTo (map.get (F.contents files.old)) self.old fault)) }
-
         ensures same { F.contents files.new ≡ F.contents files.old }
         ensures counts { CountsGathered result
             (file_counts (F.faults files.old) (F.absences files.old) (F.longs files.old))
@@ -296,7 +292,6 @@ fn begin<F: Files>(alloc: Global, files: &mut F, script: &str) -> Result<Gathere
     ensures fault { IfErr result (IsReadFault (file_name script.now)) }
     ensures told { IsTrue F.tells → IfErr result (ExplainsRead
         (map.get (F.contents files.old)) (file_name script.now)) }
-
     ensures same { F.contents files.new ≡ F.contents files.old }
     ensures counts { CountsGathered result
         (file_counts (F.faults files.old) (F.absences files.old) (F.longs files.old))
