@@ -6,12 +6,12 @@ ghost use Rattle.nss_parser.specs.Sentence.{OneTree, TreeOrPlace};
 
 /// A list of tokens has at most one tree.
 pub fn one_tree()
-    ensures { OneTree }
+    ensures one { OneTree }
 {}
 
 /// A list of tokens has a tree, or a place where it can have none.
 pub fn tree_or_place()
-    ensures { TreeOrPlace }
+    ensures either { TreeOrPlace }
 {}
 
 /// A list of tokens is refused for one reason, and one that has a tree and nests within the limit
@@ -24,5 +24,5 @@ pub fn one_refusal()
 /// A tree has no more nodes, variables, structs and bodies than its unit has tokens, and each
 /// node's token is the unit's.
 pub fn within_tokens()
-    ensures { EachTreeWithinTokens }
+    ensures within { EachTreeWithinTokens }
 {}

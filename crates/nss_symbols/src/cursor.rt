@@ -77,7 +77,7 @@ impl<'a> Cursor<'a> {
     pub fn new(symbols: &'a [Seen<'a>]) -> Cursor<'a>
         requires count { length symbols.now < 2 ^ 32 }
         requires sound { AreSound symbols.now }
-        ensures { result ≡ numbered_from 0 (map plain_symbol symbols.now) }
+        ensures all { result ≡ numbered_from 0 (map plain_symbol symbols.now) }
     {
         Cursor {
             ahead: symbols,
@@ -87,7 +87,7 @@ impl<'a> Cursor<'a> {
 
     /// How many tokens are left.
     pub fn left(&self) -> usize
-        ensures { result ≡ length self.now }
+        ensures count { result ≡ length self.now }
     {
         self.ahead.len()
     }
@@ -105,7 +105,7 @@ impl<'a> Cursor<'a> {
 
     /// The number of the next token, which stays.
     pub fn here(&self) -> Result<u32, Misfit>
-        ensures { Passes (λ n. n) (read.here self.now) result self.now }
+        ensures read { Passes (λ n. n) (read.here self.now) result self.now }
     {
         match self.ahead {
             [] => Err(Misfit),
@@ -115,7 +115,7 @@ impl<'a> Cursor<'a> {
 
     /// Passes the next token, and gives its number.
     pub fn take(&mut self) -> Result<u32, Misfit>
-        ensures { Passes (λ n. n) (read.take self.old) result self.new }
+        ensures read { Passes (λ n. n) (read.take self.old) result self.new }
     {
         match self.ahead {
             [] => Err(Misfit),
@@ -131,7 +131,7 @@ impl<'a> Cursor<'a> {
     /// Whether this terminal comes next.
     #[tactic(auto, unfolding(crate::specs::Outcome::same_terminal))]
     pub fn sees(&self, terminal: Terminal) -> bool
-        ensures { result ≡ read.sees terminal self.now }
+        ensures next { result ≡ read.sees terminal self.now }
     {
         match self.peek() {
             Some(Seen::Fixed(next)) => terminal == next,
@@ -141,7 +141,7 @@ impl<'a> Cursor<'a> {
 
     /// Passes this terminal.
     pub fn expect(&mut self, terminal: Terminal) -> Result<u32, Misfit>
-        ensures { Passes (λ n. n) (read.expect terminal self.old) result self.new }
+        ensures read { Passes (λ n. n) (read.expect terminal self.old) result self.new }
     {
         if self.sees(terminal) {
             self.take()
@@ -152,7 +152,7 @@ impl<'a> Cursor<'a> {
 
     /// Passes a name.
     pub fn name(&mut self, alloc: Global) -> Result<Text, Stop>
-        ensures { Reads (λ bytes. bytes) (read.name self.old) result self.new }
+        ensures read { Reads (λ bytes. bytes) (read.name self.old) result self.new }
     {
         match self.peek() {
             Some(Seen::Name(bytes)) => {

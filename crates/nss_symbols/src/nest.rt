@@ -291,8 +291,8 @@ fn terminal_at(symbols: &[Seen<'_>], at: usize) -> Option<Terminal>
 
 /// The number of the first token whose nest passes the limit of 256, counted from 0.
 pub fn first_over(alloc: Global, symbols: &[Seen<'_>]) -> Result<Option<u32>, NoMemory>
-    requires { length symbols.now < 2 ^ 32 }
-    ensures { IfOk result (IsNestAnswer (map plain_symbol symbols.now)) }
+    requires count { length symbols.now < 2 ^ 32 }
+    ensures first { IfOk result (IsNestAnswer (map plain_symbol symbols.now)) }
 {
     let mut nest = Nest::new(alloc);
     let mut before = None;

@@ -31,8 +31,8 @@ pub enum Seen<'a> {
 /// A name's bytes as a text.
 #[tactic(auto, using(crate::proofs::NameLemmas::take_name))]
 pub fn name_text(alloc: Global, bytes: &[u8]) -> Result<Text, NoMemory>
-    requires { length bytes.now ≤ name_limit }
-    ensures { IfOk result (λ text. text ≡ bytes.now) }
+    requires fits { length bytes.now ≤ name_limit }
+    ensures text { IfOk result (λ text. text ≡ bytes.now) }
 {
     Text::of(alloc, bytes)
 }
@@ -65,7 +65,7 @@ fn seen_of<'a>(token: &Token<'a>) -> Seen<'a>
 
 /// What the grammar sees of a unit's tokens.
 pub fn seen_all<'a>(alloc: Global, tokens: &[Token<'a>]) -> Result<Vec<Seen<'a>>, NoMemory>
-    requires { AllByRecursion IsToken tokens.now }
+    requires tokens { AllByRecursion IsToken tokens.now }
     ensures same { IfOk result (λ all. map plain_symbol all.items ≡ symbols_of tokens.now) }
     ensures sound { IfOk result (λ all. AreSound all.items) }
 {

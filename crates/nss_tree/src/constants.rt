@@ -59,7 +59,7 @@ impl Constant {
     /// An int, whose number is taken as a signed one of 32 bits; `negated` where a `-` stands
     /// before it.
     pub fn int(token: u32, negated: bool, value: u32) -> Constant
-        ensures { result ≡ constant.Int token negated (cast_signed w32 value) }
+        ensures made { result ≡ constant.Int token negated (cast_signed w32 value) }
     {
         Constant::Int {
             token,

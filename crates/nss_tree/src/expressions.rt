@@ -72,7 +72,7 @@ pub enum Expr {
 impl Expr {
     /// An int literal, whose number is taken as a signed one of 32 bits.
     pub fn int(token: u32, value: u32) -> Expr
-        ensures { plain_expr result ≡ tree.int token (cast_signed w32 value) }
+        ensures made { plain_expr result ≡ tree.int token (cast_signed w32 value) }
     {
         Expr::Int {
             token,
@@ -81,37 +81,37 @@ impl Expr {
     }
 
     pub fn float(token: u32) -> Expr
-        ensures { plain_expr result ≡ tree.float token }
+        ensures made { plain_expr result ≡ tree.float token }
     {
         Expr::Float { token }
     }
 
     pub fn text(token: u32, value: Text) -> Expr
-        ensures { plain_expr result ≡ tree.text token value }
+        ensures made { plain_expr result ≡ tree.text token value }
     {
         Expr::Text { token, value }
     }
 
     pub fn object_self(token: u32) -> Expr
-        ensures { plain_expr result ≡ tree.object_self token }
+        ensures made { plain_expr result ≡ tree.object_self token }
     {
         Expr::ObjectSelf { token }
     }
 
     pub fn object_invalid(token: u32) -> Expr
-        ensures { plain_expr result ≡ tree.object_invalid token }
+        ensures made { plain_expr result ≡ tree.object_invalid token }
     {
         Expr::ObjectInvalid { token }
     }
 
     pub fn name(token: u32, name: Text) -> Expr
-        ensures { plain_expr result ≡ tree.name token name }
+        ensures made { plain_expr result ≡ tree.name token name }
     {
         Expr::Name { token, name }
     }
 
     pub fn call(token: u32, name: Text, arguments: Items<Expr>) -> Expr
-        ensures { plain_expr result ≡ tree.call token name (plain_exprs arguments) }
+        ensures made { plain_expr result ≡ tree.call token name (plain_exprs arguments) }
     {
         Expr::Call {
             token,
@@ -121,7 +121,7 @@ impl Expr {
     }
 
     pub fn member(alloc: Global, token: u32, of: Expr, name: Text) -> Result<Expr, NoMemory>
-        ensures { IfOk result (λ e. plain_expr e ≡ tree.member token (plain_expr of) name) }
+        ensures made { IfOk result (λ e. plain_expr e ≡ tree.member token (plain_expr of) name) }
     {
         Ok(Expr::Member {
             token,
@@ -136,7 +136,7 @@ impl Expr {
         operator: PrefixOperator,
         of: Expr,
     ) -> Result<Expr, NoMemory>
-        ensures { IfOk result (λ e. plain_expr e ≡ tree.prefix token operator (plain_expr of)) }
+        ensures made { IfOk result (λ e. plain_expr e ≡ tree.prefix token operator (plain_expr of)) }
     {
         Ok(Expr::Prefix {
             token,
@@ -151,7 +151,8 @@ impl Expr {
         operator: PostfixOperator,
         of: Expr,
     ) -> Result<Expr, NoMemory>
-        ensures { IfOk result (λ e. plain_expr e ≡ tree.postfix token operator (plain_expr of)) }
+        ensures made { IfOk result
+            (λ e. plain_expr e ≡ tree.postfix token operator (plain_expr of)) }
     {
         Ok(Expr::Postfix {
             token,
@@ -167,7 +168,7 @@ impl Expr {
         left: Expr,
         right: Expr,
     ) -> Result<Expr, NoMemory>
-        ensures { IfOk result
+        ensures made { IfOk result
             (λ e. plain_expr e ≡ tree.binary token operator (plain_expr left) (plain_expr right)) }
     {
         Ok(Expr::Binary {
@@ -185,7 +186,7 @@ impl Expr {
         place: Expr,
         value: Expr,
     ) -> Result<Expr, NoMemory>
-        ensures { IfOk result
+        ensures made { IfOk result
             (λ e. plain_expr e ≡ tree.assign token operator (plain_expr place) (plain_expr value)) }
     {
         Ok(Expr::Assign {

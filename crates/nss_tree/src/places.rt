@@ -259,7 +259,7 @@ impl Tree {
     /// their count on.
     #[tactic(auto, using(crate::proofs::SeekLaws::place_is))]
     pub fn place(&self, node: u32) -> Option<u32>
-        ensures { result ≡ slice_get (places (plain_tree self.now)) node }
+        ensures token { result ≡ slice_get (places (plain_tree self.now)) node }
     {
         let mut seek = Seek::Ahead(node);
         for item in self.items.as_slice() {

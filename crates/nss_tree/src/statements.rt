@@ -94,7 +94,7 @@ pub enum Stmt<E = Expr, C = Constant, T = TypeName, N = Text> {
 #[tactic(auto, using(crate::specs::Readings::plain_laws))]
 impl<E: Drop, C: Drop, T: Drop, N: Drop> Stmt<E, C, T, N> {
     pub fn block(token: u32, items: Items<Stmt<E, C, T, N>>) -> Stmt<E, C, T, N>
-        ensures { tree_of_stmt result ≡ tree.block token (tree_of_stmts items) }
+        ensures made { tree_of_stmt result ≡ tree.block token (tree_of_stmts items) }
     {
         Stmt::Block {
             token,
@@ -103,13 +103,13 @@ impl<E: Drop, C: Drop, T: Drop, N: Drop> Stmt<E, C, T, N> {
     }
 
     pub fn empty(token: u32) -> Stmt<E, C, T, N>
-        ensures { tree_of_stmt result ≡ tree.empty token }
+        ensures made { tree_of_stmt result ≡ tree.empty token }
     {
         Stmt::Empty { token }
     }
 
     pub fn expression(token: u32, value: E) -> Stmt<E, C, T, N>
-        ensures { tree_of_stmt result ≡ tree.expression token value }
+        ensures made { tree_of_stmt result ≡ tree.expression token value }
     {
         Stmt::Expression { token, value }
     }
@@ -120,7 +120,7 @@ impl<E: Drop, C: Drop, T: Drop, N: Drop> Stmt<E, C, T, N> {
         condition: E,
         then: Stmt<E, C, T, N>,
     ) -> Result<Stmt<E, C, T, N>, NoMemory>
-        ensures { IfOk result
+        ensures made { IfOk result
             (λ s. tree_of_stmt s ≡ tree.if_only token condition (tree_of_stmt then)) }
     {
         Ok(Stmt::If {
@@ -137,7 +137,7 @@ impl<E: Drop, C: Drop, T: Drop, N: Drop> Stmt<E, C, T, N> {
         then: Stmt<E, C, T, N>,
         otherwise: Stmt<E, C, T, N>,
     ) -> Result<Stmt<E, C, T, N>, NoMemory>
-        ensures { IfOk result
+        ensures made { IfOk result
             (λ s. tree_of_stmt s ≡ tree.if_else token condition (tree_of_stmt then)
             (tree_of_stmt otherwise)) }
     {
@@ -161,7 +161,7 @@ impl<E: Drop, C: Drop, T: Drop, N: Drop> Stmt<E, C, T, N> {
         condition: E,
         body: Stmt<E, C, T, N>,
     ) -> Result<Stmt<E, C, T, N>, NoMemory>
-        ensures { IfOk result
+        ensures made { IfOk result
             (λ s. tree_of_stmt s ≡ tree.while_loop token condition (tree_of_stmt body)) }
     {
         Ok(Stmt::While {
@@ -177,7 +177,7 @@ impl<E: Drop, C: Drop, T: Drop, N: Drop> Stmt<E, C, T, N> {
         body: Stmt<E, C, T, N>,
         condition: E,
     ) -> Result<Stmt<E, C, T, N>, NoMemory>
-        ensures { IfOk result
+        ensures made { IfOk result
             (λ s. tree_of_stmt s ≡ tree.do_loop token (tree_of_stmt body) condition) }
     {
         Ok(Stmt::Do {
@@ -195,7 +195,7 @@ impl<E: Drop, C: Drop, T: Drop, N: Drop> Stmt<E, C, T, N> {
         step: Option<E>,
         body: Stmt<E, C, T, N>,
     ) -> Result<Stmt<E, C, T, N>, NoMemory>
-        ensures { IfOk result
+        ensures made { IfOk result
             (λ s. tree_of_stmt s ≡ tree.for_loop token start condition step (tree_of_stmt body)) }
     {
         Ok(Stmt::For {
@@ -208,7 +208,7 @@ impl<E: Drop, C: Drop, T: Drop, N: Drop> Stmt<E, C, T, N> {
     }
 
     pub fn switch(token: u32, value: E, body: Items<Stmt<E, C, T, N>>) -> Stmt<E, C, T, N>
-        ensures { tree_of_stmt result ≡ tree.switch token value (tree_of_stmts body) }
+        ensures made { tree_of_stmt result ≡ tree.switch token value (tree_of_stmts body) }
     {
         Stmt::Switch {
             token,
@@ -218,37 +218,37 @@ impl<E: Drop, C: Drop, T: Drop, N: Drop> Stmt<E, C, T, N> {
     }
 
     pub fn break_off(token: u32) -> Stmt<E, C, T, N>
-        ensures { tree_of_stmt result ≡ tree.break_off token }
+        ensures made { tree_of_stmt result ≡ tree.break_off token }
     {
         Stmt::Break { token }
     }
 
     pub fn continue_on(token: u32) -> Stmt<E, C, T, N>
-        ensures { tree_of_stmt result ≡ tree.continue_on token }
+        ensures made { tree_of_stmt result ≡ tree.continue_on token }
     {
         Stmt::Continue { token }
     }
 
     pub fn return_from(token: u32, value: Option<E>) -> Stmt<E, C, T, N>
-        ensures { tree_of_stmt result ≡ tree.return_from token value }
+        ensures made { tree_of_stmt result ≡ tree.return_from token value }
     {
         Stmt::Return { token, value }
     }
 
     pub fn declaration(token: u32, ty: T, names: Items<DeclaredName<E, N>>) -> Stmt<E, C, T, N>
-        ensures { tree_of_stmt result ≡ tree.declaration token ty names }
+        ensures made { tree_of_stmt result ≡ tree.declaration token ty names }
     {
         Stmt::Declaration { token, ty, names }
     }
 
     pub fn case_label(token: u32, value: C) -> Stmt<E, C, T, N>
-        ensures { tree_of_stmt result ≡ tree.case_label token value }
+        ensures made { tree_of_stmt result ≡ tree.case_label token value }
     {
         Stmt::Case { token, value }
     }
 
     pub fn default_label(token: u32) -> Stmt<E, C, T, N>
-        ensures { tree_of_stmt result ≡ tree.default_label token }
+        ensures made { tree_of_stmt result ≡ tree.default_label token }
     {
         Stmt::Default { token }
     }

@@ -67,7 +67,7 @@ pub enum Item<E = Expr, C = Constant, T = TypeName, N = Text> {
 
 impl<E: Drop, C: Drop, T: Drop, N: Drop> Item<E, C, T, N> {
     pub fn structure(token: u32, name: Text, fields: Items<FieldLine<T>>) -> Item<E, C, T, N>
-        ensures { tree_of_item result ≡ tree.structure token name fields }
+        ensures made { tree_of_item result ≡ tree.structure token name fields }
     {
         Item::Struct {
             token,
@@ -77,7 +77,7 @@ impl<E: Drop, C: Drop, T: Drop, N: Drop> Item<E, C, T, N> {
     }
 
     pub fn constant(token: u32, ty: T, name: Identifier, value: C) -> Item<E, C, T, N>
-        ensures { tree_of_item result ≡ tree.constant token ty name value }
+        ensures made { tree_of_item result ≡ tree.constant token ty name value }
     {
         Item::Const {
             token,
@@ -88,7 +88,7 @@ impl<E: Drop, C: Drop, T: Drop, N: Drop> Item<E, C, T, N> {
     }
 
     pub fn global(token: u32, ty: T, names: Items<DeclaredName<E, N>>) -> Item<E, C, T, N>
-        ensures { tree_of_item result ≡ tree.global token ty names }
+        ensures made { tree_of_item result ≡ tree.global token ty names }
     {
         Item::Global { token, ty, names }
     }
@@ -100,7 +100,7 @@ impl<E: Drop, C: Drop, T: Drop, N: Drop> Item<E, C, T, N> {
         parameters: Items<Parameter<C, T, N>>,
         body: Option<Items<Stmt<E, C, T, N>>>,
     ) -> Item<E, C, T, N>
-        ensures { tree_of_item result ≡ tree.function token ty name parameters
+        ensures made { tree_of_item result ≡ tree.function token ty name parameters
             (option_map tree_of_stmts body) }
     {
         Item::Function {
