@@ -3,7 +3,7 @@ use Rattle.std.proofs.Common.{◌≡◌, ◌<◌, ◌≤◌, ◌+◌, ◌-◌, �
 use Rattle.std.proofs.lemmas.List.{reverse-reverse, length-reverse, length-append, take_at, drop_at, take_all}
 use Rattle.saved_state.specs.declared.cell.Cell.{Cell}
 use Rattle.saved_state.specs.declared.cell.Cell.TheVariants.{Base}
-use Rattle.saved_state.specs.declared.cell.Saved.{Saved}
+use Rattle.saved_state.specs.declared.saved.Saved.{Saved}
 use Rattle.saved_state.specs.Cells.{cell_at, cells_beneath, resumed}
 use Rattle.saved_state.specs.Laws.{CapturedValues, CapturesAgain, ResumedValues}
 use Rattle.saved_state.proofs.Lists.{reverse_joined, get_dropped, get_taken, get_front, get_behind}

@@ -2,7 +2,7 @@
 use Rattle.std.specs.Prelude.{ℕ, ◌-◌, List, [], ◌∷◌, ◌++◌, length, take, drop, reverse, Option, Some, None, ◌==◌, if◌then◌else◌}
 use Rattle.saved_state.specs.declared.cell.Cell.{Cell}
 use Rattle.saved_state.specs.declared.cell.Cell.TheVariants.{Base}
-use Rattle.saved_state.specs.declared.cell.Saved.{Saved}
+use Rattle.saved_state.specs.declared.saved.Saved.{Saved}
 
 -- A stack: its cells, the top first, and BP, the place right beneath which the globals lie.
 pub record StackView : Type 0 where

@@ -1,7 +1,7 @@
 -- What stands where in a captured state and in the stack that resumes it.
 use Rattle.std.specs.Prelude.{◌≡◌, ℕ, ◌+◌, ◌-◌, ◌<◌, ◌≤◌, List, ◌∷◌, ◌++◌, Some, length, slice_get}
 use Rattle.saved_state.specs.declared.cell.Cell.{Cell}
-use Rattle.saved_state.specs.declared.cell.Saved.{Saved}
+use Rattle.saved_state.specs.declared.saved.Saved.{Saved}
 use Rattle.saved_state.specs.Cells.{StackView, cell_at, with_cell, cells_beneath, captured, resumed}
 
 -- The captured globals are the cells whose places end at BP, and the captured locals those whose places end at the top.

@@ -1,6 +1,5 @@
 ghost use Rattle.std.specs.Prelude.{◌≡◌, IfOk};
 
-use crate::cells::Cells;
 use nwq_value::{NoMemory, Value};
 use std::alloc::Global;
 
@@ -9,16 +8,6 @@ use std::alloc::Global;
 pub enum Cell {
     Value(Value),
     Base(usize),
-}
-
-/// A captured state: the number of its script, the place in that script's code at which it resumes, and
-/// the cells that hold the globals and the locals, each in the order of their places.
-#[derive(Drop)]
-pub struct Saved {
-    pub script: u32,
-    pub place: u32,
-    pub globals: Cells,
-    pub locals: Cells,
 }
 
 impl Cell {

@@ -16,9 +16,11 @@ mod cell;
 mod cells;
 mod laws;
 mod piece;
+mod saved;
 mod stack;
 
-pub use cell::{Cell, Saved};
+pub use cell::Cell;
 pub use cells::Cells;
 pub use laws::{captured_values, captures_again, places_split, resumed_values};
+pub use saved::Saved;
 pub use stack::{Stack, resume};

@@ -2,8 +2,9 @@ ghost use Rattle.std.specs.Prelude.{◌≡◌, ◌≢◌, ◌<◌, ◌≤◌, �
 ghost use Rattle.saved_state.specs.Cells.{cell_at, with_cell, captured, resumed};
 ghost use Rattle.saved_state.specs.declared.cell.Cell.TheVariants.{Value as ValueCell, Base as BaseCell};
 
-use crate::cell::{Cell, Saved};
+use crate::cell::Cell;
 use crate::cells::Cells;
+use crate::saved::Saved;
 use nwq_value::{NoMemory, Value};
 use std::alloc::Global;
 use std::marker::Model;
