@@ -11,7 +11,7 @@ use Rattle.nwq_value.specs.Values.{type_of}
 use Rattle.nwq_value.specs.Roles.{ty_eq}
 use Rattle.saved_state.specs.declared.cell.Cell.{Cell}
 use Rattle.saved_state.specs.declared.cell.Cell.TheVariants.{Value as Holds}
-use Rattle.saved_state.specs.declared.cell.Saved.{Saved}
+use Rattle.saved_state.specs.declared.saved.Saved.{Saved}
 use Rattle.stack_shape.specs.declared.effect.StackEffect.{StackEffect}
 use Rattle.stack_shape.specs.StackEffects.{exchange}
 use Rattle.stack_shape.specs.Calls.{is_action, is_callable, action_count, argument_types, result_types, fits_call, call_effect}

@@ -9,7 +9,7 @@ use Rattle.nwq_value.specs.Roles.{ty_eq, tys_eq, role_without_row}
 use Rattle.ncs_code.specs.Plain.{PlainOp}
 use Rattle.ncs_code.specs.Plain as ops
 use Rattle.ncs_code.specs.File.{op_at}
-use Rattle.saved_state.specs.declared.cell.Saved.{Saved}
+use Rattle.saved_state.specs.declared.saved.Saved.{Saved}
 use Rattle.stack_shape.specs.Ranges.{cell_count, depth_of, range_of, range_at}
 use Rattle.stack_shape.specs.Calls.{is_callable}
 use Rattle.stack_shape.specs.StackEffects.{type_of_one, type_of_both}

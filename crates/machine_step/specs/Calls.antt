@@ -11,7 +11,7 @@ use Rattle.nwq_value.specs.Values.{type_of}
 use Rattle.nwq_value.specs.Roles.{ty_eq}
 use Rattle.saved_state.specs.declared.cell.Cell.{Cell}
 use Rattle.saved_state.specs.declared.cell.Cell.TheVariants.{Value as Holds}
-use Rattle.saved_state.specs.declared.cell.Saved.{Saved}
+use Rattle.saved_state.specs.declared.saved.Saved.{Saved}
 use Rattle.stack_shape.specs.Calls.{is_action, is_callable}
 
 -- What a call takes, and what it leaves. No routine that can be called has two action parameters.

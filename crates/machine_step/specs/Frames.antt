@@ -1,6 +1,6 @@
 -- A running script.
 use Rattle.std.specs.Prelude.{ℕ, List, []}
-use Rattle.saved_state.specs.declared.cell.Saved.{Saved}
+use Rattle.saved_state.specs.declared.saved.Saved.{Saved}
 use Rattle.saved_state.specs.Cells.{StackView, resumed}
 use Rattle.ncs_code.specs.File.{header_size}
 

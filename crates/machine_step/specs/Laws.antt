@@ -3,7 +3,7 @@ use Rattle.std.specs.Prelude.{◌≡◌, ◌↔◌, ℕ, ◌+◌, ◌≤◌, Lis
 use Rattle.ncs_code.specs.Plain.{PlainOp, StoreState}
 use Rattle.ncs_code.specs.File.{resume_place}
 use Rattle.nwq_value.specs.declared.engine.Routine.{Routine}
-use Rattle.saved_state.specs.declared.cell.Saved.{Saved}
+use Rattle.saved_state.specs.declared.saved.Saved.{Saved}
 use Rattle.saved_state.specs.declared.cell.Cell.{Cell}
 use Rattle.saved_state.specs.Cells.{StackView, cells_beneath, resumed}
 use Rattle.stack_shape.specs.declared.store.StoredTypes.{StoredTypes}

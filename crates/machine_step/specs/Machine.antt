@@ -9,7 +9,7 @@ use Rattle.nwq_value.specs.Engine.{EngineTable}
 use Rattle.ncs_code.specs.Plain.{PlainOp}
 use Rattle.ncs_code.specs.File.{op_at}
 use Rattle.saved_state.specs.declared.cell.Cell.TheVariants.{Value as Holds}
-use Rattle.saved_state.specs.declared.cell.Saved.{Saved}
+use Rattle.saved_state.specs.declared.saved.Saved.{Saved}
 use Rattle.machine_step.specs.Frames.{Frame, started}
 use Rattle.machine_step.specs.Act.{Act, Moves, Asks, Executes, Returns, Divides, act}
 

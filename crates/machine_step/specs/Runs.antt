@@ -1,6 +1,6 @@
 -- An entry from its begin to its end, with a limit on its instructions.
 use Rattle.std.specs.Prelude.{ℕ, zero, suc, [], Option, None, Some}
-use Rattle.saved_state.specs.declared.cell.Saved.{Saved}
+use Rattle.saved_state.specs.declared.saved.Saved.{Saved}
 use Rattle.machine_step.specs.Frames.{Frame, started, continued}
 use Rattle.machine_step.specs.Machine.{Host, State, Next, Goes, Ends, Divided, step}
 
