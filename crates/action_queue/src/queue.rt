@@ -19,8 +19,8 @@ pub enum Item<X> {
 
 /// The actions that an object is still to do, in order, and its busy mark.
 ///
-/// The mark says that a Turn of the object is posted, or that its `Do` is being run, so that nobody need post
-/// another one. Only `set_busy` changes it.
+/// The mark says that a Turn of the object is posted, or that its `Do` is being run, so that nobody
+/// need post another one. Only `set_busy` changes it.
 #[derive(Drop)]
 pub struct Queue<X> {
     waiting: VecDeque<Item<X>>,
@@ -48,7 +48,8 @@ impl<X: Drop> Queue<X> {
 
     /// Puts an action last. After `NoMemory` it is dropped and the queue is as before.
     pub fn append(&mut self, item: Item<X>) -> Result<(), NoMemory>
-        ensures ok { OnOk result (self.new ≡ record self.old { actions = self.old.actions ++ item ∷ [] }) }
+        ensures ok { OnOk result
+            (self.new ≡ record self.old { actions = self.old.actions ++ item ∷ [] }) }
         ensures err { OnErr result (self.new ≡ self.old) }
     {
         self.waiting.push_back(item)?;
@@ -84,7 +85,8 @@ impl<X: Drop> Queue<X> {
         self.busy = busy;
     }
 
-    /// The action at place `i`, counted from 0, the next one; `None` exactly from the count of actions on.
+    /// The action at place `i`, counted from 0, the next one; `None` exactly from the count of
+    /// actions on.
     pub fn at(&self, i: usize) -> Option<&Item<X>>
         ensures action { option_copied result ≡ slice_get self.now.actions i }
     {

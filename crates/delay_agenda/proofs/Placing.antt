@@ -294,3 +294,10 @@ queues_taken inbox [] now first is =
 queues_taken inbox (m ∷ row) now first is =
     let whole = all_behind inbox m row first in
     (sym (ap (λ t. slice_get t 0) whole), ap (put_all inbox) is ∙ sym (ap (drop 1) whole))
+
+-- what each search needs
+pub ruleset place_steps = (put_at, put_first, stops_next, stops_end)
+
+pub ruleset least_steps = (least_start, least_kept, least_moved)
+
+pub ruleset first_cases = (in_queues_empty, in_inbox_none, in_inbox_some, in_queues_some)

@@ -599,3 +599,8 @@ first_key [] (Some k) queues key = absurd key
 first_key (p ∷ ps) None queues key = cc
 first_key (p ∷ ps) (Some k) queues key =
     key_due k p.1.items (in_row ps) queues.0.filled (subst (λ n. AreDue n p.1.items) key queues.0.together)
+
+-- what the first queue gives, and the search for a Turn
+pub ruleset first_facts = (first_there, first_head, first_left)
+
+pub ruleset left_facts = (left_start, left_none, left_found)

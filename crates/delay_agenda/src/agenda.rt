@@ -1,4 +1,5 @@
-ghost use Rattle.std.specs.Prelude.{◌≡◌, ◌<◌, ◌≤◌, ◌+◌, ◌^◌, ◌↔◌, [], drop, slice_get, IfSome, IsTrue, OnOk, OnErr};
+ghost use Rattle.std.specs.Prelude.{◌≡◌, ◌<◌, ◌≤◌, ◌+◌, ◌^◌, ◌↔◌, [], drop, slice_get, IfSome};
+ghost use Rattle.std.specs.Prelude.{IsTrue, OnOk, OnErr};
 ghost use Rattle.delay_agenda.specs.Order.{first_due, put_entry, HasNone, IsNext};
 ghost use Rattle.delay_agenda.specs.Waiting.{posted, turn_count, without_turns, IsAgenda};
 
@@ -13,8 +14,9 @@ use std::marker::Model;
 
 /// The entries that wait, and the number of the next post.
 ///
-/// They stand in queues by due time, an ordered map. A post puts its entry into an inbox beside them, which
-/// has room reserved, and the next call that may take memory moves the inbox into the queues.
+/// They stand in queues by due time, an ordered map. A post puts its entry into an inbox beside
+/// them, which has room reserved, and the next call that may take memory moves the inbox into the
+/// queues.
 #[derive(Drop)]
 pub struct Agenda<X> {
     queues: BTreeMap<u64, VecDeque<Entry<X>>>,
@@ -68,8 +70,8 @@ impl<X: Drop> Agenda<X> {
         Ok(())
     }
 
-    /// Posts work under the next number, which is the answer. Takes no memory, and at most one place of the
-    /// spare room.
+    /// Posts work under the next number, which is the answer. Takes no memory, and at most one
+    /// place of the spare room.
     pub fn post(&mut self, due: u64, kind: Kind<X>) -> u64
         requires room { 1 ≤ self.old.room }
         requires few { self.old.waiting.next < 2 ^ 63 }
@@ -83,11 +85,13 @@ impl<X: Drop> Agenda<X> {
         number
     }
 
-    /// Adds an entry under the number that it has. After `NoMemory` it is dropped and what waits is as before.
+    /// Adds an entry under the number that it has. After `NoMemory` it is dropped and what waits is
+    /// as before.
     pub fn put(&mut self, entry: Entry<X>) -> Result<(), NoMemory>
         requires below { entry.number < self.old.waiting.next }
         requires new { HasNone entry.number self.old.waiting.entries }
-        ensures ok { OnOk result (self.new.waiting ≡ record self.old.waiting { entries = put_entry entry self.old.waiting.entries }) }
+        ensures ok { OnOk result (self.new.waiting
+            ≡ record self.old.waiting { entries = put_entry entry self.old.waiting.entries }) }
         ensures err { OnErr result (self.new.waiting ≡ self.old.waiting) }
         ensures room { self.old.room ≤ self.new.room }
     {
@@ -104,11 +108,12 @@ impl<X: Drop> Agenda<X> {
         }
     }
 
-    /// Takes the entry of the least due time, and among those of the least number, off the agenda; `None`
-    /// exactly where the agenda is empty. The others stay, and no memory is taken.
+    /// Takes the entry of the least due time, and among those of the least number, off the agenda;
+    /// `None` exactly where the agenda is empty. The others stay, and no memory is taken.
     pub fn take(&mut self) -> Option<Entry<X>>
         ensures taken { result ≡ slice_get self.old.waiting.entries 0 }
-        ensures left { self.new.waiting ≡ record self.old.waiting { entries = drop 1 self.old.waiting.entries } }
+        ensures left { self.new.waiting
+            ≡ record self.old.waiting { entries = drop 1 self.old.waiting.entries } }
         ensures least { IfSome result (λ e. IsNext e self.old.waiting.entries) }
         ensures room { self.old.room ≤ self.new.room }
     {
@@ -132,7 +137,8 @@ impl<X: Drop> Agenda<X> {
     pub fn cancel_turn(&mut self, object: u32) -> bool
         requires one { turn_count object self.old.waiting.entries ≤ 1 }
         ensures found { IsTrue result ↔ (0 < turn_count object self.old.waiting.entries) }
-        ensures left { self.new.waiting ≡ record self.old.waiting { entries = without_turns object self.old.waiting.entries } }
+        ensures left { self.new.waiting
+            ≡ record self.old.waiting { entries = without_turns object self.old.waiting.entries } }
         ensures room { self.old.room ≤ self.new.room }
     {
         match place_of_turn(&self.inbox, object) {
@@ -151,7 +157,8 @@ impl<X: Drop> Agenda<X> {
         self.next
     }
 
-    /// What every agenda keeps: its entries are in order, and their numbers are distinct and below the next.
+    /// What every agenda keeps: its entries are in order, and their numbers are distinct and below
+    /// the next.
     pub fn keeps(&self)
         ensures kept { IsAgenda self.now.waiting }
     {

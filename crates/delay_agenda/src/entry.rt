@@ -28,7 +28,8 @@ pub enum Kind<X> {
     },
 }
 
-/// One piece of delayed work: when it is due, in milliseconds, and which post made it, counted from 0.
+/// One piece of delayed work: when it is due, in milliseconds, and which post made it, counted from
+/// 0.
 #[derive(Drop)]
 pub struct Entry<X> {
     pub due: u64,
@@ -37,7 +38,8 @@ pub struct Entry<X> {
 }
 
 impl<X> Entry<X> {
-    /// Whether this entry is taken before the other: it is due earlier, or at one time has the lesser number.
+    /// Whether this entry is taken before the other: it is due earlier, or at one time has the
+    /// lesser number.
     pub(crate) fn comes_before(&self, other: &Entry<X>) -> bool
         ensures test { result ≡ is_before self.now other.now }
     {

@@ -1,4 +1,5 @@
-//! The inbox beside the queues: entries that were posted and not yet moved into them, in the order of their posts.
+//! The inbox beside the queues: entries that were posted and not yet moved into them, in the order
+//! of their posts.
 ghost use Rattle.std.specs.Prelude.{◌≡◌, ◌<◌, ◌≤◌, ◌+◌, ◌-◌, [], ◌∷◌, MatchOption, OnOk};
 ghost use Rattle.std.specs.VecDeque.{deque_capacity, deque_len};
 ghost use Rattle.delay_agenda.specs.Queues.{in_row, put_all, AreQueues, IsInInbox, IsInQueues};
@@ -9,9 +10,9 @@ use crate::queues::{Queues, first_of, put_in};
 use nwq_value::NoMemory;
 use std::collections::VecDeque;
 
-/// Where the entry stands in the inbox that is taken before all others; `None` where the first of the queues
-/// is, or nothing waits.
-#[tactic(auto, using(crate::proofs::Placing::in_queues_empty, crate::proofs::Placing::in_inbox_none, crate::proofs::Placing::in_inbox_some, crate::proofs::Placing::in_queues_some))]
+/// Where the entry stands in the inbox that is taken before all others; `None` where the first of
+/// the queues is, or nothing waits.
+#[tactic(auto, using(crate::proofs::Placing::first_cases))]
 pub(crate) fn first_in_inbox<X>(inbox: &VecDeque<Entry<X>>, queues: &Queues<X>) -> Option<usize>
     requires queues { AreQueues queues.now.entries }
     ensures first { MatchOption result (IsInQueues inbox.now.items (in_row queues.now.entries))
@@ -33,16 +34,19 @@ pub(crate) fn first_in_inbox<X>(inbox: &VecDeque<Entry<X>>, queues: &Queues<X>) 
     }
 }
 
-/// Moves the inbox into the queues. Where there is no memory, what couldn't be moved stays in the inbox.
+/// Moves the inbox into the queues. Where there is no memory, what couldn't be moved stays in the
+/// inbox.
 pub(crate) fn empty_inbox<X: Drop>(
     queues: &mut Queues<X>,
     inbox: &mut VecDeque<Entry<X>>,
 ) -> Result<(), NoMemory>
     requires queues { AreQueues queues.old.entries }
     ensures empty { OnOk result (inbox.new.items ≡ []) }
-    ensures entries { put_all inbox.new.items (in_row queues.new.entries) ≡ put_all inbox.old.items (in_row queues.old.entries) }
+    ensures entries { put_all inbox.new.items (in_row queues.new.entries)
+        ≡ put_all inbox.old.items (in_row queues.old.entries) }
     ensures queues { AreQueues queues.new.entries }
-    ensures room { deque_capacity inbox.old - deque_len inbox.old ≤ deque_capacity inbox.new - deque_len inbox.new }
+    ensures room { deque_capacity inbox.old - deque_len inbox.old
+        ≤ deque_capacity inbox.new - deque_len inbox.new }
 {
     while let Some(entry) = inbox.pop_front() {
         move_in(queues, inbox, entry)?;
@@ -50,7 +54,8 @@ pub(crate) fn empty_inbox<X: Drop>(
     Ok(())
 }
 
-/// Puts an entry into the queues. Where there is no memory it becomes the first of the inbox, which has room.
+/// Puts an entry into the queues. Where there is no memory it becomes the first of the inbox, which
+/// has room.
 fn move_in<X: Drop>(
     queues: &mut Queues<X>,
     inbox: &mut VecDeque<Entry<X>>,
@@ -58,7 +63,8 @@ fn move_in<X: Drop>(
 ) -> Result<(), NoMemory>
     requires queues { AreQueues queues.old.entries }
     requires room { deque_len inbox.old < deque_capacity inbox.old }
-    ensures entries { put_all inbox.new.items (in_row queues.new.entries) ≡ put_all (entry ∷ inbox.old.items) (in_row queues.old.entries) }
+    ensures entries { put_all inbox.new.items (in_row queues.new.entries)
+        ≡ put_all (entry ∷ inbox.old.items) (in_row queues.old.entries) }
     ensures queues { AreQueues queues.new.entries }
     ensures count { OnOk result (deque_len inbox.new ≡ deque_len inbox.old) }
     ensures bound { deque_len inbox.new ≤ deque_len inbox.old + 1 }

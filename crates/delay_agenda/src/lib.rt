@@ -1,13 +1,13 @@
 //! The agenda of delayed work: what is to run later, and when.
 //!
-//! Contracts see an [`Agenda`] as what waits and the spare room (`specs/Waiting.antt`). What waits is the
-//! list of the entries in the order in which they are taken (the earliest due time first, and at one due
-//! time the least number, so the entry that was posted first), and the number of the next post. The spare
-//! room says how many entries can be posted without memory.
+//! Contracts see an [`Agenda`] as what waits and the spare room (`specs/Waiting.antt`). What waits
+//! is the list of the entries in the order in which they are taken (the earliest due time first,
+//! and at one due time the least number, so the entry that was posted first), and the number of the
+//! next post. The spare room says how many entries can be posted without memory.
 //!
-//! The entries stand in queues by due time, an ordered map, so a call costs about the logarithm of the
-//! number of due times. A post takes no memory: its entry goes to an inbox, over which `take` and
-//! `next_due` look, and which `reserve` and `put` move into the queues.
+//! The entries stand in queues by due time, an ordered map, so a call costs about the logarithm of
+//! the number of due times. A post takes no memory: its entry goes to an inbox, over which `take`
+//! and `next_due` look, and which `reserve` and `put` move into the queues.
 #![tactic(auto)]
 
 mod agenda;

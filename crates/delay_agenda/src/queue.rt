@@ -1,5 +1,6 @@
 //! Calls on a queue of entries.
-ghost use Rattle.std.specs.Prelude.{◌≡◌, ◌≢◌, ◌<◌, ◌≤◌, ◌+◌, [], length, insert, slice_get, MatchOption, IfErr, OnOk, OnErr};
+ghost use Rattle.std.specs.Prelude.{◌≡◌, ◌≢◌, ◌<◌, ◌≤◌, ◌+◌, [], length, insert, slice_get};
+ghost use Rattle.std.specs.Prelude.{MatchOption, IfErr, OnOk, OnErr};
 ghost use Rattle.std.specs.List.{remove};
 ghost use Rattle.std.specs.VecDeque.{deque_capacity, deque_len};
 ghost use Rattle.delay_agenda.specs.Order.{put_entry};
@@ -11,7 +12,7 @@ use std::alloc::AllocFailed;
 use std::collections::VecDeque;
 
 /// Where an entry belongs among entries in order.
-#[tactic(auto, using(crate::proofs::Placing::put_at, crate::proofs::Placing::put_first, crate::proofs::Placing::stops_next, crate::proofs::Placing::stops_end))]
+#[tactic(auto, using(crate::proofs::Placing::place_steps))]
 fn place_of<X>(entry: &Entry<X>, queue: &VecDeque<Entry<X>>) -> usize
     requires sorted { AreSorted queue.now.items }
     ensures inside { result ≤ deque_len queue.now }
@@ -42,7 +43,7 @@ pub(crate) fn put_in_queue<X>(
 }
 
 /// Where the entry stands that is taken first, of several alike the last.
-#[tactic(auto, using(crate::proofs::Placing::least_start, crate::proofs::Placing::least_kept, crate::proofs::Placing::least_moved))]
+#[tactic(auto, using(crate::proofs::Placing::least_steps))]
 pub(crate) fn least_place<X>(inbox: &VecDeque<Entry<X>>) -> usize
     requires filled { 0 < deque_len inbox.now }
     ensures least { IsLeastAt result (length inbox.now.items) inbox.now.items }
@@ -59,7 +60,8 @@ pub(crate) fn least_place<X>(inbox: &VecDeque<Entry<X>>) -> usize
 /// Where a Turn of the object stands.
 #[tactic(auto, using(crate::proofs::Turns::none_next))]
 pub(crate) fn place_of_turn<X>(queue: &VecDeque<Entry<X>>, object: u32) -> Option<usize>
-    ensures turn { MatchOption result (turn_count object queue.now.items ≡ 0) (λ at. IsTurnAt object at queue.now.items) }
+    ensures turn { MatchOption result (turn_count object queue.now.items ≡ 0)
+        (λ at. IsTurnAt object at queue.now.items) }
 {
     for i in 0..queue.len() {
         if queue[i].is_turn_of(object) {

@@ -1,10 +1,12 @@
 //! Calls on the queues of entries, an ordered map from due times.
-ghost use Rattle.std.specs.Prelude.{◌≡◌, ◌<◌, ◌≤◌, None, [], ◌∷◌, length, drop, slice_get, Some, IfErr, MatchOption, IfOk, IsTrue, ◌↔◌, OnOk, OnErr};
+ghost use Rattle.std.specs.Prelude.{◌≡◌, ◌<◌, ◌≤◌, None, [], ◌∷◌, length, drop, slice_get, Some};
+ghost use Rattle.std.specs.Prelude.{IfErr, MatchOption, IfOk, IsTrue, ◌↔◌, OnOk, OnErr};
 ghost use Rattle.std.specs.Ordering.{nat_cmp};
 ghost use Rattle.std.specs.BTreeMap.{get};
 ghost use Rattle.delay_agenda.specs.Order.{put_entry};
 ghost use Rattle.delay_agenda.specs.Waiting.{turn_count, without_turns};
-ghost use Rattle.delay_agenda.specs.Queues.{AreQueues, IsFirst, IsHead, IsTurnAt, in_row, queue_at, row_without};
+ghost use Rattle.delay_agenda.specs.Queues.{AreQueues, IsFirst, IsHead, IsTurnAt, in_row, queue_at};
+ghost use Rattle.delay_agenda.specs.Queues.{row_without};
 
 use crate::entry::Entry;
 use crate::queue::{front_of, place_of_turn, put_in_queue, take_from};
@@ -16,7 +18,8 @@ pub(crate) type Queues<X> = BTreeMap<u64, VecDeque<Entry<X>>>;
 /// The due time of the first queue.
 #[tactic(auto, using(crate::proofs::Rows::first_is))]
 pub(crate) fn due_of_first<X>(queues: &Queues<X>) -> Option<u64>
-    ensures first { MatchOption result (queues.now.entries ≡ []) (λ due. IsFirst due queues.now.entries) }
+    ensures first { MatchOption result (queues.now.entries ≡ [])
+        (λ due. IsFirst due queues.now.entries) }
 {
     match queues.first_key_value() {
         None => None,
@@ -28,7 +31,8 @@ pub(crate) fn due_of_first<X>(queues: &Queues<X>) -> Option<u64>
 #[tactic(auto, using(crate::proofs::Rows::first_filled, crate::proofs::Rows::head_is))]
 pub(crate) fn first_of<X>(queues: &Queues<X>) -> Option<&Entry<X>>
     requires queues { AreQueues queues.now.entries }
-    ensures first { MatchOption result (in_row queues.now.entries ≡ []) (λ e. IsHead e.now (in_row queues.now.entries)) }
+    ensures first { MatchOption result (in_row queues.now.entries ≡ [])
+        (λ e. IsHead e.now (in_row queues.now.entries)) }
 {
     match queues.first_key_value() {
         None => None,
@@ -43,7 +47,8 @@ pub(crate) fn put_in<X: Drop>(
     entry: Entry<X>,
 ) -> Result<(), AllocFailed<Entry<X>>>
     requires queues { AreQueues queues.old.entries }
-    ensures ok { OnOk result (in_row queues.new.entries ≡ put_entry entry (in_row queues.old.entries)) }
+    ensures ok { OnOk result
+        (in_row queues.new.entries ≡ put_entry entry (in_row queues.old.entries)) }
     ensures err { OnErr result (in_row queues.new.entries ≡ in_row queues.old.entries) }
     ensures back { IfErr result (λ failed. failed.value ≡ entry) }
     ensures queues { AreQueues queues.new.entries }
@@ -63,7 +68,8 @@ fn put_alone<X: Drop>(
 ) -> Result<(), AllocFailed<Entry<X>>>
     requires queues { AreQueues queues.old.entries }
     requires new { get nat_cmp queues.old entry.due ≡ None }
-    ensures ok { OnOk result (in_row queues.new.entries ≡ put_entry entry (in_row queues.old.entries)) }
+    ensures ok { OnOk result
+        (in_row queues.new.entries ≡ put_entry entry (in_row queues.old.entries)) }
     ensures err { OnErr result (queues.new.entries ≡ queues.old.entries) }
     ensures back { IfErr result (λ failed. failed.value ≡ entry) }
     ensures queues { AreQueues queues.new.entries }
@@ -134,7 +140,7 @@ pub(crate) fn remove_at<X: Drop>(queues: &mut Queues<X>, due: u64, at: usize) ->
 }
 
 /// Takes the entry that is taken first off the queues.
-#[tactic(auto, using(crate::proofs::Rows::first_there, crate::proofs::Rows::first_head, crate::proofs::Rows::first_left))]
+#[tactic(auto, using(crate::proofs::Rows::first_facts))]
 pub(crate) fn take_first<X: Drop>(queues: &mut Queues<X>) -> Option<Entry<X>>
     requires queues { AreQueues queues.old.entries }
     ensures entry { result ≡ slice_get (in_row queues.old.entries) 0 }
@@ -148,7 +154,7 @@ pub(crate) fn take_first<X: Drop>(queues: &mut Queues<X>) -> Option<Entry<X>>
 }
 
 /// Where a Turn of the object stands: the due time of its queue, and its place there.
-#[tactic(auto, using(crate::proofs::Rows::left_start, crate::proofs::Rows::left_none, crate::proofs::Rows::left_found))]
+#[tactic(auto, using(crate::proofs::Rows::left_facts))]
 fn find_turn<X>(queues: &Queues<X>, object: u32) -> Option<(u64, usize)>
     requires queues { AreQueues queues.now.entries }
     ensures turn { MatchOption result (turn_count object (in_row queues.now.entries) ≡ 0)

@@ -54,3 +54,6 @@ copy_is first count end page new ends within =
     length-append (take count (drop first page)) (new ∷ []) in
     ap (λ k. take (count + 1) (take k (drop first page) ++ new ∷ [])) counted
     ∙ take_all (count + 1) (take count (drop first page) ++ new ∷ []) (omega (arith, used, size))
+
+-- what a push needs
+pub ruleset push_steps = (push_is, cut_is, copy_is)

@@ -348,3 +348,8 @@ pub row_set : {E : Type 0} (result : Result (Unit {0}) E) (len place k i : ℕ) 
 row_set (Ok x) len place k i ps p q new ok err row found is =
     row_written len place k i ps p q new row found is (ap (λ (r : Part). r.cells) ok) (ap (λ (r : Part). r.start) ok)
 row_set (Err e) len place k i ps p q new ok err row found is = same_row len k ps p q row is found.inside err
+
+-- what the search for a place needs, and a part of a row
+pub ruleset search_steps = (between_whole, between_upper, between_lower, between_one)
+
+pub ruleset part_steps = (between_none, between_more, between_all)

@@ -1,4 +1,5 @@
-ghost use Rattle.std.specs.Prelude.{◌≡◌, ◌<◌, ◌≤◌, [], ◌∷◌, ◌++◌, ◌-◌, length, take, drop, slice_get, slice_set, Some, IfSome, OnOk, OnErr, IfOk};
+ghost use Rattle.std.specs.Prelude.{◌≡◌, ◌<◌, ◌≤◌, [], ◌∷◌, ◌++◌, ◌-◌, length, take, drop};
+ghost use Rattle.std.specs.Prelude.{slice_get, slice_set, Some, IfSome, OnOk, OnErr, IfOk};
 ghost use Rattle.std.specs.Option.{option_copied};
 ghost use Rattle.saved_state.specs.Pages.{flat, AreStacked, IsInPiece, IsPlace, IsTopWithRoom};
 
@@ -80,7 +81,8 @@ impl Cells {
         }
     }
 
-    /// Puts a cell last, on a page of its own. After `NoMemory` it is dropped and the list is as before.
+    /// Puts a cell last, on a page of its own. After `NoMemory` it is dropped and the list is as
+    /// before.
     pub(crate) fn begin_page(&mut self, cell: Cell) -> Result<(), NoMemory>
         ensures ok { OnOk result (self.new ≡ self.old ++ cell ∷ []) }
         ensures err { OnErr result (self.new ≡ self.old) }
@@ -119,7 +121,8 @@ impl Cells {
         piece.at(i)
     }
 
-    /// Replaces the cell at a place. After `NoMemory` the new one is dropped and the list is as before.
+    /// Replaces the cell at a place. After `NoMemory` the new one is dropped and the list is as
+    /// before.
     #[tactic(auto, using(crate::proofs::Rows::written_is, crate::proofs::Rows::row_written))]
     pub(crate) fn set(&mut self, place: usize, cell: Cell) -> Result<(), NoMemory>
         requires inside { place < length self.old }
@@ -164,7 +167,7 @@ impl Cells {
     }
 
     /// Puts the cells from one place of a row of pieces up to, and without, another last.
-    #[tactic(auto, using(crate::proofs::Rows::between_none, crate::proofs::Rows::between_more, crate::proofs::Rows::between_all))]
+    #[tactic(auto, using(crate::proofs::Rows::part_steps))]
     fn share(&mut self, pieces: &[Piece], from: usize, to: usize) -> Result<(), NoMemory>
         requires empty { self.old ≡ [] }
         requires stacked { AreStacked 0 pieces.now }
@@ -185,7 +188,8 @@ impl Cells {
     /// Puts the cells of a piece from one place of its row up to, and without, another last.
     #[tactic(auto, using(crate::proofs::Rows::part_some, crate::proofs::Rows::part_none))]
     fn add_part(&mut self, piece: &Piece, from: usize, to: usize) -> Result<(), NoMemory>
-        ensures part { OnOk result (self.new ≡ self.old ++ drop (from - piece.now.start) (take (to - piece.now.start) piece.now.cells)) }
+        ensures part { OnOk result (self.new ≡ self.old
+            ++ drop (from - piece.now.start) (take (to - piece.now.start) piece.now.cells)) }
     {
         let first = from.saturating_sub(piece.start());
         let end = to.saturating_sub(piece.start()).min(piece.len());
@@ -238,7 +242,7 @@ fn locate(pieces: &[Piece], place: usize) -> (usize, usize)
 }
 
 /// Which piece the cell at a place is in.
-#[tactic(auto, using(crate::proofs::Rows::between_whole, crate::proofs::Rows::between_upper, crate::proofs::Rows::between_lower, crate::proofs::Rows::between_one))]
+#[tactic(auto, using(crate::proofs::Rows::search_steps))]
 fn piece_at(pieces: &[Piece], place: usize) -> usize
     requires stacked { AreStacked 0 pieces.now }
     requires inside { place < length (flat pieces.now) }

@@ -1,15 +1,16 @@
 //! The stack of a machine that runs NCS code, and the states that STORE_STATE captures of it.
 //!
-//! Contracts see a [`Stack`] as a record of its cells, the top first, and BP (`specs/Cells.antt`). A place
-//! is the number of cells beneath it, so it doesn't move when others are pushed or dropped over it. The
-//! lists of a [`Saved`] state stand in the order of their places, the lowest cell first.
+//! Contracts see a [`Stack`] as a record of its cells, the top first, and BP (`specs/Cells.antt`).
+//! A place is the number of cells beneath it, so it doesn't move when others are pushed or dropped
+//! over it. The lists of a [`Saved`] state stand in the order of their places, the lowest cell
+//! first.
 //!
-//! Promised: each call changes just what its clause says, [`Stack::capture`] gives lists that no later
-//! write or drop reaches, and [`resume`] makes the stack with which a captured state begins to run. Want of
-//! memory is the one error, and leaves a stack as it was.
+//! Promised: each call changes just what its clause says, [`Stack::capture`] gives lists that no
+//! later write or drop reaches, and [`resume`] makes the stack with which a captured state begins
+//! to run. Want of memory is the one error, and leaves a stack as it was.
 //!
-//! A list of cells is kept as pieces of pages, which stacks and states share: to capture copies no cell,
-//! and who writes to a shared page copies it first. No contract speaks of pages.
+//! A list of cells is kept as pieces of pages, which stacks and states share: to capture copies no
+//! cell, and who writes to a shared page copies it first. No contract speaks of pages.
 #![tactic(auto)]
 
 mod cell;

@@ -1,4 +1,5 @@
-ghost use Rattle.std.specs.Prelude.{◌≡◌, ◌<◌, ◌≤◌, [], ◌∷◌, ◌++◌, length, take, drop, slice_get, slice_set, Some, OnOk, OnErr, IfOk};
+ghost use Rattle.std.specs.Prelude.{◌≡◌, ◌<◌, ◌≤◌, [], ◌∷◌, ◌++◌, length, take, drop, slice_get};
+ghost use Rattle.std.specs.Prelude.{slice_set, Some, OnOk, OnErr, IfOk};
 
 use crate::cell::Cell;
 use nwq_value::NoMemory;
@@ -29,7 +30,10 @@ impl Model for Piece {
 
     ghost Value = { Part };
 
-    ghost view = { λ p. record { cells = take p.count (drop p.first p.page.value.items); start = p.start } };
+    ghost view = { λ p. record {
+      cells = take p.count (drop p.first p.page.value.items);
+      start = p.start;
+    } };
 
     ghost invariant = { λ p. IsOnPage p.first p.count p.page.value.items };
 }
@@ -75,7 +79,8 @@ impl Piece {
     pub fn part(&self, from: usize, to: usize) -> Result<Piece, NoMemory>
         requires inside { to ≤ length self.now.cells }
         requires order { from ≤ to }
-        ensures part { IfOk result (λ piece. piece ≡ record { cells = drop from (take to self.now.cells); start = 0 }) }
+        ensures part { IfOk result (λ piece. piece
+            ≡ record { cells = drop from (take to self.now.cells); start = 0 }) }
     {
         Ok(Piece {
             page: self.page.clone()?,
@@ -104,7 +109,8 @@ impl Piece {
     #[tactic(auto, using(crate::proofs::Pieces::set_is))]
     pub fn set(&mut self, alloc: Global, i: usize, cell: Cell) -> Result<(), NoMemory>
         requires inside { i < length self.old.cells }
-        ensures ok { OnOk result (self.new ≡ record self.old { cells = slice_set self.old.cells i cell }) }
+        ensures ok { OnOk result
+            (self.new ≡ record self.old { cells = slice_set self.old.cells i cell }) }
         ensures err { OnErr result (self.new ≡ self.old) }
     {
         let at = self.first + i;
@@ -122,10 +128,11 @@ impl Piece {
     }
 
     /// Puts a cell on top. After `NoMemory` it is dropped and the piece is as before.
-    #[tactic(auto, using(crate::proofs::Pieces::push_is, crate::proofs::Pieces::cut_is, crate::proofs::Pieces::copy_is))]
+    #[tactic(auto, using(crate::proofs::Pieces::push_steps))]
     pub fn push(&mut self, alloc: Global, cell: Cell) -> Result<(), NoMemory>
         requires room { length self.old.cells < 64 }
-        ensures ok { OnOk result (self.new ≡ record self.old { cells = self.old.cells ++ cell ∷ [] }) }
+        ensures ok { OnOk result
+            (self.new ≡ record self.old { cells = self.old.cells ++ cell ∷ [] }) }
         ensures err { OnErr result (self.new ≡ self.old) }
     {
         let end = self.first + self.count;

@@ -1,6 +1,8 @@
-ghost use Rattle.std.specs.Prelude.{◌≡◌, ◌≢◌, ◌<◌, ◌≤◌, ℕ, Some, [], ◌∷◌, length, drop, OnOk, OnErr, IfOk};
+ghost use Rattle.std.specs.Prelude.{◌≡◌, ◌≢◌, ◌<◌, ◌≤◌, ℕ, Some, [], ◌∷◌, length, drop, OnOk};
+ghost use Rattle.std.specs.Prelude.{OnErr, IfOk};
 ghost use Rattle.saved_state.specs.Cells.{cell_at, with_cell, captured, resumed};
-ghost use Rattle.saved_state.specs.declared.cell.Cell.TheVariants.{Value as ValueCell, Base as BaseCell};
+ghost use Rattle.saved_state.specs.declared.cell.Cell.TheVariants.{Value as ValueCell};
+ghost use Rattle.saved_state.specs.declared.cell.Cell.TheVariants.{Base as BaseCell};
 
 use crate::cell::Cell;
 use crate::cells::Cells;
@@ -77,11 +79,13 @@ impl Stack {
         self.cells.truncate(left);
     }
 
-    /// Puts a value into the cell at a place. After `NoMemory` it is dropped and the stack is as before.
+    /// Puts a value into the cell at a place. After `NoMemory` it is dropped and the stack is as
+    /// before.
     pub fn set(&mut self, place: usize, value: Value) -> Result<(), NoMemory>
         requires inside { place < length self.old.cells }
         requires no_base { (bp : ℕ) → cell_at self.old.cells place ≢ Some (BaseCell bp) }
-        ensures ok { OnOk result (self.new ≡ record self.old { cells = with_cell self.old.cells place (ValueCell value) }) }
+        ensures ok { OnOk result (self.new
+            ≡ record self.old { cells = with_cell self.old.cells place (ValueCell value) }) }
         ensures err { OnErr result (self.new ≡ self.old) }
     {
         self.cells.set(place, Cell::Value(value))
@@ -95,9 +99,9 @@ impl Stack {
         self.bp = place;
     }
 
-    /// The state of a script that is to resume at a place of its code, with the `globals` cells right
-    /// beneath BP and the `locals` topmost cells. A base cell among them is kept like any other; compiled
-    /// code asks for none.
+    /// The state of a script that is to resume at a place of its code, with the `globals` cells
+    /// right beneath BP and the `locals` topmost cells. A base cell among them is kept like any
+    /// other; compiled code asks for none.
     pub fn capture(
         &self,
         script: u32,
@@ -108,7 +112,8 @@ impl Stack {
         requires bp { self.now.bp ≤ length self.now.cells }
         requires globals { globals ≤ self.now.bp }
         requires locals { locals ≤ length self.now.cells }
-        ensures state { IfOk result (λ saved. saved ≡ captured script place globals locals self.now) }
+        ensures state { IfOk result
+            (λ saved. saved ≡ captured script place globals locals self.now) }
     {
         let len = self.cells.len();
         Ok(Saved {
@@ -120,8 +125,8 @@ impl Stack {
     }
 }
 
-/// The stack with which a captured state begins: its globals, over them a base cell that holds BP 0, over
-/// it its locals, and BP at the base cell's place. After `NoMemory` the state is dropped.
+/// The stack with which a captured state begins: its globals, over them a base cell that holds BP
+/// 0, over it its locals, and BP at the base cell's place. After `NoMemory` the state is dropped.
 pub fn resume(saved: Saved) -> Result<Stack, NoMemory>
     ensures stack { IfOk result (λ stack. stack ≡ resumed saved) }
 {
