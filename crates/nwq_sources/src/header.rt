@@ -15,16 +15,7 @@ use nwq_work::{Cause, Status, read_file, refuse_at};
 use std::alloc::Global;
 
 /// Refuses a header's text, which is that of the file of this name.
-#[tactic(
-    auto,
-    using(
-        crate::proofs::HeaderLemmas::bad_does,
-        crate::proofs::HeaderLemmas::header_does,
-        crate::proofs::HeaderLemmas::twice_does,
-        crate::proofs::HeaderLemmas::many_does,
-        crate::proofs::HeaderLemmas::cut_does
-    )
-)]
+#[tactic(auto, using(crate::proofs::HeaderLemmas::bad_does, crate::proofs::HeaderLemmas::header_does, crate::proofs::HeaderLemmas::twice_does, crate::proofs::HeaderLemmas::many_does, crate::proofs::HeaderLemmas::cut_does))]
 fn refuse_header<S: Sink>(
     alloc: Global,
     name: &[u8],
@@ -77,11 +68,7 @@ fn table_of_text<S: Sink>(
 }
 
 /// The table of the header file of this name.
-#[tactic(
-    auto,
-    using(nwq_work::specs::Parts::then_ok, nwq_work::specs::Parts::then_err),
-    unfolding(crate::specs::Headers::table_named)
-)]
+#[tactic(auto, using(nwq_work::specs::Parts::then_ok, nwq_work::specs::Parts::then_err), unfolding(crate::specs::Headers::table_named))]
 fn table_of_file<F: Files, S: Sink>(
     alloc: Global,
     name: &str,
@@ -90,11 +77,11 @@ fn table_of_file<F: Files, S: Sink>(
 ) -> Result<Table, Status>
     ensures does { IsTrue F.tells → IsTrue S.tells →
         Does (table_named name.now) (F.contents files.old) (S.taken out.old)
-            result (F.contents files.new) (S.taken out.new) }
+        result (F.contents files.new) (S.taken out.new) }
     ensures counts { Tallies result
         (Counted (F.faults files.old) (F.absences files.old) (F.longs files.old) (S.faults out.old))
         (Counted (F.faults files.new) (F.absences files.new)
-            (F.longs files.new) (S.faults out.new)) }
+        (F.longs files.new) (S.faults out.new)) }
     ensures same { F.contents files.new ≡ F.contents files.old }
     ensures only { IfErr result StopsSource }
 {
@@ -120,11 +107,11 @@ pub fn read_table<F: Files, S: Sink>(
 ) -> Result<Table, Status>
     ensures does { IsTrue F.tells → IsTrue S.tells →
         Does (table_of header.now) (F.contents files.old) (S.taken out.old)
-            result (F.contents files.new) (S.taken out.new) }
+        result (F.contents files.new) (S.taken out.new) }
     ensures counts { Tallies result
         (Counted (F.faults files.old) (F.absences files.old) (F.longs files.old) (S.faults out.old))
         (Counted (F.faults files.new) (F.absences files.new)
-            (F.longs files.new) (S.faults out.new)) }
+        (F.longs files.new) (S.faults out.new)) }
     ensures same { F.contents files.new ≡ F.contents files.old }
     ensures only { IfErr result StopsSource }
 {

@@ -68,17 +68,11 @@ fn refuse_spot<S: Sink>(alloc: Global, cause: Cause, spot: &Spot, out: &mut S) -
 
 /// Refuses a unit at token `i`, or, where there is none, at the end of the script's file.
 #[tactic(auto, using(crate::proofs::UnitLemmas::cut_refuses))]
-fn refuse_token<S: Sink>(
-    alloc: Global,
-    unit: &Unit,
-    i: usize,
-    cause: Cause,
-    out: &mut S,
-) -> Status
+fn refuse_token<S: Sink>(alloc: Global, unit: &Unit, i: usize, cause: Cause, out: &mut S) -> Status
     requires { 0 < length unit.now.files }
     ensures does { IsTrue S.tells →
         Refuses (at_spot cause (spot_at unit.now.files unit.now.tokens i))
-            (S.taken out.old) result (S.taken out.new) }
+        (S.taken out.old) result (S.taken out.new) }
     ensures counts { (faults absences longs : ℕ) → TalliesEnd result
         (Counted faults absences longs (S.faults out.old))
         (Counted faults absences longs (S.faults out.new)) }
@@ -91,17 +85,7 @@ fn refuse_token<S: Sink>(
 }
 
 /// Refuses a script that has no unit.
-#[tactic(
-    auto,
-    using(
-        crate::proofs::UnitLemmas::lacks_does,
-        crate::proofs::UnitLemmas::exceeds_does,
-        crate::proofs::UnitLemmas::bad_does,
-        crate::proofs::UnitLemmas::many_does,
-        crate::proofs::UnitLemmas::include_does,
-        crate::proofs::UnitLemmas::cut_does
-    )
-)]
+#[tactic(auto, using(crate::proofs::UnitLemmas::lacks_does, crate::proofs::UnitLemmas::exceeds_does, crate::proofs::UnitLemmas::bad_does, crate::proofs::UnitLemmas::many_does, crate::proofs::UnitLemmas::include_does, crate::proofs::UnitLemmas::cut_does))]
 fn refuse_gather<S: Sink>(alloc: Global, fault: GatherFault, out: &mut S) -> Status
     ensures does { IsTrue S.tells → (c : Contents) (name : List ℕ) →
         Gathers (fin_map.get c) name (Err fault) →
@@ -138,14 +122,7 @@ fn tree_of(alloc: Global, unit: &Unit) -> Result<Tree, ParseFault>
 }
 
 /// Refuses a unit that has no tree.
-#[tactic(
-    auto,
-    using(
-        crate::proofs::UnitLemmas::nested_does,
-        crate::proofs::UnitLemmas::syntax_does,
-        crate::proofs::UnitLemmas::cut_does
-    )
-)]
+#[tactic(auto, using(crate::proofs::UnitLemmas::nested_does, crate::proofs::UnitLemmas::syntax_does, crate::proofs::UnitLemmas::cut_does))]
 fn refuse_parse<S: Sink>(alloc: Global, unit: &Unit, fault: ParseFault, out: &mut S) -> Status
     requires script { 0 < length unit.now.files }
     requires fault { HasFault unit.now fault }
@@ -192,11 +169,11 @@ pub fn read_unit<F: Files, S: Sink>(
 ) -> Result<Script, Status>
     ensures does { IsTrue F.tells → IsTrue S.tells →
         Does (unit_of script.now) (F.contents files.old) (S.taken out.old)
-            (plain_answer result) (F.contents files.new) (S.taken out.new) }
+        (plain_answer result) (F.contents files.new) (S.taken out.new) }
     ensures counts { Tallies result
         (Counted (F.faults files.old) (F.absences files.old) (F.longs files.old) (S.faults out.old))
         (Counted (F.faults files.new) (F.absences files.new)
-            (F.longs files.new) (S.faults out.new)) }
+        (F.longs files.new) (S.faults out.new)) }
     ensures same { F.contents files.new ≡ F.contents files.old }
     ensures only { IfErr result StopsSource }
 {

@@ -21,12 +21,12 @@ pub fn command<F: Files, S: Sink>(
 ) -> Result<(), Status>
     ensures does { IsTrue F.tells → IsTrue S.tells →
         Does (work_of (form_of (map string_bytes words.now)))
-            (F.contents files.old) (S.taken out.old)
-            result (F.contents files.new) (S.taken out.new) }
+        (F.contents files.old) (S.taken out.old)
+        result (F.contents files.new) (S.taken out.new) }
     ensures counts { Tallies result
         (Counted (F.faults files.old) (F.absences files.old) (F.longs files.old) (S.faults out.old))
         (Counted (F.faults files.new) (F.absences files.new)
-            (F.longs files.new) (S.faults out.new)) }
+        (F.longs files.new) (S.faults out.new)) }
     ensures names { KeepsBut (MayWrite (form_of (map string_bytes words.now)))
         (F.contents files.old) (F.contents files.new) }
     ensures only { ComesOfResult (form_of (map string_bytes words.now)) result }

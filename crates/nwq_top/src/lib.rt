@@ -38,13 +38,13 @@ pub fn nwq_main<F: Files, S: Sink>(
     // Where files and sink tell what they hold: the call did the work of the words, in order.
     ensures does { IsTrue F.tells → IsTrue S.tells →
         Does (work_of (form_of (map string_bytes words.now)))
-            (F.contents files.old) (S.taken out.old)
-            (ending result) (F.contents files.new) (S.taken out.new) }
+        (F.contents files.old) (S.taken out.old)
+        (ending result) (F.contents files.new) (S.taken out.new) }
     // A read, write or put that was refused is the last one, and the status says which.
     ensures counts { Tallies (ending result)
         (Counted (F.faults files.old) (F.absences files.old) (F.longs files.old) (S.faults out.old))
         (Counted (F.faults files.new) (F.absences files.new)
-            (F.longs files.new) (S.faults out.new)) }
+        (F.longs files.new) (S.faults out.new)) }
     // Every name that the command may not write has what it had.
     ensures names { KeepsBut (MayWrite (form_of (map string_bytes words.now)))
         (F.contents files.old) (F.contents files.new) }

@@ -13,7 +13,8 @@ use nwq_work::Status;
 use std::alloc::Global;
 
 /// What is said on standard error after words that are no form of a command.
-const USAGE: &str = "usage: nwq run HEADER SCRIPT (HEADER: a header file, or - for the built-in one)\n";
+const USAGE: &str =
+    "usage: nwq run HEADER SCRIPT (HEADER: a header file, or - for the built-in one)\n";
 
 /// The words after the program's name, which is the first of all.
 fn after_name(all: &[String]) -> &[String]
@@ -60,11 +61,11 @@ pub fn nwq_program<F: Files, S: Sink, E: Sink>(
     ensures number { status_number (status_numbered result) ≡ result }
     ensures does { IsTrue F.tells → IsTrue S.tells →
         Does (work_of (form_of (words_of all.now))) (F.contents files.old) (S.taken out.old)
-            (ending (status_numbered result)) (F.contents files.new) (S.taken out.new) }
+        (ending (status_numbered result)) (F.contents files.new) (S.taken out.new) }
     ensures counts { Tallies (ending (status_numbered result))
         (Counted (F.faults files.old) (F.absences files.old) (F.longs files.old) (S.faults out.old))
         (Counted (F.faults files.new) (F.absences files.new)
-            (F.longs files.new) (S.faults out.new)) }
+        (F.longs files.new) (S.faults out.new)) }
     ensures names { KeepsBut (MayWrite (form_of (words_of all.now)))
         (F.contents files.old) (F.contents files.new) }
     ensures only { ComesOf (form_of (words_of all.now)) (status_numbered result) }

@@ -71,7 +71,7 @@ fn play_script<S: Sink>(
 ) -> Result<(), Status>
     ensures does { IsTrue S.tells → (c : Contents) →
         Does (play_of table.now (plain_script script.now)) c
-            (S.taken out.old) result c (S.taken out.new) }
+        (S.taken out.old) result c (S.taken out.new) }
     ensures counts { (faults absences longs : ℕ) → Tallies result
         (Counted faults absences longs (S.faults out.old))
         (Counted faults absences longs (S.faults out.new)) }
@@ -85,11 +85,7 @@ fn play_script<S: Sink>(
 }
 
 /// Plays one start entry of the script of this name under a header.
-#[tactic(
-    auto,
-    using(nwq_work::specs::Parts::then_ok, nwq_work::specs::Parts::then_err),
-    unfolding(crate::specs::Command::runs_under)
-)]
+#[tactic(auto, using(nwq_work::specs::Parts::then_ok, nwq_work::specs::Parts::then_err), unfolding(crate::specs::Command::runs_under))]
 fn run_under<F: Files, S: Sink>(
     alloc: Global,
     table: &Table,
@@ -99,11 +95,11 @@ fn run_under<F: Files, S: Sink>(
 ) -> Result<(), Status>
     ensures does { IsTrue F.tells → IsTrue S.tells →
         Does (runs_under script.now table.now) (F.contents files.old) (S.taken out.old)
-            result (F.contents files.new) (S.taken out.new) }
+        result (F.contents files.new) (S.taken out.new) }
     ensures counts { Tallies result
         (Counted (F.faults files.old) (F.absences files.old) (F.longs files.old) (S.faults out.old))
         (Counted (F.faults files.new) (F.absences files.new)
-            (F.longs files.new) (S.faults out.new)) }
+        (F.longs files.new) (S.faults out.new)) }
     ensures same { F.contents files.new ≡ F.contents files.old }
     ensures only { IfErr result StopsSource }
 {
@@ -114,11 +110,7 @@ fn run_under<F: Files, S: Sink>(
 }
 
 /// Plays one start entry of the script of this name, under the header that a word names.
-#[tactic(
-    auto,
-    using(nwq_work::specs::Parts::then_ok, nwq_work::specs::Parts::then_err),
-    unfolding(crate::specs::Command::runs)
-)]
+#[tactic(auto, using(nwq_work::specs::Parts::then_ok, nwq_work::specs::Parts::then_err), unfolding(crate::specs::Command::runs))]
 pub fn run<F: Files, S: Sink>(
     alloc: Global,
     header: &str,
@@ -128,11 +120,11 @@ pub fn run<F: Files, S: Sink>(
 ) -> Result<(), Status>
     ensures does { IsTrue F.tells → IsTrue S.tells →
         Does (runs header.now script.now) (F.contents files.old) (S.taken out.old)
-            result (F.contents files.new) (S.taken out.new) }
+        result (F.contents files.new) (S.taken out.new) }
     ensures counts { Tallies result
         (Counted (F.faults files.old) (F.absences files.old) (F.longs files.old) (S.faults out.old))
         (Counted (F.faults files.new) (F.absences files.new)
-            (F.longs files.new) (S.faults out.new)) }
+        (F.longs files.new) (S.faults out.new)) }
     ensures same { F.contents files.new ≡ F.contents files.old }
     ensures only { IfErr result StopsSource }
 {

@@ -53,11 +53,11 @@ pub fn read_file<F: Files, S: Sink>(
 ) -> Result<Items<u8>, Status>
     ensures does { IsTrue F.tells → IsTrue S.tells →
         Does (file_named name.now) (F.contents files.old) (S.taken out.old)
-            result (F.contents files.new) (S.taken out.new) }
+        result (F.contents files.new) (S.taken out.new) }
     ensures counts { Tallies result
         (Counted (F.faults files.old) (F.absences files.old) (F.longs files.old) (S.faults out.old))
         (Counted (F.faults files.new) (F.absences files.new)
-            (F.longs files.new) (S.faults out.new)) }
+        (F.longs files.new) (S.faults out.new)) }
     ensures same { F.contents files.new ≡ F.contents files.old }
     ensures size { IfOk result (λ bytes. length bytes ≤ file_limit) }
     ensures only { IfErr result StopsRead }

@@ -261,10 +261,7 @@ fn headers(rt: HostRuntime) -> Result<(), Fail> {
     ];
     for (header, status, text) in rows {
         let files = [
-            (
-                "p.nss",
-                b"void main() { PrintInteger(2+3); }".as_slice(),
-            ),
+            ("p.nss", b"void main() { PrintInteger(2+3); }".as_slice()),
             ("h.nss", header.as_bytes()),
         ];
         assert!(rt;

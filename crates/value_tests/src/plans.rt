@@ -1,6 +1,6 @@
-use plan_text::{Line, PlanFault, read_plan};
 use nwq_text::put_number;
 use nwq_value::NoMemory;
+use plan_text::{Line, PlanFault, read_plan};
 use std::alloc::Global;
 use std::test::Fail;
 
