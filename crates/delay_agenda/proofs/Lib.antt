@@ -1,3 +1,4 @@
+mod Examples
 pub mod Kept
 mod LawLemmas
 pub mod OrderLemmas

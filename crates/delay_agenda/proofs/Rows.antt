@@ -15,7 +15,7 @@ use Rattle.delay_agenda.specs.declared.entry.Entry.{Entry}
 use Rattle.delay_agenda.specs.Order.{is_before, put_entry, first_due}
 use Rattle.delay_agenda.specs.Waiting.{turn_count, without_turns}
 use Rattle.delay_agenda.specs.Queues.{Row, in_row, queue_at, row_without, NoneBefore, AreSorted, StopsAt, AreDue, IsQueue, AreLater, AreQueues, IsFirst, IsHead, IsTurnAt}
-use Rattle.delay_agenda.proofs.Placing.{put_stops, put_joined, put_behind, sorted_put, AllBefore, some_there}
+use Rattle.delay_agenda.proofs.Placing.{put_stops, put_joined, put_behind, sorted_put, none_stops, AllBefore, some_there}
 use Rattle.delay_agenda.proofs.Turns.{count_at, count_joined, without_joined, without_none, without_at}
 
 -- ---- keys
@@ -66,10 +66,6 @@ none_later e due (q ∷ qs) queues later less =
     let here = later.0 in
     none_joined e q.1.items (in_row qs) (none_before_due e q.0 q.1.items queues.0.together (omega (arith, here, less)))
     (none_later e due qs queues.2 later.1 less)
-
-none_stops : {X : Type 0} (e : Entry X) (es : List (Entry X)) → NoneBefore e es → StopsAt e es
-none_stops e [] none = tt
-none_stops e (x ∷ xs) none = none.0
 
 sorted_joined : {X : Type 0} (xs ys : List (Entry X)) (due : ℕ) → AreSorted xs → AreSorted ys → AreDue due xs
     → ((e : Entry X) → e.due ≤ due → NoneBefore e ys) → AreSorted (xs ++ ys)

@@ -14,18 +14,6 @@ use Rattle.delay_agenda.proofs.Placing.{put_stops, put_passes, sorted_put, none_
 
 -- ---- how many
 
-count_as : {X : Type 0} (b : Bool) (object : ℕ) (e : Entry X) (es : List (Entry X)) → is_turn_of object e ≡ b
-    → turn_count object (e ∷ es) ≡ (if b then suc (turn_count object es) else turn_count object es)
-count_as b object e es is = ap (λ (t : Bool). if t then suc (turn_count object es) else turn_count object es) is
-
-bool_of : (b : Bool) → (b ≡ true) ⊎ (b ≡ false)
-bool_of true = inl refl
-bool_of false = inr refl
-
-count_cons : {X : Type 0} (b : Bool) (object : ℕ) (e : Entry X) (es : List (Entry X)) (n : ℕ) → turn_count object es ≡ n
-    → (if b then suc (turn_count object es) else turn_count object es) ≡ (if b then suc n else n)
-count_cons b object e es n is = ap (λ k. if b then suc k else k) is
-
 swapped : (b c : Bool) (n : ℕ) → (if b then suc (if c then suc n else n) else (if c then suc n else n)) ≡ (if c then suc (if b then suc n else n) else (if b then suc n else n))
 swapped true true n = refl
 swapped true false n = refl

@@ -2,6 +2,10 @@
 use Rattle.std.specs.Prelude.{◌≡◌, ℕ, ◌+◌, ◌<◌, ◌≤◌, List, [], ◌∷◌, ◌++◌, length, take, get_or}
 use Rattle.saved_state.specs.declared.cell.Cell.{Cell}
 
+-- how many cells a page has at most
+abbrev pub page_limit : ℕ
+page_limit = 64
+
 -- a piece: its cells, and how many cells of the list lie beneath it
 pub record Part : Type 0 where
   pub cells : List Cell
@@ -10,7 +14,7 @@ pub record Part : Type 0 where
 -- so many cells from the first one used are on the page, which isn't too long
 pub record IsOnPage (first count : ℕ) (page : List Cell) : Type 0 where
   pub within : first + count ≤ length page
-  pub small : length page ≤ 64
+  pub small : length page ≤ page_limit
 
 -- the list that pieces in a row stand for
 abbrev pub flat : List Part → List Cell
@@ -42,4 +46,4 @@ pub record IsRow (len : ℕ) (parts : List Part) : Type 0 where
 -- piece k is the last one, and a page has room for more than its cells
 pub record IsTopWithRoom (k : ℕ) (parts : List Part) : Type 0 where
   pub last : k + 1 ≡ length parts
-  pub room : (part : Part) → part ≡ get_or parts k part → length part.cells < 64
+  pub room : (part : Part) → part ≡ get_or parts k part → length part.cells < page_limit

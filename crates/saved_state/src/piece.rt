@@ -1,5 +1,6 @@
 ghost use Rattle.std.specs.Prelude.{◌≡◌, ◌<◌, ◌≤◌, [], ◌∷◌, ◌++◌, length, take, drop, slice_get};
 ghost use Rattle.std.specs.Prelude.{slice_set, Some, OnOk, OnErr, IfOk};
+ghost use Rattle.saved_state.specs.Pages.{page_limit};
 
 use crate::cell::Cell;
 use nwq_value::NoMemory;
@@ -55,7 +56,7 @@ impl Piece {
 
     pub fn len(&self) -> usize
         ensures count { result ≡ length self.now.cells }
-        ensures bound { result ≤ 64 }
+        ensures bound { result ≤ page_limit }
     {
         self.count
     }
@@ -130,7 +131,7 @@ impl Piece {
     /// Puts a cell on top. After `NoMemory` it is dropped and the piece is as before.
     #[tactic(auto, using(crate::proofs::Pieces::push_steps))]
     pub fn push(&mut self, alloc: Global, cell: Cell) -> Result<(), NoMemory>
-        requires room { length self.old.cells < 64 }
+        requires room { length self.old.cells < page_limit }
         ensures ok { OnOk result
             (self.new ≡ record self.old { cells = self.old.cells ++ cell ∷ [] }) }
         ensures err { OnErr result (self.new ≡ self.old) }
