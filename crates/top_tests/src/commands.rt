@@ -242,6 +242,11 @@ fn headers(rt: HostRuntime) -> Result<(), Fail> {
             played,
         ),
         (
+            "float Cos(float f); vector V(float x=0.0, float y=0.0);\nvoid PrintInteger(int n);",
+            Status::Done,
+            played,
+        ),
+        (
             "int A(); int A();",
             Status::Script,
             "refused h.nss 1 13 twice\n",
