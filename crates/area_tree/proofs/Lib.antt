@@ -3,3 +3,5 @@ pub mod WovenLemmas
 pub mod ReadLemmas
 pub mod TagLemmas
 pub mod BackLemmas
+pub mod SoundLemmas
+pub mod AreaLemmas
