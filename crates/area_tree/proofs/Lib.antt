@@ -5,3 +5,5 @@ pub mod TagLemmas
 pub mod BackLemmas
 pub mod SoundLemmas
 pub mod AreaLemmas
+pub mod UnchangedLaws
+pub mod ReadBackLaws

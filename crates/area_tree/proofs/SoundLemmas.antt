@@ -11,6 +11,7 @@ use Rattle.area_tree.specs.Variables.{Variable, IntVar, TextVar, same_variable}
 use Rattle.area_tree.specs.Objects.{AreaObject, Entry, Broken, Unread, Tells, entry_of, with_entry, variables_in, structs_in, object_of, list_labels, objects_under, objects_of}
 use Rattle.area_tree.specs.Broken.{Place, entry_places, with_later, entries_places, tag_places, table_places, member_places, members_places, list_places, lists_places, broken_places}
 use Rattle.area_tree.specs.Back.{value_of, new_entry, is_kept, variable_for, with_value, valued, entries_back, others, table_back, leaf_back, fields_back, member_back, members_back, objects_back, list_back, lists_back}
+use Rattle.area_tree.specs.Area.{empty_tree}
 use Rattle.area_tree.proofs.VariableLaws.{same_equiv}
 
 -- what gff_tree's laws say of structs, fields and lists
@@ -135,7 +136,7 @@ back_sound law objects top sound = lists_sound law 61 (kind_of top) list_labels 
 
 -- ---- a tree that breaks no rule has distinct variables
 
-none_parts : {X : Type 0} (xs ys : List X) → xs ++ ys ≡ [] → (xs ≡ []) × (ys ≡ [])
+pub none_parts : {X : Type 0} (xs ys : List X) → xs ++ ys ≡ [] → (xs ≡ []) × (ys ≡ [])
 none_parts [] ys e = (refl, e)
 none_parts (x ∷ xs) ys e = absurd cc
 
@@ -202,3 +203,7 @@ lists_distinct n (label ∷ labels) fields none =
 
 pub objects_distinct : (top : PlainNode) → broken_places top ≡ [] → AreDistinct (objects_of top)
 objects_distinct top none = lists_distinct 0 list_labels (fields_of top) none
+
+pub empty_sound : is_sound empty_tree.top ≡ true
+unfolding is_sound
+empty_sound = refl
