@@ -7,3 +7,4 @@ pub mod SoundLemmas
 pub mod AreaLemmas
 pub mod UnchangedLaws
 pub mod ReadBackLaws
+pub mod OneValueLaws

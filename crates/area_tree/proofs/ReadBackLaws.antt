@@ -259,7 +259,7 @@ all_told P vars (v ∷ some) like all = by_match (matching v vars) refl (all_tol
     by_match (Some w) at more = (like v w (matching_same v w vars at) all.0, more)
 
 -- what is apart from a variable is apart from one of the same type and name
-apart_like : (u v w : Variable) → same_variable v w ≡ true → same_variable u v ≡ false → same_variable u w ≡ false
+pub apart_like : (u v w : Variable) → same_variable v w ≡ true → same_variable u v ≡ false → same_variable u w ≡ false
 apart_like u v w same apart = same_equiv.symm u w ∙ (sym (same_equiv.congr v w u same) ∙ (same_equiv.symm v u ∙ apart))
 
 like_apart : (y v w : Variable) → same_variable v w ≡ true → same_variable v y ≡ false → same_variable w y ≡ false
@@ -522,13 +522,13 @@ lists_other other (label ∷ labels) objects fields apart =
     let k = length (structs_in (found label fields)) in
     lists_other other labels (drop k objects) (list_back label (take k objects) (found label fields) fields) apart.1 ∙ list_other other label (take k objects) (found label fields) fields apart.0
 
-under_same : (label : List ℕ) (labels : List (List ℕ)) (objects : List AreaObject) (leaf : Option PlainLeaf) (fields : List PlainField) → AllOther label labels →
+pub under_same : (label : List ℕ) (labels : List (List ℕ)) (objects : List AreaObject) (leaf : Option PlainLeaf) (fields : List PlainField) → AllOther label labels →
     objects_under labels (list_back label objects leaf fields) ≡ objects_under labels fields
 under_same label [] objects leaf fields apart = refl
 under_same label (l ∷ labels) objects leaf fields apart =
     rw (list_other l label objects leaf fields (nat_list_eq_equiv.symm l label ∙ apart.0), under_same label labels objects leaf fields apart.1) refl
 
-places_same : (n : ℕ) (label : List ℕ) (labels : List (List ℕ)) (objects : List AreaObject) (leaf : Option PlainLeaf) (fields : List PlainField) → AllOther label labels →
+pub places_same : (n : ℕ) (label : List ℕ) (labels : List (List ℕ)) (objects : List AreaObject) (leaf : Option PlainLeaf) (fields : List PlainField) → AllOther label labels →
     lists_places n labels (list_back label objects leaf fields) ≡ lists_places n labels fields
 places_same n label [] objects leaf fields apart = refl
 places_same n label (l ∷ labels) objects leaf fields apart =
@@ -585,7 +585,7 @@ lists_read law n (label ∷ labels) objects fields apart same d none =
       (rw there (alike_joined (map object_of (structs_in (found label new))) (objects_under labels (lists_back labels rest new)) first rest here.1 more.1)),
     )
 
-labels_distinct : IsDistinct bytes_eq list_labels
+pub labels_distinct : IsDistinct bytes_eq list_labels
 unfolding IsDistinct
 labels_distinct = ((refl, (refl, (refl, (refl, tt)))), ((refl, (refl, (refl, tt))), ((refl, (refl, tt)), ((refl, tt), (tt, tt)))))
 

@@ -128,7 +128,7 @@ entries_one vars entry entries = by_test (is_kept vars entry)
     by_test true = refl
     by_test false = refl
 
-one_same : Laws → (vars : List Variable) (entry : PlainNode) (rest : List PlainNode) (e : Entry) (more : List Variable) → entry_of entry ≡ e → AllFound vars (with_entry e more) → one_back vars e entry rest ≡ entry ∷ rest
+pub one_same : Laws → (vars : List Variable) (entry : PlainNode) (rest : List PlainNode) (e : Entry) (more : List Variable) → entry_of entry ≡ e → AllFound vars (with_entry e more) → one_back vars e entry rest ≡ entry ∷ rest
 one_same law vars entry rest Broken more is all = refl
 one_same law vars entry rest Unread more is all = refl
 one_same law vars entry rest (Tells v) more is all =
@@ -136,12 +136,12 @@ one_same law vars entry rest (Tells v) more is all =
         ap (node_from (kind_of entry)) (replaced_same (codes "Value") (value_of v) (fields_of entry) (entry_value entry v is)) ∙ law.node entry in
     rw (found_any v v vars all.0, all.0) (ap (λ (n : PlainNode). n ∷ rest) same)
 
-later_all : (vars more : List Variable) (e : Entry) → AllFound vars (with_entry e more) → AllFound vars more
+pub later_all : (vars more : List Variable) (e : Entry) → AllFound vars (with_entry e more) → AllFound vars more
 later_all vars more Broken all = all
 later_all vars more Unread all = all
 later_all vars more (Tells v) all = all.1
 
-entries_same : Laws → (vars : List Variable) (entries : List PlainNode) → AllFound vars (variables_in entries) → entries_back vars entries ≡ entries
+pub entries_same : Laws → (vars : List Variable) (entries : List PlainNode) → AllFound vars (variables_in entries) → entries_back vars entries ≡ entries
 entries_same law vars [] all = refl
 entries_same law vars (entry ∷ entries) all =
     entries_one vars entry entries
@@ -173,13 +173,13 @@ fields_same law n m (Some (Children entries)) fields is none =
         ap list_from (table_same law (nodes_in entries) (table_distinct n m (Some (Children entries)) none)) ∙ law.list (Children entries) (nodes_in entries) refl in
     some_back (variables_in (nodes_in entries)) (Children entries) fields ∙ (rw same (replaced_same (codes "VarTable") (Children entries) fields is))
 
-member_same : Laws → (n m : ℕ) (node : PlainNode) → member_places n m node ≡ [] → member_back (object_of node).vars node ≡ node
+pub member_same : Laws → (n m : ℕ) (node : PlainNode) → member_places n m node ≡ [] → member_back (object_of node).vars node ≡ node
 member_same law n m node none =
     let table = found (codes "VarTable") (fields_of node) in
     ap (node_from (kind_of node)) (fields_same law n m table (fields_of node) refl (none_parts (tag_places n m (found (codes "Tag") (fields_of node))) (table_places n m table) none).1)
     ∙ law.node node
 
-members_same : Laws → (n m : ℕ) (nodes : List PlainNode) → members_places n m nodes ≡ [] → members_back (map object_of nodes) nodes ≡ nodes
+pub members_same : Laws → (n m : ℕ) (nodes : List PlainNode) → members_places n m nodes ≡ [] → members_back (map object_of nodes) nodes ≡ nodes
 members_same law n m [] none = refl
 members_same law n m (node ∷ nodes) none =
     let parts = none_parts (member_places n m node) (members_places n (m + 1) nodes) none in
@@ -187,7 +187,7 @@ members_same law n m (node ∷ nodes) none =
 
 -- ---- lists
 
-list_same : Laws → (n : ℕ) (label : List ℕ) (leaf : Option PlainLeaf) (fields : List PlainField) → found label fields ≡ leaf → list_places n leaf ≡ [] → list_back label (map object_of (structs_in leaf)) leaf fields ≡ fields
+pub list_same : Laws → (n : ℕ) (label : List ℕ) (leaf : Option PlainLeaf) (fields : List PlainField) → found label fields ≡ leaf → list_places n leaf ≡ [] → list_back label (map object_of (structs_in leaf)) leaf fields ≡ fields
 list_same law n label None fields is none = refl
 list_same law n label (Some (Holds scalar)) fields is none = absurd cc
 list_same law n label (Some (Child node)) fields is none = absurd cc

@@ -17,5 +17,5 @@ mod vars;
 
 pub use area::Area;
 pub use fault::AreaFault;
-pub use laws::areas_go_back;
+pub use laws::{areas_go_back, variables_stay};
 pub use vars::{Var, Vars};
