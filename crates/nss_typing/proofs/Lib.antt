@@ -1,1 +1,3 @@
+pub mod FirstKind
+pub mod Right
 mod Examples
