@@ -1,3 +1,7 @@
 pub mod FirstKind
 pub mod Right
+pub mod InSight
+pub mod Coverage
+pub mod RightExpressions
+pub mod RightStatements
 mod Examples

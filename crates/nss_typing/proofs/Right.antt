@@ -206,6 +206,17 @@ under given r = record {
   settled = λ u e. r.settled (given u) e;
 }
 
+-- where it is typed as soon as nothing in it is at fault
+pub given_by : {T U A : Type 0} {P : A → Type 0} {o : Option A} {fs : List Fault} {Q : Fault → Type 0} → (U → fs ≡ [] → T) → Right T P o fs Q → Right U P o fs Q
+given_by given r = record {
+  complete = r.complete;
+  sound = r.sound;
+  out = r.out;
+  up = r.up;
+  quiet = r.quiet;
+  settled = λ u e. r.settled (given u e) e;
+}
+
 -- a look-up
 pub looked : {T A : Type 0} (o : Option A) → (T → (a : A) × (o ≡ Some a)) → Right T (λ a. o ≡ Some a) o [] Never
 looked o there = record {
