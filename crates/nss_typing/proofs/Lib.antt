@@ -4,4 +4,5 @@ pub mod InSight
 pub mod Coverage
 pub mod RightExpressions
 pub mod RightStatements
+pub mod RightItems
 mod Examples

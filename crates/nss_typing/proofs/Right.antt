@@ -62,12 +62,12 @@ joined_up xs ys g h f (inr q) = among_right f xs ys (h f q)
 
 -- ---- verdicts
 
-two_is : {A B : Type 0} (o : Option A) (p : Option B) (q : A × B) → two o p ≡ Some q → (o ≡ Some q.0) × (p ≡ Some q.1)
+pub two_is : {A B : Type 0} (o : Option A) (p : Option B) (q : A × B) → two o p ≡ Some q → (o ≡ Some q.0) × (p ≡ Some q.1)
 two_is (Some a) (Some b) q e = let h = same_Some _ _ e in (ap (λ r. Some r.0) h, ap (λ r. Some r.1) h)
 two_is (Some a) None q e = absurd (none-some q e)
 two_is None p q e = absurd (none-some q e)
 
-three_is : {A B C : Type 0} (o : Option A) (p : Option B) (r : Option C) (q : A × B × C) → three o p r ≡ Some q
+pub three_is : {A B C : Type 0} (o : Option A) (p : Option B) (r : Option C) (q : A × B × C) → three o p r ≡ Some q
     → (o ≡ Some q.0) × (p ≡ Some q.1) × (r ≡ Some q.2)
 three_is (Some a) (Some b) (Some c) q e = let h = same_Some _ _ e in (ap (λ r. Some r.0) h, ap (λ r. Some r.1) h, ap (λ r. Some r.2) h)
 three_is (Some a) (Some b) None q e = absurd (none-some q e)
@@ -124,7 +124,7 @@ settle_ruled : {B : Type 0} (n : ℕ) (k : FaultKind) (o : Option B) → at n (r
 settle_ruled n k (Some b) e = (b, refl)
 settle_ruled n k None e = absurd cc
 
-settle_at : {A B : Type 0} (rows : A → Rows) (rule : A → Option B) (n : ℕ) (o : Option A) (a : A) → o ≡ Some a → at n (asked rows rule o) ≡ []
+pub settle_at : {A B : Type 0} (rows : A → Rows) (rule : A → Option B) (n : ℕ) (o : Option A) (a : A) → o ≡ Some a → at n (asked rows rule o) ≡ []
     → (b : B) × (fine (asked rows rule o) ≡ Some b)
 settle_at rows rule n (Some c) a i e = settle_ruled n (first_kind (rows c)) (rule c) e
 settle_at rows rule n None a i e = absurd (none-some a i)
