@@ -5,4 +5,6 @@ pub mod Coverage
 pub mod RightExpressions
 pub mod RightStatements
 pub mod RightItems
+pub mod Least
+pub mod UnitLaws
 mod Examples

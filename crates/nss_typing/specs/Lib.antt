@@ -6,3 +6,4 @@ pub mod Returns
 pub mod Rules
 pub mod Verdicts
 pub mod Meaning
+pub mod Laws
