@@ -7,4 +7,5 @@ pub mod RightStatements
 pub mod RightItems
 pub mod Least
 pub mod UnitLaws
+pub mod Numbering
 mod Examples

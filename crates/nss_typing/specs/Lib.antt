@@ -7,3 +7,4 @@ pub mod Rules
 pub mod Verdicts
 pub mod Meaning
 pub mod Laws
+pub mod Numbers

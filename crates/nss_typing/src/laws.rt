@@ -1,6 +1,7 @@
 //! Laws about the definitions, each the contract of a function that does nothing.
 
 ghost use Rattle.nss_typing.specs.Laws.{FaultlessIsTyped, FaultsAreListed, LeastIsKept, NoneKeptIsTyped, OneToken, OneTyped, SomeAnswer, TypedIsFaultless, VerdictsAreRight};
+ghost use Rattle.nss_typing.specs.Numbers.{NumberedInOrder};
 
 /// A unit has one typed tree at most.
 pub fn one_typed()
@@ -26,4 +27,9 @@ pub fn verdicts_are_right()
     ensures listed { FaultsAreListed }
     ensures least { LeastIsKept }
     ensures settled { NoneKeptIsTyped }
+{}
+
+/// The variables of a typed unit are numbered in one row from 0, in the order of their tokens.
+pub fn numbered_in_order()
+    ensures { NumberedInOrder }
 {}
