@@ -1,16 +1,16 @@
 -- Wherever a rule doesn't fit, some row is true.
-use Rattle.std.proofs.Common.{◌≡◌, refl, ℕ, Bool, true, false, not, ◌&&◌, if◌then◌else◌, List, Option, None, Some, option_map, option_and_then}
+use Rattle.std.proofs.Common.{◌≡◌, refl, ℕ, Bool, true, false, not, ◌&&◌, List, Option, None, Some, option_and_then}
 use Rattle.nss_tree.specs.declared.units.Identifier.{Identifier}
 use Rattle.nss_tree.specs.Source.{SourceDeclared, SourceParameter}
 use Rattle.nwq_value.specs.declared.value.Ty.{Ty}
 use Rattle.nwq_value.specs.declared.engine.Const.{Const}
 use Rattle.nss_typing.specs.declared.fault.FaultKind.{FaultKind}
-use Rattle.nss_typing.specs.declared.fault.FaultKind.TheVariants.{RefusedType, Unknown, Redeclared, Arity, NotConst, NotPlace, Outside, Mismatch, NoReturn, Cells, Entry}
+use Rattle.nss_typing.specs.declared.fault.FaultKind.TheVariants.{RefusedType, Unknown, Redeclared, Arity, Mismatch, Cells}
 use Rattle.nss_typing.specs.Typed.{TypedExpr, TypedStmts, TypedName, TypedParameter}
 use Rattle.nss_typing.specs.Types.{is_int}
 use Rattle.nss_typing.specs.Typed as typed
 use Rattle.nss_typing.specs.Nodes.{Rows, row, no_row}
-use Rattle.nss_typing.specs.Sight.{Meaning, Structure, Sight, Meant, is_taken, value_type, cells, cells_if, crosses_with}
+use Rattle.nss_typing.specs.Sight.{Structure, Sight, Meant, is_taken, value_type, cells, cells_if, crosses_with}
 use Rattle.nss_typing.specs.Rules.{when, name_rule, name_rows, value_fits, variable_rule, variable_rows, Fields, is_among, crosses_fields, field_rule, field_rows, is_refused, is_missing, is_behind, default_fits, parameter_of, parameter_rule, parameter_mismatch, parameter_rows, switch_rule, switch_rows}
 use Rattle.nss_typing.proofs.Right.{Covered}
 
@@ -49,7 +49,7 @@ after_four p q false false true false x e = absurd cc
 
 parameter_by : (c : Sight) (late : Bool) (p : SourceParameter) (m : Meant) (v : Option Const) (t : Option Ty) → option_and_then (parameter_of c late p v) t ≡ None
     → TrueRow (row RefusedType (is_refused m) (row Unknown (is_missing m) (row Redeclared (is_taken c p.name) (row Arity (is_behind late v)
-        (row Mismatch (parameter_mismatch v t) (row Cells (crosses_with c (cells_if c.structs t)) no_row))))))
+    (row Mismatch (parameter_mismatch v t) (row Cells (crosses_with c (cells_if c.structs t)) no_row))))))
 parameter_by c late p m v None e = (Mismatch, refl)
 parameter_by c late p m v (Some t) e =
     after_four (is_refused m) (is_missing m) (is_taken c p.name) (is_behind late v) (default_fits t v) (crosses_with c (cells c.structs t)) _ e

@@ -1,5 +1,5 @@
 -- The first kind in order whose row is true.
-use Rattle.std.proofs.Common.{◌≡◌, ◌∙◌, refl, sym, ap, subst, ℕ, zero, suc, ◌+◌, ◌<◌, ◌≤◌, Bool, true, false, true≢false, List, [], ◌∷◌, if◌then◌else◌, arith, ◌==◌, le_antisymm}
+use Rattle.std.proofs.Common.{◌≡◌, ◌∙◌, refl, sym, ap, ℕ, ◌+◌, ◌<◌, ◌≤◌, Bool, true, false, true≢false, List, [], ◌∷◌, if◌then◌else◌, arith, ◌==◌, le_antisymm}
 use Rattle.nss_typing.specs.declared.fault.FaultKind.{FaultKind}
 use Rattle.nss_typing.specs.declared.fault.FaultKind.TheVariants.{RefusedType, Unknown, Redeclared, Arity, NotConst, NotPlace, Outside, Mismatch, NoReturn, Cells, Entry}
 use Rattle.nss_typing.specs.Nodes.{rank, Rows, kinds, first_in, first_kind}

@@ -1,13 +1,13 @@
 -- What is in sight is typed: then a name, a callee and a type mean something.
-use Rattle.std.proofs.Common.{◌≡◌, ◌∙◌, refl, sym, ap, subst, ℕ, ◌+◌, Bool, true, false, if◌then◌else◌, List, [], ◌∷◌, ◌++◌, bytes_eq, Option, None, Some, option_map}
-use Rattle.std.proofs.lemmas.Option.{none-some, same_Some}
+use Rattle.std.proofs.Common.{◌≡◌, refl, ap, ℕ, ◌+◌, Bool, true, false, if◌then◌else◌, List, [], ◌∷◌, ◌++◌, bytes_eq, Option, None, Some, option_map}
+use Rattle.std.proofs.lemmas.Option.{none-some}
 use Rattle.nss_tree.specs.declared.constants.TypeName.{TypeName}
 use Rattle.nss_tree.specs.declared.constants.TypeName.TheVariants as spelled
 use Rattle.nss_tree.specs.Source.{SourceDeclared}
 use Rattle.nwq_value.specs.declared.value.Ty.{Ty}
 use Rattle.nwq_value.specs.declared.value.Ty.TheVariants as ty
 use Rattle.nwq_value.specs.Engine.{EngineTable, routine_named, constant_named}
-use Rattle.nss_typing.specs.Sight.{Meaning, constant, Entry, Members, Structure, Signature, Head, Sight, Meant, IsRefused, IsMissing, Is, Called, find_from, find, entry_means, name_means, has_body, find_head, types_of_head, first_types, body_number, is_of_struct, struct_means, type_means, of_signature, routine_called, callee, declared}
+use Rattle.nss_typing.specs.Sight.{constant, Entry, Members, Structure, Signature, Head, Sight, Meant, IsRefused, IsMissing, Is, Called, find_from, find, entry_means, name_means, has_body, find_head, types_of_head, first_types, body_number, is_of_struct, struct_means, type_means, of_signature, routine_called, callee, declared}
 use Rattle.nss_typing.specs.Verdicts.{after_names}
 
 abbrev pub Each : {A : Type 0} → (A → Type 0) → List A → Type 0
@@ -93,7 +93,7 @@ callee_by false f o r h = (r, refl)
 pub callee_there : (hs : List Head) (table : EngineTable) (x : List ℕ) → Each HeadTyped hs → IsThere (callee hs table x)
 callee_there hs table x k =
     callee_by (has_body x hs) (option_map (of_signature (body_number x hs))) (first_types x hs) (routine_called table.routines (routine_named x table.routines))
-        (first_there x hs k)
+    (first_there x hs k)
 
 -- ---- types
 

@@ -1,5 +1,5 @@
 -- The least of a list of faults.
-use Rattle.std.proofs.Common.{◌≡◌, ◌∙◌, ◌≤◌, ◌<◌, refl, sym, ap, subst, ℕ, Bool, true, false, if◌then◌else◌, nat_lt, List, [], ◌∷◌, Option, None, Some, ◌⊎◌, inl, inr, arith, le_trans, le_refl}
+use Rattle.std.proofs.Common.{◌≡◌, ◌∙◌, ◌≤◌, refl, sym, subst, Bool, true, false, if◌then◌else◌, nat_lt, List, [], ◌∷◌, Option, None, Some, ◌⊎◌, inl, inr, arith, le_refl}
 use Rattle.std.proofs.lemmas.Bool.Decides.{nat_tests}
 use Rattle.std.proofs.lemmas.Option.{none-some, same_Some}
 use Rattle.nss_typing.specs.declared.fault.Fault.{Fault}
@@ -20,6 +20,7 @@ kept_is o (g ∷ gs) f e = first (kept_is (earlier o g) gs f e)
     second : (o ≡ Some f) ⊎ (g ≡ f) → (o ≡ Some f) ⊎ ((g ≡ f) ⊎ Among f gs)
     second (inl h) = inl h
     second (inr h) = inr (inl h)
+
     first : (earlier o g ≡ Some f) ⊎ Among f gs → (o ≡ Some f) ⊎ ((g ≡ f) ⊎ Among f gs)
     first (inl h) = second (earlier_is o g f h)
     first (inr h) = inr (inr h)

@@ -1,18 +1,16 @@
 -- The variables of a typed tree are numbered in a row.
-use Rattle.std.proofs.Common.{◌≡◌, ◌∙◌, refl, sym, ap, subst, ℕ, zero, suc, ◌+◌, Bool, true, false, ap₂, List, [], ◌∷◌, ◌++◌, map, length, Option, None, Some, is_some, option_map, option_and_then, arith, zero-add, add-zero}
+use Rattle.std.proofs.Common.{◌≡◌, ◌∙◌, refl, sym, ap, ℕ, zero, suc, ◌+◌, Bool, true, false, ap₂, List, [], ◌∷◌, ◌++◌, map, length, Option, None, Some, is_some, option_and_then, arith, zero-add, add-zero}
 use Rattle.std.proofs.lemmas.Option.{none-some, same_Some}
 use Rattle.nss_tree.specs.Statements as stmt
 use Rattle.nss_tree.specs.Units as item
 use Rattle.nss_tree.specs.Counts.{variables_in, variables_in_all, variables_in_body, variables_of, in_all}
-use Rattle.nss_tree.specs.Source.{SourceDeclared, SourceStmt, SourceStmts, SourceItem, SourceTree, SourceParameter}
+use Rattle.nss_tree.specs.Source.{SourceDeclared, SourceStmt, SourceStmts, SourceItem, SourceParameter}
 use Rattle.nwq_value.specs.declared.value.Ty.{Ty}
-use Rattle.nwq_value.specs.Engine.{EngineTable}
-use Rattle.nss_typing.specs.Types.{is_int}
-use Rattle.nss_typing.specs.Typed.{TypedExpr, type_of, TypedName, TypedStmt, TypedStmts, TypedParameter, TypedItem, TypedUnit}
-use Rattle.nss_typing.specs.Nodes.{Fits, There, absent, present}
-use Rattle.nss_typing.specs.Sight.{Head, Meant, Signature, Sight, start, entered, inside, looped, switched, declared, value_type, any_type}
+use Rattle.nss_typing.specs.Typed.{TypedName, TypedStmt, TypedStmts, TypedParameter, TypedItem}
+use Rattle.nss_typing.specs.Nodes.{There, absent, present}
+use Rattle.nss_typing.specs.Sight.{Head, Meant, Signature, Sight, entered, inside, looped, switched, declared, value_type, any_type}
 use Rattle.nss_typing.specs.Rules.{when, parameter_of, head_of, TypedHead}
-use Rattle.nss_typing.specs.Verdicts.{after, afters, after_then, after_names, after_params, after_body, after_item, after_items, line_type, parameter_declared, late_after, in_function, in_body, heads}
+use Rattle.nss_typing.specs.Verdicts.{after, afters, after_then, after_names, after_params, after_body, after_item, line_type, parameter_declared, in_function, in_body}
 use Rattle.nss_typing.specs.Meaning.{TypesNames, TypesStmt, TypesStmts, TypesParams, HeadParts, TypesItem, TypesItems, TypesUnit}
 use Rattle.nss_typing.specs.Meaning as rules
 use Rattle.nss_typing.specs.Numbers.{number_of, number_of_parameter, numbers, all_numbers, body_numbers, item_numbers, items_numbers, numbers_from, NumberedInOrder}
@@ -25,6 +23,7 @@ from_add n (suc j) k = ap (numbers_from n) (shift j k) ∙ ap (λ (xs : List ℕ
   where
     shift : (a b : ℕ) → suc a + b ≡ suc (a + b)
     shift a b = omega arith
+
     moved : (a b : ℕ) → a + 1 + b ≡ a + suc b
     moved a b = omega arith
 

@@ -1,9 +1,9 @@
 -- Nodes whose verdicts, faults and meaning agree, and how they are put together.
-use Rattle.std.proofs.Common.{◌≤◌, ◌≡◌, ◌∙◌, refl, sym, ap, subst, ℕ, Bool, true, false, List, [], ◌∷◌, ◌++◌, Option, None, Some, option_map, ◌⊎◌, inl, inr}
+use Rattle.std.proofs.Common.{◌≤◌, ◌≡◌, refl, ap, subst, ℕ, true, List, [], ◌∷◌, ◌++◌, Option, None, Some, option_map, ◌⊎◌, inl, inr}
 use Rattle.std.proofs.lemmas.Option.{none-some, same_Some}
 use Rattle.nss_typing.specs.declared.fault.Fault.{Fault}
 use Rattle.nss_typing.specs.declared.fault.FaultKind.{FaultKind}
-use Rattle.nss_typing.specs.Nodes.{Rows, rank, first_kind, Verdict, Fine, Wrong, Open, fine, ruled, asked, passed, two, three, four, no_parts, present_if, if_there, Fits, AtFault, Own, There, absent, present, FaultThere, at, faults_there, Among}
+use Rattle.nss_typing.specs.Nodes.{Rows, rank, first_kind, Verdict, Fine, Wrong, Open, fine, ruled, asked, passed, two, three, four, no_parts, present_if, if_there, Fits, Own, There, absent, present, FaultThere, at, faults_there, Among}
 use Rattle.nss_typing.proofs.FirstKind.{first_is, only_first}
 
 -- An answer, and a list of faults, that agree with a meaning: what is typed so, and what is at fault. T says that what is in sight
@@ -167,9 +167,9 @@ node {T} {A} {B} rows rule covered n {P} {o} {fs} r = record {
   up = joined_up fs (at n (asked rows rule o)) r.up (own_up rows rule P o r.complete n);
   quiet = λ b e. let h = asked_fine rows rule o b e in none_join fs (at n (asked rows rule o)) (r.quiet h.0 h.1) (quiet_at n (asked rows rule o) b e);
   settled = λ t e.
-    let h = none_split fs (at n (asked rows rule o)) e in
-    let s = r.settled t h.0 in
-    settle_at rows rule n o s.0 s.1 h.1;
+      let h = none_split fs (at n (asked rows rule o)) e in
+      let s = r.settled t h.0 in
+      settle_at rows rule n o s.0 s.1 h.1;
 }
 
 -- the same of other words for what is typed, and for what is at fault
@@ -259,10 +259,10 @@ both {T} {U} {A} {B} {P} {P'} {o} {p} {fs} {gs} r step s = record {
   up = joined_up fs gs r.up s.up;
   quiet = λ q e. let h = two_is o p q e in none_join fs gs (r.quiet q.0 h.0) (s.quiet q.1 h.1);
   settled = λ t e.
-    let h = none_split fs gs e in
-    let a = r.settled t h.0 in
-    let b = s.settled (step t h.0) h.1 in
-    ((a.0, b.0), rw (a.1, b.1) refl);
+      let h = none_split fs gs e in
+      let a = r.settled t h.0 in
+      let b = s.settled (step t h.0) h.1 in
+      ((a.0, b.0), rw (a.1, b.1) refl);
 }
 
 pub all_three : {T U V A B C : Type 0} {P : A → Type 0} {P' : B → Type 0} {P'' : C → Type 0} {o : Option A} {p : Option B} {q : Option C}
@@ -275,15 +275,15 @@ all_three {o = o} {p = p} {q = q} {fs = fs} {gs = gs} {hs = hs} r step s step' t
   out = joined_out fs (gs ++ hs) r.out (joined_out gs hs s.out t.out);
   up = joined_up fs (gs ++ hs) r.up (joined_up gs hs s.up t.up);
   quiet = λ x e.
-    let h = three_is o p q x e in
-    none_join fs (gs ++ hs) (r.quiet x.0 h.0) (none_join gs hs (s.quiet x.1 h.1) (t.quiet x.2 h.2));
+      let h = three_is o p q x e in
+      none_join fs (gs ++ hs) (r.quiet x.0 h.0) (none_join gs hs (s.quiet x.1 h.1) (t.quiet x.2 h.2));
   settled = λ w e.
-    let h = none_split fs (gs ++ hs) e in
-    let i = none_split gs hs h.1 in
-    let a = r.settled w h.0 in
-    let b = s.settled (step w h.0) i.0 in
-    let c = t.settled (step' (step w h.0) i.0) i.1 in
-    ((a.0, b.0, c.0), rw (a.1, b.1, c.1) refl);
+      let h = none_split fs (gs ++ hs) e in
+      let i = none_split gs hs h.1 in
+      let a = r.settled w h.0 in
+      let b = s.settled (step w h.0) i.0 in
+      let c = t.settled (step' (step w h.0) i.0) i.1 in
+      ((a.0, b.0, c.0), rw (a.1, b.1, c.1) refl);
 }
 
 pub all_four : {T A B C D : Type 0} {P : A → Type 0} {P' : B → Type 0} {P'' : C → Type 0} {P3 : D → Type 0} {o : Option A} {p : Option B} {q : Option C} {w : Option D}
@@ -296,18 +296,18 @@ all_four {o = o} {p = p} {q = q} {w = w} {fs = fs} {gs = gs} {hs = hs} {is = is}
   out = joined_out fs (gs ++ (hs ++ is)) r.out (joined_out gs (hs ++ is) s.out (joined_out hs is t.out u.out));
   up = joined_up fs (gs ++ (hs ++ is)) r.up (joined_up gs (hs ++ is) s.up (joined_up hs is t.up u.up));
   quiet = λ x e.
-    let h = four_is o p q w x e in
-    none_join fs (gs ++ (hs ++ is)) (r.quiet x.0 h.0)
+      let h = four_is o p q w x e in
+      none_join fs (gs ++ (hs ++ is)) (r.quiet x.0 h.0)
       (none_join gs (hs ++ is) (s.quiet x.1 h.1) (none_join hs is (t.quiet x.2 h.2) (u.quiet x.3 h.3)));
   settled = λ v e.
-    let h = none_split fs (gs ++ (hs ++ is)) e in
-    let i = none_split gs (hs ++ is) h.1 in
-    let j = none_split hs is i.1 in
-    let a = r.settled v h.0 in
-    let b = s.settled v i.0 in
-    let c = t.settled v j.0 in
-    let d = u.settled v j.1 in
-    ((a.0, b.0, c.0, d.0), rw (a.1, b.1, c.1, d.1) refl);
+      let h = none_split fs (gs ++ (hs ++ is)) e in
+      let i = none_split gs (hs ++ is) h.1 in
+      let j = none_split hs is i.1 in
+      let a = r.settled v h.0 in
+      let b = s.settled v i.0 in
+      let c = t.settled v j.0 in
+      let d = u.settled v j.1 in
+      ((a.0, b.0, c.0, d.0), rw (a.1, b.1, c.1, d.1) refl);
 }
 
 -- a part, then a look-up

@@ -1,5 +1,5 @@
 -- Expressions, constants and lines: verdicts, faults and meaning agree.
-use Rattle.std.proofs.Common.{◌≡◌, refl, sym, ap, subst, ℕ, ℤ, Bool, true, false, List, [], ◌∷◌, ◌++◌, Option, None, Some, ◌⊎◌}
+use Rattle.std.proofs.Common.{◌≡◌, refl, subst, ℕ, ℤ, Bool, false, List, Some}
 use Rattle.nss_tree.specs.declared.operators.PrefixOperator.{PrefixOperator}
 use Rattle.nss_tree.specs.declared.operators.PostfixOperator.{PostfixOperator}
 use Rattle.nss_tree.specs.declared.operators.BinaryOperator.{BinaryOperator}
@@ -12,12 +12,12 @@ use Rattle.nss_tree.specs.Expressions as tree
 use Rattle.nss_tree.specs.Places.{token_of}
 use Rattle.nwq_value.specs.declared.engine.Const.TheVariants as const
 use Rattle.nwq_value.specs.declared.engine.Param.{Param}
-use Rattle.nss_typing.specs.declared.fault.FaultKind.TheVariants.{RefusedType, Unknown, Redeclared, Arity, NotConst, NotPlace, Outside, Mismatch, NoReturn, Cells, Entry}
-use Rattle.nss_typing.specs.Typed.{TypedExpr, TypedExprs, literal, no_typed, more_typed}
-use Rattle.nss_typing.specs.Nodes.{fine, Fits, at, asked}
-use Rattle.nss_typing.specs.Sight.{Head, Structure, Sight, Meant, name_means, callee, wanted, type_means, value_type}
-use Rattle.nss_typing.specs.Rules.{name_rule, name_rows, float_rule, float_rows, call_rule, call_rows, takes_action, others, member_rule, member_rows, prefix_rule, prefix_rows, postfix_rule, postfix_rows, binary_rule, binary_rows, assign_rule, assign_rows, constant_named, constant_means, constant_rule, constant_rows, constant_type, line_rows}
-use Rattle.nss_typing.specs.Verdicts.{verdict, all_fine, faults, all_faults, longer_typed, constant_value, constant_faults, line_verdict, line_type, constant_line_verdict}
+use Rattle.nss_typing.specs.declared.fault.FaultKind.TheVariants.{RefusedType, Unknown, NotConst, Mismatch}
+use Rattle.nss_typing.specs.Typed.{TypedExpr, TypedExprs, literal, no_typed}
+use Rattle.nss_typing.specs.Nodes.{fine, Fits, at}
+use Rattle.nss_typing.specs.Sight.{Head, Structure, Sight, name_means, callee, wanted, type_means, value_type}
+use Rattle.nss_typing.specs.Rules.{name_rule, name_rows, float_rule, float_rows, call_rule, call_rows, takes_action, others, member_rule, member_rows, prefix_rule, prefix_rows, postfix_rule, postfix_rows, binary_rule, binary_rows, assign_rule, assign_rows, constant_named, constant_means, constant_rule, constant_rows, line_rows}
+use Rattle.nss_typing.specs.Verdicts.{verdict, all_fine, faults, all_faults, longer_typed, constant_value, constant_faults, line_verdict, line_type}
 use Rattle.nss_typing.specs.Meaning.{Types, AllTypes, CallParts, TwoParts, TypesValue, FaultIn, FaultAmong, TypesConstant, FaultInConstant, TypesLine, FaultOfLine}
 use Rattle.nss_typing.specs.Meaning as rules
 use Rattle.nss_typing.proofs.Right.{Right, Image, said, node, leaf, looked, no_part, both, and_looked, maps, always}
@@ -97,33 +97,33 @@ mutual
       said (λ t e. subst (Types hs c b (tree.object_invalid n)) e (rules.Types.object_invalid b n)) (invalid_back hs c b n) (always (literal const.InvalidObject))
   right_expr hs c b (tree.name n x) =
       said (λ t h. rules.Types.name b n x h.parts h.gives) (name_back hs c b n x)
-        (leaf name_rows (name_rule c.at_file) (name_covered c.at_file) n (looked (name_means c x) (λ v. name_there c x v.1.0)))
+      (leaf name_rows (name_rule c.at_file) (name_covered c.at_file) n (looked (name_means c x) (λ v. name_there c x v.1.0)))
   right_expr hs c b (tree.call n f es) =
       said (λ t h. rules.Types.call b n f h.parts.0 h.parts.1 h.gives) (call_back hs c b n f es)
-        (node (call_rows c.at_file b) (call_rule c.at_file b) (λ a e. (Mismatch, refl)) n
-          (and_looked (right_all hs c (wanted hs c.table f) es) (callee hs c.table f) (λ v. callee_there hs c.table f v.0)))
+      (node (call_rows c.at_file b) (call_rule c.at_file b) (λ a e. (Mismatch, refl)) n
+      (and_looked (right_all hs c (wanted hs c.table f) es) (callee hs c.table f) (λ v. callee_there hs c.table f v.0)))
   right_expr hs c b (tree.member n e x) =
       said (λ t h. rules.Types.member b n x h.parts h.gives) (member_back hs c b n e x)
-        (node member_rows (member_rule c.structs x) (λ a i. (Unknown, refl)) n (right_expr hs c false e))
+      (node member_rows (member_rule c.structs x) (λ a i. (Unknown, refl)) n (right_expr hs c false e))
   right_expr hs c b (tree.prefix n o e) =
       said (λ t h. rules.Types.prefix b n o h.parts h.gives) (prefix_back hs c b n o e)
-        (node (prefix_rows o) (prefix_rule o) (λ a i. (Mismatch, refl)) n (right_expr hs c false e))
+      (node (prefix_rows o) (prefix_rule o) (λ a i. (Mismatch, refl)) n (right_expr hs c false e))
   right_expr hs c b (tree.postfix n o e) =
       said (λ t h. rules.Types.postfix b n o h.parts h.gives) (postfix_back hs c b n o e)
-        (node postfix_rows (postfix_rule o) (λ a i. (Mismatch, refl)) n (right_expr hs c false e))
+      (node postfix_rows (postfix_rule o) (λ a i. (Mismatch, refl)) n (right_expr hs c false e))
   right_expr hs c b (tree.binary n o d e) =
       said (λ t h. rules.Types.binary b n o h.parts.0 h.parts.1 h.gives) (binary_back hs c b n o d e)
-        (node binary_rows (binary_rule o) (λ a i. (Mismatch, refl)) n (both (right_expr hs c false d) (λ v i. v) (right_expr hs c false e)))
+      (node binary_rows (binary_rule o) (λ a i. (Mismatch, refl)) n (both (right_expr hs c false d) (λ v i. v) (right_expr hs c false e)))
   right_expr hs c b (tree.assign n o d e) =
       said (λ t h. rules.Types.assign b n o h.parts.0 h.parts.1 h.gives) (assign_back hs c b n o d e)
-        (node assign_rows (assign_rule o) (λ a i. (Mismatch, refl)) n (both (right_expr hs c false d) (λ v i. v) (right_expr hs c false e)))
+      (node assign_rows (assign_rule o) (λ a i. (Mismatch, refl)) n (both (right_expr hs c false d) (λ v i. v) (right_expr hs c false e)))
 
   pub right_all : (hs : List Head) (c : Sight) (ps : List Param) (es : PlainExprs)
       → Right (Valued hs c) (AllTypes hs c ps es) (all_fine hs c ps es) (all_faults hs c ps es) (FaultAmong hs c ps es)
   right_all hs c ps tree.no_expr = said (λ t e. subst (AllTypes hs c ps tree.no_expr) e (rules.AllTypes.none ps)) (none_back hs c ps) (always no_typed)
   right_all hs c ps (tree.more_exprs e es) =
       said (λ t h. subst (AllTypes hs c ps (tree.more_exprs e es)) h.2 (rules.AllTypes.more ps h.1.0 h.1.1)) (more_back hs c ps e es)
-        (maps longer_typed (both (right_expr hs c (takes_action ps) e) (λ v i. v) (right_all hs c (others ps) es)))
+      (maps longer_typed (both (right_expr hs c (takes_action ps) e) (λ v i. v) (right_all hs c (others ps) es)))
 
 -- ---- constants and lines
 

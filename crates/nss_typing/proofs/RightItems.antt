@@ -1,28 +1,25 @@
 -- Structs, functions, items and units: verdicts, faults and meaning agree.
-use Rattle.std.proofs.Common.{◌≡◌, ◌∙◌, refl, sym, ap, subst, ◌⊎◌, ℕ, Bool, true, false, List, [], ◌∷◌, ◌++◌, Option, None, Some, is_some, option_map, option_and_then}
-use Rattle.std.proofs.lemmas.Option.{none-some, same_Some}
+use Rattle.std.proofs.Common.{◌≡◌, ◌∙◌, refl, ap, subst, ◌⊎◌, ℕ, Bool, false, List, [], ◌∷◌, ◌++◌, Option, None, Some, is_some, option_map, option_and_then}
+use Rattle.std.proofs.lemmas.Option.{none-some}
 use Rattle.nss_tree.specs.declared.constants.Constant.{Constant}
 use Rattle.nss_tree.specs.declared.constants.TypeName.{TypeName}
 use Rattle.nss_tree.specs.declared.units.Identifier.{Identifier}
 use Rattle.nss_tree.specs.Units as item
 use Rattle.nss_tree.specs.Source.{SourceDeclared, SourceStmts, SourceItem, SourceTree, SourceLine, SourceParameter}
 use Rattle.nwq_value.specs.declared.value.Ty.{Ty}
-use Rattle.nwq_value.specs.declared.engine.Const.{Const}
 use Rattle.nwq_value.specs.Engine.{EngineTable}
-use Rattle.nss_typing.specs.declared.fault.Fault.{Fault}
 use Rattle.nss_typing.specs.declared.fault.FaultKind.TheVariants.{Redeclared, Mismatch, NoReturn, Entry}
 use Rattle.nss_typing.specs.declared.places.EntryPoint.{EntryPoint}
-use Rattle.nss_typing.specs.Typed.{TypedName, TypedStmts, TypedLine, TypedParameter, TypedItem, TypedUnit}
-use Rattle.nss_typing.specs.Nodes.{fine, asked, two, three, if_there, faults_there, Fits, Own, FaultThere, There, at}
-use Rattle.nss_typing.specs.Sight as sight
-use Rattle.nss_typing.specs.Sight.{Head, Structure, Sight, Signature, Meant, start, type_means, value_type, any_type, declared_type, result_type, first_types, declared}
-use Rattle.nss_typing.specs.Rules.{constant_type, line_rows, constant_name_rule, constant_name_rows, Fields, no_fields, field_rule, field_rows, struct_rule, struct_rows, parameter_of, parameter_rule, parameter_rows, TypedHead, signature_of, head_of, head_rule, head_rows, function_rule, function_rows, entry_rule, entry_rows}
-use Rattle.nss_typing.specs.Verdicts.{longer, after_names, line_type, line_verdict, constant_line_verdict, constant_value, constant_faults, names_fine, names_faults, stmts_fine, stmts_faults, field_verdict, field_added, fields_fine, fields_faults, line_of, line_fine, line_faults, after_line, lines_fine, lines_faults, struct_verdict, struct_members, parameter_verdict, parameter_declared, late_after, after_params, params_fine, params_faults, in_function, in_body, head_verdict, head_faults, body_fine, body_faults, function_verdict, constant_parts, constant_name_verdict, constant_item, global_item, constant_meaning, after_item, after_items, item_fine, item_faults, items_fine, items_faults, heads, entry_verdict, unit_of, unit_typed, unit_faults}
+use Rattle.nss_typing.specs.Typed.{TypedName, TypedLine, TypedParameter, TypedItem, TypedUnit}
+use Rattle.nss_typing.specs.Nodes.{fine, two, three, if_there, faults_there, Fits, Own, FaultThere, at}
+use Rattle.nss_typing.specs.Sight.{Head, Structure, Sight, start, type_means, value_type, any_type, declared_type, result_type, first_types, declared}
+use Rattle.nss_typing.specs.Rules.{constant_type, line_rows, constant_name_rule, constant_name_rows, Fields, no_fields, field_rule, field_rows, struct_rule, struct_rows, parameter_of, parameter_rule, parameter_rows, signature_of, head_of, head_rule, head_rows, function_rule, function_rows, entry_rule, entry_rows}
+use Rattle.nss_typing.specs.Verdicts.{longer, after_names, line_type, line_verdict, constant_line_verdict, constant_value, constant_faults, names_faults, stmts_fine, stmts_faults, field_added, fields_fine, fields_faults, line_of, line_fine, line_faults, after_line, lines_fine, lines_faults, struct_verdict, struct_members, parameter_verdict, parameter_declared, late_after, after_params, params_fine, params_faults, in_function, in_body, head_verdict, head_faults, body_faults, function_verdict, constant_name_verdict, constant_item, global_item, constant_meaning, after_item, after_items, item_fine, item_faults, items_fine, items_faults, heads, unit_of, unit_typed, unit_faults}
 use Rattle.nss_typing.specs.Meaning.{NoParts, TypesConstant, FaultInConstant, TypesLine, TypesNames, TypesStmts, FaultInStmts, TypesFields, TypesFieldLine, TypesLines, FaultOfLine, FaultInFields, FaultInLines, ParameterParts, TypesParams, FaultInParams, HeadParts, TypesHead, FaultInHead, TypesBody, FunctionParts, ConstantNameParts, TypesItem, FaultInItem, TypesItems, FaultInItems, TypesUnit, FaultInUnit}
 use Rattle.nss_typing.specs.Meaning as rules
-use Rattle.nss_typing.proofs.Right.{Right, Image, Never, said, told, under, given_by, node, leaf, looked, no_part, both, looked_and, and_two_looked, if_right, maps, always, none_split, asked_fine, settle_at, two_is, three_is}
+use Rattle.nss_typing.proofs.Right.{Right, Image, said, under, given_by, node, leaf, looked, no_part, both, looked_and, and_two_looked, if_right, maps, always, none_split, asked_fine, two_is, three_is}
 use Rattle.nss_typing.proofs.Coverage.{field_covered, parameter_covered}
-use Rattle.nss_typing.proofs.InSight.{Each, each_last, IsThere, EntryTyped, StructTyped, HeadTyped, Sighted, Valued, Scoped, type_there, first_there, declared_sighted, names_sighted}
+use Rattle.nss_typing.proofs.InSight.{Each, each_last, IsThere, EntryTyped, StructTyped, HeadTyped, Sighted, Scoped, type_there, first_there, declared_sighted}
 use Rattle.nss_typing.proofs.RightExpressions.{right_constant, right_line}
 use Rattle.nss_typing.proofs.RightStatements.{right_names, right_stmts, line_typed}
 
@@ -43,9 +40,9 @@ right_fields : (structs : List Structure) (s : Fields) (t : Option Ty) (xs : Lis
 right_fields structs s t [] = said (λ ys e. subst (TypesFields structs s t []) e (rules.TypesFields.none s t)) (no_field_back structs s t) (always [])
 right_fields structs s t (x ∷ xs) =
     said (λ ys h. subst (TypesFields structs s t (x ∷ xs)) h.2 (rules.TypesFields.more s t h.1.0 h.1.1)) (field_more_back structs s t x xs)
-      (maps longer
-        (both (leaf (field_rows structs s x) (field_rule structs s x) (field_covered structs s x) x.token (looked t (λ v. v))) (λ v i. v)
-          (right_fields structs (field_added structs s t x) t xs)))
+    (maps longer
+    (both (leaf (field_rows structs s x) (field_rule structs s x) (field_covered structs s x) x.token (looked t (λ v. v))) (λ v i. v)
+    (right_fields structs (field_added structs s t x) t xs)))
 
 abbrev LineParts : List Structure → Fields → SourceLine → Ty × List Identifier → Type 0
 LineParts structs s l p = TypesLine structs l.ty p.0 × TypesFields structs s (line_type structs l.ty) l.names p.1
@@ -59,11 +56,11 @@ line_back structs s l u h = ((u.ty, u.names), (h.line, h.fields), ap (λ (n : �
 
 right_field_line : (structs : List Structure) (s : Fields) (l : SourceLine)
     → Right (Each StructTyped structs) (TypesFieldLine structs s l) (line_fine structs s l) (line_faults structs s l)
-        (λ f. FaultOfLine structs l.token l.ty f ⊎ FaultInFields structs s (line_type structs l.ty) l.names f)
+    (λ f. FaultOfLine structs l.token l.ty f ⊎ FaultInFields structs s (line_type structs l.ty) l.names f)
 right_field_line structs s l =
     said (line_there structs s l) (line_back structs s l)
-      (maps (line_of l.token)
-        (both (right_line structs l.token l.ty) (λ v e. (right_line structs l.token l.ty).settled v e) (right_fields structs s (line_type structs l.ty) l.names)))
+    (maps (line_of l.token)
+    (both (right_line structs l.token l.ty) (λ v e. (right_line structs l.token l.ty).settled v e) (right_fields structs s (line_type structs l.ty) l.names)))
 
 no_line_back : (structs : List Structure) (s : Fields) (us : List TypedLine) → TypesLines structs s [] us → [] ≡ us
 no_line_back structs s us (rules.TypesLines.none r) = refl
@@ -80,12 +77,12 @@ right_lines : (structs : List Structure) (s : Fields) (ls : List SourceLine)
 right_lines structs s [] = said (λ us e. subst (TypesLines structs s []) e (rules.TypesLines.none s)) (no_line_back structs s) (always [])
 right_lines structs s (l ∷ ls) =
     said (λ us h. subst (TypesLines structs s (l ∷ ls)) h.2 (rules.TypesLines.more s h.1.0 h.1.1)) (line_more_back structs s l ls)
-      (maps longer (both (right_field_line structs s l) (λ v i. v) (right_lines structs (after_line structs s l) ls)))
+    (maps longer (both (right_field_line structs s l) (λ v i. v) (right_lines structs (after_line structs s l) ls)))
 
 right_struct : (structs : List Structure) (n : ℕ) (x : List ℕ) (ls : List SourceLine)
     → Right (Each StructTyped structs) (Fits (TypesLines structs no_fields ls) (struct_rule structs x)) (fine (struct_verdict structs x ls))
-        (lines_faults structs no_fields ls ++ at n (struct_verdict structs x ls))
-        (λ f. FaultInLines structs no_fields ls f ⊎ Own n (TypesLines structs no_fields ls) (struct_rule structs x) struct_rows f)
+    (lines_faults structs no_fields ls ++ at n (struct_verdict structs x ls))
+    (λ f. FaultInLines structs no_fields ls f ⊎ Own n (TypesLines structs no_fields ls) (struct_rule structs x) struct_rows f)
 right_struct structs n x ls = node struct_rows (struct_rule structs x) (λ a e. (Redeclared, refl)) n (right_lines structs no_fields ls)
 
 -- ---- parameters
@@ -107,12 +104,12 @@ parameter_typed c late p h =
 
 right_parameter : (c : Sight) (late : Bool) (p : SourceParameter)
     → Right (Sighted c) (Fits (ParameterParts c p) (parameter_rule c late p)) (fine (parameter_verdict c late p))
-        (faults_there (constant_faults c) p.default ++ at p.token (parameter_verdict c late p))
-        (λ f. FaultThere (FaultInConstant c) p.default f ⊎ Own p.token (ParameterParts c p) (parameter_rule c late p) (parameter_rows c late p) f)
+    (faults_there (constant_faults c) p.default ++ at p.token (parameter_verdict c late p))
+    (λ f. FaultThere (FaultInConstant c) p.default f ⊎ Own p.token (ParameterParts c p) (parameter_rule c late p) (parameter_rows c late p) f)
 right_parameter c late p =
     node (parameter_rows c late p) (parameter_rule c late p) (parameter_covered c late p) p.token
-      (looked_and (type_means c.structs p.ty) (λ v. type_there c.structs p.ty v.1)
-        (if_right (constant_value c) (constant_faults c) (FaultInConstant c) (right_constant c) p.default))
+    (looked_and (type_means c.structs p.ty) (λ v. type_there c.structs p.ty v.1)
+    (if_right (constant_value c) (constant_faults c) (FaultInConstant c) (right_constant c) p.default))
 
 parameter_keeps : (c : Sight) (late : Bool) (p : SourceParameter) → Sighted c
     → faults_there (constant_faults c) p.default ++ at p.token (parameter_verdict c late p) ≡ [] → Sighted (parameter_declared c p)
@@ -133,13 +130,13 @@ right_params : (c : Sight) (late : Bool) (ps : List SourceParameter)
 right_params c late [] = said (λ ts e. subst (TypesParams c late []) e (rules.TypesParams.none c late)) (no_param_back c late) (always [])
 right_params c late (p ∷ ps) =
     said (λ ts h. subst (TypesParams c late (p ∷ ps)) h.2 (rules.TypesParams.more c late h.1.0 h.1.1)) (param_more_back c late p ps)
-      (maps longer (both (right_parameter c late p) (parameter_keeps c late p) (right_params (parameter_declared c p) (late_after late p) ps)))
+    (maps longer (both (right_parameter c late p) (parameter_keeps c late p) (right_params (parameter_declared c p) (late_after late p) ps)))
 
 params_keep : (c : Sight) (late : Bool) (ps : List SourceParameter) → Sighted c → params_faults c late ps ≡ [] → Sighted (after_params c ps)
 params_keep c late [] v e = v
 params_keep c late (p ∷ ps) v e =
     let h = none_split (faults_there (constant_faults c) p.default ++ at p.token (parameter_verdict c late p))
-              (params_faults (parameter_declared c p) (late_after late p) ps) e in
+    (params_faults (parameter_declared c p) (late_after late p) ps) e in
     params_keep (parameter_declared c p) (late_after late p) ps (parameter_keeps c late p v h.0) h.1
 
 params_result : (c : Sight) (ps : List SourceParameter) → (after_params c ps).result ≡ c.result
@@ -156,8 +153,8 @@ right_head : (c : Sight) (n : ℕ) (t : TypeName) (x : List ℕ) (ps : List Sour
     → Right (Filed c) (TypesHead c t x ps b) (fine (head_verdict c t x ps b)) (head_faults c n t x ps b) (FaultInHead c n t x ps b)
 right_head c n t x ps b =
     node head_rows (head_rule c x b) (λ a e. (Redeclared, refl)) n
-      (and_two_looked (under (λ (v : Filed c). v.0) (right_params (in_function c t) false ps))
-        (type_means c.structs t) (λ v. type_there c.structs t v.0.1) (first_types x c.seen) (λ v. first_there x c.seen v.1))
+    (and_two_looked (under (λ (v : Filed c). v.0) (right_params (in_function c t) false ps))
+    (type_means c.structs t) (λ v. type_there c.structs t v.0.1) (first_types x c.seen) (λ v. first_there x c.seen v.1))
 
 -- the result of a function whose head is typed
 head_result : (c : Sight) (t : TypeName) (x : List ℕ) (ps : List SourceParameter) (b : Bool) → IsThere (fine (head_verdict c t x ps b)) → IsThere (result_type c.structs t)
@@ -177,22 +174,22 @@ head_keeps hs c n t x ps b v e =
 
 right_function : (hs : List Head) (c : Sight) (n : ℕ) (t : TypeName) (x : List ℕ) (ps : List SourceParameter) (body : Option SourceStmts)
     → Right (Each HeadTyped hs × Filed c) (Fits (FunctionParts hs c t x ps body) (function_rule n x)) (fine (function_verdict hs c n t x ps body))
-        ((head_faults c n t x ps (is_some body) ++ body_faults hs (in_body c t ps) body) ++ at n (function_verdict hs c n t x ps body))
-        (FaultInItem hs c (item.function n t x ps body))
+    ((head_faults c n t x ps (is_some body) ++ body_faults hs (in_body c t ps) body) ++ at n (function_verdict hs c n t x ps body))
+    (FaultInItem hs c (item.function n t x ps body))
 right_function hs c n t x ps body =
     node function_rows (function_rule n x) (λ a e. (NoReturn, refl)) n
-      (both (under (λ (v : Each HeadTyped hs × Filed c). v.1) (right_head c n t x ps (is_some body))) (head_keeps hs c n t x ps (is_some body))
-        (if_right (stmts_fine hs (in_body c t ps)) (stmts_faults hs (in_body c t ps)) (FaultInStmts hs (in_body c t ps)) (right_stmts hs (in_body c t ps)) body))
+    (both (under (λ (v : Each HeadTyped hs × Filed c). v.1) (right_head c n t x ps (is_some body))) (head_keeps hs c n t x ps (is_some body))
+    (if_right (stmts_fine hs (in_body c t ps)) (stmts_faults hs (in_body c t ps)) (FaultInStmts hs (in_body c t ps)) (right_stmts hs (in_body c t ps)) body))
 
 -- ---- items
 
 right_constant_name : (c : Sight) (n : ℕ) (t : TypeName) (x : Identifier) (k : Constant)
     → Right (Sighted c) (Fits (ConstantNameParts c t k) (constant_name_rule c x.name)) (fine (constant_name_verdict c t x.name k))
-        ((at n (constant_line_verdict c.structs t) ++ constant_faults c k) ++ at x.token (constant_name_verdict c t x.name k))
-        (FaultInItem [] c (item.constant n t x k))
+    ((at n (constant_line_verdict c.structs t) ++ constant_faults c k) ++ at x.token (constant_name_verdict c t x.name k))
+    (FaultInItem [] c (item.constant n t x k))
 right_constant_name c n t x k =
     node (constant_name_rows c x.name) (constant_name_rule c x.name) (λ a e. (Mismatch, refl)) x.token
-      (both (leaf line_rows constant_type (λ a e. (Mismatch, refl)) n (looked (type_means c.structs t) (λ (v : Sighted c). type_there c.structs t v.1))) (λ v i. v) (right_constant c k))
+    (both (leaf line_rows constant_type (λ a e. (Mismatch, refl)) n (looked (type_means c.structs t) (λ (v : Sighted c). type_there c.structs t v.1))) (λ v i. v) (right_constant c k))
 
 structure_back : (hs : List Head) (c : Sight) (n : ℕ) (x : List ℕ) (ls : List SourceLine) (u : TypedItem) → TypesItem hs c (item.structure n x ls) u
     → Image (item.structure n x) (Fits (TypesLines c.structs no_fields ls) (struct_rule c.structs x)) u
@@ -217,15 +214,15 @@ pub right_item : (hs : List Head) (c : Sight) (i : SourceItem)
     → Right (Each HeadTyped hs × Filed c) (TypesItem hs c i) (item_fine hs c i) (item_faults hs c i) (FaultInItem hs c i)
 right_item hs c (item.structure n x ls) =
     said (λ u h. subst (TypesItem hs c (item.structure n x ls)) h.2 (rules.TypesItem.structure n x h.1)) (structure_back hs c n x ls)
-      (maps (item.structure n x) (under (λ (v : Each HeadTyped hs × Filed c). v.1.0.1) (right_struct c.structs n x ls)))
+    (maps (item.structure n x) (under (λ (v : Each HeadTyped hs × Filed c). v.1.0.1) (right_struct c.structs n x ls)))
 right_item hs c (item.constant n t x k) =
     said (λ u h. subst (TypesItem hs c (item.constant n t x k)) h.2 (rules.TypesItem.constant n t x k h.1)) (constant_back hs c n t x k)
-      (maps (constant_item n x) (under (λ (v : Each HeadTyped hs × Filed c). v.1.0) (right_constant_name c n t x k)))
+    (maps (constant_item n x) (under (λ (v : Each HeadTyped hs × Filed c). v.1.0) (right_constant_name c n t x k)))
 right_item hs c (item.global n t ds) =
     said (λ u h. subst (TypesItem hs c (item.global n t ds)) h.2 (rules.TypesItem.global n t h.1.0 h.1.1)) (global_back hs c n t ds)
-      (maps (global_item n)
-        (both (under (λ (v : Each HeadTyped hs × Filed c). v.1.0.1) (right_line c.structs n t)) (λ v e. ((v.0, v.1.0), line_typed c n t v.1.0 e))
-          (right_names hs c (line_type c.structs t) ds)))
+    (maps (global_item n)
+    (both (under (λ (v : Each HeadTyped hs × Filed c). v.1.0.1) (right_line c.structs n t)) (λ v e. ((v.0, v.1.0), line_typed c n t v.1.0 e))
+    (right_names hs c (line_type c.structs t) ds)))
 right_item hs c (item.function n t x ps body) =
     said (λ u h. rules.TypesItem.function n t x ps body h) (function_back hs c n t x ps body) (right_function hs c n t x ps body)
 
@@ -266,7 +263,7 @@ pub right_items : (hs : List Head) (c : Sight) (is : List SourceItem)
 right_items hs c [] = said (λ us e. subst (TypesItems hs c []) e (rules.TypesItems.none c)) (no_item_back hs c) (always [])
 right_items hs c (i ∷ is) =
     said (λ us h. subst (TypesItems hs c (i ∷ is)) h.2 (rules.TypesItems.more c h.1.0 h.1.1)) (item_more_back hs c i is)
-      (maps longer (both (right_item hs c i) (λ v e. (v.0, item_keeps hs c i v.1 e)) (right_items hs (after_item c i) is)))
+    (maps longer (both (right_item hs c i) (λ v e. (v.0, item_keeps hs c i v.1 e)) (right_items hs (after_item c i) is)))
 
 items_keep : (hs : List Head) (c : Sight) (is : List SourceItem) → Filed c → items_faults hs c is ≡ [] → Filed (after_items c is)
 items_keep hs c [] v e = v
@@ -291,9 +288,9 @@ unit_back table u t h = ((t.items, t.entry), (h.items, h.entry), refl)
 pub right_unit : (table : EngineTable) (u : SourceTree) → Right (Unit {0}) (TypesUnit table u) (unit_typed table u) (unit_faults table u) (FaultInUnit table u)
 right_unit table u =
     said (unit_there table u) (unit_back table u)
-      (maps unit_of
-        (both
-          (given_by (λ (v : Unit {0}) e. ((items_keep (heads table u.items) (start table) u.items (filed_start table) e).1, filed_start table))
-            (right_items (heads table u.items) (start table) u.items))
-          (λ v e. v)
-          (leaf entry_rows (entry_rule (heads table u.items)) (λ a e. (Entry, refl)) u.count no_part)))
+    (maps unit_of
+    (both
+    (given_by (λ (v : Unit {0}) e. ((items_keep (heads table u.items) (start table) u.items (filed_start table) e).1, filed_start table))
+    (right_items (heads table u.items) (start table) u.items))
+    (λ v e. v)
+    (leaf entry_rows (entry_rule (heads table u.items)) (λ a e. (Entry, refl)) u.count no_part)))

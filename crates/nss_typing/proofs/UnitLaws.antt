@@ -1,15 +1,12 @@
 -- The laws of whole units.
-use Rattle.std.proofs.Common.{◌≡◌, ◌∙◌, refl, sym, ap, subst, ◌⊎◌, inl, inr, ◌↔◌, Option, None, Some, List, [], ◌∷◌, le_antisymm}
+use Rattle.std.proofs.Common.{◌≡◌, ◌∙◌, refl, sym, ◌⊎◌, inl, inr, Option, None, Some, List, [], ◌∷◌, le_antisymm}
 use Rattle.std.proofs.lemmas.Option.{none-some, same_Some}
-use Rattle.nss_tree.specs.Source.{SourceTree}
-use Rattle.nwq_value.specs.Engine.{EngineTable}
 use Rattle.nss_typing.specs.declared.fault.Fault.{Fault}
 use Rattle.nss_typing.specs.Typed.{TypedUnit}
 use Rattle.nss_typing.specs.Nodes.{Among, kept, IsLeast}
-use Rattle.nss_typing.specs.Verdicts.{unit_typed, unit_faults}
+use Rattle.nss_typing.specs.Verdicts.{unit_faults}
 use Rattle.nss_typing.specs.Meaning.{TypesUnit, FaultInUnit}
 use Rattle.nss_typing.specs.Laws.{OneTyped, TypedIsFaultless, FaultlessIsTyped, OneToken, SomeAnswer, VerdictsAreRight, FaultsAreListed, LeastIsKept, NoneKeptIsTyped}
-use Rattle.nss_typing.proofs.Right.{Right}
 use Rattle.nss_typing.proofs.RightItems.{right_unit}
 use Rattle.nss_typing.proofs.Least.{kept_is, kept_below, kept_none}
 

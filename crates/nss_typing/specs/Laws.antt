@@ -1,5 +1,5 @@
 -- What is promised of typing: a unit is typed in one way or at fault, never both, and the functions over the tree find which.
-use Rattle.std.specs.Prelude.{◌≡◌, ◌⊎◌, ◌↔◌, Option, None, Some}
+use Rattle.std.specs.Prelude.{◌≡◌, ◌⊎◌, ◌↔◌, None, Some}
 use Rattle.nss_tree.specs.Source.{SourceTree}
 use Rattle.nwq_value.specs.Engine.{EngineTable}
 use Rattle.nss_typing.specs.declared.fault.Fault.{Fault}

@@ -1,6 +1,6 @@
 -- The typed tree of a unit by its rules, and which of its nodes are at fault. A node is at fault where its parts are typed and its
 -- rule doesn't fit them: so one fault silences the nodes around it, and a declaration that isn't typed what uses it.
-use Rattle.std.specs.Prelude.{◌≡◌, ℕ, ℤ, Bool, true, false, List, [], ◌∷◌, Option, None, Some, is_some, ◌⊎◌}
+use Rattle.std.specs.Prelude.{◌≡◌, ℕ, ℤ, Bool, false, List, [], ◌∷◌, Option, Some, is_some, ◌⊎◌}
 use Rattle.nss_tree.specs.declared.operators.PrefixOperator.{PrefixOperator}
 use Rattle.nss_tree.specs.declared.operators.PostfixOperator.{PostfixOperator}
 use Rattle.nss_tree.specs.declared.operators.BinaryOperator.{BinaryOperator}
@@ -20,12 +20,11 @@ use Rattle.nwq_value.specs.declared.engine.Const.TheVariants as const
 use Rattle.nwq_value.specs.declared.engine.Param.{Param}
 use Rattle.nwq_value.specs.Engine.{EngineTable}
 use Rattle.nss_typing.specs.declared.fault.Fault.{Fault}
-use Rattle.nss_typing.specs.declared.places.EntryPoint.{EntryPoint}
 use Rattle.nss_typing.specs.Typed.{TypedExpr, TypedExprs, literal, no_typed, more_typed, TypedName, TypedStmt, TypedStmts, TypedLine, TypedParameter, TypedItem, TypedUnit}
 use Rattle.nss_typing.specs.Nodes.{Fits, Own, There, FaultThere}
 use Rattle.nss_typing.specs.Sight.{Head, Structure, Sight, Signature, Meaning, Meant, Called, start, name_means, callee, wanted, type_means, first_types, value_type, declared, entered, inside, looped, switched}
-use Rattle.nss_typing.specs.Rules.{name_rule, name_rows, float_rule, float_rows, call_rule, call_rows, takes_action, others, member_rule, member_rows, prefix_rule, prefix_rows, postfix_rule, postfix_rows, binary_rule, binary_rows, assign_rule, assign_rows, ConstantMeant, constant_means, constant_rule, constant_rows, constant_type, line_rows, variable_rule, variable_rows, constant_name_rule, constant_name_rows, Fields, no_fields, field_rule, field_rows, struct_rule, struct_rows, parameter_rule, parameter_rows, TypedHead, head_rule, head_rows, function_rule, function_rows, if_rule, if_rows, if_else_rule, if_else_rows, while_rule, do_rule, do_rows, for_rule, for_rows, switch_rule, switch_rows, break_rule, continue_rule, outside_rows, return_rule, return_rows, case_rule, case_rows, default_rule, default_rows, entry_rule, entry_rows}
-use Rattle.nss_typing.specs.Verdicts.{line_type, constant_value, after, after_then, field_added, after_line, parameter_declared, late_after, in_function, in_body, after_item, heads}
+use Rattle.nss_typing.specs.Rules.{name_rule, name_rows, float_rule, float_rows, call_rule, call_rows, takes_action, others, member_rule, member_rows, prefix_rule, prefix_rows, postfix_rule, postfix_rows, binary_rule, binary_rows, assign_rule, assign_rows, constant_means, constant_rule, constant_rows, constant_type, line_rows, variable_rule, variable_rows, constant_name_rule, constant_name_rows, Fields, no_fields, field_rule, field_rows, struct_rule, struct_rows, parameter_rule, parameter_rows, TypedHead, head_rule, head_rows, function_rule, function_rows, if_rule, if_rows, if_else_rule, if_else_rows, while_rule, do_rule, do_rows, for_rule, for_rows, switch_rule, switch_rows, break_rule, continue_rule, outside_rows, return_rule, return_rows, case_rule, case_rows, default_rule, default_rows, entry_rule, entry_rows}
+use Rattle.nss_typing.specs.Verdicts.{line_type, after, after_then, field_added, after_line, parameter_declared, late_after, in_function, in_body, after_item, heads}
 
 -- ---- expressions
 

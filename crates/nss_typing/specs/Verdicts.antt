@@ -1,12 +1,9 @@
 -- The verdict on each node of a unit, the typed tree, and the list of all faults, as functions over the tree.
-use Rattle.std.specs.Prelude.{ℕ, ◌+◌, Bool, true, false, ◌||◌, List, [], ◌∷◌, ◌++◌, Option, None, Some, is_some, if◌then◌else◌}
+use Rattle.std.specs.Prelude.{ℕ, ◌+◌, Bool, false, ◌||◌, List, [], ◌∷◌, ◌++◌, Option, None, Some, is_some}
 use Rattle.std.specs.Option.{option_map}
 use Rattle.nss_tree.specs.declared.constants.Constant.{Constant}
 use Rattle.nss_tree.specs.declared.constants.TypeName.{TypeName}
-use Rattle.nss_tree.specs.declared.statements.DeclaredName.{DeclaredName}
-use Rattle.nss_tree.specs.declared.units.FieldLine.{FieldLine}
 use Rattle.nss_tree.specs.declared.units.Identifier.{Identifier}
-use Rattle.nss_tree.specs.declared.units.Parameter.{Parameter}
 use Rattle.nss_tree.specs.Expressions.{PlainExpr, PlainExprs, int, float, text, object_self, object_invalid, name, call, member, prefix, postfix, binary, assign, no_expr, more_exprs}
 use Rattle.nss_tree.specs.Statements.{block, empty, expression, if_only, if_else, while_loop, do_loop, for_loop, switch, break_off, continue_on, return_from, declaration, case_label, default_label, no_stmt, more_stmts}
 use Rattle.nss_tree.specs.Units.{structure, constant, global, function}
@@ -257,7 +254,7 @@ abbrev pub members_of_line : List Structure → Ty → Members → List Identifi
 members_of_line structs t m [] = m
 members_of_line structs t m (x ∷ xs) =
     members_of_line structs t
-        (record { fields = m.fields ++ record { called = x.name; ty = t; before = m.cells } ∷ []; cells = m.cells + cells structs t }) xs
+    (record { fields = m.fields ++ record { called = x.name; ty = t; before = m.cells } ∷ []; cells = m.cells + cells structs t }) xs
 
 abbrev pub members_of_lines : List Structure → Members → List TypedLine → Members
 members_of_lines structs m [] = m
