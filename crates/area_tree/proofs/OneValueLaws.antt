@@ -30,6 +30,7 @@ dropped_is_gone v w [] = by_test (same_variable w v)
   where
     nothing : Option Variable
     nothing = None
+
     by_test : (b : Bool) → nothing ≡ cond b nothing nothing
     by_test true = refl
     by_test false = refl
@@ -81,13 +82,15 @@ entry_changed law v vars entry entries (Tells u) is all d any more = by_test (sa
   where
     rest : List PlainNode
     rest = entries_back (put v vars) entries
+
     here : (w : Variable) → matching u (put v vars) ≡ Some w → one_back (put v vars) (Tells u) entry rest ≡ with_value (Some w) entry ∷ rest
     here w at = rw (found_any u w (put v vars) at, at) refl
+
     by_test : (b : Bool) → same_variable v u ≡ b → (b || list_any (same_variable v) (variables_in entries)) ≡ true → Changed v (entry ∷ entries) (one_back (put v vars) (Tells u) entry rest)
     by_test true same h = (
       record { place = zero; entry = entry; told = u; at = refl; tells = is; same = same },
       here v (matching_put u v vars ∙ rw (same_equiv.symm u v ∙ same) refl)
-      ∙ ap (λ (ns : List PlainNode). with_new_value v entry ∷ ns) (entries_same law (put v vars) entries (all_after v vars (variables_in entries) (like_apart_all v u (variables_in entries) same d.0) all.1)),
+          ∙ ap (λ (ns : List PlainNode). with_new_value v entry ∷ ns) (entries_same law (put v vars) entries (all_after v vars (variables_in entries) (like_apart_all v u (variables_in entries) same d.0) all.1)),
     )
     by_test false same h =
         later_change v entry entries rest _ (one_same law (put v vars) entry rest (Tells u) [] is (found_after v u vars all.0 (same_equiv.symm u v ∙ same), tt)) (more d.1 h)
@@ -255,8 +258,8 @@ first_changed law n label labels i v fields apart none later lt any =
     let objects = changed_at i (put v) (map object_of nodes) in
     let new = list_back label objects leaf fields in
     let same : lists_back labels rest new ≡ new =
-        sym (ap (λ (os : List AreaObject). lists_back labels os new) (under_same label labels objects leaf fields apart))
-        ∙ lists_same law (n + 1) labels new (places_same (n + 1) label labels objects leaf fields apart ∙ later) in
+    sym (ap (λ (os : List AreaObject). lists_back labels os new) (under_same label labels objects leaf fields apart))
+    ∙ lists_same law (n + 1) labels new (places_same (n + 1) label labels objects leaf fields apart ∙ later) in
     record {
       label = label;
       place = i;
@@ -293,7 +296,7 @@ either_changed law n label labels i v fields apart none later lt any more (inr n
     let k = i - length nodes in
     let is : i ≡ behind nodes k = omega (arith, no_less, behind_is nodes k) in
     let there : list_any (same_variable v) (object_at rest k).vars ≡ true =
-        sym (ap (λ (o : AreaObject). list_any (same_variable v) o.vars) (ap (object_at (map object_of nodes ++ rest)) is ∙ object_behind k nodes rest)) ∙ any in
+    sym (ap (λ (o : AreaObject). list_any (same_variable v) o.vars) (ap (object_at (map object_of nodes ++ rest)) is ∙ object_behind k nodes rest)) ∙ any in
     later_changed law n label labels i k v fields none is (more k (omega (arith, no_less, lt, long_both nodes rest)) there)
 
 lists_changed : Laws → (n : ℕ) (labels : List (List ℕ)) (v : Variable) (fields : List PlainField) → IsDistinct bytes_eq labels → lists_places n labels fields ≡ [] → (i : ℕ) → i < length (objects_under labels fields) →

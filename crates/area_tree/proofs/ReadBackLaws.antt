@@ -210,6 +210,7 @@ matching_others x some [] = by_test (list_any (same_variable x) some)
   where
     nothing : Option Variable
     nothing = None
+
     by_test : (b : Bool) → nothing ≡ cond b nothing nothing
     by_test true = refl
     by_test false = refl
@@ -273,6 +274,7 @@ told_distinct vars (v ∷ some) d = by_match (matching v vars) refl (told_distin
     apart_from : (u w : Variable) (xs : List Variable) → same_variable u w ≡ true → AllByRecursion (λ y. same_variable u y ≡ false) xs → AllByRecursion (λ y. same_variable w y ≡ false) xs
     apart_from u w [] same all = tt
     apart_from u w (x ∷ xs) same all = (like_apart x u w same all.0, apart_from u w xs same all.1)
+
     by_match : (o : Option Variable) → matching v vars ≡ o → IsDistinct same_variable (told vars some) → IsDistinct same_variable (kept_told o (told vars some))
     by_match None at more = more
     by_match (Some w) at more =
@@ -311,6 +313,7 @@ all_any first (v ∷ rest) = (here first, subst (λ (xs : List Variable). AllByR
     one : (b : Bool) → (b || true) ≡ true
     one true = refl
     one false = refl
+
     here : (xs : List Variable) → list_any (same_variable v) (xs ++ v ∷ rest) ≡ true
     here [] = rw (same_equiv.refl v) refl
     here (x ∷ xs) = rw (here xs) (one (same_variable v x))
@@ -470,8 +473,7 @@ member_read law n m object node same d none =
     let new = fields_back object.vars table fields in
     let parts = none_parts (tag_places n m (found (codes "Tag") fields)) (table_places n m table) none in
     let there : fields_of (member_back object.vars node) ≡ new = law.fields (kind_of node) new in
-    let read = fields_read law n m object.vars table fields refl parts.1 d in
-    (
+    let read = fields_read law n m object.vars table fields refl parts.1 d in (
       ap (λ (fs : List PlainField). tag_places n m (found (codes "Tag") fs) ++ table_places n m (found (codes "VarTable") fs)) there ∙ rw (read.tag, parts.0, read.places) refl,
       record {
         tag = ap (λ (fs : List PlainField). tag_in (found (codes "Tag") fs)) there ∙ (ap tag_in read.tag ∙ sym (ap (λ (o : AreaObject). o.tag) same));
@@ -577,12 +579,11 @@ lists_read law n (label ∷ labels) objects fields apart same d none =
     let new = list_back label first (found label fields) fields in
     let here = list_read law n label first (found label fields) fields refl split.0 (taken_distinct k objects d) parts.0 in
     let more = lists_read law (n + 1) labels rest new apart.1 (split.1 ∙ sym (ap (map bare) (under_same label labels first (found label fields) fields apart.0))) (dropped_distinct k objects d)
-        (places_same (n + 1) label labels first (found label fields) fields apart.0 ∙ parts.1) in
-    let there : found label (lists_back labels rest new) ≡ found label new = lists_other label labels rest new apart.0 in
-    (
+    (places_same (n + 1) label labels first (found label fields) fields apart.0 ∙ parts.1) in
+    let there : found label (lists_back labels rest new) ≡ found label new = lists_other label labels rest new apart.0 in (
       rw (there, here.0) more.0,
       subst (AllAlike (objects_under (label ∷ labels) (lists_back labels rest new))) (take-append-drop k objects)
-      (rw there (alike_joined (map object_of (structs_in (found label new))) (objects_under labels (lists_back labels rest new)) first rest here.1 more.1)),
+          (rw there (alike_joined (map object_of (structs_in (found label new))) (objects_under labels (lists_back labels rest new)) first rest here.1 more.1)),
     )
 
 pub labels_distinct : IsDistinct bytes_eq list_labels

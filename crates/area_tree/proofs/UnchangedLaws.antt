@@ -133,7 +133,7 @@ one_same law vars entry rest Broken more is all = refl
 one_same law vars entry rest Unread more is all = refl
 one_same law vars entry rest (Tells v) more is all =
     let same : node_from (kind_of entry) (replaced (codes "Value") (value_of v) (fields_of entry)) ≡ entry =
-        ap (node_from (kind_of entry)) (replaced_same (codes "Value") (value_of v) (fields_of entry) (entry_value entry v is)) ∙ law.node entry in
+    ap (node_from (kind_of entry)) (replaced_same (codes "Value") (value_of v) (fields_of entry) (entry_value entry v is)) ∙ law.node entry in
     rw (found_any v v vars all.0, all.0) (ap (λ (n : PlainNode). n ∷ rest) same)
 
 pub later_all : (vars more : List Variable) (e : Entry) → AllFound vars (with_entry e more) → AllFound vars more
@@ -170,7 +170,7 @@ fields_same law n m (Some (Holds scalar)) fields is none = absurd cc
 fields_same law n m (Some (Child node)) fields is none = absurd cc
 fields_same law n m (Some (Children entries)) fields is none =
     let same : leaf_back (variables_in (nodes_in entries)) (Children entries) ≡ Children entries =
-        ap list_from (table_same law (nodes_in entries) (table_distinct n m (Some (Children entries)) none)) ∙ law.list (Children entries) (nodes_in entries) refl in
+    ap list_from (table_same law (nodes_in entries) (table_distinct n m (Some (Children entries)) none)) ∙ law.list (Children entries) (nodes_in entries) refl in
     some_back (variables_in (nodes_in entries)) (Children entries) fields ∙ (rw same (replaced_same (codes "VarTable") (Children entries) fields is))
 
 pub member_same : Laws → (n m : ℕ) (node : PlainNode) → member_places n m node ≡ [] → member_back (object_of node).vars node ≡ node
@@ -193,7 +193,7 @@ list_same law n label (Some (Holds scalar)) fields is none = absurd cc
 list_same law n label (Some (Child node)) fields is none = absurd cc
 list_same law n label (Some (Children nodes)) fields is none =
     let same : objects_back (map object_of (nodes_in nodes)) (Children nodes) ≡ Children nodes =
-        ap list_from (members_same law n 1 (nodes_in nodes) none) ∙ law.list (Children nodes) (nodes_in nodes) refl in
+    ap list_from (members_same law n 1 (nodes_in nodes) none) ∙ law.list (Children nodes) (nodes_in nodes) refl in
     rw same (replaced_same label (Children nodes) fields is)
 
 pub taken : (nodes : List PlainNode) (rest : List AreaObject) → take (length nodes) (map object_of nodes ++ rest) ≡ map object_of nodes

@@ -168,9 +168,11 @@ any_put x v vars = any_matching (put v vars) ∙ (ap is_some (matching_put x v v
     one : (b : Bool) (w : Variable) (rest : Option Variable) → (b || is_some rest) ≡ is_some (cond b (Some w) rest)
     one true w rest = refl
     one false w rest = refl
+
     any_matching : (ws : List Variable) → list_any (same_variable x) ws ≡ is_some (matching x ws)
     any_matching [] = refl
     any_matching (w ∷ ws) = ap (λ (b : Bool). same_variable x w || b) (any_matching ws) ∙ one (same_variable x w) w (matching x ws)
+
     by_test : (b : Bool) → is_some (cond b (Some v) (matching x vars)) ≡ (b || is_some (matching x vars))
     by_test true = refl
     by_test false = refl

@@ -539,6 +539,7 @@ place_none test (v ∷ vars) e = by_test (test v) e (place_none test vars)
     absent : (o : Option ℕ) → option_map suc o ≡ None → o ≡ None
     absent None h = refl
     absent (Some k) h = absurd cc
+
     by_test : (b : Bool) → cond b (Some 0) (option_map suc (place_of test vars)) ≡ None → (place_of test vars ≡ None → list_any test vars ≡ false) → (b || list_any test vars) ≡ false
     by_test true h more = absurd cc
     by_test false h more = more (absent (place_of test vars) h)
