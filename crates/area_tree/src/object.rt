@@ -236,12 +236,7 @@ fn add_entry(
 }
 
 /// Puts the variables of a table's entries into an empty list.
-fn add_entries(
-    list: u8,
-    member: u32,
-    entries: &[Node],
-    vars: &mut Vars,
-) -> Result<(), AreaFault>
+fn add_entries(list: u8, member: u32, entries: &[Node], vars: &mut Vars) -> Result<(), AreaFault>
     requires few { length entries.now < 4294967296 }
     requires none { vars.old ≡ [] }
     ensures read { OnOk result ((entries_places list member 1 [] (map plain_node entries.now) ≡ []) × (vars.new ≡ variables_in (map plain_node entries.now))) }
@@ -255,12 +250,7 @@ fn add_entries(
     Ok(())
 }
 
-fn read_entries(
-    alloc: Global,
-    list: u8,
-    member: u32,
-    entries: &[Node],
-) -> Result<Vars, AreaFault>
+fn read_entries(alloc: Global, list: u8, member: u32, entries: &[Node]) -> Result<Vars, AreaFault>
     requires few { length entries.now < 4294967296 }
     ensures { Reads result (entries_places list member 1 [] (map plain_node entries.now)) (variables_in (map plain_node entries.now)) }
 {
@@ -275,12 +265,7 @@ fn read_entries(
 }
 
 /// The variables of a member.
-fn read_table(
-    alloc: Global,
-    list: u8,
-    member: u32,
-    table: Option<&Leaf>,
-) -> Result<Vars, AreaFault>
+fn read_table(alloc: Global, list: u8, member: u32, table: Option<&Leaf>) -> Result<Vars, AreaFault>
     requires few { length (structs_in (leaf_in table)) < 4294967296 }
     ensures { Reads result (table_places list member (leaf_in table.entry)) (variables_in (structs_in (leaf_in table.entry))) }
 {
