@@ -5,20 +5,19 @@ use Rattle.std.specs.Prelude.{codes}
 use Rattle.std.specs.List.{list_any, slice_get, IsDistinct, AllByRecursion}
 use Rattle.std.specs.Str.{bytes_eq}
 use Rattle.std.proofs.lemmas.Bool.{cases_lt}
-use Rattle.std.proofs.lemmas.List.{append-nil, length-map}
+use Rattle.std.proofs.lemmas.List.{append-nil}
 use Rattle.gff_tree.specs.Tree.{PlainNode, PlainLeaf, PlainField, Holds, Child, Children, nodes_in}
-use Rattle.gff_tree.specs.Whole.{PlainGff}
 use Rattle.gff_tree.specs.Fields.{kind_of, fields_of, node_from, list_from, found, replaced}
 use Rattle.area_tree.specs.Variables.{Variable, same_variable, matching, put}
-use Rattle.area_tree.specs.Objects.{AreaObject, Entry, Broken, Unread, Tells, entry_of, with_entry, variables_in, structs_in, object_of, list_labels, objects_under, objects_of}
-use Rattle.area_tree.specs.Broken.{tag_places, table_places, member_places, members_places, list_places, lists_places, broken_places}
-use Rattle.area_tree.specs.Back.{new_entry, with_value, entries_back, others, table_back, leaf_back, fields_back, member_back, members_back, objects_back, list_back, lists_back, back}
+use Rattle.area_tree.specs.Objects.{AreaObject, Entry, Broken, Unread, Tells, entry_of, with_entry, variables_in, structs_in, object_of, list_labels, objects_under}
+use Rattle.area_tree.specs.Broken.{tag_places, table_places, member_places, members_places, list_places, lists_places}
+use Rattle.area_tree.specs.Back.{with_value, entries_back, others, table_back, fields_back, member_back, members_back, list_back, lists_back}
 use Rattle.area_tree.specs.Area.{object_at, changed_at}
-use Rattle.area_tree.specs.Laws.{changed_node, changed_leaf, changed_list, changed_in, with_new_value, EntryFor, MemberFor, table_of, OneValueDiffers, PutChangesOneValue, PutIsFound, DroppedIsGone}
-use Rattle.area_tree.proofs.VariableLaws.{same_equiv, matching_put, any_put, all_put}
+use Rattle.area_tree.specs.Laws.{changed_node, changed_list, changed_in, with_new_value, EntryFor, table_of, PutChangesOneValue, PutIsFound, DroppedIsGone}
+use Rattle.area_tree.proofs.VariableLaws.{same_equiv, matching_put, all_put}
 use Rattle.area_tree.proofs.SoundLemmas.{Laws, none_parts, table_distinct}
 use Rattle.area_tree.proofs.UnchangedLaws.{AllFound, all_found, found_any, one_back, entries_one, one_same, entries_same, later_all, some_back, member_same, members_same, list_same, lists_same, taken, dropped}
-use Rattle.area_tree.proofs.ReadBackLaws.{AllOther, under_same, places_same, labels_distinct, apart_like}
+use Rattle.area_tree.proofs.ReadBackLaws.{AllOther, under_same, places_same, labels_distinct}
 
 -- ---- variables
 

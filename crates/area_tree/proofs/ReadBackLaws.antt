@@ -3,17 +3,17 @@ use Rattle.std.proofs.Common.{◌≡◌, ◌+◌, ◌==◌, ℕ, ℤ, zero, suc,
 use Rattle.std.specs.Prelude.{codes}
 use Rattle.std.specs.List.{list_any, IsDistinct, AllByRecursion}
 use Rattle.std.specs.Str.{bytes_eq}
-use Rattle.std.proofs.lemmas.List.{append-nil, take-append-drop}
+use Rattle.std.proofs.lemmas.List.{take-append-drop}
 use Rattle.std.proofs.lemmas.Cmp.{nat_list_eq_equiv}
 use Rattle.std.proofs.lemmas.Slice.Eq.{bytes_eq-Decides}
-use Rattle.gff_tree.specs.Tree.{PlainNode, PlainLeaf, PlainField, Int, Str, Holds, Child, Children, nodes_in, nodes_from}
-use Rattle.gff_tree.specs.Fields.{kind_of, fields_of, node_from, list_from, found, replaced, appended}
+use Rattle.gff_tree.specs.Tree.{PlainNode, PlainLeaf, PlainField, Holds, Child, Children, nodes_in, nodes_from}
+use Rattle.gff_tree.specs.Fields.{kind_of, fields_of, list_from, found, replaced, appended}
 use Rattle.area_tree.specs.Variables.{Variable, IntVar, TextVar, same_variable, matching}
-use Rattle.area_tree.specs.Objects.{AreaObject, Script, Entry, Broken, Unread, Tells, dword_in, int_in, string_in, int_entry, text_entry, typed_entry, entry_of, with_entry, variables_in, structs_in, tag_in, with_script, scripts_in, object_of, list_labels, objects_under, objects_of}
-use Rattle.area_tree.specs.Broken.{Place, entry_places, with_later, entries_places, tag_places, table_places, member_places, members_places, list_places, lists_places, broken_places}
-use Rattle.area_tree.specs.Back.{value_of, new_entry, stays, is_kept, variable_for, with_value, valued, entries_back, others, table_back, leaf_back, fields_back, member_back, members_back, objects_back, list_back, lists_back, back}
-use Rattle.area_tree.specs.Area.{bare, tree_back, PlainArea, top_of, IsArea}
-use Rattle.area_tree.specs.Laws.{AreAlike, AllAlike, ReadsBack, BackIsRead}
+use Rattle.area_tree.specs.Objects.{AreaObject, Entry, Broken, Unread, Tells, dword_in, int_in, string_in, int_entry, text_entry, typed_entry, entry_of, with_entry, variables_in, structs_in, tag_in, with_script, scripts_in, object_of, list_labels, objects_under}
+use Rattle.area_tree.specs.Broken.{Place, entry_places, with_later, entries_places, tag_places, table_places, member_places, members_places, list_places, lists_places}
+use Rattle.area_tree.specs.Back.{value_of, new_entry, with_value, entries_back, others, table_back, fields_back, member_back, members_back, objects_back, list_back, lists_back}
+use Rattle.area_tree.specs.Area.{bare, top_of}
+use Rattle.area_tree.specs.Laws.{AreAlike, AllAlike, BackIsRead}
 use Rattle.area_tree.proofs.VariableLaws.{same_equiv, filter_distinct}
 use Rattle.area_tree.proofs.SoundLemmas.{Laws, none_parts, table_distinct, AreDistinct, back_sound}
 use Rattle.area_tree.proofs.UnchangedLaws.{entry_value, found_any, one_back, entries_one, some_back}

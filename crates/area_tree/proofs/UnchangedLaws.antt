@@ -1,16 +1,15 @@
 -- The area that nobody changed goes back as the tree it was read from.
-use Rattle.std.proofs.Common.{◌≡◌, ◌+◌, ◌==◌, ℕ, ℤ, Bool, true, false, cond, not, ◌||◌, List, [], ◌∷◌, ◌++◌, map, filter, length, take, drop, Option, None, Some, refl, sym, ap, subst, ◌∙◌, append_assoc}
+use Rattle.std.proofs.Common.{◌≡◌, ◌+◌, ◌==◌, ℕ, ℤ, Bool, true, false, cond, not, ◌||◌, List, [], ◌∷◌, ◌++◌, map, filter, length, take, drop, Option, None, Some, refl, sym, ap, ◌∙◌}
 use Rattle.std.specs.Prelude.{codes}
 use Rattle.std.specs.List.{list_any, IsDistinct, AllByRecursion}
 use Rattle.std.specs.Str.{bytes_eq}
 use Rattle.std.proofs.lemmas.List.{append-nil}
 use Rattle.gff_tree.specs.Tree.{PlainNode, PlainLeaf, PlainField, Byte, Char, Word, Short, Dword, Int, Dword64, Int64, Float, Double, Str, Res, Localized, Void, Holds, Child, Children, nodes_in}
-use Rattle.gff_tree.specs.Whole.{PlainGff}
 use Rattle.gff_tree.specs.Fields.{kind_of, fields_of, node_from, list_from, found, replaced}
 use Rattle.area_tree.specs.Variables.{Variable, IntVar, TextVar, same_variable, matching}
-use Rattle.area_tree.specs.Objects.{AreaObject, Entry, Broken, Unread, Tells, dword_in, int_in, string_in, int_entry, text_entry, typed_entry, entry_of, with_entry, variables_in, structs_in, object_of, list_labels, objects_under, objects_of}
-use Rattle.area_tree.specs.Broken.{tag_places, table_places, member_places, members_places, list_places, lists_places, broken_places}
-use Rattle.area_tree.specs.Back.{value_of, new_entry, stays, is_kept, variable_for, with_value, valued, entries_back, others, table_back, leaf_back, fields_back, member_back, members_back, objects_back, list_back, lists_back, back}
+use Rattle.area_tree.specs.Objects.{AreaObject, Entry, Broken, Unread, Tells, dword_in, int_in, string_in, int_entry, text_entry, typed_entry, entry_of, with_entry, variables_in, structs_in, object_of, list_labels, objects_under}
+use Rattle.area_tree.specs.Broken.{tag_places, table_places, member_places, members_places, list_places, lists_places}
+use Rattle.area_tree.specs.Back.{value_of, stays, is_kept, variable_for, with_value, valued, entries_back, table_back, leaf_back, fields_back, member_back, members_back, objects_back, list_back, lists_back}
 use Rattle.area_tree.specs.Laws.{UnchangedGoesBack}
 use Rattle.area_tree.proofs.VariableLaws.{same_equiv}
 use Rattle.area_tree.proofs.SoundLemmas.{Laws, none_parts, table_distinct}

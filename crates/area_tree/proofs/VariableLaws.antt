@@ -1,10 +1,9 @@
 -- Variables by type and name: one at most of each, and what becomes of that as they are put and taken out.
-use Rattle.std.proofs.Common.{◌≡◌, ℕ, Bool, true, false, cond, not, ◌||◌, List, [], ◌∷◌, ◌++◌, filter, is_some, Option, None, Some, refl, sym, ap, ◌∙◌}
+use Rattle.std.proofs.Common.{◌≡◌, ℕ, Bool, true, false, cond, not, ◌||◌, List, [], ◌∷◌, ◌++◌, filter, is_some, Option, Some, refl, sym, ap, ◌∙◌}
 use Rattle.std.specs.List.{list_any, IsDistinct, AllByRecursion}
-use Rattle.std.specs.Str.{bytes_eq}
 use Rattle.std.specs.Cmp.{IsEquivalence}
 use Rattle.std.proofs.lemmas.Cmp.{nat_list_eq_equiv}
-use Rattle.area_tree.specs.Variables.{Variable, IntVar, TextVar, is_int, is_text, same_variable, first, matching, put}
+use Rattle.area_tree.specs.Variables.{Variable, IntVar, TextVar, is_int, is_text, same_variable, matching, put}
 
 same_refl : (v : Variable) → same_variable v v ≡ true
 same_refl (IntVar name n) = nat_list_eq_equiv.refl name
