@@ -54,7 +54,7 @@ impl Object {
     pub fn tag(&self) -> &[u8]
         ensures tag { result.now ≡ self.now.tag }
     {
-        self.tag.bytes()
+        self.tag.as_slice()
     }
 
     /// The name of the resource under a label.
@@ -118,13 +118,13 @@ impl ScriptField {
     fn label(&self) -> &[u8]
         ensures { result.now ≡ self.now.label }
     {
-        self.label.bytes()
+        self.label.as_slice()
     }
 
     fn name(&self) -> &[u8]
         ensures { result.now ≡ self.now.name }
     {
-        self.name.bytes()
+        self.name.as_slice()
     }
 }
 
@@ -140,7 +140,7 @@ fn string_of(leaf: Option<&Leaf>) -> Option<&[u8]>
     ensures { option_map (λ text. text.now) result ≡ string_in (leaf_in leaf.entry) }
 {
     match leaf {
-        Some(Leaf::Str(text)) => Some(text.bytes()),
+        Some(Leaf::Str(text)) => Some(text.as_slice()),
         _ => None,
     }
 }
@@ -292,8 +292,8 @@ fn read_tag(
 {
     match tag {
         None => Ok(Items::new(alloc)),
-        Some(Leaf::Str(text)) => Ok(Items::of_slice(alloc, text.bytes())?),
-        Some(Leaf::Res(text)) => Ok(Items::of_slice(alloc, text.bytes())?),
+        Some(Leaf::Str(text)) => Ok(Items::of_slice(alloc, text.as_slice())?),
+        Some(Leaf::Res(text)) => Ok(Items::of_slice(alloc, text.as_slice())?),
         Some(_) => Err(AreaFault::Shape {
             list,
             member,
@@ -308,7 +308,7 @@ fn add_script(alloc: Global, field: &Field, scripts: &mut Vec<ScriptField>) -> R
 {
     if let Leaf::Res(text) = &field.leaf {
         let label = Items::of_slice(alloc, field.label.bytes())?;
-        let name = Items::of_slice(alloc, text.bytes())?;
+        let name = Items::of_slice(alloc, text.as_slice())?;
         scripts.push(ScriptField { label, name })?;
     }
     Ok(())
