@@ -10,10 +10,12 @@
 //! laws of [`laws`]. The page on it is docs/TYPES.md.
 #![tactic(auto)]
 
+pub mod expressions;
 pub mod fault;
 pub mod laws;
 pub mod places;
 pub mod rules;
 
+pub use expressions::Expression;
 pub use fault::{Fault, FaultKind};
 pub use places::{Callee, EntryPoint, Place, Variable};
