@@ -11,3 +11,4 @@ pub mod Numbers
 pub mod Places
 pub mod Reading
 pub mod Readings
+pub mod Scopes
