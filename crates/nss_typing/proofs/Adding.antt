@@ -1,10 +1,10 @@
 -- Statements and parameters only add to what stands in sight.
-use Rattle.std.proofs.Common.{◌≡◌, ◌∙◌, refl, sym, ap, subst, ℕ, suc, zero, List, [], ◌∷◌, ◌++◌, length, take, Option, append_assoc, append-nil}
+use Rattle.std.proofs.Common.{◌≡◌, ◌∙◌, refl, sym, ap, ℕ, List, [], ◌∷◌, ◌++◌, length, take, Option, append_assoc, append-nil}
 use Rattle.nss_tree.specs.Statements as stmt
-use Rattle.nss_tree.specs.Source.{SourceDeclared, SourceStmt, SourceStmts, SourceParameter}
+use Rattle.nss_tree.specs.Source.{SourceDeclared, SourceStmt}
 use Rattle.nwq_value.specs.declared.value.Ty.{Ty}
 use Rattle.nss_typing.specs.Sight.{Entry, Labels, Sight, declared, declaration_seen}
-use Rattle.nss_typing.specs.Verdicts.{after, afters, after_names, after_params, line_type, parameter_declared}
+use Rattle.nss_typing.specs.Verdicts.{after, after_names, line_type, parameter_declared}
 use Rattle.nss_typing.specs.Scopes.{OnlyAdds, StatementsOnlyAdd, ParametersOnlyAdd, NamesStandFirst}
 
 -- the same names, and the rest as it may change
