@@ -21,8 +21,8 @@ pub fn one_answer()
     ensures token { OneToken }
 {}
 
-/// The functions over the tree give what the rules give: the typed tree, the list of the nodes at fault,
-/// and the least one of them.
+/// The functions over the tree give what the rules give: the typed tree, the list of the nodes at
+/// fault, and the least one of them.
 pub fn verdicts_are_right()
     ensures typed { VerdictsAreRight }
     ensures listed { FaultsAreListed }
@@ -35,8 +35,8 @@ pub fn numbered_in_order()
     ensures { NumberedInOrder }
 {}
 
-/// Statements and parameters only add to what stands in sight, so the names before them are found again by
-/// their count when a scope is left.
+/// Statements and parameters only add to what stands in sight, so the names before them are found
+/// again by their count when a scope is left.
 pub fn scopes_only_add()
     ensures statements { StatementsOnlyAdd }
     ensures parameters { ParametersOnlyAdd }
