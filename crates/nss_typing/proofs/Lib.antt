@@ -8,4 +8,5 @@ pub mod RightItems
 pub mod Least
 pub mod UnitLaws
 pub mod Numbering
+pub mod Adding
 mod Examples

@@ -8,3 +8,7 @@ pub mod Verdicts
 pub mod Meaning
 pub mod Laws
 pub mod Numbers
+pub mod Places
+pub mod Reading
+pub mod Readings
+pub mod Scopes

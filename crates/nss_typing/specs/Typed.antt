@@ -1,6 +1,6 @@
 -- The typed tree: the tree of statements and items with typed expressions, values in place of constants, types in
 -- place of their names, and variables in place of declared names.
-use Rattle.std.specs.Prelude.{ℕ, Bool, true, false, List}
+use Rattle.std.specs.Prelude.{ℕ, Bool, false, List}
 use Rattle.nss_tree.specs.declared.operators.PrefixOperator.{PrefixOperator}
 use Rattle.nss_tree.specs.declared.operators.PostfixOperator.{PostfixOperator}
 use Rattle.nss_tree.specs.declared.operators.BinaryOperator.{BinaryOperator}
@@ -14,8 +14,8 @@ use Rattle.nwq_value.specs.declared.value.Ty.{Ty}
 use Rattle.nwq_value.specs.declared.engine.Const.{Const}
 use Rattle.nwq_value.specs.Engine.{const_type}
 use Rattle.nss_typing.specs.declared.places.Place.{Place}
-use Rattle.nss_typing.specs.declared.places.Place.TheVariants.{Local, Global, Const as IsConst}
 use Rattle.nss_typing.specs.declared.places.Callee.{Callee}
+pub use Rattle.nss_typing.specs.Places.{is_variable}
 use Rattle.nss_typing.specs.declared.places.Variable.{Variable}
 use Rattle.nss_typing.specs.declared.places.EntryPoint.{EntryPoint}
 
@@ -45,11 +45,6 @@ type_of (prefix t o x) = t
 type_of (postfix t o x) = t
 type_of (binary t o x y) = t
 type_of (assign t o x y) = t
-
-abbrev pub is_variable : Place → Bool
-is_variable (Local n) = true
-is_variable (Global n) = true
-is_variable (IsConst k) = false
 
 -- what can be written: a variable, or a member of what can be written
 abbrev pub is_place : TypedExpr → Bool

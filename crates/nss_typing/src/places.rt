@@ -1,3 +1,6 @@
+ghost use Rattle.std.specs.Prelude.{◌≡◌};
+ghost use Rattle.nss_typing.specs.Places.{is_variable};
+
 use nwq_value::{Const, Ty};
 
 /// What a name means: a variable, by its number, or a constant.
@@ -34,4 +37,17 @@ pub enum EntryPoint {
     Main(u32),
     /// `int StartingConditional()`
     Conditional(u32),
+}
+
+impl Place {
+    /// Whether it is a variable, and no constant.
+    pub fn is_variable(&self) -> bool
+        ensures variable { result ≡ is_variable self.now }
+    {
+        match self {
+            Place::Local(_) => true,
+            Place::Global(_) => true,
+            Place::Const(_) => false,
+        }
+    }
 }
