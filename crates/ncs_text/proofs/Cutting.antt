@@ -63,24 +63,19 @@ free_more at bytes i b inside is other free =
 pub cut_end : (at : ℕ) (bytes : List ℕ) (i : ℕ) → i ≡ length bytes → IsFree at (take i bytes) → cut_at at bytes ≡ None
 cut_end at bytes i end free = cut_none at bytes (subst (IsFree at) (take_all i bytes (omega arith)) free)
 
-pub gives_headless : (bytes : List ℕ) → ((line rest : List ℕ) → first_line bytes ≡ Some (line, rest) → IsOther line) → Gives bytes (Err 1)
-gives_headless bytes other =
-    let lines = all_lines bytes in headless lines.0 lines.1 (headless_by bytes other lines.0 (split bytes lines.0 lines.1))
-
 -- ---- carriage returns
 
-cut_end : (b : ℕ) (t : Bool) → (b == 13) ≡ t → (front : List ℕ) → without_return (front ++ b ∷ []) ≡ front ++ cond t [] (b ∷ [])
-cut_end b t is [] = ap (λ s. cond s [] (b ∷ [])) is
-cut_end b t is (x ∷ []) = ap (λ s. x ∷ cond s [] (b ∷ [])) is
-cut_end b t is (x ∷ y ∷ ys) = ap (λ s. x ∷ s) (cut_end b t is (y ∷ ys))
+ended_by : (b : ℕ) (t : Bool) → (b == 13) ≡ t → (front : List ℕ) → without_return (front ++ b ∷ []) ≡ front ++ cond t [] (b ∷ [])
+ended_by b t is [] = ap (λ s. cond s [] (b ∷ [])) is
+ended_by b t is (x ∷ []) = ap (λ s. x ∷ cond s [] (b ∷ [])) is
+ended_by b t is (x ∷ y ∷ ys) = ap (λ s. x ∷ s) (ended_by b t is (y ∷ ys))
 
 pub returned : (line front : List ℕ) (b : ℕ) → line ≡ front ++ b ∷ [] → (b == 13) ≡ true → front ≡ without_return line
-returned line front b is test = sym (ap without_return is ∙ cut_end b true test front ∙ append-nil front)
+returned line front b is test = sym (ap without_return is ∙ ended_by b true test front ∙ append-nil front)
 
 pub unreturned : (line front : List ℕ) (b : ℕ) → line ≡ front ++ b ∷ [] → (b == 13) ≡ false → line ≡ without_return line
-unreturned line front b is test = is ∙ sym (ap without_return is ∙ cut_end b false test front)
+unreturned line front b is test = is ∙ sym (ap without_return is ∙ ended_by b false test front)
 
 pub empty_line : (line : List ℕ) → length line ≡ 0 → line ≡ without_return line
 empty_line [] h = refl
 empty_line (b ∷ bs) h = absurd (omega arith)
-

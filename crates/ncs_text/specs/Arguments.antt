@@ -113,27 +113,24 @@ abbrev pub IsArgument : ℕ → Argument → List ℕ → List ℕ → Type 0
 IsArgument at Text text bytes = IsString text bytes
 IsArgument at argument text bytes = argument_bytes at argument text ≡ Some bytes
 
--- The first argument before others: it ends at the first space.
+-- An argument before others: it ends at the first space.
 pub record IsParted (First Others : List ℕ → List ℕ → Type 0) (text bytes : List ℕ) : Type 0 where
   pub field : List ℕ
   pub rest : List ℕ
   pub front : List ℕ
   pub others : List ℕ
   pub free : IsFree 32 field
-  pub written : text ≡ 32 ∷ field ++ 32 ∷ rest
+  pub written : text ≡ field ++ 32 ∷ rest
   pub spelled : bytes ≡ front ++ others
   pub first : First field front
-  pub behind : Others (32 ∷ rest) others
+  pub behind : Others rest others
 
--- the last argument, which takes the rest of the line
-pub record IsLast (Last : List ℕ → List ℕ → Type 0) (text bytes : List ℕ) : Type 0 where
-  pub field : List ℕ
-  pub written : text ≡ 32 ∷ field
-  pub last : Last field bytes
+-- Arguments with a space between them, and the bytes that they stand for together. The last one takes the rest of the line.
+abbrev pub AreFields : ℕ → Argument → List Argument → List ℕ → List ℕ → Type 0
+AreFields at argument [] text bytes = IsArgument at argument text bytes
+AreFields at argument (following ∷ others) text bytes = IsParted (IsArgument at argument) (AreFields at following others) text bytes
 
--- A space and an argument, for each of them, and the bytes that they stand for together.
+-- The same behind a space, where there are arguments.
 abbrev pub AreArguments : ℕ → List Argument → List ℕ → List ℕ → Type 0
 AreArguments at [] text bytes = (text ≡ []) × (bytes ≡ [])
-AreArguments at (argument ∷ []) text bytes = IsLast (IsArgument at argument) text bytes
-AreArguments at (argument ∷ next ∷ others) text bytes =
-    IsParted (IsArgument at argument) (AreArguments at (next ∷ others)) text bytes
+AreArguments at (argument ∷ others) text bytes = (fields : List ℕ) × (text ≡ 32 ∷ fields) × AreFields at argument others fields bytes

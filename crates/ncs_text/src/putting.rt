@@ -1,9 +1,8 @@
 //! The spelling of the instruction that a line stands for.
 
 ghost use Rattle.std.specs.Prelude.{◌≡◌, ◌+◌, ◌*◌, ◌<◌, ◌≤◌, ◌^◌, ◌∷◌, ◌++◌, [], List, ℕ, length};
-ghost use Rattle.std.specs.Prelude.{true, IfOk, IfSome, IsTrue};
-ghost use Rattle.ncs_code.specs.Spelling.{is_opcode};
-ghost use Rattle.ncs_text.specs.Arguments.{AreArguments, IsArgument, IsString, argument_bytes};
+ghost use Rattle.std.specs.Prelude.{true, IfOk, IfSome, MatchOption};
+ghost use Rattle.ncs_text.specs.Arguments.{AreArguments, AreFields, IsArgument, IsString, argument_bytes};
 ghost use Rattle.ncs_text.specs.Assembly.{Writes};
 ghost use Rattle.ncs_text.specs.Steps.{Appends, IsRow, Puts, PutsOrStops, PutsSome, SpelledWhole};
 
@@ -17,8 +16,10 @@ use std::alloc::Global;
 
 /// Appends bytes that were found.
 fn put(out: &mut Vec<u8>, bytes: &[u8]) -> Result<bool, NoMemory>
-    ensures { IfOk result (λ took.
+    ensures puts { IfOk result (λ took.
         (took ≡ true) × (out.new.items ≡ out.old.items ++ bytes.now)) }
+    ensures longer { IfOk result (λ _. length out.new.items
+        ≡ length out.old.items + length bytes.now) }
 {
     out.extend_from_slice(bytes)?;
     Ok(true)
@@ -36,7 +37,7 @@ fn put_number(
 ) -> Result<bool, NoMemory>
     ensures puts { IfOk result (λ took.
         Puts (argument_bytes at argument text.now) out.old.items took out.new.items) }
-    ensures few { length out.new.items ≤ length out.old.items + 4 }
+    ensures few { IfOk result (λ _. length out.new.items ≤ length out.old.items + 4) }
 {
     match argument {
         Argument::Signed => match signed_number(text) {
@@ -69,10 +70,11 @@ fn put_number(
 
 /// Appends a string behind its length.
 #[tactic(auto, unfolding(ncs_code::specs::Spelling::two))]
+
 fn put_string(alloc: Global, out: &mut Vec<u8>, text: &[u8]) -> Result<bool, NoMemory>
     ensures string { IfOk result (λ took.
         Appends (IsString text.now) out.old.items took out.new.items) }
-    ensures few { length out.new.items ≤ length out.old.items + 65537 }
+    ensures few { IfOk result (λ _. length out.new.items ≤ length out.old.items + 65537) }
 {
     let Some(string) = read_quoted(alloc, text)? else {
         return Ok(false);
@@ -95,7 +97,7 @@ fn put_argument(
 ) -> Result<bool, NoMemory>
     ensures argument { IfOk result (λ took.
         Appends (IsArgument at argument text.now) out.old.items took out.new.items) }
-    ensures few { length out.new.items ≤ length out.old.items + 65537 }
+    ensures few { IfOk result (λ _. length out.new.items ≤ length out.old.items + 65537) }
 {
     match argument {
         Argument::Text => put_string(alloc, out, text),
@@ -103,7 +105,44 @@ fn put_argument(
     }
 }
 
-/// Appends the bytes of the arguments in a row.
+/// Appends the bytes of an argument and of those behind it.
+fn put_fields(
+    alloc: Global,
+    out: &mut Vec<u8>,
+    at: u64,
+    argument: Argument,
+    others: &[Argument],
+    text: &[u8],
+) -> Result<bool, NoMemory>
+    ensures fields { IfOk result (λ took.
+        Appends (AreFields at argument others.now text.now) out.old.items took out.new.items) }
+    ensures few { IfOk result (λ _. length out.new.items
+        ≤ length out.old.items + 65537 * (length others.now + 1)) }
+{
+    let Some((next, more)) = others.split_first() else {
+        let took = put_argument(alloc, out, at, argument, text)?;
+        return Ok(took);
+    };
+    let Some((field, rest)) = cut(text, b' ') else {
+        return Ok(false);
+    };
+    if !put_argument(alloc, out, at, argument, field)? {
+        return Ok(false);
+    }
+    let took = put_fields(alloc, out, at, *next, more, rest)?;
+    Ok(took)
+}
+
+/// What stands behind a space.
+fn behind_space(text: &[u8]) -> Option<&[u8]>
+    ensures { MatchOption result ((fields : List ℕ) → text.now ≡ 32 ∷ fields → ⊥)
+        (λ fields. text.now ≡ 32 ∷ fields.now) }
+{
+    let (first, fields) = text.split_first()?;
+    if *first == b' ' { Some(fields) } else { None }
+}
+
+/// Appends the bytes of all arguments.
 fn put_arguments(
     alloc: Global,
     out: &mut Vec<u8>,
@@ -113,25 +152,17 @@ fn put_arguments(
 ) -> Result<bool, NoMemory>
     ensures arguments { IfOk result (λ took.
         Appends (AreArguments at arguments.now text.now) out.old.items took out.new.items) }
-    ensures few { length out.new.items
-        ≤ length out.old.items + 65537 * length arguments.now }
+    ensures few { IfOk result (λ _. length out.new.items
+        ≤ length out.old.items + 65537 * length arguments.now) }
 {
-    let [argument, others @ ..] = arguments else {
+    let Some((argument, others)) = arguments.split_first() else {
         return Ok(text.is_empty());
     };
-    let [b' ', fields @ ..] = text else {
+    let Some(fields) = behind_space(text) else {
         return Ok(false);
     };
-    if others.is_empty() {
-        return put_argument(alloc, out, at, *argument, fields);
-    }
-    let Some((field, _)) = cut(fields, b' ') else {
-        return Ok(false);
-    };
-    if !put_argument(alloc, out, at, *argument, field)? {
-        return Ok(false);
-    }
-    put_arguments(alloc, out, at, others, &fields[field.len()..])
+    let took = put_fields(alloc, out, at, *argument, others, fields)?;
+    Ok(took)
 }
 
 /// The size of the instruction that these bytes spell, with nothing behind it.
@@ -141,6 +172,7 @@ fn size_of(bytes: &[u8]) -> Option<u32>
     ensures whole { SpelledWhole bytes.now result }
     ensures few { IfSome result (λ size. size < 2 ^ 18) }
 {
+    size_laws();
     match decode(bytes, 0) {
         Err(_) => None,
         Ok((_op, size)) => if size as usize == bytes.len() { Some(size) } else { None },
@@ -188,13 +220,17 @@ fn put_op(
     let Some(code) = opcode_named(name) else {
         return Ok(None);
     };
-    let [high, low, text @ ..] = rest else {
+    let Some((high, rest)) = rest.split_first() else {
+        return Ok(None);
+    };
+    let Some((low, text)) = rest.split_first() else {
         return Ok(None);
     };
     let Some(kind) = hex_byte(*high, *low) else {
         return Ok(None);
     };
-    put_row(alloc, out, at, code, kind, text)
+    let size = put_row(alloc, out, at, code, kind, text)?;
+    Ok(size)
 }
 
 /// Appends the instruction that a line stands for, if it isn't passed over.
@@ -212,5 +248,6 @@ pub(crate) fn put_line(
     if is_remark(line) {
         return Ok(Some(0));
     }
-    put_op(alloc, out, at, line)
+    let size = put_op(alloc, out, at, line)?;
+    Ok(size)
 }
