@@ -4,3 +4,7 @@ pub mod Fields
 pub mod Naming
 pub mod Rows
 pub mod Ops
+pub mod Passing
+pub mod Single
+pub mod Targets
+pub mod Listings

@@ -1,6 +1,7 @@
 -- Names and type bytes as a line begins with them.
 use Rattle.std.proofs.Common.{◌≡◌, ◌≢◌, ℕ, zero, suc, ◌+◌, ◌*◌, ◌/◌, ◌%◌, ◌<◌, ◌≤◌, ◌==◌, Bool, true, false, ◌&&◌, ◌||◌, not, cond, List, [], ◌∷◌, ◌++◌, Option, Some, None, refl, sym, ap, ◌∙◌, subst, arith, get_or}
-use Rattle.std.specs.Prelude.{bytes_eq, IsTrue}
+use Rattle.std.specs.Prelude.{bytes_eq, IsTrue, nat_lt}
+use Rattle.std.specs.List.{AllByRecursion}
 use Rattle.std.proofs.lemmas.Bool.Decides.{nat_tests}
 use Rattle.std.proofs.lemmas.Option.{none-some}
 use Rattle.nwq_text.specs.Escape.{hex_digit}
@@ -18,9 +19,13 @@ pub position : ℕ → List (List ℕ) → List ℕ → ℕ
 position i [] name = i
 position i (other ∷ others) name = cond (bytes_eq other name) i (position (i + 1) others name)
 
+-- no byte below the space
+abbrev pub IsPrinted : List ℕ → Type 0
+IsPrinted bytes = AllByRecursion (λ b. 32 ≤ b) bytes
+
 is_free : List ℕ → Bool
 is_free [] = true
-is_free (b ∷ bs) = not (b == 32) && is_free bs
+is_free (b ∷ bs) = nat_lt 32 b && is_free bs
 
 -- The name tells its opcode, has no space and begins with no semicolon.
 is_good : ℕ → Bool
@@ -54,13 +59,20 @@ opcode_small code h = grind (arith, nat_tests)
 pub record IsGood (code : ℕ) : Type 0 where
   pub found : position 0 names (name_at code) ≡ code
   pub free : IsFree 32 (name_at code)
+  pub printed : IsPrinted (name_at code)
   pub speaks : get_or (name_at code) 0 0 ≢ 59
 
 freed : (bs : List ℕ) → is_free bs ≡ true → IsFree 32 bs
 unfolding is_free
 freed [] h = tt
 freed (b ∷ bs) h =
-    let parts = both (not (b == 32)) (is_free bs) h in let other : b ≢ 32 = grind (arith, nat_tests, parts.0) in (other, freed bs parts.1)
+    let parts = both (nat_lt 32 b) (is_free bs) h in let other : b ≢ 32 = grind (arith, nat_tests, parts.0) in (other, freed bs parts.1)
+
+printed : (bs : List ℕ) → is_free bs ≡ true → IsPrinted bs
+unfolding is_free
+printed [] h = tt
+printed (b ∷ bs) h =
+    let parts = both (nat_lt 32 b) (is_free bs) h in let above : 32 ≤ b = grind (arith, nat_tests, parts.0) in (above, printed bs parts.1)
 
 good_parts : (code : ℕ) (t a b c : Bool) → (not t || (a && (b && c))) ≡ true → t ≡ true → (a ≡ true) × (b ≡ true) × (c ≡ true)
 good_parts code true true true true h e = (refl, refl, refl)
@@ -74,7 +86,7 @@ unfolding is_good
 good code h =
     let parts = good_parts code (is_opcode code) (position 0 names (name_at code) == code) (is_free (name_at code)) (not (get_or (name_at code) 0 0 == 59))
     (good_below 46 code all_good (opcode_small code h)) h
-    in record { found = grind (arith, nat_tests, parts.0); free = freed (name_at code) parts.1; speaks = grind (arith, nat_tests, parts.2) }
+    in record { found = grind (arith, nat_tests, parts.0); free = freed (name_at code) parts.1; printed = printed (name_at code) parts.1; speaks = grind (arith, nat_tests, parts.2) }
 
 -- different opcodes have different names
 pub one_code : (a b : ℕ) → is_opcode a ≡ true → is_opcode b ≡ true → name_at a ≡ name_at b → a ≡ b

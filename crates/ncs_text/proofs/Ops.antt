@@ -12,7 +12,7 @@ use Rattle.ncs_text.specs.Arguments.{arguments, AreArguments, hex_byte}
 use Rattle.ncs_text.specs.Assembly.{Writes, Assembles, remark, instruction, heading, hex_pair}
 use Rattle.ncs_text.specs.Steps.{IsRow, PutsOp, PutsSome, PutsLine, PutsOrStops}
 use Rattle.ncs_text.proofs.Cutting.{cut_free}
-use Rattle.ncs_text.proofs.Fields.{cut_is}
+use Rattle.ncs_text.proofs.Fields.{cut_is, one_arguments}
 use Rattle.ncs_text.proofs.Naming.{good, one_code, literal_small, hex_read, hex_written}
 
 type_small : (op : PlainOp) → Fits op → type_byte op < 256
@@ -37,7 +37,7 @@ HasOpcode = (op : PlainOp) → IsTrue (is_opcode (opcode op))
 abbrev pub behind_name : PlainOp → List ℕ → List ℕ
 behind_name op text = hex_digit (type_byte op / 16) ∷ hex_digit (type_byte op % 16) ∷ text
 
-parted : (op : PlainOp) (text : List ℕ) → heading op ++ text ≡ name_of op ++ 32 ∷ behind_name op text
+pub parted : (op : PlainOp) (text : List ℕ) → heading op ++ text ≡ name_of op ++ 32 ∷ behind_name op text
 parted op text = append_assoc (name_of op) (32 ∷ hex_pair (type_byte op)) text
 
 -- a line that stands for an instruction is cut behind its name
@@ -156,3 +156,21 @@ op_line_puts at line before now (Some n) speaks s = record {
   last = λ h. (s.op, refl, s.holds);
 }
 op_line_puts at line before now None speaks none = (speaks, none)
+
+-- ---- one instruction
+
+-- a line tells the bytes of its instruction
+pub writes_one : HasOpcode → (at : ℕ) (line : List ℕ) (a b : PlainOp) → Writes at line a → Writes at line b → spelling a ≡ spelling b
+writes_one known at line a b x y =
+    let p = parts_of known at line (name_of b) (behind_name b y.text) (cut_written known at line b y) a x
+    in let code_is : opcode a ≡ opcode b = one_code (opcode a) (opcode b) (known a) (known b) p.name
+    in let d = digits_of a x.text (hex_digit (type_byte b / 16)) (hex_digit (type_byte b % 16)) y.text (behind_name b y.text) refl p.rest
+    in let both : Some (type_byte a) ≡ Some (type_byte b)
+    = sym (read_type a (hex_digit (type_byte b / 16)) (hex_digit (type_byte b % 16)) x.is_op.fits d.0 d.1) ∙ hex_read (type_byte b) (type_small b y.is_op.fits)
+    in let kind_is : type_byte a ≡ type_byte b = cc
+    in let fields : AreArguments at (arguments (opcode b) (type_byte b)) y.text x.bytes
+    = subst (λ t. AreArguments at (arguments (opcode b) (type_byte b)) t x.bytes) d.2
+      (subst (λ k. AreArguments at (arguments (opcode b) k) x.text x.bytes) kind_is
+      (subst (λ c. AreArguments at (arguments c (type_byte a)) x.text x.bytes) code_is x.fields))
+    in let bytes : x.bytes ≡ y.bytes = one_arguments at (arguments (opcode b) (type_byte b)) y.text x.bytes y.bytes fields y.fields
+    in x.spelled ∙ ap (λ c. c ∷ type_byte a ∷ x.bytes) code_is ∙ ap (λ k. opcode b ∷ k ∷ x.bytes) kind_is ∙ ap (λ bs. opcode b ∷ type_byte b ∷ bs) bytes ∙ sym y.spelled

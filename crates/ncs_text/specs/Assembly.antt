@@ -44,7 +44,7 @@ pub record IsAssembled (text file : List ℕ) : Type 0 where
 
 -- ---- why there is none
 
--- The n-th line is no line of an assembler text, and each before it is one.
+-- The n-th line is no line of an assembler text, and each before it is one: it is no remark, and stands for no instruction at its place.
 pub record StopsAt (n : ℕ) (text : List ℕ) : Type 0 where
   pub before : List (List ℕ)
   pub line : List ℕ
@@ -54,7 +54,7 @@ pub record StopsAt (n : ℕ) (text : List ℕ) : Type 0 where
   pub number : n ≡ length before + 1
   pub first : Assembles header_size before ops
   pub speaks : IsRemark line → ⊥
-  pub none : (at : ℕ) (op : PlainOp) → Writes at line op → ⊥
+  pub none : (op : PlainOp) → Writes (file_length ops) line op → ⊥
 
 -- The file would have so many bytes, more than a file may have.
 pub record IsLarge (size : ℕ) (text : List ℕ) : Type 0 where

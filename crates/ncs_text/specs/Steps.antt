@@ -83,11 +83,20 @@ pub record IsPassed (text : List ℕ) (stop : ℕ) (body : List ℕ) (size numbe
   pub size_is : size ≡ file_length ops
   pub kept : size ≤ file_limit → body ≡ spellings ops
   pub all : size ≤ stop → left ≡ []
-  pub passes : stop < size → Passes stop met ops
+  pub passes : header_size ≤ stop → stop < size → Passes stop met ops
 
--- the spellings of the text's instructions, which are a file
-pub record HasCode (text body : List ℕ) : Type 0 where
+-- all lines were read, and the file is no larger than a file may be
+pub record IsWhole (text body : List ℕ) (size : ℕ) : Type 0 where
+  pub ops : List PlainOp
+  pub lines : Assembles header_size (lines_of text) ops
+  pub size_is : size ≡ file_length ops
+  pub kept : body ≡ spellings ops
+  pub bounded : size ≤ file_limit
+
+-- the spellings of the text's instructions, which are a file of this size
+pub record HasCode (text body : List ℕ) (size : ℕ) : Type 0 where
   pub ops : List PlainOp
   pub lines : Assembles header_size (lines_of text) ops
   pub code : IsCode ops
   pub kept : body ≡ spellings ops
+  pub size_is : size ≡ file_length ops

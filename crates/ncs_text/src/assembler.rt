@@ -1,11 +1,11 @@
 //! From a text to its file.
 
-ghost use Rattle.std.specs.Prelude.{◌≡◌, ◌<◌, ◌≤◌, ◌^◌, ◌++◌, [], length, IfOk, IfErr, MatchResult};
+ghost use Rattle.std.specs.Prelude.{◌≡◌, ◌<◌, ◌≤◌, ◌^◌, ◌++◌, [], length, IfOk, IfErr};
 ghost use Rattle.nwq_value.specs.Limits.{file_limit};
 ghost use Rattle.ncs_code.specs.File.{magic};
 ghost use Rattle.ncs_code.specs.Spelling.{four};
 ghost use Rattle.ncs_text.specs.Assembly.{Fails, IsAssembled};
-ghost use Rattle.ncs_text.specs.Steps.{HasCode, IsPassed};
+ghost use Rattle.ncs_text.specs.Steps.{HasCode, IsPassed, IsWhole};
 
 use crate::fault::AsmFault;
 use crate::lines::line_at;
@@ -47,10 +47,10 @@ fn read_lines(alloc: Global, text: &[u8], stop: u64) -> Result<Pass, AsmFault>
     let mut size = HEADER_BYTES as u64;
     let mut number = 0u64;
     let mut rest = text;
-    while size <= stop {
-        let Some((line, after)) = line_at(rest) else {
-            break;
-        };
+    while let Some((line, after)) = line_at(rest) {
+        if size > stop {
+            return Ok(Pass { body, size, number });
+        }
         number += 1;
         let Some(added) = put_line(alloc, &mut body, size, line)? else {
             return Err(AsmFault::Line(number));
@@ -73,23 +73,18 @@ fn file_of(alloc: Global, size: u64, body: &[u8]) -> Result<Vec<u8>, NoMemory>
     Ok(file)
 }
 
-/// The file that these instructions are, or the line of the first that leads astray.
-fn test_targets(
-    alloc: Global,
-    text: &[u8],
-    pass: &Pass,
-) -> Result<(), AsmFault>
+/// Is each jump led to an instruction? If not, the line of the first that is not is the fault.
+fn test_targets(alloc: Global, text: &[u8], body: &[u8], size: u64) -> Result<(), AsmFault>
     requires short { length text.now < 2 ^ 32 }
-    requires bounded { pass.now.size ≤ file_limit }
-    requires passed { IsPassed text.now pass.now.size pass.now.body.items pass.now.size pass.now.number }
-    ensures { MatchResult result (λ _. HasCode text.now pass.now.body.items)
-        (λ fault. Fails fault text.now) }
+    requires whole { IsWhole text.now body.now size }
+    ensures code { IfOk result (λ _. HasCode text.now body.now size) }
+    ensures fault { IfErr result (λ fault. Fails fault text.now) }
 {
     spelling_laws();
     size_laws();
     place_laws();
     one_name();
-    let file = file_of(alloc, pass.size, pass.body.as_slice())?;
+    let file = file_of(alloc, size, body)?;
     match load(alloc, file) {
         Ok(_code) => Ok(()),
         Err(LoadFault::Target(place)) => {
@@ -97,7 +92,9 @@ fn test_targets(
             Err(AsmFault::Target(found.number))
         }
         Err(LoadFault::NoMemory) => Err(AsmFault::NoMemory),
-        Err(_) => unreachable!(),
+        Err(LoadFault::Magic) => unreachable!(),
+        Err(LoadFault::Length) => unreachable!(),
+        Err(LoadFault::At(_, _)) => unreachable!(),
     }
 }
 
@@ -107,10 +104,11 @@ pub fn assemble(alloc: Global, text: &[u8]) -> Result<Vec<u8>, AsmFault>
     ensures file { IfOk result (λ file. IsAssembled text.now file.items) }
     ensures fault { IfErr result (λ fault. Fails fault text.now) }
 {
-    let pass = read_lines(alloc, text, u64::MAX)?;
-    if pass.size > FILE_BYTES as u64 {
-        return Err(AsmFault::Large(pass.size));
+    let Pass { body, size, .. } = read_lines(alloc, text, u64::MAX)?;
+    if size > FILE_BYTES as u64 {
+        return Err(AsmFault::Large(size));
     }
-    test_targets(alloc, text, &pass)?;
-    Ok(file_of(alloc, pass.size, pass.body.as_slice())?)
+    test_targets(alloc, text, body.as_slice(), size)?;
+    let file = file_of(alloc, size, body.as_slice())?;
+    Ok(file)
 }
