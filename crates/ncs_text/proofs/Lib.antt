@@ -8,3 +8,6 @@ pub mod Passing
 pub mod Single
 pub mod Targets
 pub mod Listings
+pub mod Texts
+pub mod Again
+pub mod Answering

@@ -15,7 +15,7 @@ use Rattle.ncs_text.proofs.Cutting.{cut_free}
 use Rattle.ncs_text.proofs.Fields.{cut_is, one_arguments}
 use Rattle.ncs_text.proofs.Naming.{good, one_code, literal_small, hex_read, hex_written}
 
-type_small : (op : PlainOp) → Fits op → type_byte op < 256
+pub type_small : (op : PlainOp) → Fits op → type_byte op < 256
 type_small (RsAdd kind) h = h
 type_small (Const lit) h = literal_small lit
 type_small (Equal kind size) h = h.0

@@ -18,7 +18,7 @@ use Rattle.ncs_text.proofs.Cutting.{CutParts, cut_parts}
 other_byte : (b : ℕ) → b ≢ 10 → (b == 10) ≡ false
 other_byte b h = grind (arith, nat_tests)
 
-lines_ended : (begun line rest : List ℕ) → IsFree 10 line → lines_behind begun (line ++ 10 ∷ rest) ≡ without_return (begun ++ line) ∷ lines_of rest
+pub lines_ended : (begun line rest : List ℕ) → IsFree 10 line → lines_behind begun (line ++ 10 ∷ rest) ≡ without_return (begun ++ line) ∷ lines_of rest
 unfolding lines_behind
 lines_ended begun [] rest free = ap (λ l. without_return l ∷ lines_of rest) (sym (append-nil begun))
 lines_ended begun (b ∷ bs) rest free =
@@ -32,7 +32,7 @@ lines_last begun (b ∷ bs) free =
     ap (λ t. cond t (without_return begun ∷ lines_of bs) (lines_behind (begun ++ b ∷ []) bs)) (other_byte b free.0)
     ∙ lines_last (begun ++ b ∷ []) bs free.1 ∙ ap last_line (append_assoc begun (b ∷ []) bs)
 
-no_lines : lines_of [] ≡ []
+pub no_lines : lines_of [] ≡ []
 unfolding lines_behind
 no_lines = refl
 

@@ -102,7 +102,7 @@ record Found (text : List ℕ) (ops : List PlainOp) (place number : ℕ) : Type 
   behind : List (List ℕ)
   first : List PlainOp
   op : PlainOp
-  others : List PlainOp
+  pub others : List PlainOp
   lines : lines_of text ≡ before ++ line ∷ behind
   counted : number ≡ length before + 1
   begins : Assembles header_size before first
@@ -115,12 +115,12 @@ same_some : (a b : PlainOp) → Some a ≡ Some b → a ≡ b
 same_some a b e = cc
 
 -- a line that is known to stand for an instruction
-record Heads (at : ℕ) (op : PlainOp) (lines : List (List ℕ)) (ops : List PlainOp) : Type 0 where
-  others : List PlainOp
-  is : ops ≡ op ∷ others
-  rest : Assembles (at + op_size op) lines others
+pub record Heads (at : ℕ) (op : PlainOp) (lines : List (List ℕ)) (ops : List PlainOp) : Type 0 where
+  pub others : List PlainOp
+  pub is : ops ≡ op ∷ others
+  pub rest : Assembles (at + op_size op) lines others
 
-heads : SpellingLaws → HasOpcode → (at : ℕ) (line : List ℕ) (op : PlainOp) (lines : List (List ℕ)) (ops : List PlainOp) → Writes at line op → Assembles at (line ∷ lines) ops → Heads at op lines ops
+pub heads : SpellingLaws → HasOpcode → (at : ℕ) (line : List ℕ) (op : PlainOp) (lines : List (List ℕ)) (ops : List PlainOp) → Writes at line op → Assembles at (line ∷ lines) ops → Heads at op lines ops
 heads spells known at line op lines ops w (remark n other ls os is on) = absurd (speaks known n line op w is)
 heads spells known at line op lines ops w (instruction n other second ls os v on) =
     let same : second ≡ op = one_op spells known n line second op v w

@@ -8,6 +8,7 @@ pub fn listed_again()
 {
     place_laws();
     size_laws();
+    one_name();
 }
 
 /// A text has one answer, want of memory aside.
