@@ -1,5 +1,5 @@
 -- Assembling a disassembly, and what a text answers.
-use Rattle.std.proofs.Common.{◌≡◌, ◌≢◌, ℕ, ℤ, pos, negsuc, zero, suc, ◌+◌, ◌-◌, ◌<◌, ◌≤◌, ◌==◌, ◌&&◌, Bool, true, false, cond, nat_lt, ltb, List, [], ◌∷◌, ◌++◌, length, Option, Some, None, Result, Ok, Err, refl, sym, ap, ◌∙◌, subst, arith, append_assoc, append-nil}
+use Rattle.std.proofs.Common.{◌≡◌, ◌≢◌, ℕ, ℤ, pos, negsuc, zero, suc, ◌+◌, ◌-◌, ◌<◌, ◌≤◌, ◌==◌, ◌&&◌, Bool, true, false, cond, nat_lt, ltb, List, [], ◌∷◌, ◌++◌, Option, Some, None, refl, sym, ap, ◌∙◌, subst, arith, append_assoc}
 use Rattle.std.specs.Prelude.{is_some}
 use Rattle.std.specs.List.{AllByRecursion}
 use Rattle.std.proofs.lemmas.Bool.{le-ltb, lt-ltb}
@@ -7,7 +7,7 @@ use Rattle.std.proofs.lemmas.Bool.Decides.{nat_tests}
 use Rattle.nwq_value.specs.Limits.{file_limit}
 use Rattle.ncs_code.specs.Plain.{PlainOp, Jmp, Jsr, Jz, Jnz}
 use Rattle.ncs_code.specs.Spelling.{op_size, IsOp}
-use Rattle.ncs_code.specs.File.{header_size, file_bytes, file_length, ops_size, op_at, begins, jump_place, distance, leads_well, IsCode}
+use Rattle.ncs_code.specs.File.{header_size, file_bytes, file_length, op_at, begins, jump_place, distance, leads_well, IsCode}
 use Rattle.ncs_code.specs.Laws.{SizeLaws, PlaceLaws, DistanceLeads}
 use Rattle.ncs_text.specs.Lines.{IsFree, lines_of, without_return}
 use Rattle.ncs_text.specs.Arguments.{reach, offset_to}
@@ -137,9 +137,11 @@ all_led : SizeLaws → PlaceLaws → (whole met others : List PlainOp) (at : ℕ
 all_led sizes places whole met [] at code both place = tt
 all_led sizes places whole met (op ∷ others) at code both place =
     let there : op_at whole at ≡ Some op = ap (λ os. op_at os at) both ∙ ap (op_at (met ++ op ∷ others)) place ∙ places.begins met others op
-    in (led_of sizes places whole at op code.bounded (omega (arith, (places.lies whole at op there).1, code.bounded)) (code.leads at op there),
+    in (
+      led_of sizes places whole at op code.bounded (omega (arith, (places.lies whole at op there).1, code.bounded)) (code.leads at op there),
       all_led sizes places whole (met ++ op ∷ []) others (at + op_size op) code (both ∙ sym (append_assoc met (op ∷ []) others))
-        (omega (arith, place, sizes.add met (op ∷ []))))
+          (omega (arith, place, sizes.add met (op ∷ []))),
+    )
 
 pub listed_again : SizeLaws → PlaceLaws → HasOpcode → (ops : List PlainOp) → IsCode ops → IsAssembled (listing ops) (file_bytes ops)
 listed_again sizes places known ops code = record {

@@ -1,19 +1,16 @@
 -- A text has one answer.
-use Rattle.std.proofs.Common.{◌≡◌, ◌≢◌, ℕ, ◌+◌, ◌<◌, ◌≤◌, true, false, List, [], ◌∷◌, ◌++◌, length, Some, Result, Ok, Err, refl, sym, ap, ◌∙◌, subst, arith, append_assoc, length-append, inl, inr, ◌⊎◌}
-use Rattle.std.proofs.lemmas.Bool.{cases_lt}
-use Rattle.nwq_value.specs.Limits.{file_limit}
+use Rattle.std.proofs.Common.{◌≡◌, ◌≢◌, ℕ, ◌<◌, true, false, List, [], ◌∷◌, ◌++◌, length, Some, Result, Ok, Err, refl, sym, ap, ◌∙◌, subst, arith}
 use Rattle.ncs_code.specs.Plain.{PlainOp}
-use Rattle.ncs_code.specs.Spelling.{op_size}
 use Rattle.ncs_code.specs.File.{header_size, file_bytes, file_length, ops_size, op_at, leads_well}
 use Rattle.ncs_code.specs.Laws.{SpellingLaws, SizeLaws, PlaceLaws}
 use Rattle.ncs_text.specs.declared.fault.AsmFault.{AsmFault}
 use Rattle.ncs_text.specs.declared.fault.AsmFault.TheVariants.{Line, Large, Target, NoMemory}
 use Rattle.ncs_text.specs.Lines.{lines_of, IsRemark}
-use Rattle.ncs_text.specs.Assembly.{Writes, Assembles, none, remark, instruction, IsAssembled, StopsAt, IsLarge, LeadsAstray, IsFirstAstray, Answers}
+use Rattle.ncs_text.specs.Assembly.{Writes, Assembles, remark, instruction, IsAssembled, StopsAt, IsLarge, LeadsAstray, IsFirstAstray, Answers}
 use Rattle.ncs_text.proofs.Ops.{HasOpcode}
 use Rattle.ncs_text.proofs.Passing.{assembles_add}
 use Rattle.ncs_text.proofs.Single.{one_assembly, split_assembly}
-use Rattle.ncs_text.proofs.Targets.{Heads, heads}
+use Rattle.ncs_text.proofs.Targets.{heads}
 
 -- ---- two ways to part a list
 
@@ -89,7 +86,7 @@ module _ (spells : SpellingLaws) (sizes : SizeLaws) (places : PlaceLaws) (known 
       = same text (l.first ++ l.op ∷ l.others) (k.first ++ k.op ∷ k.others) (whole n text l) (whole m text k)
       in let there : op_at (k.first ++ k.op ∷ k.others) (file_length l.first) ≡ Some l.op = ap (λ os. op_at os (file_length l.first)) (sym alike) ∙ begun n text l
       in not_bad (k.first ++ k.op ∷ k.others) (file_length l.first) l.op (k.astray.before (file_length l.first) l.op lt there)
-          (subst (λ os. IsFirstAstray os (file_length l.first) l.op) alike l.astray)
+      (subst (λ os. IsFirstAstray os (file_length l.first) l.op) alike l.astray)
 
   further_on : (n m : ℕ) (text : List ℕ) (l : LeadsAstray n text) (k : LeadsAstray m text) → Further l.before l.line k.before → file_length l.first < file_length k.first
   further_on n m text l k f =
@@ -113,7 +110,7 @@ module _ (spells : SpellingLaws) (sizes : SizeLaws) (places : PlaceLaws) (known 
       let alike : a.ops ≡ l.first ++ l.op ∷ l.others = same text a.ops (l.first ++ l.op ∷ l.others) a.lines (whole n text l)
       in let there : op_at a.ops (file_length l.first) ≡ Some l.op = ap (λ os. op_at os (file_length l.first)) alike ∙ begun n text l
       in not_bad a.ops (file_length l.first) l.op (a.code.leads (file_length l.first) l.op there)
-          (subst (λ os. IsFirstAstray os (file_length l.first) l.op) (sym alike) l.astray)
+      (subst (λ os. IsFirstAstray os (file_length l.first) l.op) (sym alike) l.astray)
 
   large_no_target : (size n : ℕ) (text : List ℕ) → IsLarge size text → LeadsAstray n text → ⊥
   large_no_target size n text a l =

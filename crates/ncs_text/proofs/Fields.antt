@@ -1,5 +1,5 @@
 -- A text of arguments stands for one list of bytes.
-use Rattle.std.proofs.Common.{◌≡◌, ℕ, ◌+◌, ◌<◌, List, [], ◌∷◌, ◌++◌, length, Option, Some, Bool, true, false, None, refl, sym, ap, ◌∙◌, subst, append_assoc}
+use Rattle.std.proofs.Common.{◌≡◌, ℕ, List, [], ◌∷◌, ◌++◌, length, Option, Some, Bool, true, false, None, refl, sym, ap, ◌∙◌, subst, append_assoc}
 use Rattle.std.proofs.lemmas.Option.{none-some, some_pair_parts}
 use Rattle.ncs_code.specs.Spelling.{two}
 use Rattle.ncs_text.specs.declared.argument.Argument.{Argument}
@@ -84,7 +84,9 @@ pub fields_more : (at : ℕ) (argument following : Argument) (others more : List
     → Appends (AreFields at following more rest) between took now → Appends (AreFields at argument others text) before took now
 fields_more at argument following others more text field rest before between now true is e first h =
     let parts = cut_is 32 text field rest e
-    in (first.0 ++ h.0, h.1 ∙ ap (λ b. b ++ h.0) first.1 ∙ append_assoc before first.0 h.0,
+    in (
+      first.0 ++ h.0,
+      h.1 ∙ ap (λ b. b ++ h.0) first.1 ∙ append_assoc before first.0 h.0,
       subst (λ os. AreFields at argument os text (first.0 ++ h.0)) (sym is) (record {
         field = field;
         rest = rest;
@@ -95,5 +97,6 @@ fields_more at argument following others more text field rest before between now
         spelled = refl;
         first = first.2;
         behind = h.2;
-      }))
+      }),
+    )
 fields_more at argument following others more text field rest before between now false is e first h = no_more at argument following others more text field rest is e h

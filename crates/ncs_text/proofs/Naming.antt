@@ -1,14 +1,14 @@
 -- Names and type bytes as a line begins with them.
-use Rattle.std.proofs.Common.{◌≡◌, ◌≢◌, ℕ, zero, suc, ◌+◌, ◌*◌, ◌/◌, ◌%◌, ◌<◌, ◌≤◌, ◌==◌, Bool, true, false, ◌&&◌, ◌||◌, not, cond, List, [], ◌∷◌, ◌++◌, Option, Some, None, refl, sym, ap, ◌∙◌, subst, arith, get_or}
-use Rattle.std.specs.Prelude.{bytes_eq, IsTrue, nat_lt}
+use Rattle.std.proofs.Common.{◌≡◌, ◌≢◌, ℕ, zero, suc, ◌+◌, ◌*◌, ◌/◌, ◌%◌, ◌<◌, ◌≤◌, ◌==◌, Bool, true, false, ◌&&◌, ◌||◌, not, cond, List, [], ◌∷◌, Option, Some, None, refl, sym, ap, ◌∙◌, arith, get_or}
+use Rattle.std.specs.Prelude.{bytes_eq, nat_lt}
 use Rattle.std.specs.List.{AllByRecursion}
 use Rattle.std.proofs.lemmas.Bool.Decides.{nat_tests}
 use Rattle.std.proofs.lemmas.Option.{none-some}
 use Rattle.nwq_text.specs.Escape.{hex_digit}
 use Rattle.nwq_text.specs.Unescape.{hex_value}
-use Rattle.ncs_code.specs.Plain.{PlainOp, Const, CpDownSp, PlainLit, Int, Float, Text, Object}
-use Rattle.ncs_code.specs.Spelling.{is_opcode, opcode, type_byte, Fits, IsOp}
-use Rattle.ncs_code.specs.Names.{names, name_at, name_of}
+use Rattle.ncs_code.specs.Plain.{Const, PlainLit, Int, Float, Text, Object}
+use Rattle.ncs_code.specs.Spelling.{is_opcode, type_byte}
+use Rattle.ncs_code.specs.Names.{names, name_at}
 use Rattle.ncs_text.specs.Lines.{IsFree}
 use Rattle.ncs_text.specs.Arguments.{hex_byte, byte_of}
 

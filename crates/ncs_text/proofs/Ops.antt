@@ -1,16 +1,15 @@
 -- The instruction that a line stands for.
-use Rattle.std.proofs.Common.{◌≡◌, ◌≢◌, ℕ, zero, ◌+◌, ◌/◌, ◌%◌, ◌<◌, ◌≤◌, List, [], ◌∷◌, ◌++◌, length, Option, Some, None, true, refl, sym, ap, ◌∙◌, subst, arith, append_assoc, append-nil, get_or, inl, inr}
+use Rattle.std.proofs.Common.{◌≡◌, ℕ, ◌+◌, ◌/◌, ◌%◌, ◌<◌, List, [], ◌∷◌, ◌++◌, length, Option, Some, None, true, refl, sym, ap, ◌∙◌, subst, arith, append_assoc, append-nil}
 use Rattle.std.specs.Prelude.{IsTrue, slice_index_or}
 use Rattle.std.proofs.lemmas.Option.{none-some, some_pair_parts}
 use Rattle.nwq_text.specs.Escape.{hex_digit}
-use Rattle.ncs_code.specs.Plain.{PlainOp, RsAdd, Const, Equal, Nequal, Geq, Gt, Lt, Leq, Add, Sub, Mul, Div, Neg, CpDownSp}
-use Rattle.ncs_code.specs.Spelling.{spelling, op_size, opcode, type_byte, is_opcode, Fits, IsOp}
+use Rattle.ncs_code.specs.Plain.{PlainOp, RsAdd, Const, Equal, Nequal, Geq, Gt, Lt, Leq, Add, Sub, Mul, Div, Neg}
+use Rattle.ncs_code.specs.Spelling.{spelling, opcode, type_byte, is_opcode, Fits}
 use Rattle.ncs_code.specs.Names.{name_at, name_of, IsNamed}
-use Rattle.ncs_code.specs.File.{spellings, ops_size}
-use Rattle.ncs_text.specs.Lines.{IsFree, IsRemark, cut_at}
+use Rattle.ncs_text.specs.Lines.{IsRemark, cut_at}
 use Rattle.ncs_text.specs.Arguments.{arguments, AreArguments, hex_byte}
 use Rattle.ncs_text.specs.Assembly.{Writes, Assembles, remark, instruction, heading, hex_pair}
-use Rattle.ncs_text.specs.Steps.{IsRow, PutsOp, PutsSome, PutsLine, PutsOrStops}
+use Rattle.ncs_text.specs.Steps.{IsRow, PutsSome, PutsOrStops}
 use Rattle.ncs_text.proofs.Cutting.{cut_free}
 use Rattle.ncs_text.proofs.Fields.{cut_is, one_arguments}
 use Rattle.ncs_text.proofs.Naming.{good, one_code, literal_small, hex_read, hex_written}
@@ -93,10 +92,10 @@ row_writes at line name rest tail code kind high low e named is typed op row =
     in let digits = hex_written high low kind typed
     in let whole : line ≡ name_at code ++ 32 ∷ hex_digit (kind / 16) ∷ hex_digit (kind % 16) ∷ tail
     = (cut_is 32 line name rest e).0 ∙ ap (λ n. n ++ 32 ∷ rest) (sym named)
-        ∙ ap (λ r. name_at code ++ 32 ∷ r) (is ∙ ap (λ d. d ∷ low ∷ tail) digits.0 ∙ ap (λ d. hex_digit (kind / 16) ∷ d ∷ tail) digits.1)
+    ∙ ap (λ r. name_at code ++ 32 ∷ r) (is ∙ ap (λ d. d ∷ low ∷ tail) digits.0 ∙ ap (λ d. hex_digit (kind / 16) ∷ d ∷ tail) digits.1)
     in let written : line ≡ name_at (opcode op) ++ 32 ∷ hex_digit (type_byte op / 16) ∷ hex_digit (type_byte op % 16) ∷ tail
     = whole ∙ ap (λ x. name_at x ++ 32 ∷ hex_digit (kind / 16) ∷ hex_digit (kind % 16) ∷ tail) (sym same.0)
-        ∙ ap (λ k. name_at (opcode op) ++ 32 ∷ hex_digit (k / 16) ∷ hex_digit (k % 16) ∷ tail) (sym same.1)
+    ∙ ap (λ k. name_at (opcode op) ++ 32 ∷ hex_digit (k / 16) ∷ hex_digit (k % 16) ∷ tail) (sym same.1)
     in record {
       is_op = row.is_op;
       text = tail;
@@ -170,7 +169,7 @@ writes_one known at line a b x y =
     in let kind_is : type_byte a ≡ type_byte b = cc
     in let fields : AreArguments at (arguments (opcode b) (type_byte b)) y.text x.bytes
     = subst (λ t. AreArguments at (arguments (opcode b) (type_byte b)) t x.bytes) d.2
-      (subst (λ k. AreArguments at (arguments (opcode b) k) x.text x.bytes) kind_is
-      (subst (λ c. AreArguments at (arguments c (type_byte a)) x.text x.bytes) code_is x.fields))
+    (subst (λ k. AreArguments at (arguments (opcode b) k) x.text x.bytes) kind_is
+    (subst (λ c. AreArguments at (arguments c (type_byte a)) x.text x.bytes) code_is x.fields))
     in let bytes : x.bytes ≡ y.bytes = one_arguments at (arguments (opcode b) (type_byte b)) y.text x.bytes y.bytes fields y.fields
     in x.spelled ∙ ap (λ c. c ∷ type_byte a ∷ x.bytes) code_is ∙ ap (λ k. opcode b ∷ k ∷ x.bytes) kind_is ∙ ap (λ bs. opcode b ∷ type_byte b ∷ bs) bytes ∙ sym y.spelled

@@ -1,5 +1,5 @@
 -- Reading the lines one after another.
-use Rattle.std.proofs.Common.{◌≡◌, ◌≢◌, ℕ, ◌+◌, ◌*◌, ◌^◌, ◌<◌, ◌≤◌, ◌==◌, Bool, true, false, cond, List, [], ◌∷◌, ◌++◌, length, Option, Some, None, refl, sym, ap, ◌∙◌, subst, arith, append_assoc, append-nil, length-append}
+use Rattle.std.proofs.Common.{◌≡◌, ◌≢◌, ℕ, ◌+◌, ◌*◌, ◌^◌, ◌<◌, ◌≤◌, ◌==◌, false, cond, List, [], ◌∷◌, ◌++◌, length, Option, Some, None, refl, sym, ap, ◌∙◌, subst, arith, append_assoc, append-nil, length-append}
 use Rattle.std.proofs.lemmas.Grind.{flat_map-append}
 use Rattle.std.proofs.lemmas.Bool.Decides.{nat_tests}
 use Rattle.std.proofs.lemmas.Option.{none-some, some_pair_parts}
@@ -112,7 +112,7 @@ goes_on sizes text rest line after body now left stop size number added so withi
     in let one : Assembles (size + added) [] [] = none (size + added)
     in let reads : Assembles header_size (so.met ++ line ∷ []) (so.ops ++ (puts.ops ++ []))
     = assembles_add header_size so.met (line ∷ []) so.ops (puts.ops ++ []) so.reads
-      (subst (λ n. Assembles n (line ∷ []) (puts.ops ++ [])) so.size_is (puts.more [] [] one))
+    (subst (λ n. Assembles n (line ∷ []) (puts.ops ++ [])) so.size_is (puts.more [] [] one))
     in record {
       met = so.met ++ line ∷ [];
       ops = so.ops ++ puts.ops;

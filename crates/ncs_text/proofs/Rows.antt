@@ -1,10 +1,8 @@
 -- The bytes of a row, and the instruction that they spell.
-use Rattle.std.proofs.Common.{◌≡◌, ℕ, ◌+◌, ◌<◌, ◌≤◌, List, [], ◌∷◌, ◌++◌, length, drop, Bool, true, false, Option, Some, None, refl, sym, ap, ◌∙◌, subst, arith, append_assoc}
-use Rattle.ncs_code.specs.Plain.{PlainOp}
-use Rattle.ncs_code.specs.Spelling.{spelling, op_size, IsOp}
+use Rattle.std.proofs.Common.{◌≡◌, ℕ, List, [], ◌∷◌, ◌++◌, true, Option, Some, None, refl, sym, ap, ◌∙◌, subst, append_assoc}
 use Rattle.ncs_text.specs.declared.argument.Argument.{Argument}
 use Rattle.ncs_text.specs.Arguments.{arguments, AreArguments}
-use Rattle.ncs_text.specs.Steps.{Appends, IsRow, PutsSome, Spelled, SpelledWhole}
+use Rattle.ncs_text.specs.Steps.{Appends, IsRow, PutsSome, SpelledWhole}
 use Rattle.ncs_text.proofs.Fields.{one_arguments}
 
 -- what was appended, and what it spells

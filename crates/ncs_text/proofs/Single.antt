@@ -1,17 +1,14 @@
 -- Lines stand for one list of instructions.
-use Rattle.std.proofs.Common.{◌≡◌, ◌≢◌, ℕ, ◌+◌, ◌<◌, ◌≤◌, List, [], ◌∷◌, ◌++◌, length, get_or, Some, refl, sym, ap, ◌∙◌, subst, arith, append-nil, append_assoc, inl, inr}
-use Rattle.std.proofs.lemmas.Option.{some_pair_parts}
+use Rattle.std.proofs.Common.{◌≡◌, ◌≢◌, ℕ, ◌+◌, ◌<◌, List, [], ◌∷◌, ◌++◌, length, get_or, refl, sym, ap, ◌∙◌, subst, arith, inl, inr}
 use Rattle.ncs_code.specs.Plain.{PlainOp}
-use Rattle.ncs_code.specs.Spelling.{spelling, op_size, opcode, type_byte}
+use Rattle.ncs_code.specs.Spelling.{spelling, op_size, opcode}
 use Rattle.ncs_code.specs.Names.{name_of}
 use Rattle.ncs_code.specs.File.{ops_size}
 use Rattle.ncs_code.specs.Laws.{SpellingLaws}
 use Rattle.ncs_text.specs.Lines.{IsRemark}
-use Rattle.ncs_text.specs.Arguments.{arguments, AreArguments, hex_byte}
-use Rattle.ncs_text.specs.Assembly.{Writes, Assembles, none, remark, instruction, heading}
+use Rattle.ncs_text.specs.Assembly.{Writes, Assembles, none, remark, instruction}
 use Rattle.ncs_text.proofs.Naming.{good}
-use Rattle.ncs_text.proofs.Fields.{one_arguments}
-use Rattle.ncs_text.proofs.Ops.{HasOpcode, behind_name, cut_written, parted, writes_one}
+use Rattle.ncs_text.proofs.Ops.{HasOpcode, behind_name, parted, writes_one}
 
 starts : (name rest : List ℕ) → get_or name 0 0 ≢ 59 → get_or (name ++ 32 ∷ rest) 0 0 ≢ 59
 starts [] rest h e = absurd (omega (arith, e))
@@ -66,4 +63,4 @@ split_assembly spells known at met left first whole (instruction n line op ls op
 split_assembly spells known at met left first whole (instruction n line op ls ops w on) (instruction m other second ms others v more) =
     let same : op ≡ second = one_op spells known n line op second w v
     in subst (λ o. Behind n left (op ∷ ops) (o ∷ others)) same
-      (behind_more n left op ops others (split_assembly spells known (n + op_size op) ls left ops others on (subst (λ o. Assembles (n + op_size o) (ls ++ left) others) (sym same) more)))
+    (behind_more n left op ops others (split_assembly spells known (n + op_size op) ls left ops others on (subst (λ o. Assembles (n + op_size o) (ls ++ left) others) (sym same) more)))

@@ -3,7 +3,6 @@ use Rattle.std.proofs.Common.{◌≡◌, ◌≢◌, ℕ, ◌+◌, ◌<◌, ◌�
 use Rattle.std.specs.List.{AllByRecursion}
 use Rattle.std.proofs.lemmas.List.{drop_at}
 use Rattle.std.proofs.lemmas.Bool.{cases_lt}
-use Rattle.nwq_value.specs.Limits.{file_limit}
 use Rattle.ncs_code.specs.declared.fault.CodeFault.{CodeFault}
 use Rattle.ncs_code.specs.Plain.{PlainOp}
 use Rattle.ncs_code.specs.Spelling.{spelling, op_size, four, fault_of, IsOp}
@@ -15,7 +14,7 @@ use Rattle.ncs_text.specs.Lines.{lines_of}
 use Rattle.ncs_text.specs.Assembly.{Writes, Assembles, none, remark, instruction, LeadsAstray, IsFirstAstray}
 use Rattle.ncs_text.specs.Steps.{IsPassed, IsWhole, HasCode, Passes}
 use Rattle.ncs_text.proofs.Ops.{HasOpcode}
-use Rattle.ncs_text.proofs.Single.{Behind, one_op, one_assembly, split_assembly, speaks}
+use Rattle.ncs_text.proofs.Single.{one_op, one_assembly, split_assembly, speaks}
 
 pub each_is_op : (at : ℕ) (lines : List (List ℕ)) (ops : List PlainOp) → Assembles at lines ops → AllByRecursion IsOp ops
 each_is_op at lines ops (none n) = tt
@@ -41,7 +40,7 @@ pub same_ops : SpellingLaws → (a b : List PlainOp) → AllByRecursion IsOp a �
 same_ops spells a b f g same =
     let bytes : spellings a ≡ spellings b = sym (drop_header a) ∙ ap (drop 13) same ∙ drop_header b
     in sym (spells.listed (length (spellings a)) a f (omega arith)) ∙ ap (ops_of (length (spellings a))) bytes
-      ∙ spells.listed (length (spellings a)) b g (omega (arith, ap length bytes))
+    ∙ spells.listed (length (spellings a)) b g (omega (arith, ap length bytes))
 
 -- ---- a file
 

@@ -1,7 +1,7 @@
 -- The text of an instruction is a line that stands for it.
-use Rattle.std.proofs.Common.{◌≡◌, ◌≢◌, ℕ, ℤ, pos, negsuc, zero, suc, ◌+◌, ◌-◌, ◌/◌, ◌%◌, ◌^◌, ◌<◌, ◌≤◌, ◌==◌, ◌&&◌, Bool, true, false, cond, nat_lt, nat_le, ltb, List, [], ◌∷◌, ◌++◌, length, get_or, drop, Option, Some, None, refl, sym, ap, ◌∙◌, subst, arith, append_assoc, append-nil}
+use Rattle.std.proofs.Common.{◌≡◌, ◌≢◌, ℕ, ℤ, pos, negsuc, suc, ◌/◌, ◌%◌, ◌^◌, ◌<◌, ◌≤◌, ◌==◌, ◌&&◌, Bool, true, false, cond, nat_lt, nat_le, List, [], ◌∷◌, ◌++◌, length, get_or, drop, Some, None, refl, ap, ◌∙◌, arith}
 use Rattle.std.specs.Prelude.{All, FitsSigned}
-use Rattle.std.specs.List.{AllByRecursion, flat_map}
+use Rattle.std.specs.List.{flat_map}
 use Rattle.std.specs.Option.{option_map}
 use Rattle.std.specs.Fmt.{decimal, signed_decimal}
 use Rattle.std.specs.Int.{w32}
@@ -10,23 +10,22 @@ use Rattle.std.specs.Str.{all_ascii_digits}
 use Rattle.std.specs.Str.Parse.{AllDigits, digits_value}
 use Rattle.std.proofs.lemmas.Fmt.{decimal_is_IsNumeral, length-decimal-le}
 use Rattle.std.proofs.lemmas.Str.Parse.{digit_from_value}
-use Rattle.std.proofs.lemmas.Bool.{le-ltb, lt-ltb}
 use Rattle.std.proofs.lemmas.Bool.Decides.{nat_tests}
 use Rattle.nwq_text.specs.Number.{number_of}
 use Rattle.nwq_text.specs.Escape.{AreBytes, quoted, hex_digit, hex_spelling, is_plain}
 use Rattle.nwq_text.specs.Escape as escape
 use Rattle.ncs_code.specs.Plain.{PlainLit, PlainOp, Int, Float as FloatLit, Text as TextLit, Object, CpDownSp, CpTopSp, Const, Action, Equal, Nequal, MovSp, Jmp, Jsr, Jz, Destruct, DecISp, IncISp, Jnz, CpDownBp, CpTopBp, DecIBp, IncIBp, StoreState}
-use Rattle.ncs_code.specs.Spelling.{two, four, signed, spelling, op_size, opcode, type_byte, IsByte, IsOp, LitFits, HasTextSize, lit_spelling, literal_size}
-use Rattle.ncs_code.specs.File.{distance, jump_place}
+use Rattle.ncs_code.specs.Spelling.{two, four, signed, spelling, opcode, type_byte, IsByte, IsOp, LitFits, HasTextSize, lit_spelling}
+use Rattle.ncs_code.specs.File.{jump_place}
 use Rattle.ncs_code.specs.Laws.{SizeLaws}
 use Rattle.ncs_text.specs.declared.argument.Argument.{Argument}
 use Rattle.ncs_text.specs.declared.argument.Argument.TheVariants.{Signed, Byte, Short, Word, Place, Float, Text}
 use Rattle.ncs_text.specs.Lines.{IsFree}
-use Rattle.ncs_text.specs.Arguments.{arguments, literal, reach, offset_to, below, number_below, negative, signed_number, hex_bytes, four_bytes, place_of, argument_bytes, IsArgument, AreArguments}
+use Rattle.ncs_text.specs.Arguments.{arguments, literal, offset_to, below, number_below, negative, signed_number, hex_bytes, place_of, argument_bytes, IsArgument, AreArguments}
 use Rattle.ncs_text.specs.Assembly.{hex_pair, heading, Writes}
-use Rattle.ncs_text.specs.Listing.{number, signed_text, target, copied, run_size, literal_text, arguments_text}
+use Rattle.ncs_text.specs.Listing.{number, signed_text, target, copied, literal_text, arguments_text}
 use Rattle.ncs_text.proofs.Naming.{IsPrinted, good, hex_read}
-use Rattle.ncs_text.proofs.Ops.{HasOpcode, type_small}
+use Rattle.ncs_text.proofs.Ops.{HasOpcode}
 
 -- ---- numbers
 
@@ -141,31 +140,39 @@ one : (at : ℕ) (a : Argument) (f x : List ℕ) → IsArgument at a f x → Are
 one at a f x h = (f, refl, h)
 
 both : (at : ℕ) (a b : Argument) (f g x y : List ℕ) → IsFree 32 f → IsArgument at a f x → IsArgument at b g y → AreArguments at (a ∷ b ∷ []) (32 ∷ (f ++ 32 ∷ g)) (x ++ y)
-both at a b f g x y free first last = (f ++ 32 ∷ g, refl, record {
-  field = f;
-  rest = g;
-  front = x;
-  others = y;
-  free = free;
-  written = refl;
-  spelled = refl;
-  first = first;
-  behind = last;
-})
+both at a b f g x y free first last = (
+  f ++ 32 ∷ g,
+  refl,
+  record {
+    field = f;
+    rest = g;
+    front = x;
+    others = y;
+    free = free;
+    written = refl;
+    spelled = refl;
+    first = first;
+    behind = last;
+  },
+)
 
 three : (at : ℕ) (a b d : Argument) (f g h x y z : List ℕ) → IsFree 32 f → IsFree 32 g → IsArgument at a f x → IsArgument at b g y → IsArgument at d h z
     → AreArguments at (a ∷ b ∷ d ∷ []) (32 ∷ (f ++ 32 ∷ (g ++ 32 ∷ h))) (x ++ (y ++ z))
-three at a b d f g h x y z free also first second last = (f ++ 32 ∷ (g ++ 32 ∷ h), refl, record {
-  field = f;
-  rest = g ++ 32 ∷ h;
-  front = x;
-  others = y ++ z;
-  free = free;
-  written = refl;
-  spelled = refl;
-  first = first;
-  behind = record { field = g; rest = h; front = y; others = z; free = also; written = refl; spelled = refl; first = second; behind = last };
-})
+three at a b d f g h x y z free also first second last = (
+  f ++ 32 ∷ (g ++ 32 ∷ h),
+  refl,
+  record {
+    field = f;
+    rest = g ++ 32 ∷ h;
+    front = x;
+    others = y ++ z;
+    free = free;
+    written = refl;
+    spelled = refl;
+    first = first;
+    behind = record { field = g; rest = h; front = y; others = z; free = also; written = refl; spelled = refl; first = second; behind = last };
+  },
+)
 
 number_free : (n : ℕ) → n ≤ 4294967296 → IsFree 32 (decimal n)
 number_free n h = digits_free (decimal n) (digits n h)

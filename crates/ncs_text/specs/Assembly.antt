@@ -1,5 +1,5 @@
 -- The file of an assembler text, or why it has none.
-use Rattle.std.specs.Prelude.{◌≡◌, ◌≢◌, ℕ, ◌+◌, ◌/◌, ◌%◌, ◌<◌, ◌≤◌, List, [], ◌∷◌, ◌++◌, length, Bool, true, false, Some, Result, Ok, Err}
+use Rattle.std.specs.Prelude.{◌≡◌, ℕ, ◌+◌, ◌/◌, ◌%◌, ◌<◌, ◌≤◌, List, [], ◌∷◌, ◌++◌, length, true, false, Some, Result, Ok, Err}
 use Rattle.nwq_value.specs.Limits.{file_limit}
 use Rattle.nwq_text.specs.Escape.{hex_digit}
 use Rattle.ncs_code.specs.Plain.{PlainOp}

@@ -4,9 +4,8 @@ use Rattle.nwq_value.specs.Limits.{file_limit}
 use Rattle.ncs_code.specs.Plain.{PlainOp}
 use Rattle.ncs_code.specs.Spelling.{spelling, op_size, IsOp}
 use Rattle.ncs_code.specs.File.{IsCode, header_size, spellings, ops_size, file_length}
-use Rattle.ncs_text.specs.declared.argument.Argument.{Argument}
 use Rattle.ncs_text.specs.Lines.{lines_of, IsRemark}
-use Rattle.ncs_text.specs.Arguments.{arguments, IsArgument, AreArguments}
+use Rattle.ncs_text.specs.Arguments.{arguments, AreArguments}
 use Rattle.ncs_text.specs.Assembly.{Writes, Assembles}
 
 -- The bytes were appended, where there are some.

@@ -18,7 +18,11 @@ fn hex_digit_of(value: u8) -> u8
     requires { value < 16 }
     ensures { result ≡ hex_digit value }
 {
-    if value < 10 { b'0' + value } else { b'a' + (value - 10) }
+    if value < 10 {
+        b'0' + value
+    } else {
+        b'a' + (value - 10)
+    }
 }
 
 fn put_hex(out: &mut Vec<u8>, byte: u8) -> Result<(), NoMemory>
@@ -60,7 +64,11 @@ fn put_copied(out: &mut Vec<u8>, offset: i32, size: u16) -> Result<(), NoMemory>
 fn put_run_size(out: &mut Vec<u8>, kind: u8, size: u16) -> Result<(), NoMemory>
     ensures { OnOk result (out.new.items ≡ out.old.items ++ run_size kind size) }
 {
-    if kind == 0x24 { put_number(out, u32::from(size)) } else { Ok(()) }
+    if kind == 0x24 {
+        put_number(out, u32::from(size))
+    } else {
+        Ok(())
+    }
 }
 
 fn put_float(out: &mut Vec<u8>, bytes: [u8; 4]) -> Result<(), NoMemory>
@@ -128,7 +136,11 @@ fn put_arguments(out: &mut Vec<u8>, at: u32, op: &Op<'_>) -> Result<(), NoMemory
         Op::Jmp { offset } | Op::Jsr { offset } | Op::Jz { offset } | Op::Jnz { offset } => {
             put_target(out, at, offset)
         }
-        Op::Destruct { total, offset, size } => put_kept(out, total, offset, size),
+        Op::Destruct {
+            total,
+            offset,
+            size,
+        } => put_kept(out, total, offset, size),
         Op::StoreState { globals, locals } => put_numbers(out, globals, locals),
         _ => Ok(()),
     }

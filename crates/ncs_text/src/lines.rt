@@ -18,8 +18,7 @@ pub(crate) fn cut(bytes: &[u8], at: u8) -> Option<(&[u8], &[u8])>
 }
 
 /// A line without the carriage return at its end.
-#[tactic(auto, using(crate::proofs::Cutting::returned, crate::proofs::Cutting::unreturned,
-    crate::proofs::Cutting::empty_line))]
+#[tactic(auto, using(crate::proofs::Cutting::returned, crate::proofs::Cutting::unreturned, crate::proofs::Cutting::empty_line))]
 fn trimmed(line: &[u8]) -> &[u8]
     ensures { result.now ≡ without_return line.now }
 {

@@ -26,15 +26,8 @@ fn put(out: &mut Vec<u8>, bytes: &[u8]) -> Result<bool, NoMemory>
 }
 
 /// Appends what the text of an argument stands for that is no string.
-#[tactic(auto, unfolding(crate::specs::Arguments::argument_bytes,
-    ncs_code::specs::Spelling::two, ncs_code::specs::Spelling::four,
-    ncs_code::specs::Spelling::signed))]
-fn put_number(
-    out: &mut Vec<u8>,
-    at: u64,
-    argument: Argument,
-    text: &[u8],
-) -> Result<bool, NoMemory>
+#[tactic(auto, unfolding(crate::specs::Arguments::argument_bytes, ncs_code::specs::Spelling::two, ncs_code::specs::Spelling::four, ncs_code::specs::Spelling::signed))]
+fn put_number(out: &mut Vec<u8>, at: u64, argument: Argument, text: &[u8]) -> Result<bool, NoMemory>
     ensures puts { IfOk result (λ took.
         Puts (argument_bytes at argument text.now) out.old.items took out.new.items) }
     ensures few { IfOk result (λ _. length out.new.items ≤ length out.old.items + 4) }
@@ -70,7 +63,6 @@ fn put_number(
 
 /// Appends a string behind its length.
 #[tactic(auto, unfolding(ncs_code::specs::Spelling::two))]
-
 fn put_string(alloc: Global, out: &mut Vec<u8>, text: &[u8]) -> Result<bool, NoMemory>
     ensures string { IfOk result (λ took.
         Appends (IsString text.now) out.old.items took out.new.items) }
@@ -175,7 +167,11 @@ fn size_of(bytes: &[u8]) -> Option<u32>
     size_laws();
     match decode(bytes, 0) {
         Err(_) => None,
-        Ok((_op, size)) => if size as usize == bytes.len() { Some(size) } else { None },
+        Ok((_op, size)) => if size as usize == bytes.len() {
+            Some(size)
+        } else {
+            None
+        },
     }
 }
 
@@ -203,12 +199,7 @@ fn put_row(
 }
 
 /// Appends the instruction that a line stands for.
-fn put_op(
-    alloc: Global,
-    out: &mut Vec<u8>,
-    at: u64,
-    line: &[u8],
-) -> Result<Option<u32>, NoMemory>
+fn put_op(alloc: Global, out: &mut Vec<u8>, at: u64, line: &[u8]) -> Result<Option<u32>, NoMemory>
     ensures puts { IfOk result (λ size.
         PutsSome (Writes at line.now) out.old.items out.new.items size) }
     ensures few { IfOk result (λ size. IfSome size (λ n. n < 2 ^ 18)) }

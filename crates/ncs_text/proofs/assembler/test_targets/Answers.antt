@@ -1,4 +1,4 @@
-use Rattle.std.proofs.Common.{◌≡◌, ◌++◌, sym, ◌∙◌, subst}
+use Rattle.std.proofs.Common.{subst}
 use Rattle.ncs_text.specs.Steps.{IsPassed}
 use Rattle.ncs_text.proofs.Targets.{has_code, has_length, stops_nowhere, leads_astray}
 use Rattle.ncs_text.proofs.assembler.test_targets.Goals as goal

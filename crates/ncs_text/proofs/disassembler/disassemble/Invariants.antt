@@ -1,4 +1,4 @@
-use Rattle.std.proofs.Common.{◌-◌, ◌≤◌}
+use Rattle.std.proofs.Common.{◌-◌}
 use Rattle.ncs_code.specs.File.{file_length}
 use Rattle.ncs_text.proofs.Listings.{Listed}
 use Rattle.ncs_text.proofs.disassembler.disassemble.Given as goal

@@ -15,7 +15,7 @@ returns-then-not-branch-clause-fields t c =
     c.if-not-branch.true (c.in_ok-put_argument.ensures {u = tt}).argument)
 
 pub returns-clause-fields : goal.returns-clause-fields
-returns-clause-fields t c = 
+returns-clause-fields t c =
     fields_more _ _ c.in-Some.next.now _ c.in-Some.more.now _ c.in-Some-cut.field.now c.in-Some-cut.rest.now _ c.put_argument-2.new.out.items _ _
     (c.in-Some.ensures {u = tt}).cases.0 (sym (c.in-Some-cut.ensures {u = tt}))
     (subst (λ took. Appends (IsArgument c.args.at c.args.argument c.in-Some-cut.field.now) c.args.out.now.items took c.put_argument-2.new.out.items)

@@ -1,4 +1,4 @@
-use Rattle.std.proofs.Common.{sym, ◌∙◌, ◌≡◌}
+use Rattle.std.proofs.Common.{sym, ◌∙◌}
 use Rattle.ncs_text.proofs.Ops.{remark_puts, op_line_puts}
 use Rattle.ncs_text.proofs.putting.put_line.Goals as goal
 

@@ -1,4 +1,4 @@
-use Rattle.std.proofs.Common.{sym, ◌∙◌, ap, ◌≡◌, ◌∷◌, arith, length}
+use Rattle.std.proofs.Common.{sym, ◌∙◌, ap, ◌∷◌, arith, length}
 use Rattle.ncs_text.proofs.Ops.{uncut_line, unnamed, too_short, untyped, op_puts}
 use Rattle.ncs_text.proofs.putting.put_op.Goals as goal
 

@@ -1,4 +1,4 @@
-use Rattle.std.proofs.Common.{ap, sym, ◌∙◌, ◌≡◌, ◌++◌, List, ℕ, drop, length, arith, subst}
+use Rattle.std.proofs.Common.{ap, ◌∙◌, ◌≡◌, drop, length, arith, subst}
 use Rattle.std.proofs.lemmas.List.{take_rest, drop_at}
 use Rattle.ncs_text.specs.Arguments.{AreArguments}
 use Rattle.ncs_text.specs.Steps.{Appends}

@@ -1,5 +1,5 @@
-use Rattle.std.proofs.Common.{◌≡◌, [], ◌++◌, length, ap, sym, ◌∙◌, arith, append-nil, subst}
-use Rattle.ncs_code.specs.Spelling.{spelling, op_size}
+use Rattle.std.proofs.Common.{[], length, ap, sym, ◌∙◌, append-nil}
+use Rattle.ncs_code.specs.Spelling.{spelling}
 use Rattle.ncs_text.proofs.putting.size_of.Goals as goal
 
 pub returns-in-Err-clause-whole : goal.returns-in-Err-clause-whole
