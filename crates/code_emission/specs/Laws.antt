@@ -1,9 +1,28 @@
 -- What holds of the code of a unit by itself.
-use Rattle.std.specs.Prelude.{◌≡◌, ℕ, nat_lt, if◌then◌else◌}
-use Rattle.ncs_emit.specs.Labelled.{placements}
+use Rattle.std.specs.Prelude.{◌≡◌, ◌≤◌, ℕ, nat_lt, if◌then◌else◌}
+use Rattle.std.specs.List.{AllByRecursion}
+use Rattle.nwq_value.specs.Limits.{file_limit}
+use Rattle.ncs_code.specs.File.{file_length, IsCode}
+use Rattle.ncs_emit.specs.Labelled.{LabelledCode, placements, program}
+use Rattle.ncs_emit.specs.Leading.{LineFits, LeadsOn, Closes}
 use Rattle.nss_typing.specs.Typed.{TypedUnit}
+use Rattle.code_emission.specs.Bounds.{IsBounded}
 use Rattle.code_emission.specs.Units.{unit_code}
+
+-- labelled code whose finished file loads, if it is not too large
+pub record IsWhole (code : LabelledCode) : Type 0 where
+  pub fits : AllByRecursion (LineFits code.labels) code.lines
+  pub leads : LeadsOn code.lines code.lines
+  pub closes : Closes code.lines
 
 -- Each label that a unit takes is placed exactly once, and no other one is.
 abbrev pub EachPlacedOnce : Type 0
 EachPlacedOnce = (u : TypedUnit) (label : ℕ) → placements (unit_code u).lines label ≡ (if nat_lt label (unit_code u).labels then 1 else 0)
+
+-- The code of a unit that keeps the bounds has spellings, leads on and closes.
+abbrev pub CodeIsWhole : Type 0
+CodeIsWhole = (u : TypedUnit) → IsBounded u → IsWhole (unit_code u)
+
+-- So its file is one that loads, with the same instructions, if it is not too large.
+abbrev pub FileIsCode : Type 0
+FileIsCode = (u : TypedUnit) → IsBounded u → file_length (program (unit_code u).lines) ≤ file_limit → IsCode (program (unit_code u).lines)

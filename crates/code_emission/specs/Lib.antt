@@ -3,4 +3,5 @@ pub mod Operations
 pub mod Expressions
 pub mod Statements
 pub mod Units
+pub mod Bounds
 pub mod Laws

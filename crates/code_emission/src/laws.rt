@@ -1,11 +1,28 @@
 //! Laws about the definitions, each the contract of a function that does nothing.
-ghost use Rattle.code_emission.specs.Laws.{EachPlacedOnce};
+ghost use Rattle.code_emission.specs.Laws.{CodeIsWhole, EachPlacedOnce, FileIsCode};
 
-use ncs_emit::part_laws;
+use ncs_emit::{finished_is_code, part_laws};
 
 /// Each label that the code of a unit takes is placed exactly once, and no other one is.
 pub fn each_placed_once()
     ensures { EachPlacedOnce }
 {
     part_laws();
+}
+
+/// The code of a unit that keeps the bounds has a spelling for each instruction, jumps to labels
+/// that are placed, and ends with an instruction.
+pub fn code_is_whole()
+    ensures { CodeIsWhole }
+{
+    part_laws();
+}
+
+/// The file of a unit that keeps the bounds loads, with the same instructions, if it is not too
+/// large.
+pub fn file_is_code()
+    ensures { FileIsCode }
+{
+    code_is_whole();
+    finished_is_code();
 }
