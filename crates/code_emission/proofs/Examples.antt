@@ -1,5 +1,5 @@
 -- Small units: their code as the definitions compute it. The unit stands above its tree.
-use Rattle.std.proofs.Common.{◌≡◌, refl, ℕ, ℤ, pos, List, [], ◌∷◌, ◌++◌, codes, Option, None, Some}
+use Rattle.std.proofs.Common.{rules, arith, ◌≡◌, refl, ℕ, ℤ, pos, List, [], ◌∷◌, ◌++◌, codes, Option, None, Some}
 use Rattle.std.specs.Prelude.{neg_ℤ}
 use Rattle.nss_tree.specs.declared.operators.PrefixOperator.TheVariants as pre
 use Rattle.nss_tree.specs.declared.operators.PostfixOperator.TheVariants as post
@@ -26,6 +26,7 @@ use Rattle.nss_typing.specs.Typed as e
 use Rattle.code_emission.specs.Layout.{Layout, layout_of}
 use Rattle.code_emission.specs.Expressions.{emit}
 use Rattle.code_emission.specs.Statements.{emit_stmt, in_loop, no_exits}
+use Rattle.code_emission.specs.Bounds.{IsType, IsBounded}
 use Rattle.code_emission.specs.Units.{unit_code, unit_file}
 
 abbrev minus : ℕ → ℤ
@@ -361,6 +362,29 @@ returned = refl
 returned_struct : emit_stmt here no_exits 4 3 (s.return_from 0 (Some inner))
     ≡ op (ops.CpTopSp (minus 8) 8) ∷ op (ops.CpDownSp (minus 28) 8) ∷ op (ops.MovSp (minus 20)) ∷ op ops.Retn ∷ []
 returned_struct = refl
+
+-- ---- bounds
+
+int_type : (l : Layout) → IsType l t.Int
+int_type l = record { few = omega arith; kinds = (tt, tt) }
+
+no_type : (l : Layout) → IsType l t.Void
+no_type l = record { few = omega arith; kinds = tt }
+
+-- int g=1; void main() { while (g) { PrintInteger(-g); break; } }
+bounded : IsBounded (unit_of (
+      global 0 t.Int (Some (int 1))
+      ∷ function t.Void [] (
+          s.while_loop 0 (of_globals 0) (s.block 0 (stmts (run (print (e.prefix t.Int pre.Minus (of_globals 0))) ∷ s.break_off 0 ∷ []))) ∷ [])
+      ∷ []) (Main 0))
+bounded =
+    record {
+      items = (
+        (int_type _, search (rules, arith), tt),
+        ((((int_type _, tt), ((no_type _, (omega arith, omega arith), tt, ((int_type _, (int_type _, tt)), tt)), (refl, tt))), tt), omega arith, tt));
+      globals = omega arith;
+      entry = omega arith;
+    }
 
 -- int a = 1, b = a; int StartingConditional() { return b; }: where b is made, a is a local
 condition_with_globals : code (unit_of (

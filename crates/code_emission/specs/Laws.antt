@@ -2,9 +2,10 @@
 use Rattle.std.specs.Prelude.{◌≡◌, ◌≤◌, ℕ, nat_lt, if◌then◌else◌}
 use Rattle.std.specs.List.{AllByRecursion}
 use Rattle.nwq_value.specs.Limits.{file_limit}
-use Rattle.ncs_code.specs.File.{file_length, IsCode}
-use Rattle.ncs_emit.specs.Labelled.{LabelledCode, placements, program}
+use Rattle.ncs_code.specs.File.{header_size, file_length, IsCode}
+use Rattle.ncs_emit.specs.Labelled.{LabelledCode, placements, place_of, program}
 use Rattle.ncs_emit.specs.Leading.{LineFits, LeadsOn, Closes}
+use Rattle.ncs_emit.specs.Standing.{LinesStand}
 use Rattle.nss_typing.specs.Typed.{TypedUnit}
 use Rattle.code_emission.specs.Bounds.{IsBounded}
 use Rattle.code_emission.specs.Units.{unit_code}
@@ -18,6 +19,10 @@ pub record IsWhole (code : LabelledCode) : Type 0 where
 -- Each label that a unit takes is placed exactly once, and no other one is.
 abbrev pub EachPlacedOnce : Type 0
 EachPlacedOnce = (u : TypedUnit) (label : ℕ) → placements (unit_code u).lines label ≡ (if nat_lt label (unit_code u).labels then 1 else 0)
+
+-- So each line stands at its place in the program: an instruction begins there, and a jump leads to the place of its label.
+abbrev pub CodeStands : Type 0
+CodeStands = (u : TypedUnit) → LinesStand (program (unit_code u).lines) (place_of (unit_code u).lines) header_size (unit_code u).lines
 
 -- The code of a unit that keeps the bounds has spellings, leads on and closes.
 abbrev pub CodeIsWhole : Type 0

@@ -1,13 +1,21 @@
 //! Laws about the definitions, each the contract of a function that does nothing.
-ghost use Rattle.code_emission.specs.Laws.{CodeIsWhole, EachPlacedOnce, FileIsCode};
+ghost use Rattle.code_emission.specs.Laws.{CodeIsWhole, CodeStands, EachPlacedOnce, FileIsCode};
 
-use ncs_emit::{finished_is_code, part_laws};
+use ncs_emit::{finished_is_code, part_laws, program_stands};
 
 /// Each label that the code of a unit takes is placed exactly once, and no other one is.
 pub fn each_placed_once()
     ensures { EachPlacedOnce }
 {
     part_laws();
+}
+
+/// In the program of a unit's code each line stands at its place.
+pub fn code_stands()
+    ensures { CodeStands }
+{
+    each_placed_once();
+    program_stands();
 }
 
 /// The code of a unit that keeps the bounds has a spelling for each instruction, jumps to labels
