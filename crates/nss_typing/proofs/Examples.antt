@@ -1,5 +1,5 @@
 -- Small units, each with its first fault or none, as the definitions compute it. The unit stands above its tree.
-use Rattle.std.proofs.Common.{◌≡◌, refl, ℕ, pos, Bool, true, false, List, [], ◌∷◌, codes, Option, None, Some}
+use Rattle.std.proofs.Common.{◌≡◌, refl, ℕ, pos, true, false, List, [], ◌∷◌, codes, Option, None, Some}
 use Rattle.std.specs.Prelude.{is_some}
 use Rattle.nss_tree.specs.declared.constants.Constant.{Constant}
 use Rattle.nss_tree.specs.declared.constants.Constant.TheVariants as k
@@ -44,16 +44,16 @@ routine x r ps role = record { name = x; result = r; params = ps; role = role }
 abbrev header : EngineTable
 header = record {
   routines =
-    routine (codes "PrintInteger") t.Void (wanted t.Int ∷ []) World
-    ∷ routine (codes "Random") t.Int (wanted t.Int ∷ []) World
-    ∷ routine (codes "DelayCommand") t.Void (wanted t.Int ∷ wanted t.Action ∷ []) World
-    ∷ routine (codes "Damage") t.Effect (wanted t.Int ∷ optional t.Int (c.Int (pos 8)) ∷ optional t.Int (c.Int (pos 0)) ∷ []) World
-    ∷ routine (codes "Half") t.Int (optional t.Int (c.Int (pos 1)) ∷ wanted t.Int ∷ []) World
-    ∷ routine (codes "Later") t.Int (wanted t.Action ∷ []) World
-    ∷ routine (codes "Sine") t.Refused (wanted t.Refused ∷ []) Uncallable
-    ∷ routine (codes "Odd") t.Int (wanted t.Void ∷ []) World
-    ∷ routine (codes "Custom") t.Event (wanted t.Int ∷ []) World
-    ∷ [];
+      routine (codes "PrintInteger") t.Void (wanted t.Int ∷ []) World
+      ∷ routine (codes "Random") t.Int (wanted t.Int ∷ []) World
+      ∷ routine (codes "DelayCommand") t.Void (wanted t.Int ∷ wanted t.Action ∷ []) World
+      ∷ routine (codes "Damage") t.Effect (wanted t.Int ∷ optional t.Int (c.Int (pos 8)) ∷ optional t.Int (c.Int (pos 0)) ∷ []) World
+      ∷ routine (codes "Half") t.Int (optional t.Int (c.Int (pos 1)) ∷ wanted t.Int ∷ []) World
+      ∷ routine (codes "Later") t.Int (wanted t.Action ∷ []) World
+      ∷ routine (codes "Sine") t.Refused (wanted t.Refused ∷ []) Uncallable
+      ∷ routine (codes "Odd") t.Int (wanted t.Void ∷ []) World
+      ∷ routine (codes "Custom") t.Event (wanted t.Int ∷ []) World
+      ∷ [];
   constants = record { name = codes "TRUE"; value = c.Int (pos 1) } ∷ record { name = codes "HELLO"; value = c.Text (codes "hi") } ∷ [];
 }
 

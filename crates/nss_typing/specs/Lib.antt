@@ -6,3 +6,5 @@ pub mod Returns
 pub mod Rules
 pub mod Verdicts
 pub mod Meaning
+pub mod Laws
+pub mod Numbers

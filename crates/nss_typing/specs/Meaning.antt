@@ -1,6 +1,6 @@
 -- The typed tree of a unit by its rules, and which of its nodes are at fault. A node is at fault where its parts are typed and its
 -- rule doesn't fit them: so one fault silences the nodes around it, and a declaration that isn't typed what uses it.
-use Rattle.std.specs.Prelude.{◌≡◌, ℕ, ℤ, Bool, true, false, List, [], ◌∷◌, Option, None, Some, is_some, ◌⊎◌}
+use Rattle.std.specs.Prelude.{◌≡◌, ℕ, ℤ, Bool, false, List, [], ◌∷◌, Option, Some, is_some, ◌⊎◌}
 use Rattle.nss_tree.specs.declared.operators.PrefixOperator.{PrefixOperator}
 use Rattle.nss_tree.specs.declared.operators.PostfixOperator.{PostfixOperator}
 use Rattle.nss_tree.specs.declared.operators.BinaryOperator.{BinaryOperator}
@@ -20,12 +20,11 @@ use Rattle.nwq_value.specs.declared.engine.Const.TheVariants as const
 use Rattle.nwq_value.specs.declared.engine.Param.{Param}
 use Rattle.nwq_value.specs.Engine.{EngineTable}
 use Rattle.nss_typing.specs.declared.fault.Fault.{Fault}
-use Rattle.nss_typing.specs.declared.places.EntryPoint.{EntryPoint}
 use Rattle.nss_typing.specs.Typed.{TypedExpr, TypedExprs, literal, no_typed, more_typed, TypedName, TypedStmt, TypedStmts, TypedLine, TypedParameter, TypedItem, TypedUnit}
 use Rattle.nss_typing.specs.Nodes.{Fits, Own, There, FaultThere}
 use Rattle.nss_typing.specs.Sight.{Head, Structure, Sight, Signature, Meaning, Meant, Called, start, name_means, callee, wanted, type_means, first_types, value_type, declared, entered, inside, looped, switched}
-use Rattle.nss_typing.specs.Rules.{name_rule, name_rows, float_rule, float_rows, call_rule, call_rows, takes_action, others, member_rule, member_rows, prefix_rule, prefix_rows, postfix_rule, postfix_rows, binary_rule, binary_rows, assign_rule, assign_rows, ConstantMeant, constant_means, constant_rule, constant_rows, constant_type, line_rows, variable_rule, variable_rows, constant_name_rule, constant_name_rows, Fields, no_fields, field_rule, field_rows, struct_rule, struct_rows, parameter_rule, parameter_rows, TypedHead, head_rule, head_rows, function_rule, function_rows, if_rule, if_rows, if_else_rule, if_else_rows, while_rule, do_rule, do_rows, for_rule, for_rows, switch_rule, switch_rows, break_rule, continue_rule, outside_rows, return_rule, return_rows, case_rule, case_rows, default_rule, default_rows, entry_rule, entry_rows}
-use Rattle.nss_typing.specs.Verdicts.{line_type, constant_value, after, after_then, field_added, after_line, parameter_declared, late_after, in_function, in_body, after_item, heads}
+use Rattle.nss_typing.specs.Rules.{name_rule, name_rows, float_rule, float_rows, call_rule, call_rows, takes_action, others, member_rule, member_rows, prefix_rule, prefix_rows, postfix_rule, postfix_rows, binary_rule, binary_rows, assign_rule, assign_rows, constant_means, constant_rule, constant_rows, constant_type, line_rows, variable_rule, variable_rows, constant_name_rule, constant_name_rows, Fields, no_fields, field_rule, field_rows, struct_rule, struct_rows, parameter_rule, parameter_rows, TypedHead, head_rule, head_rows, function_rule, function_rows, if_rule, if_rows, if_else_rule, if_else_rows, while_rule, do_rule, do_rows, for_rule, for_rows, switch_rule, switch_rows, break_rule, continue_rule, outside_rows, return_rule, return_rows, case_rule, case_rows, default_rule, default_rows, entry_rule, entry_rows}
+use Rattle.nss_typing.specs.Verdicts.{line_type, after, after_then, field_added, after_line, parameter_declared, late_after, in_function, in_body, after_item, heads}
 
 -- ---- expressions
 
@@ -84,9 +83,9 @@ abbrev mutual
   FaultIn hs c b (tree.prefix n o e) f = FaultIn hs c false e f ⊎ Own n (TypesValue hs c e) (prefix_rule o) (prefix_rows o) f
   FaultIn hs c b (tree.postfix n o e) f = FaultIn hs c false e f ⊎ Own n (TypesValue hs c e) (postfix_rule o) postfix_rows f
   FaultIn hs c b (tree.binary n o d e) f =
-      FaultIn hs c false d f ⊎ (FaultIn hs c false e f ⊎ Own n (TwoParts hs c d e) (binary_rule o) binary_rows f)
+      (FaultIn hs c false d f ⊎ FaultIn hs c false e f) ⊎ Own n (TwoParts hs c d e) (binary_rule o) binary_rows f
   FaultIn hs c b (tree.assign n o d e) f =
-      FaultIn hs c false d f ⊎ (FaultIn hs c false e f ⊎ Own n (TwoParts hs c d e) (assign_rule o) assign_rows f)
+      (FaultIn hs c false d f ⊎ FaultIn hs c false e f) ⊎ Own n (TwoParts hs c d e) (assign_rule o) assign_rows f
 
   pub FaultAmong : List Head → Sight → List Param → PlainExprs → Fault → Type 0
   FaultAmong hs c ps tree.no_expr f = ⊥
@@ -189,18 +188,18 @@ abbrev mutual
   FaultInStmt hs c (stmt.empty n) f = ⊥
   FaultInStmt hs c (stmt.expression n e) f = FaultInValue hs c e f
   FaultInStmt hs c (stmt.if_only n e a) f =
-      FaultInValue hs c e f ⊎ (FaultInStmt hs (inside c) a f ⊎ Own n (IfParts hs c (inside c) e a) (if_rule n) if_rows f)
+      (FaultInValue hs c e f ⊎ FaultInStmt hs (inside c) a f) ⊎ Own n (IfParts hs c (inside c) e a) (if_rule n) if_rows f
   FaultInStmt hs c (stmt.if_else n e a b) f =
-      FaultInValue hs c e f ⊎ (FaultInStmt hs (inside c) a f ⊎ (FaultInStmt hs (after_then c a) b f ⊎ Own n (IfElseParts hs c e a b) (if_else_rule n) if_else_rows f))
+      (FaultInValue hs c e f ⊎ (FaultInStmt hs (inside c) a f ⊎ FaultInStmt hs (after_then c a) b f)) ⊎ Own n (IfElseParts hs c e a b) (if_else_rule n) if_else_rows f
   FaultInStmt hs c (stmt.while_loop n e a) f =
-      FaultInValue hs c e f ⊎ (FaultInStmt hs (looped c) a f ⊎ Own n (IfParts hs c (looped c) e a) (while_rule n) if_rows f)
+      (FaultInValue hs c e f ⊎ FaultInStmt hs (looped c) a f) ⊎ Own n (IfParts hs c (looped c) e a) (while_rule n) if_rows f
   FaultInStmt hs c (stmt.do_loop n a e) f =
-      FaultInStmt hs (looped c) a f ⊎ (FaultInValue hs c e f ⊎ Own n (DoParts hs c a e) (do_rule n) do_rows f)
+      (FaultInStmt hs (looped c) a f ⊎ FaultInValue hs c e f) ⊎ Own n (DoParts hs c a e) (do_rule n) do_rows f
   FaultInStmt hs c (stmt.for_loop n x y z a) f =
-      FaultThere (FaultInValue hs c) x f ⊎ (FaultThere (FaultInValue hs c) y f ⊎ (FaultThere (FaultInValue hs c) z f
-      ⊎ (FaultInStmt hs (looped c) a f ⊎ Own n (ForParts hs c x y z a) (for_rule n) for_rows f)))
+      (FaultThere (FaultInValue hs c) x f ⊎ (FaultThere (FaultInValue hs c) y f ⊎ (FaultThere (FaultInValue hs c) z f
+      ⊎ FaultInStmt hs (looped c) a f))) ⊎ Own n (ForParts hs c x y z a) (for_rule n) for_rows f
   FaultInStmt hs c (stmt.switch n e xs) f =
-      FaultInValue hs c e f ⊎ (FaultInStmts hs (switched c) xs f ⊎ Own n (SwitchParts hs c e xs) (switch_rule c n) (switch_rows c) f)
+      (FaultInValue hs c e f ⊎ FaultInStmts hs (switched c) xs f) ⊎ Own n (SwitchParts hs c e xs) (switch_rule c n) (switch_rows c) f
   FaultInStmt hs c (stmt.break_off n) f = Own n NoParts (break_rule c n) outside_rows f
   FaultInStmt hs c (stmt.continue_on n) f = Own n NoParts (continue_rule c n) outside_rows f
   FaultInStmt hs c (stmt.return_from n e) f =
@@ -267,6 +266,10 @@ HeadParts c t x ps p =
 abbrev pub TypesHead : Sight → TypeName → List ℕ → List SourceParameter → Bool → TypedHead → Type 0
 TypesHead c t x ps with_body h = Fits (HeadParts c t x ps) (head_rule c x with_body) h
 
+abbrev pub FaultInHead : Sight → ℕ → TypeName → List ℕ → List SourceParameter → Bool → Fault → Type 0
+FaultInHead c n t x ps with_body f =
+    FaultInParams (in_function c t) false ps f ⊎ Own n (HeadParts c t x ps) (head_rule c x with_body) head_rows f
+
 abbrev pub TypesBody : List Head → Sight → Option SourceStmts → Option TypedStmts → Type 0
 TypesBody hs c body t = There (TypesStmts hs c) body t
 
@@ -292,14 +295,12 @@ abbrev pub FaultInItem : List Head → Sight → SourceItem → Fault → Type 0
 FaultInItem hs c (item.structure n x ls) f =
     FaultInLines c.structs no_fields ls f ⊎ Own n (TypesLines c.structs no_fields ls) (struct_rule c.structs x) struct_rows f
 FaultInItem hs c (item.constant n t x k) f =
-    Own n (λ m. type_means c.structs t ≡ Some m) constant_type line_rows f
-    ⊎ (FaultInConstant c k f ⊎ Own x.token (ConstantNameParts c t k) (constant_name_rule c x.name) (constant_name_rows c x.name) f)
+    (Own n (λ m. type_means c.structs t ≡ Some m) constant_type line_rows f ⊎ FaultInConstant c k f)
+    ⊎ Own x.token (ConstantNameParts c t k) (constant_name_rule c x.name) (constant_name_rows c x.name) f
 FaultInItem hs c (item.global n t ds) f = FaultOfLine c.structs n t f ⊎ FaultInNames hs c (line_type c.structs t) ds f
 FaultInItem hs c (item.function n t x ps body) f =
-    FaultInParams (in_function c t) false ps f
-    ⊎ (Own n (HeadParts c t x ps) (head_rule c x (is_some body)) head_rows f
-    ⊎ (FaultThere (FaultInStmts hs (in_body c t ps)) body f
-    ⊎ Own n (FunctionParts hs c t x ps body) (function_rule n x) function_rows f))
+    (FaultInHead c n t x ps (is_some body) f ⊎ FaultThere (FaultInStmts hs (in_body c t ps)) body f)
+    ⊎ Own n (FunctionParts hs c t x ps body) (function_rule n x) function_rows f
 
 pub data TypesItems (hs : List Head) : Sight → List SourceItem → List TypedItem → Type 0 where
   none : (c : Sight) → TypesItems hs c [] []

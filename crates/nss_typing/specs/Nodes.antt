@@ -34,19 +34,16 @@ row k b more j = if rank k == rank j then b else more j
 abbrev pub only : FaultKind → Rows
 only k = row k true no_row
 
+abbrev pub first_in : List FaultKind → Rows → FaultKind
+first_in [] r = Entry
+first_in (k ∷ ks) r = if r k then k else first_in ks r
+
+abbrev pub kinds : List FaultKind
+kinds = RefusedType ∷ Unknown ∷ Redeclared ∷ Arity ∷ NotConst ∷ NotPlace ∷ Outside ∷ Mismatch ∷ NoReturn ∷ Cells ∷ Entry ∷ []
+
 -- the first kind in order whose row is true; for rows of which none is true this says nothing
 abbrev pub first_kind : Rows → FaultKind
-first_kind r =
-    if r RefusedType then RefusedType
-    else (if r Unknown then Unknown
-    else (if r Redeclared then Redeclared
-    else (if r Arity then Arity
-    else (if r NotConst then NotConst
-    else (if r NotPlace then NotPlace
-    else (if r Outside then Outside
-    else (if r Mismatch then Mismatch
-    else (if r NoReturn then NoReturn
-    else (if r Cells then Cells else Entry)))))))))
+first_kind r = first_in kinds r
 
 -- ---- verdicts
 

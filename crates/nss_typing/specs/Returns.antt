@@ -1,5 +1,5 @@
 -- Whether a statement returns, whatever it is that it computes.
-use Rattle.std.specs.Prelude.{ℕ, Bool, true, false, not, ◌&&◌, ◌||◌, if◌then◌else◌}
+use Rattle.std.specs.Prelude.{Bool, true, false, not, ◌&&◌, ◌||◌, if◌then◌else◌}
 use Rattle.nss_tree.specs.Statements.{PlainStmt, PlainStmts, block, empty, expression, if_only, if_else, while_loop, do_loop, for_loop, switch, break_off, continue_on, return_from, declaration, case_label, default_label, no_stmt, more_stmts}
 
 -- a break in it leaves the loop or the switch that it stands in

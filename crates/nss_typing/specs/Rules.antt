@@ -1,5 +1,5 @@
 -- The rule of each node, and which kinds of fault are true of one, by the answers of its parts.
-use Rattle.std.specs.Prelude.{ℕ, ℤ, Bool, true, false, not, ◌&&◌, ◌||◌, List, [], ◌∷◌, ◌++◌, Option, None, Some, is_some, is_none, bytes_eq, codes, if◌then◌else◌}
+use Rattle.std.specs.Prelude.{ℕ, ℤ, Bool, true, false, not, ◌&&◌, ◌||◌, List, [], ◌∷◌, Option, None, Some, is_none, bytes_eq, codes, if◌then◌else◌}
 use Rattle.std.specs.Option.{option_map, option_and_then}
 use Rattle.std.specs.Int.{int_wrapping_neg, w32}
 use Rattle.std.specs.Ordering.{int_eq}
@@ -9,7 +9,6 @@ use Rattle.nss_tree.specs.declared.operators.BinaryOperator.{BinaryOperator}
 use Rattle.nss_tree.specs.declared.operators.AssignOperator.{AssignOperator}
 use Rattle.nss_tree.specs.declared.constants.Constant.{Constant}
 use Rattle.nss_tree.specs.declared.constants.Constant.TheVariants as spelled
-use Rattle.nss_tree.specs.declared.units.FieldLine.{FieldLine}
 use Rattle.nss_tree.specs.declared.units.Identifier.{Identifier}
 use Rattle.nss_tree.specs.Source.{SourceDeclared, SourceParameter}
 use Rattle.nss_tree.specs.Statements as tree
@@ -32,7 +31,7 @@ use Rattle.nss_typing.specs.Types.{is_void, is_int, is_action, same_type, binary
 use Rattle.nss_typing.specs.Typed.{TypedExpr, TypedExprs, no_typed, more_typed, type_of, is_place, TypedName, TypedStmt, TypedStmts, TypedLine, TypedParameter, TypedItem}
 use Rattle.nss_typing.specs.Typed as typed
 use Rattle.nss_typing.specs.Nodes.{Rows, row, only, no_row}
-use Rattle.nss_typing.specs.Sight.{Meaning, variable, constant, Head, Structure, Labels, Sight, Signature, Member, Members, Meant, IsRefused, IsMissing, Is, Called, members_in, find_member, is_taken, is_taken_by_other, has_body, has_struct, find_head, first_types, body_number, value_type, any_type, cells, cells_if, counted, crosses, crosses_with, name_means}
+use Rattle.nss_typing.specs.Sight.{Meaning, variable, constant, Head, Structure, Labels, Sight, Signature, Member, Members, Meant, IsRefused, IsMissing, Is, Called, members_in, find_member, is_taken, is_taken_by_other, has_body, has_struct, first_types, body_number, value_type, any_type, cells, cells_if, counted, crosses, crosses_with, name_means}
 use Rattle.nss_typing.specs.Returns.{some_returns}
 
 -- where its test is true

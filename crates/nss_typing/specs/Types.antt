@@ -1,5 +1,5 @@
 -- The tables of types that rules cite.
-use Rattle.std.specs.Prelude.{ℕ, ◌==◌, Bool, true, false, ◌&&◌, Option, None, Some, if◌then◌else◌}
+use Rattle.std.specs.Prelude.{◌==◌, Bool, true, false, ◌&&◌, Option, None, Some, if◌then◌else◌}
 use Rattle.nss_tree.specs.declared.operators.PrefixOperator.{PrefixOperator}
 use Rattle.nss_tree.specs.declared.operators.PrefixOperator.TheVariants as prefix
 use Rattle.nss_tree.specs.declared.operators.BinaryOperator.{BinaryOperator}

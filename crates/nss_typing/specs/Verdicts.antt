@@ -1,12 +1,9 @@
 -- The verdict on each node of a unit, the typed tree, and the list of all faults, as functions over the tree.
-use Rattle.std.specs.Prelude.{ℕ, ◌+◌, Bool, true, false, ◌||◌, List, [], ◌∷◌, ◌++◌, Option, None, Some, is_some, if◌then◌else◌}
+use Rattle.std.specs.Prelude.{ℕ, ◌+◌, Bool, false, ◌||◌, List, [], ◌∷◌, ◌++◌, Option, None, Some, is_some}
 use Rattle.std.specs.Option.{option_map}
 use Rattle.nss_tree.specs.declared.constants.Constant.{Constant}
 use Rattle.nss_tree.specs.declared.constants.TypeName.{TypeName}
-use Rattle.nss_tree.specs.declared.statements.DeclaredName.{DeclaredName}
-use Rattle.nss_tree.specs.declared.units.FieldLine.{FieldLine}
 use Rattle.nss_tree.specs.declared.units.Identifier.{Identifier}
-use Rattle.nss_tree.specs.declared.units.Parameter.{Parameter}
 use Rattle.nss_tree.specs.Expressions.{PlainExpr, PlainExprs, int, float, text, object_self, object_invalid, name, call, member, prefix, postfix, binary, assign, no_expr, more_exprs}
 use Rattle.nss_tree.specs.Statements.{block, empty, expression, if_only, if_else, while_loop, do_loop, for_loop, switch, break_off, continue_on, return_from, declaration, case_label, default_label, no_stmt, more_stmts}
 use Rattle.nss_tree.specs.Units.{structure, constant, global, function}
@@ -27,15 +24,17 @@ use Rattle.nss_typing.specs.Rules.{name_rule, name_rows, float_rule, float_rows,
 
 -- ---- lists of parts
 
+abbrev pub longer : {A : Type 0} → A × List A → List A
+longer p = p.0 ∷ p.1
+
 abbrev pub one_more : {A : Type 0} → Option A → Option (List A) → Option (List A)
-one_more (Some a) (Some rest) = Some (a ∷ rest)
-one_more (Some a) None = None
-one_more None o = None
+one_more o rest = option_map longer (two o rest)
+
+abbrev pub longer_typed : TypedExpr × TypedExprs → TypedExprs
+longer_typed p = more_typed p.0 p.1
 
 abbrev pub one_more_typed : Option TypedExpr → Option TypedExprs → Option TypedExprs
-one_more_typed (Some x) (Some xs) = Some (more_typed x xs)
-one_more_typed (Some x) None = None
-one_more_typed None o = None
+one_more_typed o rest = option_map longer_typed (two o rest)
 
 -- ---- expressions. The declarations of the unit's functions are given; the flag says that the expression stands where an action
 -- is taken.
@@ -72,8 +71,8 @@ abbrev mutual
   faults hs c b (member n e x) = faults hs c false e ++ at n (verdict hs c b (member n e x))
   faults hs c b (prefix n o e) = faults hs c false e ++ at n (verdict hs c b (prefix n o e))
   faults hs c b (postfix n o e) = faults hs c false e ++ at n (verdict hs c b (postfix n o e))
-  faults hs c b (binary n o d e) = faults hs c false d ++ (faults hs c false e ++ at n (verdict hs c b (binary n o d e)))
-  faults hs c b (assign n o d e) = faults hs c false d ++ (faults hs c false e ++ at n (verdict hs c b (assign n o d e)))
+  faults hs c b (binary n o d e) = (faults hs c false d ++ faults hs c false e) ++ at n (verdict hs c b (binary n o d e))
+  faults hs c b (assign n o d e) = (faults hs c false d ++ faults hs c false e) ++ at n (verdict hs c b (assign n o d e))
 
   pub all_faults : List Head → Sight → List Param → PlainExprs → List Fault
   all_faults hs c ps no_expr = []
@@ -151,10 +150,11 @@ abbrev mutual
   afters c no_stmt = c
   afters c (more_stmts x xs) = afters (after c x) xs
 
+abbrev pub longer_stmts : TypedStmt × TypedStmts → TypedStmts
+longer_stmts p = more_stmts p.0 p.1
+
 abbrev pub one_more_stmt : Option TypedStmt → Option TypedStmts → Option TypedStmts
-one_more_stmt (Some x) (Some xs) = Some (more_stmts x xs)
-one_more_stmt (Some x) None = None
-one_more_stmt None o = None
+one_more_stmt o rest = option_map longer_stmts (two o rest)
 
 abbrev pub after_then : Sight → SourceStmt → Sight
 after_then c a = inside (left c (after (inside c) a))
@@ -189,12 +189,12 @@ abbrev mutual
   stmt_faults hs c (block n xs) = stmts_faults hs (entered c) xs
   stmt_faults hs c (empty n) = []
   stmt_faults hs c (expression n e) = value_faults hs c e
-  stmt_faults hs c (if_only n e a) = value_faults hs c e ++ (stmt_faults hs (inside c) a ++ at n (stmt_verdict hs c (if_only n e a)))
-  stmt_faults hs c (if_else n e a b) = value_faults hs c e ++ (stmt_faults hs (inside c) a ++ (stmt_faults hs (after_then c a) b ++ at n (stmt_verdict hs c (if_else n e a b))))
-  stmt_faults hs c (while_loop n e a) = value_faults hs c e ++ (stmt_faults hs (looped c) a ++ at n (stmt_verdict hs c (while_loop n e a)))
-  stmt_faults hs c (do_loop n a e) = stmt_faults hs (looped c) a ++ (value_faults hs c e ++ at n (stmt_verdict hs c (do_loop n a e)))
-  stmt_faults hs c (for_loop n x y z a) = faults_there (value_faults hs c) x ++ (faults_there (value_faults hs c) y ++ (faults_there (value_faults hs c) z ++ (stmt_faults hs (looped c) a ++ at n (stmt_verdict hs c (for_loop n x y z a)))))
-  stmt_faults hs c (switch n e xs) = value_faults hs c e ++ (stmts_faults hs (switched c) xs ++ at n (stmt_verdict hs c (switch n e xs)))
+  stmt_faults hs c (if_only n e a) = (value_faults hs c e ++ stmt_faults hs (inside c) a) ++ at n (stmt_verdict hs c (if_only n e a))
+  stmt_faults hs c (if_else n e a b) = (value_faults hs c e ++ (stmt_faults hs (inside c) a ++ stmt_faults hs (after_then c a) b)) ++ at n (stmt_verdict hs c (if_else n e a b))
+  stmt_faults hs c (while_loop n e a) = (value_faults hs c e ++ stmt_faults hs (looped c) a) ++ at n (stmt_verdict hs c (while_loop n e a))
+  stmt_faults hs c (do_loop n a e) = (stmt_faults hs (looped c) a ++ value_faults hs c e) ++ at n (stmt_verdict hs c (do_loop n a e))
+  stmt_faults hs c (for_loop n x y z a) = (faults_there (value_faults hs c) x ++ (faults_there (value_faults hs c) y ++ (faults_there (value_faults hs c) z ++ stmt_faults hs (looped c) a))) ++ at n (stmt_verdict hs c (for_loop n x y z a))
+  stmt_faults hs c (switch n e xs) = (value_faults hs c e ++ stmts_faults hs (switched c) xs) ++ at n (stmt_verdict hs c (switch n e xs))
   stmt_faults hs c (break_off n) = at n (stmt_verdict hs c (break_off n))
   stmt_faults hs c (continue_on n) = at n (stmt_verdict hs c (continue_on n))
   stmt_faults hs c (return_from n e) = faults_there (value_faults hs c) e ++ at n (stmt_verdict hs c (return_from n e))
@@ -254,7 +254,7 @@ abbrev pub members_of_line : List Structure → Ty → Members → List Identifi
 members_of_line structs t m [] = m
 members_of_line structs t m (x ∷ xs) =
     members_of_line structs t
-        (record { fields = m.fields ++ record { called = x.name; ty = t; before = m.cells } ∷ []; cells = m.cells + cells structs t }) xs
+    (record { fields = m.fields ++ record { called = x.name; ty = t; before = m.cells } ∷ []; cells = m.cells + cells structs t }) xs
 
 abbrev pub members_of_lines : List Structure → Members → List TypedLine → Members
 members_of_lines structs m [] = m
@@ -357,17 +357,19 @@ item_fine hs c (constant n t x k) = option_map (constant_item n x) (fine (consta
 item_fine hs c (global n t ds) = option_map (global_item n) (two (line_type c.structs t) (names_fine hs c (line_type c.structs t) ds))
 item_fine hs c (function n t x ps body) = fine (function_verdict hs c n t x ps body)
 
+abbrev pub head_faults : Sight → ℕ → TypeName → List ℕ → List SourceParameter → Bool → List Fault
+head_faults c n t x ps with_body = params_faults (in_function c t) false ps ++ at n (head_verdict c t x ps with_body)
+
 abbrev pub body_faults : List Head → Sight → Option SourceStmts → List Fault
 body_faults hs c body = faults_there (stmts_faults hs c) body
 
 abbrev pub item_faults : List Head → Sight → SourceItem → List Fault
 item_faults hs c (structure n x ls) = lines_faults c.structs no_fields ls ++ at n (struct_verdict c.structs x ls)
 item_faults hs c (constant n t x k) =
-    at n (constant_line_verdict c.structs t) ++ (constant_faults c k ++ at x.token (constant_name_verdict c t x.name k))
+    (at n (constant_line_verdict c.structs t) ++ constant_faults c k) ++ at x.token (constant_name_verdict c t x.name k)
 item_faults hs c (global n t ds) = at n (line_verdict c.structs t) ++ names_faults hs c (line_type c.structs t) ds
 item_faults hs c (function n t x ps body) =
-    params_faults (in_function c t) false ps
-    ++ (at n (head_verdict c t x ps (is_some body)) ++ (body_faults hs (in_body c t ps) body ++ at n (function_verdict hs c n t x ps body)))
+    (head_faults c n t x ps (is_some body) ++ body_faults hs (in_body c t ps) body) ++ at n (function_verdict hs c n t x ps body)
 
 abbrev pub items_fine : List Head → Sight → List SourceItem → Option (List TypedItem)
 items_fine hs c [] = Some []
