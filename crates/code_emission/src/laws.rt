@@ -1,7 +1,24 @@
 //! Laws about the definitions, each the contract of a function that does nothing.
-ghost use Rattle.code_emission.specs.Laws.{CodeIsWhole, CodeStands, EachPlacedOnce, FileIsCode};
+ghost use Rattle.code_emission.specs.Laws.{
+    CodeIsWhole, CodeStands, EachPlacedOnce, FileIsCode, OneFile, PositionsByNumber,
+};
 
 use ncs_emit::{finished_is_code, part_laws, program_stands};
+use nss_typing::laws::{numbered_in_order, one_typed};
+
+/// A unit has one file at most.
+pub fn one_file()
+    ensures { OneFile }
+{
+    one_typed();
+}
+
+/// The positions of a typed unit's variables stand in the order of their numbers.
+pub fn positions_by_number()
+    ensures { PositionsByNumber }
+{
+    numbered_in_order();
+}
 
 /// Each label that the code of a unit takes is placed exactly once, and no other one is.
 pub fn each_placed_once()
