@@ -1,5 +1,5 @@
 -- Small units: their code as the definitions compute it. The unit stands above its tree.
-use Rattle.std.proofs.Common.{rules, arith, ◌≡◌, refl, ℕ, ℤ, pos, List, [], ◌∷◌, ◌++◌, codes, Option, None, Some}
+use Rattle.std.proofs.Common.{rules, arith, ◌≡◌, refl, ℕ, ℤ, pos, List, [], ◌∷◌, codes, Option, None, Some}
 use Rattle.std.specs.Prelude.{neg_ℤ}
 use Rattle.nss_tree.specs.declared.operators.PrefixOperator.TheVariants as pre
 use Rattle.nss_tree.specs.declared.operators.PostfixOperator.TheVariants as post
@@ -10,7 +10,6 @@ use Rattle.nss_tree.specs.Statements.{no_stmt, more_stmts}
 use Rattle.nss_tree.specs.Units as unit
 use Rattle.nwq_value.specs.declared.value.Ty.{Ty}
 use Rattle.nwq_value.specs.declared.value.Ty.TheVariants as t
-use Rattle.nwq_value.specs.declared.engine.Const.{Const}
 use Rattle.nwq_value.specs.declared.engine.Const.TheVariants as c
 use Rattle.ncs_code.specs.Plain.{PlainOp}
 use Rattle.ncs_code.specs.Plain as ops
@@ -23,9 +22,9 @@ use Rattle.nss_typing.specs.declared.places.EntryPoint.{EntryPoint}
 use Rattle.nss_typing.specs.declared.places.EntryPoint.TheVariants.{Main, Conditional}
 use Rattle.nss_typing.specs.Typed.{TypedExpr, TypedExprs, TypedName, TypedStmt, TypedStmts, TypedParameter, TypedItem, TypedUnit, no_typed, more_typed}
 use Rattle.nss_typing.specs.Typed as e
-use Rattle.code_emission.specs.Layout.{Layout, layout_of}
+use Rattle.code_emission.specs.Layout.{Layout}
 use Rattle.code_emission.specs.Expressions.{emit}
-use Rattle.code_emission.specs.Statements.{emit_stmt, in_loop, no_exits}
+use Rattle.code_emission.specs.Statements.{emit_stmt, no_exits}
 use Rattle.code_emission.specs.Bounds.{IsType, IsBounded}
 use Rattle.code_emission.specs.Units.{unit_code, unit_file}
 
@@ -119,10 +118,10 @@ no_object = refl
 
 -- void main() { int i; for (i=0; i<3; i++) PrintInteger(i); }
 counting : code (only_main (
-      declare 0 t.Int None
-      ∷ s.for_loop 0 (Some (e.assign t.Int asg.Set (local 0) (int 0))) (Some (e.binary t.Int bin.Less (local 0) (int 3)))
-          (Some (e.postfix t.Int post.Increment (local 0))) (run (print (local 0)))
-      ∷ []))
+    declare 0 t.Int None
+    ∷ s.for_loop 0 (Some (e.assign t.Int asg.Set (local 0) (int 0))) (Some (e.binary t.Int bin.Less (local 0) (int 3)))
+    (Some (e.postfix t.Int post.Increment (local 0))) (run (print (local 0)))
+    ∷ []))
     ≡ ops.Jsr (pos 8) ∷ ops.Retn
     ∷ ops.RsAdd 3 ∷ push 0 ∷ ops.CpDownSp (minus 8) 4 ∷ ops.MovSp (minus 4)
     ∷ ops.CpTopSp (minus 4) 4 ∷ push 3 ∷ ops.Lt 0x20 ∷ ops.Jz (pos 45)
@@ -134,11 +133,11 @@ counting = refl
 
 -- void main() { switch (2) { case 1: PrintInteger(1); case 2: PrintInteger(2); default: PrintInteger(3); } }
 falling : code (only_main (
-      s.switch 0 (int 2) (stmts (
-        s.case_label 0 (c.Int (pos 1)) ∷ run (print (int 1))
-        ∷ s.case_label 0 (c.Int (pos 2)) ∷ run (print (int 2))
-        ∷ s.default_label 0 ∷ run (print (int 3)) ∷ []))
-      ∷ []))
+    s.switch 0 (int 2) (stmts (
+    s.case_label 0 (c.Int (pos 1)) ∷ run (print (int 1))
+    ∷ s.case_label 0 (c.Int (pos 2)) ∷ run (print (int 2))
+    ∷ s.default_label 0 ∷ run (print (int 3)) ∷ []))
+    ∷ []))
     ≡ ops.Jsr (pos 8) ∷ ops.Retn ∷ push 2
     ∷ ops.CpTopSp (minus 4) 4 ∷ push 1 ∷ ops.Equal 0x20 0 ∷ ops.Jnz (pos 34)
     ∷ ops.CpTopSp (minus 4) 4 ∷ push 2 ∷ ops.Equal 0x20 0 ∷ ops.Jnz (pos 23)
@@ -150,12 +149,12 @@ falling = refl
 
 -- int f(int a, int b) { if (a==0) return b; return f(a-1,b+1); } void main() { PrintInteger(f(3,4)); }
 recursive : code (unit_of (
-      function t.Int (param 0 t.Int ∷ param 1 t.Int ∷ []) (
-        s.if_only 0 (e.binary t.Int bin.Equal (local 0) (int 0)) (s.return_from 0 (Some (local 1)))
-        ∷ s.return_from 0 (Some (e.call t.Int (InUnit 0)
-            (args (e.binary t.Int bin.Subtract (local 0) (int 1) ∷ e.binary t.Int bin.Add (local 1) (int 1) ∷ [])) [])) ∷ [])
-      ∷ function t.Void [] (run (print (e.call t.Int (InUnit 0) (args (int 3 ∷ int 4 ∷ [])) [])) ∷ [])
-      ∷ []) (Main 1))
+    function t.Int (param 0 t.Int ∷ param 1 t.Int ∷ []) (
+    s.if_only 0 (e.binary t.Int bin.Equal (local 0) (int 0)) (s.return_from 0 (Some (local 1)))
+    ∷ s.return_from 0 (Some (e.call t.Int (InUnit 0)
+    (args (e.binary t.Int bin.Subtract (local 0) (int 1) ∷ e.binary t.Int bin.Add (local 1) (int 1) ∷ [])) [])) ∷ [])
+    ∷ function t.Void [] (run (print (e.call t.Int (InUnit 0) (args (int 3 ∷ int 4 ∷ [])) [])) ∷ [])
+    ∷ []) (Main 1))
     ≡ ops.Jsr (pos 118) ∷ ops.Retn
     ∷ ops.CpTopSp (minus 4) 4 ∷ push 0 ∷ ops.Equal 0x20 0 ∷ ops.Jz (pos 30)
     ∷ ops.CpTopSp (minus 8) 4 ∷ ops.CpDownSp (minus 16) 4 ∷ ops.MovSp (minus 12) ∷ ops.Retn
@@ -176,12 +175,12 @@ condition = refl
 
 -- int g=1; void F() { g=g+1; PrintInteger(g); } void main() { F(); F(); }
 shared : code (unit_of (
-      global 0 t.Int (Some (int 1))
-      ∷ function t.Void [] (
-          run (e.assign t.Int asg.Set (of_globals 0) (e.binary t.Int bin.Add (of_globals 0) (int 1)))
-          ∷ run (print (of_globals 0)) ∷ [])
-      ∷ function t.Void [] (run (e.call t.Void (InUnit 0) no_typed []) ∷ run (e.call t.Void (InUnit 0) no_typed []) ∷ [])
-      ∷ []) (Main 1))
+    global 0 t.Int (Some (int 1))
+    ∷ function t.Void [] (
+    run (e.assign t.Int asg.Set (of_globals 0) (e.binary t.Int bin.Add (of_globals 0) (int 1)))
+    ∷ run (print (of_globals 0)) ∷ [])
+    ∷ function t.Void [] (run (e.call t.Void (InUnit 0) no_typed []) ∷ run (e.call t.Void (InUnit 0) no_typed []) ∷ [])
+    ∷ []) (Main 1))
     ≡ ops.Jsr (pos 8) ∷ ops.Retn
     ∷ push 1 ∷ ops.SaveBp ∷ ops.Jsr (pos 61) ∷ ops.RestoreBp ∷ ops.MovSp (minus 4) ∷ ops.Retn
     ∷ ops.CpTopBp (minus 4) 4 ∷ push 1 ∷ ops.Add 0x20 ∷ ops.CpDownBp (minus 4) 4 ∷ ops.MovSp (minus 4)
@@ -192,15 +191,15 @@ shared = refl
 
 -- struct P { int x; int y; }; struct P Make(int a) { struct P p; p.x=a; p.y=a+1; return p; } void main() { PrintInteger(Make(4).y); }
 made : code (unit_of (
-      unit.structure 0 (codes "P") (record { token = 0; ty = t.Int; names = record { token = 0; name = codes "x" } ∷ [] }
-        ∷ record { token = 0; ty = t.Int; names = record { token = 0; name = codes "y" } ∷ [] } ∷ [])
-      ∷ function (t.Struct 0) (param 0 t.Int ∷ []) (
-          declare 1 (t.Struct 0) None
-          ∷ run (e.assign t.Int asg.Set (e.member t.Int (e.name (t.Struct 0) (Local 1)) 0) (local 0))
-          ∷ run (e.assign t.Int asg.Set (e.member t.Int (e.name (t.Struct 0) (Local 1)) 1) (e.binary t.Int bin.Add (local 0) (int 1)))
-          ∷ s.return_from 0 (Some (e.name (t.Struct 0) (Local 1))) ∷ [])
-      ∷ function t.Void [] (run (print (e.member t.Int (e.call (t.Struct 0) (InUnit 0) (args (int 4 ∷ [])) []) 1)) ∷ [])
-      ∷ []) (Main 1))
+    unit.structure 0 (codes "P") (record { token = 0; ty = t.Int; names = record { token = 0; name = codes "x" } ∷ [] }
+    ∷ record { token = 0; ty = t.Int; names = record { token = 0; name = codes "y" } ∷ [] } ∷ [])
+    ∷ function (t.Struct 0) (param 0 t.Int ∷ []) (
+    declare 1 (t.Struct 0) None
+    ∷ run (e.assign t.Int asg.Set (e.member t.Int (e.name (t.Struct 0) (Local 1)) 0) (local 0))
+    ∷ run (e.assign t.Int asg.Set (e.member t.Int (e.name (t.Struct 0) (Local 1)) 1) (e.binary t.Int bin.Add (local 0) (int 1)))
+    ∷ s.return_from 0 (Some (e.name (t.Struct 0) (Local 1))) ∷ [])
+    ∷ function t.Void [] (run (print (e.member t.Int (e.call (t.Struct 0) (InUnit 0) (args (int 4 ∷ [])) []) 1)) ∷ [])
+    ∷ []) (Main 1))
     ≡ ops.Jsr (pos 102) ∷ ops.Retn
     ∷ ops.RsAdd 3 ∷ ops.RsAdd 3
     ∷ ops.CpTopSp (minus 12) 4 ∷ ops.CpDownSp (minus 12) 4 ∷ ops.MovSp (minus 4)
@@ -213,10 +212,10 @@ made = refl
 
 -- void main() { int n=1; DelayCommand(1000, PrintInteger(n)); n=2; PrintInteger(n); }
 kept_local : code (only_main (
-      declare 0 t.Int (Some (int 1))
-      ∷ run (engine t.Void 7 (int 1000 ∷ print (local 0) ∷ []))
-      ∷ run (e.assign t.Int asg.Set (local 0) (int 2))
-      ∷ run (print (local 0)) ∷ []))
+    declare 0 t.Int (Some (int 1))
+    ∷ run (engine t.Void 7 (int 1000 ∷ print (local 0) ∷ []))
+    ∷ run (e.assign t.Int asg.Set (local 0) (int 2))
+    ∷ run (print (local 0)) ∷ []))
     ≡ ops.Jsr (pos 8) ∷ ops.Retn ∷ push 1
     ∷ ops.StoreState 0 4 ∷ ops.Jmp (pos 21) ∷ ops.CpTopSp (minus 4) 4 ∷ ops.Action 4 1 ∷ ops.Retn
     ∷ push 1000 ∷ ops.Action 7 2
@@ -227,11 +226,11 @@ kept_local = refl
 
 -- int n=1; void main() { n=5; DelayCommand(1, PrintInteger(n)); }
 kept_global : code (unit_of (
-      global 0 t.Int (Some (int 1))
-      ∷ function t.Void [] (
-          run (e.assign t.Int asg.Set (of_globals 0) (int 5))
-          ∷ run (engine t.Void 7 (int 1 ∷ print (of_globals 0) ∷ [])) ∷ [])
-      ∷ []) (Main 0))
+    global 0 t.Int (Some (int 1))
+    ∷ function t.Void [] (
+    run (e.assign t.Int asg.Set (of_globals 0) (int 5))
+    ∷ run (engine t.Void 7 (int 1 ∷ print (of_globals 0) ∷ [])) ∷ [])
+    ∷ []) (Main 0))
     ≡ ops.Jsr (pos 8) ∷ ops.Retn
     ∷ push 1 ∷ ops.SaveBp ∷ ops.Jsr (pos 16) ∷ ops.RestoreBp ∷ ops.MovSp (minus 4) ∷ ops.Retn
     ∷ push 5 ∷ ops.CpDownBp (minus 4) 4 ∷ ops.MovSp (minus 4)
@@ -242,12 +241,12 @@ kept_global = refl
 
 -- int f() { DelayCommand(1, PrintString("inner")); return 5; } void main() { DelayCommand(f(), PrintString("outer")); }
 both_kept : code (unit_of (
-      function t.Int [] (
-        run (engine t.Void 7 (int 1 ∷ engine t.Void 1 (e.literal (c.Text (codes "inner")) ∷ []) ∷ []))
-        ∷ s.return_from 0 (Some (int 5)) ∷ [])
-      ∷ function t.Void [] (
-          run (engine t.Void 7 (e.call t.Int (InUnit 0) no_typed [] ∷ engine t.Void 1 (e.literal (c.Text (codes "outer")) ∷ []) ∷ [])) ∷ [])
-      ∷ []) (Main 1))
+    function t.Int [] (
+    run (engine t.Void 7 (int 1 ∷ engine t.Void 1 (e.literal (c.Text (codes "inner")) ∷ []) ∷ []))
+    ∷ s.return_from 0 (Some (int 5)) ∷ [])
+    ∷ function t.Void [] (
+    run (engine t.Void 7 (e.call t.Int (InUnit 0) no_typed [] ∷ engine t.Void 1 (e.literal (c.Text (codes "outer")) ∷ []) ∷ [])) ∷ [])
+    ∷ []) (Main 1))
     ≡ ops.Jsr (pos 75) ∷ ops.Retn
     ∷ ops.StoreState 0 0 ∷ ops.Jmp (pos 22) ∷ text (codes "inner") ∷ ops.Action 1 1 ∷ ops.Retn
     ∷ push 1 ∷ ops.Action 7 2
@@ -330,7 +329,7 @@ captured = refl
 
 -- while (n) { object o; if (1) break; else continue; }
 left_early : emit_stmt here no_exits 4 3 (s.while_loop 0 (local 0) (s.block 0 (stmts (
-      declare 3 t.Object None ∷ s.if_else 0 (int 1) (s.break_off 0) (s.continue_on 0) ∷ []))))
+    declare 3 t.Object None ∷ s.if_else 0 (int 1) (s.break_off 0) (s.continue_on 0) ∷ []))))
     ≡ Label 4 ∷ op (ops.CpTopSp (minus 12) 4) ∷ JumpTo Jz 5
     ∷ op (ops.RsAdd 6) ∷ op (push 1) ∷ JumpTo Jz 6 ∷ op (ops.MovSp (minus 4)) ∷ JumpTo Jmp 5 ∷ JumpTo Jmp 7
     ∷ Label 6 ∷ op (ops.MovSp (minus 4)) ∷ JumpTo Jmp 4 ∷ Label 7
@@ -344,7 +343,7 @@ endless = refl
 
 -- do switch (n) { effect x; case 5: break; event y; case 6: continue; } while (0);
 switched : emit_stmt here no_exits 4 3 (s.do_loop 0 (s.switch 0 (local 0) (stmts (
-      declare 3 t.Effect None ∷ s.case_label 0 (c.Int (minus 5)) ∷ s.break_off 0 ∷ declare 4 t.Event None ∷ s.case_label 0 (c.Int (pos 6)) ∷ s.continue_on 0 ∷ []))) (int 0))
+    declare 3 t.Effect None ∷ s.case_label 0 (c.Int (minus 5)) ∷ s.break_off 0 ∷ declare 4 t.Event None ∷ s.case_label 0 (c.Int (pos 6)) ∷ s.continue_on 0 ∷ []))) (int 0))
     ≡ Label 4 ∷ op (ops.CpTopSp (minus 12) 4)
     ∷ op (ops.CpTopSp (minus 4) 4) ∷ op (ops.Const (ops.Int (minus 5))) ∷ op (ops.Equal 0x20 0) ∷ JumpTo Jnz 8
     ∷ op (ops.CpTopSp (minus 4) 4) ∷ op (push 6) ∷ op (ops.Equal 0x20 0) ∷ JumpTo Jnz 9
@@ -373,24 +372,25 @@ no_type l = record { few = omega arith; kinds = tt }
 
 -- int g=1; void main() { while (g) { PrintInteger(-g); break; } }
 bounded : IsBounded (unit_of (
-      global 0 t.Int (Some (int 1))
-      ∷ function t.Void [] (
-          s.while_loop 0 (of_globals 0) (s.block 0 (stmts (run (print (e.prefix t.Int pre.Minus (of_globals 0))) ∷ s.break_off 0 ∷ []))) ∷ [])
-      ∷ []) (Main 0))
+    global 0 t.Int (Some (int 1))
+    ∷ function t.Void [] (
+    s.while_loop 0 (of_globals 0) (s.block 0 (stmts (run (print (e.prefix t.Int pre.Minus (of_globals 0))) ∷ s.break_off 0 ∷ []))) ∷ [])
+    ∷ []) (Main 0))
 bounded =
     record {
       items = (
         (int_type _, search (rules, arith), tt),
-        ((((int_type _, tt), ((no_type _, (omega arith, omega arith), tt, ((int_type _, (int_type _, tt)), tt)), (refl, tt))), tt), omega arith, tt));
+        ((((int_type _, tt), ((no_type _, (omega arith, omega arith), tt, ((int_type _, (int_type _, tt)), tt)), (refl, tt))), tt), omega arith, tt),
+      );
       globals = omega arith;
       entry = omega arith;
     }
 
 -- int a = 1, b = a; int StartingConditional() { return b; }: where b is made, a is a local
 condition_with_globals : code (unit_of (
-      unit.global 0 t.Int (declared 0 t.Int (Some (int 1)) ∷ declared 1 t.Int (Some (local 0)) ∷ [])
-      ∷ function t.Int [] (s.return_from 0 (Some (of_globals 1)) ∷ [])
-      ∷ []) (Conditional 0))
+    unit.global 0 t.Int (declared 0 t.Int (Some (int 1)) ∷ declared 1 t.Int (Some (local 0)) ∷ [])
+    ∷ function t.Int [] (s.return_from 0 (Some (of_globals 1)) ∷ [])
+    ∷ []) (Conditional 0))
     ≡ ops.Jsr (pos 8) ∷ ops.Retn
     ∷ push 1 ∷ ops.CpTopSp (minus 4) 4 ∷ ops.SaveBp
     ∷ ops.RsAdd 3 ∷ ops.Jsr (pos 22) ∷ ops.MovSp (minus 4) ∷ ops.RestoreBp ∷ ops.MovSp (minus 8) ∷ ops.Retn

@@ -1,5 +1,5 @@
 -- Each label is placed once: the labels from a next one on are those that a node takes.
-use Rattle.std.proofs.Common.{rules, ◌≡◌, ℕ, ◌+◌, ◌-◌, List, [], ◌∷◌, ◌++◌, length, arith, refl, ap, sym, ◌∙◌, Bool, true, false, eqb, cond, ltb, Option, Some, None, zero, suc}
+use Rattle.std.proofs.Common.{◌≡◌, ℕ, ◌+◌, ◌-◌, List, [], ◌∷◌, ◌++◌, length, arith, refl, ap, ◌∙◌, Bool, true, false, eqb, cond, ltb, Option, Some, None, zero, suc}
 use Rattle.std.specs.Option.{option_map}
 use Rattle.std.proofs.lemmas.Bool.Decides.{nat_tests}
 use Rattle.nss_tree.specs.declared.operators.PrefixOperator.{PrefixOperator}
@@ -13,7 +13,7 @@ use Rattle.nss_tree.specs.declared.operators.AssignOperator.TheVariants as asg
 use Rattle.ncs_code.specs.Plain.{PlainOp}
 use Rattle.nwq_value.specs.declared.engine.Const.{Const}
 use Rattle.nwq_value.specs.declared.value.Ty.{Ty}
-use Rattle.ncs_emit.specs.Labelled.{Line, Instruction, JumpTo, Label, placements}
+use Rattle.ncs_emit.specs.Labelled.{Line, Label, placements}
 use Rattle.ncs_emit.specs.Laws.{PlacementsAdd}
 use Rattle.nss_typing.specs.declared.places.Place.{Place}
 use Rattle.nss_typing.specs.declared.places.Place.TheVariants.{Local, Global, Const as IsConst}
@@ -22,12 +22,10 @@ use Rattle.nss_typing.specs.declared.places.Callee.TheVariants.{Unit as InUnit, 
 use Rattle.nss_typing.specs.declared.places.EntryPoint.{EntryPoint}
 use Rattle.nss_typing.specs.declared.places.EntryPoint.TheVariants.{Main, Conditional}
 use Rattle.nss_typing.specs.Typed.{TypedExpr, TypedExprs, TypedName, TypedStmt, TypedStmts, TypedItem, literal, name, call, member, prefix, postfix, binary, assign, no_typed, more_typed, type_of}
-use Rattle.nss_typing.specs.Typed as typed
 use Rattle.code_emission.specs.Layout.{Layout, cell_types, cells, declared_cells, all_declared_cells, params_cells, item_cells}
-use Rattle.code_emission.specs.Operations as op
 use Rattle.code_emission.specs.Operations.{started, dropped, combination, operation}
 use Rattle.code_emission.specs.Expressions.{Home, increment, decrement, moved, home, at_home, read, write, name_code, member_code, prefix_code, postfix_code, Shortcut, WhereTrue, WhereFalse, Never, shortcut, shortcut_labels, binary_code, is_set, read_first, cells_first, constants, result_room, called, is_captured, argument_labels, argument_code, count_arguments, arguments_cells, emit, emit_all, labels, all_labels}
-use Rattle.code_emission.specs.Statements.{Exits, no_exits, in_loop, in_switch, some_labels, evaluated, tested, returned, initial, names_labels, emit_names, is_label, count_labels, behind, test_of, tests, otherwise, placed, placed_on, stmt_labels, all_stmt_labels, emit_stmt, emit_stmts}
+use Rattle.code_emission.specs.Statements.{Exits, no_exits, in_loop, in_switch, some_labels, evaluated, tested, returned, initial, names_labels, emit_names, is_label, count_labels, behind, test_of, tests, placed, placed_on, stmt_labels, all_stmt_labels, emit_stmt, emit_stmts}
 use Rattle.code_emission.specs.Units.{body_count, functions_labels, emit_function, emit_functions, globals_labels, emit_globals, entry_call, start_labels, emit_start}
 
 -- what can be written takes no label
@@ -195,27 +193,27 @@ module _ (add : PlacementsAdd) (label : ℕ) (up : ℕ → ℕ) (one : (n : ℕ)
     emit_counts l n m depth (name t p) is = none_counts (name_none l depth t p) is
     emit_counts l n m depth (call t f xs ks) is =
         behind_none (started_none (result_room l f t)) (behind_none (constants_none ks)
-          (before_none (all_counts l n m (depth + length (result_room l f t) + length ks) xs is) (called_none f (count_arguments xs + length ks))))
+        (before_none (all_counts l n m (depth + length (result_room l f t) + length ks) xs is) (called_none f (count_arguments xs + length ks))))
     emit_counts l n m depth (member t x offset) is =
         member_counts l n m depth (cells l.structs (type_of x)) offset (cells l.structs t) (home l x) (emit l n depth x) (labels x) is (home_labels l x)
-          (emit_counts l n (n + labels x) depth x refl)
+        (emit_counts l n (n + labels x) depth x refl)
     emit_counts l n m depth (prefix t o x) is = prefix_counts l n m depth o (home l x) (emit l n depth x) (emit_counts l n m depth x is)
     emit_counts l n m depth (postfix t o x) is = postfix_counts l n m depth o (home l x) (emit l n depth x) (emit_counts l n m depth x is)
     emit_counts l n m depth (binary t o x y) is =
         binary_counts n m (shortcut o) (operation o (type_of x) (cells l.structs (type_of x))) _ _ (labels x) (labels y) is
-          (emit_counts l (n + shortcut_labels (shortcut o)) (n + shortcut_labels (shortcut o) + labels x) depth x refl)
-          (emit_counts l (n + shortcut_labels (shortcut o) + labels x) (n + shortcut_labels (shortcut o) + labels x + labels y) (depth + cells l.structs (type_of x)) y refl)
+        (emit_counts l (n + shortcut_labels (shortcut o)) (n + shortcut_labels (shortcut o) + labels x) depth x refl)
+        (emit_counts l (n + shortcut_labels (shortcut o) + labels x) (n + shortcut_labels (shortcut o) + labels x + labels y) (depth + cells l.structs (type_of x)) y refl)
     emit_counts l n m depth (assign t o x y) is =
         behind_none (first_none (is_set o) (read l depth (cells l.structs t)) (home l x))
-          (before_none (emit_counts l n m (depth + cells_first (is_set o) (cells l.structs t)) y is)
-            (both_none (combination_none o t) (home_none (write l (depth + cells l.structs t) (cells l.structs t)) (home l x))))
+        (before_none (emit_counts l n m (depth + cells_first (is_set o) (cells l.structs t)) y is)
+        (both_none (combination_none o t) (home_none (write l (depth + cells l.structs t) (cells l.structs t)) (home l x))))
 
     all_counts : (l : Layout) (n m depth : ℕ) (xs : TypedExprs) → m ≡ n + all_labels xs → Counts (emit_all l n depth xs) n m
     all_counts l n m depth no_typed is = none_counts (record { none = refl }) is
     all_counts l n m depth (more_typed x xs) is =
         both_counts (all_counts l n (n + all_labels xs) depth xs refl)
-          (argument_counts l (n + all_labels xs) m (depth + arguments_cells l xs) (is_captured x) _ (labels x) (omega arith)
-            (emit_counts l (n + all_labels xs + argument_labels (is_captured x)) (n + all_labels xs + argument_labels (is_captured x) + labels x) (depth + arguments_cells l xs) x refl))
+        (argument_counts l (n + all_labels xs) m (depth + arguments_cells l xs) (is_captured x) _ (labels x) (omega arith)
+        (emit_counts l (n + all_labels xs + argument_labels (is_captured x)) (n + all_labels xs + argument_labels (is_captured x) + labels x) (depth + arguments_cells l xs) x refl))
 
   -- ---- parts of statements
 
@@ -240,7 +238,7 @@ module _ (add : PlacementsAdd) (label : ℕ) (up : ℕ → ℕ) (one : (n : ℕ)
   names_counts l n m depth [] is = none_counts (record { none = refl }) is
   names_counts l n m depth (x ∷ xs) is =
       both_counts (initial_counts l n (n + some_labels x.value) depth x.name.ty x.value refl)
-        (names_counts l (n + some_labels x.value) m (depth + cells l.structs x.name.ty) xs (omega arith))
+      (names_counts l (n + some_labels x.value) m (depth + cells l.structs x.name.ty) xs (omega arith))
 
   -- ---- the labels of a switch
 
@@ -352,7 +350,7 @@ module _ (add : PlacementsAdd) (label : ℕ) (up : ℕ → ℕ) (one : (n : ℕ)
   globals_counts l n m depth (function i t x ps body ∷ is) e = globals_counts l n m depth is e
   globals_counts l n m depth (global i t xs ∷ is) e =
       both_counts (names_counts l n (n + names_labels xs) depth xs refl)
-        (globals_counts l (n + names_labels xs) m (depth + item_cells l.structs (global i t xs)) is (omega arith))
+      (globals_counts l (n + names_labels xs) m (depth + item_cells l.structs (global i t xs)) is (omega arith))
 
   entry_none : (e : EntryPoint) → NoLabels (entry_call e)
   entry_none (Main f) = record { none = refl }
@@ -367,7 +365,7 @@ module _ (add : PlacementsAdd) (label : ℕ) (up : ℕ → ℕ) (one : (n : ℕ)
 
   pub unit_counts : (l : Layout) (b : Bool) (is : List TypedItem) (entry : EntryPoint)
       → placements (emit_start l (body_count is) b is entry ++ emit_functions l (body_count is + start_labels b is) 0 is) label
-        + up (body_count is + start_labels b is + functions_labels is) ≡ up 0
+      + up (body_count is + start_labels b is + functions_labels is) ≡ up 0
   unit_counts l b is entry =
       let f = (start_counts l (body_count is) (body_count is + start_labels b is) b is entry refl).count in
       let g = functions_counts l (body_count is + start_labels b is) _ 0 (body_count is) is refl (omega arith) in
@@ -393,8 +391,8 @@ turned false n is = omega arith
 
 pub unit_placed : (add : PlacementsAdd) (l : Layout) (b : Bool) (is : List TypedItem) (entry : EntryPoint) (label : ℕ)
     → placements (emit_start l (body_count is) b is entry ++ emit_functions l (body_count is + start_labels b is) 0 is) label
-      ≡ cond (ltb label (body_count is + start_labels b is + functions_labels is)) 1 0
+    ≡ cond (ltb label (body_count is + start_labels b is + functions_labels is)) 1 0
 unfolding reached
 unit_placed add l b is entry label =
     turned (ltb label (body_count is + start_labels b is + functions_labels is)) _
-      (unit_counts add label (reached label) (reached_next label) l b is entry ∙ reached_zero label)
+    (unit_counts add label (reached label) (reached_next label) l b is entry ∙ reached_zero label)

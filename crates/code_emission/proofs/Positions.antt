@@ -1,5 +1,5 @@
 -- There is a position for each number, and so the positions by number are the positions in order.
-use Rattle.std.proofs.Common.{rules, ◌≡◌, ℕ, zero, suc, ◌+◌, List, [], ◌∷◌, ◌++◌, length, map, get_or, arith, refl, ap, sym, ◌∙◌, Option, Some, None, append_assoc}
+use Rattle.std.proofs.Common.{◌≡◌, ℕ, zero, suc, ◌+◌, List, [], ◌∷◌, ◌++◌, length, map, get_or, arith, refl, ap, sym, ◌∙◌, Option, Some, None, append_assoc}
 use Rattle.std.proofs.lemmas.List.{length-append}
 use Rattle.nss_tree.specs.Statements.{block, empty, expression, if_only, if_else, while_loop, do_loop, for_loop, switch, break_off, continue_on, return_from, declaration, case_label, default_label, no_stmt, more_stmts}
 use Rattle.nss_tree.specs.Units.{structure, constant, global, function}
@@ -72,9 +72,9 @@ by_index before (x ∷ xs) =
     let moved : before ++ (x ∷ xs) ≡ (before ++ x ∷ []) ++ xs = sym (append_assoc before (x ∷ []) xs) in
     let next : length before + 1 ≡ length (before ++ x ∷ []) = omega (arith, length-append before (x ∷ [])) in
     let rest : map (λ n. get_or (before ++ (x ∷ xs)) n 0) (numbers_from (length before + 1) (length xs)) ≡ xs =
-        ap (λ (all : List ℕ). map (λ n. get_or all n 0) (numbers_from (length before + 1) (length xs))) moved
-        ∙ ap (λ m. map (λ n. get_or ((before ++ x ∷ []) ++ xs) n 0) (numbers_from m (length xs))) next
-        ∙ by_index (before ++ x ∷ []) xs in
+    ap (λ (all : List ℕ). map (λ n. get_or all n 0) (numbers_from (length before + 1) (length xs))) moved
+    ∙ ap (λ m. map (λ n. get_or ((before ++ x ∷ []) ++ xs) n 0) (numbers_from m (length xs))) next
+    ∙ by_index (before ++ x ∷ []) xs in
     ap (λ (y : ℕ). y ∷ map (λ n. get_or (before ++ (x ∷ xs)) n 0) (numbers_from (length before + 1) (length xs))) (at_middle before xs x)
     ∙ ap (λ (ys : List ℕ). x ∷ ys) rest
 

@@ -1,8 +1,8 @@
 -- The code of a unit that keeps the bounds: each instruction has a spelling, each jump leads to a label that is placed, and the last line is
 -- an instruction.
-use Rattle.std.proofs.Common.{rules, ◌≡◌, ◌≤◌, ◌<◌, ℕ, ℤ, pos, ◌+◌, ◌-◌, ◌*◌, ◌^◌, List, [], ◌∷◌, ◌++◌, length, arith, refl, ap, sym, ◌∙◌, Bool, true, false, cond, ltb, Option, Some, None, zero, suc}
+use Rattle.std.proofs.Common.{rules, ◌≡◌, ◌≤◌, ◌<◌, ℕ, ℤ, pos, ◌+◌, ◌-◌, ◌*◌, ◌^◌, List, [], ◌∷◌, ◌++◌, length, arith, refl, Bool, true, false, cond, ltb, Option, Some, None, zero, suc}
 use Rattle.std.proofs.lemmas.Bool.Decides.{nat_tests}
-use Rattle.std.specs.Prelude.{FitsSigned, IsTrue}
+use Rattle.std.specs.Prelude.{FitsSigned}
 use Rattle.std.specs.Int.{w32}
 use Rattle.std.specs.List.{AllByRecursion}
 use Rattle.nss_tree.specs.declared.operators.PrefixOperator.{PrefixOperator}
@@ -19,7 +19,7 @@ use Rattle.nwq_value.specs.declared.value.Ty.{Ty}
 use Rattle.nwq_value.specs.declared.value.Ty.TheVariants.{Void, Int, Text, Object, Effect, Event, Action, Struct, Refused}
 use Rattle.nwq_value.specs.declared.engine.Const.{Const}
 use Rattle.nwq_value.specs.declared.engine.Const.TheVariants as const
-use Rattle.nwq_value.specs.Limits.{struct_cell_limit, text_limit, parameter_limit, routine_limit}
+use Rattle.nwq_value.specs.Limits.{struct_cell_limit}
 use Rattle.ncs_code.specs.Plain.{PlainOp}
 use Rattle.ncs_code.specs.Plain as ops
 use Rattle.ncs_code.specs.Spelling.{IsOp, has_type}
@@ -210,7 +210,6 @@ globals_few bodies l (global i t xs ∷ is) are = omega (arith, names_few bodies
 
 module _ (lead : BothLeadOn) (whole : List Line) (total bodies : ℕ) (l : Layout) (has_place : (k : ℕ) → k < total → 1 ≤ placements whole k)
     (few : bodies ≤ total) (shallow : l.globals ≤ depth_limit) where
-
   record Good (lines : List Line) : Type 0 where
     fits : AllByRecursion (LineFits total) lines
     leads : LeadsOn whole lines
@@ -311,7 +310,7 @@ module _ (lead : BothLeadOn) (whole : List Line) (total bodies : ℕ) (l : Layou
   binary_good : (n : ℕ) (s : Shortcut) (op : PlainOp) (left right : List Line) → n + shortcut_labels s ≤ total → Emits whole op → Good left → Good right → Good (binary_code n s op left right)
   binary_good n WhereTrue op left right few e f g =
       good_both f (good_op (copying_emits whole) (good_jump Jz n (omega arith) (good_op (one_emits whole) (good_op e (good_jump Jmp (n + 1) (omega arith)
-        (good_label n (omega arith) (good_both g (good_op e (good_label (n + 1) (omega arith) good_end)))))))))
+      (good_label n (omega arith) (good_both g (good_op e (good_label (n + 1) (omega arith) good_end)))))))))
   binary_good n WhereFalse op left right few e f g =
       good_both f (good_op (copying_emits whole) (good_jump Jz n (omega arith) (good_both g (good_op e (good_label n (omega arith) good_end)))))
   binary_good n Never op left right few e f g = good_both f (good_both g (good_op e good_end))
@@ -370,28 +369,28 @@ module _ (lead : BothLeadOn) (whole : List Line) (total bodies : ℕ) (l : Layou
     emit_good n depth (name t p) is few d = name_good depth t p is (omega arith)
     emit_good n depth (call t f xs ks) is few d =
         good_both (room_good f t is.0) (good_both (constants_good ks is.2)
-          (good_both (all_good n (depth + length (result_room l f t) + length ks) xs is.3 few (omega (arith, room_few f t is.0))) (called_good f (count_arguments xs + length ks) is.1)))
+        (good_both (all_good n (depth + length (result_room l f t) + length ks) xs is.3 few (omega (arith, room_few f t is.0))) (called_good f (count_arguments xs + length ks) is.1)))
     emit_good n depth (member t x offset) is few d =
         member_good depth (cells l.structs (type_of x)) offset (cells l.structs t) (home l x) (emit l n depth x) (omega arith) is.1.few is.2 is.0.few
-          (emit_good n depth x is.3 few (omega arith))
+        (emit_good n depth x is.3 few (omega arith))
     emit_good n depth (prefix t o x) is few d = prefix_good depth o (home l x) (emit l n depth x) (omega arith) (emit_good n depth x is.1 few (omega arith))
     emit_good n depth (postfix t o x) is few d = postfix_good depth o (home l x) (emit l n depth x) (omega arith) (emit_good n depth x is.1 few (omega arith))
     emit_good n depth (binary t o x y) is few d =
         binary_good n (shortcut o) (operation o (type_of x) (cells l.structs (type_of x))) _ _ (omega arith) (operation_emits whole o (type_of x) (cells l.structs (type_of x)) is.2 is.1.few)
-          (emit_good (n + shortcut_labels (shortcut o)) depth x is.3 (omega arith) (omega arith))
-          (emit_good (n + shortcut_labels (shortcut o) + labels x) (depth + cells l.structs (type_of x)) y is.4 (omega arith) (omega (arith, is.1.few, some_weighs x)))
+        (emit_good (n + shortcut_labels (shortcut o)) depth x is.3 (omega arith) (omega arith))
+        (emit_good (n + shortcut_labels (shortcut o) + labels x) (depth + cells l.structs (type_of x)) y is.4 (omega arith) (omega (arith, is.1.few, some_weighs x)))
     emit_good n depth (assign t o x y) is few d =
         good_both (first_good (is_set o) (read l depth (cells l.structs t)) (home l x) (λ g. read_emits whole l depth (cells l.structs t) g (omega arith) (omega arith) is.0.few))
-          (good_both (emit_good n (depth + cells_first (is_set o) (cells l.structs t)) y is.2 few (omega (arith, first_few (is_set o) (cells l.structs t), is.0.few)))
-            (good_both (combination_good o t) (home_good (write l (depth + cells l.structs t) (cells l.structs t)) (home l x)
-              (λ g. write_emits whole l (depth + cells l.structs t) (cells l.structs t) g (omega (arith, is.0.few)) (omega arith) is.0.few))))
+        (good_both (emit_good n (depth + cells_first (is_set o) (cells l.structs t)) y is.2 few (omega (arith, first_few (is_set o) (cells l.structs t), is.0.few)))
+        (good_both (combination_good o t) (home_good (write l (depth + cells l.structs t) (cells l.structs t)) (home l x)
+        (λ g. write_emits whole l (depth + cells l.structs t) (cells l.structs t) g (omega (arith, is.0.few)) (omega arith) is.0.few))))
 
     all_good : (n depth : ℕ) (xs : TypedExprs) → AreExprs bodies l xs → n + all_labels xs ≤ total → depth + all_weight xs ≤ depth_limit → Good (emit_all l n depth xs)
     all_good n depth no_typed are few d = good_end
     all_good n depth (more_typed x xs) are few d =
         good_both (all_good n depth xs are.1 (omega arith) (omega arith))
-          (argument_good (n + all_labels xs) (depth + arguments_cells l xs) (is_captured x) _ (omega arith) (omega (arith, arguments_few xs are.1))
-            (emit_good (n + all_labels xs + argument_labels (is_captured x)) (depth + arguments_cells l xs) x are.0 (omega arith) (omega (arith, arguments_few xs are.1))))
+        (argument_good (n + all_labels xs) (depth + arguments_cells l xs) (is_captured x) _ (omega arith) (omega (arith, arguments_few xs are.1))
+        (emit_good (n + all_labels xs + argument_labels (is_captured x)) (depth + arguments_cells l xs) x are.0 (omega arith) (omega (arith, arguments_few xs are.1))))
 
   -- ---- parts of statements
 
@@ -407,8 +406,8 @@ module _ (lead : BothLeadOn) (whole : List Line) (total bodies : ℕ) (l : Layou
   returned_good n depth None is few d = dropped_good depth (omega arith)
   returned_good n depth (Some x) is few d =
       good_both (emit_good n depth x is few d)
-        (good_op (storing_emits whole (depth + 2 * cells l.structs (type_of x)) (cells l.structs (type_of x)) (omega (arith, few_cells x is)) (few_cells x is))
-          (dropped_good (depth + cells l.structs (type_of x)) (omega (arith, few_cells x is))))
+      (good_op (storing_emits whole (depth + 2 * cells l.structs (type_of x)) (cells l.structs (type_of x)) (omega (arith, few_cells x is)) (few_cells x is))
+      (dropped_good (depth + cells l.structs (type_of x)) (omega (arith, few_cells x is))))
 
   initial_good : (n depth : ℕ) (t : Ty) (x : Option TypedExpr) → IsType l t → IsSome bodies l x → n + some_labels x ≤ total → depth + some_weight x ≤ depth_limit → Good (initial l n depth t x)
   initial_good n depth t None of is few d = started_good (cell_types l.structs t) of.kinds
@@ -418,7 +417,7 @@ module _ (lead : BothLeadOn) (whole : List Line) (total bodies : ℕ) (l : Layou
   names_good n depth [] are few d = good_end
   names_good n depth (x ∷ xs) are few d =
       good_both (initial_good n depth x.name.ty x.value are.0 are.1 (omega arith) (omega arith))
-        (names_good (n + some_labels x.value) (depth + cells l.structs x.name.ty) xs are.2 (omega arith) (omega (arith, are.0.few)))
+      (names_good (n + some_labels x.value) (depth + cells l.structs x.name.ty) xs are.2 (omega arith) (omega (arith, are.0.few)))
 
   declared_few : (b c : Bool) (x : TypedStmt) → IsStmt bodies l b c x → declared_cells l.structs x ≤ stmt_weight x
   declared_few p q (block m xs) is = omega arith
@@ -481,7 +480,7 @@ module _ (lead : BothLeadOn) (whole : List Line) (total bodies : ℕ) (l : Layou
   test_good p q k count (declaration m t xs) is f = good_end
   test_good p q k count (case_label m v) is f =
       good_op (copying_emits whole) (good_op (constant_emits whole v is) (good_op (record { is_op = record { row = record { kind = refl; sizes = λ h. refl }; fits = (omega arith, omega arith) }; led = tt; state = refl })
-        (good_jump Jnz k (omega arith) good_end)))
+      (good_jump Jnz k (omega arith) good_end)))
   test_good p q k count (default_label m) is f = good_end
 
   tests_good : (b c : Bool) (k : ℕ) (xs : TypedStmts) → AreStmts bodies l b c xs → k + count_labels xs ≤ total → Good (tests k xs)
@@ -514,7 +513,7 @@ module _ (lead : BothLeadOn) (whole : List Line) (total bodies : ℕ) (l : Layou
   otherwise_below end k no_stmt e f = e
   otherwise_below end k (more_stmts x xs) e f =
       either_below (is_default x) k _ (λ is. default_below k (count_labels xs) x is f)
-        (otherwise_below end (behind k x) xs e (step_below (is_label x) k (count_labels xs) f))
+      (otherwise_below end (behind k x) xs e (step_below (is_label x) k (count_labels xs) f))
 
   -- ---- statements
 
@@ -533,34 +532,34 @@ module _ (lead : BothLeadOn) (whole : List Line) (total bodies : ℕ) (l : Layou
         good_both (emit_good n depth x is few d) (dropped_good (cells l.structs (type_of x)) (omega (arith, few_cells x is)))
     stmt_good out n depth b c (if_only i x a) is to few d =
         good_both (emit_good (n + 1) depth x is.0 (omega arith) (omega arith)) (good_jump Jz n (omega arith)
-          (good_both (stmt_good out (n + 1 + labels x) depth b c a is.1 to (omega arith) (omega arith)) (good_label n (omega arith) good_end)))
+        (good_both (stmt_good out (n + 1 + labels x) depth b c a is.1 to (omega arith) (omega arith)) (good_label n (omega arith) good_end)))
     stmt_good out n depth b c (if_else i x a e) is to few d =
         good_both (emit_good (n + 2) depth x is.0 (omega arith) (omega arith)) (good_jump Jz n (omega arith)
-          (good_both (stmt_good out (n + 2 + labels x) depth b c a is.1 to (omega arith) (omega arith)) (good_jump Jmp (n + 1) (omega arith) (good_label n (omega arith)
-            (good_both (stmt_good out (n + 2 + labels x + stmt_labels a) depth b c e is.2 to (omega arith) (omega arith)) (good_label (n + 1) (omega arith) good_end))))))
+        (good_both (stmt_good out (n + 2 + labels x) depth b c a is.1 to (omega arith) (omega arith)) (good_jump Jmp (n + 1) (omega arith) (good_label n (omega arith)
+        (good_both (stmt_good out (n + 2 + labels x + stmt_labels a) depth b c e is.2 to (omega arith) (omega arith)) (good_label (n + 1) (omega arith) good_end))))))
     stmt_good out n depth b c (while_loop i x a) is to few d =
         good_label n (omega arith) (good_both (emit_good (n + 2) depth x is.0 (omega arith) (omega arith)) (good_jump Jz (n + 1) (omega arith)
-          (good_both (stmt_good (in_loop n (n + 1) depth) (n + 2 + labels x) depth true true a is.1 (record { breaks = λ h. omega arith; continues = λ h. omega arith }) (omega arith) (omega arith))
-            (good_jump Jmp n (omega arith) (good_label (n + 1) (omega arith) good_end)))))
+        (good_both (stmt_good (in_loop n (n + 1) depth) (n + 2 + labels x) depth true true a is.1 (record { breaks = λ h. omega arith; continues = λ h. omega arith }) (omega arith) (omega arith))
+        (good_jump Jmp n (omega arith) (good_label (n + 1) (omega arith) good_end)))))
     stmt_good out n depth b c (do_loop i a x) is to few d =
         good_label n (omega arith)
-          (good_both (stmt_good (in_loop (n + 1) (n + 2) depth) (n + 3) depth true true a is.0 (record { breaks = λ h. omega arith; continues = λ h. omega arith }) (omega arith) (omega arith))
-            (good_label (n + 1) (omega arith) (good_both (emit_good (n + 3 + stmt_labels a) depth x is.1 (omega arith) (omega arith))
-              (good_jump Jnz n (omega arith) (good_label (n + 2) (omega arith) good_end)))))
+        (good_both (stmt_good (in_loop (n + 1) (n + 2) depth) (n + 3) depth true true a is.0 (record { breaks = λ h. omega arith; continues = λ h. omega arith }) (omega arith) (omega arith))
+        (good_label (n + 1) (omega arith) (good_both (emit_good (n + 3 + stmt_labels a) depth x is.1 (omega arith) (omega arith))
+        (good_jump Jnz n (omega arith) (good_label (n + 2) (omega arith) good_end)))))
     stmt_good out n depth b c (for_loop i x y z a) is to few d =
         good_both (evaluated_good (n + 3) depth x is.0 (omega arith) (omega arith)) (good_label n (omega arith)
-          (good_both (tested_good (n + 3 + some_labels x) depth y is.1 (omega arith) (omega arith)) (good_jump Jz (n + 2) (omega arith)
-            (good_both (stmt_good (in_loop (n + 1) (n + 2) depth) (n + 3 + some_labels x + some_labels y) depth true true a is.3 (record { breaks = λ h. omega arith; continues = λ h. omega arith }) (omega arith) (omega arith))
-              (good_label (n + 1) (omega arith) (good_both (evaluated_good (n + 3 + some_labels x + some_labels y + stmt_labels a) depth z is.2 (omega arith) (omega arith))
-                (good_jump Jmp n (omega arith) (good_label (n + 2) (omega arith) good_end))))))))
+        (good_both (tested_good (n + 3 + some_labels x) depth y is.1 (omega arith) (omega arith)) (good_jump Jz (n + 2) (omega arith)
+        (good_both (stmt_good (in_loop (n + 1) (n + 2) depth) (n + 3 + some_labels x + some_labels y) depth true true a is.3 (record { breaks = λ h. omega arith; continues = λ h. omega arith }) (omega arith) (omega arith))
+        (good_label (n + 1) (omega arith) (good_both (evaluated_good (n + 3 + some_labels x + some_labels y + stmt_labels a) depth z is.2 (omega arith) (omega arith))
+        (good_jump Jmp n (omega arith) (good_label (n + 2) (omega arith) good_end))))))))
     stmt_good out n depth b c (switch i x xs) is to few d =
         good_both (emit_good (n + 1 + count_labels xs) depth x is.0 (omega arith) (omega arith))
-          (good_both (tests_good true c (n + 1) xs is.1 (omega arith))
-            (good_jump Jmp (otherwise n (n + 1) xs) (otherwise_below n (n + 1) xs (omega arith) (omega arith))
-              (good_both (stmts_good (in_switch n (depth + 1) out) (n + 1 + count_labels xs + labels x) (depth + 1) true c (Some (n + 1)) xs is.1
-                  (record { breaks = λ h. omega arith; continues = to.continues }) (omega arith) (omega arith) (omega arith))
-                (good_both (dropped_good (all_declared_cells l.structs xs) (omega (arith, all_declared_few true c xs is.1)))
-                  (good_label n (omega arith) (dropped_good 1 (omega arith)))))))
+        (good_both (tests_good true c (n + 1) xs is.1 (omega arith))
+        (good_jump Jmp (otherwise n (n + 1) xs) (otherwise_below n (n + 1) xs (omega arith) (omega arith))
+        (good_both (stmts_good (in_switch n (depth + 1) out) (n + 1 + count_labels xs + labels x) (depth + 1) true c (Some (n + 1)) xs is.1
+        (record { breaks = λ h. omega arith; continues = to.continues }) (omega arith) (omega arith) (omega arith))
+        (good_both (dropped_good (all_declared_cells l.structs xs) (omega (arith, all_declared_few true c xs is.1)))
+        (good_label n (omega arith) (dropped_good 1 (omega arith)))))))
     stmt_good out n depth b c (break_off i) is to few d = good_both (dropped_good (depth - out.break_depth) (omega arith)) (good_jump Jmp out.break_to (to.breaks is) good_end)
     stmt_good out n depth b c (continue_on i) is to few d = good_both (dropped_good (depth - out.continue_depth) (omega arith)) (good_jump Jmp out.continue_to (to.continues is) good_end)
     stmt_good out n depth b c (return_from i x) is to few d = good_both (returned_good n depth x is few d) good_return
@@ -573,7 +572,7 @@ module _ (lead : BothLeadOn) (whole : List Line) (total bodies : ℕ) (l : Layou
     stmts_good out n depth b c at no_stmt are to f few d = good_end
     stmts_good out n depth b c at (more_stmts x xs) are to f few d =
         good_both (placed_good at x xs f) (good_both (stmt_good out n depth b c x are.0 to (omega arith) (omega arith))
-          (stmts_good out (n + stmt_labels x) (depth + declared_cells l.structs x) b c (placed_on at x) xs are.1 to (on_fits at x xs f) (omega arith) (omega (arith, declared_few b c x are.0))))
+        (stmts_good out (n + stmt_labels x) (depth + declared_cells l.structs x) b c (placed_on at x) xs are.1 to (on_fits at x xs f) (omega arith) (omega (arith, declared_few b c x are.0))))
 
   -- ---- units
 
@@ -584,8 +583,8 @@ module _ (lead : BothLeadOn) (whole : List Line) (total bodies : ℕ) (l : Layou
       → n + all_stmt_labels body ≤ total → f < total → Good (emit_function l n f ps body)
   function_good n f ps body are d few lt =
       good_label f lt (good_both (stmts_good no_exits n (params_cells l.structs ps) false false None body are no_lead tt few d)
-        (good_both (dropped_good (all_declared_cells l.structs body) (omega (arith, all_declared_few false false body are)))
-          (good_both (dropped_good (params_cells l.structs ps) (omega arith)) good_return)))
+      (good_both (dropped_good (all_declared_cells l.structs body) (omega (arith, all_declared_few false false body are)))
+      (good_both (dropped_good (params_cells l.structs ps) (omega arith)) good_return)))
 
   functions_good : (n f : ℕ) (is : List TypedItem) → AreItems bodies l is → n + functions_labels is ≤ total → f + body_count is ≤ total → Good (emit_functions l n f is)
   functions_good n f [] are few some = good_end
@@ -604,7 +603,7 @@ module _ (lead : BothLeadOn) (whole : List Line) (total bodies : ℕ) (l : Layou
   globals_good n depth (function i t x ps (Some body) ∷ is) are few d = globals_good n depth is are.2 few d
   globals_good n depth (global i t xs ∷ is) are few d =
       good_both (names_good n depth xs are.0 (omega arith) (omega arith))
-        (globals_good (n + names_labels xs) (depth + item_cells l.structs (global i t xs)) is are.1 (omega arith) (omega (arith, names_few bodies l xs are.0)))
+      (globals_good (n + names_labels xs) (depth + item_cells l.structs (global i t xs)) is are.1 (omega arith) (omega (arith, names_few bodies l xs are.0)))
 
   entry_good : (e : EntryPoint) → IsEntry bodies e → Good (entry_call e)
   entry_good (Main f) is = good_jump Jsr f (omega arith) good_end
@@ -616,11 +615,11 @@ module _ (lead : BothLeadOn) (whole : List Line) (total bodies : ℕ) (l : Layou
   start_good n false is entry are at few d = good_both (entry_good entry at) good_return
   start_good n true is entry are at few d =
       good_jump Jsr n (omega arith) (good_both good_return (good_label n (omega arith)
-        (good_both (globals_good (n + 1) 0 is are (omega arith) (omega arith))
-          (good_op (record { is_op = record { row = record { kind = refl; sizes = tt }; fits = tt }; led = tt; state = refl })
-            (good_both (entry_good entry at)
-              (good_op (record { is_op = record { row = record { kind = refl; sizes = tt }; fits = tt }; led = tt; state = refl })
-                (good_both (dropped_good l.globals (omega arith)) good_return)))))))
+      (good_both (globals_good (n + 1) 0 is are (omega arith) (omega arith))
+      (good_op (record { is_op = record { row = record { kind = refl; sizes = tt }; fits = tt }; led = tt; state = refl })
+      (good_both (entry_good entry at)
+      (good_op (record { is_op = record { row = record { kind = refl; sizes = tt }; fits = tt }; led = tt; state = refl })
+      (good_both (dropped_good l.globals (omega arith)) good_return)))))))
 
   unit_good : (n m : ℕ) (b : Bool) (is : List TypedItem) (entry : EntryPoint) → AreItems bodies l is → IsEntry bodies entry → n + start_labels b is ≤ total
       → m + functions_labels is ≤ total → body_count is ≤ total → globals_weight is ≤ depth_limit → Good (emit_start l n b is entry ++ emit_functions l m 0 is)
@@ -634,7 +633,7 @@ return_ends = record { closes = refl; some = refl }
 function_ends : (l : Layout) (n f : ℕ) (ps : List TypedParameter) (body : TypedStmts) → Ended (emit_function l n f ps body)
 function_ends l n f ps body =
     ended_more (Label f) _ (ended_behind (emit_stmts l no_exits n (params_cells l.structs ps) None body) _
-      (ended_behind (dropped (all_declared_cells l.structs body)) _ (ended_behind (dropped (params_cells l.structs ps)) _ return_ends)))
+    (ended_behind (dropped (all_declared_cells l.structs body)) _ (ended_behind (dropped (params_cells l.structs ps)) _ return_ends)))
 
 functions_close : BothClose → (l : Layout) (n f : ℕ) (is : List TypedItem) → Closes (emit_functions l n f is)
 functions_close close l n f [] = tt
@@ -644,13 +643,13 @@ functions_close close l n f (global i t xs ∷ is) = functions_close close l n f
 functions_close close l n f (function i t x ps None ∷ is) = functions_close close l n f is
 functions_close close l n f (function i t x ps (Some body) ∷ is) =
     close (emit_function l n f ps body) (emit_functions l (n + all_stmt_labels body) (f + 1) is) (function_ends l n f ps body).closes
-      (functions_close close l (n + all_stmt_labels body) (f + 1) is)
+    (functions_close close l (n + all_stmt_labels body) (f + 1) is)
 
 start_ends : (l : Layout) (n : ℕ) (b : Bool) (is : List TypedItem) (entry : EntryPoint) → Ended (emit_start l n b is entry)
 start_ends l n false is entry = ended_behind (entry_call entry) _ return_ends
 start_ends l n true is entry =
     ended_more (JumpTo Jsr n) _ (ended_more (Instruction ops.Retn) _ (ended_more (Label n) _ (ended_behind (emit_globals l (n + 1) 0 is) _
-      (ended_more (Instruction ops.SaveBp) _ (ended_behind (entry_call entry) _ (ended_more (Instruction ops.RestoreBp) _ (ended_behind (dropped l.globals) _ return_ends)))))))
+    (ended_more (Instruction ops.SaveBp) _ (ended_behind (entry_call entry) _ (ended_more (Instruction ops.RestoreBp) _ (ended_behind (dropped l.globals) _ return_ends)))))))
 
 -- ---- the whole
 
@@ -668,10 +667,10 @@ unit_whole add lead close u bounded =
     let few : body_count is ≤ total = omega arith in
     let shallow : l.globals ≤ depth_limit = omega (arith, globals_few (body_count is) l is bounded.items, bounded.globals) in
     let good = unit_good lead lines total (body_count is) l has_place few shallow (body_count is) (body_count is + start_labels b is) b is u.entry
-        bounded.items bounded.entry (omega arith) (omega arith) few bounded.globals in
+    bounded.items bounded.entry (omega arith) (omega arith) few bounded.globals in
     record {
       fits = good.fits;
       leads = good.leads;
       closes = close (emit_start l (body_count is) b is u.entry) (emit_functions l (body_count is + start_labels b is) 0 is)
-        (start_ends l (body_count is) b is u.entry).closes (functions_close close l (body_count is + start_labels b is) 0 is);
+          (start_ends l (body_count is) b is u.entry).closes (functions_close close l (body_count is + start_labels b is) 0 is);
     }

@@ -6,7 +6,7 @@ use Rattle.std.specs.Int.{w32}
 use Rattle.nss_tree.specs.declared.operators.BinaryOperator.{BinaryOperator}
 use Rattle.nss_tree.specs.declared.operators.BinaryOperator.TheVariants as bin
 use Rattle.nss_tree.specs.Statements.{block, empty, expression, if_only, if_else, while_loop, do_loop, for_loop, switch, break_off, continue_on, return_from, declaration, case_label, default_label, no_stmt, more_stmts}
-use Rattle.nss_tree.specs.Units.{structure, constant, global, function}
+use Rattle.nss_tree.specs.Units.{global, function}
 use Rattle.nwq_value.specs.declared.value.Ty.{Ty}
 use Rattle.nwq_value.specs.declared.value.Ty.TheVariants.{Void, Int, Text, Object, Effect, Event, Action, Struct, Refused}
 use Rattle.nwq_value.specs.declared.engine.Const.{Const}

@@ -202,8 +202,8 @@ abbrev mutual
   emit l n depth (postfix t o x) = postfix_code l depth o (home l x) (emit l n depth x)
   emit l n depth (binary t o x y) =
       binary_code n (shortcut o) (operation o (type_of x) (cells l.structs (type_of x)))
-        (emit l (n + shortcut_labels (shortcut o)) depth x)
-        (emit l (n + shortcut_labels (shortcut o) + labels x) (depth + cells l.structs (type_of x)) y)
+      (emit l (n + shortcut_labels (shortcut o)) depth x)
+      (emit l (n + shortcut_labels (shortcut o) + labels x) (depth + cells l.structs (type_of x)) y)
   emit l n depth (assign t o x y) =
       read_first (is_set o) (at_home (read l depth (cells l.structs t)) (home l x))
       ++ (emit l n (depth + cells_first (is_set o) (cells l.structs t)) y
@@ -216,4 +216,4 @@ abbrev mutual
   emit_all l n depth (more_typed x xs) =
       emit_all l n depth xs
       ++ argument_code l (n + all_labels xs) (depth + arguments_cells l xs) (is_captured x)
-        (emit l (n + all_labels xs + argument_labels (is_captured x)) (depth + arguments_cells l xs) x)
+      (emit l (n + all_labels xs + argument_labels (is_captured x)) (depth + arguments_cells l xs) x)

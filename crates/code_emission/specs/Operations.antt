@@ -1,5 +1,5 @@
 -- The instruction of each operation.
-use Rattle.std.specs.Prelude.{ℕ, ℤ, pos, ◌+◌, ◌*◌, ◌-◌, ◌-ℤ◌, zero, suc, List, [], ◌∷◌, map}
+use Rattle.std.specs.Prelude.{ℕ, ℤ, pos, ◌*◌, ◌-ℤ◌, zero, suc, List, [], ◌∷◌, map}
 use Rattle.nss_tree.specs.declared.operators.BinaryOperator.{BinaryOperator}
 use Rattle.nss_tree.specs.declared.operators.BinaryOperator.TheVariants as binary
 use Rattle.nss_tree.specs.declared.operators.AssignOperator.{AssignOperator}

@@ -6,7 +6,7 @@ use Rattle.ncs_emit.specs.declared.jump.Jump.TheVariants.{Jmp, Jz, Jnz}
 use Rattle.ncs_emit.specs.Labelled.{Line, Instruction, JumpTo, Label}
 use Rattle.nss_typing.specs.Typed.{TypedExpr, TypedName, TypedStmt, TypedStmts, type_of}
 use Rattle.nwq_value.specs.declared.value.Ty.{Ty}
-use Rattle.code_emission.specs.Layout.{Layout, cell_types, cells, names_cells, declared_cells, all_declared_cells}
+use Rattle.code_emission.specs.Layout.{Layout, cell_types, cells, declared_cells, all_declared_cells}
 use Rattle.code_emission.specs.Operations.{bytes_of, beneath, dropped, top_again, constant, int_constant, started, two_ints}
 use Rattle.code_emission.specs.Expressions.{emit, labels}
 

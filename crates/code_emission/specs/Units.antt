@@ -1,5 +1,5 @@
 -- The code of a whole unit: its start, then every function with a body, in the order of the bodies; and its file.
-use Rattle.std.specs.Prelude.{ℕ, ◌+◌, Bool, true, false, List, [], ◌∷◌, ◌++◌, Option, None, Some, if◌then◌else◌}
+use Rattle.std.specs.Prelude.{ℕ, ◌+◌, Bool, true, false, List, [], ◌∷◌, ◌++◌, None, Some}
 use Rattle.nss_tree.specs.Units.{global, function}
 use Rattle.ncs_code.specs.Plain as ops
 use Rattle.ncs_code.specs.File.{file_bytes}
@@ -82,8 +82,8 @@ emit_start l n true items entry =
 abbrev pub unit_code : TypedUnit → LabelledCode
 unit_code u = record {
   lines =
-    emit_start (layout_of u) (body_count u.items) (has_globals u.items) u.items u.entry
-    ++ emit_functions (layout_of u) (body_count u.items + start_labels (has_globals u.items) u.items) 0 u.items;
+      emit_start (layout_of u) (body_count u.items) (has_globals u.items) u.items u.entry
+      ++ emit_functions (layout_of u) (body_count u.items + start_labels (has_globals u.items) u.items) 0 u.items;
   labels = body_count u.items + start_labels (has_globals u.items) u.items + functions_labels u.items;
 }
 

@@ -1,6 +1,11 @@
 //! Laws about the definitions, each the contract of a function that does nothing.
 ghost use Rattle.code_emission.specs.Laws.{
-    CodeIsWhole, CodeStands, EachPlacedOnce, FileIsCode, OneFile, PositionsByNumber,
+  CodeIsWhole,
+  CodeStands,
+  EachPlacedOnce,
+  FileIsCode,
+  OneFile,
+  PositionsByNumber,
 };
 
 use ncs_emit::{finished_is_code, part_laws, program_stands};

@@ -9,4 +9,4 @@ at_most_once false count is = omega arith
 pub returns : goal.returns
 returns c u =
     c.program_stands.ensures.stands (unit_code u).lines
-      (λ label. at_most_once (ltb label (unit_code u).labels) _ (c.each_placed_once.ensures u label))
+    (λ label. at_most_once (ltb label (unit_code u).labels) _ (c.each_placed_once.ensures u label))
