@@ -1,9 +1,8 @@
 -- The rules that a table of shapes is to meet, and well-stacked code.
-use Rattle.std.specs.Prelude.{◌≡◌, ◌+◌, ℕ, List, [], ◌++◌, Option, None, Some}
+use Rattle.std.specs.Prelude.{◌≡◌, ℕ, List, [], ◌++◌, Option, None, Some}
 use Rattle.nwq_value.specs.Engine.{EngineTable}
 use Rattle.ncs_code.specs.Plain.{PlainOp}
 use Rattle.ncs_code.specs.Plain as ops
-use Rattle.ncs_code.specs.Spelling.{op_size}
 use Rattle.ncs_code.specs.File.{header_size, jump_place, op_at, resume_place}
 use Rattle.stack_shape.specs.declared.shape.Slot.{Slot}
 use Rattle.stack_shape.specs.declared.shape.Entry.{Entry}
@@ -11,6 +10,7 @@ use Rattle.stack_shape.specs.declared.shape.Entry.TheVariants.{Start, Called, St
 use Rattle.stack_shape.specs.declared.store.StoredTypes.{StoredTypes}
 use Rattle.stack_shape.specs.Stored.{TopShape, stored_types, stored_shape}
 use Rattle.stack_shape.specs.Rule.{rule}
+use Rattle.machine_step.specs.Act.{next_place}
 use Rattle.shape_tables.specs.Tables.{Callee, ShapeTable, empty_shape, first_shape}
 
 -- ---- calls and returns
@@ -47,18 +47,14 @@ Returns table (Stored site) shape = Unit {0}
 
 -- ---- the other instructions
 
--- the place behind an instruction
-abbrev pub behind : ℕ → PlainOp → ℕ
-behind place op = place + op_size op
-
 -- where an instruction leads within its routine, with the shape after it
 abbrev pub Leads : ShapeTable → Entry → ℕ → PlainOp → TopShape → Type 0
 Leads table entry place (ops.Jmp offset) after = table.at entry (jump_place place offset) ≡ Some after
 Leads table entry place (ops.Jz offset) after =
-    (table.at entry (jump_place place offset) ≡ Some after) × (table.at entry (behind place (ops.Jz offset)) ≡ Some after)
+    (table.at entry (jump_place place offset) ≡ Some after) × (table.at entry (next_place place (ops.Jz offset)) ≡ Some after)
 Leads table entry place (ops.Jnz offset) after =
-    (table.at entry (jump_place place offset) ≡ Some after) × (table.at entry (behind place (ops.Jnz offset)) ≡ Some after)
-Leads table entry place op after = table.at entry (behind place op) ≡ Some after
+    (table.at entry (jump_place place offset) ≡ Some after) × (table.at entry (next_place place (ops.Jnz offset)) ≡ Some after)
+Leads table entry place op after = table.at entry (next_place place op) ≡ Some after
 
 -- STORE_STATE: what is stored resumes with the types that are found here.
 pub record MayStore (table : ShapeTable) (site globals locals : ℕ) (shape : TopShape) : Type 0 where
@@ -80,7 +76,7 @@ pub record Follows (header : EngineTable) (table : ShapeTable) (entry : Entry) (
 
 -- what an instruction at a place owes to the table
 abbrev pub Obeys : EngineTable → ShapeTable → Entry → ℕ → PlainOp → TopShape → Type 0
-Obeys header table entry place (ops.Jsr offset) shape = MayCall table entry (jump_place place offset) (behind place (ops.Jsr offset)) shape
+Obeys header table entry place (ops.Jsr offset) shape = MayCall table entry (jump_place place offset) (next_place place (ops.Jsr offset)) shape
 Obeys header table entry place ops.Retn shape = Returns table entry shape
 Obeys header table entry place op shape = Follows header table entry place op shape
 

@@ -12,4 +12,4 @@
 
 mod laws;
 
-pub use laws::entries_begin_safely;
+pub use laws::{entries_begin_safely, runs_are_sound, steps_are_safe};

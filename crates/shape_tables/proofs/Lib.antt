@@ -1,0 +1,4 @@
+mod StackLemmas
+mod EntryLemmas
+mod StepLemmas
+mod RunLemmas
