@@ -1,4 +1,5 @@
-mod StackLemmas
 mod EntryLemmas
-mod StepLemmas
+mod Rows
 mod RunLemmas
+mod StackLemmas
+mod StepLemmas

@@ -483,16 +483,16 @@ engine_acts L header scripts tables f s number count after runs h leads =
     (subst (λ (x : Option Taken). ActsSafely header scripts tables (option_and_then (asked number count r f) x)) (sym t.are)
     (asked_acts header scripts tables number count r f t.taken (is_execute_script r.role) refl o.1 runs t.values
     (subst (FitsAction scripts tables) (sym t.action) (first_fits scripts tables (action_count r.params) f.pending s.fit))
-    (λ a typed. answered r.result t.taken.cells behind shift a typed)))
+    (λ a typed. answered e t.taken.pending r.result t.taken.cells behind shift a typed)))
   where
-    answered : {e : StackEffect} {t : Taken} (result : Ty) (cells : List Cell)
+    answered : (e : StackEffect) (pending : List Saved) (result : Ty) (cells : List Cell)
         → ((cells : List Cell) → outlines cells ≡ outlines_after e (outlines f.stack.cells)
-        → IsSafeFrame scripts tables (with_cells f (next_place f.place (ops.Action number count)) cells t.pending))
+        → IsSafeFrame scripts tables (with_cells f (next_place f.place (ops.Action number count)) cells pending))
         → map Typed (result_types result) ++ outlines cells ≡ outlines_after e (outlines f.stack.cells)
         → (a : Option Value) → HasType result a
-        → IsSafeFrame scripts tables (with_answer a (with_cells f (next_place f.place (ops.Action number count)) cells t.pending))
-    answered result cells safe shift None typed = safe cells (no_answer_outlines result cells typed ∙ shift)
-    answered result cells safe shift (Some v) typed = safe (Holds v ∷ cells) (answer_outlines result v cells typed ∙ shift)
+        → IsSafeFrame scripts tables (with_answer a (with_cells f (next_place f.place (ops.Action number count)) cells pending))
+    answered e pending result cells safe shift None typed = safe cells (no_answer_outlines result cells typed ∙ shift)
+    answered e pending result cells safe shift (Some v) typed = safe (Holds v ∷ cells) (answer_outlines result v cells typed ∙ shift)
 
 -- ---- each instruction
 
