@@ -125,11 +125,11 @@ on_stack L op f shape after below floor found_bp c h =
     let whole : stack_effect op (shape.under ++ c.under.rest) (shape.cells ++ below) ≡ Some e = L.effects_top op shape.under shape.cells below c.under.rest e m.1 in
     let slots_is : slots f.stack.cells ≡ shape.cells ++ below = slots_are f.stack.cells ∙ c.cells in
     let here : stack_effect op (slots_under f.stack) (slots f.stack.cells) ≡ Some e =
-        ap (λ (u : List Slot). stack_effect op u (slots f.stack.cells)) (under_is f.stack shape.under c.under)
-        ∙ ap (stack_effect op (shape.under ++ c.under.rest)) slots_is ∙ whole in
+    ap (λ (u : List Slot). stack_effect op u (slots f.stack.cells)) (under_is f.stack shape.under c.under)
+    ∙ ap (stack_effect op (shape.under ++ c.under.rest)) slots_is ∙ whole in
     let does = L.effects op f.self f.stack e (deep_is f.stack shape.under c.under) here in
     let p = popped_types L e.pops shape.cells below (outlines f.stack.cells) c.cells (L.pops op shape.under shape.cells e m.1)
-        (L.pops op (shape.under ++ c.under.rest) (shape.cells ++ below) e whole) in
+    (L.pops op (shape.under ++ c.under.rest) (shape.cells ++ below) e whole) in
     subst (λ (a : TopShape). OnStack op f shape a below floor found_bp) m.2 (record {
       cells = does.cells;
       are = does.are;
@@ -238,6 +238,7 @@ call_acts header scripts tables code f s offset meets m = record {
         → (tables f.script).at s.entry (next_place f.place (ops.Jsr offset)) ≡ Some (record s.shape { cells = given ++ m.rest })
     goes_on callee given is gives = subst (GoesOn (tables f.script) s.entry (next_place f.place (ops.Jsr offset)) s.shape m.rest)
         (ap (λ (c : Callee). c.given) (sym is) ∙ gives) m.goes_on
+
     waits : (callee : Callee) (given : List Slot) → (tables f.script).called (jump_place f.place offset) ≡ Some callee → callee.given ≡ Some given
         → Waits (tables f.script) (AreWaiting (tables f.script) f.calls) (next_place f.place (ops.Jsr offset)) given (m.rest ++ s.below)
         (from_base (outlines f.stack.cells)) f.stack.bp (length f.pending)
@@ -261,7 +262,7 @@ comes_back : (scripts : List Script) (tables : Tables) (f : Frame) (s : IsSafeFr
     → IsSafeFrame scripts tables (record f { place = place; calls = calls })
 comes_back scripts tables f s place calls none_saved none_pending w =
     let bases : (from_base (outlines f.stack.cells) ≡ s.floor) × (f.stack.bp ≡ s.found_bp) =
-        subst (λ (us : List (List Slot)). AreSaved us (from_base (outlines f.stack.cells)) f.stack.bp s.floor s.found_bp) none_saved s.carries.saved in
+    subst (λ (us : List (List Slot)). AreSaved us (from_base (outlines f.stack.cells)) f.stack.bp s.floor s.found_bp) none_saved s.carries.saved in
     record {
       listed = s.listed;
       entry = w.entry;
@@ -322,9 +323,9 @@ captured_fits scripts tables f globals locals types listed known c =
     let upper = reverse c.saved.locals in
     let lower = reverse c.saved.globals in
     let beneath : outlines lower ≡ map Typed types.globals =
-        ap outlines (sym (cells_under upper lower (Base 0) (length c.saved.globals) (sym (length-reverse c.saved.globals)))) ∙ c.under in
+    ap outlines (sym (cells_under upper lower (Base 0) (length c.saved.globals) (sym (length-reverse c.saved.globals)))) ∙ c.under in
     let above : outlines upper ≡ map Typed types.locals = append_cancel_right (outlines upper) (map Typed types.locals) (Keeps 0 ∷ map Typed types.globals)
-        (ap (λ (os : List Outline). outlines upper ++ Keeps 0 ∷ os) (sym beneath) ∙ sym (outlines_append upper (Base 0 ∷ lower)) ∙ c.cells) in
+    (ap (λ (os : List Outline). outlines upper ++ Keeps 0 ∷ os) (sym beneath) ∙ sym (outlines_append upper (Base 0 ∷ lower)) ∙ c.cells) in
     record {
       listed = subst (IsListed scripts) (sym c.script) listed;
       fits = record {
@@ -345,8 +346,8 @@ store_acts L header scripts tables f s globals locals after h leads m =
     let n = on_map (λ (types : StoredTypes). record s.shape { pending = s.shape.pending + 1 }) (stored_types globals locals s.shape.under s.shape.cells) after h in
     let whole = L.stores_top globals locals s.shape.under s.shape.cells s.below s.carries.under.rest m.types m.found in
     let here : stored_types globals locals (slots_under f.stack) (slots f.stack.cells) ≡ Some m.types =
-        ap (λ (u : List Slot). stored_types globals locals u (slots f.stack.cells)) (under_is f.stack s.shape.under s.carries.under)
-        ∙ ap (stored_types globals locals (s.shape.under ++ s.carries.under.rest)) (slots_are f.stack.cells ∙ s.carries.cells) ∙ whole in
+    ap (λ (u : List Slot). stored_types globals locals u (slots f.stack.cells)) (under_is f.stack s.shape.under s.carries.under)
+    ∙ ap (stored_types globals locals (s.shape.under ++ s.carries.under.rest)) (slots_are f.stack.cells ∙ s.carries.cells) ∙ whole in
     let c = L.stores globals locals f m.types (deep_is f.stack s.shape.under s.carries.under) here in
     subst (ActsSafely header scripts tables) (sym c.is) (record {
       listed = s.listed;
@@ -430,7 +431,7 @@ behind_safe : (L : Lower) (scripts : List Script) (tables : Tables) (f : Frame) 
 behind_safe L scripts tables f s r routine count e t h left enough known cells is =
     let whole = L.calls_top r count s.shape.pending s.shape.cells s.below e h in
     let p = popped_types L e.pops s.shape.cells s.below (outlines f.stack.cells) s.carries.cells (L.call_pops r count s.shape.pending s.shape.cells e h)
-        (L.call_pops r count s.shape.pending (s.shape.cells ++ s.below) e whole) in
+    (L.call_pops r count s.shape.pending (s.shape.cells ++ s.below) e whole) in
     let c = carries_on e s.shape (outlines f.stack.cells) (outlines cells) f.stack.bp s.below s.floor s.found_bp p.1.0 s.carries p.0 p.1.1 is in
     record {
       listed = s.listed;
@@ -465,19 +466,19 @@ engine_acts L header scripts tables f s number count after runs h leads =
     let o = on_then (λ (r : Routine). called_with r count s.shape) (slice_get header.routines number) after h in
     let r = o.0 in
     let m = on_map (λ (e : StackEffect). record s.shape { cells = after_effect e s.shape.cells; pending = s.shape.pending - action_count r.params })
-        (call_effect r count s.shape.pending s.shape.cells) after o.2 in
+    (call_effect r count s.shape.pending s.shape.cells) after o.2 in
     let e = m.0 in
     let whole = L.calls_top r count s.shape.pending s.shape.cells s.below e m.1 in
     let more = more_pending r count s.shape.pending s.others (s.shape.cells ++ s.below) e whole in
     let here : call_effect r count (length f.pending) (slots f.stack.cells) ≡ Some e =
-        ap (λ (n : ℕ). call_effect r count n (slots f.stack.cells)) s.count
-        ∙ ap (call_effect r count (s.shape.pending + s.others)) (slots_are f.stack.cells ∙ s.carries.cells) ∙ more.fits in
+    ap (λ (n : ℕ). call_effect r count n (slots f.stack.cells)) s.count
+    ∙ ap (call_effect r count (s.shape.pending + s.others)) (slots_are f.stack.cells ∙ s.carries.cells) ∙ more.fits in
     let t = L.calls r count f.stack.cells f.pending e here in
     let known : (tables f.script).at s.entry (next_place f.place (ops.Action number count))
-        ≡ Some (record s.shape { cells = after_effect e s.shape.cells; pending = s.shape.pending - action_count r.params }) = leads ∙ ap Some (sym m.2) in
+    ≡ Some (record s.shape { cells = after_effect e s.shape.cells; pending = s.shape.pending - action_count r.params }) = leads ∙ ap Some (sym m.2) in
     let behind = behind_safe L scripts tables f s r number count e t.taken m.1 t.pending_left more.enough known in
     let shift : map Typed (result_types r.result) ++ outlines t.taken.cells ≡ outlines_after e (outlines f.stack.cells) =
-        ap (λ (ts : List Ty). map Typed ts ++ outlines t.taken.cells) (sym t.pushes) ∙ ap (λ (os : List Outline). map Typed e.pushes ++ os) t.cells_left in
+    ap (λ (ts : List Ty). map Typed ts ++ outlines t.taken.cells) (sym t.pushes) ∙ ap (λ (os : List Outline). map Typed e.pushes ++ os) t.cells_left in
     subst (λ (x : Option Routine). ActsSafely header scripts tables (option_and_then (λ (r : Routine).
     option_and_then (asked number count r f) (arguments r count f.stack.cells f.pending)) x)) (sym o.1)
     (subst (λ (x : Option Taken). ActsSafely header scripts tables (option_and_then (asked number count r f) x)) (sym t.are)

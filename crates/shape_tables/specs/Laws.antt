@@ -11,7 +11,7 @@ use Rattle.stack_shape.specs.Calls.{argument_types}
 use Rattle.machine_step.specs.Cells.{value_types}
 use Rattle.machine_step.specs.Calls.{is_execute_script}
 use Rattle.machine_step.specs.Frames.{Frame, started, continued}
-use Rattle.machine_step.specs.Machine.{Script, Answered, Host, State, step}
+use Rattle.machine_step.specs.Machine.{Script, Host, State, step}
 use Rattle.machine_step.specs.Runs.{Ran, StackFault, run, run_script, run_stored}
 use Rattle.shape_tables.specs.Rules.{MeetsRules}
 use Rattle.shape_tables.specs.Fits.{Tables, IsListed, FitsOne, FitsAction}
@@ -38,23 +38,23 @@ HasType Void (Some v) = ⊥
 HasType t None = ⊥
 HasType t (Some v) = type_of v ≡ t
 
-pub record IsGoodAnswer {W : Type 0} (P : W → Type 0) (r : Routine) (a : Answered W) : Type 0 where
-  pub value : HasType r.result a.value
-  pub world : P a.world
+-- The worlds to which scripts can lead from one: by engine calls, whose arguments have their types and whose action fits, and by the
+-- lines of scripts that don't run.
+pub data IsReached {W : Type 0} (host : Host W) (tables : Tables) (first : W) : W → Type 0 where
+  Unchanged : IsReached host tables first first
+  ByCall : (number caller : ℕ) (r : Routine) (values : List Value) (action : Option Saved) (world : W) → slice_get host.table.routines number ≡ Some r
+      → value_types values ≡ argument_types r.params → FitsAction host.scripts tables action → IsReached host tables first world
+      → IsReached host tables first (host.engine number caller values action world).world
+  ByMissing : (target : ℕ) (name : List ℕ) (world : W) → IsReached host tables first world → IsReached host tables first (host.no_script target name world)
+  ByDepth : (target : ℕ) (name : List ℕ) (world : W) → IsReached host tables first world → IsReached host tables first (host.too_deep target name world)
 
--- The engine's answers have their routines' types where the arguments have theirs and the action fits, and what holds of the
--- world is kept.
-pub record KeepsWorld {W : Type 0} (host : Host W) (tables : Tables) (P : W → Type 0) : Type 0 where
-  pub engine : (number caller : ℕ) (r : Routine) (values : List Value) (action : Option Saved) (world : W) → slice_get host.table.routines number ≡ Some r
-      → value_types values ≡ argument_types r.params → FitsAction host.scripts tables action → P world
-      → IsGoodAnswer P r (host.engine number caller values action world)
-  pub no_script : (target : ℕ) (name : List ℕ) (world : W) → P world → P (host.no_script target name world)
-  pub too_deep : (target : ℕ) (name : List ℕ) (world : W) → P world → P (host.too_deep target name world)
-
-pub record IsWellStackedHost {W : Type 0} (host : Host W) (tables : Tables) (P : W → Type 0) : Type 0 where
+-- Every script is well stacked, and in each world that is reached a call's answer has its routine's type.
+pub record IsWellStackedHost {W : Type 0} (host : Host W) (tables : Tables) (first : W) : Type 0 where
   pub scripts : AllMeet host.table host.scripts tables
   pub execute : TypesExecuteScript host.table
-  pub world : KeepsWorld host tables P
+  pub typed : (number caller : ℕ) (r : Routine) (values : List Value) (action : Option Saved) (world : W) → slice_get host.table.routines number ≡ Some r
+      → value_types values ≡ argument_types r.params → FitsAction host.scripts tables action → IsReached host tables first world
+      → HasType r.result (host.engine number caller values action world).value
 
 -- ---- the laws
 
@@ -68,24 +68,24 @@ ContinuesSafely = (scripts : List Script) (tables : Tables) (saved : Saved) (sel
     → IsSafeFrame scripts tables (continued saved self)
 
 -- from a safe state a step is taken, and leads to a safe state
-abbrev pub StepsSafely : Type 0 → Type 1
-StepsSafely W = (host : Host W) (tables : Tables) (P : W → Type 0) (s : State W) → IsWellStackedHost host tables P → IsSafe host.scripts tables P s
-    → GoesSafely host.scripts tables P (step host s)
+abbrev pub StepsSafely : Type 0 → Type 0
+StepsSafely W = (host : Host W) (tables : Tables) (first : W) (s : State W) → IsWellStackedHost host tables first
+    → IsSafe host.scripts tables (IsReached host tables first) s → GoesSafely host.scripts tables (IsReached host tables first) (step host s)
 
--- a run has no stack fault, and what holds of the world is kept
-pub record IsSoundRun {W : Type 0} (P : W → Type 0) (r : Ran W) : Type 0 where
+-- a run has no stack fault, and its last world is one that is reached
+pub record IsSoundRun {W : Type 0} (Reached : W → Type 0) (r : Ran W) : Type 0 where
   pub no_fault : r.ending ≢ StackFault
-  pub world : P r.last.world
+  pub world : Reached r.last.world
 
-abbrev pub RunsSafely : Type 0 → Type 1
-RunsSafely W = (host : Host W) (tables : Tables) (P : W → Type 0) (limit : ℕ) (s : State W) → IsWellStackedHost host tables P
-    → IsSafe host.scripts tables P s → IsSoundRun P (run host limit s)
+abbrev pub RunsSafely : Type 0 → Type 0
+RunsSafely W = (host : Host W) (tables : Tables) (first : W) (limit : ℕ) (s : State W) → IsWellStackedHost host tables first
+    → IsSafe host.scripts tables (IsReached host tables first) s → IsSoundRun (IsReached host tables first) (run host limit s)
 
--- an entry that begins with a listed script, and one that begins with a state that fits
-abbrev pub ScriptsAreSound : Type 0 → Type 1
-ScriptsAreSound W = (host : Host W) (tables : Tables) (P : W → Type 0) (limit number self : ℕ) (world : W) → IsWellStackedHost host tables P
-    → IsListed host.scripts number → P world → IsSoundRun P (run_script host limit number self world)
+-- An entry that begins with a listed script, and one that begins with a state that fits, whatever ran before.
+abbrev pub ScriptsAreSound : Type 0 → Type 0
+ScriptsAreSound W = (host : Host W) (tables : Tables) (first : W) (limit number self : ℕ) (world : W) → IsWellStackedHost host tables first
+    → IsListed host.scripts number → IsReached host tables first world → IsSoundRun (IsReached host tables first) (run_script host limit number self world)
 
-abbrev pub StatesAreSound : Type 0 → Type 1
-StatesAreSound W = (host : Host W) (tables : Tables) (P : W → Type 0) (limit : ℕ) (saved : Saved) (self : ℕ) (world : W) → IsWellStackedHost host tables P
-    → FitsOne host.scripts tables saved → P world → IsSoundRun P (run_stored host limit saved self world)
+abbrev pub StatesAreSound : Type 0 → Type 0
+StatesAreSound W = (host : Host W) (tables : Tables) (first : W) (limit : ℕ) (saved : Saved) (self : ℕ) (world : W) → IsWellStackedHost host tables first
+    → FitsOne host.scripts tables saved → IsReached host tables first world → IsSoundRun (IsReached host tables first) (run_stored host limit saved self world)

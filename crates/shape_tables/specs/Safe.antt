@@ -106,15 +106,15 @@ abbrev pub AreSafeFrames : List Script → Tables → List Frame → Type 0
 AreSafeFrames scripts tables [] = Unit {0}
 AreSafeFrames scripts tables (f ∷ fs) = IsSafeFrame scripts tables f × AreSafeFrames scripts tables fs
 
--- every frame is safe, and so much holds of the world
-pub record IsSafe {W : Type 0} (scripts : List Script) (tables : Tables) (P : W → Type 0) (s : State W) : Type 0 where
+-- every frame is safe, and the world is one of these
+pub record IsSafe {W : Type 0} (scripts : List Script) (tables : Tables) (Reached : W → Type 0) (s : State W) : Type 0 where
   pub running : IsSafeFrame scripts tables s.running
   pub waiting : AreSafeFrames scripts tables s.waiting
-  pub world : P s.world
+  pub world : Reached s.world
 
 -- a step that was taken, to a safe state if the entry goes on
 abbrev pub GoesSafely : {W : Type 0} → List Script → Tables → (W → Type 0) → Option (Next W) → Type 0
-GoesSafely scripts tables P None = ⊥
-GoesSafely scripts tables P (Some (Goes s)) = IsSafe scripts tables P s
-GoesSafely scripts tables P (Some Ends) = Unit {0}
-GoesSafely scripts tables P (Some Divided) = Unit {0}
+GoesSafely scripts tables Reached None = ⊥
+GoesSafely scripts tables Reached (Some (Goes s)) = IsSafe scripts tables Reached s
+GoesSafely scripts tables Reached (Some Ends) = Unit {0}
+GoesSafely scripts tables Reached (Some Divided) = Unit {0}
