@@ -1,20 +1,17 @@
 -- How entries begin.
-use Rattle.std.proofs.Common.{arith, ◌≡◌, ◌≤◌, ◌+◌, ◌-◌, ℕ, zero, suc, List, [], ◌∷◌, ◌++◌, length, map, drop, reverse, Option, Some, None, sym, subst, ◌∙◌, ap, refl, append-nil, zero-add}
-use Rattle.std.proofs.lemmas.List.{append_assoc, length-map, length-reverse, append_cancel_right}
+use Rattle.std.proofs.Common.{arith, ◌≡◌, ◌-◌, ℕ, zero, suc, List, [], ◌∷◌, ◌++◌, length, map, drop, reverse, sym, subst, ◌∙◌, ap, refl, append-nil}
+use Rattle.std.proofs.lemmas.List.{length-map, length-reverse}
 use Rattle.nwq_value.specs.declared.value.Ty.{Ty}
 use Rattle.saved_state.specs.declared.cell.Cell.{Cell}
 use Rattle.saved_state.specs.declared.cell.Cell.TheVariants.{Value as Holds, Base}
 use Rattle.saved_state.specs.declared.saved.Saved.{Saved}
-use Rattle.saved_state.specs.Cells.{StackView, cells_beneath, resumed}
+use Rattle.saved_state.specs.Cells.{resumed}
 use Rattle.stack_shape.specs.declared.shape.Slot.{Slot}
 use Rattle.stack_shape.specs.declared.shape.Slot.TheVariants.{Of, Base as BaseSlot}
-use Rattle.stack_shape.specs.declared.shape.Entry.TheVariants.{Start, Called, Stored}
-use Rattle.stack_shape.specs.Stored.{TopShape, stored_shape}
-use Rattle.machine_step.specs.Outlines.{Outline, Typed, Keeps, outline, outlines, slots}
-use Rattle.machine_step.specs.Frames.{Frame, continued}
-use Rattle.machine_step.specs.Machine.{Script}
-use Rattle.shape_tables.specs.Fits.{Fits, Tables, FitsOne}
-use Rattle.shape_tables.specs.Safe.{outline_slot, outline_slots, from_base, outlines_beneath, IsUnder, AreSaved, Carries, IsSafeFrame}
+use Rattle.stack_shape.specs.declared.shape.Entry.TheVariants.{Stored}
+use Rattle.stack_shape.specs.Stored.{stored_shape}
+use Rattle.machine_step.specs.Outlines.{Outline, Keeps, outline, outlines, slots}
+use Rattle.shape_tables.specs.Safe.{outline_slots, from_base, IsUnder, Carries}
 use Rattle.shape_tables.specs.Laws.{ContinuesSafely}
 use Rattle.shape_tables.proofs.StackLemmas.{slots_are}
 

@@ -1,5 +1,5 @@
 -- Small files, with tables that meet the rules, or that none meets.
-use Rattle.std.proofs.Common.{◌≡◌, ℕ, List, [], ◌∷◌, ◌++◌, Option, Some, None, Bool, true, false, pos, negsuc, refl, sym, subst, ◌∙◌, ap}
+use Rattle.std.proofs.Common.{◌≡◌, ℕ, List, [], ◌∷◌, Option, Some, None, Bool, true, false, pos, negsuc, refl, sym, subst, ap}
 use Rattle.std.specs.Prelude.{◌==◌, ◌&&◌, if◌then◌else◌}
 use Rattle.std.proofs.lemmas.Bool.Decides.{Decides-eqb}
 use Rattle.nwq_value.specs.declared.value.Ty.TheVariants.{Int}
@@ -17,7 +17,7 @@ use Rattle.stack_shape.specs.StackEffects.{stack_effect, exchange, type_of_one}
 use Rattle.stack_shape.specs.Stored.{TopShape, stored_types}
 use Rattle.stack_shape.specs.Rule.{rule}
 use Rattle.shape_tables.specs.Tables.{Callee, ShapeTable, empty_shape, first_shape}
-use Rattle.shape_tables.specs.Rules.{MeetsRules, IsSound, WellStacked}
+use Rattle.shape_tables.specs.Rules.{IsSound, WellStacked}
 
 abbrev no_header : EngineTable
 no_header = record { routines = []; constants = [] }
@@ -138,10 +138,7 @@ store_passes = (
         stands = refl;
         obeys = record { after = one_pending; has_rule = refl; leads = refl; further = record { types = record { globals = []; locals = [] }; found = refl; resumes = refl } };
       },
-      record { op = ops.Jmp (pos 8); stands = refl; obeys = record { after = one_pending; has_rule = refl; leads = refl; further = tt } },
-      record { op = ops.Retn; stands = refl; obeys = tt },
-      record { op = ops.Retn; stands = refl; obeys = tt },
-      tt,
+      (record { op = ops.Jmp (pos 8); stands = refl; obeys = record { after = one_pending; has_rule = refl; leads = refl; further = tt } }, (record { op = ops.Retn; stands = refl; obeys = tt }, (record { op = ops.Retn; stands = refl; obeys = tt }, tt))),
     );
   },
 )
@@ -189,22 +186,33 @@ recursive_passes = (
     entered = λ target callee h. begins_by target callee (target == 29) refl h;
     each = each_row recursive_code recursive_table recursive_rows (
       record { op = ops.RsAdd 0x03; stands = refl; obeys = record { after = plain ints; has_rule = refl; leads = refl; further = tt } },
-      record {
-        op = ops.Jsr (pos 14);
-        stands = refl;
-        obeys = record { callee = routine; known = refl; rest = []; cells = refl; deeper = []; under = refl; goes_on = refl };
-      },
-      record { op = ops.MovSp (negsuc 3); stands = refl; obeys = record { after = empty_shape; has_rule = refl; leads = refl; further = tt } },
-      record { op = ops.Retn; stands = refl; obeys = tt },
-      record { op = ops.CpTopSp (negsuc 3) 4; stands = refl; obeys = record { after = plain (Of Int ∷ ints); has_rule = refl; leads = refl; further = tt } },
-      record { op = ops.Jz (pos 12); stands = refl; obeys = record { after = plain ints; has_rule = refl; leads = (refl, refl); further = tt } },
-      record {
-        op = ops.Jsr (negsuc 13);
-        stands = refl;
-        obeys = record { callee = routine; known = refl; rest = []; cells = refl; deeper = []; under = refl; goes_on = refl };
-      },
-      record { op = ops.Retn; stands = refl; obeys = record { callee = routine; known = refl; given = refl; saved = refl; pending = refl } },
-      tt,
+      (
+        record {
+          op = ops.Jsr (pos 14);
+          stands = refl;
+          obeys = record { callee = routine; known = refl; rest = []; cells = refl; deeper = []; under = refl; goes_on = refl };
+        },
+        (
+          record { op = ops.MovSp (negsuc 3); stands = refl; obeys = record { after = empty_shape; has_rule = refl; leads = refl; further = tt } },
+          (
+            record { op = ops.Retn; stands = refl; obeys = tt },
+            (
+              record { op = ops.CpTopSp (negsuc 3) 4; stands = refl; obeys = record { after = plain (Of Int ∷ ints); has_rule = refl; leads = refl; further = tt } },
+              (
+                record { op = ops.Jz (pos 12); stands = refl; obeys = record { after = plain ints; has_rule = refl; leads = (refl, refl); further = tt } },
+                (
+                  record {
+                    op = ops.Jsr (negsuc 13);
+                    stands = refl;
+                    obeys = record { callee = routine; known = refl; rest = []; cells = refl; deeper = []; under = refl; goes_on = refl };
+                  },
+                  (record { op = ops.Retn; stands = refl; obeys = record { callee = routine; known = refl; given = refl; saved = refl; pending = refl } }, tt),
+                ),
+              ),
+            ),
+          ),
+        ),
+      ),
     );
   },
 )

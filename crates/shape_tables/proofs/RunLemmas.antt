@@ -1,5 +1,5 @@
 -- Steps and runs of safe states.
-use Rattle.std.proofs.Common.{◌≡◌, ◌≢◌, ℕ, zero, suc, List, [], ◌∷◌, length, slice_get, position, Option, Some, None, Bool, true, false, sym, subst, ◌∙◌, ap, refl, get_or}
+use Rattle.std.proofs.Common.{◌≡◌, ℕ, zero, suc, List, [], ◌∷◌, length, slice_get, position, Option, Some, None, Bool, true, false, sym, subst, ◌∙◌, ap, refl, get_or}
 use Rattle.std.specs.Prelude.{map, nat_lt}
 use Rattle.std.specs.Option.{option_map, option_and_then}
 use Rattle.std.proofs.lemmas.Option.{slice_get-get_or}
@@ -8,16 +8,14 @@ use Rattle.std.specs.Char.{to_ascii_lowercase}
 use Rattle.std.specs.Str.{bytes_eq}
 use Rattle.ncs_code.specs.Plain.{PlainOp}
 use Rattle.ncs_code.specs.File.{op_at}
-use Rattle.saved_state.specs.declared.saved.Saved.{Saved}
 use Rattle.machine_step.specs.Frames.{Frame, started, continued}
 use Rattle.machine_step.specs.Act.{Act, Moves, Asks, Executes, Returns, Divides, act}
-use Rattle.machine_step.specs.Machine.{Script, Answered, Host, State, Next, Goes, Ends, Divided, depth_limit, script_named, begun, executed, over, followed, next_op, step}
-use Rattle.machine_step.specs.Runs.{Ran, StackFault, after_step, run, entry}
-use Rattle.shape_tables.specs.Rules.{MeetsRules, IsSound}
-use Rattle.shape_tables.specs.Fits.{Tables, IsListed, FitsOne}
+use Rattle.machine_step.specs.Machine.{Script, Host, State, Next, Goes, Ends, Divided, depth_limit, script_named, begun, executed, over, followed, next_op, step}
+use Rattle.machine_step.specs.Runs.{Ran, after_step, run, entry}
+use Rattle.shape_tables.specs.Fits.{Tables, IsListed}
 use Rattle.shape_tables.specs.Safe.{IsSafeFrame, AreSafeFrames, IsSafe, GoesSafely}
-use Rattle.shape_tables.specs.Laws.{AllMeet, IsReached, ByCall, ByMissing, ByDepth, IsWellStackedHost, IsSoundRun, StartsSafely, ContinuesSafely, StepsSafely, RunsSafely, ScriptsAreSound, StatesAreSound}
-use Rattle.shape_tables.proofs.StepLemmas.{Lower, AsksSafely, ActsSafely, acts_safely}
+use Rattle.shape_tables.specs.Laws.{IsReached, ByCall, ByMissing, ByDepth, IsWellStackedHost, IsSoundRun, StartsSafely, ContinuesSafely, StepsSafely, RunsSafely, ScriptsAreSound, StatesAreSound}
+use Rattle.shape_tables.proofs.StepLemmas.{Lower, ActsSafely, acts_safely}
 
 -- ---- scripts that are executed
 

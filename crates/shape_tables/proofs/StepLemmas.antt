@@ -3,28 +3,26 @@ use Rattle.std.proofs.Common.{arith, ◌≡◌, ◌≤◌, ◌+◌, ◌-◌, ℕ
 use Rattle.std.specs.Prelude.{ℤ, nat_le, ◌==◌, ◌&&◌, if◌then◌else◌}
 use Rattle.std.specs.Option.{option_map, option_and_then}
 use Rattle.std.proofs.lemmas.Bool.Decides.{nat_tests}
-use Rattle.std.proofs.lemmas.List.{append_assoc, append_cancel_right, length-append, length-drop, length-map, length-reverse, reverse-reverse}
+use Rattle.std.proofs.lemmas.List.{append_assoc, append_cancel_right, length-append, length-drop, length-reverse}
 use Rattle.nwq_value.specs.declared.value.Ty.{Ty}
-use Rattle.nwq_value.specs.declared.value.Ty.TheVariants.{Void, Int as IntTy, Text as TextTy, Object as ObjectTy}
+use Rattle.nwq_value.specs.declared.value.Ty.TheVariants.{Void, Text as TextTy, Object as ObjectTy}
 use Rattle.nwq_value.specs.declared.value.Value.{Value}
-use Rattle.nwq_value.specs.declared.value.Value.TheVariants.{Int, Text, Object, Effect, Event}
+use Rattle.nwq_value.specs.declared.value.Value.TheVariants.{Text, Object}
 use Rattle.nwq_value.specs.declared.engine.Routine.{Routine}
 use Rattle.nwq_value.specs.Engine.{EngineTable}
-use Rattle.nwq_value.specs.Values.{type_of}
 use Rattle.ncs_code.specs.Plain.{PlainOp}
 use Rattle.ncs_code.specs.Plain as ops
 use Rattle.ncs_code.specs.File.{jump_place, resume_place}
 use Rattle.saved_state.specs.declared.cell.Cell.{Cell}
 use Rattle.saved_state.specs.declared.cell.Cell.TheVariants.{Value as Holds, Base}
 use Rattle.saved_state.specs.declared.saved.Saved.{Saved}
-use Rattle.saved_state.specs.Cells.{StackView, cells_beneath, resumed}
+use Rattle.saved_state.specs.Cells.{cells_beneath}
 use Rattle.stack_shape.specs.declared.shape.Slot.{Slot}
-use Rattle.stack_shape.specs.declared.shape.Slot.TheVariants.{Of, Base as BaseSlot}
+use Rattle.stack_shape.specs.declared.shape.Slot.TheVariants.{Of}
 use Rattle.stack_shape.specs.declared.shape.Entry.{Entry}
 use Rattle.stack_shape.specs.declared.shape.Entry.TheVariants.{Start, Called, Stored}
 use Rattle.stack_shape.specs.declared.effect.StackEffect.{StackEffect}
 use Rattle.stack_shape.specs.declared.store.StoredTypes.{StoredTypes}
-use Rattle.stack_shape.specs.TopFirst.{types_on}
 use Rattle.stack_shape.specs.StackEffects.{after_effect, stack_effect, exchange}
 use Rattle.stack_shape.specs.Calls.{action_count, argument_types, result_types, is_callable, fits_call, call_effect}
 use Rattle.stack_shape.specs.Stored.{TopShape, stored_types, stored_shape}
@@ -38,14 +36,14 @@ use Rattle.machine_step.specs.Act.{Act, Moves, Asks, Executes, Returns, Divides,
 use Rattle.machine_step.specs.Act as machine
 use Rattle.machine_step.specs.Machine.{Script, with_answer}
 use Rattle.machine_step.specs.Outlines.{Outline, Typed, Keeps, outline, outlines, slots, slots_under, outlines_after}
-use Rattle.machine_step.specs.Laws.{HasEffect, EffectsAreFollowed, TakesArguments, CallsAreFollowed, CapturesTypes, StoresAreFollowed}
+use Rattle.machine_step.specs.Laws.{EffectsAreFollowed, CallsAreFollowed, CapturesTypes, StoresAreFollowed}
 use Rattle.shape_tables.specs.Tables.{Callee, ShapeTable, first_shape}
 use Rattle.shape_tables.specs.Rules.{GoesOn, MayCall, MayReturn, Leads, MayStore, Follows, Obeys, MeetsRules}
 use Rattle.shape_tables.specs.Rules as owed
-use Rattle.shape_tables.specs.Fits.{Fits, Tables, IsListed, FitsOne, FitsAction}
-use Rattle.shape_tables.specs.Safe.{outline_slot, outline_slots, from_base, outlines_beneath, IsUnder, AreSaved, Carries, Waits, AreWaiting, AllFit, IsSafeFrame}
-use Rattle.shape_tables.specs.Laws.{RunsScripts, TypesExecuteScript, HasType}
-use Rattle.shape_tables.proofs.StackLemmas.{on_map, on_then, some_is, slots_are, deep_is, under_is, carries_on, base_carries, Restores, restores}
+use Rattle.shape_tables.specs.Fits.{Tables, IsListed, FitsOne, FitsAction}
+use Rattle.shape_tables.specs.Safe.{outline_slots, from_base, IsUnder, AreSaved, Carries, Waits, AreWaiting, AllFit, IsSafeFrame}
+use Rattle.shape_tables.specs.Laws.{TypesExecuteScript, HasType}
+use Rattle.shape_tables.proofs.StackLemmas.{on_map, on_then, some_is, slots_are, deep_is, under_is, carries_on, base_carries, restores}
 
 -- the laws of the rules and of the machine
 pub record Lower : Type 0 where

@@ -10,7 +10,7 @@ use Rattle.saved_state.specs.declared.saved.Saved.{Saved}
 use Rattle.stack_shape.specs.Calls.{argument_types}
 use Rattle.machine_step.specs.Cells.{value_types}
 use Rattle.machine_step.specs.Calls.{is_execute_script}
-use Rattle.machine_step.specs.Frames.{Frame, started, continued}
+use Rattle.machine_step.specs.Frames.{started, continued}
 use Rattle.machine_step.specs.Machine.{Script, Host, State, step}
 use Rattle.machine_step.specs.Runs.{Ran, StackFault, run, run_script, run_stored}
 use Rattle.shape_tables.specs.Rules.{MeetsRules}
