@@ -1,0 +1,5 @@
+mod EntryLemmas
+mod Rows
+mod RunLemmas
+mod StackLemmas
+mod StepLemmas
