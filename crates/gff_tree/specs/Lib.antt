@@ -1,5 +1,7 @@
 pub mod Label
 pub mod Tree
+pub mod Fields
+pub mod Count
 pub mod Whole
 pub mod Rows
 pub mod Walk

@@ -9,6 +9,8 @@ mod budget;
 mod fault;
 mod kind;
 mod label;
+mod laws;
+mod node;
 mod reading;
 mod row;
 mod scalar;
@@ -18,7 +20,8 @@ mod walk;
 pub use budget::TREE_BYTES;
 pub use fault::TreeFault;
 pub use label::{LABEL_BYTES, Label};
-pub use reading::{one_tree, read};
+pub use laws::{fields_tell, one_tree};
+pub use reading::read;
 pub use tree::{Blob, Field, Gff, Leaf, Loc, LocPart, Node, Parts};
 
 #[cfg(test)]

@@ -6,7 +6,7 @@ ghost use Rattle.gff_tree.specs.Label.{label_text};
 ghost use Rattle.gff_tree.specs.Rows.{Gives, PlainRow, placed, words_from, plain_shape, plain_row, shape_for, has_label, row_for, field_number, rows_from, rows_of};
 ghost use Rattle.gff_tree.specs.Used.{HasLabels, AddsLabel};
 
-use crate::budget::{FIELD_BYTES, charge, data_bytes};
+use crate::budget::{WORD_BYTES, charge, charge_field, data_bytes};
 use crate::fault::TreeFault;
 use crate::kind::Kind;
 use crate::label::{Label, before_zero};
@@ -56,7 +56,7 @@ fn read_words(
     let mut at = place;
     for _done in 0..count {
         let word = list_word(view, at)?;
-        charge(left, 4)?;
+        charge(left, WORD_BYTES)?;
         words.push(word)?;
         at += 4;
     }
@@ -74,6 +74,7 @@ fn list_shape(
     ensures { Gives plain_shape result (shape_for view.now field Kind.List word) }
 {
     let count = list_word(view, word)?;
+    charge(left, WORD_BYTES)?;
     Ok(Shape::Many(read_words(alloc, view, word + 4, count, left)?))
 }
 
@@ -172,7 +173,7 @@ pub fn read_rows(
     for i in 0..entry.count {
         let field = number(view, entry, i)?;
         let next = read_row(alloc, view, &mut used, field, left)?;
-        charge(left, FIELD_BYTES)?;
+        charge_field(left, entry.count > 1)?;
         rows.push(next)?;
     }
     Ok(rows)

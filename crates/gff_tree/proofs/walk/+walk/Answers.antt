@@ -27,7 +27,7 @@ read_node-returns-in_err-fields t c =
 pub read_node-returns : goal.read_node-returns
 read_node-returns t c =
     node_made c.args.depth c.args.view.now c.args.n c.args.marks.now _ c.in_ok-entry.entry (map plain_row c.in_ok-rows.rows.items) (fields_list c.in_ok-fields.fields.items) _
-    c.in_ok-entry.ensures.row c.in_ok-rows.ensures c.in_ok-fields.ensures c.node_of.ensures
+    c.in_ok-entry.ensures.row c.in_ok-rows.ensures c.in_ok-fields.ensures c.new.ensures.node
 
 pub read_fields-loop-row-preserved : goal.read_fields-loop-row-preserved
 read_fields-loop-row-preserved t c =
