@@ -6,7 +6,7 @@ use Rattle.gff_tree.specs.declared.tree.Field.{Field}
 use Rattle.gff_tree.specs.declared.tree.Node.{Node, out-Node, roll-Node, roll-out-Node, Row_of-Field, end_of-Field, more_of-Field, items-the_row-Field}
 use Rattle.gff_tree.specs.declared.tree.Leaf.{Leaf, Row_of-Node, end_of-Node, more_of-Node, items-the_row-Node}
 use Rattle.gff_tree.specs.declared.tree.Leaf.TheViews as views
-use Rattle.gff_tree.specs.Fields.{fields_of, list_in}
+use Rattle.gff_tree.specs.Fields.{kind_of, fields_of, node_from, list_in}
 use Rattle.gff_tree.proofs.FieldLaws.{from_in_fields, from_in_nodes}
 use Rattle.gff_tree.specs.Tree.{Struct, MoreFields, Children, MoreNodes, plain_node, plain_fields, plain_leaf, plain_nodes, plain_field, fields_list, nodes_list}
 
@@ -34,6 +34,11 @@ pub fields_out : (node : Node) (fields : List Field) → fields ≡ (out-Node no
 fields_out node fields are =
     ap (map plain_field) are
     ∙ (sym (from_in_fields (map plain_field (out-Node node).fields.items)) ∙ sym (ap fields_of (plain_node_out node)))
+
+pub node_out : (node : Node) (fields : List Field) → fields ≡ (out-Node node).fields.items → plain_node node ≡ node_from (kind_of (plain_node node)) (map plain_field fields)
+node_out node fields are =
+    let kind : (out-Node node).kind ≡ kind_of (plain_node node) = sym (ap kind_of (plain_node_out node)) in
+    plain_node_out node ∙ (ap (λ (k : ℕ). node_from k (map plain_field (out-Node node).fields.items)) kind ∙ ap (λ (fs : List Field). node_from (kind_of (plain_node node)) (map plain_field fs)) (sym are))
 
 pub nodes_of_list : (leaf : Leaf) (nodes : Vec Node Global) (items : List Node) → leaf ≡ views.List nodes → items ≡ nodes.items → list_in (plain_leaf leaf) ≡ Some (map plain_node items)
 nodes_of_list leaf nodes items is are =

@@ -8,6 +8,13 @@ use Rattle.gff_tree.specs.declared.tree.Leaf.{Leaf, Row_of-Node, end_of-Node, mo
 use Rattle.gff_tree.specs.declared.tree.Field.{Field}
 use Rattle.gff_tree.specs.declared.tree.Node.{Node, Node', Row_of-Field, end_of-Field, more_of-Field}
 
+-- how deep a struct may be, the top being 1 deep, and how many bytes the name of a resource may have
+abbrev pub depth_limit : ℕ
+depth_limit = 64
+
+abbrev pub resource_limit : ℕ
+resource_limit = 16
+
 -- what a field holds that holds no struct; a float is the list of its bytes
 pub data Scalar : Type 0 where
   Byte : ℕ → Scalar
@@ -127,9 +134,9 @@ abbrev pub labels_of : PlainFields → List (List ℕ)
 labels_of NoField = []
 labels_of (MoreFields label holds rest) = label ∷ labels_of rest
 
--- a resource's name has at most 16 bytes
+-- a resource's name is not too long
 abbrev pub is_sound_scalar : Scalar → Bool
-is_sound_scalar (Res text) = nat_le (length text) 16
+is_sound_scalar (Res text) = nat_le (length text) resource_limit
 is_sound_scalar _ = true
 
 -- is a struct at most so deep, with distinct labels in each of its structs and no long name of a resource?
@@ -151,6 +158,6 @@ abbrev mutual
   are_sound_nodes depth NoNode = true
   are_sound_nodes depth (MoreNodes node rest) = is_sound_node depth node && are_sound_nodes depth rest
 
--- the top has depth 1, and a struct 64 at most
+-- the top has depth 1, and a struct the limit at most
 unfoldable pub is_sound : PlainNode → Bool
-is_sound top = is_sound_node 64 top
+is_sound top = is_sound_node depth_limit top

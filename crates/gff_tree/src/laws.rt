@@ -1,6 +1,7 @@
 //! Laws, each the contract of a function that does nothing.
 
 ghost use Rattle.gff_tree.specs.Fields.{ReplacedIsSound, AppendedIsSound, FoundIsSound, ListIsSound, NodeIsItsFields, FieldsAreTheNodes, ListIsItsNodes, NodesAreTheLists};
+ghost use Rattle.gff_tree.specs.Readings.{NodeReads, ListReads};
 ghost use Rattle.gff_tree.specs.Stands.{OneTree};
 
 /// Bytes stand for one tree at most.
@@ -19,4 +20,10 @@ pub fn fields_tell()
     ensures appended { AppendedIsSound }
     ensures found { FoundIsSound }
     ensures list_sound { ListIsSound }
+{}
+
+/// Nodes and lists of the program read as plain ones, field by field and item by item.
+pub fn readings_tell()
+    ensures node { NodeReads }
+    ensures list { ListReads }
 {}

@@ -46,6 +46,7 @@ impl Node {
 
     pub fn fields(&self) -> &[Field]
         ensures fields { map plain_field result.now ≡ fields_of (plain_node self.now) }
+        ensures node { plain_node self.now ≡ node_from (kind_of (plain_node self.now)) (map plain_field result.now) }
     {
         &self.fields
     }

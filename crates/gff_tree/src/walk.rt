@@ -2,7 +2,8 @@
 
 ghost use Rattle.std.specs.Prelude.{◌≡◌, ◌<◌, map, length, Ok, OnOk};
 ghost use Rattle.gff_tree.specs.Tree.{Child, plain_node, plain_leaf, fields_list, nodes_list};
-ghost use Rattle.gff_tree.specs.Rows.{Gives, plain_row, plain_shape};
+ghost use Rattle.gff_tree.specs.Rows.{Gives};
+ghost use Rattle.gff_tree.specs.Held.{plain_row, plain_shape};
 ghost use Rattle.gff_tree.specs.Walk.{struct_count, entered, node_at, fields_at, leaf_at, nodes_at};
 
 use crate::budget::{ROW_BYTES, charge};

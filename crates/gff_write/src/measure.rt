@@ -180,7 +180,7 @@ fn labels_size(top: &Node) -> u64
 /// which the file has once each, are met in the order of their bytes by one walk over the tree for each, so the
 /// time is the tree's fields times its distinct labels.
 pub fn size(tree: &Gff) -> u64
-    ensures { result ≡ min (length (written (plain_gff tree.now))) (2 ^ 64 - 1) }
+    ensures size { result ≡ min (length (written (plain_gff tree.now))) (2 ^ 64 - 1) }
 {
     let structs = plus(header_size(&tree.file_type), node_size(&tree.top));
     plus(structs, labels_size(&tree.top))

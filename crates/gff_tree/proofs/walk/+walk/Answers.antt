@@ -3,7 +3,7 @@ use Rattle.std.specs.Vec.Iter.{into_iter_items}
 use Rattle.std.proofs.lemmas.Result.{err_from_is_err_and}
 use Rattle.gff_tree.specs.declared.tree.Leaf.TheViews as views
 use Rattle.gff_tree.specs.Tree.{fields_list}
-use Rattle.gff_tree.specs.Rows.{plain_row}
+use Rattle.gff_tree.specs.Held.{plain_row}
 use Rattle.gff_tree.specs.Walk.{node_at}
 use Rattle.gff_tree.proofs.WalkLemmas.{node_refused, node_rows_fail, node_fields_fail, node_made, fields_step, nodes_step}
 use Rattle.gff_tree.proofs.walk.+walk.Goals as goal

@@ -1,0 +1,84 @@
+-- The way back: the tree that was read, with the variables that the objects have now.
+use Rattle.std.specs.Prelude.{ℕ, Bool, not, List, [], ◌∷◌, ◌++◌, map, filter, length, take, drop, codes, Option, None, Some}
+use Rattle.std.specs.List.{list_any}
+use Rattle.gff_tree.specs.Tree.{PlainNode, PlainLeaf, PlainField, Holds, Child, Children, Dword, Int, Str, nodes_in}
+use Rattle.gff_tree.specs.Whole.{PlainGff}
+use Rattle.gff_tree.specs.Fields.{kind_of, fields_of, node_from, list_from, found, replaced, appended}
+use Rattle.area_tree.specs.Variables.{Variable, IntVar, TextVar, same_variable, matching}
+use Rattle.area_tree.specs.Objects.{AreaObject, Entry, Broken, Unread, Tells, entry_of, variables_in, structs_in, list_labels}
+
+abbrev pub name_of : Variable → List ℕ
+name_of (IntVar name n) = name
+name_of (TextVar name text) = name
+
+-- the number of a variable's type in a table
+abbrev pub type_of : Variable → ℕ
+type_of (IntVar name n) = 1
+type_of (TextVar name text) = 3
+
+abbrev pub value_of : Variable → PlainLeaf
+value_of (IntVar name n) = Holds (Int n)
+value_of (TextVar name text) = Holds (Str text)
+
+-- the entry of a variable that the table didn't have
+abbrev pub new_entry : Variable → PlainNode
+new_entry v = node_from 0 (
+  record { label = codes "Name"; leaf = Holds (Str (name_of v)) }
+  ∷ record { label = codes "Type"; leaf = Holds (Dword (type_of v)) }
+  ∷ record { label = codes "Value"; leaf = value_of v } ∷ []
+)
+
+-- an entry whose variable the object still has gets its value; one whose variable the object no longer has is gone
+abbrev pub with_value : Option Variable → PlainNode → List PlainNode → List PlainNode
+with_value None entry entries = entries
+with_value (Some v) entry entries = node_from (kind_of entry) (replaced (codes "Value") (value_of v) (fields_of entry)) ∷ entries
+
+-- an entry of a type that isn't read stays
+abbrev pub entry_back : List Variable → Entry → PlainNode → List PlainNode → List PlainNode
+entry_back vars Broken entry entries = entry ∷ entries
+entry_back vars Unread entry entries = entry ∷ entries
+entry_back vars (Tells v) entry entries = with_value (matching v vars) entry entries
+
+abbrev pub entries_back : List Variable → List PlainNode → List PlainNode
+entries_back vars [] = []
+entries_back vars (entry ∷ entries) = entry_back vars (entry_of entry) entry (entries_back vars entries)
+
+-- the variables that no entry tells
+abbrev pub others : List Variable → List PlainNode → List Variable
+others vars entries = filter (λ v. not (list_any (same_variable v) (variables_in entries))) vars
+
+abbrev pub table_back : List Variable → List PlainNode → List PlainNode
+table_back vars entries = entries_back vars entries ++ map new_entry (others vars entries)
+
+-- an object without a table gets one as its last field exactly where it has variables
+abbrev pub fields_back : List Variable → Option PlainLeaf → List PlainField → List PlainField
+fields_back [] None fields = fields
+fields_back (v ∷ vars) None fields = appended (codes "VarTable") (list_from (map new_entry (v ∷ vars))) fields
+fields_back vars (Some (Holds scalar)) fields = fields
+fields_back vars (Some (Child node)) fields = fields
+fields_back vars (Some (Children entries)) fields = replaced (codes "VarTable") (list_from (table_back vars (nodes_in entries))) fields
+
+abbrev pub member_back : List Variable → PlainNode → PlainNode
+member_back vars node = node_from (kind_of node) (fields_back vars (found (codes "VarTable") (fields_of node)) (fields_of node))
+
+-- each member with the variables of its object
+abbrev pub members_back : List AreaObject → List PlainNode → List PlainNode
+members_back [] nodes = nodes
+members_back (object ∷ objects) [] = []
+members_back (object ∷ objects) (node ∷ nodes) = member_back object.vars node ∷ members_back objects nodes
+
+abbrev pub list_back : List ℕ → List AreaObject → Option PlainLeaf → List PlainField → List PlainField
+list_back label objects None fields = fields
+list_back label objects (Some (Holds scalar)) fields = fields
+list_back label objects (Some (Child node)) fields = fields
+list_back label objects (Some (Children nodes)) fields = replaced label (list_from (members_back objects (nodes_in nodes))) fields
+
+-- the lists of these labels, whose members' objects stand one list after the other
+abbrev pub lists_back : List (List ℕ) → List AreaObject → List PlainField → List PlainField
+lists_back [] objects fields = fields
+lists_back (label ∷ labels) objects fields =
+    let members = length (structs_in (found label fields)) in
+    lists_back labels (drop members objects) (list_back label (take members objects) (found label fields) fields)
+
+abbrev pub back : PlainGff → List AreaObject → PlainGff
+back tree objects = record tree { top = node_from (kind_of tree.top) (lists_back list_labels objects (fields_of tree.top)) }

@@ -1,0 +1,51 @@
+-- The local variables of an object, a list of ints and strings by type and name.
+use Rattle.std.specs.Prelude.{ℕ, ℤ, pos, Bool, false, if◌then◌else◌, List, [], ◌∷◌, Option, None, Some}
+use Rattle.std.specs.Str.{bytes_eq}
+use Rattle.area_tree.specs.declared.vars.Var.{Var}
+use Rattle.area_tree.specs.declared.vars.Var.TheVariants.{Int, Text}
+
+-- an int or a string under a name
+pub data Variable : Type 0 where
+  IntVar : List ℕ → ℤ → Variable
+  TextVar : List ℕ → List ℕ → Variable
+
+-- the variable that a caller names
+abbrev pub variable_of : Var → Variable
+variable_of (Int name n) = IntVar name.now n
+variable_of (Text name text) = TextVar name.now text.now
+
+-- is it the int of this name? Names of ints and of strings are apart.
+abbrev pub is_int : List ℕ → Variable → Bool
+is_int name (IntVar own n) = bytes_eq name own
+is_int name (TextVar own text) = false
+
+abbrev pub is_text : List ℕ → Variable → Bool
+is_text name (IntVar own n) = false
+is_text name (TextVar own text) = bytes_eq name own
+
+-- have two variables one type and name?
+abbrev pub same_variable : Variable → Variable → Bool
+same_variable (IntVar name n) other = is_int name other
+same_variable (TextVar name text) other = is_text name other
+
+-- the value of the int of a name, or 0 where there is none
+abbrev pub int_named : List ℕ → List Variable → ℤ
+int_named name [] = pos 0
+int_named name (IntVar own n ∷ vars) = if bytes_eq name own then n else int_named name vars
+int_named name (TextVar own text ∷ vars) = int_named name vars
+
+-- the string of a name, or the empty one where there is none
+abbrev pub text_named : List ℕ → List Variable → List ℕ
+text_named name [] = []
+text_named name (IntVar own n ∷ vars) = text_named name vars
+text_named name (TextVar own text ∷ vars) = if bytes_eq name own then text else text_named name vars
+
+-- the variable of the same type and name among these
+abbrev pub matching : Variable → List Variable → Option Variable
+matching v [] = None
+matching v (w ∷ vars) = if same_variable v w then Some w else matching v vars
+
+-- the variables with this one: in the place of the one of its type and name, or last where there is none
+abbrev pub put : Variable → List Variable → List Variable
+put v [] = v ∷ []
+put v (w ∷ vars) = if same_variable v w then v ∷ vars else w ∷ put v vars
