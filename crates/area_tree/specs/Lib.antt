@@ -1,6 +1,5 @@
 pub mod Variables
+pub mod Woven
 pub mod Objects
 pub mod Broken
 pub mod Back
-pub mod Area
-pub mod Laws

@@ -28,22 +28,32 @@ abbrev pub same_variable : Variable → Variable → Bool
 same_variable (IntVar name n) other = is_int name other
 same_variable (TextVar name text) other = is_text name other
 
--- the value of the int of a name, or 0 where there is none
-abbrev pub int_named : List ℕ → List Variable → ℤ
-int_named name [] = pos 0
-int_named name (IntVar own n ∷ vars) = if bytes_eq name own then n else int_named name vars
-int_named name (TextVar own text ∷ vars) = int_named name vars
+-- the first variable that passes a test
+abbrev pub first : (Variable → Bool) → List Variable → Option Variable
+first test [] = None
+first test (v ∷ vars) = if test v then Some v else first test vars
 
--- the string of a name, or the empty one where there is none
+-- the value of an int, or 0 where there is none
+abbrev pub int_in : Option Variable → ℤ
+int_in None = pos 0
+int_in (Some (IntVar name n)) = n
+int_in (Some (TextVar name text)) = pos 0
+
+abbrev pub int_named : List ℕ → List Variable → ℤ
+int_named name vars = int_in (first (is_int name) vars)
+
+-- a string, or the empty one where there is none
+abbrev pub text_in : Option Variable → List ℕ
+text_in None = []
+text_in (Some (IntVar name n)) = []
+text_in (Some (TextVar name text)) = text
+
 abbrev pub text_named : List ℕ → List Variable → List ℕ
-text_named name [] = []
-text_named name (IntVar own n ∷ vars) = text_named name vars
-text_named name (TextVar own text ∷ vars) = if bytes_eq name own then text else text_named name vars
+text_named name vars = text_in (first (is_text name) vars)
 
 -- the variable of the same type and name among these
 abbrev pub matching : Variable → List Variable → Option Variable
-matching v [] = None
-matching v (w ∷ vars) = if same_variable v w then Some w else matching v vars
+matching v vars = first (same_variable v) vars
 
 -- the variables with this one: in the place of the one of its type and name, or last where there is none
 abbrev pub put : Variable → List Variable → List Variable
