@@ -16,7 +16,7 @@ use Rattle.indexmap.specs.IndexMap.{IndexMap, insert_entry, set_value_at}
 use Rattle.indexmap.proofs.CallerLemmas.{insert_entry-new}
 use Rattle.area_tree.specs.declared.order.Place.{Place}
 use Rattle.area_tree.specs.declared.order.Place.TheVariants.{Int, Text}
-use Rattle.area_tree.specs.Variables.{Variable, IntVar, TextVar, is_int, is_text, same_variable, first, int_in, text_in, int_named, text_named, put}
+use Rattle.area_tree.specs.Variables.{Variable, IntVar, TextVar, is_int, is_text, same_variable, first, int_of, text_of, int_named, text_named, put}
 use Rattle.area_tree.specs.Woven.{same_key, int_var, text_var, woven, Fits, Numbered, is_other_int, lower_int, without_int, is_other_text, lower_text, without_text, AreKept}
 use Rattle.area_tree.proofs.VariableLaws.{apart, same_equiv, put_distinct, filter_distinct, without_first, filter_without, int_like, text_like}
 
@@ -617,21 +617,21 @@ text_set name n m i order ints texts vars view kept at same =
 
 -- ---- what is read
 
-int_looked : (name : List ℕ) (es : IntEntries) → int_in (first (is_int name) (map int_var es)) ≡ unwrap_or (lookup (has_name name) es) (pos 0)
+int_looked : (name : List ℕ) (es : IntEntries) → int_of (first (is_int name) (map int_var es)) ≡ unwrap_or (lookup (has_name name) es) (pos 0)
 int_looked name [] = refl
 int_looked name (x ∷ es) = by_test (bytes_eq name x.0.items) (int_looked name es)
   where
-    by_test : (b : Bool) → int_in (first (is_int name) (map int_var es)) ≡ unwrap_or (lookup (has_name name) es) (pos 0) →
-        int_in (cond b (Some (int_var x)) (first (is_int name) (map int_var es))) ≡ unwrap_or (cond b (Some x.1) (lookup (has_name name) es)) (pos 0)
+    by_test : (b : Bool) → int_of (first (is_int name) (map int_var es)) ≡ unwrap_or (lookup (has_name name) es) (pos 0) →
+        int_of (cond b (Some (int_var x)) (first (is_int name) (map int_var es))) ≡ unwrap_or (cond b (Some x.1) (lookup (has_name name) es)) (pos 0)
     by_test true h = refl
     by_test false h = h
 
-text_looked : (name : List ℕ) (es : TextEntries) → text_in (first (is_text name) (map text_var es)) ≡ unwrap_or (lookup (has_name name) es) []
+text_looked : (name : List ℕ) (es : TextEntries) → text_of (first (is_text name) (map text_var es)) ≡ unwrap_or (lookup (has_name name) es) []
 text_looked name [] = refl
 text_looked name (x ∷ es) = by_test (bytes_eq name x.0.items) (text_looked name es)
   where
-    by_test : (b : Bool) → text_in (first (is_text name) (map text_var es)) ≡ unwrap_or (lookup (has_name name) es) [] →
-        text_in (cond b (Some (text_var x)) (first (is_text name) (map text_var es))) ≡ unwrap_or (cond b (Some x.1) (lookup (has_name name) es)) []
+    by_test : (b : Bool) → text_of (first (is_text name) (map text_var es)) ≡ unwrap_or (lookup (has_name name) es) [] →
+        text_of (cond b (Some (text_var x)) (first (is_text name) (map text_var es))) ≡ unwrap_or (cond b (Some x.1) (lookup (has_name name) es)) []
     by_test true h = refl
     by_test false h = h
 
@@ -639,14 +639,14 @@ pub int_read : (name : List ℕ) (found : Option ℤ) (order : List Place) (ints
     AreKept order (map int_var ints) (map text_var texts) → found ≡ lookup (has_name name) ints → unwrap_or found (pos 0) ≡ int_named name vars
 int_read name found order ints texts vars view kept is =
     ap (λ (o : Option ℤ). unwrap_or o (pos 0)) is
-    ∙ (sym (int_looked name ints) ∙ (ap int_in (sym (woven_first (is_int name) order (map int_var ints) (map text_var texts) kept.fits (no_text name texts))) ∙ ap (int_named name) view))
+    ∙ (sym (int_looked name ints) ∙ (ap int_of (sym (woven_first (is_int name) order (map int_var ints) (map text_var texts) kept.fits (no_text name texts))) ∙ ap (int_named name) view))
 
 pub text_read : (name : List ℕ) (found : Option (List ℕ)) (order : List Place) (ints : IntEntries) (texts : TextEntries) (vars : List Variable) → woven order (map int_var ints) (map text_var texts) ≡ vars →
     AreKept order (map int_var ints) (map text_var texts) → found ≡ lookup (has_name name) texts → unwrap_or found [] ≡ text_named name vars
 text_read name found order ints texts vars view kept is =
     let flat = woven_flipped order (map int_var ints) (map text_var texts) in
     let one = woven_first (is_text name) (flipped order) (map text_var texts) (map int_var ints) (fits_flipped order (map int_var ints) (map text_var texts) kept.fits) (no_int name ints) in
-    ap (λ (o : Option (List ℕ)). unwrap_or o []) is ∙ (sym (text_looked name texts) ∙ (ap text_in (sym one) ∙ (ap (text_named name) flat ∙ ap (text_named name) view)))
+    ap (λ (o : Option (List ℕ)). unwrap_or o []) is ∙ (sym (text_looked name texts) ∙ (ap text_of (sym one) ∙ (ap (text_named name) flat ∙ ap (text_named name) view)))
 
 int_there : (name : List ℕ) (es : IntEntries) → list_any (is_int name) (map int_var es) ≡ is_some (lookup (has_name name) es)
 int_there name [] = refl

@@ -2,4 +2,5 @@ pub mod Variables
 pub mod Woven
 pub mod Objects
 pub mod Broken
+pub mod Reading
 pub mod Back

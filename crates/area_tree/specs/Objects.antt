@@ -1,5 +1,5 @@
 -- The objects of an area: what its GFF tree says of each.
-use Rattle.std.specs.Prelude.{ℕ, ◌==◌, if◌then◌else◌, List, [], ◌∷◌, ◌++◌, map, codes, Option, None, Some}
+use Rattle.std.specs.Prelude.{ℕ, ℤ, ◌==◌, if◌then◌else◌, List, [], ◌∷◌, ◌++◌, map, codes, Option, None, Some}
 use Rattle.gff_tree.specs.Tree.{PlainNode, PlainLeaf, PlainField, Holds, Child, Children, Dword, Int, Str, Res, nodes_in}
 use Rattle.gff_tree.specs.Fields.{fields_of, found}
 use Rattle.area_tree.specs.Variables.{Variable, IntVar, TextVar}
@@ -31,25 +31,40 @@ pub data Entry : Type 0 where
   Unread : Entry
   Tells : Variable → Entry
 
--- an int entry has a string as name and an INT as value
-abbrev pub int_entry : Option PlainLeaf → Option PlainLeaf → Entry
-int_entry (Some (Holds (Str name))) (Some (Holds (Int n))) = Tells (IntVar name n)
-int_entry _ _ = Broken
+-- the number of a DWORD field, the number of an INT field, and the text of a CExoString field
+abbrev pub dword_in : Option PlainLeaf → Option ℕ
+dword_in (Some (Holds (Dword n))) = Some n
+dword_in _ = None
 
--- a string entry has two strings
-abbrev pub text_entry : Option PlainLeaf → Option PlainLeaf → Entry
-text_entry (Some (Holds (Str name))) (Some (Holds (Str text))) = Tells (TextVar name text)
-text_entry _ _ = Broken
+abbrev pub int_in : Option PlainLeaf → Option ℤ
+int_in (Some (Holds (Int n))) = Some n
+int_in _ = None
+
+abbrev pub string_in : Option PlainLeaf → Option (List ℕ)
+string_in (Some (Holds (Str text))) = Some text
+string_in _ = None
+
+-- an int has a name and a number, a string a name and a text
+abbrev pub int_entry : Option (List ℕ) → Option ℤ → Entry
+int_entry None n = Broken
+int_entry (Some name) None = Broken
+int_entry (Some name) (Some n) = Tells (IntVar name n)
+
+abbrev pub text_entry : Option (List ℕ) → Option (List ℕ) → Entry
+text_entry None text = Broken
+text_entry (Some name) None = Broken
+text_entry (Some name) (Some text) = Tells (TextVar name text)
 
 -- an entry by its type, name and value: type 1 is an int, type 3 a string, and of another type nothing else is looked at
-abbrev pub typed_entry : Option PlainLeaf → Option PlainLeaf → Option PlainLeaf → Entry
-typed_entry (Some (Holds (Dword type))) name value =
-    if type == 1 then int_entry name value else (if type == 3 then text_entry name value else Unread)
-typed_entry _ name value = Broken
+abbrev pub typed_entry : Option ℕ → Option PlainLeaf → Option PlainLeaf → Entry
+typed_entry None name value = Broken
+typed_entry (Some type) name value =
+    if type == 1 then int_entry (string_in name) (int_in value)
+    else (if type == 3 then text_entry (string_in name) (string_in value) else Unread)
 
 abbrev pub entry_of : PlainNode → Entry
 entry_of node =
-    typed_entry (found (codes "Type") (fields_of node)) (found (codes "Name") (fields_of node)) (found (codes "Value") (fields_of node))
+    typed_entry (dword_in (found (codes "Type") (fields_of node))) (found (codes "Name") (fields_of node)) (found (codes "Value") (fields_of node))
 
 -- the variables of a table's entries, in order
 abbrev pub with_entry : Entry → List Variable → List Variable

@@ -34,22 +34,22 @@ first test [] = None
 first test (v ∷ vars) = if test v then Some v else first test vars
 
 -- the value of an int, or 0 where there is none
-abbrev pub int_in : Option Variable → ℤ
-int_in None = pos 0
-int_in (Some (IntVar name n)) = n
-int_in (Some (TextVar name text)) = pos 0
+abbrev pub int_of : Option Variable → ℤ
+int_of None = pos 0
+int_of (Some (IntVar name n)) = n
+int_of (Some (TextVar name text)) = pos 0
 
 abbrev pub int_named : List ℕ → List Variable → ℤ
-int_named name vars = int_in (first (is_int name) vars)
+int_named name vars = int_of (first (is_int name) vars)
 
 -- a string, or the empty one where there is none
-abbrev pub text_in : Option Variable → List ℕ
-text_in None = []
-text_in (Some (IntVar name n)) = []
-text_in (Some (TextVar name text)) = text
+abbrev pub text_of : Option Variable → List ℕ
+text_of None = []
+text_of (Some (IntVar name n)) = []
+text_of (Some (TextVar name text)) = text
 
 abbrev pub text_named : List ℕ → List Variable → List ℕ
-text_named name vars = text_in (first (is_text name) vars)
+text_named name vars = text_of (first (is_text name) vars)
 
 -- the variable of the same type and name among these
 abbrev pub matching : Variable → List Variable → Option Variable

@@ -7,6 +7,7 @@
 #![tactic(auto)]
 
 mod fault;
+mod object;
 mod order;
 mod vars;
 

@@ -1,12 +1,15 @@
 //! The structs of a tree by their fields. What each call says of a struct is stated over its plain tree, so that crates above
 //! need not know how a `Node` is laid out.
 
-ghost use Rattle.std.specs.Prelude.{◌≡◌, map, MatchOption, MatchResult, None, Some};
+ghost use Rattle.std.specs.Prelude.{◌≡◌, map, MatchOption, MatchResult, None, Some, OnOk, OnErr};
 ghost use Rattle.gff_tree.specs.Tree.{plain_node, plain_leaf, plain_field};
-ghost use Rattle.gff_tree.specs.Fields.{kind_of, fields_of, node_from, list_from, list_in, found};
+ghost use Rattle.gff_tree.specs.Places.{place_of};
+ghost use Rattle.gff_tree.specs.Fields.{kind_of, fields_of, node_from, list_from, list_in, found, replaced, appended};
 
 use crate::label::Label;
 use crate::tree::{Field, Leaf, Node};
+use nwq_value::NoMemory;
+use std::mem;
 
 impl Field {
     pub fn new(label: Label, leaf: Leaf) -> Field
@@ -58,6 +61,61 @@ impl Node {
             (λ leaf. found label.now (fields_of (plain_node self.now)) ≡ Some (plain_leaf leaf.now)) }
     {
         find_in(self.fields(), label)
+    }
+
+    /// Lets the first field of a label hold this, and gives back what it held; where there is none nothing changes.
+    pub fn replace(&mut self, label: &[u8], leaf: Leaf) -> Option<Leaf>
+        ensures old { MatchOption result
+            (found label.now (fields_of (plain_node self.old)) ≡ None)
+            (λ old. found label.now (fields_of (plain_node self.old)) ≡ Some (plain_leaf old)) }
+        ensures new { plain_node self.new ≡ node_from (kind_of (plain_node self.old))
+            (replaced label.now (plain_leaf leaf) (fields_of (plain_node self.old))) }
+    {
+        replace_in(&mut self.fields, label, leaf)
+    }
+
+    /// Puts a field last. After `NoMemory` it is dropped and the struct is as before.
+    pub fn append(&mut self, label: Label, leaf: Leaf) -> Result<(), NoMemory>
+        ensures ok { OnOk result (plain_node self.new ≡ node_from (kind_of (plain_node self.old))
+            (appended label (plain_leaf leaf) (fields_of (plain_node self.old)))) }
+        ensures err { OnErr result (plain_node self.new ≡ plain_node self.old) }
+    {
+        append_to(&mut self.fields, label, leaf)
+    }
+}
+
+/// Where the first field of a label stands.
+fn place_in(fields: &[Field], label: &[u8]) -> Option<usize>
+    ensures { result ≡ place_of label.now (map plain_field fields.now) }
+{
+    for (i, field) in fields.iter().enumerate() {
+        if label == field.label.bytes() {
+            return Some(i);
+        }
+    }
+    None
+}
+
+fn append_to(fields: &mut Vec<Field>, label: Label, leaf: Leaf) -> Result<(), NoMemory>
+    ensures ok { OnOk result (map plain_field fields.new.items ≡ appended label (plain_leaf leaf) (map plain_field fields.old.items)) }
+    ensures err { OnErr result (map plain_field fields.new.items ≡ map plain_field fields.old.items) }
+{
+    fields.push(Field::new(label, leaf))?;
+    Ok(())
+}
+
+fn replace_in(fields: &mut Vec<Field>, label: &[u8], leaf: Leaf) -> Option<Leaf>
+    ensures old { MatchOption result
+        (found label.now (map plain_field fields.old.items) ≡ None)
+        (λ old. found label.now (map plain_field fields.old.items) ≡ Some (plain_leaf old)) }
+    ensures new { map plain_field fields.new.items ≡ replaced label.now (plain_leaf leaf) (map plain_field fields.old.items) }
+{
+    match place_in(fields, label) {
+        Some(i) => Some(mem::replace(&mut fields[i].leaf, leaf)),
+        None => {
+            drop(leaf);
+            None
+        }
     }
 }
 

@@ -1,10 +1,12 @@
-use super::*;
+//! Files that several tests read.
+
+use byteorder::{ByteOrder, LittleEndian};
 use gff_bytes::{FILE_BYTES, View};
 use gff_tree::{Gff, read};
-use std::alloc::Global;
+use std::alloc::{AllocError, Global};
 
 /// One struct 4294967295 with a BYTE `A` of 7, as the writer has it.
-const BASE: [u8; 96] = [
+pub const BASE: [u8; 96] = [
     0x47, 0x49, 0x54, 0x20, 0x56, 0x33, 0x2e, 0x32, 56, 0, 0, 0, 1, 0, 0, 0, 68, 0, 0, 0, 1, 0, 0,
     0, 80, 0, 0, 0, 1, 0, 0, 0, 96, 0, 0, 0, 0, 0, 0, 0, 96, 0, 0, 0, 0, 0, 0, 0, 96, 0, 0, 0, 0,
     0, 0, 0, 0xff, 0xff, 0xff, 0xff, 0, 0, 0, 0, 1, 0, 0, 0, 0, 0, 0, 0, 0, 0, 0, 0, 7, 0, 0, 0,
@@ -12,7 +14,7 @@ const BASE: [u8; 96] = [
 ];
 
 /// A file with all sixteen types, nested structs and lists, its sections in another order and with gaps.
-const MOVED: [u8; 809] = [
+pub const MOVED: [u8; 809] = [
     71, 73, 84, 32, 86, 51, 46, 50, 6, 2, 0, 0, 5, 0, 0, 0, 69, 2, 0, 0, 19, 0, 0, 0, 149, 0, 0, 0,
     17, 0, 0, 0, 168, 1, 0, 0, 91, 0, 0, 0, 74, 0, 0, 0, 72, 0, 0, 0, 59, 0, 0, 0, 12, 0, 0, 0,
     238, 238, 238, 2, 0, 0, 0, 2, 0, 0, 0, 4, 0, 0, 0, 238, 238, 238, 0, 0, 0, 0, 1, 0, 0, 0, 2, 0,
@@ -46,7 +48,7 @@ const MOVED: [u8; 809] = [
 ];
 
 /// The same tree as the writer has it.
-const WRITTEN: [u8; 791] = [
+pub const WRITTEN: [u8; 791] = [
     71, 73, 84, 32, 86, 51, 46, 50, 56, 0, 0, 0, 5, 0, 0, 0, 116, 0, 0, 0, 19, 0, 0, 0, 88, 1, 0,
     0, 17, 0, 0, 0, 104, 2, 0, 0, 91, 0, 0, 0, 195, 2, 0, 0, 72, 0, 0, 0, 11, 3, 0, 0, 12, 0, 0, 0,
     255, 255, 255, 255, 0, 0, 0, 0, 16, 0, 0, 0, 3, 0, 0, 0, 255, 255, 255, 255, 0, 0, 0, 0, 1, 0,
@@ -78,27 +80,24 @@ const WRITTEN: [u8; 791] = [
     2, 0, 0, 0, 2, 0, 0, 0, 4, 0, 0, 0,
 ];
 
-fn tree_of(alloc: Global, bytes: &[u8]) -> Option<Gff> {
+/// The base with the number in the four bytes from each place changed.
+pub fn changed(alloc: Global, changes: &[(usize, u32)]) -> Result<Vec<u8>, AllocError> {
+    let mut bytes = Vec::from_slice(alloc, BASE.as_slice())?;
+    for (place, n) in changes {
+        if *place < bytes.len() && bytes.len() - *place >= 4 {
+            LittleEndian::write_u32(&mut bytes[*place..], *n);
+        }
+    }
+    Ok(bytes)
+}
+
+/// The tree of a file that is one.
+pub fn tree_of(alloc: Global, bytes: &[u8]) -> Option<Gff> {
     if bytes.len() > FILE_BYTES {
         return None;
     }
     match View::open(bytes) {
         Err(_) => None,
         Ok(view) => read(alloc, &view).ok(),
-    }
-}
-
-#[test]
-fn a_tree_is_written_as_its_one_file(rt: HostRuntime) {
-    let cases: [(&[u8], &[u8]); 3] = [
-        (BASE.as_slice(), BASE.as_slice()),
-        (MOVED.as_slice(), WRITTEN.as_slice()),
-        (WRITTEN.as_slice(), WRITTEN.as_slice()),
-    ];
-    for (bytes, wanted) in cases.as_slice() {
-        let tree = tree_of(rt.alloc(), *bytes).expect(&rt, "a tree");
-        let written = write(rt.alloc(), &tree).expect(&rt, "a file");
-        assert_eq!(rt; written.as_slice(), *wanted);
-        assert_eq!(rt; size(&tree), wanted.len() as u64);
     }
 }
