@@ -1,3 +1,4 @@
 pub mod VariableLaws
 pub mod WovenLemmas
 pub mod ReadLemmas
+pub mod TagLemmas

@@ -1,5 +1,5 @@
 -- Variables by type and name: one at most of each, and what becomes of that as they are put and taken out.
-use Rattle.std.proofs.Common.{◌≡◌, ℕ, Bool, true, false, cond, not, ◌||◌, List, [], ◌∷◌, ◌++◌, filter, Option, None, Some, refl, sym, ap, ◌∙◌}
+use Rattle.std.proofs.Common.{◌≡◌, ℕ, Bool, true, false, cond, not, ◌||◌, List, [], ◌∷◌, ◌++◌, filter, is_some, Option, None, Some, refl, sym, ap, ◌∙◌}
 use Rattle.std.specs.List.{list_any, IsDistinct, AllByRecursion}
 use Rattle.std.specs.Str.{bytes_eq}
 use Rattle.std.specs.Cmp.{IsEquivalence}
@@ -129,3 +129,48 @@ pub text_like : (name : List ℕ) (w y : Variable) → is_text name w ≡ true �
 text_like name (TextVar other n) (TextVar last m) e = sym (nat_list_eq_equiv.congr name other last e)
 text_like name (TextVar other n) (IntVar last text) e = refl
 text_like name (IntVar other text) y e = absurd cc
+
+-- ---- what is found after a change
+
+first_same : (x v w : Variable) (b c d : Bool) (rest : Option Variable) → same_variable v w ≡ b → same_variable x v ≡ c → same_variable x w ≡ d → b ≡ true →
+    cond c (Some v) rest ≡ cond c (Some v) (cond d (Some w) rest)
+first_same x v w b true d rest is here there given = refl
+first_same x v w b false true rest is here there given =
+    let turned : same_variable v x ≡ same_variable w x = same_congr v w x (is ∙ given) in
+    let other : true ≡ false = sym there ∙ (same_symm x w ∙ (sym turned ∙ (same_symm v x ∙ here))) in
+    absurd cc
+first_same x v w b false false rest is here there given = refl
+
+first_other : (x v w : Variable) (b c d : Bool) (rest : Option Variable) → same_variable v w ≡ b → same_variable x v ≡ c → same_variable x w ≡ d → b ≡ false →
+    cond d (Some w) (cond c (Some v) rest) ≡ cond c (Some v) (cond d (Some w) rest)
+first_other x v w b true true rest is here there none =
+    let joined : same_variable v w ≡ true = sym (same_congr x v w here) ∙ there in
+    let other : true ≡ false = sym joined ∙ (is ∙ none) in
+    absurd cc
+first_other x v w b true false rest is here there none = refl
+first_other x v w b false true rest is here there none = refl
+first_other x v w b false false rest is here there none = refl
+
+pub matching_put : (x v : Variable) (vars : List Variable) → matching x (put v vars) ≡ cond (same_variable x v) (Some v) (matching x vars)
+matching_put x v [] = refl
+matching_put x v (w ∷ vars) = by_test (same_variable v w) refl (matching_put x v vars)
+  where
+    by_test : (b : Bool) → same_variable v w ≡ b → matching x (put v vars) ≡ cond (same_variable x v) (Some v) (matching x vars) →
+        matching x (cond b (v ∷ vars) (w ∷ put v vars)) ≡ cond (same_variable x v) (Some v) (cond (same_variable x w) (Some w) (matching x vars))
+    by_test true is more = first_same x v w true (same_variable x v) (same_variable x w) (matching x vars) is refl refl refl
+    by_test false is more =
+        ap (cond (same_variable x w) (Some w)) more
+        ∙ first_other x v w false (same_variable x v) (same_variable x w) (matching x vars) is refl refl refl
+
+pub any_put : (x v : Variable) (vars : List Variable) → list_any (same_variable x) (put v vars) ≡ (same_variable x v || list_any (same_variable x) vars)
+any_put x v vars = any_matching (put v vars) ∙ (ap is_some (matching_put x v vars) ∙ (by_test (same_variable x v) ∙ ap (λ (b : Bool). same_variable x v || b) (sym (any_matching vars))))
+  where
+    one : (b : Bool) (w : Variable) (rest : Option Variable) → (b || is_some rest) ≡ is_some (cond b (Some w) rest)
+    one true w rest = refl
+    one false w rest = refl
+    any_matching : (ws : List Variable) → list_any (same_variable x) ws ≡ is_some (matching x ws)
+    any_matching [] = refl
+    any_matching (w ∷ ws) = ap (λ (b : Bool). same_variable x w || b) (any_matching ws) ∙ one (same_variable x w) w (matching x ws)
+    by_test : (b : Bool) → is_some (cond b (Some v) (matching x vars)) ≡ (b || is_some (matching x vars))
+    by_test true = refl
+    by_test false = refl

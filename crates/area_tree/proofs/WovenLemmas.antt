@@ -460,7 +460,7 @@ int_missing : (name : List ℕ) (es : IntEntries) → list_any (is_int name) (ma
 int_missing name [] e = refl
 int_missing name (x ∷ es) e = let parts = apart (bytes_eq name x.0.items) (list_any (is_int name) (map int_var es)) e in rw parts.0 (int_missing name es parts.1)
 
-text_missing : (name : List ℕ) (es : TextEntries) → list_any (is_text name) (map text_var es) ≡ false → lookup (has_name name) es ≡ None
+pub text_missing : (name : List ℕ) (es : TextEntries) → list_any (is_text name) (map text_var es) ≡ false → lookup (has_name name) es ≡ None
 text_missing name [] e = refl
 text_missing name (x ∷ es) e = let parts = apart (bytes_eq name x.0.items) (list_any (is_text name) (map text_var es)) e in rw parts.0 (text_missing name es parts.1)
 
@@ -532,7 +532,7 @@ text_removed name i order shorter ints texts after vars view kept at gone placed
     let b = subst (λ (ts : List Variable). Left shorter (map int_var ints) ts (filter (λ v. not (is_text name v)) (woven order (map int_var ints) (map text_var texts)))) (sym (ap (map text_var) gone ∙ text_gone name texts)) a in
     subst (λ (vs : List Variable). Left shorter (map int_var ints) (map text_var after) (filter (λ v. not (is_text name v)) vs)) view b
 
-place_none : (test : Variable → Bool) (vars : List Variable) → place_of test vars ≡ None → list_any test vars ≡ false
+pub place_none : (test : Variable → Bool) (vars : List Variable) → place_of test vars ≡ None → list_any test vars ≡ false
 place_none test [] e = refl
 place_none test (v ∷ vars) e = by_test (test v) e (place_none test vars)
   where
@@ -543,7 +543,7 @@ place_none test (v ∷ vars) e = by_test (test v) e (place_none test vars)
     by_test true h more = absurd cc
     by_test false h more = more (absent (place_of test vars) h)
 
-place_some : (test : Variable → Bool) (vars : List Variable) (i : ℕ) → place_of test vars ≡ Some i → list_any test vars ≡ true
+pub place_some : (test : Variable → Bool) (vars : List Variable) (i : ℕ) → place_of test vars ≡ Some i → list_any test vars ≡ true
 place_some test [] i e = absurd cc
 place_some test (v ∷ vars) i e = by_test (test v) e (place_some test vars)
   where
@@ -580,7 +580,7 @@ int_written name n i (x ∷ es) e = by_test (bytes_eq name x.0.items) refl e (λ
         let place = later_place i (place_of (is_int name) (map int_var es)) h in
         subst (λ (k : ℕ). map int_var (set_value_at (x ∷ es) k n) ≡ int_var x ∷ put (IntVar name n) (map int_var es)) (sym place.2) (ap (λ (vs : List Variable). int_var x ∷ vs) (more place.0 place.1))
 
-text_written : (name n : List ℕ) (i : ℕ) (es : TextEntries) → place_of (is_text name) (map text_var es) ≡ Some i → map text_var (set_value_at es i n) ≡ put (TextVar name n) (map text_var es)
+pub text_written : (name n : List ℕ) (i : ℕ) (es : TextEntries) → place_of (is_text name) (map text_var es) ≡ Some i → map text_var (set_value_at es i n) ≡ put (TextVar name n) (map text_var es)
 text_written name n i [] e = absurd cc
 text_written name n i (x ∷ es) e = by_test (bytes_eq name x.0.items) refl e (λ j. text_written name n j es)
   where
@@ -626,7 +626,7 @@ int_looked name (x ∷ es) = by_test (bytes_eq name x.0.items) (int_looked name 
     by_test true h = refl
     by_test false h = h
 
-text_looked : (name : List ℕ) (es : TextEntries) → text_of (first (is_text name) (map text_var es)) ≡ unwrap_or (lookup (has_name name) es) []
+pub text_looked : (name : List ℕ) (es : TextEntries) → text_of (first (is_text name) (map text_var es)) ≡ unwrap_or (lookup (has_name name) es) []
 text_looked name [] = refl
 text_looked name (x ∷ es) = by_test (bytes_eq name x.0.items) (text_looked name es)
   where

@@ -1,5 +1,5 @@
 -- The way back: the tree that was read, with the variables that the objects have now.
-use Rattle.std.specs.Prelude.{ℕ, Bool, not, List, [], ◌∷◌, ◌++◌, map, filter, length, take, drop, codes, Option, None, Some}
+use Rattle.std.specs.Prelude.{ℕ, Bool, true, not, List, [], ◌∷◌, ◌++◌, map, filter, length, take, drop, codes, Option, None, Some}
 use Rattle.std.specs.List.{list_any}
 use Rattle.gff_tree.specs.Tree.{PlainNode, PlainLeaf, PlainField, Holds, Child, Children, Dword, Int, Str, nodes_in}
 use Rattle.gff_tree.specs.Whole.{PlainGff}
@@ -28,20 +28,31 @@ new_entry v = node_from 0 (
   ∷ record { label = codes "Value"; leaf = value_of v } ∷ []
 )
 
--- an entry whose variable the object still has gets its value; one whose variable the object no longer has is gone
-abbrev pub with_value : Option Variable → PlainNode → List PlainNode → List PlainNode
-with_value None entry entries = entries
-with_value (Some v) entry entries = node_from (kind_of entry) (replaced (codes "Value") (value_of v) (fields_of entry)) ∷ entries
+-- an entry stays, unless it is that of a variable that the object no longer has
+abbrev pub stays : List Variable → Entry → Bool
+stays vars Broken = true
+stays vars Unread = true
+stays vars (Tells v) = list_any (same_variable v) vars
 
--- an entry of a type that isn't read stays
-abbrev pub entry_back : List Variable → Entry → PlainNode → List PlainNode → List PlainNode
-entry_back vars Broken entry entries = entry ∷ entries
-entry_back vars Unread entry entries = entry ∷ entries
-entry_back vars (Tells v) entry entries = with_value (matching v vars) entry entries
+abbrev pub is_kept : List Variable → PlainNode → Bool
+is_kept vars entry = stays vars (entry_of entry)
+
+-- the variable that an entry of its type and name tells
+abbrev pub variable_for : List Variable → Entry → Option Variable
+variable_for vars Broken = None
+variable_for vars Unread = None
+variable_for vars (Tells v) = matching v vars
+
+abbrev pub with_value : Option Variable → PlainNode → PlainNode
+with_value None entry = entry
+with_value (Some v) entry = node_from (kind_of entry) (replaced (codes "Value") (value_of v) (fields_of entry))
+
+-- an entry with the value that its variable has now
+abbrev pub valued : List Variable → PlainNode → PlainNode
+valued vars entry = with_value (variable_for vars (entry_of entry)) entry
 
 abbrev pub entries_back : List Variable → List PlainNode → List PlainNode
-entries_back vars [] = []
-entries_back vars (entry ∷ entries) = entry_back vars (entry_of entry) entry (entries_back vars entries)
+entries_back vars entries = map (valued vars) (filter (is_kept vars) entries)
 
 -- the variables that no entry tells
 abbrev pub others : List Variable → List PlainNode → List Variable
@@ -53,7 +64,7 @@ table_back vars entries = entries_back vars entries ++ map new_entry (others var
 -- an object without a table gets one as its last field exactly where it has variables
 abbrev pub fields_back : List Variable → Option PlainLeaf → List PlainField → List PlainField
 fields_back [] None fields = fields
-fields_back (v ∷ vars) None fields = appended (codes "VarTable") (list_from (map new_entry (v ∷ vars))) fields
+fields_back (v ∷ vars) None fields = appended (codes "VarTable") (list_from (table_back (v ∷ vars) [])) fields
 fields_back vars (Some (Holds scalar)) fields = fields
 fields_back vars (Some (Child node)) fields = fields
 fields_back vars (Some (Children entries)) fields = replaced (codes "VarTable") (list_from (table_back vars (nodes_in entries))) fields

@@ -4,3 +4,5 @@ pub mod Objects
 pub mod Broken
 pub mod Reading
 pub mod Back
+pub mod Area
+pub mod Index

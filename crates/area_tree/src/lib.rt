@@ -9,6 +9,7 @@
 mod fault;
 mod object;
 mod order;
+mod tags;
 mod vars;
 
 pub use fault::AreaFault;

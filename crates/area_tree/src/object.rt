@@ -1,11 +1,12 @@
 //! The objects as they are read from a tree, and its first broken place.
 
-ghost use Rattle.std.specs.Prelude.{◌≡◌, ◌<◌, ◌+◌, ◌++◌, ◌∷◌, [], map, drop, codes, length, OnOk, IfOk, IfErr};
+ghost use Rattle.std.specs.Prelude.{◌≡◌, ◌<◌, ◌+◌, ◌++◌, ◌∷◌, [], map, filter, not, drop, codes, length, OnOk, OnErr, IfOk, IfErr};
 ghost use Rattle.std.specs.Option.{option_map};
 ghost use Rattle.gff_tree.specs.Tree.{plain_node, plain_field, nodes_list};
 ghost use Rattle.gff_tree.specs.Count.{node_count, nodes_count};
 ghost use Rattle.gff_tree.specs.Fields.{fields_of, found};
-ghost use Rattle.area_tree.specs.Variables.{variable_of};
+ghost use Rattle.area_tree.specs.Variables.{IntVar, TextVar, is_int, is_text, put, variable_of};
+ghost use Rattle.area_tree.specs.Area.{script_named};
 ghost use Rattle.area_tree.specs.Objects.{dword_in, int_in, string_in, int_entry, text_entry, entry_of, variables_in, structs_in, tag_in, with_script, scripts_in, object_of, list_labels, objects_of};
 ghost use Rattle.area_tree.specs.Broken.{IsFirst, at_member, entry_places, with_later, entries_places, tag_places, table_places, member_places, members_places, list_places, broken_places};
 ghost use Rattle.area_tree.specs.Reading.{Reads, leaf_in, leaves_count, entry_told};
@@ -16,6 +17,7 @@ use gff_tree::{Field, Leaf, Node};
 use nwq_value::{Items, NoMemory};
 use std::alloc::Global;
 use std::marker::Model;
+use std::mem;
 
 /// The name of a resource under its label.
 #[derive(Drop)]
@@ -46,6 +48,84 @@ impl Model for Object {
     ghost Value = { AreaObject };
 
     ghost view = { λ o. record { tag = o.tag; vars = o.vars; scripts = o.scripts.items } };
+}
+
+impl Object {
+    pub fn tag(&self) -> &[u8]
+        ensures tag { result.now ≡ self.now.tag }
+    {
+        self.tag.bytes()
+    }
+
+    /// The name of the resource under a label.
+    pub fn script(&self, label: &[u8]) -> &[u8]
+        ensures name { result.now ≡ script_named label.now self.now.scripts }
+    {
+        script_in(&self.scripts, label)
+    }
+
+    pub fn vars(&self) -> &Vars
+        ensures vars { result.now ≡ self.now.vars }
+    {
+        &self.vars
+    }
+
+    pub fn set_int(&mut self, name: &[u8], n: i32) -> Result<(), NoMemory>
+        ensures ok { OnOk result (self.new ≡ record self.old { vars = put (IntVar name.now n) self.old.vars }) }
+        ensures err { OnErr result (self.new ≡ self.old) }
+    {
+        self.vars.set_int(name, n)
+    }
+
+    pub fn set_text(&mut self, name: &[u8], text: &[u8]) -> Result<(), NoMemory>
+        ensures ok { OnOk result (self.new ≡ record self.old { vars = put (TextVar name.now text.now) self.old.vars }) }
+        ensures err { OnErr result (self.new ≡ self.old) }
+    {
+        self.vars.set_text(name, text)
+    }
+
+    pub fn delete_int(&mut self, name: &[u8])
+        ensures gone { self.new ≡ record self.old { vars = filter (λ v. not (is_int name.now v)) self.old.vars } }
+    {
+        self.vars.delete_int(name);
+    }
+
+    pub fn delete_text(&mut self, name: &[u8])
+        ensures gone { self.new ≡ record self.old { vars = filter (λ v. not (is_text name.now v)) self.old.vars } }
+    {
+        self.vars.delete_text(name);
+    }
+
+    pub fn put_vars(&mut self, vars: Vars)
+        ensures vars { self.new ≡ record self.old { vars = vars } }
+    {
+        drop(mem::replace(&mut self.vars, vars));
+    }
+}
+
+fn script_in<'a>(scripts: &'a [ScriptField], label: &[u8]) -> &'a [u8]
+    ensures { result.now ≡ script_named label.now scripts.now }
+{
+    for script in scripts {
+        if label == script.label() {
+            return script.name();
+        }
+    }
+    &[]
+}
+
+impl ScriptField {
+    fn label(&self) -> &[u8]
+        ensures { result.now ≡ self.now.label }
+    {
+        self.label.bytes()
+    }
+
+    fn name(&self) -> &[u8]
+        ensures { result.now ≡ self.now.name }
+    {
+        self.name.bytes()
+    }
 }
 
 /// What an entry of a table of variables tells.

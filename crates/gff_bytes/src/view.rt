@@ -168,11 +168,7 @@ impl<'a> View<'a> {
         count(self.bytes, Part::Struct)
     }
 
-    #[tactic(
-        auto,
-        unfolding(crate::specs::File::struct_row),
-        using(crate::proofs::FileLemmas::header_fits, crate::proofs::FileLemmas::struct_fits)
-    )]
+    #[tactic(auto, unfolding(crate::specs::File::struct_row), using(crate::proofs::FileLemmas::header_fits, crate::proofs::FileLemmas::struct_fits))]
     pub fn struct_at(&self, n: u32) -> Result<StructRow, Range>
         ensures row { result ≡ struct_row self.now n }
         ensures inside { OnOk result (n < count_of self.now Part.Struct) }
@@ -192,11 +188,7 @@ impl<'a> View<'a> {
         })
     }
 
-    #[tactic(
-        auto,
-        unfolding(crate::specs::File::field_row),
-        using(crate::proofs::FileLemmas::header_fits, crate::proofs::FileLemmas::field_fits)
-    )]
+    #[tactic(auto, unfolding(crate::specs::File::field_row), using(crate::proofs::FileLemmas::header_fits, crate::proofs::FileLemmas::field_fits))]
     pub fn field_at(&self, n: u32) -> Result<FieldRow, Range>
         ensures row { result ≡ field_row self.now n }
     {
@@ -216,11 +208,7 @@ impl<'a> View<'a> {
     }
 
     /// The sixteen bytes of a label, its filling included.
-    #[tactic(
-        auto,
-        unfolding(crate::specs::File::label_row),
-        using(crate::proofs::FileLemmas::header_fits, crate::proofs::FileLemmas::label_fits)
-    )]
+    #[tactic(auto, unfolding(crate::specs::File::label_row), using(crate::proofs::FileLemmas::header_fits, crate::proofs::FileLemmas::label_fits))]
     pub fn label_at(&self, n: u32) -> Result<&'a [u8], Range>
         ensures bytes { MatchResult result (λ part. label_row self.now n ≡ Ok part.now) (λ e. label_row self.now n ≡ Err e) }
         ensures length { IfOk result (λ part. length part.now ≡ 16) }
@@ -237,11 +225,7 @@ impl<'a> View<'a> {
     }
 
     /// The number at a byte offset into the field indices.
-    #[tactic(
-        auto,
-        unfolding(crate::specs::File::index_at),
-        using(crate::proofs::FileLemmas::header_fits, crate::proofs::FileLemmas::index_fits)
-    )]
+    #[tactic(auto, unfolding(crate::specs::File::index_at), using(crate::proofs::FileLemmas::header_fits, crate::proofs::FileLemmas::index_fits))]
     pub fn index_at(&self, at: u32) -> Result<u32, Range>
         ensures word { result ≡ index_at self.now at }
         ensures inside { OnOk result (at + 4 ≤ file_limit) }
@@ -257,11 +241,7 @@ impl<'a> View<'a> {
     }
 
     /// The number at a byte offset into the list indices.
-    #[tactic(
-        auto,
-        unfolding(crate::specs::File::list_word),
-        using(crate::proofs::FileLemmas::header_fits, crate::proofs::FileLemmas::list_fits)
-    )]
+    #[tactic(auto, unfolding(crate::specs::File::list_word), using(crate::proofs::FileLemmas::header_fits, crate::proofs::FileLemmas::list_fits))]
     pub fn list_word(&self, at: u32) -> Result<u32, Range>
         ensures word { result ≡ list_word self.now at }
         ensures inside { OnOk result (at + 4 ≤ file_limit) }
@@ -277,11 +257,7 @@ impl<'a> View<'a> {
     }
 
     /// So many bytes from a byte offset into the field data.
-    #[tactic(
-        auto,
-        unfolding(crate::specs::File::data_at),
-        using(crate::proofs::FileLemmas::header_fits, crate::proofs::FileLemmas::data_fits)
-    )]
+    #[tactic(auto, unfolding(crate::specs::File::data_at), using(crate::proofs::FileLemmas::header_fits, crate::proofs::FileLemmas::data_fits))]
     pub fn data_at(&self, at: u32, len: u32) -> Result<&'a [u8], Range>
         ensures bytes { MatchResult result (λ part. data_at self.now at len ≡ Ok part.now) (λ e. data_at self.now at len ≡ Err e) }
         ensures inside { OnOk result (at + len ≤ file_limit) }

@@ -140,8 +140,8 @@ replace_some label leaf items i held at is =
       lt,
       some.1 ∙ ap (λ (f : PlainField). Some f.leaf) same,
       λ new label_is leaf_is. map-set plain_field items i new
-      ∙ (ap (λ (l : List ℕ). set (map plain_field items) i (record { label = l; leaf = plain_leaf new.leaf })) (label_is ∙ ap (λ (f : PlainField). f.label) (sym same))
-      ∙ (ap (λ (h : PlainLeaf). set (map plain_field items) i (record { label = (get_or (map plain_field items) i (plain_field held)).label; leaf = h })) leaf_is ∙ some.2)),
+          ∙ (ap (λ (l : List ℕ). set (map plain_field items) i (record { label = l; leaf = plain_leaf new.leaf })) (label_is ∙ ap (λ (f : PlainField). f.label) (sym same))
+          ∙ (ap (λ (h : PlainLeaf). set (map plain_field items) i (record { label = (get_or (map plain_field items) i (plain_field held)).label; leaf = h })) leaf_is ∙ some.2)),
     )
 
 pub place_below : (label : List ℕ) (items : List Field) (i : ℕ) → place_of label (map plain_field items) ≡ Some i → i < length items

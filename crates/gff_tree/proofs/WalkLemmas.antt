@@ -1,17 +1,13 @@
 -- What the loops over the fields and the lists of a struct keep.
-use Rattle.std.proofs.Common.{◌≡◌, ℕ, zero, suc, ◌-◌, Bool, true, false, cond, get_or, List, [], ◌∷◌, ◌++◌, map, Result, Ok, Err, refl, ap, subst, ◌∙◌, arith, rules}
-use Rattle.std.specs.declared.vec.Vec.{Vec}
-use Rattle.std.specs.declared.alloc.Global.{Global}
+use Rattle.std.proofs.Common.{◌≡◌, ℕ, zero, suc, ◌-◌, Bool, true, false, cond, get_or, List, [], ◌∷◌, ◌++◌, map, Result, Ok, Err, refl, ap, subst, ◌∙◌, arith}
 use Rattle.std.specs.Prelude.{slice_set}
 use Rattle.gff_bytes.specs.declared.rows.StructRow.{StructRow}
 use Rattle.gff_bytes.specs.File.{struct_row}
 use Rattle.gff_tree.specs.declared.fault.TreeFault.{TreeFault}
 use Rattle.gff_tree.specs.declared.fault.TreeFault.TheVariants as fault
 use Rattle.gff_tree.specs.declared.tree.Field.{Field}
-use Rattle.gff_tree.specs.declared.tree.Node.{Node, roll-Node, Row_of-Field, end_of-Field, more_of-Field, items-the_row-Field}
-use Rattle.gff_tree.specs.declared.tree.Leaf.{Row_of-Node, end_of-Node, more_of-Node, items-the_row-Node}
-use Rattle.gff_tree.specs.declared.tree.Leaf.TheViews as views
-use Rattle.gff_tree.specs.Tree.{PlainNode, PlainFields, PlainNodes, Struct, MoreFields, Children, MoreNodes, plain_node, plain_fields, plain_leaf, plain_nodes, plain_field, fields_before, nodes_before, fields_list, nodes_list}
+use Rattle.gff_tree.specs.declared.tree.Node.{Node}
+use Rattle.gff_tree.specs.Tree.{PlainNode, PlainFields, PlainNodes, Struct, MoreFields, MoreNodes, plain_node, plain_leaf, plain_field, fields_before, nodes_before}
 use Rattle.gff_tree.specs.Rows.{◌>>=◌, Fails, placed, PlainRow, rows_of}
 use Rattle.gff_tree.proofs.RowLemmas.{fault_of}
 use Rattle.gff_tree.specs.Walk.{Marks, Reading, entered, node_at, leaf_at, fields_at, nodes_at}

@@ -110,7 +110,14 @@ fn labelled(
 {
     let sections = sections_of(alloc, rows, labels)?;
     let structs = rows.len() as u64;
-    joined(alloc, file_type, &sections, structs, fields, labels.len() as u64)
+    joined(
+        alloc,
+        file_type,
+        &sections,
+        structs,
+        fields,
+        labels.len() as u64,
+    )
 }
 
 /// The file of these structs.

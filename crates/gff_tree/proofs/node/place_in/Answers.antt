@@ -1,4 +1,4 @@
-use Rattle.std.proofs.Common.{map, sym, ap, subst, ◌≡◌, true, ◌∙◌}
+use Rattle.std.proofs.Common.{sym, ap, ◌≡◌, true, ◌∙◌}
 use Rattle.std.specs.Str.{bytes_eq}
 use Rattle.gff_tree.proofs.NodeLemmas.{place_here}
 use Rattle.gff_tree.proofs.node.place_in.Goals as goal
