@@ -2,23 +2,32 @@
 use Rattle.std.specs.Prelude.{◌≡◌, ◌<◌, ◌-◌, ℕ, ℤ, zero, suc, pos, negsuc, if◌then◌else◌, IsTrue, List, [], ◌∷◌, map, length, codes, slice_index}
 use Rattle.std.specs.List.{AllByRecursion, IsDistinct}
 use Rattle.std.specs.Str.{bytes_eq}
-use Rattle.gff_tree.specs.Tree.{NoField, Struct, is_sound}
-use Rattle.gff_tree.specs.Whole.{PlainGff}
+use Rattle.gff_tree.specs.declared.tree.Gff.{Gff}
+use Rattle.gff_tree.specs.Tree.{PlainNode, NoField, Struct, is_sound}
+use Rattle.gff_tree.specs.Whole.{PlainGff, plain_gff}
 use Rattle.area_tree.specs.Variables.{Variable, same_variable}
 use Rattle.area_tree.specs.Objects.{Script, AreaObject, objects_of}
 use Rattle.area_tree.specs.Broken.{broken_places}
+use Rattle.area_tree.specs.Back.{back}
 
 pub record PlainArea : Type 0 where
-  pub tree : PlainGff
+  pub tree : Gff
   pub objects : List AreaObject
 
--- the area that a tree tells
-abbrev pub area_of : PlainGff → PlainArea
-area_of tree = record { tree = tree; objects = objects_of tree.top }
+abbrev pub top_of : PlainArea → PlainNode
+top_of area = (plain_gff area.tree).top
 
--- the area without objects
-abbrev pub empty_area : PlainArea
-empty_area = record { tree = record { file_type = codes "GIT "; top = Struct 4294967295 NoField }; objects = [] }
+-- the area that a tree tells
+abbrev pub area_of : Gff → PlainArea
+area_of tree = record { tree = tree; objects = objects_of (plain_gff tree).top }
+
+-- the tree of an area without objects
+abbrev pub empty_tree : PlainGff
+empty_tree = record { file_type = codes "GIT "; top = Struct 4294967295 NoField }
+
+-- the tree on the way back
+abbrev pub tree_back : PlainArea → PlainGff
+tree_back area = back (plain_gff area.tree) area.objects
 
 -- the object at a place from 0; past the end there is none
 abbrev pub object_at : List AreaObject → ℕ → AreaObject
@@ -61,8 +70,8 @@ bare object = record object { vars = [] }
 -- what every area keeps: its tree is sound and breaks no rule, its objects are the tree's but for their variables, and no two
 -- variables of an object have one type and name
 pub record IsArea (area : PlainArea) : Type 0 where
-  pub sound : IsTrue (is_sound area.tree.top)
-  pub whole : broken_places area.tree.top ≡ []
-  pub same : map bare area.objects ≡ map bare (objects_of area.tree.top)
+  pub sound : IsTrue (is_sound (top_of area))
+  pub whole : broken_places (top_of area) ≡ []
+  pub same : map bare area.objects ≡ map bare (objects_of (top_of area))
   pub distinct : AllByRecursion (λ object. IsDistinct same_variable object.vars) area.objects
   pub few : length area.objects < 4294967296

@@ -61,13 +61,17 @@ others vars entries = filter (λ v. not (list_any (same_variable v) (variables_i
 abbrev pub table_back : List Variable → List PlainNode → List PlainNode
 table_back vars entries = entries_back vars entries ++ map new_entry (others vars entries)
 
+-- a table on the way back; what is no list stays
+abbrev pub leaf_back : List Variable → PlainLeaf → PlainLeaf
+leaf_back vars (Holds scalar) = Holds scalar
+leaf_back vars (Child node) = Child node
+leaf_back vars (Children entries) = list_from (table_back vars (nodes_in entries))
+
 -- an object without a table gets one as its last field exactly where it has variables
 abbrev pub fields_back : List Variable → Option PlainLeaf → List PlainField → List PlainField
 fields_back [] None fields = fields
 fields_back (v ∷ vars) None fields = appended (codes "VarTable") (list_from (table_back (v ∷ vars) [])) fields
-fields_back vars (Some (Holds scalar)) fields = fields
-fields_back vars (Some (Child node)) fields = fields
-fields_back vars (Some (Children entries)) fields = replaced (codes "VarTable") (list_from (table_back vars (nodes_in entries))) fields
+fields_back vars (Some table) fields = replaced (codes "VarTable") (leaf_back vars table) fields
 
 abbrev pub member_back : List Variable → PlainNode → PlainNode
 member_back vars node = node_from (kind_of node) (fields_back vars (found (codes "VarTable") (fields_of node)) (fields_of node))
@@ -78,11 +82,15 @@ members_back [] nodes = nodes
 members_back (object ∷ objects) [] = []
 members_back (object ∷ objects) (node ∷ nodes) = member_back object.vars node ∷ members_back objects nodes
 
+-- a list of objects on the way back; what is no list stays
+abbrev pub objects_back : List AreaObject → PlainLeaf → PlainLeaf
+objects_back objects (Holds scalar) = Holds scalar
+objects_back objects (Child node) = Child node
+objects_back objects (Children nodes) = list_from (members_back objects (nodes_in nodes))
+
 abbrev pub list_back : List ℕ → List AreaObject → Option PlainLeaf → List PlainField → List PlainField
 list_back label objects None fields = fields
-list_back label objects (Some (Holds scalar)) fields = fields
-list_back label objects (Some (Child node)) fields = fields
-list_back label objects (Some (Children nodes)) fields = replaced label (list_from (members_back objects (nodes_in nodes))) fields
+list_back label objects (Some leaf) fields = replaced label (objects_back objects leaf) fields
 
 -- the lists of these labels, whose members' objects stand one list after the other
 abbrev pub lists_back : List (List ℕ) → List AreaObject → List PlainField → List PlainField

@@ -4,5 +4,6 @@ pub mod Objects
 pub mod Broken
 pub mod Reading
 pub mod Back
+pub mod Current
 pub mod Area
 pub mod Index

@@ -6,11 +6,14 @@
 //! tree that was read beside the list of the objects. docs/AREA.md tells the rules and this project's choices.
 #![tactic(auto)]
 
+mod area;
+mod back;
 mod fault;
 mod object;
 mod order;
 mod tags;
 mod vars;
 
+pub use area::Area;
 pub use fault::AreaFault;
 pub use vars::{Var, Vars};

@@ -235,6 +235,17 @@ impl Vars {
         }
     }
 
+    /// Gives the variable of a type and name a value, in its place, or puts it last where there is none.
+    pub(crate) fn set(&mut self, v: Var<'_>) -> Result<(), NoMemory>
+        ensures ok { OnOk result (self.new ≡ put (variable_of v.entry) self.old) }
+        ensures err { OnErr result (self.new ≡ self.old) }
+    {
+        match v {
+            Var::Int(name, n) => self.set_int(name, n),
+            Var::Text(name, text) => self.set_text(name, text),
+        }
+    }
+
     /// Takes the int of a name out; the others keep their order.
     pub(crate) fn delete_int(&mut self, name: &[u8])
         ensures gone { self.new ≡ filter (λ v. not (is_int name.now v)) self.old }
