@@ -1,5 +1,6 @@
 ghost use Rattle.std.specs.Prelude.{◌≡◌, ◌≤◌, ◌<◌, ◌+◌, ◌*◌, ◌↔◌, length, take, drop, IsTrue, OnOk, IfOk, MatchResult, Some, None, Ok, Err};
 ghost use Rattle.gff_bytes.specs.File.{word_at, header_place, row_bytes, start_of, count_of, row_place, passes_end, section_fault, has_version, open_fault, file_type_of, struct_row, field_row, label_row, index_at, list_word, section_word, data_at};
+ghost use Rattle.nwq_value.specs.Limits.{file_limit};
 
 use crate::rows::{FieldRow, OpenFault, Part, Range, StructRow};
 use byteorder::{ByteOrder, LittleEndian};
@@ -12,7 +13,7 @@ pub const FILE_BYTES: usize = 16_777_216;
 const HEADER_BYTES: usize = 56;
 
 /// The bytes of a GFF V3.2 file whose six sections lie inside it. Contracts see it as those bytes.
-#[derive(Debug, Drop)]
+#[derive(Drop)]
 pub struct View<'a> {
     bytes: &'a [u8],
 }
@@ -20,12 +21,13 @@ pub struct View<'a> {
 impl<'a> Model for View<'a> {
     ghost use Rattle.std.specs.Prelude.{◌≡◌, ◌≤◌, List, ℕ, length, None};
     ghost use Rattle.gff_bytes.specs.File.{open_fault};
+    ghost use Rattle.nwq_value.specs.Limits.{file_limit};
 
     ghost Value = { List ℕ };
 
     ghost view = { λ v. v.bytes.now };
 
-    ghost invariant = { λ v. (open_fault v.bytes.now ≡ None) × (length v.bytes.now ≤ 16777216) };
+    ghost invariant = { λ v. (open_fault v.bytes.now ≡ None) × (length v.bytes.now ≤ file_limit) };
 }
 
 /// The little-endian number in the four bytes from `place`.
@@ -137,8 +139,8 @@ fn fault(bytes: &[u8]) -> Option<OpenFault>
 impl<'a> View<'a> {
     /// The view of a file, or the first of the header's tests that fails.
     pub fn open(bytes: &'a [u8]) -> Result<View<'a>, OpenFault>
-        requires { length bytes.now ≤ FILE_BYTES }
-        ensures { MatchResult result
+        requires size { length bytes.now ≤ file_limit }
+        ensures exact { MatchResult result
             (λ view. (open_fault bytes.now ≡ None) × (view ≡ bytes.now))
             (λ e. open_fault bytes.now ≡ Some e) }
     {
@@ -147,6 +149,7 @@ impl<'a> View<'a> {
             None => Ok(View { bytes }),
         }
     }
+
     /// The four bytes that name the kind of file.
     #[tactic(auto, using(crate::proofs::FileLemmas::header_fits))]
     pub fn file_type(&self) -> [u8; 4]
@@ -160,7 +163,7 @@ impl<'a> View<'a> {
     /// How many structs the file has.
     #[tactic(auto, using(crate::proofs::FileLemmas::header_fits))]
     pub fn struct_count(&self) -> u32
-        ensures { result ≡ count_of self.now Part.Struct }
+        ensures count { result ≡ count_of self.now Part.Struct }
     {
         count(self.bytes, Part::Struct)
     }
@@ -187,7 +190,7 @@ impl<'a> View<'a> {
 
     #[tactic(auto, unfolding(crate::specs::File::field_row), using(crate::proofs::FileLemmas::header_fits, crate::proofs::FileLemmas::field_fits))]
     pub fn field_at(&self, n: u32) -> Result<FieldRow, Range>
-        ensures { result ≡ field_row self.now n }
+        ensures row { result ≡ field_row self.now n }
     {
         let bytes = self.bytes;
         if n >= count(bytes, Part::Field) {
@@ -225,7 +228,7 @@ impl<'a> View<'a> {
     #[tactic(auto, unfolding(crate::specs::File::index_at), using(crate::proofs::FileLemmas::header_fits, crate::proofs::FileLemmas::index_fits))]
     pub fn index_at(&self, at: u32) -> Result<u32, Range>
         ensures word { result ≡ index_at self.now at }
-        ensures inside { OnOk result (at + 4 ≤ FILE_BYTES) }
+        ensures inside { OnOk result (at + 4 ≤ file_limit) }
     {
         let bytes = self.bytes;
         if at as usize + 4 > count(bytes, Part::Index) as usize {
@@ -241,7 +244,7 @@ impl<'a> View<'a> {
     #[tactic(auto, unfolding(crate::specs::File::list_word), using(crate::proofs::FileLemmas::header_fits, crate::proofs::FileLemmas::list_fits))]
     pub fn list_word(&self, at: u32) -> Result<u32, Range>
         ensures word { result ≡ list_word self.now at }
-        ensures inside { OnOk result (at + 4 ≤ FILE_BYTES) }
+        ensures inside { OnOk result (at + 4 ≤ file_limit) }
     {
         let bytes = self.bytes;
         if at as usize + 4 > count(bytes, Part::List) as usize {
@@ -257,7 +260,7 @@ impl<'a> View<'a> {
     #[tactic(auto, unfolding(crate::specs::File::data_at), using(crate::proofs::FileLemmas::header_fits, crate::proofs::FileLemmas::data_fits))]
     pub fn data_at(&self, at: u32, len: u32) -> Result<&'a [u8], Range>
         ensures bytes { MatchResult result (λ part. data_at self.now at len ≡ Ok part.now) (λ e. data_at self.now at len ≡ Err e) }
-        ensures inside { OnOk result (at + len ≤ FILE_BYTES) }
+        ensures inside { OnOk result (at + len ≤ file_limit) }
         ensures length { IfOk result (λ part. length part.now ≡ len) }
     {
         let bytes = self.bytes;

@@ -1,2 +1,11 @@
 //! Tests of GFF files and what is read of them.
 #![tactic(auto)]
+
+#[cfg(test)]
+mod files;
+#[cfg(test)]
+mod trees;
+#[cfg(test)]
+mod views;
+#[cfg(test)]
+mod writing;

@@ -1,3 +1,4 @@
+pub mod NodeLemmas
 pub mod RowLemmas
 pub mod WalkLemmas
 pub mod Steps
@@ -6,3 +7,5 @@ pub mod RowLaws
 pub mod WalkLaws
 pub mod SoundLaws
 pub mod TreeLaws
+pub mod FieldLaws
+pub mod CountLaws

@@ -14,7 +14,8 @@ use Rattle.std.specs.Str.{bytes_eq}
 use Rattle.gff_bytes.specs.declared.rows.StructRow.{StructRow}
 use Rattle.gff_bytes.specs.File.{list_word}
 use Rattle.gff_tree.specs.declared.row.Row.{Row}
-use Rattle.gff_tree.specs.Rows.{◌>>=◌, placed, parts_in, part_in, words_from, PlainRow, plain_row, rows_from, row_for, field_number, has_label, Fails}
+use Rattle.gff_tree.specs.Rows.{◌>>=◌, placed, parts_in, part_in, words_from, PlainRow, rows_from, row_for, field_number, has_label, Fails}
+use Rattle.gff_tree.specs.Held.{plain_row}
 use Rattle.gff_tree.specs.Used.{has_text, HasLabels, AddsLabel}
 
 -- what was read so far stands before what is read from here on

@@ -1,5 +1,5 @@
 -- A file's tree is read exactly where its bytes stand for it, and they stand for no other.
-use Rattle.std.proofs.Common.{◌≡◌, ℕ, true, false, List, [], take, replicate, Ok, refl, sym, subst, ◌∙◌}
+use Rattle.std.proofs.Common.{◌≡◌, ◌<◌, ℕ, true, false, List, [], take, replicate, Ok, refl, sym, subst, ◌∙◌, arith}
 use Rattle.std.specs.Prelude.{None}
 use Rattle.gff_bytes.specs.File.{open_fault}
 use Rattle.gff_tree.specs.Tree.{PlainNode, is_sound}
@@ -8,6 +8,8 @@ use Rattle.gff_tree.specs.Walk.{Marks, struct_count, node_at, tree_of}
 use Rattle.gff_tree.specs.Stands.{Stands, OneTree}
 use Rattle.gff_tree.proofs.Steps.{ok_is}
 use Rattle.gff_tree.proofs.WalkLaws.{node_agrees, marked_none}
+use Rattle.gff_tree.specs.Count.{node_count}
+use Rattle.gff_tree.proofs.CountLaws.{count_within}
 use Rattle.gff_tree.proofs.SoundLaws.{top_sound}
 
 pub read_sound : (bytes : List ℕ) (marks : Marks) (node : PlainNode) (after : Marks) → marks ≡ replicate (struct_count bytes) false → node_at 64 bytes 0 marks ≡ Ok (node, after) → is_sound node ≡ true
@@ -15,6 +17,13 @@ read_sound bytes marks node after is e =
     let start : node_at 64 bytes 0 (replicate (struct_count bytes) false) ≡ Ok (node, after) = subst (λ (m : Marks). node_at 64 bytes 0 m ≡ Ok (node, after)) is e in
     let s = (node_agrees bytes 64).sound 0 (replicate (struct_count bytes) false) [] node after (marked_none (struct_count bytes)) start in
     top_sound bytes 0 node s.0 s.1
+
+pub read_few : (bytes : List ℕ) (marks : Marks) (node : PlainNode) (after : Marks) → marks ≡ replicate (struct_count bytes) false → node_at 64 bytes 0 marks ≡ Ok (node, after) →
+    struct_count bytes < 4294967296 → node_count node < 4294967296
+read_few bytes marks node after is e few =
+    let start : node_at 64 bytes 0 (replicate (struct_count bytes) false) ≡ Ok (node, after) = subst (λ (m : Marks). node_at 64 bytes 0 m ≡ Ok (node, after)) is e in
+    let s = (node_agrees bytes 64).sound 0 (replicate (struct_count bytes) false) [] node after (marked_none (struct_count bytes)) start in
+    omega (arith, few, count_within bytes node s.0 s.1 s.2)
 
 pub stands_read : (bytes : List ℕ) (marks : Marks) (node : PlainNode) (after : Marks) (file_type : List ℕ) → marks ≡ replicate (struct_count bytes) false → node_at 64 bytes 0 marks ≡ Ok (node, after) →
     open_fault bytes ≡ None → file_type ≡ take 4 bytes → Stands bytes (record { file_type = file_type; top = node })

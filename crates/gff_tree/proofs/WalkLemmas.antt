@@ -1,42 +1,24 @@
 -- What the loops over the fields and the lists of a struct keep.
-use Rattle.std.proofs.Common.{◌≡◌, ℕ, zero, suc, ◌-◌, Bool, true, false, cond, get_or, List, [], ◌∷◌, ◌++◌, Result, Ok, Err, refl, ap, subst, ◌∙◌, arith, rules}
-use Rattle.std.specs.declared.vec.Vec.{Vec}
-use Rattle.std.specs.declared.alloc.Global.{Global}
+use Rattle.std.proofs.Common.{◌≡◌, ℕ, zero, suc, ◌-◌, Bool, true, false, cond, get_or, List, [], ◌∷◌, ◌++◌, map, Result, Ok, Err, refl, ap, subst, ◌∙◌, arith}
 use Rattle.std.specs.Prelude.{slice_set}
 use Rattle.gff_bytes.specs.declared.rows.StructRow.{StructRow}
 use Rattle.gff_bytes.specs.File.{struct_row}
 use Rattle.gff_tree.specs.declared.fault.TreeFault.{TreeFault}
 use Rattle.gff_tree.specs.declared.fault.TreeFault.TheVariants as fault
 use Rattle.gff_tree.specs.declared.tree.Field.{Field}
-use Rattle.gff_tree.specs.declared.tree.Node.{Node, roll-Node, Row_of-Field, end_of-Field, more_of-Field, items-the_row-Field}
-use Rattle.gff_tree.specs.declared.tree.Leaf.{Row_of-Node, end_of-Node, more_of-Node, items-the_row-Node}
-use Rattle.gff_tree.specs.declared.tree.Leaf.TheViews as views
-use Rattle.gff_tree.specs.Tree.{PlainNode, PlainFields, PlainNodes, Struct, MoreFields, Children, MoreNodes, plain_node, plain_fields, plain_leaf, plain_nodes, front_fields, front_nodes, fields_list, nodes_list}
+use Rattle.gff_tree.specs.declared.tree.Node.{Node}
+use Rattle.gff_tree.specs.Tree.{PlainNode, PlainFields, PlainNodes, Struct, MoreFields, MoreNodes, plain_node, plain_leaf, plain_field, fields_before, nodes_before}
 use Rattle.gff_tree.specs.Rows.{◌>>=◌, Fails, placed, PlainRow, rows_of}
 use Rattle.gff_tree.proofs.RowLemmas.{fault_of}
 use Rattle.gff_tree.specs.Walk.{Marks, Reading, entered, node_at, leaf_at, fields_at, nodes_at}
 
 abbrev pub with_fields : List Field → Result (PlainFields × Marks) TreeFault → Result (PlainFields × Marks) TreeFault
-with_fields front (Ok rest) = Ok (front_fields front rest.0, rest.1)
+with_fields front (Ok rest) = Ok (fields_before (map plain_field front) rest.0, rest.1)
 with_fields front (Err e) = Err e
 
 abbrev pub with_nodes : List Node → Result (PlainNodes × Marks) TreeFault → Result (PlainNodes × Marks) TreeFault
-with_nodes front (Ok rest) = Ok (front_nodes front rest.0, rest.1)
+with_nodes front (Ok rest) = Ok (nodes_before (map plain_node front) rest.0, rest.1)
 with_nodes front (Err e) = Err e
-
-plain_fields_items : {m : _} (es : Row_of-Field m) → plain_fields es ≡ fields_list (items-the_row-Field m es)
-plain_fields_items end_of-Field = refl
-plain_fields_items (more_of-Field label holds rest) = ap (MoreFields label (plain_leaf holds)) (plain_fields_items rest)
-
-plain_nodes_items : {m : _} (es : Row_of-Node m) → plain_nodes es ≡ nodes_list (items-the_row-Node m es)
-plain_nodes_items end_of-Node = refl
-plain_nodes_items (more_of-Node node rest) = ap (MoreNodes (plain_node node)) (plain_nodes_items rest)
-
-pub plain_node_is : (kind : ℕ) (fields : Vec Field Global) → plain_node (roll-Node (record { kind = kind; fields = fields })) ≡ Struct kind (fields_list fields.items)
-plain_node_is kind fields = search (rules, views.the_lemmas, plain_fields_items)
-
-pub plain_list_is : (nodes : Vec Node Global) → plain_leaf (views.List nodes) ≡ Children (nodes_list nodes.items)
-plain_list_is nodes = search (rules, views.the_lemmas, plain_nodes_items)
 
 -- what follows at a struct that was entered
 abbrev pub below : ℕ → List ℕ → ℕ → Marks → StructRow → Result (PlainNode × Marks) TreeFault
@@ -78,7 +60,7 @@ shift_fields : (front : List Field) (field : Field) (rest : Result (PlainFields 
     with_fields (front ++ field ∷ []) rest ≡ with_fields front (rest >>= λ r. Ok (MoreFields field.label (plain_leaf field.leaf) r.0, r.1))
 shift_fields front field (Ok r) = ap (λ (fields : PlainFields). Ok (fields, r.1)) (longer front)
   where
-    longer : (fs : List Field) → front_fields (fs ++ field ∷ []) r.0 ≡ front_fields fs (MoreFields field.label (plain_leaf field.leaf) r.0)
+    longer : (fs : List Field) → fields_before (map plain_field (fs ++ field ∷ [])) r.0 ≡ fields_before (map plain_field fs) (MoreFields field.label (plain_leaf field.leaf) r.0)
     longer [] = refl
     longer (f ∷ fs) = ap (MoreFields f.label (plain_leaf f.leaf)) (longer fs)
 shift_fields front field (Err e) = refl
@@ -87,7 +69,7 @@ shift_nodes : (front : List Node) (node : Node) (rest : Result (PlainNodes × Ma
     with_nodes (front ++ node ∷ []) rest ≡ with_nodes front (rest >>= λ r. Ok (MoreNodes (plain_node node) r.0, r.1))
 shift_nodes front node (Ok r) = ap (λ (nodes : PlainNodes). Ok (nodes, r.1)) (longer front)
   where
-    longer : (ns : List Node) → front_nodes (ns ++ node ∷ []) r.0 ≡ front_nodes ns (MoreNodes (plain_node node) r.0)
+    longer : (ns : List Node) → nodes_before (map plain_node (ns ++ node ∷ [])) r.0 ≡ nodes_before (map plain_node ns) (MoreNodes (plain_node node) r.0)
     longer [] = refl
     longer (m ∷ ms) = ap (MoreNodes (plain_node m)) (longer ms)
 shift_nodes front node (Err e) = refl

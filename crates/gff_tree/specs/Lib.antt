@@ -1,7 +1,12 @@
 pub mod Label
 pub mod Tree
+pub mod Fields
+pub mod Places
+pub mod Readings
+pub mod Count
 pub mod Whole
 pub mod Rows
+pub mod Held
 pub mod Walk
 pub mod Stands
 pub mod Used

@@ -14,12 +14,9 @@ use Rattle.gff_tree.specs.declared.fault.TreeFault.{TreeFault}
 use Rattle.gff_tree.specs.declared.fault.TreeFault.TheVariants as fault
 use Rattle.gff_tree.specs.declared.kind.Kind.{Kind}
 use Rattle.gff_tree.specs.declared.kind.Kind.TheVariants as kind
-use Rattle.gff_tree.specs.declared.row.Shape.{Shape}
-use Rattle.gff_tree.specs.declared.row.Shape.TheVariants as shape
-use Rattle.gff_tree.specs.declared.row.Row.{Row}
 use Rattle.gff_tree.specs.Label.{label_text}
 use Rattle.gff_tree.specs.Tree as tree
-use Rattle.gff_tree.specs.Tree.{Scalar, PlainLeaf, plain_leaf}
+use Rattle.gff_tree.specs.Tree.{Scalar, PlainLeaf}
 
 infixl 10 ◌>>=◌
 abbrev pub ◌>>=◌ : {A B : Type 0} → Result A TreeFault → (A → Result B TreeFault) → Result B TreeFault
@@ -67,10 +64,10 @@ number_for bytes field place width = bytes_for bytes field place width >>= λ re
 unfoldable pub counted_for : List ℕ → ℕ → ℕ → Result (List ℕ) TreeFault
 counted_for bytes field place = number_for bytes field place 4 >>= λ count. bytes_for bytes field (place + 4) count
 
--- a length of one byte, at most 16, and so many bytes
+-- a length of one byte, at most that of a resource's name, and so many bytes
 unfoldable pub name_for : List ℕ → ℕ → ℕ → Result (List ℕ) TreeFault
 name_for bytes field place =
-    number_for bytes field place 1 >>= λ count. (if nat_lt 16 count then bad_data field else bytes_for bytes field (place + 1) count)
+    number_for bytes field place 1 >>= λ count. (if nat_lt tree.resource_limit count then bad_data field else bytes_for bytes field (place + 1) count)
 
 -- one text of a localized string and the bytes after it: its number, its length, its bytes
 unfoldable pub part_in : ℕ → List ℕ → Result (LocPart × List ℕ) TreeFault
@@ -125,14 +122,6 @@ pub data PlainShape : Type 0 where
 pub record PlainRow : Type 0 where
   pub label : List ℕ
   pub shape : PlainShape
-
-abbrev pub plain_shape : Shape → PlainShape
-plain_shape (shape.Value holds) = Value (plain_leaf holds)
-plain_shape (shape.One n) = One n
-plain_shape (shape.Many ns) = Many ns.items
-
-abbrev pub plain_row : Row → PlainRow
-plain_row row = record { label = row.label; shape = plain_shape row.shape }
 
 unfoldable pub shape_for : List ℕ → ℕ → Kind → ℕ → Result PlainShape TreeFault
 shape_for bytes field kind.Struct word = Ok (One word)

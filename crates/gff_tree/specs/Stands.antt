@@ -51,7 +51,7 @@ ScalarStands bytes kind.Int64 word s = (n : ℕ) × NumberStands bytes word 8 n 
 ScalarStands bytes kind.Float word s = s ≡ tree.Float (to_le_bytes w32 word)
 ScalarStands bytes kind.Double word s = (bits : List ℕ) × (data_at bytes word 8 ≡ Ok bits) × (s ≡ tree.Double bits)
 ScalarStands bytes kind.Str word s = (count : ℕ) × (text : List ℕ) × CountedStands bytes word 4 count text × (s ≡ tree.Str text)
-ScalarStands bytes kind.Res word s = (count : ℕ) × (text : List ℕ) × CountedStands bytes word 1 count text × (count ≤ 16) × (s ≡ tree.Res text)
+ScalarStands bytes kind.Res word s = (count : ℕ) × (text : List ℕ) × CountedStands bytes word 1 count text × (count ≤ tree.resource_limit) × (s ≡ tree.Res text)
 ScalarStands bytes kind.Loc word s = (count : ℕ) × (body : List ℕ) × (loc : Loc) × CountedStands bytes word 4 count body × LocalizedStands body loc × (s ≡ tree.Localized loc)
 ScalarStands bytes kind.Void word s = (count : ℕ) × (text : List ℕ) × CountedStands bytes word 4 count text × (s ≡ tree.Void text)
 ScalarStands bytes kind.Struct word s = ⊥
@@ -131,12 +131,12 @@ abbrev pub NodeStands : ℕ → List ℕ → Meaning
 NodeStands zero bytes n node uses = ⊥
 NodeStands (suc depth) bytes n (Struct kind fields) uses = StructStands (NodeStands depth bytes) bytes n kind fields uses
 
--- the bytes are a GFF file, and its struct 0 stands for the top, at depth 1 of 64; no struct is used twice
+-- the bytes are a GFF file, and its struct 0 stands for the top, within the levels that a tree may have; no struct is used twice
 pub record Stands (bytes : List ℕ) (gff : PlainGff) : Type 0 where
   pub uses : List ℕ
   pub opens : open_fault bytes ≡ None
   pub file_type : gff.file_type ≡ take 4 bytes
-  pub top : NodeStands 64 bytes 0 gff.top uses
+  pub top : NodeStands tree.depth_limit bytes 0 gff.top uses
   pub distinct : IsTrue (are_distinct nat_eq uses)
 
 -- bytes stand for one tree at most

@@ -1,5 +1,5 @@
 -- A GFF tree as plain data, and the one reading of the program's trees as such.
-use Rattle.std.specs.Prelude.{ℕ, zero, suc, ℤ, Bool, true, false, ◌&&◌, not, nat_le, List, [], ◌∷◌, ◌++◌, length}
+use Rattle.std.specs.Prelude.{ℕ, zero, suc, ℤ, Bool, true, false, ◌&&◌, not, nat_le, List, [], ◌∷◌, ◌++◌, map, length}
 use Rattle.std.specs.List.{list_any}
 use Rattle.std.specs.Str.{bytes_eq}
 use Rattle.gff_tree.specs.declared.tree.Loc.{Loc}
@@ -7,6 +7,13 @@ use Rattle.gff_tree.specs.declared.tree.Leaf as leaf
 use Rattle.gff_tree.specs.declared.tree.Leaf.{Leaf, Row_of-Node, end_of-Node, more_of-Node}
 use Rattle.gff_tree.specs.declared.tree.Field.{Field}
 use Rattle.gff_tree.specs.declared.tree.Node.{Node, Node', Row_of-Field, end_of-Field, more_of-Field}
+
+-- how deep a struct may be, the top being 1 deep, and how many bytes the name of a resource may have
+abbrev pub depth_limit : ℕ
+depth_limit = 64
+
+abbrev pub resource_limit : ℕ
+resource_limit = 16
 
 -- what a field holds that holds no struct; a float is the list of its bytes
 pub data Scalar : Type 0 where
@@ -76,20 +83,44 @@ abbrev mutual
   plain_nodes end_of-Node = NoNode
   plain_nodes (more_of-Node node rest) = MoreNodes (plain_node node) (plain_nodes rest)
 
--- fields and structs of vectors, before those that follow
-abbrev pub front_fields : List Field → PlainFields → PlainFields
-front_fields [] rest = rest
-front_fields (field ∷ fields) rest = MoreFields field.label (plain_leaf field.leaf) (front_fields fields rest)
+-- a field by itself: its label and what it holds
+pub record PlainField : Type 0 where
+  pub label : List ℕ
+  pub leaf : PlainLeaf
 
-abbrev pub front_nodes : List Node → PlainNodes → PlainNodes
-front_nodes [] rest = rest
-front_nodes (node ∷ nodes) rest = MoreNodes (plain_node node) (front_nodes nodes rest)
+abbrev pub plain_field : Field → PlainField
+plain_field field = record { label = field.label; leaf = plain_leaf field.leaf }
 
+-- the fields of a struct as a list, and back
+abbrev pub fields_in : PlainFields → List PlainField
+fields_in NoField = []
+fields_in (MoreFields label holds rest) = record { label = label; leaf = holds } ∷ fields_in rest
+
+abbrev pub fields_before : List PlainField → PlainFields → PlainFields
+fields_before [] rest = rest
+fields_before (field ∷ fields) rest = MoreFields field.label field.leaf (fields_before fields rest)
+
+abbrev pub fields_from : List PlainField → PlainFields
+fields_from fields = fields_before fields NoField
+
+-- the structs of a list field as a list, and back
+abbrev pub nodes_in : PlainNodes → List PlainNode
+nodes_in NoNode = []
+nodes_in (MoreNodes node rest) = node ∷ nodes_in rest
+
+abbrev pub nodes_before : List PlainNode → PlainNodes → PlainNodes
+nodes_before [] rest = rest
+nodes_before (node ∷ nodes) rest = MoreNodes node (nodes_before nodes rest)
+
+abbrev pub nodes_from : List PlainNode → PlainNodes
+nodes_from nodes = nodes_before nodes NoNode
+
+-- the fields and the structs of vectors
 abbrev pub fields_list : List Field → PlainFields
-fields_list fields = front_fields fields NoField
+fields_list fields = fields_from (map plain_field fields)
 
 abbrev pub nodes_list : List Node → PlainNodes
-nodes_list nodes = front_nodes nodes NoNode
+nodes_list nodes = nodes_from (map plain_node nodes)
 
 -- does each item differ from those before it and from these first ones, by this test?
 abbrev pub differ_after : {X : Type 0} → (X → X → Bool) → List X → List X → Bool
@@ -103,9 +134,9 @@ abbrev pub labels_of : PlainFields → List (List ℕ)
 labels_of NoField = []
 labels_of (MoreFields label holds rest) = label ∷ labels_of rest
 
--- a resource's name has at most 16 bytes
+-- a resource's name is not too long
 abbrev pub is_sound_scalar : Scalar → Bool
-is_sound_scalar (Res text) = nat_le (length text) 16
+is_sound_scalar (Res text) = nat_le (length text) resource_limit
 is_sound_scalar _ = true
 
 -- is a struct at most so deep, with distinct labels in each of its structs and no long name of a resource?
@@ -127,6 +158,6 @@ abbrev mutual
   are_sound_nodes depth NoNode = true
   are_sound_nodes depth (MoreNodes node rest) = is_sound_node depth node && are_sound_nodes depth rest
 
--- the top has depth 1, and a struct 64 at most
+-- the top has depth 1, and a struct the limit at most
 unfoldable pub is_sound : PlainNode → Bool
-is_sound top = is_sound_node 64 top
+is_sound top = is_sound_node depth_limit top

@@ -5,7 +5,7 @@ use Rattle.gff_bytes.specs.declared.rows.StructRow.{StructRow}
 use Rattle.gff_bytes.specs.File.{count_of, struct_row}
 use Rattle.gff_tree.specs.declared.fault.TreeFault.{TreeFault}
 use Rattle.gff_tree.specs.declared.fault.TreeFault.TheVariants as fault
-use Rattle.gff_tree.specs.Tree.{PlainNode, PlainFields, PlainLeaf, PlainNodes, Struct, NoField, MoreFields, Child, Children, NoNode, MoreNodes}
+use Rattle.gff_tree.specs.Tree.{depth_limit, PlainNode, PlainFields, PlainLeaf, PlainNodes, Struct, NoField, MoreFields, Child, Children, NoNode, MoreNodes}
 use Rattle.gff_tree.specs.Whole.{PlainGff}
 use Rattle.gff_tree.specs.Rows.{◌>>=◌, placed, PlainRow, PlainShape, Value, One, Many, rows_of}
 
@@ -52,4 +52,4 @@ node_at (suc depth) bytes n marks =
 -- the tree of a file, or the first test that fails
 unfoldable pub tree_of : List ℕ → Result PlainGff TreeFault
 tree_of bytes =
-    node_at 64 bytes 0 (replicate (struct_count bytes) false) >>= λ top. Ok (record { file_type = take 4 bytes; top = top.0 })
+    node_at depth_limit bytes 0 (replicate (struct_count bytes) false) >>= λ top. Ok (record { file_type = take 4 bytes; top = top.0 })

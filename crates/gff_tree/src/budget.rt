@@ -3,14 +3,15 @@
 use crate::tree::Leaf;
 use nwq_value::NoMemory;
 
-/// How many bytes a file of the tree may have at most, labels aside. Fields and lists of a file may be
-/// shared, so a small file can stand for a tree that no memory holds; the reader gives up past this size.
+/// How many bytes a file of the tree may have at most, header and labels aside. Fields and lists of a file may
+/// be shared, so a small file can stand for a tree that no memory holds; the reader gives up past this size.
 pub const TREE_BYTES: u64 = 1 << 28;
 
-/// A field with its number in the field indices.
-pub const FIELD_BYTES: u64 = 16;
+/// A struct, and so many a field.
+pub const ROW_BYTES: u64 = 12;
 
-pub const STRUCT_BYTES: u64 = 12;
+/// A number in the field indices or in the list indices, and the count before a list's numbers.
+pub const WORD_BYTES: u64 = 4;
 
 /// Takes bytes from what is left.
 pub fn charge(left: &mut u64, bytes: u64) -> Result<(), NoMemory> {
@@ -21,6 +22,15 @@ pub fn charge(left: &mut u64, bytes: u64) -> Result<(), NoMemory> {
         }
         None => Err(NoMemory),
     }
+}
+
+/// Takes the bytes of a field: its row, and its number in the field indices where its struct has several fields.
+pub fn charge_field(left: &mut u64, several: bool) -> Result<(), NoMemory> {
+    charge(left, ROW_BYTES)?;
+    if several {
+        charge(left, WORD_BYTES)?;
+    }
+    Ok(())
 }
 
 /// How many bytes of field data a value takes.

@@ -1,13 +1,11 @@
 use gff_bytes::Range;
 use nwq_value::NoMemory;
 use std::alloc::{AllocError, AllocFailed};
-use std::error::Error;
-use std::fmt;
 
 /// Why a file has no tree, as the first test of the walk that fails: the file has nothing at a place; a
 /// field's type is above 15; a struct was reached already; a struct is more than 64 deep; a field's struct
 /// has its label already. A number is that of the struct or the field.
-#[derive(Clone, Copy, Debug, PartialEq, Eq)]
+#[derive(Clone, Copy)]
 pub enum TreeFault {
     Range(Range),
     Kind(u32),
@@ -60,21 +58,3 @@ impl From<Range> for TreeFault {
         TreeFault::Range(range)
     }
 }
-
-impl fmt::Display for TreeFault {
-    fn fmt<W: fmt::Write>(&self, f: &mut fmt::Formatter<W>) -> fmt::Result {
-        match self {
-            TreeFault::Range(range) => write!(f, "{range}"),
-            TreeFault::Kind(n) => write!(f, "field {n} has no type of the format"),
-            TreeFault::Shared(n) => write!(f, "struct {n} is used twice"),
-            TreeFault::Deep(n) => write!(f, "struct {n} is too deep"),
-            TreeFault::Label(n) => write!(
-                f,
-                "field {n} has the label of an earlier field of its struct"
-            ),
-            TreeFault::NoMemory => f.write_str("out of memory"),
-        }
-    }
-}
-
-impl Error for TreeFault {}

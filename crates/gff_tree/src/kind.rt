@@ -2,7 +2,7 @@ ghost use Rattle.std.specs.Prelude.{◌≡◌, slice_get};
 ghost use Rattle.gff_tree.specs.Rows.{kinds};
 
 /// The types of a field, in the order of their numbers.
-#[derive(Clone, Copy, Debug, PartialEq, Eq)]
+#[derive(Clone, Copy)]
 pub enum Kind {
     Byte,
     Char,
@@ -44,7 +44,7 @@ const KINDS: [Kind; 16] = [
 impl Kind {
     /// The type of that number.
     pub fn of(n: u32) -> Option<Kind>
-        ensures { result ≡ slice_get kinds n }
+        ensures kind { result ≡ slice_get kinds n }
     {
         KINDS.get(n as usize).copied()
     }

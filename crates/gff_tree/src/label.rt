@@ -1,6 +1,6 @@
 ghost use Rattle.std.specs.Prelude.{◌≡◌, ◌≤◌, length, false};
 ghost use Rattle.std.specs.Str.{bytes_eq};
-ghost use Rattle.gff_tree.specs.Label.{has_zero, label_of, label_text};
+ghost use Rattle.gff_tree.specs.Label.{label_limit, has_zero, label_of, label_text};
 
 use std::marker::Model;
 
@@ -8,7 +8,7 @@ use std::marker::Model;
 pub const LABEL_BYTES: usize = 16;
 
 /// The name of a field: at most 16 bytes, none of them zero. Contracts see it as the list of its bytes.
-#[derive(Debug, Drop)]
+#[derive(Drop)]
 pub struct Label {
     bytes: [u8; 16],
     len: usize,
@@ -16,13 +16,13 @@ pub struct Label {
 
 impl Model for Label {
     ghost use Rattle.std.specs.Prelude.{◌≡◌, List, ℕ, ◌≤◌, take, false};
-    ghost use Rattle.gff_tree.specs.Label.{has_zero};
+    ghost use Rattle.gff_tree.specs.Label.{label_limit, has_zero};
 
     ghost Value = { List ℕ };
 
     ghost view = { λ a. take a.len a.bytes };
 
-    ghost invariant = { λ a. (a.len ≤ 16) × (has_zero (take a.len a.bytes) ≡ false) };
+    ghost invariant = { λ a. (a.len ≤ label_limit) × (has_zero (take a.len a.bytes) ≡ false) };
 }
 
 fn contains_zero(text: &[u8]) -> bool
@@ -48,7 +48,7 @@ pub(crate) fn before_zero(raw: &[u8]) -> &[u8]
 impl Label {
     /// The label of a text: none where it has more than 16 bytes or a zero byte.
     pub fn of(text: &[u8]) -> Option<Label>
-        ensures { result ≡ label_of text.now }
+        ensures label { result ≡ label_of text.now }
     {
         if text.len() > LABEL_BYTES {
             return None;
@@ -62,7 +62,7 @@ impl Label {
 
     /// The label of these bytes.
     pub(crate) fn held(text: &[u8]) -> Label
-        requires bound { length text.now ≤ LABEL_BYTES }
+        requires bound { length text.now ≤ label_limit }
         requires no_zero { has_zero text.now ≡ false }
         ensures { result ≡ text.now }
     {
@@ -74,7 +74,7 @@ impl Label {
 
     pub fn bytes(&self) -> &[u8]
         ensures same { result.now ≡ self.now }
-        ensures bound { length self.now ≤ LABEL_BYTES }
+        ensures bound { length self.now ≤ label_limit }
         ensures no_zero { has_zero self.now ≡ false }
     {
         &self.bytes[..self.len]
@@ -82,7 +82,7 @@ impl Label {
 
     /// Whether two labels have the same bytes.
     pub fn same(&self, other: &Label) -> bool
-        ensures { result ≡ bytes_eq self.now other.now }
+        ensures same { result ≡ bytes_eq self.now other.now }
     {
         self.bytes() == other.bytes()
     }

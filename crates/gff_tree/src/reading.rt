@@ -1,9 +1,10 @@
 //! The reading of a file.
 
-ghost use Rattle.std.specs.Prelude.{◌≡◌, false, replicate, IfOk, Ok};
+ghost use Rattle.std.specs.Prelude.{◌≡◌, ◌<◌, false, replicate, IfOk, Ok};
 ghost use Rattle.gff_tree.specs.Whole.{PlainGff, plain_gff};
 ghost use Rattle.gff_tree.specs.Rows.{Gives};
-ghost use Rattle.gff_tree.specs.Stands.{Stands, OneTree};
+ghost use Rattle.gff_tree.specs.Stands.{Stands};
+ghost use Rattle.gff_tree.specs.Count.{node_count};
 ghost use Rattle.gff_tree.specs.Walk.{struct_count, tree_of};
 
 use crate::budget::TREE_BYTES;
@@ -18,16 +19,19 @@ use std::alloc::Global;
 const DEPTH: u8 = 64;
 
 fn marks(alloc: Global, view: &View<'_>) -> Result<Vec<bool>, NoMemory>
-    ensures { IfOk result (λ marks. marks.items ≡ replicate (struct_count view.now) false) }
+    ensures none { IfOk result (λ marks. marks.items ≡ replicate (struct_count view.now) false) }
+    ensures few { struct_count view.now < 4294967296 }
 {
     let count = view.struct_count() as usize;
     Ok(vec![in alloc; false; count]?)
 }
 
-/// The tree of a file, if its size stays within so many bytes.
+/// The tree of a file, or the first test of the walk that fails. `NoMemory` also comes where a file of the tree would pass so
+/// many bytes, labels aside.
 #[tactic(auto, unfolding(crate::specs::Walk::tree_of))]
-pub(crate) fn read_within(alloc: Global, view: &View<'_>, bytes: u64) -> Result<Gff, TreeFault>
+pub fn read_within(alloc: Global, view: &View<'_>, bytes: u64) -> Result<Gff, TreeFault>
     ensures found { IfOk result (λ gff. Stands view.now (plain_gff gff)) }
+    ensures few { IfOk result (λ gff. node_count (plain_gff gff).top < 4294967296) }
     ensures exact { Gives plain_gff result (tree_of view.now) }
 {
     let mut marks = marks(alloc, view)?;
@@ -43,19 +47,16 @@ pub(crate) fn read_within(alloc: Global, view: &View<'_>, bytes: u64) -> Result<
 /// struct it tests the struct's range, that it was not reached before, and its depth; then, field after
 /// field, the index word, the field's range, its type, its label's range, that the label is new in this
 /// struct, its data and its list words. Then it goes down. `NoMemory` also comes where a file of the tree
-/// would pass [`TREE_BYTES`] bytes.
+/// would pass [`TREE_BYTES`] bytes, labels aside.
 pub fn read(alloc: Global, view: &View<'_>) -> Result<Gff, TreeFault>
     // What is read is what the bytes stand for.
     ensures found { IfOk result (λ gff. Stands view.now (plain_gff gff)) }
     // What the bytes stand for is read, unless memory runs out.
     ensures only { (gff : PlainGff) → Stands view.now gff → Gives plain_gff result (Ok gff) }
+    // The structs of a tree can be numbered by 32 bits.
+    ensures few { IfOk result (λ gff. node_count (plain_gff gff).top < 4294967296) }
     // Which fault it is.
     ensures exact { Gives plain_gff result (tree_of view.now) }
 {
     read_within(alloc, view, TREE_BYTES)
 }
-
-/// Bytes stand for one tree at most.
-pub fn one_tree()
-    ensures { OneTree }
-{}

@@ -3,10 +3,12 @@
 ghost use Rattle.std.specs.Prelude.{◌≡◌, ◌≢◌, ◌≤◌, ◌<◌, ◌+◌, ◌*◌, if◌then◌else◌, List, length, map, Ok, Err, OnOk, IfOk};
 ghost use Rattle.gff_bytes.specs.File as File;
 ghost use Rattle.gff_tree.specs.Label.{label_text};
-ghost use Rattle.gff_tree.specs.Rows.{Gives, PlainRow, placed, words_from, plain_shape, plain_row, shape_for, has_label, row_for, field_number, rows_from, rows_of};
+ghost use Rattle.gff_tree.specs.Rows.{Gives, PlainRow, placed, words_from, shape_for, has_label, row_for, field_number, rows_from, rows_of};
+ghost use Rattle.gff_tree.specs.Held.{plain_shape, plain_row};
 ghost use Rattle.gff_tree.specs.Used.{HasLabels, AddsLabel};
+ghost use Rattle.nwq_value.specs.Limits.{file_limit};
 
-use crate::budget::{FIELD_BYTES, charge, data_bytes};
+use crate::budget::{WORD_BYTES, charge, charge_field, data_bytes};
 use crate::fault::TreeFault;
 use crate::kind::Kind;
 use crate::label::{Label, before_zero};
@@ -17,7 +19,7 @@ use std::alloc::Global;
 use std::collections::BTreeSet;
 
 /// What a field of the file holds: a value, the number of a struct, or those of a list's structs.
-#[derive(Debug, Drop)]
+#[derive(Drop)]
 pub enum Shape {
     Value(Leaf),
     One(u32),
@@ -25,7 +27,7 @@ pub enum Shape {
 }
 
 /// A field of the file: its label, and what it holds before the walk goes down into it.
-#[derive(Debug, Drop)]
+#[derive(Drop)]
 pub struct Row {
     pub label: Label,
     pub shape: Shape,
@@ -33,7 +35,7 @@ pub struct Row {
 
 fn list_word(view: &View<'_>, place: u32) -> Result<u32, TreeFault>
     ensures word { Gives (λ word. word) result (placed (File.list_word view.now place)) }
-    ensures inside { OnOk result (place + 4 ≤ FILE_BYTES) }
+    ensures inside { OnOk result (place + 4 ≤ file_limit) }
 {
     match view.list_word(place) {
         Ok(word) => Ok(word),
@@ -49,14 +51,14 @@ fn read_words(
     count: u32,
     left: &mut u64,
 ) -> Result<Vec<u32>, TreeFault>
-    requires { place ≤ FILE_BYTES }
+    requires { place ≤ file_limit }
     ensures { Gives (λ words. words.items) result (words_from view.now place count) }
 {
     let mut words = Vec::new(alloc);
     let mut at = place;
     for _done in 0..count {
         let word = list_word(view, at)?;
-        charge(left, 4)?;
+        charge(left, WORD_BYTES)?;
         words.push(word)?;
         at += 4;
     }
@@ -74,6 +76,7 @@ fn list_shape(
     ensures { Gives plain_shape result (shape_for view.now field Kind.List word) }
 {
     let count = list_word(view, word)?;
+    charge(left, WORD_BYTES)?;
     Ok(Shape::Many(read_words(alloc, view, word + 4, count, left)?))
 }
 
@@ -144,9 +147,9 @@ fn read_row<'a>(
 /// The number of a struct's field by its place.
 #[tactic(auto, unfolding(crate::specs::Rows::field_number))]
 fn number(view: &View<'_>, entry: StructRow, i: u32) -> Result<u32, TreeFault>
-    requires { entry.count ≢ 1 → 1 ≤ i → entry.word + 4 * i ≤ FILE_BYTES }
+    requires { entry.count ≢ 1 → 1 ≤ i → entry.word + 4 * i ≤ file_limit }
     ensures number { Gives (λ number. number) result (placed (field_number view.now entry i)) }
-    ensures inside { OnOk result (entry.count ≢ 1 → entry.word + 4 * (i + 1) ≤ FILE_BYTES) }
+    ensures inside { OnOk result (entry.count ≢ 1 → entry.word + 4 * (i + 1) ≤ file_limit) }
 {
     if entry.count == 1 {
         return Ok(entry.word);
@@ -172,7 +175,7 @@ pub fn read_rows(
     for i in 0..entry.count {
         let field = number(view, entry, i)?;
         let next = read_row(alloc, view, &mut used, field, left)?;
-        charge(left, FIELD_BYTES)?;
+        charge_field(left, entry.count > 1)?;
         rows.push(next)?;
     }
     Ok(rows)

@@ -3,10 +3,11 @@
 ghost use Rattle.std.specs.Prelude.{◌≡◌, ◌≤◌, ◌+◌, length, Ok, Err, OnOk, IfOk, MatchResult};
 ghost use Rattle.gff_tree.specs.Tree.{plain_leaf};
 ghost use Rattle.gff_tree.specs.Rows.{Gives, bytes_for, number_for, counted_for, name_for, part_in, parts_in, localized_in, number_in, leaf_for};
+ghost use Rattle.nwq_value.specs.Limits.{file_limit};
 
 use crate::fault::TreeFault;
 use crate::kind::Kind;
-use crate::tree::{Blob, Leaf, Loc, LocPart, Parts};
+use crate::tree::{Leaf, Loc, LocPart, Parts};
 use byteorder::{ByteOrder, LittleEndian};
 use gff_bytes::{FILE_BYTES, Part, Range, View};
 use nwq_value::Items;
@@ -53,7 +54,7 @@ fn bytes_at<'a>(view: &View<'a>, field: u32, place: u32, count: u32) -> Result<&
     ensures bytes { MatchResult result
         (λ read. bytes_for view.now field place count ≡ Ok read.now)
         (λ e. bytes_for view.now field place count ≡ Err e) }
-    ensures inside { OnOk result (place + count ≤ FILE_BYTES) }
+    ensures inside { OnOk result (place + count ≤ file_limit) }
     ensures length { IfOk result (λ read. length read.now ≡ count) }
 {
     match view.data_at(place, count) {
@@ -66,7 +67,7 @@ fn bytes_at<'a>(view: &View<'a>, field: u32, place: u32, count: u32) -> Result<&
 #[tactic(auto, unfolding(crate::specs::Rows::number_for))]
 fn count_at(view: &View<'_>, field: u32, place: u32) -> Result<u32, TreeFault>
     ensures count { result ≡ number_for view.now field place 4 }
-    ensures inside { OnOk result (place + 4 ≤ FILE_BYTES) }
+    ensures inside { OnOk result (place + 4 ≤ file_limit) }
 {
     match bytes_at(view, field, place, 4) {
         Ok(read) => Ok(word_in(read)),
@@ -88,7 +89,7 @@ fn wide_at(view: &View<'_>, field: u32, place: u32) -> Result<u64, TreeFault>
 #[tactic(auto, unfolding(crate::specs::Rows::number_for))]
 fn short_count_at(view: &View<'_>, field: u32, place: u32) -> Result<u8, TreeFault>
     ensures count { result ≡ number_for view.now field place 1 }
-    ensures inside { OnOk result (place + 1 ≤ FILE_BYTES) }
+    ensures inside { OnOk result (place + 1 ≤ file_limit) }
 {
     match bytes_at(view, field, place, 1) {
         Ok(read) => Ok(byte_in(read)),
@@ -125,12 +126,6 @@ fn name_at<'a>(view: &View<'a>, field: u32, place: u32) -> Result<&'a [u8], Tree
         }
         Err(e) => Err(e),
     }
-}
-
-fn blob(alloc: Global, bytes: &[u8]) -> Result<Blob, TreeFault>
-    ensures { Gives (λ text. text) result (Ok bytes.now) }
-{
-    Ok(Items::of_slice(alloc, bytes)?)
 }
 
 /// One text of a localized string, and the bytes behind it.

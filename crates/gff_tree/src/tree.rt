@@ -8,7 +8,7 @@ use nwq_value::Items;
 pub type Blob = Items<u8>;
 
 /// A text in one language: the language and gender as the format numbers them, and its bytes.
-#[derive(Debug, Drop)]
+#[derive(Drop)]
 pub struct LocPart {
     pub id: i32,
     pub text: Blob,
@@ -18,14 +18,14 @@ pub struct LocPart {
 pub type Parts = Items<LocPart>;
 
 /// A localized string: a number in the talk table, and texts of its own.
-#[derive(Debug, Drop)]
+#[derive(Drop)]
 pub struct Loc {
     pub str_ref: u32,
     pub parts: Parts,
 }
 
 /// What a field holds, by the sixteen types of the format.
-#[derive(Debug, Drop)]
+#[derive(Drop)]
 #[cycle(tree)]
 pub enum Leaf {
     Byte(u8),
@@ -47,7 +47,7 @@ pub enum Leaf {
 }
 
 /// A field of a struct.
-#[derive(Debug, Drop)]
+#[derive(Drop)]
 #[cycle(tree)]
 pub struct Field {
     pub label: Label,
@@ -55,7 +55,7 @@ pub struct Field {
 }
 
 /// A struct: its type and its fields in order.
-#[derive(Debug, Drop)]
+#[derive(Drop)]
 #[cycle(tree)]
 pub struct Node {
     pub kind: u32,
@@ -64,7 +64,7 @@ pub struct Node {
 
 /// A file: what kind of file it is, and its top struct. In every value the structs are at most 64 deep, the
 /// labels of a struct's fields differ, and the name of a resource has at most 16 bytes.
-#[derive(Debug, Drop)]
+#[derive(Drop)]
 pub struct Gff {
     pub file_type: [u8; 4],
     pub top: Node,

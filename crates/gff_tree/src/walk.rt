@@ -1,11 +1,12 @@
 //! The walk over the structs of the file, from the top down.
 
 ghost use Rattle.std.specs.Prelude.{◌≡◌, ◌<◌, map, length, Ok, OnOk};
-ghost use Rattle.gff_tree.specs.Tree.{Struct, Child, Children, plain_node, plain_leaf, fields_list, nodes_list};
-ghost use Rattle.gff_tree.specs.Rows.{Gives, plain_row, plain_shape};
+ghost use Rattle.gff_tree.specs.Tree.{Child, plain_node, plain_leaf, fields_list, nodes_list};
+ghost use Rattle.gff_tree.specs.Rows.{Gives};
+ghost use Rattle.gff_tree.specs.Held.{plain_row, plain_shape};
 ghost use Rattle.gff_tree.specs.Walk.{struct_count, entered, node_at, fields_at, leaf_at, nodes_at};
 
-use crate::budget::{STRUCT_BYTES, charge};
+use crate::budget::{ROW_BYTES, charge};
 use crate::fault::TreeFault;
 use crate::row::{Row, Shape, read_rows};
 use crate::tree::{Field, Leaf, Node};
@@ -34,22 +35,10 @@ fn enter(view: &View<'_>, marks: &[bool], n: u32, depth: u8) -> Result<StructRow
     }
 }
 
-fn node_of(kind: u32, fields: Vec<Field>) -> Node
-    ensures { plain_node result ≡ Struct kind (fields_list fields.items) }
-{
-    Node { kind, fields }
-}
-
 fn struct_leaf(alloc: Global, node: Node) -> Result<Leaf, TreeFault>
     ensures { Gives plain_leaf result (Ok (Child (plain_node node))) }
 {
     Ok(Leaf::Struct(Box::new(alloc, node)?))
-}
-
-fn list_leaf(nodes: Vec<Node>) -> Leaf
-    ensures { plain_leaf result ≡ Children (nodes_list nodes.items) }
-{
-    Leaf::List(nodes)
 }
 
 /// The struct of a number, with so many levels left.
@@ -67,10 +56,10 @@ pub fn read_node(
 {
     let entry = enter(view, marks, n, depth)?;
     marks[n as usize] = true;
-    charge(left, STRUCT_BYTES)?;
+    charge(left, ROW_BYTES)?;
     let rows = read_rows(alloc, view, entry, left)?;
     let fields = read_fields(alloc, view, marks, rows, depth - 1, left)?;
-    Ok(node_of(entry.kind, fields))
+    Ok(Node::new(entry.kind, fields))
 }
 
 /// The fields of a struct, in order.
@@ -117,7 +106,7 @@ fn read_leaf(
             Err(e) => Err(e),
         },
         Shape::Many(numbers) => match read_nodes(alloc, view, marks, &numbers, depth, left) {
-            Ok(children) => Ok(list_leaf(children)),
+            Ok(children) => Ok(Leaf::of_list(children)),
             Err(e) => Err(e),
         },
     }

@@ -1,4 +1,3 @@
-pub mod CountLemmas
 pub mod FlatLemmas
 pub mod PlaceLemmas
 pub mod SectionLemmas

@@ -1,5 +1,5 @@
 -- The file of a tree stands for the tree, and for no other.
-use Rattle.std.proofs.Common.{◌≡◌, ◌≤◌, ◌+◌, ◌*◌, ℕ, Bool, true, false, cond, List, [], length, Result, Ok, Err, refl, sym, subst, arith}
+use Rattle.std.proofs.Common.{◌≡◌, ◌≤◌, ◌+◌, ◌-◌, ◌*◌, ◌^◌, min, ℕ, Bool, true, false, cond, List, [], length, Result, Ok, Err, refl, sym, subst, arith}
 use Rattle.std.specs.Prelude.{nat_lt, IfOk}
 use Rattle.std.specs.declared.vec.Vec.{Vec}
 use Rattle.std.specs.declared.alloc.Global.{Global}
@@ -7,10 +7,10 @@ use Rattle.std.proofs.lemmas.Bool.{ltb-false}
 use Rattle.std.proofs.lemmas.List.{length-append}
 use Rattle.gff_bytes.specs.declared.rows.Part.TheVariants as part
 use Rattle.gff_bytes.specs.File.{start_of}
-use Rattle.gff_tree.specs.Stands.{Stands}
 use Rattle.gff_tree.specs.Tree.{is_sound}
 use Rattle.gff_tree.specs.Whole.{PlainGff}
-use Rattle.gff_tree.proofs.TreeLaws.{one_tree}
+use Rattle.gff_tree.specs.Stands.{Stands, OneTree}
+use Rattle.nwq_value.specs.Limits.{file_limit}
 use Rattle.gff_write.specs.declared.fault.WriteFault.{WriteFault}
 use Rattle.gff_write.specs.declared.fault.WriteFault.TheVariants as fault
 use Rattle.gff_write.specs.Flat.{node_count, rows_of}
@@ -79,11 +79,11 @@ pub written_ok : (gff : PlainGff) (r : Result (Vec ℕ Global) WriteFault) → I
     Gives (λ (v : Vec ℕ Global). v.items) r (outcome_of (written gff)) → IfOk r (λ (v : Vec ℕ Global). Stands v.items gff)
 unfolding outcome_of
 written_ok gff (Ok v) is gives =
-    let parts = given (nat_lt 16777216 (length (written gff))) (fault.Large (length (written gff))) (written gff) v.items gives in
-    subst (λ (bytes : List ℕ). Stands bytes gff) parts.1 (written_stands gff is (ltb-false 16777216 (length (written gff)) parts.0))
+    let parts = given (nat_lt file_limit (length (written gff))) (fault.Large (min (length (written gff)) (2 ^ 64 - 1))) (written gff) v.items gives in
+    subst (λ (bytes : List ℕ). Stands bytes gff) parts.1 (written_stands gff is (ltb-false file_limit (length (written gff)) parts.0))
 written_ok gff (Err e) is gives = tt
 
-pub written_again : (gff : PlainGff) (r : Result (Vec ℕ Global) WriteFault) → IfOk r (λ (v : Vec ℕ Global). Stands v.items gff) →
+pub written_again : OneTree → (gff : PlainGff) (r : Result (Vec ℕ Global) WriteFault) → IfOk r (λ (v : Vec ℕ Global). Stands v.items gff) →
     IfOk r (λ (v : Vec ℕ Global). (other : PlainGff) → Stands v.items other → other ≡ gff)
-written_again gff (Ok v) stands = λ (other : PlainGff) (too : Stands v.items other). one_tree v.items other gff too stands
-written_again gff (Err e) stands = tt
+written_again one gff (Ok v) stands = λ (other : PlainGff) (too : Stands v.items other). one v.items other gff too stands
+written_again one gff (Err e) stands = tt

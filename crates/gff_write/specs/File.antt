@@ -1,8 +1,9 @@
 -- The one file of a tree, as a function of the list of its structs.
-use Rattle.std.specs.Prelude.{◌≡◌, ℕ, zero, suc, ◌+◌, ◌==◌, nat_lt, if◌then◌else◌, List, [], ◌∷◌, ◌++◌, length, codes, Result, Ok, Err}
+use Rattle.std.specs.Prelude.{◌≡◌, ℕ, zero, suc, ◌+◌, ◌-◌, ◌^◌, ◌==◌, min, nat_lt, if◌then◌else◌, List, [], ◌∷◌, ◌++◌, length, codes, Result, Ok, Err}
 use Rattle.std.specs.List.{flat_map}
 use Rattle.std.specs.Str.{bytes_eq}
 use Rattle.gff_tree.specs.Whole.{PlainGff}
+use Rattle.nwq_value.specs.Limits.{file_limit}
 use Rattle.gff_write.specs.declared.fault.WriteFault.{WriteFault}
 use Rattle.gff_write.specs.declared.fault.WriteFault.TheVariants as fault
 use Rattle.gff_write.specs.declared.flat.Content.{Content}
@@ -154,9 +155,9 @@ written_rows file_type rows =
 abbrev pub written : PlainGff → List ℕ
 written gff = written_rows gff.file_type (rows_of 0 gff.top)
 
--- what writing gives: the file, or that it would be too large, with its size
+-- what writing gives: the file, or that it would be too large, with its size as a number of 64 bits can tell it
 unfoldable pub outcome_of : List ℕ → Result (List ℕ) WriteFault
-outcome_of bytes = if nat_lt 16777216 (length bytes) then Err (fault.Large (length bytes)) else Ok bytes
+outcome_of bytes = if nat_lt file_limit (length bytes) then Err (fault.Large (min (length bytes) (2 ^ 64 - 1))) else Ok bytes
 
 -- what a call returned is what writing gives, unless memory ran out
 abbrev pub Gives : {X : Type 0} → (X → List ℕ) → Result X WriteFault → Result (List ℕ) WriteFault → Type 0

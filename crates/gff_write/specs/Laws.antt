@@ -8,6 +8,7 @@ use Rattle.gff_tree.specs.Tree as tree
 use Rattle.gff_tree.specs.Tree.{Scalar, PlainNode, PlainFields, PlainLeaf, PlainNodes, Struct, NoField, MoreFields, Holds, Child, Children, NoNode, MoreNodes, is_sound}
 use Rattle.gff_tree.specs.Whole.{PlainGff}
 use Rattle.gff_tree.specs.Stands.{Stands}
+use Rattle.nwq_value.specs.Limits.{file_limit}
 use Rattle.gff_write.specs.File.{written}
 
 -- each number of a list is a byte; past its end the list reads 0
@@ -64,4 +65,4 @@ pub record IsTree (gff : PlainGff) : Type 0 where
 
 -- the file of each tree stands for the tree, where it is no larger than a file may be
 abbrev pub WrittenStands : Type 0
-WrittenStands = (gff : PlainGff) → IsTree gff → length (written gff) ≤ 16777216 → Stands (written gff) gff
+WrittenStands = (gff : PlainGff) → IsTree gff → length (written gff) ≤ file_limit → Stands (written gff) gff

@@ -8,7 +8,7 @@ ghost use Rattle.gff_write.specs.Flat.{word, wide, counted, named, part_bytes, l
 use crate::count::{count_leaf, count_node, sum};
 use crate::flat::{Content, Entry};
 use crate::put::{put_counted, put_wide, put_word};
-use gff_tree::{Field, LABEL_BYTES, Label, Leaf, Loc, Node};
+use gff_tree::{Field, LABEL_BYTES, Label, Leaf, Loc, Node, readings_tell};
 use nwq_value::{Items, NoMemory};
 use std::alloc::Global;
 
@@ -65,10 +65,10 @@ fn numbers(alloc: Global, nodes: &[Node], first: u64) -> Result<Items<u64>, NoMe
     Ok(numbers)
 }
 
-#[tactic(auto, using(crate::proofs::CountLemmas::plain_list_is))]
 fn kind_of(leaf: &Leaf) -> u32
     ensures { result ≡ leaf_kind (plain_leaf leaf.now) }
 {
+    readings_tell();
     match leaf {
         Leaf::Byte(_) => 0,
         Leaf::Char(_) => 1,
@@ -85,14 +85,14 @@ fn kind_of(leaf: &Leaf) -> u32
         Leaf::Loc(_) => 12,
         Leaf::Void(_) => 13,
         Leaf::Struct(_) => 14,
-        Leaf::List(_) => 15,
+        Leaf::List(_nodes) => 15,
     }
 }
 
-#[tactic(auto, using(crate::proofs::CountLemmas::plain_list_is))]
 fn content_of(alloc: Global, leaf: &Leaf, first: u64) -> Result<Content, NoMemory>
     ensures { IfOk result (λ content. content ≡ leaf_content first (plain_leaf leaf.now)) }
 {
+    readings_tell();
     match leaf {
         Leaf::Byte(n) => Ok(Content::Small(u32::from(*n))),
         Leaf::Char(n) => Ok(Content::Small(u32::from(n.cast_unsigned()))),

@@ -4,7 +4,7 @@ use nwq_value::Items;
 
 /// What the third number of a field's row tells: a value, bytes of the field data, the number of a struct,
 /// or the numbers of a list's structs.
-#[derive(Debug, Drop)]
+#[derive(Drop)]
 pub enum Content {
     Small(u32),
     Data(Items<u8>),
@@ -13,7 +13,7 @@ pub enum Content {
 }
 
 /// A field: its label filled up with zero bytes, the number of its type, and what it holds.
-#[derive(Debug, Drop)]
+#[derive(Drop)]
 pub struct Entry {
     pub label: [u8; 16],
     pub kind: u32,
@@ -21,7 +21,7 @@ pub struct Entry {
 }
 
 /// A struct: its type and its fields.
-#[derive(Debug, Drop)]
+#[derive(Drop)]
 pub struct Row {
     pub kind: u32,
     pub fields: Items<Entry>,

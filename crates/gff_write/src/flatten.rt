@@ -7,7 +7,7 @@ ghost use Rattle.gff_write.specs.Flat.{rows_of, leaf_rows};
 use crate::count::sum;
 use crate::encode::entries;
 use crate::flat::Row;
-use gff_tree::{Leaf, Node};
+use gff_tree::{Leaf, Node, readings_tell};
 use nwq_value::{Items, NoMemory};
 use std::alloc::Global;
 
@@ -16,6 +16,7 @@ use std::alloc::Global;
 pub fn flatten_node(alloc: Global, node: &Node, rows: &mut Items<Row>) -> Result<(), NoMemory>
     ensures { OnOk result (rows.new ≡ rows.old ++ rows_of (length rows.old) (plain_node node.now)) }
 {
+    readings_tell();
     let first = sum(rows.len() as u64, 1)?;
     let fields = entries(alloc, &node.fields, first)?;
     rows.push(Row {
@@ -33,6 +34,7 @@ pub fn flatten_node(alloc: Global, node: &Node, rows: &mut Items<Row>) -> Result
 fn flatten_leaf(alloc: Global, leaf: &Leaf, rows: &mut Items<Row>) -> Result<(), NoMemory>
     ensures { OnOk result (rows.new ≡ rows.old ++ leaf_rows (length rows.old) (plain_leaf leaf.now)) }
 {
+    readings_tell();
     match leaf {
         Leaf::Struct(node) => flatten_node(alloc, node, rows),
         Leaf::List(nodes) => {

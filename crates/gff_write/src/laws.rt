@@ -4,5 +4,5 @@ ghost use Rattle.gff_write.specs.Laws.{WrittenStands};
 
 /// The file that a tree is written as stands for the tree.
 pub fn written_stands()
-    ensures { WrittenStands }
+    ensures stands { WrittenStands }
 {}

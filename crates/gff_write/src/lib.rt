@@ -2,7 +2,7 @@
 //!
 //! The file has its structs in preorder, its fields struct by struct, each label once in order of first use,
 //! and field data, field indices and list indices in the order of the fields. `specs/File.antt` writes it as
-//! a function of the tree.
+//! a function of the tree. docs/GFF.md tells the format and this project's choices.
 #![tactic(auto)]
 
 mod count;
@@ -22,6 +22,3 @@ pub use fault::WriteFault;
 pub use laws::written_stands;
 pub use measure::size;
 pub use writing::write;
-
-#[cfg(test)]
-mod tests;

@@ -10,7 +10,7 @@ ghost use Rattle.gff_write.specs.Size.{capped, index_bytes, node_bytes, leaf_byt
 
 use crate::encode::filled;
 use crate::labels::LabelRow;
-use gff_tree::{Field, Gff, Label, Leaf, LocPart, Node};
+use gff_tree::{Field, Gff, Label, Leaf, LocPart, Node, readings_tell};
 use std::cmp::Ordering;
 
 /// The bytes of the header: the file type and what follows it.
@@ -56,6 +56,7 @@ fn index_size(count: u64) -> u64
 fn node_size(node: &Node) -> u64
     ensures { result ≡ capped (node_bytes (plain_node node.now)) }
 {
+    readings_tell();
     let mut total = plus(12, index_size(node.fields.len() as u64));
     for field in &node.fields {
         total = plus(plus(total, 12), leaf_size(&field.leaf));
@@ -65,10 +66,11 @@ fn node_size(node: &Node) -> u64
 
 /// What a field holds, behind the field's row and without labels.
 #[cycle(size)]
-#[tactic(auto, using(crate::proofs::CountLemmas::plain_list_is), unfolding(crate::specs::Size::capped))]
+#[tactic(auto, unfolding(crate::specs::Size::capped))]
 fn leaf_size(leaf: &Leaf) -> u64
     ensures { result ≡ capped (leaf_bytes (plain_leaf leaf.now)) }
 {
+    readings_tell();
     match leaf {
         Leaf::Dword64(_) => 8,
         Leaf::Int64(_) => 8,
@@ -126,6 +128,7 @@ fn next_own(fields: &[Field], past: Option<LabelRow>, best: Option<LabelRow>) ->
 fn next_in(node: &Node, past: Option<LabelRow>, best: Option<LabelRow>) -> Option<LabelRow>
     ensures { result ≡ next_label past best (node_labels (plain_node node.now)) }
 {
+    readings_tell();
     let mut best = next_own(&node.fields, past, best);
     for field in &node.fields {
         best = next_below(&field.leaf, past, best);
@@ -137,6 +140,7 @@ fn next_in(node: &Node, past: Option<LabelRow>, best: Option<LabelRow>) -> Optio
 fn next_below(leaf: &Leaf, past: Option<LabelRow>, best: Option<LabelRow>) -> Option<LabelRow>
     ensures { result ≡ next_label past best (leaf_labels (plain_leaf leaf.now)) }
 {
+    readings_tell();
     match leaf {
         Leaf::Struct(node) => next_in(node, past, best),
         Leaf::List(nodes) => {
@@ -180,7 +184,7 @@ fn labels_size(top: &Node) -> u64
 /// which the file has once each, are met in the order of their bytes by one walk over the tree for each, so the
 /// time is the tree's fields times its distinct labels.
 pub fn size(tree: &Gff) -> u64
-    ensures { result ≡ min (length (written (plain_gff tree.now))) (2 ^ 64 - 1) }
+    ensures size { result ≡ min (length (written (plain_gff tree.now))) (2 ^ 64 - 1) }
 {
     let structs = plus(header_size(&tree.file_type), node_size(&tree.top));
     plus(structs, labels_size(&tree.top))

@@ -5,7 +5,7 @@ ghost use Rattle.gff_tree.specs.Tree.{plain_node, plain_leaf};
 ghost use Rattle.gff_tree.specs.Whole.{plain_gff};
 ghost use Rattle.gff_write.specs.Laws.{IsTree, IsNode, IsLeaf, AreBytes, AreParts};
 
-use gff_tree::{Gff, Leaf, LocPart, Node};
+use gff_tree::{Gff, Leaf, LocPart, Node, readings_tell};
 
 /// Tells the proof what the types keep: a tree of a program is in the ranges that the law of the writing asks for. The
 /// walk reads each number, which is how its range becomes known; it computes nothing and changes nothing.
@@ -21,6 +21,7 @@ pub fn tree_ranges(tree: &Gff)
 fn node_ranges(node: &Node)
     ensures { IsNode (plain_node node.now) }
 {
+    readings_tell();
     let _kind = node.kind;
     for field in &node.fields {
         let _label = field.label.bytes();
@@ -66,6 +67,7 @@ fn part_ranges(parts: &[LocPart])
 fn leaf_ranges(leaf: &Leaf)
     ensures { IsLeaf (plain_leaf leaf.now) }
 {
+    readings_tell();
     match leaf {
         Leaf::Byte(n) => {
             let _n = *n;

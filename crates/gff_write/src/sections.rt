@@ -11,7 +11,7 @@ use nwq_value::{Items, NoMemory};
 use std::alloc::Global;
 
 /// The six sections.
-#[derive(Debug, Drop)]
+#[derive(Drop)]
 pub struct Sections {
     pub structs: Items<u8>,
     pub fields: Items<u8>,

@@ -1,22 +1,22 @@
 //! The writing of a tree.
 
-ghost use Rattle.std.specs.Prelude.{◌≡◌, ◌++◌, length, IfOk, OnOk};
+ghost use Rattle.std.specs.Prelude.{◌≡◌, ◌++◌, [], length, IfOk, OnOk};
 ghost use Rattle.gff_tree.specs.Whole.{PlainGff, plain_gff};
 ghost use Rattle.gff_tree.specs.Stands.{Stands};
 ghost use Rattle.gff_tree.specs.Tree.{plain_node};
 ghost use Rattle.gff_write.specs.Flat.{rows_of};
-ghost use Rattle.gff_write.specs.File.{Gives, field_count, section_words, header_of, body_of, written_rows, written, outcome_of};
+ghost use Rattle.gff_write.specs.File.{Gives, field_count, row_labels, section_words, header_of, body_of, written_rows, written, outcome_of};
 
 use crate::count::sum;
 use crate::fault::WriteFault;
 use crate::flat::Row;
 use crate::flatten::flatten_node;
-use crate::labels::label_table;
+use crate::labels::{Labels, label_table};
 use crate::put::put_word;
 use crate::ranges::tree_ranges;
 use crate::sections::{Sections, sections_of};
 use gff_bytes::FILE_BYTES;
-use gff_tree::Gff;
+use gff_tree::{Gff, one_tree};
 use nwq_value::{Items, NoMemory};
 use std::alloc::Global;
 
@@ -79,24 +79,54 @@ fn put_body(out: &mut Items<u8>, s: &Sections) -> Result<(), NoMemory>
     out.extend(s.lists.as_slice())
 }
 
-/// The file of these structs.
+/// The header and the sections of a file, one behind the other.
+fn joined(
+    alloc: Global,
+    file_type: &[u8; 4],
+    s: &Sections,
+    structs: u64,
+    fields: u64,
+    labels: u64,
+) -> Result<Items<u8>, NoMemory>
+    ensures { IfOk result (λ bytes. bytes ≡ header_of file_type.now s.now structs fields labels ++ body_of s.now) }
+{
+    let mut out = header(alloc, file_type, s, structs, fields, labels)?;
+    put_body(&mut out, s)?;
+    Ok(out)
+}
+
+/// The file of these structs, whose labels and fields are counted.
 #[tactic(auto, unfolding(crate::specs::File::written_rows))]
-fn file(alloc: Global, file_type: &[u8; 4], rows: &[Row]) -> Result<Items<u8>, NoMemory>
+fn labelled(
+    alloc: Global,
+    file_type: &[u8; 4],
+    rows: &[Row],
+    labels: &Labels,
+    fields: u64,
+) -> Result<Items<u8>, NoMemory>
+    requires labels { labels.now.keys ≡ row_labels [] rows.now }
+    requires fields { fields ≡ field_count rows.now }
     ensures { IfOk result (λ bytes. bytes ≡ written_rows file_type.now rows.now) }
 {
-    let labels = label_table(alloc, rows)?;
-    let sections = sections_of(alloc, rows, &labels)?;
-    let fields = count_fields(rows)?;
-    let mut out = header(
+    let sections = sections_of(alloc, rows, labels)?;
+    let structs = rows.len() as u64;
+    joined(
         alloc,
         file_type,
         &sections,
-        rows.len() as u64,
+        structs,
         fields,
         labels.len() as u64,
-    )?;
-    put_body(&mut out, &sections)?;
-    Ok(out)
+    )
+}
+
+/// The file of these structs.
+fn file(alloc: Global, file_type: &[u8; 4], rows: &[Row]) -> Result<Items<u8>, NoMemory>
+    ensures { IfOk result (λ bytes. bytes ≡ written_rows file_type.now rows.now) }
+{
+    let fields = count_fields(rows)?;
+    let labels = label_table(alloc, rows)?;
+    labelled(alloc, file_type, rows, &labels, fields)
 }
 
 /// The structs of a tree in preorder.
@@ -138,5 +168,6 @@ pub fn write(alloc: Global, tree: &Gff) -> Result<Vec<u8>, WriteFault>
     ensures again { IfOk result (λ v. (other : PlainGff) → Stands v.items other → other ≡ plain_gff tree.now) }
 {
     tree_ranges(tree);
+    one_tree();
     outcome(alloc, tree)
 }

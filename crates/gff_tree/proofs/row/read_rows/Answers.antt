@@ -1,7 +1,8 @@
 use Rattle.std.proofs.Common.{◌≡◌, ◌+◌, ◌-◌, ◌∷◌, [], ◌++◌, map, arith}
 use Rattle.std.proofs.lemmas.Result.{err_from_is_err_and}
 use Rattle.std.proofs.lemmas.List.{map_push}
-use Rattle.gff_tree.specs.Rows.{plain_row, rows_of}
+use Rattle.gff_tree.specs.Rows.{rows_of}
+use Rattle.gff_tree.specs.Held.{plain_row}
 use Rattle.gff_tree.proofs.RowLemmas.{rows_step, rows_end, rows_stop, labels_step}
 use Rattle.gff_tree.proofs.row.read_rows.Goals as goal
 

@@ -2,9 +2,10 @@ use Rattle.std.proofs.Common.{◌≡◌, ◌-◌, ◌≤◌}
 use Rattle.gff_tree.specs.Rows.{words_from}
 use Rattle.gff_tree.proofs.RowLemmas.{with_front}
 use Rattle.gff_tree.proofs.row.read_words.Given as goal
+use Rattle.nwq_value.specs.Limits.{file_limit}
 
 abbrev pub invariant-loop-done : goal.invariant-loop-done
 invariant-loop-done l = record {
   read : with_front l.words.items (words_from l.view l.at (l.count - l._done)) ≡ words_from l.view l.place l.count;
-  inside : l.at ≤ 16777216;
+  inside : l.at ≤ file_limit;
 }

@@ -3,7 +3,7 @@ use Rattle.std.specs.Vec.Iter.{into_iter_items}
 use Rattle.std.proofs.lemmas.Result.{err_from_is_err_and}
 use Rattle.gff_tree.specs.declared.tree.Leaf.TheViews as views
 use Rattle.gff_tree.specs.Tree.{fields_list}
-use Rattle.gff_tree.specs.Rows.{plain_row}
+use Rattle.gff_tree.specs.Held.{plain_row}
 use Rattle.gff_tree.specs.Walk.{node_at}
 use Rattle.gff_tree.proofs.WalkLemmas.{node_refused, node_rows_fail, node_fields_fail, node_made, fields_step, nodes_step}
 use Rattle.gff_tree.proofs.walk.+walk.Goals as goal
@@ -27,7 +27,7 @@ read_node-returns-in_err-fields t c =
 pub read_node-returns : goal.read_node-returns
 read_node-returns t c =
     node_made c.args.depth c.args.view.now c.args.n c.args.marks.now _ c.in_ok-entry.entry (map plain_row c.in_ok-rows.rows.items) (fields_list c.in_ok-fields.fields.items) _
-    c.in_ok-entry.ensures.row c.in_ok-rows.ensures c.in_ok-fields.ensures c.node_of.ensures
+    c.in_ok-entry.ensures.row c.in_ok-rows.ensures c.in_ok-fields.ensures c.new.ensures.node
 
 pub read_fields-loop-row-preserved : goal.read_fields-loop-row-preserved
 read_fields-loop-row-preserved t c =

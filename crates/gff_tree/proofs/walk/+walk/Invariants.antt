@@ -1,6 +1,6 @@
 use Rattle.std.proofs.Common.{◌≡◌, ◌+◌, ◌*◌, map, length, drop}
 use Rattle.std.specs.Vec.Iter.{into_iter_items}
-use Rattle.gff_tree.specs.Rows.{plain_row}
+use Rattle.gff_tree.specs.Held.{plain_row}
 use Rattle.gff_tree.specs.Walk.{struct_count, node_at, fields_at, nodes_at}
 use Rattle.gff_tree.proofs.WalkLemmas.{with_fields, with_nodes}
 use Rattle.gff_tree.proofs.walk.+walk.Given as goal

@@ -3,7 +3,6 @@ use Rattle.std.proofs.lemmas.List.{drop_all, append-nil}
 use Rattle.gff_tree.specs.declared.tree.Node.{out-Node}
 use Rattle.gff_tree.specs.Tree.{Struct, plain_leaf, fields_list, nodes_list}
 use Rattle.gff_write.specs.Flat.{rows_below, leaf_rows, list_rows, entries_from}
-use Rattle.gff_write.proofs.CountLemmas.{plain_node_out, plain_list_is}
 use Rattle.gff_write.proofs.FlatLemmas.{below_step, list_step, node_done}
 use Rattle.gff_write.proofs.flatten.+flatten.Goals as goal
 
@@ -17,7 +16,7 @@ flatten_leaf-returns-after-loop-node t c =
     let none : drop c.loop-node.node-index c.deref-node-items.result.now ≡ [] = drop_all _ _ c.loop-node-test.false in
     let all : c.loop-node.rows ++ [] ≡ c.args.rows.now ++ list_rows (length c.args.rows.now) (nodes_list c.deref-node-items.result.now) = rw none at c.loop-node.invariant in
     let listed : leaf_rows (length c.args.rows.now) (plain_leaf c.args.leaf.now) ≡ list_rows (length c.args.rows.now) (nodes_list c.deref-node-items.result.now) =
-    ap (leaf_rows (length c.args.rows.now)) (plain_list_is c.args.leaf.now c.in-List.nodes c.in-List.is) ∙ ap (λ ns. list_rows (length c.args.rows.now) (nodes_list ns)) (sym c.deref-node-items.ensures.value) in
+    ap (leaf_rows (length c.args.rows.now)) (c.readings_tell.ensures.list c.args.leaf.now c.in-List.nodes c.in-List.is) ∙ ap (λ ns. list_rows (length c.args.rows.now) (nodes_list ns)) (sym c.deref-node-items.ensures.value) in
     sym (append-nil c.loop-node.rows) ∙ (all ∙ ap (λ rs. c.args.rows.now ++ rs) (sym listed))
 
 pub flatten_node-loop-field-preserved : goal.flatten_node-loop-field-preserved
@@ -29,9 +28,9 @@ pub flatten_node-returns : goal.flatten_node-returns
 flatten_node-returns t c =
     let none : drop c.loop-field.field-index c.deref-field-items.result.now ≡ [] = drop_all _ _ c.loop-field-test.false in
     let all : c.loop-field.rows ++ [] ≡ c.push.new.self ++ rows_below (length c.push.new.self) (fields_list c.deref-field-items.result.now) = rw none at c.loop-field.invariant in
-    let first : c.in_ok-first.first ≡ length c.args.rows.now + 1 = c.in_ok-first.ensures ∙ ap (λ n. n + 1) c.len.ensures in
+    let first : c.in_ok-first.first ≡ length c.args.rows.now + 1 = c.in_ok-first.ensures ∙ ap (λ n. n + 1) c.len.ensures.len in
     let same = c.deref.ensures.value ∙ sym c.deref-field-items.ensures.value in
     let read : c.in_ok-fields.fields ≡ entries_from (length c.args.rows.now + 1) (fields_list c.deref-field-items.result.now) =
     c.in_ok-fields.ensures ∙ (ap (λ n. entries_from n (fields_list c.deref.result.now)) first ∙ ap (λ fs. entries_from (length c.args.rows.now + 1) (fields_list fs)) same) in
     node_done c.args.rows.now c.push.new.self c.loop-field.rows c.args.node.now _ _ c.deref-field-items.result.now
-    (sym (append-nil c.loop-field.rows) ∙ all) c.in_ok-push.ensures.ok read (plain_node_out c.args.node.now ∙ ap (λ fs. Struct (out-Node c.args.node.now).kind (fields_list fs)) (sym c.deref-field-items.ensures.value))
+    (sym (append-nil c.loop-field.rows) ∙ all) c.in_ok-push.ensures.ok read (c.readings_tell.ensures.node c.args.node.now ∙ ap (λ fs. Struct (out-Node c.args.node.now).kind (fields_list fs)) (sym c.deref-field-items.ensures.value))

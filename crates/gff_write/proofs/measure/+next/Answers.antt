@@ -4,7 +4,6 @@ use Rattle.gff_tree.specs.declared.tree.Field.{Field}
 use Rattle.gff_tree.specs.declared.tree.Node.{Node}
 use Rattle.gff_tree.specs.Tree.{fields_list, nodes_list}
 use Rattle.gff_write.specs.Size.{next_label, own_labels, node_labels, labels_below, leaf_labels, list_labels}
-use Rattle.gff_write.proofs.CountLemmas.{plain_node_out, plain_list_is}
 use Rattle.gff_write.proofs.WalkLemmas.{next_append, fields_turn, nodes_turn}
 use Rattle.gff_write.proofs.measure.+next.Goals as goal
 
@@ -19,7 +18,7 @@ next_below-returns-after-loop-node t c =
     let all : c.loop-node.best ≡ next_label c.args.past c.args.best (list_labels (nodes_list c.deref-node-items.result.now)) =
     subst (λ (ns : List Node). next_label c.args.past c.loop-node.best (list_labels (nodes_list ns)) ≡ next_label c.args.past c.args.best (list_labels (nodes_list c.deref-node-items.result.now))) none c.loop-node.invariant in
     all ∙ (ap (λ ns. next_label c.args.past c.args.best (list_labels (nodes_list ns))) c.deref-node-items.ensures.value
-    ∙ sym (ap (λ l. next_label c.args.past c.args.best (leaf_labels l)) (plain_list_is c.args.leaf.now c.in-List.nodes c.in-List.is)))
+    ∙ sym (ap (λ l. next_label c.args.past c.args.best (leaf_labels l)) (c.readings_tell.ensures.list c.args.leaf.now c.in-List.nodes c.in-List.is)))
 
 pub next_in-loop-field-preserved : goal.next_in-loop-field-preserved
 next_in-loop-field-preserved t c =
@@ -38,4 +37,4 @@ next_in-returns t c =
     all ∙ (ap (λ o. next_label c.args.past o (labels_below (fields_list items))) own
     ∙ (sym (next_append c.args.past c.args.best (own_labels (fields_list items)) (labels_below (fields_list items)))
     ∙ (ap (λ fs. next_label c.args.past c.args.best (own_labels (fields_list fs) ++ labels_below (fields_list fs))) c.deref-field-items.ensures.value
-    ∙ sym (ap (λ x. next_label c.args.past c.args.best (node_labels x)) (plain_node_out c.args.node.now)))))
+    ∙ sym (ap (λ x. next_label c.args.past c.args.best (node_labels x)) (c.readings_tell.ensures.node c.args.node.now)))))

@@ -6,7 +6,6 @@ use Rattle.gff_tree.specs.Tree.{fields_list, nodes_list}
 use Rattle.std.specs.List.{flat_map}
 use Rattle.gff_write.specs.Flat.{part_bytes}
 use Rattle.gff_write.specs.Size.{capped, index_bytes, own_count, node_bytes, leaf_bytes, fields_bytes, nodes_bytes}
-use Rattle.gff_write.proofs.CountLemmas.{plain_node_out, plain_list_is}
 use Rattle.gff_write.proofs.CapLemmas.{fields_turn, nodes_turn, capped_small, end, eight, counted_size, localized_size, start, own_counted}
 use Rattle.gff_write.proofs.measure.+size.Goals as goal
 
@@ -25,10 +24,10 @@ pub leaf_size-returns-in-Int64 : goal.leaf_size-returns-in-Int64
 leaf_size-returns-in-Int64 t c = rw c.in-Int64.is (eight _)
 
 pub leaf_size-returns-in-Str : goal.leaf_size-returns-in-Str
-leaf_size-returns-in-Str t c = c.plus-in-Str.ensures ∙ (ap (λ n. capped (4 + n)) c.len.ensures ∙ rw c.in-Str.is (counted_size _))
+leaf_size-returns-in-Str t c = c.plus-in-Str.ensures ∙ (ap (λ n. capped (4 + n)) c.len.ensures.len ∙ rw c.in-Str.is (counted_size _))
 
 pub leaf_size-returns-in-Void : goal.leaf_size-returns-in-Void
-leaf_size-returns-in-Void t c = c.plus-in-Void.ensures ∙ (ap (λ n. capped (4 + n)) c.len-in-Void.ensures ∙ rw c.in-Void.is (counted_size _))
+leaf_size-returns-in-Void t c = c.plus-in-Void.ensures ∙ (ap (λ n. capped (4 + n)) c.len-in-Void.ensures.len ∙ rw c.in-Void.is (counted_size _))
 
 pub leaf_size-returns-after-loop-node : goal.leaf_size-returns-after-loop-node
 leaf_size-returns-after-loop-node t c =
@@ -36,7 +35,7 @@ leaf_size-returns-after-loop-node t c =
     let all : c.loop-node.total ≡ capped (4 + nodes_bytes (nodes_list c.deref-node-items.result.now)) =
     end c.loop-node.total _ (subst (λ (ns : List Node). capped (c.loop-node.total + nodes_bytes (nodes_list ns)) ≡ capped (4 + nodes_bytes (nodes_list c.deref-node-items.result.now))) none c.loop-node.invariant.sum) c.loop-node.invariant.small in
     all ∙ (ap (λ ns. capped (4 + nodes_bytes (nodes_list ns))) c.deref-node-items.ensures.value
-    ∙ sym (ap (λ l. capped (leaf_bytes l)) (plain_list_is c.args.leaf.now c.in-List.nodes c.in-List.is)))
+    ∙ sym (ap (λ l. capped (leaf_bytes l)) (c.readings_tell.ensures.list c.args.leaf.now c.in-List.nodes c.in-List.is)))
 
 pub node_size-loop-field-preserved : goal.node_size-loop-field-preserved
 node_size-loop-field-preserved t c = record {
@@ -54,7 +53,7 @@ node_size-returns t c =
     end c.loop-field.total _ (subst (λ (fs : List Field). capped (c.loop-field.total + fields_bytes (fields_list fs)) ≡ capped (12 + index_bytes (length items) + fields_bytes (fields_list items))) none c.loop-field.invariant.sum) c.loop-field.invariant.small in
     all ∙ (ap (λ n. capped (12 + index_bytes n + fields_bytes (fields_list items))) (sym (own_counted items))
     ∙ (ap (λ fs. capped (12 + index_bytes (own_count (fields_list fs)) + fields_bytes (fields_list fs))) c.deref-field-items.ensures.value
-    ∙ sym (ap (λ x. capped (node_bytes x)) (plain_node_out c.args.node.now))))
+    ∙ sym (ap (λ x. capped (node_bytes x)) (c.readings_tell.ensures.node c.args.node.now))))
 
 pub node_size-loop-field-init : goal.node_size-loop-field-init
 node_size-loop-field-init t c = record {
@@ -66,4 +65,4 @@ node_size-loop-field-init t c = record {
 
 pub leaf_size-returns-in-Loc : goal.leaf_size-returns-in-Loc
 leaf_size-returns-in-Loc t c =
-    rw c.in-Loc.is (c.parts_size.ensures ∙ (ap (λ ps. capped (12 + length (flat_map part_bytes ps))) c.as_slice-in-Loc.ensures ∙ localized_size c.in-Loc.loc))
+    rw c.in-Loc.is (c.parts_size.ensures ∙ (ap (λ ps. capped (12 + length (flat_map part_bytes ps))) c.as_slice-in-Loc.ensures.items ∙ localized_size c.in-Loc.loc))

@@ -10,7 +10,7 @@ pub loop-part-preserved : goal.loop-part-preserved
 loop-part-preserved c = record {
   sum =
       parts_turn c.loop-part.total c.plus.result c.plus-total.result _ c.loop-part.part-index c.args.parts.now c.part-item.result c.loop-part-test.true c.part-item.is
-      c.loop-part.invariant.sum c.plus.ensures (c.plus-total.ensures ∙ ap (λ n. capped (c.plus.result + n)) c.len.ensures);
+      c.loop-part.invariant.sum c.plus.ensures (c.plus-total.ensures ∙ ap (λ n. capped (c.plus.result + n)) c.len.ensures.len);
   small = subst (λ n. n ≤ 18446744073709551615) (sym c.plus-total.ensures) (capped_small _);
 }
 

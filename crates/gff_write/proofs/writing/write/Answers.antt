@@ -7,4 +7,4 @@ returns-clause-stands c = written_ok (plain_gff c.args.tree.now) c.outcome.resul
 
 pub returns-clause-again : goal.returns-clause-again
 returns-clause-again c =
-    written_again (plain_gff c.args.tree.now) c.outcome.result (written_ok (plain_gff c.args.tree.now) c.outcome.result c.tree_ranges.ensures c.outcome.ensures)
+    written_again c.one_tree.ensures.one (plain_gff c.args.tree.now) c.outcome.result (written_ok (plain_gff c.args.tree.now) c.outcome.result c.tree_ranges.ensures c.outcome.ensures)

@@ -1,0 +1,9 @@
+pub mod Variables
+pub mod Woven
+pub mod Objects
+pub mod Broken
+pub mod Reading
+pub mod Back
+pub mod Current
+pub mod Area
+pub mod Index

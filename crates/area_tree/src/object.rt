@@ -1,0 +1,439 @@
+//! The objects as they are read from a tree, and its first broken place.
+
+ghost use Rattle.std.specs.Prelude.{◌≡◌, ◌<◌, ◌+◌, ◌++◌, ◌∷◌, [], map, filter, not, drop, codes, length, OnOk, OnErr, IfOk, IfErr};
+ghost use Rattle.std.specs.Option.{option_map};
+ghost use Rattle.gff_tree.specs.Tree.{plain_node, plain_field, nodes_list};
+ghost use Rattle.gff_tree.specs.Count.{node_count, nodes_count};
+ghost use Rattle.gff_tree.specs.Fields.{fields_of, found};
+ghost use Rattle.area_tree.specs.Variables.{IntVar, TextVar, is_int, is_text, put, variable_of};
+ghost use Rattle.area_tree.specs.Area.{script_named};
+ghost use Rattle.area_tree.specs.Objects.{dword_in, int_in, string_in, int_entry, text_entry, entry_of, variables_in, structs_in, tag_in, with_script, scripts_in, object_of, list_labels, objects_of};
+ghost use Rattle.area_tree.specs.Broken.{IsFirst, at_member, entry_places, with_later, entries_places, tag_places, table_places, member_places, members_places, list_places, broken_places};
+ghost use Rattle.area_tree.specs.Reading.{Reads, leaf_in, leaves_count, entry_told};
+
+use crate::fault::AreaFault;
+use crate::vars::{Var, Vars};
+use gff_tree::{Field, Leaf, Node};
+use nwq_value::{Items, NoMemory};
+use std::alloc::Global;
+use std::marker::Model;
+use std::mem;
+
+/// The name of a resource under its label.
+#[derive(Drop)]
+pub struct ScriptField {
+    label: Items<u8>,
+    name: Items<u8>,
+}
+
+impl Model for ScriptField {
+    ghost use Rattle.area_tree.specs.Objects.{Script};
+
+    ghost Value = { Script };
+
+    ghost view = { λ s. record { label = s.label; name = s.name } };
+}
+
+/// One object of an area.
+#[derive(Drop)]
+pub struct Object {
+    tag: Items<u8>,
+    vars: Vars,
+    scripts: Vec<ScriptField>,
+}
+
+impl Model for Object {
+    ghost use Rattle.area_tree.specs.Objects.{AreaObject};
+
+    ghost Value = { AreaObject };
+
+    ghost view = { λ o. record { tag = o.tag; vars = o.vars; scripts = o.scripts.items } };
+}
+
+impl Object {
+    pub fn tag(&self) -> &[u8]
+        ensures tag { result.now ≡ self.now.tag }
+    {
+        self.tag.bytes()
+    }
+
+    /// The name of the resource under a label.
+    pub fn script(&self, label: &[u8]) -> &[u8]
+        ensures name { result.now ≡ script_named label.now self.now.scripts }
+    {
+        script_in(&self.scripts, label)
+    }
+
+    pub fn vars(&self) -> &Vars
+        ensures vars { result.now ≡ self.now.vars }
+    {
+        &self.vars
+    }
+
+    pub fn set_int(&mut self, name: &[u8], n: i32) -> Result<(), NoMemory>
+        ensures ok { OnOk result (self.new ≡ record self.old { vars = put (IntVar name.now n) self.old.vars }) }
+        ensures err { OnErr result (self.new ≡ self.old) }
+    {
+        self.vars.set_int(name, n)
+    }
+
+    pub fn set_text(&mut self, name: &[u8], text: &[u8]) -> Result<(), NoMemory>
+        ensures ok { OnOk result (self.new ≡ record self.old { vars = put (TextVar name.now text.now) self.old.vars }) }
+        ensures err { OnErr result (self.new ≡ self.old) }
+    {
+        self.vars.set_text(name, text)
+    }
+
+    pub fn delete_int(&mut self, name: &[u8])
+        ensures gone { self.new ≡ record self.old { vars = filter (λ v. not (is_int name.now v)) self.old.vars } }
+    {
+        self.vars.delete_int(name);
+    }
+
+    pub fn delete_text(&mut self, name: &[u8])
+        ensures gone { self.new ≡ record self.old { vars = filter (λ v. not (is_text name.now v)) self.old.vars } }
+    {
+        self.vars.delete_text(name);
+    }
+
+    pub fn put_vars(&mut self, vars: Vars)
+        ensures vars { self.new ≡ record self.old { vars = vars } }
+    {
+        drop(mem::replace(&mut self.vars, vars));
+    }
+}
+
+fn script_in<'a>(scripts: &'a [ScriptField], label: &[u8]) -> &'a [u8]
+    ensures { result.now ≡ script_named label.now scripts.now }
+{
+    for script in scripts {
+        if label == script.label() {
+            return script.name();
+        }
+    }
+    &[]
+}
+
+impl ScriptField {
+    fn label(&self) -> &[u8]
+        ensures { result.now ≡ self.now.label }
+    {
+        self.label.bytes()
+    }
+
+    fn name(&self) -> &[u8]
+        ensures { result.now ≡ self.now.name }
+    {
+        self.name.bytes()
+    }
+}
+
+/// What an entry of a table of variables tells.
+#[derive(Clone, Copy)]
+pub enum Told<'a> {
+    Broken,
+    Unread,
+    Tells(Var<'a>),
+}
+
+fn string_of(leaf: Option<&Leaf>) -> Option<&[u8]>
+    ensures { option_map (λ text. text.now) result ≡ string_in (leaf_in leaf.entry) }
+{
+    match leaf {
+        Some(Leaf::Str(text)) => Some(text.bytes()),
+        _ => None,
+    }
+}
+
+fn int_of(leaf: Option<&Leaf>) -> Option<i32>
+    ensures { result ≡ int_in (leaf_in leaf.entry) }
+{
+    match leaf {
+        Some(Leaf::Int(n)) => Some(*n),
+        _ => None,
+    }
+}
+
+fn dword_of(leaf: Option<&Leaf>) -> Option<u32>
+    ensures { result ≡ dword_in (leaf_in leaf.entry) }
+{
+    match leaf {
+        Some(Leaf::Dword(n)) => Some(*n),
+        _ => None,
+    }
+}
+
+fn told_int(name: Option<&[u8]>, n: Option<i32>) -> Told<'_>
+    ensures { entry_told result ≡ int_entry (option_map (λ text. text.now) name.entry) n }
+{
+    match name {
+        None => Told::Broken,
+        Some(name) => match n {
+            None => Told::Broken,
+            Some(n) => Told::Tells(Var::Int(name, n)),
+        },
+    }
+}
+
+fn told_text<'a>(name: Option<&'a [u8]>, text: Option<&'a [u8]>) -> Told<'a>
+    ensures { entry_told result ≡ text_entry (option_map (λ t. t.now) name.entry) (option_map (λ t. t.now) text.entry) }
+{
+    match name {
+        None => Told::Broken,
+        Some(name) => match text {
+            None => Told::Broken,
+            Some(text) => Told::Tells(Var::Text(name, text)),
+        },
+    }
+}
+
+/// What an entry tells: its type is looked at first, and where that isn't read nothing else is.
+pub fn told_by(entry: &Node) -> Told<'_>
+    ensures { entry_told result ≡ entry_of (plain_node entry.now) }
+{
+    match dword_of(entry.find(b"Type".as_slice())) {
+        None => Told::Broken,
+        Some(kind) => {
+            let name = string_of(entry.find(b"Name".as_slice()));
+            let value = entry.find(b"Value".as_slice());
+            match kind {
+                1 => told_int(name, int_of(value)),
+                3 => told_text(name, string_of(value)),
+                _ => Told::Unread,
+            }
+        }
+    }
+}
+
+/// Puts the variable of an entry last, if it tells one.
+fn add_entry(
+    list: u8,
+    member: u32,
+    number: u32,
+    entry: &Node,
+    vars: &mut Vars,
+) -> Result<(), AreaFault>
+    ensures read { OnOk result ((entry_places (record { list = list; member = member; entry = number }) vars.old (entry_of (plain_node entry.now)) ≡ [])
+        × (vars.new ≡ with_later vars.old (entry_of (plain_node entry.now)))) }
+    ensures first { IfErr result (λ e. IsFirst e (entry_places (record { list = list; member = member; entry = number }) vars.old (entry_of (plain_node entry.now)))) }
+{
+    let broken = AreaFault::Shape {
+        list,
+        member,
+        entry: number,
+    };
+    match told_by(entry) {
+        Told::Broken => Err(broken),
+        Told::Unread => Ok(()),
+        Told::Tells(v) => {
+            if vars.contains(v) {
+                return Err(broken);
+            }
+            vars.push(v)?;
+            Ok(())
+        }
+    }
+}
+
+/// Puts the variables of a table's entries into an empty list.
+fn add_entries(
+    list: u8,
+    member: u32,
+    entries: &[Node],
+    vars: &mut Vars,
+) -> Result<(), AreaFault>
+    requires few { length entries.now < 4294967296 }
+    requires none { vars.old ≡ [] }
+    ensures read { OnOk result ((entries_places list member 1 [] (map plain_node entries.now) ≡ []) × (vars.new ≡ variables_in (map plain_node entries.now))) }
+    ensures first { IfErr result (λ e. IsFirst e (entries_places list member 1 [] (map plain_node entries.now))) }
+{
+    let mut number = 0;
+    for entry in entries {
+        number += 1;
+        add_entry(list, member, number, entry, vars)?;
+    }
+    Ok(())
+}
+
+fn read_entries(
+    alloc: Global,
+    list: u8,
+    member: u32,
+    entries: &[Node],
+) -> Result<Vars, AreaFault>
+    requires few { length entries.now < 4294967296 }
+    ensures { Reads result (entries_places list member 1 [] (map plain_node entries.now)) (variables_in (map plain_node entries.now)) }
+{
+    let mut vars = Vars::new(alloc);
+    match add_entries(list, member, entries, &mut vars) {
+        Ok(()) => Ok(vars),
+        Err(e) => {
+            drop(vars);
+            Err(e)
+        }
+    }
+}
+
+/// The variables of a member.
+fn read_table(
+    alloc: Global,
+    list: u8,
+    member: u32,
+    table: Option<&Leaf>,
+) -> Result<Vars, AreaFault>
+    requires few { length (structs_in (leaf_in table)) < 4294967296 }
+    ensures { Reads result (table_places list member (leaf_in table.entry)) (variables_in (structs_in (leaf_in table.entry))) }
+{
+    match table {
+        None => Ok(Vars::new(alloc)),
+        Some(leaf) => match leaf.list() {
+            None => Err(AreaFault::Shape {
+                list,
+                member,
+                entry: 0,
+            }),
+            Some(entries) => read_entries(alloc, list, member, entries),
+        },
+    }
+}
+
+fn read_tag(
+    alloc: Global,
+    list: u8,
+    member: u32,
+    tag: Option<&Leaf>,
+) -> Result<Items<u8>, AreaFault>
+    ensures { Reads result (tag_places list member (leaf_in tag.entry)) (tag_in (leaf_in tag.entry)) }
+{
+    match tag {
+        None => Ok(Items::new(alloc)),
+        Some(Leaf::Str(text)) => Ok(Items::of_slice(alloc, text.bytes())?),
+        Some(Leaf::Res(text)) => Ok(Items::of_slice(alloc, text.bytes())?),
+        Some(_) => Err(AreaFault::Shape {
+            list,
+            member,
+            entry: 0,
+        }),
+    }
+}
+
+/// Puts a field last, if it holds the name of a resource.
+fn add_script(alloc: Global, field: &Field, scripts: &mut Vec<ScriptField>) -> Result<(), NoMemory>
+    ensures { OnOk result (scripts.new.items ≡ scripts.old.items ++ with_script field.now.label (plain_field field.now).leaf []) }
+{
+    if let Leaf::Res(text) = &field.leaf {
+        let label = Items::of_slice(alloc, field.label.bytes())?;
+        let name = Items::of_slice(alloc, text.bytes())?;
+        scripts.push(ScriptField { label, name })?;
+    }
+    Ok(())
+}
+
+fn read_scripts(alloc: Global, fields: &[Field]) -> Result<Vec<ScriptField>, NoMemory>
+    ensures { IfOk result (λ scripts. scripts.items ≡ scripts_in (map plain_field fields.now)) }
+{
+    let mut scripts = Vec::new(alloc);
+    for field in fields {
+        add_script(alloc, field, &mut scripts)?;
+    }
+    Ok(scripts)
+}
+
+/// The object that a member of a list is.
+fn read_member(alloc: Global, list: u8, member: u32, node: &Node) -> Result<Object, AreaFault>
+    requires few { length (structs_in (found (codes "VarTable") (fields_of (plain_node node.now)))) < 4294967296 }
+    ensures { Reads result (member_places list member (plain_node node.now)) (object_of (plain_node node.now)) }
+{
+    let scripts = read_scripts(alloc, node.fields())?;
+    let tag = read_tag(alloc, list, member, node.find(b"Tag".as_slice()))?;
+    let vars = read_table(alloc, list, member, node.find(b"VarTable".as_slice()))?;
+    Ok(Object { tag, vars, scripts })
+}
+
+/// Puts the objects of a list's members last.
+fn add_members(
+    alloc: Global,
+    list: u8,
+    nodes: &[Node],
+    objects: &mut Vec<Object>,
+) -> Result<(), AreaFault>
+    requires few { nodes_count (nodes_list nodes.now) < 4294967296 }
+    ensures read { OnOk result ((members_places list 1 (map plain_node nodes.now) ≡ []) × (objects.new.items ≡ objects.old.items ++ map object_of (map plain_node nodes.now))) }
+    ensures first { IfErr result (λ e. IsFirst e (members_places list 1 (map plain_node nodes.now))) }
+{
+    let mut member = 0;
+    for node in nodes {
+        member += 1;
+        let object = read_member(alloc, list, member, node)?;
+        objects.push(object)?;
+    }
+    Ok(())
+}
+
+/// Puts the objects of a list of the top struct last.
+fn add_list(
+    alloc: Global,
+    list: u8,
+    leaf: Option<&Leaf>,
+    objects: &mut Vec<Object>,
+) -> Result<(), AreaFault>
+    requires few { leaves_count (leaf_in leaf) < 4294967296 }
+    ensures read { OnOk result ((list_places list (leaf_in leaf.entry) ≡ []) × (objects.new.items ≡ objects.old.items ++ map object_of (structs_in (leaf_in leaf.entry)))) }
+    ensures first { IfErr result (λ e. IsFirst e (list_places list (leaf_in leaf.entry))) }
+{
+    match leaf {
+        None => Ok(()),
+        Some(leaf) => match leaf.list() {
+            None => Err(AreaFault::Shape {
+                list,
+                member: 0,
+                entry: 0,
+            }),
+            Some(nodes) => add_members(alloc, list, nodes, objects),
+        },
+    }
+}
+
+/// The label of a list of objects by its number.
+pub fn list_label(list: u8) -> &'static [u8]
+    requires { list < 5 }
+    ensures { drop list list_labels ≡ result.now ∷ drop (list + 1) list_labels }
+{
+    match list {
+        0 => b"Creature List".as_slice(),
+        1 => b"Door List".as_slice(),
+        2 => b"Placeable List".as_slice(),
+        3 => b"TriggerList".as_slice(),
+        _ => b"WaypointList".as_slice(),
+    }
+}
+
+/// Puts the objects of the five lists into an empty list.
+fn add_lists(alloc: Global, top: &Node, objects: &mut Vec<Object>) -> Result<(), AreaFault>
+    requires few { node_count (plain_node top.now) < 4294967296 }
+    requires none { objects.old.items ≡ [] }
+    ensures read { OnOk result ((broken_places (plain_node top.now) ≡ []) × (objects.new.items ≡ objects_of (plain_node top.now))) }
+    ensures first { IfErr result (λ e. IsFirst e (broken_places (plain_node top.now))) }
+{
+    for list in 0..5 {
+        let leaf = top.find(list_label(list));
+        add_list(alloc, list, leaf, objects)?;
+    }
+    Ok(())
+}
+
+/// The objects of a tree, or its first broken place.
+pub fn read_objects(alloc: Global, top: &Node) -> Result<Vec<Object>, AreaFault>
+    requires few { node_count (plain_node top.now) < 4294967296 }
+    ensures read { IfOk result (λ objects. (broken_places (plain_node top.now) ≡ []) × (objects.items ≡ objects_of (plain_node top.now))) }
+    ensures first { IfErr result (λ e. IsFirst e (broken_places (plain_node top.now))) }
+{
+    let mut objects = Vec::new(alloc);
+    match add_lists(alloc, top, &mut objects) {
+        Ok(()) => Ok(objects),
+        Err(e) => {
+            drop(objects);
+            Err(e)
+        }
+    }
+}

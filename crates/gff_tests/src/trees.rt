@@ -1,0 +1,75 @@
+use crate::files::{BASE, changed};
+use gff_bytes::{FILE_BYTES, OpenFault, Part, View};
+use gff_tree::{Label, TreeFault, read, read_within};
+use std::alloc::Global;
+
+/// What became of reading a file: its letter, a letter for the part, and the number.
+fn outcome(alloc: Global, bytes: &[u8]) -> (char, char, u32) {
+    if bytes.len() > FILE_BYTES {
+        return ('l', ' ', 0);
+    }
+    match View::open(bytes) {
+        Err(OpenFault::Version) => ('v', ' ', 0),
+        Err(_) => ('o', ' ', 0),
+        Ok(view) => match read(alloc, &view) {
+            Ok(_) => ('t', ' ', 0),
+            Err(fault) => refusal(fault),
+        },
+    }
+}
+
+fn refusal(fault: TreeFault) -> (char, char, u32) {
+    match fault {
+        TreeFault::Range(range) => ('r', part(range.part), range.at),
+        TreeFault::Kind(n) => ('k', ' ', n),
+        TreeFault::Shared(n) => ('s', ' ', n),
+        TreeFault::Deep(n) => ('d', ' ', n),
+        TreeFault::Label(n) => ('n', ' ', n),
+        TreeFault::NoMemory => ('m', ' ', 0),
+    }
+}
+
+fn part(part: Part) -> char {
+    match part {
+        Part::Struct => 's',
+        Part::Field => 'f',
+        Part::Label => 'l',
+        Part::Data => 'd',
+        Part::Index => 'i',
+        Part::List => 'w',
+    }
+}
+
+#[test]
+fn broken_files_are_refused_at_the_first_failing_test(rt: HostRuntime) {
+    let cases: [(&[(usize, u32)], (char, char, u32)); 9] = [
+        (&[], ('t', ' ', 0)),
+        (&[(4, 0x332e_3356)], ('v', ' ', 0)),
+        (&[(12, 0)], ('r', 's', 0)),
+        (&[(64, 2)], ('r', 'i', 0)),
+        (&[(68, 16)], ('k', ' ', 0)),
+        (&[(72, 1)], ('r', 'l', 1)),
+        (&[(68, 7)], ('r', 'd', 0)),
+        (&[(68, 14)], ('r', 's', 7)),
+        (&[(68, 15)], ('r', 'w', 7)),
+    ];
+    for (changes, wanted) in cases.as_slice() {
+        let bytes = changed(rt.alloc(), *changes).expect(&rt, "memory");
+        assert_eq!(rt; outcome(rt.alloc(), &bytes), *wanted);
+    }
+    let shared = changed(rt.alloc(), &[(68, 14), (76, 0)]).expect(&rt, "memory");
+    assert_eq!(rt; outcome(rt.alloc(), &shared), ('s', ' ', 0));
+}
+
+#[test]
+fn a_tree_within_the_budget_is_read(rt: HostRuntime) {
+    let view = View::open(BASE.as_slice()).ok().expect(&rt, "a file");
+    let tree = read_within(rt.alloc(), &view, 24).ok().expect(&rt, "a tree of 24 bytes");
+    assert_eq!(rt; tree.top.kind(), u32::MAX);
+    assert_eq!(rt; tree.top.fields().len(), 1);
+    let refused = read_within(rt.alloc(), &view, 23);
+    assert!(rt; matches!(refused, Err(TreeFault::NoMemory)));
+    let label = Label::of(b"A".as_slice()).expect(&rt, "a label");
+    assert_eq!(rt; label.bytes(), b"A".as_slice());
+    assert!(rt; Label::of(b"seventeen letters".as_slice()).is_none());
+}

@@ -1,0 +1,29 @@
+//! Laws, each the contract of a function that does nothing.
+
+ghost use Rattle.gff_tree.specs.Fields.{ReplacedIsSound, AppendedIsSound, FoundIsSound, ListIsSound, NodeIsItsFields, FieldsAreTheNodes, ListIsItsNodes, NodesAreTheLists};
+ghost use Rattle.gff_tree.specs.Readings.{NodeReads, ListReads};
+ghost use Rattle.gff_tree.specs.Stands.{OneTree};
+
+/// Bytes stand for one tree at most.
+pub fn one_tree()
+    ensures one { OneTree }
+{}
+
+/// Structs and their lists of fields are one another's, and a struct stays sound where a field of it is replaced or a new one
+/// appended.
+pub fn fields_tell()
+    ensures node { NodeIsItsFields }
+    ensures fields { FieldsAreTheNodes }
+    ensures list { ListIsItsNodes }
+    ensures nodes { NodesAreTheLists }
+    ensures replaced { ReplacedIsSound }
+    ensures appended { AppendedIsSound }
+    ensures found { FoundIsSound }
+    ensures list_sound { ListIsSound }
+{}
+
+/// Nodes and lists of the program read as plain ones, field by field and item by item.
+pub fn readings_tell()
+    ensures node { NodeReads }
+    ensures list { ListReads }
+{}
