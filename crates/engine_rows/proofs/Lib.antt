@@ -1,3 +1,6 @@
 mod Played
 mod Worked
 mod Edges
+mod MapLemmas
+mod RowMaps
+mod TurnMaps

@@ -6,3 +6,4 @@ pub mod Changes
 pub mod Rows
 pub mod Engine
 pub mod Turns
+pub mod Mapped
