@@ -4,3 +4,4 @@ mod Edges
 mod MapLemmas
 mod RowMaps
 mod TurnMaps
+mod AlikeLemmas

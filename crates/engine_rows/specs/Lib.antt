@@ -7,3 +7,5 @@ pub mod Rows
 pub mod Engine
 pub mod Turns
 pub mod Mapped
+pub mod Alike
+pub mod AlikeLaws
