@@ -5,3 +5,4 @@ mod MapLemmas
 mod RowMaps
 mod TurnMaps
 mod AlikeLemmas
+mod KeptLemmas

@@ -9,3 +9,4 @@ pub mod Turns
 pub mod Mapped
 pub mod Alike
 pub mod AlikeLaws
+pub mod Kept

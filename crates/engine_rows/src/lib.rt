@@ -13,5 +13,7 @@
 #![tactic(auto)]
 
 mod data;
+mod laws;
 
 pub use data::{Line, Objects, Stood, Standing, Things, Told, Trace};
+pub use laws::{alike_worlds_agree, calls_keep_alike, entries_keep_alike, Carries};
