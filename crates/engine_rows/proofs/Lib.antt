@@ -6,3 +6,5 @@ mod RowMaps
 mod TurnMaps
 mod AlikeLemmas
 mod KeptLemmas
+mod RowsKept
+mod TurnsKept
