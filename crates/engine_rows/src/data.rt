@@ -1,3 +1,7 @@
+ghost use Rattle.std.specs.Prelude.{◌≡◌};
+ghost use Rattle.engine_rows.specs.Arguments.{at_least_zero};
+ghost use Rattle.engine_rows.specs.Changes.{is_numbered};
+
 use action_queue::Queue;
 use nwq_value::{Args, Effect, Items, Text, Value};
 
@@ -7,6 +11,28 @@ use nwq_value::{Args, Effect, Items, Text, Value};
 pub struct Stood {
     pub number: Option<u64>,
     pub effect: Effect,
+}
+
+impl Stood {
+    /// Whether the agenda entry of this number ends the effect.
+    pub fn is_numbered(&self, number: u64) -> bool
+        ensures test { result ≡ is_numbered number self.now }
+    {
+        match self.number {
+            Some(own) => own == number,
+            None => false,
+        }
+    }
+}
+
+/// A count or a time in milliseconds as a script gives it: a negative one is 0.
+pub fn at_least_zero(n: i32) -> u64
+    ensures count { result ≡ at_least_zero n }
+{
+    if n < 0 {
+        return 0;
+    }
+    n as u64
 }
 
 /// The effects of one object, in the order in which they came.

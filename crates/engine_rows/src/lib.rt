@@ -15,7 +15,7 @@
 mod data;
 mod laws;
 
-pub use data::{Line, Objects, Stood, Standing, Things, Told, Trace};
+pub use data::{at_least_zero, Line, Objects, Standing, Stood, Things, Told, Trace};
 pub use laws::{
     alike_worlds_agree, calls_keep_alike, calls_keep_worlds, entries_keep_alike,
     entries_keep_worlds, Carries,
