@@ -3,3 +3,8 @@ pub mod WovenLemmas
 pub mod ReadLemmas
 pub mod TagLemmas
 pub mod BackLemmas
+pub mod SoundLemmas
+pub mod AreaLemmas
+pub mod UnchangedLaws
+pub mod ReadBackLaws
+pub mod OneValueLaws

@@ -7,3 +7,4 @@ pub mod Back
 pub mod Current
 pub mod Area
 pub mod Index
+pub mod Laws

@@ -13,7 +13,7 @@ use crate::fault::AreaFault;
 use crate::object::{Object, read_objects};
 use crate::tags::{Tags, index, numbers};
 use crate::vars::Vars;
-use gff_tree::{Gff, Node};
+use gff_tree::{Gff, Node, fields_tell};
 use nwq_value::NoMemory;
 use std::alloc::Global;
 use std::marker::Model;
@@ -90,6 +90,7 @@ impl Area {
     pub fn into_tree(self, alloc: Global) -> Result<Gff, NoMemory>
         ensures tree { IfOk result (λ gff. plain_gff gff ≡ tree_back self) }
     {
+        fields_tell();
         let Area {
             tree,
             objects,

@@ -9,6 +9,7 @@
 mod area;
 mod back;
 mod fault;
+mod laws;
 mod object;
 mod order;
 mod tags;
@@ -16,4 +17,5 @@ mod vars;
 
 pub use area::Area;
 pub use fault::AreaFault;
+pub use laws::{areas_go_back, variables_stay};
 pub use vars::{Var, Vars};

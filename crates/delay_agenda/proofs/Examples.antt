@@ -1,5 +1,5 @@
 -- The definitions at an agenda of three entries.
-use Rattle.std.proofs.Common.{◌≡◌, ℕ, List, [], ◌∷◌, Some, refl}
+use Rattle.std.proofs.Common.{◌≡◌, ℕ, [], ◌∷◌, Some, refl}
 use Rattle.delay_agenda.specs.declared.entry.Entry.{Entry}
 use Rattle.delay_agenda.specs.declared.entry.Kind.TheVariants.{Turn, Unapply}
 use Rattle.delay_agenda.specs.Order.{first_due}

@@ -14,7 +14,7 @@ use Rattle.std.proofs.lemmas.List.{append-nil}
 use Rattle.delay_agenda.specs.declared.entry.Entry.{Entry}
 use Rattle.delay_agenda.specs.Order.{is_before, put_entry, first_due}
 use Rattle.delay_agenda.specs.Waiting.{turn_count, without_turns}
-use Rattle.delay_agenda.specs.Queues.{Row, in_row, queue_at, row_without, NoneBefore, AreSorted, StopsAt, AreDue, IsQueue, AreLater, AreQueues, IsFirst, IsHead, IsTurnAt}
+use Rattle.delay_agenda.specs.Queues.{Row, in_row, queue_at, row_without, NoneBefore, AreSorted, AreDue, IsQueue, AreLater, AreQueues, IsFirst, IsHead, IsTurnAt}
 use Rattle.delay_agenda.proofs.Placing.{put_stops, put_joined, put_behind, sorted_put, none_stops, AllBefore, some_there}
 use Rattle.delay_agenda.proofs.Turns.{count_at, count_joined, without_joined, without_none, without_at}
 

@@ -8,6 +8,8 @@
 //! The entries stand in queues by due time, an ordered map, so a call costs about the logarithm of
 //! the number of due times. A post takes no memory: its entry goes to an inbox, over which `take`
 //! and `next_due` look, and which `reserve` and `put` move into the queues.
+//!
+//! `docs/AGENDA.md` tells what is delayed, what each call leaves, and what it costs.
 #![tactic(auto)]
 
 mod agenda;

@@ -54,17 +54,19 @@ fn broken_files_are_refused_at_the_first_failing_test(rt: HostRuntime) {
         (&[(68, 15)], ('r', 'w', 7)),
     ];
     for (changes, wanted) in cases.as_slice() {
-        let bytes = changed(rt.alloc(), *changes).expect(&rt, "memory");
+        let bytes = changed(rt.alloc(), BASE.as_slice(), *changes).expect(&rt, "memory");
         assert_eq!(rt; outcome(rt.alloc(), &bytes), *wanted);
     }
-    let shared = changed(rt.alloc(), &[(68, 14), (76, 0)]).expect(&rt, "memory");
+    let shared = changed(rt.alloc(), BASE.as_slice(), &[(68, 14), (76, 0)]).expect(&rt, "memory");
     assert_eq!(rt; outcome(rt.alloc(), &shared), ('s', ' ', 0));
 }
 
 #[test]
 fn a_tree_within_the_budget_is_read(rt: HostRuntime) {
     let view = View::open(BASE.as_slice()).ok().expect(&rt, "a file");
-    let tree = read_within(rt.alloc(), &view, 24).ok().expect(&rt, "a tree of 24 bytes");
+    let tree = read_within(rt.alloc(), &view, 24)
+        .ok()
+        .expect(&rt, "a tree of 24 bytes");
     assert_eq!(rt; tree.top.kind(), u32::MAX);
     assert_eq!(rt; tree.top.fields().len(), 1);
     let refused = read_within(rt.alloc(), &view, 23);

@@ -1,5 +1,5 @@
 -- What comes of a header's text does the work of its table.
-use Rattle.std.proofs.Common.{◌≡◌, ℕ, inl, List, Result, Ok, Err, refl}
+use Rattle.std.proofs.Common.{ℕ, inl, List, Result, Ok, Err, refl}
 use Rattle.nwq_value.specs.Engine.{EngineTable}
 use Rattle.nwq_text.specs.Line.{line_number}
 use Rattle.nwq_outside.specs.Outside.{Contents}
@@ -46,3 +46,5 @@ module _ (name bytes : List ℕ) (c : Contents) where
 
   pub cut_does : (t : List ℕ) → Does (table_in name bytes) c t (Err Memory) c t
   cut_does t = cut_here (table_in name bytes) Memory c c t t tt refl refl
+
+pub ruleset fates = (bad_does, header_does, twice_does, many_does, cut_does)

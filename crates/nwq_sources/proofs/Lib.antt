@@ -4,3 +4,4 @@ mod OneUnit
 mod PlaceLemmas
 mod UnitLemmas
 mod Rows
+mod Steps

@@ -1,5 +1,5 @@
 -- One thing comes of a script.
-use Rattle.std.proofs.Common.{◌≡◌, ◌≢◌, ℕ, List, [], Option, Some, None, refl, sym, ap, ◌∙◌, subst}
+use Rattle.std.proofs.Common.{◌≡◌, ◌≢◌, ℕ, List, [], Some, None, sym, ap, ◌∙◌, subst}
 use Rattle.std.specs.FinMap as fin_map
 use Rattle.nss_lexer.specs.Splitting.{Lexeme}
 use Rattle.nss_tree.specs.Source.{SourceTree}

@@ -1,5 +1,5 @@
 -- Where the tokens of a unit stand.
-use Rattle.std.proofs.Common.{◌≡◌, ℕ, zero, suc, ◌<◌, List, [], ◌∷◌, length, map, get_or, Option, Some, None, Result, Ok, Err, IfOk, refl, sym, ap, ◌∙◌, subst, arith}
+use Rattle.std.proofs.Common.{◌≡◌, ℕ, zero, suc, List, [], ◌∷◌, length, map, Option, Some, None, Result, Ok, Err, IfOk, refl, sym, ap, ◌∙◌, subst}
 use Rattle.std.specs.List.{AllByRecursion, slice_get}
 use Rattle.std.specs.Option.{option_map}
 use Rattle.nwq_value.specs.declared.memory.NoMemory.{NoMemory}
@@ -8,7 +8,6 @@ use Rattle.nss_lexer.specs.Splitting.{Lexeme, plain}
 use Rattle.nss_include.specs.declared.fault.Spot.{Spot}
 use Rattle.nss_include.specs.declared.file.Source.{Source}
 use Rattle.nss_include.specs.Names.{spot_in}
-use Rattle.nss_include.specs.Units.{source}
 use Rattle.nss_include.specs.View.{StandsIn}
 use Rattle.nss_symbols.specs.Tokens.{symbol_of, symbols_of}
 use Rattle.nwq_sources.specs.Units.{grammar_symbols, file_at, spot_of, spot_at}

@@ -1,8 +1,7 @@
 -- What comes of a script does the work of its unit.
-use Rattle.std.proofs.Common.{◌≡◌, ℕ, ◌<◌, inl, inr, List, [], ◌∷◌, length, arith, Some, None, Result, Ok, Err, refl}
+use Rattle.std.proofs.Common.{ℕ, ◌<◌, inl, inr, List, [], ◌∷◌, length, arith, None, Result, Ok, Err, refl}
 use Rattle.std.specs.FinMap as fin_map
 use Rattle.nwq_outside.specs.Outside.{Contents}
-use Rattle.nss_lexer.specs.Splitting.{Lexeme}
 use Rattle.nss_include.specs.declared.fault.GatherFault.TheVariants as fault
 use Rattle.nss_include.specs.declared.fault.Spot.{Spot}
 use Rattle.nss_include.specs.declared.file.Source.{Source}
@@ -80,3 +79,7 @@ module _ (c : Contents) (name : List ℕ) where
 pub has_some : (files : List Source) (script : List ℕ) → HasScript files script → 0 < length files
 has_some [] script h = absurd h
 has_some (file ∷ files) script h = omega arith
+
+pub ruleset gathered = (lacks_does, exceeds_does, bad_does, many_does, include_does, cut_does)
+
+pub ruleset parsed = (nested_does, syntax_does, cut_does)

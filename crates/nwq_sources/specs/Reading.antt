@@ -1,8 +1,8 @@
 -- What private clauses say of a unit while it is read.
-use Rattle.std.specs.Prelude.{ℕ, None, Err}
+use Rattle.std.specs.Prelude.{ℕ, Err}
 use Rattle.nwq_outside.specs.Outside.{file_counts}
 use Rattle.nss_tree.specs.Source.{SourceTree}
-use Rattle.nss_symbols.specs.Nest.{IsFirstOver, IsWithinNest}
+use Rattle.nss_symbols.specs.Nest.{IsWithinNest}
 use Rattle.nss_parser.specs.declared.fault.ParseFault.{ParseFault}
 use Rattle.nss_parser.specs.Fault.{Refuses}
 use Rattle.nss_parser.specs.Sentence.{Parses}

@@ -1,5 +1,5 @@
 -- The unit of the script that a command names, with its tree, and where its tokens stand.
-use Rattle.std.specs.Prelude.{◌≡◌, ℕ, List, [], length, map, get_or, slice_get, Option, Some, None}
+use Rattle.std.specs.Prelude.{ℕ, List, [], length, map, get_or, slice_get, Option, Some, None}
 use Rattle.std.specs.FinMap as fin_map
 use Rattle.nwq_outside.specs.Outside as outside
 use Rattle.nss_lexer.specs.Splitting.{Lexeme}

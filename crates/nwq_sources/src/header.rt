@@ -15,7 +15,7 @@ use nwq_work::{Cause, Status, read_file, refuse_at};
 use std::alloc::Global;
 
 /// Refuses a header's text, which is that of the file of this name.
-#[tactic(auto, using(crate::proofs::HeaderLemmas::bad_does, crate::proofs::HeaderLemmas::header_does, crate::proofs::HeaderLemmas::twice_does, crate::proofs::HeaderLemmas::many_does, crate::proofs::HeaderLemmas::cut_does))]
+#[tactic(auto, using(crate::proofs::HeaderLemmas::fates))]
 fn refuse_header<S: Sink>(
     alloc: Global,
     name: &[u8],
@@ -68,7 +68,7 @@ fn table_of_text<S: Sink>(
 }
 
 /// The table of the header file of this name.
-#[tactic(auto, using(nwq_work::specs::Parts::then_ok, nwq_work::specs::Parts::then_err), unfolding(crate::specs::Headers::table_named))]
+#[tactic(auto, using(crate::proofs::Steps::steps), unfolding(crate::specs::Headers::table_named))]
 fn table_of_file<F: Files, S: Sink>(
     alloc: Global,
     name: &str,

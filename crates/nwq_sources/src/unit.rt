@@ -85,7 +85,7 @@ fn refuse_token<S: Sink>(alloc: Global, unit: &Unit, i: usize, cause: Cause, out
 }
 
 /// Refuses a script that has no unit.
-#[tactic(auto, using(crate::proofs::UnitLemmas::lacks_does, crate::proofs::UnitLemmas::exceeds_does, crate::proofs::UnitLemmas::bad_does, crate::proofs::UnitLemmas::many_does, crate::proofs::UnitLemmas::include_does, crate::proofs::UnitLemmas::cut_does))]
+#[tactic(auto, using(crate::proofs::UnitLemmas::gathered))]
 fn refuse_gather<S: Sink>(alloc: Global, fault: GatherFault, out: &mut S) -> Status
     ensures does { IsTrue S.tells → (c : Contents) (name : List ℕ) →
         Gathers (fin_map.get c) name (Err fault) →
@@ -122,7 +122,7 @@ fn tree_of(alloc: Global, unit: &Unit) -> Result<Tree, ParseFault>
 }
 
 /// Refuses a unit that has no tree.
-#[tactic(auto, using(crate::proofs::UnitLemmas::nested_does, crate::proofs::UnitLemmas::syntax_does, crate::proofs::UnitLemmas::cut_does))]
+#[tactic(auto, using(crate::proofs::UnitLemmas::parsed))]
 fn refuse_parse<S: Sink>(alloc: Global, unit: &Unit, fault: ParseFault, out: &mut S) -> Status
     requires script { 0 < length unit.now.files }
     requires fault { HasFault unit.now fault }

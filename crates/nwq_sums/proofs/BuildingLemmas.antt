@@ -48,3 +48,7 @@ pub builds_unfinished : (table : EngineTable) (tokens : List Token) → IsUnfini
     → Builds table (symbols (map plain tokens)) (NotBuilt (length tokens))
 builds_unfinished table tokens is =
     subst (λ n. Builds table (symbols (map plain tokens)) (NotBuilt n)) (as_many tokens) (unfit (length (symbols (map plain tokens))) (no.unfinished is))
+
+pub ruleset sentences = (builds_by, builds_none, unbuilt_first, may_play)
+
+pub ruleset others = (builds_unfit, builds_unfinished, as_many)

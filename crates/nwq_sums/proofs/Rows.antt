@@ -1,5 +1,5 @@
 -- The definitions at worked examples, by computing.
-use Rattle.std.proofs.Common.{◌≡◌, ℕ, pos, negsuc, List, [], ◌∷◌, ◌++◌, length, refl, Some, None, lit<, lit≤}
+use Rattle.std.proofs.Common.{◌≡◌, ℕ, pos, negsuc, List, [], ◌∷◌, ◌++◌, length, refl, Some, lit<, lit≤}
 use Rattle.std.specs.Prelude.{codes}
 use Rattle.ncs_code.specs.Spelling.{signed, two, four}
 use Rattle.ncs_code.specs.File.{file_bytes}

@@ -57,7 +57,7 @@ fn printer(table: &Table) -> Option<u16>
 }
 
 /// What is built of a sentence of these sums.
-#[tactic(auto, using(crate::proofs::BuildingLemmas::builds_by, crate::proofs::BuildingLemmas::builds_none, crate::proofs::BuildingLemmas::unbuilt_first, crate::proofs::BuildingLemmas::may_play))]
+#[tactic(auto, using(crate::proofs::BuildingLemmas::sentences))]
 fn build(table: &Table, sums: Items<Items<u32>>) -> Sums
     ensures builds { (tokens : List Symbol) → IsSentence tokens sums →
         Builds table.now tokens result }
@@ -77,7 +77,7 @@ fn build(table: &Table, sums: Items<Items<u32>>) -> Sums
 }
 
 /// What is built of these tokens.
-#[tactic(auto, using(crate::proofs::BuildingLemmas::builds_unfit, crate::proofs::BuildingLemmas::builds_unfinished, crate::proofs::BuildingLemmas::as_many))]
+#[tactic(auto, using(crate::proofs::BuildingLemmas::others))]
 pub fn read_sums(alloc: Global, table: &Table, tokens: &[Token<'_>]) -> Result<Sums, NoMemory>
     ensures builds { IfOk result (λ sums. Builds table.now (symbols (map plain tokens.now)) sums) }
     ensures plays { IfOk result (λ sums. MayPlay (length tokens.now) sums) }

@@ -4,7 +4,7 @@ ghost use Rattle.ncs_code.specs.Spelling.{HasRow, spelling};
 ghost use Rattle.ncs_code.specs.File.{spellings, file_bytes, file_length};
 ghost use Rattle.nwq_sums.specs.Emission.{push, adds, print_code, code_of};
 
-use ncs_code::{HEADER_BYTES, Lit, Op, header, sizes_are_lengths};
+use ncs_code::{HEADER_BYTES, Lit, Op, header, size_laws};
 use nwq_value::{Items, NoMemory};
 use std::alloc::Global;
 
@@ -107,7 +107,7 @@ pub fn write_file(alloc: Global, routine: u16, sums: &[Items<u32>]) -> Result<Ve
     requires { file_length (code_of routine sums.now) ≤ 16_777_216 }
     ensures { IfOk result (λ file. file.items ≡ file_bytes (code_of routine sums.now)) }
 {
-    sizes_are_lengths();
+    size_laws();
     let code = write_code(alloc, routine, sums)?;
     let length = HEADER_BYTES as u32 + code.len() as u32;
     let mut file = Vec::from_slice(alloc, header(length).as_slice())?;

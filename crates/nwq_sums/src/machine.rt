@@ -11,7 +11,7 @@ ghost use Rattle.nwq_sums.specs.Stepping.{after_of, HasStep};
 
 use crate::emission::{TWO_INTS, write_file};
 use crate::pile::Pile;
-use ncs_code::{HEADER_BYTES, Lit, Op, begun_stands, decode, jump_place, sizes_are_lengths};
+use ncs_code::{HEADER_BYTES, Lit, Op, decode, jump_place, place_laws, size_laws};
 use nwq_value::{Items, NoMemory};
 use std::alloc::Global;
 
@@ -146,8 +146,8 @@ pub fn play(alloc: Global, printer: u16, sums: &[Items<u32>]) -> Result<Played, 
     ensures count { IfOk result
         (λ played. RunsTo printer (code_of printer sums.now) played.count (prints_of sums.now)) }
 {
-    begun_stands();
-    sizes_are_lengths();
+    place_laws();
+    size_laws();
     let file = write_file(alloc, printer, sums)?;
     let mut machine = Machine::new(alloc);
     let mut count: u32 = 0;

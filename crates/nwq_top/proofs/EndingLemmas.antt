@@ -1,5 +1,4 @@
 -- What stops a command is one of its statuses.
-use Rattle.std.proofs.Common.{◌≡◌}
 use Rattle.nwq_work.specs.declared.status.Status.{Status}
 use Rattle.nwq_work.specs.declared.status.Status.TheVariants.{Done, Words, Script, Code, Area, Limit, Missing, Fault, Memory, Long}
 use Rattle.nwq_work.specs.Counts.{StopsSource}

@@ -4,3 +4,4 @@ mod Rows
 mod Sure
 mod TextLemmas
 mod WordLemmas
+mod Steps

@@ -1,5 +1,5 @@
 -- What is built of a script does the work of its play.
-use Rattle.std.proofs.Common.{◌≡◌, ℕ, ◌≤◌, ◌++◌, inl, inr, List, length, Result, Ok, Err, refl, arith}
+use Rattle.std.proofs.Common.{ℕ, ◌≤◌, ◌++◌, List, length, Result, Err, arith}
 use Rattle.nwq_outside.specs.Outside.{Contents}
 use Rattle.nwq_value.specs.Engine.{EngineTable}
 use Rattle.nwq_work.specs.declared.status.Status.{Status}

@@ -1,5 +1,5 @@
 -- The work of each form of words has one outcome.
-use Rattle.std.proofs.Common.{◌≡◌, ◌++◌, ℕ, List}
+use Rattle.std.proofs.Common.{◌++◌, ℕ, List}
 use Rattle.nwq_value.specs.Engine.{EngineTable}
 use Rattle.nwq_work.specs.Outcomes.{IsSure, agree, prefixes, sure_then, sure_puts}
 use Rattle.nwq_sources.specs.Headers.{table_of}

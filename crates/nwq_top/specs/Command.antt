@@ -4,7 +4,7 @@ use Rattle.nwq_outside.specs.Outside.{Contents}
 use Rattle.nwq_value.specs.Engine.{EngineTable}
 use Rattle.nwq_work.specs.declared.cause.Cause.TheVariants.{NotBuilt as not_built}
 use Rattle.nwq_work.specs.Refusal as refusal
-use Rattle.nwq_work.specs.Work.{Work, Gives, Refused, Finds, then, Finished, puts}
+use Rattle.nwq_work.specs.Work.{Work, Refused, Finds, then, Finished, puts}
 use Rattle.nwq_sources.specs.Headers.{table_of}
 use Rattle.nwq_sources.specs.Units.{PlainScript, at_token, unit_of}
 use Rattle.nwq_sums.specs.declared.building.Sums.{Sums}

@@ -1,7 +1,7 @@
 -- Which statuses can come of which form of words.
-use Rattle.std.specs.Prelude.{◌≡◌, Result, Ok, Err}
+use Rattle.std.specs.Prelude.{Result, Ok, Err}
 use Rattle.nwq_work.specs.declared.status.Status.{Status}
-use Rattle.nwq_work.specs.declared.status.Status.TheVariants.{Done, Words, Script, Code, Area, Limit, Missing, Fault, Memory, Long}
+use Rattle.nwq_work.specs.declared.status.Status.TheVariants.{Done, Words, Fault, Memory}
 use Rattle.nwq_work.specs.Work.{Finished}
 use Rattle.nwq_work.specs.Counts.{StopsSource}
 use Rattle.nwq_top.specs.Words.{Form, Run, NoForm}

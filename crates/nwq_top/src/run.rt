@@ -62,7 +62,7 @@ fn build(alloc: Global, table: &Table, script: &Script) -> Result<Sums, NoMemory
 }
 
 /// Plays a script under a header.
-#[tactic(auto, using(crate::proofs::PlayLemmas::sums_play, crate::proofs::PlayLemmas::not_built, nwq_work::specs::Parts::cut_here))]
+#[tactic(auto, using(nwq_work::specs::Parts::cut_here))]
 fn play_script<S: Sink>(
     alloc: Global,
     table: &Table,
@@ -85,7 +85,7 @@ fn play_script<S: Sink>(
 }
 
 /// Plays one start entry of the script of this name under a header.
-#[tactic(auto, using(nwq_work::specs::Parts::then_ok, nwq_work::specs::Parts::then_err), unfolding(crate::specs::Command::runs_under))]
+#[tactic(auto, using(crate::proofs::Steps::steps), unfolding(crate::specs::Command::runs_under))]
 fn run_under<F: Files, S: Sink>(
     alloc: Global,
     table: &Table,
@@ -110,7 +110,7 @@ fn run_under<F: Files, S: Sink>(
 }
 
 /// Plays one start entry of the script of this name, under the header that a word names.
-#[tactic(auto, using(nwq_work::specs::Parts::then_ok, nwq_work::specs::Parts::then_err), unfolding(crate::specs::Command::runs))]
+#[tactic(auto, using(crate::proofs::Steps::steps), unfolding(crate::specs::Command::runs))]
 pub fn run<F: Files, S: Sink>(
     alloc: Global,
     header: &str,

@@ -6,7 +6,7 @@ use Rattle.nwq_outside.specs.Outside.{Contents, KeepsOthers}
 use Rattle.nwq_work.specs.declared.status.Status.{Status}
 use Rattle.nwq_work.specs.Refusal.{Absent, TooLong}
 use Rattle.nwq_work.specs.Work.{CutsShort, Does, by_size, bytes_of, file_named, writes}
-use Rattle.nwq_work.specs.Parts.{Refuses, finds_one, refused}
+use Rattle.nwq_work.specs.Parts.{Refuses, cut_here, finds_one, refused}
 
 module _ (name : List ℕ) where
   pub wrote : (bytes : List ℕ) (c c' : Contents) (t : List ℕ) → c' ≡ map.insert c name bytes → Does (writes name bytes) c t (Ok tt) c' t
@@ -48,3 +48,5 @@ module _ (name : List ℕ) where
   read_long answer c c' t t' long same h =
       subst (λ d. Does (file_named name) c t (Err answer) d t') (sym same)
       (found (map.get c name) (Err answer) c c t t' refl (long_found (map.get c name) answer c t t' long h))
+
+pub ruleset reads = (read_bytes, read_absent, read_long, cut_here)

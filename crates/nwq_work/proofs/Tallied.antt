@@ -1,9 +1,8 @@
 -- How the counts stand after a put that was cut, alone or of the line of a refused read.
-use Rattle.std.proofs.Common.{ℕ, inl, inr, Err, refl}
+use Rattle.std.proofs.Common.{ℕ, inl, inr, refl}
 use Rattle.nwq_outside.specs.Outside.{Rises}
 use Rattle.nwq_work.specs.declared.status.Status.{Status}
 use Rattle.nwq_work.specs.declared.status.Status.TheVariants.{Done, Words, Script, Code, Area, Limit, Missing, Fault, Memory, Long}
-use Rattle.nwq_work.specs.Work.{Finished}
 use Rattle.nwq_work.specs.Counts.{Counted, TalliesEnd, CutsPut, RefusesOne}
 
 module _ (faults puts puts' : ℕ) where

@@ -44,7 +44,7 @@ pub fn put<S: Sink>(text: Result<Vec<u8>, NoMemory>, out: &mut S) -> Result<(), 
 }
 
 /// Reads the file of this name.
-#[tactic(auto, using(crate::proofs::FileLemmas::read_bytes, crate::proofs::FileLemmas::read_absent, crate::proofs::FileLemmas::read_long, crate::specs::Parts::cut_here))]
+#[tactic(auto, using(crate::proofs::FileLemmas::reads))]
 pub fn read_file<F: Files, S: Sink>(
     alloc: Global,
     name: &str,

@@ -26,7 +26,7 @@ pub some_arguments-loop-turn-preserved : goal.some_arguments-loop-turn-preserved
 some_arguments-loop-turn-preserved t c =
     let e = one_more (λ n. read.arguments_from c.args.depth (read.level c.args.depth) n (plain_exprs c.loop-turn.all) c.loop-turn.tokens) c.args.depth _ c.loop-turn._turn c.loop-turn-test.true c.loop-turn.invariant in
     let more = argument_more c.args.depth (read.level c.args.depth) (c.args.depth - (c.loop-turn._turn + 1)) c.in_ok-take.field-0 (plain_exprs c.loop-turn.all) (plain_expr c.in_ok-argument.argument)
-    c.loop-turn.tokens c.level.new.tokens c.take.new.self c.in_ok-argument.ensures (sym c.sees.ensures ∙ c.if-sees.true) c.in_ok-take.ensures in
+    c.loop-turn.tokens c.level.new.tokens c.take.new.self c.in_ok-argument.ensures (sym c.sees.ensures.next ∙ c.if-sees.true) c.in_ok-take.ensures.read in
     e ∙ more ∙ ap (λ (z : PlainExprs). read.arguments_from c.args.depth (read.level c.args.depth) (c.args.depth - (c.loop-turn._turn + 1)) z c.take.new.self) (sym c.in_ok-push_expr.ensures)
 
 pub level-returns : goal.level-returns

@@ -12,7 +12,7 @@ pub entries-loop-turn-preserved : goal.entries-loop-turn-preserved
 entries-loop-turn-preserved t c =
     let e = one_more (λ n. read.entries_from c.args.depth (read.statement c.args.depth) c.args.labels n (plain_stmts c.loop-turn.all) c.loop-turn.tokens) c.args.depth _ c.loop-turn._turn c.loop-turn-test.true c.loop-turn.invariant in
     let more = entry_more c.args.depth (c.args.depth - (c.loop-turn._turn + 1)) (read.statement c.args.depth) c.args.labels (plain_stmts c.loop-turn.all) (plain_stmt c.in_ok-next.next)
-    c.loop-turn.tokens c.entry.new.tokens (sym c.sees.ensures ∙ c.if-sees.false) c.in_ok-next.ensures in
+    c.loop-turn.tokens c.entry.new.tokens (sym c.sees.ensures.next ∙ c.if-sees.false) c.in_ok-next.ensures in
     e ∙ more ∙ ap (λ (z : SourceStmts). read.entries_from c.args.depth (read.statement c.args.depth) c.args.labels (c.args.depth - (c.loop-turn._turn + 1)) z c.entry.new.tokens) (sym c.in_ok-push_stmt.ensures)
 
 pub statement-returns : goal.statement-returns
@@ -24,11 +24,11 @@ statement-returns t c =
 pub if_statement-returns-in-Ok : goal.if_statement-returns-in-Ok
 if_statement-returns-in-Ok t c =
     let e = if_is c.args.depth (read.statement c.args.depth) c.in_ok-number.number (plain_expr c.in_ok-value.value) (plain_stmt c.in-Ok.inner)
-    c.args.tokens.now c.take.new.self c.condition.new.tokens c.statement.new.tokens c.in_ok-number.ensures c.in_ok-value.ensures c.in-Ok.ensures in
+    c.args.tokens.now c.take.new.self c.condition.new.tokens c.statement.new.tokens c.in_ok-number.ensures.read c.in_ok-value.ensures c.in-Ok.ensures in
     rw e c.if_rest.ensures
 
 pub do_statement-returns : goal.do_statement-returns
 do_statement-returns t c =
     let e = do_is c.args.depth (read.statement c.args.depth) c.in_ok-number.number (plain_stmt c.in_ok-inner.inner)
-    c.args.tokens.now c.take.new.self c.statement.new.tokens c.in_ok-number.ensures c.in_ok-inner.ensures in
+    c.args.tokens.now c.take.new.self c.statement.new.tokens c.in_ok-number.ensures.read c.in_ok-inner.ensures in
     rw e c.do_rest.ensures

@@ -8,5 +8,5 @@ use Rattle.nss_parser.proofs.unit.item.Goals as goal
 pub returns-else-sees-2 : goal.returns-else-sees-2
 returns-else-sees-2 c =
     let inside = statements.entries c.args.depth (statements.statement c.args.depth) false in
-    let is = item_typed c.args.depth inside c.args.tokens.now (sym c.sees.ensures ∙ c.if-sees.false) (sym c.sees-else-sees.ensures ∙ c.if-sees-2.false) in
+    let is = item_typed c.args.depth inside c.args.tokens.now (sym c.sees.ensures.next ∙ c.if-sees.false) (sym c.sees-else-sees.ensures.next ∙ c.if-sees-2.false) in
     subst (λ z. Reads plain_item z c.typed_item.result c.typed_item.new.tokens) is c.typed_item.ensures

@@ -15,4 +15,4 @@ returns-in-Ok-Prints-clause-does g c = λ told contents.
     sums_play c.args.table.now (plain_script c.args.script.now) contents (g.S.Sink.taken c.args.out.now) (g.S.Sink.taken c.play_sums.new.out) c.in-Ok-Prints.printer
     c.in-Ok-Prints.sums c.play_sums.result (rw c.in-Ok-Prints.field-0-is at c.in-Ok-Prints.ensures.builds)
     (subst (λ sums. Does (plays c.in-Ok-Prints.printer sums) contents (g.S.Sink.taken c.args.out.now) c.play_sums.result contents (g.S.Sink.taken c.play_sums.new.out))
-    c.as_slice.ensures (c.play_sums.ensures.does told contents))
+    c.as_slice.ensures.items (c.play_sums.ensures.does told contents))

@@ -1,0 +1,19 @@
+use Rattle.area_tree.proofs.SoundLemmas.{Laws}
+use Rattle.area_tree.proofs.UnchangedLaws.{unchanged_goes_back}
+use Rattle.area_tree.proofs.ReadBackLaws.{back_is_read}
+use Rattle.area_tree.proofs.OneValueLaws.{put_changes_one_value}
+use Rattle.area_tree.proofs.laws.areas_go_back.Goals as goal
+
+pub returns : goal.returns
+returns c =
+    let laws : Laws = record {
+      node = c.fields_tell.ensures.node;
+      fields = c.fields_tell.ensures.fields;
+      list = c.fields_tell.ensures.list;
+      nodes = c.fields_tell.ensures.nodes;
+      replaced_sound = c.fields_tell.ensures.replaced;
+      appended_sound = c.fields_tell.ensures.appended;
+      found_sound = c.fields_tell.ensures.found;
+      list_sound = c.fields_tell.ensures.list_sound;
+    } in
+    record { unchanged = unchanged_goes_back laws; one_value = put_changes_one_value laws; read = back_is_read laws }
