@@ -145,13 +145,24 @@ fn listings_come_back(rt: HostRuntime) {
 
 fn loose_texts(alloc: Global) -> bool {
     gives(alloc, b"", b"")
-        && gives(alloc, b"\n; a remark\n\r\nNOP 00\r\n;\nRETN 00", b"\x2d\x00\x20\x00")
-        && gives(alloc, b"CONST 03 -0\nCONST 06 0000000007\n",
-            b"\x04\x03\x00\x00\x00\x00\x04\x06\x00\x00\x00\x07")
+        && gives(
+            alloc,
+            b"\n; a remark\n\r\nNOP 00\r\n;\nRETN 00",
+            b"\x2d\x00\x20\x00",
+        )
+        && gives(
+            alloc,
+            b"CONST 03 -0\nCONST 06 0000000007\n",
+            b"\x04\x03\x00\x00\x00\x00\x04\x06\x00\x00\x00\x07",
+        )
         && gives(alloc, b"CONST 04 0102ff10", b"\x04\x04\x01\x02\xff\x10")
         && gives(alloc, b"CONST 05 \"a b\"", b"\x04\x05\x00\x03a b")
         && gives(alloc, b"RSADD 10", b"\x02\x10")
-        && gives(alloc, b"NOP 00\nJMP 00 @13", b"\x2d\x00\x1d\x00\xff\xff\xff\xfe")
+        && gives(
+            alloc,
+            b"NOP 00\nJMP 00 @13",
+            b"\x2d\x00\x1d\x00\xff\xff\xff\xfe",
+        )
 }
 
 #[test]
