@@ -22,7 +22,7 @@ use Rattle.nss_typing.specs.declared.places.EntryPoint.{EntryPoint}
 use Rattle.nss_typing.specs.declared.places.EntryPoint.TheVariants.{Main, Conditional}
 use Rattle.nss_typing.specs.Typed.{TypedExpr, TypedExprs, TypedName, TypedStmt, TypedStmts, TypedParameter, TypedItem, TypedUnit, no_typed, more_typed}
 use Rattle.nss_typing.specs.Typed as e
-use Rattle.code_emission.specs.Layout.{Layout}
+use Rattle.code_emission.specs.Layout.{Layout, layout_of}
 use Rattle.code_emission.specs.Expressions.{emit}
 use Rattle.code_emission.specs.Statements.{emit_stmt, no_exits}
 use Rattle.code_emission.specs.Bounds.{IsType, IsBounded}
@@ -397,3 +397,55 @@ condition_with_globals : code (unit_of (
     ∷ ops.CpTopBp (minus 4) 4 ∷ ops.CpDownSp (minus 8) 4 ∷ ops.MovSp (minus 4) ∷ ops.Retn ∷ ops.Retn ∷ []
 unfolding program
 condition_with_globals = refl
+
+-- int g(int a); int f(int b); int f(int b) { return g(b); } int g(int a) { return a; } void main() { f(1); }: prototypes take numbers of
+-- variables, and no place in the code
+declared_before : code (unit_of (
+      unit.function 0 t.Int (codes "g") (param 0 t.Int ∷ []) None
+      ∷ unit.function 0 t.Int (codes "f") (param 1 t.Int ∷ []) None
+      ∷ function t.Int (param 2 t.Int ∷ []) (s.return_from 0 (Some (e.call t.Int (InUnit 1) (args (local 2 ∷ [])) [])) ∷ [])
+      ∷ function t.Int (param 3 t.Int ∷ []) (s.return_from 0 (Some (local 3)) ∷ [])
+      ∷ function t.Void [] (run (e.call t.Int (InUnit 0) (args (int 1 ∷ [])) []) ∷ [])
+      ∷ []) (Main 2))
+    ≡ ops.Jsr (pos 80) ∷ ops.Retn
+    ∷ ops.RsAdd 3 ∷ ops.CpTopSp (minus 8) 4 ∷ ops.Jsr (pos 30) ∷ ops.CpDownSp (minus 12) 4 ∷ ops.MovSp (minus 8) ∷ ops.Retn ∷ ops.MovSp (minus 4) ∷ ops.Retn
+    ∷ ops.CpTopSp (minus 4) 4 ∷ ops.CpDownSp (minus 12) 4 ∷ ops.MovSp (minus 8) ∷ ops.Retn ∷ ops.MovSp (minus 4) ∷ ops.Retn
+    ∷ ops.RsAdd 3 ∷ push 1 ∷ ops.Jsr (minus 80) ∷ ops.MovSp (minus 4) ∷ ops.Retn ∷ []
+unfolding program
+declared_before = refl
+
+-- struct P { int x; string s; }; struct P g; int h; void F(int a, struct P p) { int n; { int m; } object o; }
+laid_out : layout_of (unit_of (
+      unit.structure 0 (codes "P") (record { token = 0; ty = t.Int; names = record { token = 0; name = codes "x" } ∷ [] }
+        ∷ record { token = 0; ty = t.Text; names = record { token = 0; name = codes "s" } ∷ [] } ∷ [])
+      ∷ global 0 (t.Struct 0) None
+      ∷ global 1 t.Int None
+      ∷ function t.Void (param 2 t.Int ∷ param 3 (t.Struct 0) ∷ []) (
+          declare 4 t.Int None ∷ s.block 0 (stmts (declare 5 t.Int None ∷ [])) ∷ declare 6 t.Object None ∷ [])
+      ∷ []) (Main 0))
+    ≡ record { structs = (t.Int ∷ t.Text ∷ []) ∷ []; positions = 0 ∷ 2 ∷ 2 ∷ 0 ∷ 3 ∷ 4 ∷ 4 ∷ []; globals = 3 }
+laid_out = refl
+
+-- switch (n) { default: return; }
+left_for_good : emit_stmt here no_exits 4 3 (s.switch 0 (local 0) (stmts (s.default_label 0 ∷ s.return_from 0 None ∷ [])))
+    ≡ op (ops.CpTopSp (minus 12) 4) ∷ JumpTo Jmp 5 ∷ Label 5 ∷ op (ops.MovSp (minus 16)) ∷ op ops.Retn ∷ Label 4 ∷ op (ops.MovSp (minus 4)) ∷ []
+left_for_good = refl
+
+-- two defaults, 1 and 2
+both_filled : emit here 7 3 (e.call t.Int (Engine 9) no_typed (c.Int (pos 1) ∷ c.Int (pos 2) ∷ [])) ≡ op (push 2) ∷ op (push 1) ∷ op (ops.Action 9 2) ∷ []
+both_filled = refl
+
+-- Pair().p.s of a function that gives a struct of struct 0 and an int
+cut_twice : emit (record here { structs = (t.Int ∷ t.Text ∷ []) ∷ (t.Int ∷ t.Text ∷ t.Int ∷ []) ∷ [] }) 7 3
+      (e.member t.Text (e.member (t.Struct 0) (e.call (t.Struct 1) (InUnit 0) no_typed []) 0) 1)
+    ≡ op (ops.RsAdd 3) ∷ op (ops.RsAdd 5) ∷ op (ops.RsAdd 3) ∷ JumpTo Jsr 0 ∷ op (ops.Destruct 12 0 8) ∷ op (ops.Destruct 8 4 4) ∷ []
+cut_twice = refl
+
+-- OBJECT_SELF != OBJECT_INVALID, and "a" == "b"
+two_objects : emit here 7 3 (e.binary t.Int bin.NotEqual (e.literal c.SelfObject) (e.literal c.InvalidObject))
+    ≡ op (ops.Const (ops.Object 0)) ∷ op (ops.Const (ops.Object 1)) ∷ op (ops.Nequal 0x22 0) ∷ []
+two_objects = refl
+
+two_texts : emit here 7 3 (e.binary t.Int bin.Equal (e.literal (c.Text (codes "a"))) (e.literal (c.Text (codes "b"))))
+    ≡ op (text (codes "a")) ∷ op (text (codes "b")) ∷ op (ops.Equal 0x23 0) ∷ []
+two_texts = refl
