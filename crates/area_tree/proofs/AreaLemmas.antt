@@ -1,5 +1,5 @@
 -- An area where one object is changed.
-use Rattle.std.proofs.Common.{◌≡◌, ◌<◌, ◌≤◌, ◌+◌, ◌-◌, ℕ, ℤ, zero, suc, Bool, true, false, cond, List, [], ◌∷◌, ◌++◌, map, length, get_or, set, Result, Ok, Err, Vec, refl, sym, ap, subst, ◌∙◌, arith}
+use Rattle.std.proofs.Common.{◌≡◌, ◌<◌, ◌≤◌, ◌-◌, ℕ, ℤ, zero, suc, cond, List, [], ◌∷◌, map, length, get_or, set, Result, Ok, Err, Vec, refl, sym, ap, subst, ◌∙◌, arith}
 use Rattle.std.specs.Result.{OnOk, OnErr}
 use Rattle.std.specs.List.{IsDistinct, AllByRecursion}
 use Rattle.std.specs.Str.{bytes_eq}
@@ -9,7 +9,7 @@ use Rattle.gff_tree.specs.declared.tree.Gff.{Gff}
 use Rattle.area_tree.specs.Variables.{Variable, IntVar, put, same_variable}
 use Rattle.area_tree.specs.Objects.{AreaObject}
 use Rattle.area_tree.specs.Area.{PlainArea, object_at, tagged, changed_at, bare, IsArea}
-use Rattle.area_tree.specs.Index.{Indexes, numbers_under}
+use Rattle.area_tree.specs.Index.{Indexes}
 
 pub object_read : (objects : List AreaObject) (i : ℕ) (object : AreaObject) → i < length objects → object ≡ get_or objects i object → object_at objects i ≡ object
 object_read [] i object lt is = absurd (omega (arith, lt))

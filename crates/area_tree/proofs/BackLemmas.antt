@@ -1,5 +1,5 @@
 -- The steps of the way back.
-use Rattle.std.proofs.Common.{◌≡◌, ◌<◌, ◌≤◌, ◌+◌, ℕ, ℤ, zero, suc, min, Bool, true, false, cond, not, ◌||◌, List, [], ◌∷◌, ◌++◌, length, map, filter, get_or, set, take, drop, drop-cons, add-one, slice_get, Option, None, Some, is_some, Result, Ok, Err, refl, sym, ap, subst, ◌∙◌, append_assoc, arith}
+use Rattle.std.proofs.Common.{◌≡◌, ◌<◌, ◌≤◌, ◌+◌, ℕ, zero, suc, min, Bool, true, false, cond, not, ◌||◌, List, [], ◌∷◌, ◌++◌, length, map, filter, get_or, set, take, drop, slice_get, Option, None, Some, Result, Ok, Err, refl, sym, ap, subst, ◌∙◌, append_assoc, arith}
 use Rattle.std.specs.Prelude.{codes}
 use Rattle.std.proofs.Common.{◌⊎◌, inl, inr}
 use Rattle.std.specs.Result.{OnOk, IfOk}
@@ -17,7 +17,7 @@ use Rattle.std.specs.Str.{bytes_eq}
 use Rattle.gff_tree.specs.declared.tree.Leaf.{Leaf}
 use Rattle.gff_tree.specs.declared.tree.Node.{Node}
 use Rattle.gff_tree.specs.Tree.{PlainNode, PlainLeaf, PlainField, Holds, Int, Str, plain_node, plain_leaf, nodes_in, nodes_from}
-use Rattle.area_tree.specs.Variables.{Variable, IntVar, TextVar, is_int, is_text, same_variable, first, matching, int_of, text_of, int_named, text_named, put}
+use Rattle.area_tree.specs.Variables.{Variable, IntVar, TextVar, is_int, is_text, same_variable, first, matching, int_of, text_of}
 use Rattle.area_tree.specs.Objects.{AreaObject, Entry, Broken, Unread, Tells, with_entry, entry_of, variables_in, structs_in}
 use Rattle.area_tree.specs.Back.{value_of, new_entry, is_kept, valued, entries_back, table_back, leaf_back, fields_back, member_back, members_back, objects_back, list_back, lists_back}
 use Rattle.area_tree.specs.Current.{current, with_told}

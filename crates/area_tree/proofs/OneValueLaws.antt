@@ -5,20 +5,19 @@ use Rattle.std.specs.Prelude.{codes}
 use Rattle.std.specs.List.{list_any, slice_get, IsDistinct, AllByRecursion}
 use Rattle.std.specs.Str.{bytes_eq}
 use Rattle.std.proofs.lemmas.Bool.{cases_lt}
-use Rattle.std.proofs.lemmas.List.{append-nil, length-map}
+use Rattle.std.proofs.lemmas.List.{append-nil}
 use Rattle.gff_tree.specs.Tree.{PlainNode, PlainLeaf, PlainField, Holds, Child, Children, nodes_in}
-use Rattle.gff_tree.specs.Whole.{PlainGff}
 use Rattle.gff_tree.specs.Fields.{kind_of, fields_of, node_from, list_from, found, replaced}
 use Rattle.area_tree.specs.Variables.{Variable, same_variable, matching, put}
-use Rattle.area_tree.specs.Objects.{AreaObject, Entry, Broken, Unread, Tells, entry_of, with_entry, variables_in, structs_in, object_of, list_labels, objects_under, objects_of}
-use Rattle.area_tree.specs.Broken.{tag_places, table_places, member_places, members_places, list_places, lists_places, broken_places}
-use Rattle.area_tree.specs.Back.{new_entry, with_value, entries_back, others, table_back, leaf_back, fields_back, member_back, members_back, objects_back, list_back, lists_back, back}
+use Rattle.area_tree.specs.Objects.{AreaObject, Entry, Broken, Unread, Tells, entry_of, with_entry, variables_in, structs_in, object_of, list_labels, objects_under}
+use Rattle.area_tree.specs.Broken.{tag_places, table_places, member_places, members_places, list_places, lists_places}
+use Rattle.area_tree.specs.Back.{with_value, entries_back, others, table_back, fields_back, member_back, members_back, list_back, lists_back}
 use Rattle.area_tree.specs.Area.{object_at, changed_at}
-use Rattle.area_tree.specs.Laws.{changed_node, changed_leaf, changed_list, changed_in, with_new_value, EntryFor, MemberFor, table_of, OneValueDiffers, PutChangesOneValue, PutIsFound, DroppedIsGone}
-use Rattle.area_tree.proofs.VariableLaws.{same_equiv, matching_put, any_put, all_put}
+use Rattle.area_tree.specs.Laws.{changed_node, changed_list, changed_in, with_new_value, EntryFor, table_of, PutChangesOneValue, PutIsFound, DroppedIsGone}
+use Rattle.area_tree.proofs.VariableLaws.{same_equiv, matching_put, all_put}
 use Rattle.area_tree.proofs.SoundLemmas.{Laws, none_parts, table_distinct}
 use Rattle.area_tree.proofs.UnchangedLaws.{AllFound, all_found, found_any, one_back, entries_one, one_same, entries_same, later_all, some_back, member_same, members_same, list_same, lists_same, taken, dropped}
-use Rattle.area_tree.proofs.ReadBackLaws.{AllOther, under_same, places_same, labels_distinct, apart_like}
+use Rattle.area_tree.proofs.ReadBackLaws.{AllOther, under_same, places_same, labels_distinct}
 
 -- ---- variables
 
@@ -30,6 +29,7 @@ dropped_is_gone v w [] = by_test (same_variable w v)
   where
     nothing : Option Variable
     nothing = None
+
     by_test : (b : Bool) → nothing ≡ cond b nothing nothing
     by_test true = refl
     by_test false = refl
@@ -81,13 +81,15 @@ entry_changed law v vars entry entries (Tells u) is all d any more = by_test (sa
   where
     rest : List PlainNode
     rest = entries_back (put v vars) entries
+
     here : (w : Variable) → matching u (put v vars) ≡ Some w → one_back (put v vars) (Tells u) entry rest ≡ with_value (Some w) entry ∷ rest
     here w at = rw (found_any u w (put v vars) at, at) refl
+
     by_test : (b : Bool) → same_variable v u ≡ b → (b || list_any (same_variable v) (variables_in entries)) ≡ true → Changed v (entry ∷ entries) (one_back (put v vars) (Tells u) entry rest)
     by_test true same h = (
       record { place = zero; entry = entry; told = u; at = refl; tells = is; same = same },
       here v (matching_put u v vars ∙ rw (same_equiv.symm u v ∙ same) refl)
-      ∙ ap (λ (ns : List PlainNode). with_new_value v entry ∷ ns) (entries_same law (put v vars) entries (all_after v vars (variables_in entries) (like_apart_all v u (variables_in entries) same d.0) all.1)),
+          ∙ ap (λ (ns : List PlainNode). with_new_value v entry ∷ ns) (entries_same law (put v vars) entries (all_after v vars (variables_in entries) (like_apart_all v u (variables_in entries) same d.0) all.1)),
     )
     by_test false same h =
         later_change v entry entries rest _ (one_same law (put v vars) entry rest (Tells u) [] is (found_after v u vars all.0 (same_equiv.symm u v ∙ same), tt)) (more d.1 h)
@@ -255,8 +257,8 @@ first_changed law n label labels i v fields apart none later lt any =
     let objects = changed_at i (put v) (map object_of nodes) in
     let new = list_back label objects leaf fields in
     let same : lists_back labels rest new ≡ new =
-        sym (ap (λ (os : List AreaObject). lists_back labels os new) (under_same label labels objects leaf fields apart))
-        ∙ lists_same law (n + 1) labels new (places_same (n + 1) label labels objects leaf fields apart ∙ later) in
+    sym (ap (λ (os : List AreaObject). lists_back labels os new) (under_same label labels objects leaf fields apart))
+    ∙ lists_same law (n + 1) labels new (places_same (n + 1) label labels objects leaf fields apart ∙ later) in
     record {
       label = label;
       place = i;
@@ -293,7 +295,7 @@ either_changed law n label labels i v fields apart none later lt any more (inr n
     let k = i - length nodes in
     let is : i ≡ behind nodes k = omega (arith, no_less, behind_is nodes k) in
     let there : list_any (same_variable v) (object_at rest k).vars ≡ true =
-        sym (ap (λ (o : AreaObject). list_any (same_variable v) o.vars) (ap (object_at (map object_of nodes ++ rest)) is ∙ object_behind k nodes rest)) ∙ any in
+    sym (ap (λ (o : AreaObject). list_any (same_variable v) o.vars) (ap (object_at (map object_of nodes ++ rest)) is ∙ object_behind k nodes rest)) ∙ any in
     later_changed law n label labels i k v fields none is (more k (omega (arith, no_less, lt, long_both nodes rest)) there)
 
 lists_changed : Laws → (n : ℕ) (labels : List (List ℕ)) (v : Variable) (fields : List PlainField) → IsDistinct bytes_eq labels → lists_places n labels fields ≡ [] → (i : ℕ) → i < length (objects_under labels fields) →

@@ -3,17 +3,17 @@ use Rattle.std.proofs.Common.{◌≡◌, ◌+◌, ◌==◌, ℕ, ℤ, zero, suc,
 use Rattle.std.specs.Prelude.{codes}
 use Rattle.std.specs.List.{list_any, IsDistinct, AllByRecursion}
 use Rattle.std.specs.Str.{bytes_eq}
-use Rattle.std.proofs.lemmas.List.{append-nil, take-append-drop}
+use Rattle.std.proofs.lemmas.List.{take-append-drop}
 use Rattle.std.proofs.lemmas.Cmp.{nat_list_eq_equiv}
 use Rattle.std.proofs.lemmas.Slice.Eq.{bytes_eq-Decides}
-use Rattle.gff_tree.specs.Tree.{PlainNode, PlainLeaf, PlainField, Int, Str, Holds, Child, Children, nodes_in, nodes_from}
-use Rattle.gff_tree.specs.Fields.{kind_of, fields_of, node_from, list_from, found, replaced, appended}
+use Rattle.gff_tree.specs.Tree.{PlainNode, PlainLeaf, PlainField, Holds, Child, Children, nodes_in, nodes_from}
+use Rattle.gff_tree.specs.Fields.{kind_of, fields_of, list_from, found, replaced, appended}
 use Rattle.area_tree.specs.Variables.{Variable, IntVar, TextVar, same_variable, matching}
-use Rattle.area_tree.specs.Objects.{AreaObject, Script, Entry, Broken, Unread, Tells, dword_in, int_in, string_in, int_entry, text_entry, typed_entry, entry_of, with_entry, variables_in, structs_in, tag_in, with_script, scripts_in, object_of, list_labels, objects_under, objects_of}
-use Rattle.area_tree.specs.Broken.{Place, entry_places, with_later, entries_places, tag_places, table_places, member_places, members_places, list_places, lists_places, broken_places}
-use Rattle.area_tree.specs.Back.{value_of, new_entry, stays, is_kept, variable_for, with_value, valued, entries_back, others, table_back, leaf_back, fields_back, member_back, members_back, objects_back, list_back, lists_back, back}
-use Rattle.area_tree.specs.Area.{bare, tree_back, PlainArea, top_of, IsArea}
-use Rattle.area_tree.specs.Laws.{AreAlike, AllAlike, ReadsBack, BackIsRead}
+use Rattle.area_tree.specs.Objects.{AreaObject, Entry, Broken, Unread, Tells, dword_in, int_in, string_in, int_entry, text_entry, typed_entry, entry_of, with_entry, variables_in, structs_in, tag_in, with_script, scripts_in, object_of, list_labels, objects_under}
+use Rattle.area_tree.specs.Broken.{Place, entry_places, with_later, entries_places, tag_places, table_places, member_places, members_places, list_places, lists_places}
+use Rattle.area_tree.specs.Back.{value_of, new_entry, with_value, entries_back, others, table_back, fields_back, member_back, members_back, objects_back, list_back, lists_back}
+use Rattle.area_tree.specs.Area.{bare, top_of}
+use Rattle.area_tree.specs.Laws.{AreAlike, AllAlike, BackIsRead}
 use Rattle.area_tree.proofs.VariableLaws.{same_equiv, filter_distinct}
 use Rattle.area_tree.proofs.SoundLemmas.{Laws, none_parts, table_distinct, AreDistinct, back_sound}
 use Rattle.area_tree.proofs.UnchangedLaws.{entry_value, found_any, one_back, entries_one, some_back}
@@ -210,6 +210,7 @@ matching_others x some [] = by_test (list_any (same_variable x) some)
   where
     nothing : Option Variable
     nothing = None
+
     by_test : (b : Bool) → nothing ≡ cond b nothing nothing
     by_test true = refl
     by_test false = refl
@@ -273,6 +274,7 @@ told_distinct vars (v ∷ some) d = by_match (matching v vars) refl (told_distin
     apart_from : (u w : Variable) (xs : List Variable) → same_variable u w ≡ true → AllByRecursion (λ y. same_variable u y ≡ false) xs → AllByRecursion (λ y. same_variable w y ≡ false) xs
     apart_from u w [] same all = tt
     apart_from u w (x ∷ xs) same all = (like_apart x u w same all.0, apart_from u w xs same all.1)
+
     by_match : (o : Option Variable) → matching v vars ≡ o → IsDistinct same_variable (told vars some) → IsDistinct same_variable (kept_told o (told vars some))
     by_match None at more = more
     by_match (Some w) at more =
@@ -311,6 +313,7 @@ all_any first (v ∷ rest) = (here first, subst (λ (xs : List Variable). AllByR
     one : (b : Bool) → (b || true) ≡ true
     one true = refl
     one false = refl
+
     here : (xs : List Variable) → list_any (same_variable v) (xs ++ v ∷ rest) ≡ true
     here [] = rw (same_equiv.refl v) refl
     here (x ∷ xs) = rw (here xs) (one (same_variable v x))
@@ -470,8 +473,7 @@ member_read law n m object node same d none =
     let new = fields_back object.vars table fields in
     let parts = none_parts (tag_places n m (found (codes "Tag") fields)) (table_places n m table) none in
     let there : fields_of (member_back object.vars node) ≡ new = law.fields (kind_of node) new in
-    let read = fields_read law n m object.vars table fields refl parts.1 d in
-    (
+    let read = fields_read law n m object.vars table fields refl parts.1 d in (
       ap (λ (fs : List PlainField). tag_places n m (found (codes "Tag") fs) ++ table_places n m (found (codes "VarTable") fs)) there ∙ rw (read.tag, parts.0, read.places) refl,
       record {
         tag = ap (λ (fs : List PlainField). tag_in (found (codes "Tag") fs)) there ∙ (ap tag_in read.tag ∙ sym (ap (λ (o : AreaObject). o.tag) same));
@@ -577,12 +579,11 @@ lists_read law n (label ∷ labels) objects fields apart same d none =
     let new = list_back label first (found label fields) fields in
     let here = list_read law n label first (found label fields) fields refl split.0 (taken_distinct k objects d) parts.0 in
     let more = lists_read law (n + 1) labels rest new apart.1 (split.1 ∙ sym (ap (map bare) (under_same label labels first (found label fields) fields apart.0))) (dropped_distinct k objects d)
-        (places_same (n + 1) label labels first (found label fields) fields apart.0 ∙ parts.1) in
-    let there : found label (lists_back labels rest new) ≡ found label new = lists_other label labels rest new apart.0 in
-    (
+    (places_same (n + 1) label labels first (found label fields) fields apart.0 ∙ parts.1) in
+    let there : found label (lists_back labels rest new) ≡ found label new = lists_other label labels rest new apart.0 in (
       rw (there, here.0) more.0,
       subst (AllAlike (objects_under (label ∷ labels) (lists_back labels rest new))) (take-append-drop k objects)
-      (rw there (alike_joined (map object_of (structs_in (found label new))) (objects_under labels (lists_back labels rest new)) first rest here.1 more.1)),
+          (rw there (alike_joined (map object_of (structs_in (found label new))) (objects_under labels (lists_back labels rest new)) first rest here.1 more.1)),
     )
 
 pub labels_distinct : IsDistinct bytes_eq list_labels

@@ -1,12 +1,11 @@
 -- The tree of the way back is sound, and no two variables of a tree's object have one type and name.
-use Rattle.std.proofs.Common.{◌≡◌, ◌+◌, ℕ, zero, suc, Bool, true, false, cond, ◌&&◌, List, [], ◌∷◌, ◌++◌, map, filter, length, take, drop, Option, None, Some, refl, sym, ap, subst, ◌∙◌, append_assoc}
+use Rattle.std.proofs.Common.{◌≡◌, ◌+◌, ℕ, suc, Bool, true, false, cond, ◌&&◌, List, [], ◌∷◌, ◌++◌, map, filter, length, take, drop, Option, None, Some, refl, sym, ap, subst, ◌∙◌, append_assoc}
 use Rattle.std.specs.Prelude.{codes}
 use Rattle.std.specs.List.{list_all, list_any, IsDistinct, AllByRecursion}
-use Rattle.std.specs.Str.{bytes_eq}
 use Rattle.std.proofs.lemmas.List.{append-nil}
 use Rattle.std.proofs.lemmas.Map.Keys.{IsDistinct-push}
-use Rattle.gff_tree.specs.Tree.{PlainNode, PlainLeaf, PlainField, Holds, Child, Children, Struct, nodes_in, nodes_from, is_sound_node, is_sound_leaf, are_sound_nodes, is_sound}
-use Rattle.gff_tree.specs.Fields.{kind_of, fields_of, node_from, list_from, found, replaced, appended, ReplacedIsSound, AppendedIsSound, FoundIsSound, ListIsSound, NodeIsItsFields, FieldsAreTheNodes, ListIsItsNodes, NodesAreTheLists}
+use Rattle.gff_tree.specs.Tree.{PlainNode, PlainLeaf, PlainField, Holds, Child, Children, nodes_in, is_sound_node, is_sound_leaf, is_sound}
+use Rattle.gff_tree.specs.Fields.{kind_of, fields_of, node_from, list_from, found, ReplacedIsSound, AppendedIsSound, FoundIsSound, ListIsSound, NodeIsItsFields, FieldsAreTheNodes, ListIsItsNodes, NodesAreTheLists}
 use Rattle.area_tree.specs.Variables.{Variable, IntVar, TextVar, same_variable}
 use Rattle.area_tree.specs.Objects.{AreaObject, Entry, Broken, Unread, Tells, entry_of, with_entry, variables_in, structs_in, object_of, list_labels, objects_under, objects_of}
 use Rattle.area_tree.specs.Broken.{Place, entry_places, with_later, entries_places, tag_places, table_places, member_places, members_places, list_places, lists_places, broken_places}

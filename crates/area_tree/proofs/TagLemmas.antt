@@ -1,5 +1,5 @@
 -- The index from tags to objects as it grows.
-use Rattle.std.proofs.Common.{◌≡◌, ◌<◌, ◌+◌, ℕ, suc, Bool, true, false, cond, List, [], ◌∷◌, ◌++◌, length, map, get_or, drop, drop-cons, add-one, slice_get, position, Option, None, Some, Result, Ok, Err, Vec, zero, unwrap_or, refl, sym, ap, subst, ◌∙◌, append_assoc, arith}
+use Rattle.std.proofs.Common.{◌≡◌, ℕ, suc, Bool, true, false, cond, List, [], ◌∷◌, ◌++◌, map, slice_get, position, Option, None, Some, Result, Ok, Err, Vec, zero, unwrap_or, refl, sym, ap, subst, ◌∙◌}
 use Rattle.std.specs.List.{list_any}
 use Rattle.std.specs.Result.{OnOk}
 use Rattle.std.specs.Map.{lookup, keys_of, values_of}
@@ -12,8 +12,6 @@ use Rattle.std.specs.declared.alloc.Global.{Global}
 use Rattle.indexmap.specs.IndexMap.{IndexMap, insert_entry, set_value_at}
 use Rattle.area_tree.specs.Variables.{Variable, TextVar, is_text, first, text_of, text_named, put}
 use Rattle.area_tree.specs.Woven.{same_key, text_var}
-use Rattle.area_tree.specs.Objects.{AreaObject}
-use Rattle.area_tree.specs.Area.{tagged}
 use Rattle.area_tree.specs.Index.{numbers_under, AddsNumber}
 use Rattle.area_tree.proofs.VariableLaws.{put_last, matching_put}
 use Rattle.area_tree.proofs.WovenLemmas.{TextEntries, has_name, text_place, text_looked, text_written, text_missing, place_none}

@@ -1,16 +1,15 @@
 -- The area that nobody changed goes back as the tree it was read from.
-use Rattle.std.proofs.Common.{◌≡◌, ◌+◌, ◌==◌, ℕ, ℤ, Bool, true, false, cond, not, ◌||◌, List, [], ◌∷◌, ◌++◌, map, filter, length, take, drop, Option, None, Some, refl, sym, ap, subst, ◌∙◌, append_assoc}
+use Rattle.std.proofs.Common.{◌≡◌, ◌+◌, ◌==◌, ℕ, ℤ, Bool, true, false, cond, not, ◌||◌, List, [], ◌∷◌, ◌++◌, map, filter, length, take, drop, Option, None, Some, refl, sym, ap, ◌∙◌}
 use Rattle.std.specs.Prelude.{codes}
 use Rattle.std.specs.List.{list_any, IsDistinct, AllByRecursion}
 use Rattle.std.specs.Str.{bytes_eq}
 use Rattle.std.proofs.lemmas.List.{append-nil}
 use Rattle.gff_tree.specs.Tree.{PlainNode, PlainLeaf, PlainField, Byte, Char, Word, Short, Dword, Int, Dword64, Int64, Float, Double, Str, Res, Localized, Void, Holds, Child, Children, nodes_in}
-use Rattle.gff_tree.specs.Whole.{PlainGff}
 use Rattle.gff_tree.specs.Fields.{kind_of, fields_of, node_from, list_from, found, replaced}
 use Rattle.area_tree.specs.Variables.{Variable, IntVar, TextVar, same_variable, matching}
-use Rattle.area_tree.specs.Objects.{AreaObject, Entry, Broken, Unread, Tells, dword_in, int_in, string_in, int_entry, text_entry, typed_entry, entry_of, with_entry, variables_in, structs_in, object_of, list_labels, objects_under, objects_of}
-use Rattle.area_tree.specs.Broken.{tag_places, table_places, member_places, members_places, list_places, lists_places, broken_places}
-use Rattle.area_tree.specs.Back.{value_of, new_entry, stays, is_kept, variable_for, with_value, valued, entries_back, others, table_back, leaf_back, fields_back, member_back, members_back, objects_back, list_back, lists_back, back}
+use Rattle.area_tree.specs.Objects.{AreaObject, Entry, Broken, Unread, Tells, dword_in, int_in, string_in, int_entry, text_entry, typed_entry, entry_of, with_entry, variables_in, structs_in, object_of, list_labels, objects_under}
+use Rattle.area_tree.specs.Broken.{tag_places, table_places, member_places, members_places, list_places, lists_places}
+use Rattle.area_tree.specs.Back.{value_of, stays, is_kept, variable_for, with_value, valued, entries_back, table_back, leaf_back, fields_back, member_back, members_back, objects_back, list_back, lists_back}
 use Rattle.area_tree.specs.Laws.{UnchangedGoesBack}
 use Rattle.area_tree.proofs.VariableLaws.{same_equiv}
 use Rattle.area_tree.proofs.SoundLemmas.{Laws, none_parts, table_distinct}
@@ -133,7 +132,7 @@ one_same law vars entry rest Broken more is all = refl
 one_same law vars entry rest Unread more is all = refl
 one_same law vars entry rest (Tells v) more is all =
     let same : node_from (kind_of entry) (replaced (codes "Value") (value_of v) (fields_of entry)) ≡ entry =
-        ap (node_from (kind_of entry)) (replaced_same (codes "Value") (value_of v) (fields_of entry) (entry_value entry v is)) ∙ law.node entry in
+    ap (node_from (kind_of entry)) (replaced_same (codes "Value") (value_of v) (fields_of entry) (entry_value entry v is)) ∙ law.node entry in
     rw (found_any v v vars all.0, all.0) (ap (λ (n : PlainNode). n ∷ rest) same)
 
 pub later_all : (vars more : List Variable) (e : Entry) → AllFound vars (with_entry e more) → AllFound vars more
@@ -170,7 +169,7 @@ fields_same law n m (Some (Holds scalar)) fields is none = absurd cc
 fields_same law n m (Some (Child node)) fields is none = absurd cc
 fields_same law n m (Some (Children entries)) fields is none =
     let same : leaf_back (variables_in (nodes_in entries)) (Children entries) ≡ Children entries =
-        ap list_from (table_same law (nodes_in entries) (table_distinct n m (Some (Children entries)) none)) ∙ law.list (Children entries) (nodes_in entries) refl in
+    ap list_from (table_same law (nodes_in entries) (table_distinct n m (Some (Children entries)) none)) ∙ law.list (Children entries) (nodes_in entries) refl in
     some_back (variables_in (nodes_in entries)) (Children entries) fields ∙ (rw same (replaced_same (codes "VarTable") (Children entries) fields is))
 
 pub member_same : Laws → (n m : ℕ) (node : PlainNode) → member_places n m node ≡ [] → member_back (object_of node).vars node ≡ node
@@ -193,7 +192,7 @@ list_same law n label (Some (Holds scalar)) fields is none = absurd cc
 list_same law n label (Some (Child node)) fields is none = absurd cc
 list_same law n label (Some (Children nodes)) fields is none =
     let same : objects_back (map object_of (nodes_in nodes)) (Children nodes) ≡ Children nodes =
-        ap list_from (members_same law n 1 (nodes_in nodes) none) ∙ law.list (Children nodes) (nodes_in nodes) refl in
+    ap list_from (members_same law n 1 (nodes_in nodes) none) ∙ law.list (Children nodes) (nodes_in nodes) refl in
     rw same (replaced_same label (Children nodes) fields is)
 
 pub taken : (nodes : List PlainNode) (rest : List AreaObject) → take (length nodes) (map object_of nodes ++ rest) ≡ map object_of nodes

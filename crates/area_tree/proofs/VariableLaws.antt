@@ -1,10 +1,9 @@
 -- Variables by type and name: one at most of each, and what becomes of that as they are put and taken out.
-use Rattle.std.proofs.Common.{◌≡◌, ℕ, Bool, true, false, cond, not, ◌||◌, List, [], ◌∷◌, ◌++◌, filter, is_some, Option, None, Some, refl, sym, ap, ◌∙◌}
+use Rattle.std.proofs.Common.{◌≡◌, ℕ, Bool, true, false, cond, not, ◌||◌, List, [], ◌∷◌, ◌++◌, filter, is_some, Option, Some, refl, sym, ap, ◌∙◌}
 use Rattle.std.specs.List.{list_any, IsDistinct, AllByRecursion}
-use Rattle.std.specs.Str.{bytes_eq}
 use Rattle.std.specs.Cmp.{IsEquivalence}
 use Rattle.std.proofs.lemmas.Cmp.{nat_list_eq_equiv}
-use Rattle.area_tree.specs.Variables.{Variable, IntVar, TextVar, is_int, is_text, same_variable, first, matching, put}
+use Rattle.area_tree.specs.Variables.{Variable, IntVar, TextVar, is_int, is_text, same_variable, matching, put}
 
 same_refl : (v : Variable) → same_variable v v ≡ true
 same_refl (IntVar name n) = nat_list_eq_equiv.refl name
@@ -168,9 +167,11 @@ any_put x v vars = any_matching (put v vars) ∙ (ap is_some (matching_put x v v
     one : (b : Bool) (w : Variable) (rest : Option Variable) → (b || is_some rest) ≡ is_some (cond b (Some w) rest)
     one true w rest = refl
     one false w rest = refl
+
     any_matching : (ws : List Variable) → list_any (same_variable x) ws ≡ is_some (matching x ws)
     any_matching [] = refl
     any_matching (w ∷ ws) = ap (λ (b : Bool). same_variable x w || b) (any_matching ws) ∙ one (same_variable x w) w (matching x ws)
+
     by_test : (b : Bool) → is_some (cond b (Some v) (matching x vars)) ≡ (b || is_some (matching x vars))
     by_test true = refl
     by_test false = refl

@@ -1,5 +1,5 @@
 -- Ints and strings in one order: what is found in it, put into it and taken out of it.
-use Rattle.std.proofs.Common.{◌≡◌, ◌≢◌, ◌<◌, pos, is_some, unwrap_or, ◌≤◌, ◌+◌, ◌-◌, ◌==◌, ℕ, ℤ, zero, suc, Bool, true, false, cond, not, ◌||◌, nat_lt, List, [], ◌∷◌, ◌++◌, map, filter, length, slice_get, position, Option, None, Some, Result, Ok, Err, Vec, refl, sym, ap, subst, ◌∙◌, arith}
+use Rattle.std.proofs.Common.{◌≡◌, ◌≢◌, ◌<◌, pos, is_some, unwrap_or, ◌+◌, ◌-◌, ◌==◌, ℕ, ℤ, zero, suc, Bool, true, false, cond, not, ◌||◌, nat_lt, List, [], ◌∷◌, ◌++◌, map, filter, length, slice_get, position, Option, None, Some, Result, Ok, Err, Vec, refl, sym, ap, subst, ◌∙◌, arith}
 use Rattle.std.specs.Result.{OnOk}
 use Rattle.nwq_value.specs.declared.memory.NoMemory.{NoMemory}
 use Rattle.std.specs.List.{list_any, IsDistinct, position_or_len}
@@ -539,6 +539,7 @@ place_none test (v ∷ vars) e = by_test (test v) e (place_none test vars)
     absent : (o : Option ℕ) → option_map suc o ≡ None → o ≡ None
     absent None h = refl
     absent (Some k) h = absurd cc
+
     by_test : (b : Bool) → cond b (Some 0) (option_map suc (place_of test vars)) ≡ None → (place_of test vars ≡ None → list_any test vars ≡ false) → (b || list_any test vars) ≡ false
     by_test true h more = absurd cc
     by_test false h more = more (absent (place_of test vars) h)

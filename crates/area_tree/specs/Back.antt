@@ -23,10 +23,10 @@ value_of (TextVar name text) = Holds (Str text)
 -- the entry of a variable that the table didn't have
 abbrev pub new_entry : Variable → PlainNode
 new_entry v = node_from 0 (
-  record { label = codes "Name"; leaf = Holds (Str (name_of v)) }
-  ∷ record { label = codes "Type"; leaf = Holds (Dword (type_of v)) }
-  ∷ record { label = codes "Value"; leaf = value_of v } ∷ []
-)
+    record { label = codes "Name"; leaf = Holds (Str (name_of v)) }
+    ∷ record { label = codes "Type"; leaf = Holds (Dword (type_of v)) }
+    ∷ record { label = codes "Value"; leaf = value_of v } ∷ []
+    )
 
 -- an entry stays, unless it is that of a variable that the object no longer has
 abbrev pub stays : List Variable → Entry → Bool

@@ -2,7 +2,7 @@
 use Rattle.std.specs.Prelude.{◌≡◌, ◌<◌, ℕ, zero, suc, true, List, [], ◌∷◌, length, codes, if◌then◌else◌, not, filter, Option, None, Some, IsTrue}
 use Rattle.std.specs.List.{list_any, slice_get}
 use Rattle.gff_tree.specs.Tree.{PlainNode, PlainLeaf, PlainField, Holds, Child, Children, nodes_in, is_sound}
-use Rattle.gff_tree.specs.Whole.{PlainGff, plain_gff}
+use Rattle.gff_tree.specs.Whole.{PlainGff}
 use Rattle.gff_tree.specs.Fields.{kind_of, fields_of, node_from, list_from, found, replaced}
 use Rattle.area_tree.specs.Variables.{Variable, same_variable, matching, put}
 use Rattle.area_tree.specs.Objects.{AreaObject, Tells, entry_of, structs_in, object_of, objects_of}

@@ -185,7 +185,12 @@ fn add_told(entries: &[Node], told: &mut Vars) -> Result<(), NoMemory>
 }
 
 /// Puts an entry last for a variable that isn't among these.
-fn add_other(alloc: Global, v: Var<'_>, told: &Vars, entries: &mut Vec<Node>) -> Result<(), NoMemory>
+fn add_other(
+    alloc: Global,
+    v: Var<'_>,
+    told: &Vars,
+    entries: &mut Vec<Node>,
+) -> Result<(), NoMemory>
     ensures { OnOk result (map plain_node entries.new.items ≡ map plain_node entries.old.items
         ++ map new_entry (filter (λ w. not (list_any (same_variable w) told.now)) (variable_of v.entry ∷ []))) }
 {
@@ -198,7 +203,12 @@ fn add_other(alloc: Global, v: Var<'_>, told: &Vars, entries: &mut Vec<Node>) ->
 }
 
 /// Puts entries last for the variables that aren't among these.
-fn add_others(alloc: Global, vars: &Vars, told: &Vars, entries: &mut Vec<Node>) -> Result<(), NoMemory>
+fn add_others(
+    alloc: Global,
+    vars: &Vars,
+    told: &Vars,
+    entries: &mut Vec<Node>,
+) -> Result<(), NoMemory>
     ensures { OnOk result (map plain_node entries.new.items ≡ map plain_node entries.old.items
         ++ map new_entry (filter (λ v. not (list_any (same_variable v) told.now)) vars.now)) }
 {
@@ -212,7 +222,12 @@ fn add_others(alloc: Global, vars: &Vars, told: &Vars, entries: &mut Vec<Node>) 
 }
 
 /// Changes a table into one of these variables, where `told` are those that its entries tell.
-fn change_table(alloc: Global, vars: &Vars, told: &Vars, entries: &mut Vec<Node>) -> Result<(), NoMemory>
+fn change_table(
+    alloc: Global,
+    vars: &Vars,
+    told: &Vars,
+    entries: &mut Vec<Node>,
+) -> Result<(), NoMemory>
     requires { (v : Variable) → list_any (same_variable v) told.now ≡ list_any (same_variable v) (variables_in (map plain_node entries.old.items)) }
     ensures { OnOk result (map plain_node entries.new.items ≡ table_back vars.now (map plain_node entries.old.items)) }
 {

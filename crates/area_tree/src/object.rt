@@ -54,7 +54,7 @@ impl Object {
     pub fn tag(&self) -> &[u8]
         ensures tag { result.now ≡ self.now.tag }
     {
-        self.tag.bytes()
+        self.tag.as_slice()
     }
 
     /// The name of the resource under a label.
@@ -118,13 +118,13 @@ impl ScriptField {
     fn label(&self) -> &[u8]
         ensures { result.now ≡ self.now.label }
     {
-        self.label.bytes()
+        self.label.as_slice()
     }
 
     fn name(&self) -> &[u8]
         ensures { result.now ≡ self.now.name }
     {
-        self.name.bytes()
+        self.name.as_slice()
     }
 }
 
@@ -140,7 +140,7 @@ fn string_of(leaf: Option<&Leaf>) -> Option<&[u8]>
     ensures { option_map (λ text. text.now) result ≡ string_in (leaf_in leaf.entry) }
 {
     match leaf {
-        Some(Leaf::Str(text)) => Some(text.bytes()),
+        Some(Leaf::Str(text)) => Some(text.as_slice()),
         _ => None,
     }
 }
@@ -236,12 +236,7 @@ fn add_entry(
 }
 
 /// Puts the variables of a table's entries into an empty list.
-fn add_entries(
-    list: u8,
-    member: u32,
-    entries: &[Node],
-    vars: &mut Vars,
-) -> Result<(), AreaFault>
+fn add_entries(list: u8, member: u32, entries: &[Node], vars: &mut Vars) -> Result<(), AreaFault>
     requires few { length entries.now < 4294967296 }
     requires none { vars.old ≡ [] }
     ensures read { OnOk result ((entries_places list member 1 [] (map plain_node entries.now) ≡ []) × (vars.new ≡ variables_in (map plain_node entries.now))) }
@@ -255,12 +250,7 @@ fn add_entries(
     Ok(())
 }
 
-fn read_entries(
-    alloc: Global,
-    list: u8,
-    member: u32,
-    entries: &[Node],
-) -> Result<Vars, AreaFault>
+fn read_entries(alloc: Global, list: u8, member: u32, entries: &[Node]) -> Result<Vars, AreaFault>
     requires few { length entries.now < 4294967296 }
     ensures { Reads result (entries_places list member 1 [] (map plain_node entries.now)) (variables_in (map plain_node entries.now)) }
 {
@@ -275,12 +265,7 @@ fn read_entries(
 }
 
 /// The variables of a member.
-fn read_table(
-    alloc: Global,
-    list: u8,
-    member: u32,
-    table: Option<&Leaf>,
-) -> Result<Vars, AreaFault>
+fn read_table(alloc: Global, list: u8, member: u32, table: Option<&Leaf>) -> Result<Vars, AreaFault>
     requires few { length (structs_in (leaf_in table)) < 4294967296 }
     ensures { Reads result (table_places list member (leaf_in table.entry)) (variables_in (structs_in (leaf_in table.entry))) }
 {
@@ -307,8 +292,8 @@ fn read_tag(
 {
     match tag {
         None => Ok(Items::new(alloc)),
-        Some(Leaf::Str(text)) => Ok(Items::of_slice(alloc, text.bytes())?),
-        Some(Leaf::Res(text)) => Ok(Items::of_slice(alloc, text.bytes())?),
+        Some(Leaf::Str(text)) => Ok(Items::of_slice(alloc, text.as_slice())?),
+        Some(Leaf::Res(text)) => Ok(Items::of_slice(alloc, text.as_slice())?),
         Some(_) => Err(AreaFault::Shape {
             list,
             member,
@@ -323,7 +308,7 @@ fn add_script(alloc: Global, field: &Field, scripts: &mut Vec<ScriptField>) -> R
 {
     if let Leaf::Res(text) = &field.leaf {
         let label = Items::of_slice(alloc, field.label.bytes())?;
-        let name = Items::of_slice(alloc, text.bytes())?;
+        let name = Items::of_slice(alloc, text.as_slice())?;
         scripts.push(ScriptField { label, name })?;
     }
     Ok(())

@@ -100,7 +100,7 @@ fn text_at(texts: &IndexMap<Vec<u8>, Items<u8>>, n: usize) -> Option<Var<'_>>
     ensures { option_map variable_of result ≡ option_map text_var (slice_get texts.now.entries n) }
 {
     match texts.get_index(n) {
-        Some((name, value)) => Some(Var::Text(name, value.bytes())),
+        Some((name, value)) => Some(Var::Text(name, value.as_slice())),
         None => None,
     }
 }
@@ -160,7 +160,7 @@ impl Vars {
         ensures value { result.now ≡ text_named name.now self.now }
     {
         match self.texts.get(name) {
-            Some(text) => text.bytes(),
+            Some(text) => text.as_slice(),
             None => &[],
         }
     }

@@ -1,6 +1,8 @@
-//! Tests of NCS bytecode: instructions, whole files, labelled code.
+//! Tests of NCS bytecode: instructions, whole files, labelled code, assembler texts.
 #![tactic(auto)]
 
+#[cfg(test)]
+mod assembly;
 #[cfg(test)]
 mod emitting;
 #[cfg(test)]

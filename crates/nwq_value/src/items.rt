@@ -117,12 +117,3 @@ impl<T: Copy> Items<T> {
         Ok(())
     }
 }
-
-impl Items<u8> {
-    /// The bytes of a list of bytes.
-    pub fn bytes(&self) -> &[u8]
-        ensures bytes { result.now ≡ self.now }
-    {
-        self.all.as_slice()
-    }
-}

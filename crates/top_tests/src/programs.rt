@@ -4,19 +4,19 @@ use nwq_value::NoMemory;
 use std::alloc::Global;
 use std::test::Fail;
 
-/// The program with these words, over one script: the number with which it ends, standard output
-/// and standard error.
-fn ends(alloc: Global, all: &[&str]) -> Result<(u8, MemSink, MemSink), NoMemory> {
-    let mut owned: Vec<String> = Vec::new(alloc);
-    for word in all {
-        owned.push(String::from_str(alloc, word)?)?;
+/// The program with these words, parted by spaces, over two scripts: the number with which it ends,
+/// standard output and standard error.
+fn ends(alloc: Global, line: &str) -> Result<(u8, MemSink, MemSink), NoMemory> {
+    let mut all: Vec<String> = Vec::new(alloc);
+    for word in line.split_whitespace() {
+        all.push(String::from_str(alloc, word)?)?;
     }
     let mut files = MemFiles::new(alloc);
     files.add("p.nss", b"void main() { PrintInteger(2+3); }")?;
     files.add("q.nss", b"void main() {")?;
     let mut out = MemSink::new(alloc);
     let mut err = MemSink::new(alloc);
-    let number = nwq_program(alloc, owned.as_slice(), &mut files, &mut out, &mut err);
+    let number = nwq_program(alloc, all.as_slice(), &mut files, &mut out, &mut err);
     Ok((number, out, err))
 }
 
@@ -24,19 +24,15 @@ fn ends(alloc: Global, all: &[&str]) -> Result<(u8, MemSink, MemSink), NoMemory>
 fn whole_program(rt: HostRuntime) -> Result<(), Fail> {
     let rows = [
         (
-            ["nwq", "run", "-", "p"].as_slice(),
+            "nwq run - p",
             0,
             "0 #0 print 5\nend done clock 0 entries 1 instructions 7\n",
         ),
-        (
-            ["nwq", "run", "-", "q"].as_slice(),
-            2,
-            "refused q.nss 1 13 syntax\n",
-        ),
-        (["nwq", "run", "-", "r"].as_slice(), 6, "missing r.nss\n"),
+        ("nwq run - q", 2, "refused q.nss 1 13 syntax\n"),
+        ("nwq run - r", 6, "missing r.nss\n"),
     ];
-    for (all, number, text) in rows {
-        let (found, out, err) = ends(rt.alloc(), all)?;
+    for (line, number, text) in rows {
+        let (found, out, err) = ends(rt.alloc(), line)?;
         assert_eq!(rt; found, number);
         assert_eq!(rt; out.bytes(), text.as_bytes());
         assert_eq!(rt; err.bytes(), b"".as_slice());
@@ -46,11 +42,12 @@ fn whole_program(rt: HostRuntime) -> Result<(), Fail> {
 
 #[test]
 fn usage(rt: HostRuntime) -> Result<(), Fail> {
-    for all in [[].as_slice(), ["nwq"].as_slice(), ["nwq", "run"].as_slice()] {
-        let (found, out, err) = ends(rt.alloc(), all)?;
+    let told = b"usage: nwq run HEADER SCRIPT (HEADER: a header file, or - for the built-in one)\n";
+    for line in ["", "nwq", "nwq run"] {
+        let (found, out, err) = ends(rt.alloc(), line)?;
         assert_eq!(rt; found, 1);
         assert_eq!(rt; out.bytes(), b"refused words\n".as_slice());
-        assert!(rt; err.bytes().starts_with(b"usage: nwq run HEADER SCRIPT"));
+        assert_eq!(rt; err.bytes(), told.as_slice());
     }
     Ok(())
 }

@@ -1,6 +1,5 @@
-use Rattle.std.proofs.Common.{map, ◌∙◌, sym, ap, not}
+use Rattle.std.proofs.Common.{map, sym, not}
 use Rattle.std.specs.List.{list_any}
-use Rattle.std.specs.Option.{option_map}
 use Rattle.gff_tree.specs.Tree.{plain_node}
 use Rattle.area_tree.specs.Variables.{variable_of, same_variable}
 use Rattle.area_tree.proofs.BackLemmas.{others_next}

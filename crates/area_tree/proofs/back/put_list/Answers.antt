@@ -1,7 +1,7 @@
-use Rattle.std.proofs.Common.{sym, ap, ◌≡◌, ◌∙◌, None, Some}
+use Rattle.std.proofs.Common.{sym, ap, ◌∙◌}
 use Rattle.gff_tree.specs.Tree.{plain_node, plain_leaf}
-use Rattle.gff_tree.specs.Fields.{kind_of, fields_of, node_from, found, replaced}
-use Rattle.area_tree.specs.Back.{list_back, objects_back}
+use Rattle.gff_tree.specs.Fields.{kind_of, fields_of, node_from, replaced}
+use Rattle.area_tree.specs.Back.{list_back}
 use Rattle.area_tree.proofs.BackLemmas.{taken_none, taken_back}
 use Rattle.area_tree.proofs.back.put_list.Goals as goal
 

@@ -1,7 +1,7 @@
 use Rattle.std.proofs.Common.{codes, sym, ap, subst, ◌≡◌, ◌∙◌, None, Some}
-use Rattle.gff_tree.specs.Tree.{PlainNode, plain_node, plain_leaf}
+use Rattle.gff_tree.specs.Tree.{plain_node, plain_leaf}
 use Rattle.gff_tree.specs.Fields.{kind_of, fields_of, node_from, found, replaced}
-use Rattle.area_tree.specs.Back.{leaf_back, member_back}
+use Rattle.area_tree.specs.Back.{member_back}
 use Rattle.area_tree.proofs.BackLemmas.{taken_none, taken_back, member_some, ok_along}
 use Rattle.area_tree.proofs.back.put_member.Goals as goal
 

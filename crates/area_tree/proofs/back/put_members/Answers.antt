@@ -1,4 +1,4 @@
-use Rattle.std.proofs.Common.{◌<◌, ◌≤◌, length, min, arith, ◌∙◌, ap, subst}
+use Rattle.std.proofs.Common.{◌<◌, length, min, arith, ◌∙◌, ap}
 use Rattle.area_tree.specs.Back.{member_back}
 use Rattle.gff_tree.specs.Tree.{plain_node}
 use Rattle.area_tree.proofs.BackLemmas.{members_turn, members_done}

@@ -1,5 +1,4 @@
-use Rattle.std.proofs.Common.{◌<◌, length, map, arith, sym, ◌∙◌}
-use Rattle.gff_tree.specs.Tree.{plain_node}
+use Rattle.std.proofs.Common.{arith}
 use Rattle.area_tree.specs.Back.{valued}
 use Rattle.area_tree.proofs.BackLemmas.{changed_plain}
 use Rattle.area_tree.proofs.back.set_values.Goals as goal

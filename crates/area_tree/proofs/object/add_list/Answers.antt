@@ -1,6 +1,6 @@
-use Rattle.std.proofs.Common.{◌<◌, map, arith, rules, subst, sym}
+use Rattle.std.proofs.Common.{◌<◌, map, arith, subst}
 use Rattle.gff_tree.specs.Tree.{plain_node, plain_leaf}
-use Rattle.gff_tree.specs.Count.{leaf_count, nodes_count}
+use Rattle.gff_tree.specs.Count.{leaf_count}
 use Rattle.area_tree.specs.Reading.{leaf_in, leaves_count}
 use Rattle.area_tree.proofs.ReadLemmas.{list_count}
 use Rattle.area_tree.proofs.object.add_list.Goals as goal

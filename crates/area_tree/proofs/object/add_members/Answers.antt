@@ -1,4 +1,4 @@
-use Rattle.std.proofs.Common.{◌≡◌, ◌+◌, codes, Err, ap, ◌∙◌, arith}
+use Rattle.std.proofs.Common.{◌+◌, codes, Err, ap, ◌∙◌, arith}
 use Rattle.std.proofs.lemmas.Result.{err_from_is_err_and}
 use Rattle.gff_tree.specs.Tree.{plain_node}
 use Rattle.area_tree.proofs.ReadLemmas.{table_few, few_item, few_next, members_next, members_first, objects_next, if_first}

@@ -1,4 +1,4 @@
-use Rattle.std.proofs.Common.{◌≡◌, map, refl, sym, ap, subst, ◌∙◌, true}
+use Rattle.std.proofs.Common.{◌≡◌, refl, ap, ◌∙◌}
 use Rattle.gff_tree.specs.Tree.{plain_node, is_sound}
 use Rattle.area_tree.specs.Area.{empty_tree}
 use Rattle.area_tree.proofs.SoundLemmas.{empty_sound}

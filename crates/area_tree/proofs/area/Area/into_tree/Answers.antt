@@ -1,7 +1,5 @@
-use Rattle.std.proofs.Common.{sym, ap, subst, ◌≡◌, true, ◌∙◌}
+use Rattle.std.proofs.Common.{ap, ◌∙◌}
 use Rattle.gff_tree.specs.Tree.{plain_node, is_sound}
-use Rattle.gff_tree.specs.Whole.{plain_gff}
-use Rattle.area_tree.specs.Area.{top_of}
 use Rattle.area_tree.proofs.SoundLemmas.{Laws, back_sound}
 use Rattle.area_tree.proofs.area.Area.into_tree.Goals as goal
 

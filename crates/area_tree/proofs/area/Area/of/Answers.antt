@@ -1,6 +1,5 @@
-use Rattle.std.proofs.Common.{◌≡◌, ◌<◌, length, map, sym, ap, subst, ◌∙◌, arith}
+use Rattle.std.proofs.Common.{◌≡◌, length, map, sym, ap, subst, arith}
 use Rattle.gff_tree.specs.Whole.{plain_gff}
-use Rattle.area_tree.specs.Objects.{objects_of}
 use Rattle.area_tree.specs.Area.{bare}
 use Rattle.area_tree.specs.Index.{Indexes}
 use Rattle.area_tree.proofs.SoundLemmas.{AreDistinct, objects_distinct}

@@ -1,4 +1,4 @@
-use Rattle.std.proofs.Common.{◌∙◌, sym, ap, Some, None, slice_get}
+use Rattle.std.proofs.Common.{◌∙◌, sym, ap, Some, slice_get}
 use Rattle.area_tree.proofs.WovenLemmas.{past_end, int_by_place, text_by_place}
 use Rattle.area_tree.proofs.vars.Vars.get.Goals as goal
 

@@ -1,7 +1,7 @@
 use Rattle.std.specs.Int.{w32}
 use Rattle.std.proofs.lemmas.Int.{to_z-of_z}
-use Rattle.std.proofs.Common.{OnOk, ◌≡◌, ◌∷◌, [], ◌++◌, Ok, Err, Result, List, ◌∙◌, sym, ap}
-use Rattle.area_tree.specs.Variables.{Variable, IntVar, put}
+use Rattle.std.proofs.Common.{◌∷◌, [], ◌++◌, ◌∙◌, sym, ap}
+use Rattle.area_tree.specs.Variables.{IntVar}
 use Rattle.area_tree.proofs.VariableLaws.{put_last}
 use Rattle.area_tree.proofs.WovenLemmas.{int_set, int_absent, put_ok}
 use Rattle.area_tree.proofs.vars.Vars.set_int.Goals as goal

@@ -1,4 +1,3 @@
-use Rattle.std.proofs.Common.{sym}
 use Rattle.area_tree.specs.Variables.{TextVar}
 use Rattle.area_tree.proofs.VariableLaws.{put_last}
 use Rattle.area_tree.proofs.WovenLemmas.{text_set, text_absent, put_ok}

@@ -1,0 +1,4 @@
+mod Examples
+mod Labels
+mod Whole
+mod Positions

@@ -1,0 +1,10 @@
+mod Played
+mod Worked
+mod Edges
+mod MapLemmas
+mod RowMaps
+mod TurnMaps
+mod AlikeLemmas
+mod KeptLemmas
+mod RowsKept
+mod TurnsKept

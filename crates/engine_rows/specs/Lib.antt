@@ -1,0 +1,12 @@
+pub mod Arguments
+pub mod Pure
+pub mod Trace
+pub mod World
+pub mod Changes
+pub mod Rows
+pub mod Engine
+pub mod Turns
+pub mod Mapped
+pub mod Alike
+pub mod AlikeLaws
+pub mod Kept

@@ -1,0 +1,13 @@
+pub mod Cutting
+pub mod Strings
+pub mod Fields
+pub mod Naming
+pub mod Rows
+pub mod Ops
+pub mod Passing
+pub mod Single
+pub mod Targets
+pub mod Listings
+pub mod Texts
+pub mod Again
+pub mod Answering

@@ -1,0 +1,6 @@
+pub mod Lines
+pub mod Arguments
+pub mod Assembly
+pub mod Listing
+pub mod Steps
+pub mod Laws

@@ -1,0 +1,14 @@
+pub mod Types
+pub mod Typed
+pub mod Nodes
+pub mod Sight
+pub mod Returns
+pub mod Rules
+pub mod Verdicts
+pub mod Meaning
+pub mod Laws
+pub mod Numbers
+pub mod Places
+pub mod Reading
+pub mod Readings
+pub mod Scopes
