@@ -1,4 +1,5 @@
 mod EntryLemmas
+mod HeaderLemmas
 mod Rows
 mod RunLemmas
 mod StackLemmas

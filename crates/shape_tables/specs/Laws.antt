@@ -4,7 +4,7 @@ use Rattle.nwq_value.specs.declared.value.Ty.{Ty}
 use Rattle.nwq_value.specs.declared.value.Ty.TheVariants.{Void, Text, Object}
 use Rattle.nwq_value.specs.declared.value.Value.{Value}
 use Rattle.nwq_value.specs.declared.engine.Routine.{Routine}
-use Rattle.nwq_value.specs.Engine.{EngineTable}
+use Rattle.nwq_value.specs.Engine.{EngineTable, IsTable}
 use Rattle.nwq_value.specs.Values.{type_of}
 use Rattle.saved_state.specs.declared.saved.Saved.{Saved}
 use Rattle.stack_shape.specs.Calls.{argument_types}
@@ -30,6 +30,10 @@ pub record RunsScripts (r : Routine) : Type 0 where
 
 abbrev pub TypesExecuteScript : EngineTable → Type 0
 TypesExecuteScript header = (number : ℕ) (r : Routine) → slice_get header.routines number ≡ Some r → is_execute_script r.role ≡ true → RunsScripts r
+
+-- so in each table of a header
+abbrev pub TablesTypeExecuteScript : Type 0
+TablesTypeExecuteScript = (header : EngineTable) → IsTable header → TypesExecuteScript header
 
 -- an answer has the routine's type
 abbrev pub HasType : Ty → Option Value → Type 0

@@ -1,8 +1,18 @@
 ghost use Rattle.shape_tables.specs.Laws.{ContinuesSafely, RunsSafely, ScriptsAreSound};
 ghost use Rattle.shape_tables.specs.Laws.{StartsSafely, StatesAreSound, StepsSafely};
+ghost use Rattle.shape_tables.specs.Laws.{TablesTypeExecuteScript};
 
 use machine_step::effects_are_followed;
+use nwq_value::header::roles_tell;
 use stack_shape::{effects_pop_values, rules_look_from_the_top};
+
+/// In each table of a header, the routine that runs another script takes a name and a target and
+/// gives nothing.
+pub fn tables_type_execute_script()
+    ensures typed { TablesTypeExecuteScript }
+{
+    roles_tell();
+}
 
 /// A listed script starts safely, and so does a captured state that fits.
 pub fn entries_begin_safely()

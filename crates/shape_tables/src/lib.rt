@@ -12,4 +12,4 @@
 
 mod laws;
 
-pub use laws::{entries_begin_safely, runs_are_sound, steps_are_safe};
+pub use laws::{entries_begin_safely, runs_are_sound, steps_are_safe, tables_type_execute_script};
