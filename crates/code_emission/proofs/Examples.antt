@@ -401,12 +401,12 @@ condition_with_globals = refl
 -- int g(int a); int f(int b); int f(int b) { return g(b); } int g(int a) { return a; } void main() { f(1); }: prototypes take numbers of
 -- variables, and no place in the code
 declared_before : code (unit_of (
-      unit.function 0 t.Int (codes "g") (param 0 t.Int ∷ []) None
-      ∷ unit.function 0 t.Int (codes "f") (param 1 t.Int ∷ []) None
-      ∷ function t.Int (param 2 t.Int ∷ []) (s.return_from 0 (Some (e.call t.Int (InUnit 1) (args (local 2 ∷ [])) [])) ∷ [])
-      ∷ function t.Int (param 3 t.Int ∷ []) (s.return_from 0 (Some (local 3)) ∷ [])
-      ∷ function t.Void [] (run (e.call t.Int (InUnit 0) (args (int 1 ∷ [])) []) ∷ [])
-      ∷ []) (Main 2))
+    unit.function 0 t.Int (codes "g") (param 0 t.Int ∷ []) None
+    ∷ unit.function 0 t.Int (codes "f") (param 1 t.Int ∷ []) None
+    ∷ function t.Int (param 2 t.Int ∷ []) (s.return_from 0 (Some (e.call t.Int (InUnit 1) (args (local 2 ∷ [])) [])) ∷ [])
+    ∷ function t.Int (param 3 t.Int ∷ []) (s.return_from 0 (Some (local 3)) ∷ [])
+    ∷ function t.Void [] (run (e.call t.Int (InUnit 0) (args (int 1 ∷ [])) []) ∷ [])
+    ∷ []) (Main 2))
     ≡ ops.Jsr (pos 80) ∷ ops.Retn
     ∷ ops.RsAdd 3 ∷ ops.CpTopSp (minus 8) 4 ∷ ops.Jsr (pos 30) ∷ ops.CpDownSp (minus 12) 4 ∷ ops.MovSp (minus 8) ∷ ops.Retn ∷ ops.MovSp (minus 4) ∷ ops.Retn
     ∷ ops.CpTopSp (minus 4) 4 ∷ ops.CpDownSp (minus 12) 4 ∷ ops.MovSp (minus 8) ∷ ops.Retn ∷ ops.MovSp (minus 4) ∷ ops.Retn
@@ -416,13 +416,13 @@ declared_before = refl
 
 -- struct P { int x; string s; }; struct P g; int h; void F(int a, struct P p) { int n; { int m; } object o; }
 laid_out : layout_of (unit_of (
-      unit.structure 0 (codes "P") (record { token = 0; ty = t.Int; names = record { token = 0; name = codes "x" } ∷ [] }
-        ∷ record { token = 0; ty = t.Text; names = record { token = 0; name = codes "s" } ∷ [] } ∷ [])
-      ∷ global 0 (t.Struct 0) None
-      ∷ global 1 t.Int None
-      ∷ function t.Void (param 2 t.Int ∷ param 3 (t.Struct 0) ∷ []) (
-          declare 4 t.Int None ∷ s.block 0 (stmts (declare 5 t.Int None ∷ [])) ∷ declare 6 t.Object None ∷ [])
-      ∷ []) (Main 0))
+    unit.structure 0 (codes "P") (record { token = 0; ty = t.Int; names = record { token = 0; name = codes "x" } ∷ [] }
+    ∷ record { token = 0; ty = t.Text; names = record { token = 0; name = codes "s" } ∷ [] } ∷ [])
+    ∷ global 0 (t.Struct 0) None
+    ∷ global 1 t.Int None
+    ∷ function t.Void (param 2 t.Int ∷ param 3 (t.Struct 0) ∷ []) (
+    declare 4 t.Int None ∷ s.block 0 (stmts (declare 5 t.Int None ∷ [])) ∷ declare 6 t.Object None ∷ [])
+    ∷ []) (Main 0))
     ≡ record { structs = (t.Int ∷ t.Text ∷ []) ∷ []; positions = 0 ∷ 2 ∷ 2 ∷ 0 ∷ 3 ∷ 4 ∷ 4 ∷ []; globals = 3 }
 laid_out = refl
 
@@ -437,7 +437,7 @@ both_filled = refl
 
 -- Pair().p.s of a function that gives a struct of struct 0 and an int
 cut_twice : emit (record here { structs = (t.Int ∷ t.Text ∷ []) ∷ (t.Int ∷ t.Text ∷ t.Int ∷ []) ∷ [] }) 7 3
-      (e.member t.Text (e.member (t.Struct 0) (e.call (t.Struct 1) (InUnit 0) no_typed []) 0) 1)
+    (e.member t.Text (e.member (t.Struct 0) (e.call (t.Struct 1) (InUnit 0) no_typed []) 0) 1)
     ≡ op (ops.RsAdd 3) ∷ op (ops.RsAdd 5) ∷ op (ops.RsAdd 3) ∷ JumpTo Jsr 0 ∷ op (ops.Destruct 12 0 8) ∷ op (ops.Destruct 8 4 4) ∷ []
 cut_twice = refl
 
