@@ -2,8 +2,6 @@
 #![tactic(auto)]
 
 #[cfg(test)]
-mod areas;
-#[cfg(test)]
 mod files;
 #[cfg(test)]
 mod trees;

@@ -54,10 +54,10 @@ fn broken_files_are_refused_at_the_first_failing_test(rt: HostRuntime) {
         (&[(68, 15)], ('r', 'w', 7)),
     ];
     for (changes, wanted) in cases.as_slice() {
-        let bytes = changed(rt.alloc(), BASE.as_slice(), *changes).expect(&rt, "memory");
+        let bytes = changed(rt.alloc(), *changes).expect(&rt, "memory");
         assert_eq!(rt; outcome(rt.alloc(), &bytes), *wanted);
     }
-    let shared = changed(rt.alloc(), BASE.as_slice(), &[(68, 14), (76, 0)]).expect(&rt, "memory");
+    let shared = changed(rt.alloc(), &[(68, 14), (76, 0)]).expect(&rt, "memory");
     assert_eq!(rt; outcome(rt.alloc(), &shared), ('s', ' ', 0));
 }
 
