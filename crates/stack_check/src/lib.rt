@@ -16,6 +16,7 @@ mod fault;
 mod held;
 mod laws;
 mod lists;
+mod slots;
 
 pub use checked::{Checked, check};
 pub use fault::CheckFault;
