@@ -1,3 +1,5 @@
 pub mod Reading
 pub mod Walks
 pub mod Heaps
+pub mod Numbers
+pub mod RowLemmas

@@ -15,7 +15,11 @@ mod facts;
 mod fault;
 mod held;
 mod laws;
+mod leads;
 mod lists;
+mod places;
+mod rows;
+mod seen;
 mod slots;
 
 pub use checked::{Checked, check};

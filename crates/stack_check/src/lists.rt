@@ -1,4 +1,4 @@
-ghost use Rattle.std.specs.Prelude.{◌≡◌, ◌≤◌, ◌<◌, [], ◌∷◌, length, IfOk, IfSome, MatchOption, ◌++◌, slice_get, Some};
+ghost use Rattle.std.specs.Prelude.{◌≡◌, ◌≤◌, ◌<◌, [], ◌∷◌, length, IfOk, OnErr, IfSome, MatchOption, ◌++◌, slice_get, Some};
 ghost use Rattle.stack_check.specs.Shared.{Grows, read};
 
 use nwq_value::{Items, NoMemory};
@@ -70,6 +70,7 @@ impl<T: Copy> Lists<T> {
         ensures grows { IfOk result (λ _. Grows self.old self.new) }
         ensures added { IfOk result (λ number.
             self.new ≡ self.old ++ record { item = item; below = below } ∷ []) }
+        ensures err { OnErr result (self.new ≡ self.old) }
     {
         let count = self.nodes.len();
         if count >= u32::MAX as usize {
