@@ -3,3 +3,4 @@ pub mod Walks
 pub mod Heaps
 pub mod Numbers
 pub mod RowLemmas
+pub mod Keeping
