@@ -44,7 +44,7 @@ still_in a b held g h = record {
       (all_more (length a.slots) (length b.slots) (read a.saved held.saved) g.slots.longer h.each);
 }
 
-same_shape : (cells under : List Slot) (saved : List (List Slot)) (pending : ℕ) (cells' under' : List Slot) (saved' : List (List Slot)) (pending' : ℕ)
+pub same_shape : (cells under : List Slot) (saved : List (List Slot)) (pending : ℕ) (cells' under' : List Slot) (saved' : List (List Slot)) (pending' : ℕ)
     → cells ≡ cells' → under ≡ under' → saved ≡ saved' → pending ≡ pending'
     → (let a : TopShape = record { cells = cells; under = under; saved = saved; pending = pending } in a)
     ≡ record { cells = cells'; under = under'; saved = saved'; pending = pending' }

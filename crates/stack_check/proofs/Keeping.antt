@@ -22,7 +22,7 @@ use Rattle.stack_check.specs.Shared.{read}
 use Rattle.stack_check.specs.Held.{IsIn, HeapGrows, shape_of}
 use Rattle.stack_check.specs.Rows.{RowAdded, row_in}
 use Rattle.stack_check.specs.Facts.{current, first_place, first_held, callee_of}
-use Rattle.stack_check.specs.Inference.{IsTrialOf, Formed, TrialIn, AllIn, GivenFits, IsLonger, Beyond, RowFits, TrialFits, Compares, Keeps, Owed, RowIs, TrialAdded, FirstFits, Begins}
+use Rattle.stack_check.specs.Inference.{IsTrialOf, Formed, TrialIn, AllIn, GivenFits, IsLonger, Beyond, RowFits, TrialFits, Compares, Keeps, Owed, RowIs, TrialAdded, FirstFits, Begins, GivenOwed}
 use Rattle.stack_check.proofs.Heaps.{still_in, still_shape}
 use Rattle.stack_check.proofs.Walks.{read_empty}
 
@@ -96,7 +96,7 @@ one_row table heap before after n p held m trial a f new = record {
   y = f.y;
   beyond = f.beyond;
   rows = λ q h r. elim (a.only m q h r) [
-    inl old ↦ f.rows q h old
+    | inl old ↦ f.rows q h old
     | inr is ↦ subst (λ h. RowFits table trial.entry q (shape_of heap h) f.x f.y) (sym is.2)
         (subst (λ q. RowFits table trial.entry q (shape_of heap held) f.x f.y) (sym is.1) (new is.0))
   ];
@@ -116,21 +116,23 @@ row_kept header code heap before rows n p held k a i o = record {
         record { trial = t.trial; has = t.has; of = t.of };
     firsts = λ m trial e. a.kept m (first_place trial.entry) (first_held trial) (k.formed.firsts m trial e);
     owned = λ m q h r. elim (a.only m q h r) [
-      inl old ↦ k.formed.owned m q h old
+      | inl old ↦ k.formed.owned m q h old
       | inr is ↦ subst (λ m. m < length before.trials) (sym is.0) (slice_get_within before.trials n o.trial o.has)
     ];
     start = k.formed.start;
   };
   inside = record {
     rows = λ m q h r. elim (a.only m q h r) [
-      inl old ↦ k.inside.rows m q h old
+      | inl old ↦ k.inside.rows m q h old
       | inr is ↦ subst (λ h. IsIn heap h) (sym is.2) i
     ];
     trials = k.inside.trials;
   };
-  compares = λ table meets. record { by = λ m trial e.
-      let f = (k.compares table meets).by m trial e in
-      one_row table heap before (record before { rows = rows }) n p held m trial a f (λ j. owed_at header code heap before n p held o m trial e j table meets f) };
+  compares = λ table meets. record {
+    by = λ m trial e.
+        let f = (k.compares table meets).by m trial e in
+        one_row table heap before (record before { rows = rows }) n p held m trial a f (λ j. owed_at header code heap before n p held o m trial e j table meets f);
+  };
 }
 
 pub keeps_row : (header : EngineTable) (code : List PlainOp) (heap : Heap) (before after : Facts) (n p : ℕ) (held : Held)
@@ -156,7 +158,7 @@ get_end [] x y zero h = inr (refl, some_is y x (sym h))
 get_end [] x y (suc k) h = absurd cc
 get_end (z ∷ xs) x y zero h = inl h
 get_end (z ∷ xs) x y (suc k) h = elim (get_end xs x y k h) [
-  inl a ↦ inl a
+  | inl a ↦ inl a
   | inr b ↦ inr (ap (λ n. suc n) b.0, b.1)
 ]
 
@@ -177,7 +179,7 @@ old_fits table heap before after added n trial a l f = record {
   y = f.y;
   beyond = f.beyond;
   rows = λ p h r. elim (a.only n p h r) [
-    inl old ↦ f.rows p h old
+    | inl old ↦ f.rows p h old
     | inr is ↦ absurd (omega (arith, l, is.0))
   ];
 }
@@ -190,7 +192,7 @@ new_fits table heap before after added n formed a e f = record {
   y = f.y;
   beyond = f.beyond;
   rows = λ p h r. elim (a.only n p h r) [
-    inl old ↦ absurd (let l = formed.owned n p h old in omega (arith, l, e))
+    | inl old ↦ absurd (let l = formed.owned n p h old in omega (arith, l, e))
     | inr is ↦ subst (λ h. RowFits table added.entry p (shape_of heap h) f.x f.y) (sym is.2)
         (subst (λ p. RowFits table added.entry p (shape_of heap (first_held added)) f.x f.y) (sym is.1) f.first)
   ];
@@ -234,7 +236,7 @@ current_of before after added entry n formed a (inr is) =
 row_in_heap : (heap : Heap) (before after : Facts) (added : Trial) (n p : ℕ) (h : Held) → AllIn heap before → TrialIn heap added → TrialAdded before after added
     → row_in after.rows n p ≡ Some h → IsIn heap h
 row_in_heap heap before after added n p h all i a r = elim (a.only n p h r) [
-  inl old ↦ all.rows n p h old
+  | inl old ↦ all.rows n p h old
   | inr is ↦ subst (λ h. IsIn heap h) (sym is.2) (record {
     cells = i.taken;
     under = i.under;
@@ -254,7 +256,7 @@ keeps_trial header code heap before after added k a i s b = record {
     currents = λ e n c. current_of before after added e n k.formed a (a.currents e n c);
     firsts = λ n trial e. first_of_end before after added n trial k.formed a (get_end before.trials added trial n (ap (λ ts. slice_get ts n) (sym a.trials) ∙ e));
     owned = λ n p h r. let l = ap (λ (ts : List Trial). length ts) a.trials ∙ one_longer before added in elim (a.only n p h r) [
-      inl old ↦ let o = k.formed.owned n p h old in omega (arith, o, l)
+      | inl old ↦ let o = k.formed.owned n p h old in omega (arith, o, l)
       | inr is ↦ omega (arith, is.0, l)
     ];
     start = λ n trial e st. start_of_end before added n trial k.formed s st (get_end before.trials added trial n (ap (λ ts. slice_get ts n) (sym a.trials) ∙ e));
@@ -263,19 +265,14 @@ keeps_trial header code heap before after added k a i s b = record {
     rows = λ n p h r. row_in_heap heap before after added n p h k.inside i a r;
     trials = λ n trial e. in_of_end heap before added n trial k.inside i (get_end before.trials added trial n (ap (λ ts. slice_get ts n) (sym a.trials) ∙ e));
   };
-  compares = λ table meets. record { by = λ n trial e.
-      fits_of_end table heap before after added n trial k.formed a (k.compares table meets) (b.by table meets)
-      (get_end before.trials added trial n (ap (λ ts. slice_get ts n) (sym a.trials) ∙ e)) };
+  compares = λ table meets. record {
+    by = λ n trial e.
+        fits_of_end table heap before after added n trial k.formed a (k.compares table meets) (b.by table meets)
+        (get_end before.trials added trial n (ap (λ ts. slice_get ts n) (sym a.trials) ∙ e));
+  };
 }
 
 -- ---- what a routine gives
-
--- every table says that the routine gives this, with fewer slots beneath
-pub record GivenOwed (header : EngineTable) (code : List PlainOp) (heap : Heap) (facts : Facts) (number given : ℕ) : Type 0 where
-  pub trial : Trial
-  pub has : slice_get facts.trials number ≡ Some trial
-  pub by : (table : ShapeTable) → MeetsRules header code table → (fits : TrialFits table heap facts number trial)
-      → Beyond table trial.entry (callee_of heap (record trial { given = Some given })) fits.x fits.y
 
 set_cases : {A : Type 0} (xs : List A) (n : ℕ) (x : A) (k : ℕ) (y : A) → slice_get (slice_set xs n x) k ≡ Some y
     → (slice_get xs k ≡ Some y) ⊎ ((k ≡ n) × (y ≡ x) × (n < length xs))
@@ -284,7 +281,7 @@ set_cases (z ∷ xs) zero x zero y h = inr (refl, some_is y x (sym h), omega ari
 set_cases (z ∷ xs) zero x (suc k) y h = inl h
 set_cases (z ∷ xs) (suc n) x zero y h = inl h
 set_cases (z ∷ xs) (suc n) x (suc k) y h = elim (set_cases xs n x k y h) [
-  inl a ↦ inl a
+  | inl a ↦ inl a
   | inr b ↦ inr (ap (λ n. suc n) b.0, b.1, omega (arith, b.2))
 ]
 
@@ -313,7 +310,7 @@ before_set : (facts : Facts) (n given : ℕ) (trial : Trial) (k : ℕ) (now : Tr
     → slice_get (with_given facts n trial given).trials k ≡ Some now
     → (slice_get facts.trials k ≡ Some now) ⊎ ((k ≡ n) × (now ≡ record trial { given = Some given }) × (slice_get facts.trials k ≡ Some trial))
 before_set facts n given trial k now has h = elim (set_cases facts.trials n (record trial { given = Some given }) k now h) [
-  inl a ↦ inl a
+  | inl a ↦ inl a
   | inr b ↦ inr (b.0, b.1, ap (slice_get facts.trials) b.0 ∙ has)
 ]
 
@@ -362,7 +359,7 @@ given_start facts n given trial formed k now (inr is) e =
 given_current : (facts : Facts) (n given : ℕ) (trial : Trial) → slice_get facts.trials n ≡ Some trial → (m : ℕ) (entry : Entry) → IsTrialOf facts m entry
     → IsTrialOf (with_given facts n trial given) m entry
 given_current facts n given trial has m entry t = elim (cases_eq m n) [
-  inl e ↦ record {
+  | inl e ↦ record {
     trial = record trial { given = Some given };
     has = ap (slice_get (with_given facts n trial given).trials) e ∙ set_here facts.trials n _ (slice_get_within facts.trials n trial has);
     of = ap (λ (t : Trial). t.entry) (some_is trial t.trial (sym has ∙ ap (slice_get facts.trials) (sym e) ∙ t.has)) ∙ t.of;
@@ -384,6 +381,8 @@ keeps_given header code heap facts n given o k g = record {
     rows = k.inside.rows;
     trials = λ m now h. given_trial_in heap facts n given o.trial k.inside g m now (before_set facts n given o.trial m now o.has h);
   };
-  compares = λ table meets. record { by = λ m now h.
-      given_fits header code heap facts n given o table meets m now (k.compares table meets).by (before_set facts n given o.trial m now o.has h) };
+  compares = λ table meets. record {
+    by = λ m now h.
+        given_fits header code heap facts n given o table meets m now (k.compares table meets).by (before_set facts n given o.trial m now o.has h);
+  };
 }

@@ -4,3 +4,4 @@ pub mod Heaps
 pub mod Numbers
 pub mod RowLemmas
 pub mod Keeping
+pub mod Reaching

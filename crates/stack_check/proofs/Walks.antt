@@ -102,47 +102,53 @@ pub ruleset typing = (types_begin, types_step, types_base, types_end, types_done
 
 -- ---- equality
 
-pub record SameSoFar (a b x y : List Slot) : Type 0 where
+pub record SameSoFar {A : Type 0} (a b x y : List A) : Type 0 where
   pub forth : x ≡ y → a ≡ b
   pub back : a ≡ b → x ≡ y
 
-pub same_begin : (a b : List Slot) → SameSoFar a b a b
+pub same_begin : {A : Type 0} (a b : List A) → SameSoFar a b a b
 same_begin a b = record { forth = λ h. h; back = λ h. h }
 
-tail_is : (s : Slot) (x y : List Slot) → (Rattle.std.proofs.Common.◌∷◌ s x) ≡ s ∷ y → x ≡ y
+tail_is : {A : Type 0} (s : A) (x y : List A) → (Rattle.std.proofs.Common.◌∷◌ s x) ≡ s ∷ y → x ≡ y
 tail_is s x y h = cc
 
-pub same_step : (a b x y u v : List Slot) (s t : Slot) → SameSoFar a b x y → x ≡ s ∷ u → y ≡ t ∷ v → s ≡ t → SameSoFar a b u v
+pub same_step : {A : Type 0} (a b x y u v : List A) (s t : A) → SameSoFar a b x y → x ≡ s ∷ u → y ≡ t ∷ v → s ≡ t → SameSoFar a b u v
 same_step a b x y u v s t h e f st = record {
   forth = λ i. h.forth (e ∙ ap (λ s. s ∷ u) st ∙ ap (λ z. t ∷ z) i ∙ sym f);
   back = λ i. tail_is t u v (ap (λ s. s ∷ u) (sym st) ∙ sym e ∙ h.back i ∙ f);
 }
 
-pub same_at : (a b x y : List Slot) → SameSoFar a b x y → x ≡ y → a ≡ b
+pub same_at : {A : Type 0} (a b x y : List A) → SameSoFar a b x y → x ≡ y → a ≡ b
 same_at a b x y h e = h.forth e
 
-pub same_ends : (a b x y : List Slot) → SameSoFar a b x y → x ≡ [] → y ≡ [] → a ≡ b
+pub same_ends : {A : Type 0} (a b x y : List A) → SameSoFar a b x y → x ≡ [] → y ≡ [] → a ≡ b
 same_ends a b x y h e f = h.forth (e ∙ sym f)
 
-pub differ_heads : (a b x y u v : List Slot) (s t : Slot) → SameSoFar a b x y → x ≡ s ∷ u → y ≡ t ∷ v → (s ≡ t → ⊥) → a ≡ b → ⊥
-differ_heads a b x y u v s t h e f ne i = ne (heads s t u v (sym e ∙ h.back i ∙ f))
+pub differ_heads : {A : Type 0} (a b x y u v : List A) (s t : A) → SameSoFar a b x y → x ≡ s ∷ u → y ≡ t ∷ v → (s ≡ t → ⊥) → a ≡ b → ⊥
+differ_heads {A = A} a b x y u v s t h e f ne i = ne (heads s t u v (sym e ∙ h.back i ∙ f))
   where
-    heads : (s t : Slot) (u v : List Slot) → (Rattle.std.proofs.Common.◌∷◌ s u) ≡ t ∷ v → s ≡ t
+    heads : (s t : A) (u v : List A) → (Rattle.std.proofs.Common.◌∷◌ s u) ≡ t ∷ v → s ≡ t
     heads s t u v h = cc
 
-pub differ_first : (a b x y v : List Slot) (t : Slot) → SameSoFar a b x y → x ≡ [] → y ≡ t ∷ v → a ≡ b → ⊥
-differ_first a b x y v t h e f i = ends (sym e ∙ h.back i ∙ f)
+pub differ_first : {A : Type 0} (a b x y v : List A) (t : A) → SameSoFar a b x y → x ≡ [] → y ≡ t ∷ v → a ≡ b → ⊥
+differ_first {A = A} a b x y v t h e f i = ends (sym e ∙ h.back i ∙ f)
   where
     ends : [] ≡ t ∷ v → ⊥
     ends h = absurd cc
 
-pub differ_second : (a b x y u : List Slot) (s : Slot) → SameSoFar a b x y → x ≡ s ∷ u → y ≡ [] → a ≡ b → ⊥
-differ_second a b x y u s h e f i = ends (sym f ∙ sym (h.back i) ∙ e)
+pub differ_second : {A : Type 0} (a b x y u : List A) (s : A) → SameSoFar a b x y → x ≡ s ∷ u → y ≡ [] → a ≡ b → ⊥
+differ_second {A = A} a b x y u s h e f i = ends (sym f ∙ sym (h.back i) ∙ e)
   where
     ends : [] ≡ s ∷ u → ⊥
     ends h = absurd cc
 
-pub ruleset comparing = (same_begin, same_step, same_at, same_ends, differ_heads, differ_first, differ_second)
+pub map_top : (nodes : List (Node Slot)) (ns below : List ℕ) (n : ℕ) → ns ≡ n ∷ below → map (read nodes) ns ≡ read nodes n ∷ map (read nodes) below
+map_top nodes ns below n e = ap (map (read nodes)) e
+
+pub map_end : (nodes : List (Node Slot)) (ns : List ℕ) → ns ≡ [] → map (read nodes) ns ≡ []
+map_end nodes ns e = ap (map (read nodes)) e
+
+pub ruleset comparing = (same_begin, same_step, same_at, same_ends, differ_heads, differ_first, differ_second, map_top, map_end)
 
 -- ---- the rest behind a list
 

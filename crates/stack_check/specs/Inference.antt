@@ -3,14 +3,15 @@ use Rattle.std.specs.Prelude.{◌≡◌, ◌≤◌, ◌<◌, ℕ, List, [], ◌+
 use Rattle.nwq_value.specs.Engine.{EngineTable}
 use Rattle.ncs_code.specs.Plain.{PlainOp}
 use Rattle.ncs_code.specs.Plain as ops
-use Rattle.ncs_code.specs.File.{jump_place}
+use Rattle.ncs_code.specs.File.{jump_place, op_at}
 use Rattle.stack_shape.specs.declared.shape.Slot.{Slot}
 use Rattle.stack_shape.specs.declared.shape.Entry.{Entry}
 use Rattle.stack_shape.specs.declared.shape.Entry.TheVariants.{Start, Called, Stored}
 use Rattle.stack_shape.specs.Stored.{TopShape}
 use Rattle.stack_shape.specs.Laws.{deeper}
 use Rattle.shape_tables.specs.Tables.{Callee, ShapeTable}
-use Rattle.shape_tables.specs.Rules.{MeetsRules, WellStacked}
+use Rattle.stack_shape.specs.Rule.{IsOneStep, rule}
+use Rattle.shape_tables.specs.Rules.{IsSound, MeetsRules, WellStacked}
 use Rattle.stack_check.specs.declared.held.Held.{Held}
 use Rattle.stack_check.specs.declared.held.Heap.{Heap}
 use Rattle.stack_check.specs.declared.facts.Trial.{Trial}
@@ -19,9 +20,9 @@ use Rattle.stack_check.specs.declared.seen.Seen.{Seen}
 use Rattle.stack_check.specs.declared.seen.Seen.TheVariants.{Quiet, Changed, Bad}
 use Rattle.stack_check.specs.declared.leads.Lead.{Lead}
 use Rattle.stack_check.specs.declared.leads.Lead.TheVariants.{One, Two}
-use Rattle.stack_check.specs.Held.{IsIn, shape_of}
+use Rattle.stack_check.specs.Held.{HeapGrows, IsIn, shape_of}
 use Rattle.stack_check.specs.Rows.{RowAdded, row_in}
-use Rattle.stack_check.specs.Facts.{current, first_place, first_held, callee_of}
+use Rattle.stack_check.specs.Facts.{current, first_place, first_held, callee_of, table_of}
 
 -- ---- the facts hang together
 
@@ -152,3 +153,40 @@ leads_of place next (ops.Jmp offset) = One (jump_place place offset)
 leads_of place next (ops.Jz offset) = Two (jump_place place offset) next
 leads_of place next (ops.Jnz offset) = Two (jump_place place offset) next
 leads_of place next op = One next
+
+abbrev pub IsLed : Lead → ℕ → Type 0
+IsLed (One target) place = place ≡ target
+IsLed (Two first second) place = (place ≡ first) ⊎ (place ≡ second)
+
+-- The trial has the shape wherever the instruction leads.
+pub record AllLed (heap : Heap) (facts : Facts) (number : ℕ) (lead : Lead) (shape : TopShape) : Type 0 where
+  pub by : (place : ℕ) → IsLed lead place → RowIs heap facts number place shape
+
+-- rows are only added
+pub record RowsKept (before after : Facts) : Type 0 where
+  pub by : (t p : ℕ) (h : Held) → row_in before.rows t p ≡ Some h → row_in after.rows t p ≡ Some h
+
+-- The shape at a place of a trial, on which the instruction there has a rule, and the shape after it.
+pub record IsStep (header : EngineTable) (code : List PlainOp) (heap : Heap) (facts : Facts) (number place : ℕ) (held : Held) (op : PlainOp) (after : Held) : Type 0 where
+  pub row : row_in facts.rows number place ≡ Some held
+  pub stands : op_at code place ≡ Some op
+  pub one : IsOneStep op
+  pub has_rule : rule header op (shape_of heap held) ≡ Some (shape_of heap after)
+  pub inside : IsIn heap after
+
+-- If the trial counts for an entry, the instruction at the place obeys the rules there.
+pub record Sound (header : EngineTable) (code : List PlainOp) (heap : Heap) (facts : Facts) (number place : ℕ) (held : Held) : Type 0 where
+  pub by : (entry : Entry) → current facts entry ≡ Some number → IsSound header code (table_of heap facts) entry place (shape_of heap held)
+
+-- What a visit of a place leaves.
+pub record Sees (header : EngineTable) (code : List PlainOp) (heap heap' : Heap) (facts facts' : Facts) (number place : ℕ) (held : Held) (seen : Seen) : Type 0 where
+  pub grows : HeapGrows heap heap'
+  pub keeps : Visited header code heap' facts' seen
+  pub quiet : WhereQuiet seen ((facts' ≡ facts) × Sound header code heap facts number place held)
+
+-- every table says that the routine gives this, with fewer slots beneath
+pub record GivenOwed (header : EngineTable) (code : List PlainOp) (heap : Heap) (facts : Facts) (number given : ℕ) : Type 0 where
+  pub trial : Trial
+  pub has : slice_get facts.trials number ≡ Some trial
+  pub by : (table : ShapeTable) → MeetsRules header code table → (fits : TrialFits table heap facts number trial)
+      → Beyond table trial.entry (callee_of heap (record trial { given = Some given })) fits.x fits.y

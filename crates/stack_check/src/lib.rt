@@ -18,9 +18,11 @@ mod laws;
 mod leads;
 mod lists;
 mod places;
+mod reach;
 mod rows;
 mod seen;
 mod slots;
+mod todo;
 
 pub use checked::{Checked, check};
 pub use fault::CheckFault;
