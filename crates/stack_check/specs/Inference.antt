@@ -124,7 +124,8 @@ abbrev pub Reached : Heap → Facts → Facts → ℕ → ℕ → Held → Seen 
 Reached heap before after number place held Quiet = (after ≡ before) × RowIs heap before number place (shape_of heap held)
 Reached heap before after number place held Changed =
     RowAdded before.rows after.rows number place held × (after ≡ record before { rows = after.rows })
-Reached heap before after number place held Bad = (RowIs heap before number place (shape_of heap held) → ⊥) × ((h : Held) × (row_in before.rows number place ≡ Some h))
+Reached heap before after number place held Bad =
+    (RowIs heap before number place (shape_of heap held) → ⊥) × ((h : Held) × (row_in before.rows number place ≡ Some h)) × (after ≡ before)
 
 -- ---- a new trial
 
@@ -190,3 +191,15 @@ pub record GivenOwed (header : EngineTable) (code : List PlainOp) (heap : Heap) 
   pub has : slice_get facts.trials number ≡ Some trial
   pub by : (table : ShapeTable) → MeetsRules header code table → (fits : TrialFits table heap facts number trial)
       → Beyond table trial.entry (callee_of heap (record trial { given = Some given })) fits.x fits.y
+
+-- what a visit comes to that has changed something before
+abbrev pub after_change : Seen → Seen
+after_change Bad = Bad
+after_change Changed = Changed
+after_change Quiet = Changed
+
+-- The trial of this number counts for the entry, and for the others the same as before.
+pub record CurrentSet (before after : Facts) (entry : Entry) (number : ℕ) : Type 0 where
+  pub trials : after.trials ≡ before.trials
+  pub rows : after.rows ≡ before.rows
+  pub only : (e : Entry) (n : ℕ) → current after e ≡ Some n → (current before e ≡ Some n) ⊎ ((e ≡ entry) × (n ≡ number))
