@@ -54,7 +54,7 @@ call_fits : (header : EngineTable) (code : List PlainOp) (table : ShapeTable) (e
 call_fits header code table entry place offset shape x y meets stands f =
     let s = meets.each entry place f.own f.known in
     let c : MayCall table entry (jump_place place offset) (next_place place (ops.Jsr offset)) f.own =
-        subst (λ o. Obeys header table entry place o f.own) (some_is s.op (ops.Jsr offset) (sym s.stands ∙ stands)) s.obeys in
+    subst (λ o. Obeys header table entry place o f.own) (some_is s.op (ops.Jsr offset) (sym s.stands ∙ stands)) s.obeys in
     record {
       own = f.own;
       is = f.is;
@@ -90,11 +90,13 @@ first_fits header code table heap target taken under callee x y meets known c u 
 pub call_begins : (header : EngineTable) (code : List PlainOp) (heap : Heap) (facts : Facts) (n p : ℕ) (offset : ℤ) (held : Held)
     → Keeps header code heap facts → row_in facts.rows n p ≡ Some held → op_at code p ≡ Some (ops.Jsr offset)
     → Begins header code heap (record { entry = Called (jump_place p offset); taken = held.cells; under = held.under; given = None })
-call_begins header code heap facts n p offset held k r stands = record { by = λ table meets.
-    let i = row_trial header code heap facts n p held k r in
-    let f = (k.compares table meets).by n i.0 i.1 in
-    let c = call_fits header code table i.0.entry p offset (shape_of heap held) f.x f.y meets stands (f.rows p held r) in
-    first_fits header code table heap (jump_place p offset) held.cells held.under c.callee (c.rest ++ f.x) c.beneath meets c.known c.cells c.under }
+call_begins header code heap facts n p offset held k r stands = record {
+  by = λ table meets.
+      let i = row_trial header code heap facts n p held k r in
+      let f = (k.compares table meets).by n i.0 i.1 in
+      let c = call_fits header code table i.0.entry p offset (shape_of heap held) f.x f.y meets stands (f.rows p held r) in
+      first_fits header code table heap (jump_place p offset) held.cells held.under c.callee (c.rest ++ f.x) c.beneath meets c.known c.cells c.under;
+}
 
 -- what a table says of a routine's trial
 longer_of : (header : EngineTable) (code : List PlainOp) (heap : Heap) (facts : Facts) (m target : ℕ) (trial : Trial) → Keeps header code heap facts
@@ -110,15 +112,17 @@ pub call_shortens : (header : EngineTable) (code : List PlainOp) (heap heap' : H
     → HoldsCommon (read heap.slots held.cells) (read heap.slots trial.taken) (read heap'.slots taken)
     → HoldsCommon (read heap.slots held.under) (read heap.slots trial.under) (read heap'.slots under)
     → Begins header code heap' (record { entry = Called (jump_place p offset); taken = taken; under = under; given = None })
-call_shortens header code heap heap' facts n p offset held m trial taken under k r stands has e both_cells both_under = record { by = λ table meets.
-    let i = row_trial header code heap facts n p held k r in
-    let f = (k.compares table meets).by n i.0 i.1 in
-    let c = call_fits header code table i.0.entry p offset (shape_of heap held) f.x f.y meets stands (f.rows p held r) in
-    let l = longer_of header code heap facts m (jump_place p offset) trial k has e table meets in
-    let same = some_is l.2.own c.callee (sym l.2.known ∙ c.known) in
-    let t = both_cells.by c.callee.taken (c.rest ++ f.x) l.0 c.cells (l.2.taken ∙ ap (λ (o : Callee). o.taken ++ l.0) same) in
-    let u = both_under.by c.callee.under c.beneath l.1 c.under (l.2.under ∙ ap (λ (o : Callee). o.under ++ l.1) same) in
-    first_fits header code table heap' (jump_place p offset) taken under c.callee t.0 u.0 meets c.known t.1 u.1 }
+call_shortens header code heap heap' facts n p offset held m trial taken under k r stands has e both_cells both_under = record {
+  by = λ table meets.
+      let i = row_trial header code heap facts n p held k r in
+      let f = (k.compares table meets).by n i.0 i.1 in
+      let c = call_fits header code table i.0.entry p offset (shape_of heap held) f.x f.y meets stands (f.rows p held r) in
+      let l = longer_of header code heap facts m (jump_place p offset) trial k has e table meets in
+      let same = some_is l.2.own c.callee (sym l.2.known ∙ c.known) in
+      let t = both_cells.by c.callee.taken (c.rest ++ f.x) l.0 c.cells (l.2.taken ∙ ap (λ (o : Callee). o.taken ++ l.0) same) in
+      let u = both_under.by c.callee.under c.beneath l.1 c.under (l.2.under ∙ ap (λ (o : Callee). o.under ++ l.1) same) in
+      first_fits header code table heap' (jump_place p offset) taken under c.callee t.0 u.0 meets c.known t.1 u.1;
+}
 
 -- ---- behind a call
 
@@ -150,7 +154,7 @@ behind_call table entry target next shape now x y trial given rest lx ly c l g s
     let h = given_here l.own.given given lx (subst (λ o. GivenFits o l.own.given lx) g l.given) in
     let there = goes_on_given table entry next c.own c.rest c.callee.given h.0 (ap (λ (o : Callee). o.given) (sym same) ∙ h.1) c.goes_on in
     let cut : (c.callee.taken ++ lx) ++ rest ≡ c.callee.taken ++ (c.rest ++ x) =
-        ap (λ (o : Callee). (o.taken ++ lx) ++ rest) (sym same) ∙ ap (λ z. z ++ rest) (sym l.taken) ∙ sym strip ∙ c.cells in
+    ap (λ (o : Callee). (o.taken ++ lx) ++ rest) (sym same) ∙ ap (λ z. z ++ rest) (sym l.taken) ∙ sym strip ∙ c.cells in
     record {
       own = record c.own { cells = h.0 ++ c.rest };
       known = there;
@@ -188,20 +192,22 @@ pub call_sound_none : (header : EngineTable) (code : List PlainOp) (heap : Heap)
     (trial : Trial) (rest beneath : ℕ) → op_at code p ≡ Some (ops.Jsr offset) → current facts (Called (jump_place p offset)) ≡ Some m
     → slice_get facts.trials m ≡ Some trial → trial.given ≡ None → read heap.slots held.cells ≡ read heap.slots trial.taken ++ read heap.slots rest
     → read heap.slots held.under ≡ read heap.slots trial.under ++ read heap.slots beneath → Sound header code heap facts n p held
-call_sound_none header code heap facts n p offset held m trial rest beneath stands c has none strip under = record { by = λ entry cur. record {
-  op = ops.Jsr offset;
-  stands = stands;
-  obeys = record {
-    callee = callee_of heap trial;
-    known = callee_known heap facts (jump_place p offset) m trial c has;
-    rest = read heap.slots rest;
-    cells = strip;
-    deeper = read heap.slots beneath;
-    under = under;
-    goes_on = subst (λ g. GoesOn (table_of heap facts) entry (next_place p (ops.Jsr offset)) (shape_of heap held) (read heap.slots rest) (option_map (read heap.slots) g))
-        (sym none) tt;
+call_sound_none header code heap facts n p offset held m trial rest beneath stands c has none strip under = record {
+  by = λ entry cur. record {
+    op = ops.Jsr offset;
+    stands = stands;
+    obeys = record {
+      callee = callee_of heap trial;
+      known = callee_known heap facts (jump_place p offset) m trial c has;
+      rest = read heap.slots rest;
+      cells = strip;
+      deeper = read heap.slots beneath;
+      under = under;
+      goes_on = subst (λ g. GoesOn (table_of heap facts) entry (next_place p (ops.Jsr offset)) (shape_of heap held) (read heap.slots rest) (option_map (read heap.slots) g))
+          (sym none) tt;
+    };
   };
-} }
+}
 
 -- and where it is
 pub call_sound : (header : EngineTable) (code : List PlainOp) (heap heap' : Heap) (facts : Facts) (n p : ℕ) (offset : ℤ) (held : Held) (m : ℕ)
@@ -211,21 +217,23 @@ pub call_sound : (header : EngineTable) (code : List PlainOp) (heap heap' : Heap
     → read heap.slots held.under ≡ read heap.slots trial.under ++ read heap.slots beneath → next ≡ next_place p (ops.Jsr offset)
     → RowIs heap' facts n next shape → shape ≡ record (shape_of heap held) { cells = read heap.slots given ++ read heap.slots rest }
     → Sound header code heap facts n p held
-call_sound header code heap heap' facts n p offset held m trial given rest beneath next shape k g stands c has gives strip under at row is = record { by = λ entry cur. record {
-  op = ops.Jsr offset;
-  stands = stands;
-  obeys = record {
-    callee = callee_of heap trial;
-    known = callee_known heap facts (jump_place p offset) m trial c has;
-    rest = read heap.slots rest;
-    cells = strip;
-    deeper = read heap.slots beneath;
-    under = under;
-    goes_on = subst (λ g. GoesOn (table_of heap facts) entry (next_place p (ops.Jsr offset)) (shape_of heap held) (read heap.slots rest) (option_map (read heap.slots) g))
-        (sym gives) (subst (λ q. (table_of heap facts).at entry q ≡ Some (record (shape_of heap held) { cells = read heap.slots given ++ read heap.slots rest })) at
-        (led_at header code heap heap' facts entry n next shape k g cur row ∙ ap Some is));
+call_sound header code heap heap' facts n p offset held m trial given rest beneath next shape k g stands c has gives strip under at row is = record {
+  by = λ entry cur. record {
+    op = ops.Jsr offset;
+    stands = stands;
+    obeys = record {
+      callee = callee_of heap trial;
+      known = callee_known heap facts (jump_place p offset) m trial c has;
+      rest = read heap.slots rest;
+      cells = strip;
+      deeper = read heap.slots beneath;
+      under = under;
+      goes_on = subst (λ g. GoesOn (table_of heap facts) entry (next_place p (ops.Jsr offset)) (shape_of heap held) (read heap.slots rest) (option_map (read heap.slots) g))
+          (sym gives) (subst (λ q. (table_of heap facts).at entry q ≡ Some (record (shape_of heap held) { cells = read heap.slots given ++ read heap.slots rest })) at
+          (led_at header code heap heap' facts entry n next shape k g cur row ∙ ap Some is));
+    };
   };
-} }
+}
 
 -- ---- RETN
 
@@ -245,7 +253,7 @@ return_fits : (header : EngineTable) (code : List PlainOp) (table : ShapeTable) 
 return_fits header code table entry target place shape x y meets stands e f =
     let s = meets.each entry place f.own f.known in
     let m : MayReturn table target f.own =
-        subst (λ e. Returns table e f.own) e (subst (λ o. Obeys header table entry place o f.own) (some_is s.op ops.Retn (sym s.stands ∙ stands)) s.obeys) in
+    subst (λ e. Returns table e f.own) e (subst (λ o. Obeys header table entry place o f.own) (some_is s.op ops.Retn (sym s.stands ∙ stands)) s.obeys) in
     record {
       callee = m.callee;
       known = m.known;
@@ -329,26 +337,30 @@ entry_is facts n trial entry formed has c =
 pub return_sound : (header : EngineTable) (code : List PlainOp) (heap : Heap) (facts : Facts) (n p target : ℕ) (held : Held) (trial : Trial) (given : ℕ)
     → Keeps header code heap facts → op_at code p ≡ Some ops.Retn → slice_get facts.trials n ≡ Some trial → trial.entry ≡ Called target → trial.given ≡ Some given
     → read heap.slots given ≡ read heap.slots held.cells → read heap.saved held.saved ≡ [] → held.pending ≡ 0 → Sound header code heap facts n p held
-return_sound header code heap facts n p target held trial given k stands has e gives same saved pending = record { by = λ entry c.
-    let is : Called target ≡ entry = sym e ∙ entry_is facts n trial entry k.formed has c in
-    record {
-      op = ops.Retn;
-      stands = stands;
-      obeys = subst (λ e. Returns (table_of heap facts) e (shape_of heap held)) is (record {
-        callee = callee_of heap trial;
-        known = callee_known heap facts target n trial (ap (current facts) is ∙ c) has;
-        given = ap (option_map (read heap.slots)) gives ∙ ap Some same;
-        saved = ap (map (read heap.slots)) saved;
-        pending = pending;
-      });
-    } }
+return_sound header code heap facts n p target held trial given k stands has e gives same saved pending = record {
+  by = λ entry c.
+      let is : Called target ≡ entry = sym e ∙ entry_is facts n trial entry k.formed has c in
+      record {
+        op = ops.Retn;
+        stands = stands;
+        obeys = subst (λ e. Returns (table_of heap facts) e (shape_of heap held)) is (record {
+          callee = callee_of heap trial;
+          known = callee_known heap facts target n trial (ap (current facts) is ∙ c) has;
+          given = ap (option_map (read heap.slots)) gives ∙ ap Some same;
+          saved = ap (map (read heap.slots)) saved;
+          pending = pending;
+        });
+      };
+}
 
 -- elsewhere it ends the script
 pub end_sound : (header : EngineTable) (code : List PlainOp) (heap : Heap) (facts : Facts) (n p : ℕ) (held : Held) (trial : Trial) → Keeps header code heap facts
     → op_at code p ≡ Some ops.Retn → slice_get facts.trials n ≡ Some trial
     → ((table : ShapeTable) (shape : TopShape) → Returns table trial.entry shape) → Sound header code heap facts n p held
-end_sound header code heap facts n p held trial k stands has ends = record { by = λ entry c. record {
-  op = ops.Retn;
-  stands = stands;
-  obeys = subst (λ e. Returns (table_of heap facts) e (shape_of heap held)) (entry_is facts n trial entry k.formed has c) (ends (table_of heap facts) (shape_of heap held));
-} }
+end_sound header code heap facts n p held trial k stands has ends = record {
+  by = λ entry c. record {
+    op = ops.Retn;
+    stands = stands;
+    obeys = subst (λ e. Returns (table_of heap facts) e (shape_of heap held)) (entry_is facts n trial entry k.formed has c) (ends (table_of heap facts) (shape_of heap held));
+  };
+}

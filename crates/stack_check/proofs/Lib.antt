@@ -9,3 +9,4 @@ pub mod Steps
 pub mod Following
 pub mod Adding
 pub mod Calling
+pub mod CallSteps
