@@ -80,4 +80,4 @@ two_quiet heap before mid after n t u shape Quiet q r = two_led heap before mid 
 two_quiet heap before mid after n t u shape Changed q r = tt
 two_quiet heap before mid after n t u shape Bad q r = tt
 
-pub ruleset leading = (one_led, two_quiet, changed_keeps, changed_quiet, step_kept)
+pub ruleset leading = (kept_then, one_led, two_quiet, changed_keeps, changed_quiet, step_kept)

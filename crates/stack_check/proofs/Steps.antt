@@ -84,7 +84,7 @@ same_op : (code : List PlainOp) (place : ℕ) (a b : PlainOp) → op_at code pla
 same_op code place a b e f = some_is a b (sym e ∙ f)
 
 -- the table's instruction at a place follows the rules
-table_follows : (header : EngineTable) (code : List PlainOp) (table : ShapeTable) (entry : Entry) (place : ℕ) (op : PlainOp) (own : TopShape)
+pub table_follows : (header : EngineTable) (code : List PlainOp) (table : ShapeTable) (entry : Entry) (place : ℕ) (op : PlainOp) (own : TopShape)
     → MeetsRules header code table → op_at code place ≡ Some op → IsOneStep op → table.at entry place ≡ Some own → Follows header table entry place op own
 table_follows header code table entry place op own meets stands one known =
     let s = meets.each entry place own known in

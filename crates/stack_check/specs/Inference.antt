@@ -3,15 +3,16 @@ use Rattle.std.specs.Prelude.{◌≡◌, ◌≤◌, ◌<◌, ℕ, List, [], ◌+
 use Rattle.nwq_value.specs.Engine.{EngineTable}
 use Rattle.ncs_code.specs.Plain.{PlainOp}
 use Rattle.ncs_code.specs.Plain as ops
-use Rattle.ncs_code.specs.File.{jump_place, op_at}
+use Rattle.ncs_code.specs.File.{jump_place, op_at, resume_place}
 use Rattle.stack_shape.specs.declared.shape.Slot.{Slot}
 use Rattle.stack_shape.specs.declared.shape.Entry.{Entry}
 use Rattle.stack_shape.specs.declared.shape.Entry.TheVariants.{Start, Called, Stored}
-use Rattle.stack_shape.specs.Stored.{TopShape}
+use Rattle.stack_shape.specs.declared.store.StoredTypes.{StoredTypes}
+use Rattle.stack_shape.specs.Stored.{TopShape, stored_types}
 use Rattle.stack_shape.specs.Laws.{deeper}
 use Rattle.shape_tables.specs.Tables.{Callee, ShapeTable}
 use Rattle.stack_shape.specs.Rule.{IsOneStep, rule}
-use Rattle.shape_tables.specs.Rules.{IsSound, MeetsRules, WellStacked}
+use Rattle.shape_tables.specs.Rules.{AsksFurther, IsSound, MeetsRules, WellStacked}
 use Rattle.stack_check.specs.declared.held.Held.{Held}
 use Rattle.stack_check.specs.declared.held.Heap.{Heap}
 use Rattle.stack_check.specs.declared.facts.Trial.{Trial}
@@ -218,3 +219,32 @@ pub record Strips (heap : Heap) (held : Held) (callee : Trial) (rest beneath : �
   pub rest_in : rest ≤ length heap.slots
   pub cells : read heap.slots held.cells ≡ read heap.slots callee.taken ++ read heap.slots rest
   pub under : read heap.slots held.under ≡ read heap.slots callee.under ++ read heap.slots beneath
+
+-- an instruction that stores no state
+abbrev pub IsPlain : PlainOp → Type 0
+IsPlain (ops.StoreState globals locals) = ⊥
+IsPlain op = Unit {0}
+
+-- What the visit of an instruction with a rule of one shape leaves, but for what it stores.
+pub record SeesStep (header : EngineTable) (code : List PlainOp) (heap heap' : Heap) (facts facts' : Facts) (number place : ℕ) (held : Held) (op : PlainOp) (seen : Seen) : Type 0 where
+  pub grows : HeapGrows heap heap'
+  pub keeps : Visited header code heap' facts' seen
+  pub quiet : WhereQuiet seen ((facts' ≡ facts)
+      × (AsksFurther (table_of heap facts) place op (shape_of heap held) → Sound header code heap facts number place held))
+
+-- ---- stored states
+
+-- every table has this shape where a state resumes that is stored at this place
+pub record Resumes (header : EngineTable) (code : List PlainOp) (site : ℕ) (shape : TopShape) : Type 0 where
+  pub by : (table : ShapeTable) → MeetsRules header code table → table.at (Stored site) (resume_place site) ≡ Some shape
+
+-- the trial that counts for what is stored there has it
+pub record IsStored (heap : Heap) (facts : Facts) (site : ℕ) (shape : TopShape) : Type 0 where
+  pub number : ℕ
+  pub counts : current facts (Stored site) ≡ Some number
+  pub row : RowIs heap facts number (resume_place site) shape
+
+-- the instruction stores a state of these types
+abbrev pub Stores : PlainOp → TopShape → StoredTypes → Type 0
+Stores (ops.StoreState globals locals) shape types = stored_types globals locals shape.under shape.cells ≡ Some types
+Stores op shape types = ⊥

@@ -20,10 +20,12 @@ mod leads;
 mod lists;
 mod places;
 mod reach;
+mod returns;
 mod rows;
 mod seen;
 mod slots;
 mod todo;
+mod visit;
 
 pub use checked::{Checked, check};
 pub use fault::CheckFault;
