@@ -1,12 +1,12 @@
 -- Stored states.
-use Rattle.std.proofs.Common.{arith, rules, ◌≡◌, ◌≤◌, ◌+◌, ℕ, zero, suc, List, [], ◌∷◌, ◌++◌, length, map, Option, None, Some, slice_get, sym, subst, ◌∙◌, ap, refl}
+use Rattle.std.proofs.Common.{arith, rules, ◌≡◌, ◌≤◌, ◌+◌, ℕ, ℤ, zero, suc, List, [], ◌∷◌, ◌++◌, length, map, Option, None, Some, slice_get, sym, subst, ◌∙◌, ap, refl}
 use Rattle.std.specs.Prelude.{get_or, IfSome}
 use Rattle.std.proofs.lemmas.List.{append-nil}
 use Rattle.nwq_value.specs.declared.value.Ty.{Ty}
 use Rattle.nwq_value.specs.Engine.{EngineTable}
 use Rattle.ncs_code.specs.Plain.{PlainOp}
 use Rattle.ncs_code.specs.Plain as ops
-use Rattle.ncs_code.specs.File.{op_at, resume_place}
+use Rattle.ncs_code.specs.File.{jump_place, op_at, resume_place}
 use Rattle.stack_shape.specs.declared.shape.Slot.{Slot}
 use Rattle.stack_shape.specs.declared.shape.Slot.TheVariants.{Of, Base}
 use Rattle.stack_shape.specs.declared.shape.Entry.{Entry}
@@ -14,7 +14,7 @@ use Rattle.stack_shape.specs.declared.shape.Entry.TheVariants.{Start, Stored}
 use Rattle.stack_shape.specs.declared.store.StoredTypes.{StoredTypes}
 use Rattle.stack_shape.specs.Stored.{TopShape, stored_shape, stored_types}
 use Rattle.stack_shape.specs.Laws.{deeper, deeper_saved, beneath_under, RuleLooksFromTop, StoresLookFromTop}
-use Rattle.stack_shape.specs.Rule.{IsOneStep}
+use Rattle.stack_shape.specs.Rule.{IsOneStep, rule}
 use Rattle.shape_tables.specs.Tables.{Callee, ShapeTable}
 use Rattle.shape_tables.specs.Rules.{AsksFurther, MayStore, Follows, Obeys, MeetsRules, WellStacked}
 use Rattle.stack_check.specs.declared.held.Held.{Held}
@@ -24,15 +24,19 @@ use Rattle.stack_check.specs.declared.facts.Trial.{Trial}
 use Rattle.stack_check.specs.declared.facts.Facts.{Facts}
 use Rattle.stack_check.specs.declared.seen.Seen.{Seen}
 use Rattle.stack_check.specs.declared.seen.Seen.TheVariants.{Quiet, Changed, Bad}
+use Rattle.stack_check.specs.declared.leads.Kind.{Kind}
+use Rattle.stack_check.specs.declared.leads.Kind.TheVariants.{Call, Return, Store, Step}
+use Rattle.std.specs.Option.{option_map}
+use Rattle.machine_step.specs.Act.{next_place}
 use Rattle.stack_check.specs.Shared.{read, Grows}
 use Rattle.stack_check.specs.Held.{AllAtMost, HeapGrows, Holds, IsIn, shape_of}
 use Rattle.stack_check.specs.Rows.{row_in}
 use Rattle.stack_check.specs.Facts.{current, number_in, table_of, first_place, first_held, callee_of}
-use Rattle.stack_check.specs.Inference.{Formed, TrialIn, Beyond, RowFits, TrialFits, RowIs, Keeps, Visited, WhereQuiet, Owed, FirstFits, Begins, Sound, Sees, SeesStep, RowsKept, Resumes, IsStored, Stores, after_change}
+use Rattle.stack_check.specs.Inference.{Formed, TrialIn, Beyond, RowFits, TrialFits, RowIs, Keeps, Visited, WhereQuiet, Owed, FirstFits, Begins, Sound, Sees, SeesStep, RowsKept, Resumes, IsStored, Stores, IsPlain, IsCall, after_change, kind_of}
 use Rattle.stack_check.proofs.Heaps.{heap_then, heap_same, still_shape, same_shape}
 use Rattle.stack_check.proofs.Walks.{read_empty, grows_then, grows_none}
 use Rattle.stack_check.proofs.Keeping.{keeps_grows}
-use Rattle.stack_check.proofs.Steps.{row_trial, led_at, table_follows}
+use Rattle.stack_check.proofs.Steps.{row_trial, led_at, table_follows, no_rule, no_op}
 use Rattle.stack_check.proofs.Visits.{rows_same}
 
 some_is : {A : Type 0} (a b : A) → Some a ≡ Some b → a ≡ b
@@ -217,3 +221,113 @@ store_changed header code a b c facts mid facts' n p held op seen now first g v 
     at Bad v = record { grows = heap_then a b c first.grows g; keeps = v; quiet = tt }
 
 pub ruleset storing = (stored_resumes, store_bad, store_quiet, store_changed)
+
+stored_none : (header : EngineTable) (op : PlainOp) (globals locals : ℕ) (s : TopShape) → op ≡ ops.StoreState globals locals
+    → None ≡ stored_types globals locals s.under s.cells → rule header op s ≡ None
+unfolding rule
+stored_none header op globals locals s e h = ap (λ o. rule header o s) e ∙ ap (option_map (λ t. record s { pending = s.pending + 1 })) (sym h)
+
+pub stores_none : RuleLooksFromTop → (header : EngineTable) (code : List PlainOp) (heap : Heap) (facts : Facts) (n p : ℕ) (held : Held) (op : PlainOp)
+    (globals locals : ℕ) → Keeps header code heap facts → row_in facts.rows n p ≡ Some held → op_at code p ≡ Some op → op ≡ ops.StoreState globals locals
+    → None ≡ stored_types globals locals (read heap.slots held.under) (read heap.slots held.cells) → Sees header code heap heap facts facts n p held Bad
+stores_none law header code heap facts n p held op globals locals k r stands e h = record {
+  grows = heap_same heap;
+  keeps = no_rule law header code heap facts n p held op k r stands (subst (λ o. IsOneStep o) (sym e) tt) (stored_none header op globals locals (shape_of heap held) e h);
+  quiet = tt;
+}
+
+pub stores_some : (heap : Heap) (held : Held) (op : PlainOp) (globals locals : ℕ) (types : StoredTypes) → op ≡ ops.StoreState globals locals
+    → Some types ≡ stored_types globals locals (read heap.slots held.under) (read heap.slots held.cells) → Stores op (shape_of heap held) types
+stores_some heap held op globals locals types e h = subst (λ o. Stores o (shape_of heap held) types) (sym e) (sym h)
+
+pub ruleset stores_bad = (stores_none, stores_some)
+
+pub trial_none : (header : EngineTable) (code : List PlainOp) (heap : Heap) (facts : Facts) (n p : ℕ) (held : Held) → Keeps header code heap facts
+    → row_in facts.rows n p ≡ Some held → None ≡ slice_get facts.trials n → ⊥
+trial_none header code heap facts n p held k r none = let t = row_trial header code heap facts n p held k r in nothing t.0 (none ∙ t.1)
+  where
+    nothing : (t : Trial) → None ≡ Some t → ⊥
+    nothing t h = absurd cc
+
+-- ---- kinds
+
+call_op : (place : ℕ) (op : PlainOp) (target : ℕ) → kind_of place op ≡ Call target → (offset : ℤ) × (op ≡ ops.Jsr offset) × (jump_place place offset ≡ target)
+unfolding kind_of
+call_op place (ops.Jsr o) target h = (o, refl, same (jump_place place o) target h)
+  where
+    same : (a b : ℕ) → Call a ≡ Call b → a ≡ b
+    same a b h = cc
+call_op place ops.Retn target h = absurd cc
+call_op place (ops.StoreState g l) target h = absurd cc
+call_op place op target h = absurd cc
+
+pub call_stands : (code : List PlainOp) (place : ℕ) (op : PlainOp) (target : ℕ) (kind : Kind) → kind ≡ kind_of place op → kind ≡ Call target
+    → op_at code place ≡ Some op → IsCall code place target
+call_stands code place op target kind e c h =
+    let o = call_op place op target (sym e ∙ c) in record { offset = o.0; stands = h ∙ ap Some o.1; leads = o.2 }
+
+pub call_next : (place next : ℕ) (op : PlainOp) (target : ℕ) (kind : Kind) → kind ≡ kind_of place op → kind ≡ Call target → next ≡ next_place place op
+    → next ≡ place + 6
+call_next place next op target kind e c h = let o = call_op place op target (sym e ∙ c) in h ∙ ap (next_place place) o.1
+
+return_op : (place : ℕ) (op : PlainOp) → kind_of place op ≡ Return → op ≡ ops.Retn
+unfolding kind_of
+return_op place (ops.Jsr o) h = absurd cc
+return_op place ops.Retn h = refl
+return_op place (ops.StoreState g l) h = absurd cc
+return_op place op h = absurd cc
+
+pub return_stands : (code : List PlainOp) (place : ℕ) (op : PlainOp) (kind : Kind) → kind ≡ kind_of place op → kind ≡ Return → op_at code place ≡ Some op
+    → op_at code place ≡ Some ops.Retn
+return_stands code place op kind e c h = h ∙ ap Some (return_op place op (sym e ∙ c))
+
+pub store_op : (place : ℕ) (op : PlainOp) (globals locals : ℕ) (kind : Kind) → kind ≡ kind_of place op → kind ≡ Store globals locals → op ≡ ops.StoreState globals locals
+unfolding kind_of
+store_op place (ops.Jsr o) globals locals kind e h = absurd (no_call (jump_place place o) globals locals (sym e ∙ h))
+  where
+    no_call : (o g l : ℕ) → Call o ≡ Store g l → ⊥
+    no_call o g l h = absurd cc
+store_op place ops.Retn globals locals kind e h = absurd (no_return globals locals (sym e ∙ h))
+  where
+    no_return : (g l : ℕ) → Return ≡ Store g l → ⊥
+    no_return g l h = absurd cc
+store_op place (ops.StoreState g l) globals locals kind e h = same g l globals locals (sym e ∙ h)
+  where
+    same : (g l a b : ℕ) → Store g l ≡ Store a b → ops.StoreState g l ≡ ops.StoreState a b
+    same g l a b h = ap (λ x. ops.StoreState x l) (first g l a b h) ∙ ap (ops.StoreState a) (second g l a b h)
+      where
+        first : (g l a b : ℕ) → Store g l ≡ Store a b → g ≡ a
+        first g l a b h = cc
+
+        second : (g l a b : ℕ) → Store g l ≡ Store a b → l ≡ b
+        second g l a b h = cc
+store_op place op globals locals kind e h = absurd (no_step globals locals (sym e ∙ h))
+  where
+    no_step : (g l : ℕ) → Step ≡ Store g l → ⊥
+    no_step g l h = absurd cc
+
+step_op : (place : ℕ) (op : PlainOp) → kind_of place op ≡ Step → IsOneStep op × IsPlain op
+unfolding kind_of
+step_op place (ops.Jsr o) h = absurd cc
+step_op place ops.Retn h = absurd cc
+step_op place (ops.StoreState g l) h = absurd cc
+step_op place op h = (tt, tt)
+
+pub step_one : (place : ℕ) (op : PlainOp) (kind : Kind) → kind ≡ kind_of place op → kind ≡ Step → IsOneStep op
+step_one place op kind e h = (step_op place op (sym e ∙ h)).0
+
+pub step_plain : (place : ℕ) (op : PlainOp) (kind : Kind) → kind ≡ kind_of place op → kind ≡ Step → IsPlain op
+step_plain place op kind e h = (step_op place op (sym e ∙ h)).1
+
+pub ruleset kinds = (call_stands, call_next, return_stands, store_op, step_one, step_plain)
+
+pub no_op_bad : (header : EngineTable) (code : List PlainOp) (heap : Heap) (facts : Facts) (n p : ℕ) (held : Held) → Keeps header code heap facts
+    → row_in facts.rows n p ≡ Some held → op_at code p ≡ None → Sees header code heap heap facts facts n p held Bad
+no_op_bad header code heap facts n p held k r none =
+    record { grows = heap_same heap; keeps = no_op header code heap facts n p held k r none; quiet = tt }
+
+pub types_on_tops : (o : Option StoredTypes) (globals locals : ℕ) (l m n : List (Node Slot)) (u v a b : ℕ) → o ≡ stored_types globals locals (read l u) (read m v)
+    → l ≡ n → u ≡ a → m ≡ n → v ≡ b → o ≡ stored_types globals locals (read n a) (read n b)
+types_on_tops o globals locals l m n u v a b h e f i j =
+    h ∙ ap (λ l. stored_types globals locals (read l u) (read m v)) e ∙ ap (λ u. stored_types globals locals (read n u) (read m v)) f
+    ∙ ap (λ m. stored_types globals locals (read n a) (read m v)) i ∙ ap (λ v. stored_types globals locals (read n a) (read n v)) j

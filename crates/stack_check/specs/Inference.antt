@@ -1,5 +1,5 @@
 -- What an inference keeps true: what it has found is there in every table that meets the rules, perhaps with fewer slots beneath.
-use Rattle.std.specs.Prelude.{◌≡◌, ◌≤◌, ◌<◌, ℕ, List, [], ◌++◌, ◌∷◌, length, Option, None, Some, IfSome, slice_get, ◌⊎◌}
+use Rattle.std.specs.Prelude.{◌≡◌, ◌≤◌, ◌<◌, ℕ, ℤ, List, [], ◌++◌, ◌∷◌, length, Option, None, Some, IfSome, slice_get, ◌⊎◌}
 use Rattle.nwq_value.specs.Engine.{EngineTable}
 use Rattle.ncs_code.specs.Plain.{PlainOp}
 use Rattle.ncs_code.specs.Plain as ops
@@ -21,6 +21,8 @@ use Rattle.stack_check.specs.declared.seen.Seen.{Seen}
 use Rattle.stack_check.specs.declared.seen.Seen.TheVariants.{Quiet, Changed, Bad}
 use Rattle.stack_check.specs.declared.leads.Lead.{Lead}
 use Rattle.stack_check.specs.declared.leads.Lead.TheVariants.{One, Two}
+use Rattle.stack_check.specs.declared.leads.Kind.{Kind}
+use Rattle.stack_check.specs.declared.leads.Kind.TheVariants.{Call, Return, Store, Step}
 use Rattle.stack_check.specs.Shared.{read}
 use Rattle.stack_check.specs.Held.{HeapGrows, IsIn, shape_of}
 use Rattle.stack_check.specs.Rows.{RowAdded, row_in}
@@ -208,6 +210,12 @@ pub record CurrentSet (before after : Facts) (entry : Entry) (number : ℕ) : Ty
 
 -- ---- calls
 
+-- a JSR that leads to this place
+pub record IsCall (code : List PlainOp) (place target : ℕ) : Type 0 where
+  pub offset : ℤ
+  pub stands : op_at code place ≡ Some (ops.Jsr offset)
+  pub leads : jump_place place offset ≡ target
+
 -- the trial that counts for the routine that begins at a place
 pub record Calls (facts : Facts) (target : ℕ) (callee : Trial) : Type 0 where
   pub number : ℕ
@@ -248,3 +256,11 @@ pub record IsStored (heap : Heap) (facts : Facts) (site : ℕ) (shape : TopShape
 abbrev pub Stores : PlainOp → TopShape → StoredTypes → Type 0
 Stores (ops.StoreState globals locals) shape types = stored_types globals locals shape.under shape.cells ≡ Some types
 Stores op shape types = ⊥
+
+-- ---- kinds of instructions
+
+unfoldable pub kind_of : ℕ → PlainOp → Kind
+kind_of place (ops.Jsr offset) = Call (jump_place place offset)
+kind_of place ops.Retn = Return
+kind_of place (ops.StoreState globals locals) = Store globals locals
+kind_of place op = Step

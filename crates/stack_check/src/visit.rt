@@ -1,6 +1,6 @@
 ghost use Rattle.std.specs.Prelude.{◌≡◌, ◌≤◌, ◌+◌, ◌<◌, ◌^◌, [], ◌∷◌, ◌++◌, Some, None, IfOk, IfSome, length, map};
 ghost use Rattle.std.specs.Prelude.{slice_get, MatchOption};
-ghost use Rattle.ncs_code.specs.Plain.{plain, StoreState};
+ghost use Rattle.ncs_code.specs.Plain.{plain, Retn, StoreState};
 ghost use Rattle.ncs_code.specs.File.{op_at};
 ghost use Rattle.ncs_code.specs.Spelling.{op_size};
 ghost use Rattle.machine_step.specs.Act.{next_place};
@@ -18,7 +18,7 @@ ghost use Rattle.stack_check.specs.Inference.{SeesStep, Stores, Visited, WhereQu
 use crate::calls::call;
 use crate::facts::{Facts, Trial, begin};
 use crate::held::{Heap, Held, step, top};
-use crate::leads::leads_of;
+use crate::leads::{Kind, kind_of, leads_of};
 use crate::reach::{Found, after_change, follow, lead};
 use crate::returns::returned;
 use crate::seen::Seen;
@@ -190,5 +190,162 @@ fn visit_store(
             let seen = store(code, table, heap, facts, todo, from.place, types)?;
             Ok(after_change(seen))
         }
+    }
+}
+
+/// An instruction with a rule of one shape that stores no state.
+#[tactic(auto, using(crate::proofs::Visits::plain_sees))]
+fn visit_plain(
+    alloc: Global,
+    code: &Code,
+    table: &Table,
+    heap: &mut Heap,
+    facts: &mut Facts,
+    todo: &mut Todo,
+    from: Found,
+    op: &Op<'_>,
+    next: u32,
+) -> Result<Seen, NoMemory>
+    requires keeps { Keeps table.now code.now heap.old facts.old }
+    requires row { row_in facts.old.rows from.trial from.place ≡ Some from.held }
+    requires op { op_at code.now from.place ≡ Some (plain op.now) }
+    requires one { IsOneStep (plain op.now) }
+    requires plain { IsPlain (plain op.now) }
+    requires next { next ≡ next_place from.place (plain op.now) }
+    requires bound { from.place < 2 ^ 31 }
+    ensures sees { IfOk result (λ seen. Sees table.now code.now heap.old heap.new facts.old facts.new
+        from.trial from.place from.held seen) }
+{
+    let seen = visit_step(alloc, code, table, heap, facts, todo, from, op, next)?;
+    Ok(seen)
+}
+
+/// STORE_STATE, of so many bytes of globals and of locals.
+#[tactic(auto, using(crate::proofs::Storing::stores_bad))]
+fn visit_stored(
+    alloc: Global,
+    code: &Code,
+    table: &Table,
+    heap: &mut Heap,
+    facts: &mut Facts,
+    todo: &mut Todo,
+    from: Found,
+    op: &Op<'_>,
+    globals: u32,
+    locals: u32,
+    next: u32,
+) -> Result<Seen, NoMemory>
+    requires keeps { Keeps table.now code.now heap.old facts.old }
+    requires row { row_in facts.old.rows from.trial from.place ≡ Some from.held }
+    requires op { op_at code.now from.place ≡ Some (plain op.now) }
+    requires store { plain op.now ≡ StoreState globals locals }
+    requires next { next ≡ next_place from.place (plain op.now) }
+    requires bound { from.place < 2 ^ 31 }
+    ensures sees { IfOk result (λ seen. Sees table.now code.now heap.old heap.new facts.old facts.new
+        from.trial from.place from.held seen) }
+{
+    rules_look_from_the_top();
+    let types = {
+        let under = top(heap, from.held.under);
+        let cells = top(heap, from.held.cells);
+        stored_types(alloc, globals, locals, &under, &cells)?
+    };
+    match types {
+        None => Ok(Seen::Bad),
+        Some(types) => visit_store(
+            alloc, code, table, heap, facts, todo, from, op, &types, next,
+        ),
+    }
+}
+
+/// The place behind an instruction.
+fn end_of(code: &Code, op: &Op<'_>, place: u32, size: u32) -> u32
+    requires op { op_at code.now place ≡ Some (plain op.now) }
+    requires size { size ≡ op_size (plain op.now) }
+    ensures next { result ≡ next_place place (plain op.now) }
+    ensures bound { place < 2 ^ 31 }
+{
+    place_laws();
+    code.sound();
+    let _ = op;
+    place + size
+}
+
+/// RETN.
+#[tactic(auto, using(crate::proofs::Storing::trial_none))]
+fn visit_return(
+    code: &Code,
+    table: &Table,
+    heap: &Heap,
+    facts: &mut Facts,
+    todo: &mut Todo,
+    from: Found,
+) -> Result<Seen, NoMemory>
+    requires keeps { Keeps table.now code.now heap.now facts.old }
+    requires row { row_in facts.old.rows from.trial from.place ≡ Some from.held }
+    requires op { op_at code.now from.place ≡ Some Retn }
+    ensures sees { IfOk result (λ seen. Sees table.now code.now heap.now heap.now facts.old facts.new
+        from.trial from.place from.held seen) }
+{
+    match facts.trials.get(from.trial as usize) {
+        None => unreachable!(),
+        Some(trial) => {
+            let trial = *trial;
+            returned(code, table, heap, facts, todo, from, trial)
+        }
+    }
+}
+
+/// The instruction at a place, which takes so many bytes.
+#[tactic(auto, using(crate::proofs::Storing::kinds))]
+fn visit_op(
+    alloc: Global,
+    code: &Code,
+    table: &Table,
+    heap: &mut Heap,
+    facts: &mut Facts,
+    todo: &mut Todo,
+    from: Found,
+    op: &Op<'_>,
+    size: u32,
+) -> Result<Seen, NoMemory>
+    requires keeps { Keeps table.now code.now heap.old facts.old }
+    requires row { row_in facts.old.rows from.trial from.place ≡ Some from.held }
+    requires op { op_at code.now from.place ≡ Some (plain op.now) }
+    requires size { size ≡ op_size (plain op.now) }
+    ensures sees { IfOk result (λ seen. Sees table.now code.now heap.old heap.new facts.old facts.new
+        from.trial from.place from.held seen) }
+{
+    let next = end_of(code, op, from.place, size);
+    match kind_of(op, from.place) {
+        Kind::Call(target) => call(alloc, code, table, heap, facts, todo, from, target, next),
+        Kind::Return => visit_return(code, table, heap, facts, todo, from),
+        Kind::Store(globals, locals) => visit_stored(
+            alloc, code, table, heap, facts, todo, from, op, globals, locals, next,
+        ),
+        Kind::Step => visit_plain(alloc, code, table, heap, facts, todo, from, op, next),
+    }
+}
+
+/// Looks at a shape: whether all that the instruction there asks for was found. What is missing is
+/// added.
+#[tactic(auto, using(crate::proofs::Storing::no_op_bad))]
+pub fn visit(
+    alloc: Global,
+    code: &Code,
+    table: &Table,
+    heap: &mut Heap,
+    facts: &mut Facts,
+    todo: &mut Todo,
+    from: Found,
+) -> Result<Seen, NoMemory>
+    requires keeps { Keeps table.now code.now heap.old facts.old }
+    requires row { row_in facts.old.rows from.trial from.place ≡ Some from.held }
+    ensures sees { IfOk result (λ seen. Sees table.now code.now heap.old heap.new facts.old facts.new
+        from.trial from.place from.held seen) }
+{
+    match code.op_at(from.place) {
+        None => Ok(Seen::Bad),
+        Some((op, size)) => visit_op(alloc, code, table, heap, facts, todo, from, &op, size),
     }
 }
