@@ -47,7 +47,7 @@ same_callee taken under taken' under' given given' t u g =
     ∙ ap (λ u. record { taken = taken'; under = u; given = given }) u
     ∙ ap (λ g. record { taken = taken'; under = under'; given = g }) g
 
-callee_still : (a b : Heap) (trial : Trial) → HeapGrows a b → TrialIn a trial → callee_of b trial ≡ callee_of a trial
+pub callee_still : (a b : Heap) (trial : Trial) → HeapGrows a b → TrialIn a trial → callee_of b trial ≡ callee_of a trial
 callee_still a b trial g h = same_callee _ _ _ _ _ _ (g.slots.same trial.taken h.taken) (g.slots.same trial.under h.under) (given_still a b trial.given g h.given)
 
 trial_still : (a b : Heap) (trial : Trial) → HeapGrows a b → TrialIn a trial → TrialIn b trial

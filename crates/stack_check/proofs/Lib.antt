@@ -13,3 +13,5 @@ pub mod CallSteps
 pub mod ReturnSteps
 pub mod Visits
 pub mod Storing
+pub mod Passing
+pub mod Ending

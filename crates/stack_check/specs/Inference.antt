@@ -264,3 +264,42 @@ kind_of place (ops.Jsr offset) = Call (jump_place place offset)
 kind_of place ops.Retn = Return
 kind_of place (ops.StoreState globals locals) = Store globals locals
 kind_of place op = Step
+
+-- ---- all places
+
+pub record CountsNot (facts : Facts) (number : ℕ) : Type 0 where
+  pub by : (entry : Entry) → current facts entry ≡ Some number → ⊥
+
+-- Whatever shape the trial has there obeys the rules.
+pub record RowSound (header : EngineTable) (code : List PlainOp) (heap : Heap) (facts : Facts) (number place : ℕ) : Type 0 where
+  pub by : (held : Held) → row_in facts.rows number place ≡ Some held → Sound header code heap facts number place held
+
+pub record SeesRow (header : EngineTable) (code : List PlainOp) (heap heap' : Heap) (facts facts' : Facts) (number place : ℕ) (seen : Seen) : Type 0 where
+  pub grows : HeapGrows heap heap'
+  pub keeps : Visited header code heap' facts' seen
+  pub quiet : WhereQuiet seen ((facts' ≡ facts) × RowSound header code heap facts number place)
+
+-- the same for all trials at a place
+pub record PlaceSound (header : EngineTable) (code : List PlainOp) (heap : Heap) (facts : Facts) (place : ℕ) : Type 0 where
+  pub by : (number : ℕ) → RowSound header code heap facts number place
+
+pub record SeesPlace (header : EngineTable) (code : List PlainOp) (heap heap' : Heap) (facts facts' : Facts) (place : ℕ) (seen : Seen) : Type 0 where
+  pub grows : HeapGrows heap heap'
+  pub keeps : Visited header code heap' facts' seen
+  pub quiet : WhereQuiet seen ((facts' ≡ facts) × PlaceSound header code heap facts place)
+
+-- and at all places
+pub record SeesAll (header : EngineTable) (code : List PlainOp) (heap heap' : Heap) (facts facts' : Facts) (seen : Seen) : Type 0 where
+  pub grows : HeapGrows heap heap'
+  pub keeps : Visited header code heap' facts' seen
+  pub quiet : WhereQuiet seen ((facts' ≡ facts) × MeetsRules header code (table_of heap facts))
+
+-- what one turn of the inference leaves
+pub record SeesTurn (header : EngineTable) (code : List PlainOp) (heap : Heap) (facts : Facts) (seen : Seen) : Type 0 where
+  pub keeps : Visited header code heap facts seen
+  pub quiet : WhereQuiet seen (MeetsRules header code (table_of heap facts))
+
+-- A table was found, and compares with every other.
+pub record IsFound (header : EngineTable) (code : List PlainOp) (heap : Heap) (facts : Facts) : Type 0 where
+  pub keeps : Keeps header code heap facts
+  pub meets : MeetsRules header code (table_of heap facts)

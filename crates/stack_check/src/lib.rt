@@ -15,6 +15,7 @@ mod checked;
 mod facts;
 mod fault;
 mod held;
+mod infer;
 mod laws;
 mod leads;
 mod lists;
