@@ -15,7 +15,7 @@ pub enum Verdict {
     Other,
 }
 
-fn verdict(alloc: Global, table: &Table, text: &[u8]) -> Verdict {
+fn verdict_of(alloc: Global, table: &Table, text: &[u8]) -> Verdict {
     if text.len() > FILE_BYTES as usize {
         return Verdict::Other;
     }
@@ -42,7 +42,7 @@ pub fn first_other(alloc: Global, texts: &[&[u8]], wanted: Verdict) -> Result<us
     let table = built_in(alloc)?;
     let mut count = 0;
     for text in texts {
-        if verdict(alloc, &table, text) != wanted {
+        if verdict_of(alloc, &table, text) != wanted {
             return Ok(count);
         }
         count += 1;

@@ -31,8 +31,8 @@ const ROUTINES: &[&[u8]] = &[
     b"JSR 00 @21\nADD 21\nJMP 00 @21\n",
     // Each call of the recursion stands on a higher stack.
     b"JSR 00 @21\nRETN 00\nRSADD 03\nJSR 00 @21\nMOVSP 00 -4\nRETN 00\n",
-    b"JSR 00 @21\nRETN 00\nCONST 03 1\nJZ 00 @41\nRSADD 05\nJSR 00 @21\nJMP 00 @45\n\
-      RSADD 05\nNOP 00\nMOVSP 00 -4\nRETN 00\n",
+    b"JSR 00 @21\nRETN 00\nCONST 03 1\nJZ 00 @47\nRSADD 05\nJSR 00 @21\n\
+      MOVSP 00 -4\nRETN 00\n",
     // A routine that is called from two stacks.
     b"RSADD 03\nJSR 00 @39\nRSADD 05\nRSADD 03\nJSR 00 @39\nMOVSP 00 -12\nRETN 00\n\
       INCISP 03 -4\nRETN 00\n",
