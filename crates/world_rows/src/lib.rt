@@ -2,5 +2,6 @@
 #![tactic(auto)]
 
 mod parts;
+mod things;
 
 pub use parts::Parts;
