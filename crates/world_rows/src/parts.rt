@@ -14,8 +14,9 @@ use action_queue::{Item, Queue};
 use area_tree::Area;
 use delay_agenda::{Agenda, Kind};
 use engine_rows::{Line, Stood, Things, Told};
-use nwq_value::{Effect, NoMemory, Randoms};
+use nwq_value::{Effect, NoMemory};
 use std::alloc::Global;
+use std::collections::VecDeque;
 use std::marker::Model;
 
 /// The parts of a world.
@@ -30,14 +31,13 @@ pub struct Parts<X> {
     things: Vec<Things<X>>,
     agenda: Agenda<X>,
     trace: Vec<Line>,
-    random: Randoms,
-    drawn: usize,
+    random: VecDeque<u32>,
     user: i32,
     version: u8,
 }
 
 impl<X> Model for Parts<X> {
-    ghost use Rattle.std.specs.Prelude.{◌-◌, drop, length};
+    ghost use Rattle.std.specs.Prelude.{◌-◌, length};
     ghost use Rattle.std.specs.Vec.{vec_capacity};
     ghost use Rattle.std.specs.Coded.{codes};
     ghost use Rattle.gff_tree.specs.contracts.tree.Gff as gff;
@@ -55,7 +55,7 @@ impl<X> Model for Parts<X> {
         things = p.things.items;
         agenda = p.agenda.waiting;
         trace = p.trace.items;
-        random = drop p.drawn p.random;
+        random = p.random.items;
         user = p.user;
         version = p.version;
       };
@@ -321,13 +321,6 @@ impl<X: Drop> Parts<X> {
           world = record self.old.world { random = drop 1 self.old.world.random };
         } }
     {
-        match self.random.get(self.drawn) {
-            None => None,
-            Some(number) => {
-                let number = *number;
-                self.drawn += 1;
-                Some(number)
-            }
-        }
+        self.random.pop_front()
     }
 }
