@@ -1,1 +1,4 @@
 pub mod ThingsLemmas
+pub mod RandomLemmas
+pub mod TurnLemmas
+pub mod EffectLemmas

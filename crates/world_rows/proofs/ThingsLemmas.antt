@@ -5,8 +5,9 @@ use Rattle.action_queue.specs.Queued.{Queued}
 use Rattle.nwq_value.specs.declared.memory.NoMemory.{NoMemory}
 use Rattle.engine_rows.specs.declared.data.Stood.{Stood}
 use Rattle.engine_rows.specs.declared.data.Things.{Things}
-use Rattle.engine_rows.specs.World.{things_at, queue_in, effects_in}
-use Rattle.engine_rows.specs.Changes.{changed_at, changed_object}
+use Rattle.action_queue.specs.declared.queue.Item.{Item}
+use Rattle.engine_rows.specs.World.{World, things_at, queue_in, queue_of, effects_in}
+use Rattle.engine_rows.specs.Changes.{changed_at, changed_object, with_actions}
 
 pred_suc : (i : ℕ) → i ≡ suc i - 1
 pred_suc i = omega arith
@@ -75,3 +76,14 @@ long_changed (suc i) change things = long_at i change things
 pub on_ok : {P Q : Type 0} → (r : Result (Unit {0}) NoMemory) → (P → Q) → OnOk r P → OnOk r Q
 on_ok (Ok u) follows is = follows is
 on_ok (Err e) follows is = tt
+
+-- the mark after a change of the queue that leaves it
+busy_at : {X : Type 0} → (i : ℕ) (q : Queued X) (things : List (Things X)) → q.busy ≡ (queue_in (slice_get things i)).busy →
+    (queue_in (slice_get (changed_at i (λ t. record t { queue = q }) things) i)).busy ≡ (queue_in (slice_get things i)).busy
+busy_at i q [] same = refl
+busy_at zero q (t ∷ things) same = same
+busy_at (suc i) q (t ∷ things) same = busy_at i q things same
+
+pub busy_stays : {X : Type 0} → (o : ℕ) (actions : List (Item X)) (w : World X) → (queue_of o (with_actions o actions w)).busy ≡ (queue_of o w).busy
+busy_stays zero actions w = refl
+busy_stays (suc i) actions w = busy_at i (record (queue_of (suc i) w) { actions = actions }) w.things refl
