@@ -163,7 +163,7 @@ none_past zero w counted missing = refl
 none_past (suc i) w counted missing = ap effects_in (past_end w.things i (grind (arith, nat_tests, counted, missing)))
 
 pub none_without_object : {X : Type 0} → (o : ℕ) (e : Effect) (w : World X) → length w.things ≡ count w → is_valid o w ≡ false → removed o e w ≡ w
-none_without_object o e w counted no =
+none_without_object o e w counted missing =
     ap (λ (es : List Stood). if list_any (is_effect e) es then told o (line.Remove e) (with_effects o (without_first (is_effect e) es) w) else w) (none_past o w counted missing)
 
 -- no other duration applies anything

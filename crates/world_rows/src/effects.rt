@@ -12,7 +12,6 @@ use engine_rows::{Stood, Told};
 use nwq_value::{Effect, NoMemory};
 
 /// Whether an effect that stands is equal to this one.
-#[tactic(auto, using(crate::proofs::EffectLemmas::same_test))]
 fn is_effect(effect: &Effect, stood: &Stood) -> bool
     ensures test { result ≡ is_effect effect.now stood.now }
 {

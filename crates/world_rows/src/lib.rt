@@ -2,6 +2,7 @@
 #![tactic(auto)]
 
 mod acting;
+mod area;
 mod args;
 mod effects;
 mod parts;
