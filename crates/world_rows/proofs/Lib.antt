@@ -1,4 +1,5 @@
 pub mod ThingsLemmas
 pub mod RandomLemmas
 pub mod TurnLemmas
+pub mod NameLemmas
 pub mod EffectLemmas

@@ -5,8 +5,10 @@ mod acting;
 mod area;
 mod args;
 mod effects;
+mod events;
 mod parts;
 mod random;
+mod rows;
 mod things;
 
 pub use parts::Parts;
