@@ -3,3 +3,4 @@ pub mod RandomLemmas
 pub mod TurnLemmas
 pub mod NameLemmas
 pub mod EffectLemmas
+pub mod BeginLemmas

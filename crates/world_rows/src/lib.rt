@@ -10,5 +10,6 @@ mod parts;
 mod random;
 mod rows;
 mod things;
+mod turns;
 
 pub use parts::Parts;

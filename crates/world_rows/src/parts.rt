@@ -1,20 +1,22 @@
 //! The parts of a world, and the small changes that everything else is made of.
 ghost use Rattle.std.specs.Prelude.{◌≡◌, ◌<◌, ◌≤◌, ◌+◌, ◌-◌, ◌^◌, ◌↔◌, ◌∷◌, [], drop, filter, length};
-ghost use Rattle.std.specs.Prelude.{not, slice_get, Some, OnOk, OnErr, IsTrue};
+ghost use Rattle.std.specs.Prelude.{not, slice_get, Some, IfOk, OnOk, OnErr, IsTrue};
 ghost use Rattle.std.specs.List.{remove};
 ghost use Rattle.area_tree.specs.Variables.{IntVar, TextVar, is_int, is_text, put};
 ghost use Rattle.delay_agenda.specs.Order.{first_due};
 ghost use Rattle.delay_agenda.specs.Waiting.{turn_count};
 ghost use Rattle.engine_rows.specs.Changes.{told, post, with_busy, with_actions, with_action};
 ghost use Rattle.engine_rows.specs.Changes.{with_effect, with_effects, with_variables, without_turn};
+ghost use Rattle.engine_rows.specs.Turns.{drained, still, with_entries};
 ghost use Rattle.engine_rows.specs.World.{count, effects_of, is_valid, queue_of};
 
 use crate::things::{add_effect, append, clear, of_object, set_busy, take_effect, take_head};
 use action_queue::{Item, Queue};
 use area_tree::Area;
-use delay_agenda::{Agenda, Kind};
+use delay_agenda::{Agenda, Entry, Kind};
 use engine_rows::{Line, Stood, Things, Told};
-use nwq_value::{Effect, NoMemory};
+use crate::turns::idle_objects;
+use nwq_value::{Effect, NoMemory, Randoms};
 use std::alloc::Global;
 use std::collections::VecDeque;
 use std::marker::Model;
@@ -65,6 +67,35 @@ impl<X> Model for Parts<X> {
 }
 
 impl<X: Drop> Parts<X> {
+    /// The world of an area before anything is planned.
+    pub fn new(
+        alloc: Global,
+        area: Area,
+        random: Randoms,
+        version: u8,
+    ) -> Result<Parts<X>, NoMemory>
+        ensures world { IfOk result (λ parts. parts.world ≡ still area random version) }
+    {
+        match idle_objects(alloc, area.count()) {
+            Err(NoMemory) => {
+                drop(area);
+                drop(random);
+                Err(NoMemory)
+            }
+            Ok(things) => Ok(Parts {
+                alloc,
+                clock: 0,
+                area,
+                things,
+                agenda: Agenda::new(alloc),
+                trace: Vec::new(alloc),
+                random: VecDeque::from_vec(random.into_vec()),
+                user: 0,
+                version,
+            }),
+        }
+    }
+
     /// Makes room for so many posts. After `NoMemory` there is at least the room that there was.
     pub fn room_for_posts(&mut self, n: u32) -> Result<(), NoMemory>
         ensures ok { OnOk result (n ≤ self.new.posts) }
@@ -87,7 +118,7 @@ impl<X: Drop> Parts<X> {
     }
 
     /// Tells a line, at the clock's time.
-    pub(crate) fn tell(&mut self, object: u32, what: Told)
+    pub fn tell(&mut self, object: u32, what: Told)
         requires room { 1 ≤ self.old.lines }
         ensures told { self.new ≡ record self.old {
           world = told object what self.old.world;
@@ -103,7 +134,7 @@ impl<X: Drop> Parts<X> {
     }
 
     /// Posts work under the next number.
-    pub(crate) fn post(&mut self, due: u64, kind: Kind<X>)
+    pub fn post(&mut self, due: u64, kind: Kind<X>)
         requires room { 1 ≤ self.old.posts }
         requires few { self.old.world.agenda.next < 2 ^ 63 }
         ensures posted { self.new.world ≡ post due kind self.old.world }
@@ -258,7 +289,7 @@ impl<X: Drop> Parts<X> {
         self.version
     }
 
-    pub(crate) fn alloc(&self) -> Global {
+    pub fn alloc(&self) -> Global {
         self.alloc
     }
 
@@ -322,5 +353,47 @@ impl<X: Drop> Parts<X> {
         } }
     {
         self.random.pop_front()
+    }
+
+    /// Takes the first entry that waits off the agenda; all else stays.
+    pub fn take_entry(&mut self) -> Option<Entry<X>>
+        ensures taken { result ≡ slice_get self.old.world.agenda.entries 0 }
+        ensures left { self.new.world
+            ≡ with_entries (drop 1 self.old.world.agenda.entries) self.old.world }
+        ensures posts { self.old.posts ≤ self.new.posts }
+    {
+        self.agenda.take()
+    }
+
+    /// Sets the clock, and the user number of the entry that runs.
+    pub(crate) fn set_now(&mut self, clock: u64, user: i32)
+        ensures now { self.new ≡ record self.old {
+          world = record self.old.world { clock = clock; user = user };
+        } }
+    {
+        self.clock = clock;
+        self.user = user;
+    }
+
+    /// The lines that are kept.
+    pub fn trace(&self) -> &[Line]
+        ensures trace { result.now ≡ self.now.world.trace }
+    {
+        self.trace.as_slice()
+    }
+
+    /// Keeps no line any more.
+    pub fn clear_trace(&mut self)
+        ensures drained { self.new.world ≡ drained self.old.world }
+        ensures posts { self.new.posts ≡ self.old.posts }
+    {
+        self.trace.clear();
+    }
+
+    /// The area; takes no memory.
+    pub fn into_area(self) -> Area
+        ensures area { result ≡ self.world.area }
+    {
+        self.area
     }
 }

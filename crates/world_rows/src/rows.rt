@@ -107,28 +107,16 @@ impl<X: Drop> Parts<X> {
             }
             15 => string(Text::of(alloc, self.tag(object_at(&args, 0)))),
             16 => Ok(Some(Value::Int(as_int(self.is_valid(object_at(&args, 0)))))),
-            17 => {
-                let int = self.local_int(object_at(&args, 0), text_at(&args, 1));
-                Ok(Some(Value::Int(int)))
-            }
-            18 => {
-                let (o, name) = (object_at(&args, 0), text_at(&args, 1));
-                nothing(self.set_local_int(o, name, int_at(&args, 2)))
-            }
-            19 => {
-                let text = self.local_text(object_at(&args, 0), text_at(&args, 1));
-                string(Text::of(alloc, text))
-            }
-            20 => {
-                let (o, name) = (object_at(&args, 0), text_at(&args, 1));
-                nothing(self.set_local_text(o, name, text_at(&args, 2)))
-            }
+            17 => Ok(Some(Value::Int(self.get_local_int(&args)))),
+            18 => nothing(self.put_local_int(&args)),
+            19 => string(Text::of(alloc, self.get_local_text(&args))),
+            20 => nothing(self.put_local_text(&args)),
             21 => {
-                self.delete_local_int(object_at(&args, 0), text_at(&args, 1));
+                self.drop_local_int(&args);
                 Ok(None)
             }
             22 => {
-                self.delete_local_text(object_at(&args, 0), text_at(&args, 1));
+                self.drop_local_text(&args);
                 Ok(None)
             }
             23 => {
