@@ -1,5 +1,6 @@
 ghost use Rattle.std.specs.Prelude.{◌≡◌, ◌<◌, [], ◌∷◌, ◌++◌, length, position, slice_get};
-ghost use Rattle.std.specs.Prelude.{IfOk, IfSome, ForSome, OnOk, OnErr};
+ghost use Rattle.std.specs.Prelude.{IfOk, IfSome, OnOk, OnErr};
+ghost use Rattle.std.specs.Option.{ForSome};
 ghost use Rattle.std.specs.Str.{bytes_eq};
 ghost use Rattle.hook_table.specs.Standard.{types_of, IsAnswer};
 
@@ -11,6 +12,18 @@ use std::alloc::Global;
 #[derive(Drop)]
 pub struct Hooks {
     pub all: Vec<Hook>,
+}
+
+/// The number of the first hook of this name.
+fn find_in(hooks: &[Hook], name: &[u8]) -> Option<usize>
+    ensures first { result ≡ position (λ h. bytes_eq h.known.name name.now) hooks.now }
+{
+    for (i, hook) in hooks.iter().enumerate() {
+        if hook.known.name.bytes() == name {
+            return Some(i);
+        }
+    }
+    None
 }
 
 impl Hooks {
@@ -34,18 +47,18 @@ impl Hooks {
 
     /// The number of the first hook of this name.
     pub fn find(&self, name: &[u8]) -> Option<usize>
-        ensures first { result ≡ position (λ h. bytes_eq h.name name.now) self.now.all.items }
+        ensures first { result ≡ position (λ h. bytes_eq h.known.name name.now) self.now.all.items }
     {
-        self.all.iter().position(|hook| hook.name() == name)
+        find_in(self.all.as_slice(), name)
     }
 
     /// The value of hook `i`'s function for these arguments.
     pub fn call(&self, i: usize, args: &Args) -> Result<Value, NoMemory>
         requires hook { i < length self.now.all.items }
         requires types { ForSome (slice_get self.now.all.items i)
-            (λ h. types_of args.now ≡ h.params) }
+            (λ h. types_of args.now ≡ h.known.params) }
         ensures answer { IfOk result (λ v. IfSome (slice_get self.now.all.items i)
-            (λ h. IsAnswer h.tables h.name h.result args.now v)) }
+            (λ h. IsAnswer h.known.tables h.known.name h.known.result args.now v)) }
     {
         self.all[i].answer(args)
     }

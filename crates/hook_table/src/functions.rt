@@ -1,6 +1,7 @@
 ghost use Rattle.std.specs.Prelude.{◌≡◌, ◌++◌, ◌≤◌, ◌<◌, List, length, take, drop, IfOk, OnOk};
 ghost use Rattle.std.specs.Fmt.{signed_decimal};
 ghost use Rattle.nwq_text.specs.Escape.{hex_digit};
+ghost use Rattle.nwq_value.specs.Limits.{text_limit};
 ghost use Rattle.engine_rows.specs.Arguments.{int_at, text_at, string_value};
 ghost use Rattle.engine_rows.specs.Pure.{CellLookup, pure, absolute, hex_digits, hex_string, inserted};
 ghost use Rattle.engine_rows.specs.Pure.{leading_number, left_part, middle_part, right_part, string_number};
@@ -27,6 +28,7 @@ fn int_at(args: &Args, i: usize) -> i32
 /// The bytes of the string at a place of the arguments, none where there is no string.
 fn text_at(args: &Args, i: usize) -> &[u8]
     ensures bytes { result.now ≡ text_at i args.now }
+    ensures bound { length result.now ≤ text_limit }
 {
     match args.get(i) {
         Some(Value::Text(text)) => text.bytes(),
@@ -61,6 +63,7 @@ fn decimal(alloc: Global, n: i32) -> Result<Value, NoMemory>
 }
 
 /// The number that the digits in front write, in 32 bits.
+#[tactic(auto, using(crate::proofs::NumberLemmas::digit_read, crate::proofs::NumberLemmas::digits_end, crate::proofs::NumberLemmas::no_digit))]
 fn leading_number(bytes: &[u8]) -> i32
     ensures number { result ≡ leading_number bytes.now }
 {
@@ -75,7 +78,7 @@ fn leading_number(bytes: &[u8]) -> i32
             .wrapping_add(u32::from(*byte - b'0'));
         rest = after;
     }
-    number as i32
+    number.cast_signed()
 }
 
 /// The number that a string begins with, where a `-` may stand before the digits.
@@ -118,7 +121,7 @@ fn hex_string(alloc: Global, n: i32) -> Result<Value, NoMemory>
 {
     let mut out = Vec::new(alloc);
     out.extend_from_slice(b"0x")?;
-    put_hex_digits(&mut out, 8, n as u32)?;
+    put_hex_digits(&mut out, 8, n.cast_unsigned())?;
     string_value(alloc, out.as_slice())
 }
 
