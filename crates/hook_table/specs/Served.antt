@@ -7,12 +7,8 @@ use Rattle.nwq_value.specs.declared.value.Value.{Value}
 use Rattle.engine_rows.specs.Pure.{pure}
 use Rattle.table_2da.specs.Look.{cell_of}
 use Rattle.table_2da.specs.declared.tables.Named.{Named}
-use Rattle.hook_table.specs.Standard.{Function, standard, IsAnswer}
+use Rattle.hook_table.specs.Standard.{Function, standard, cell_function, IsAnswer}
 use Rattle.hook_table.specs.declared.hook.Known.{Known}
-
--- the number of the function that looks cells up
-abbrev pub cell_function : ℕ
-cell_function = 9
 
 -- the hook has the function's name and its types
 pub record StandsFor (f : Function) (h : Known) : Type 0 where

@@ -42,6 +42,10 @@ function_or_none (Some f) = f
 abbrev pub function_numbered : ℕ → Function
 function_numbered n = function_or_none (slice_get standard n)
 
+-- the number of the function that looks cells up
+abbrev pub cell_function : ℕ
+cell_function = 9
+
 -- the number of the function of this name
 unfoldable pub number_named : List ℕ → Option ℕ
 number_named name = position (λ f. bytes_eq f.name name) standard

@@ -6,12 +6,15 @@ ghost use Rattle.engine_rows.specs.Arguments.{int_at, text_at, string_value};
 ghost use Rattle.engine_rows.specs.Pure.{CellLookup, pure, absolute, hex_digits, hex_string, inserted};
 ghost use Rattle.engine_rows.specs.Pure.{leading_number, left_part, middle_part, right_part, string_number};
 ghost use Rattle.table_2da.specs.declared.tables.Named.{Named};
-ghost use Rattle.hook_table.specs.Standard.{function_numbered, IsAnswer};
+ghost use Rattle.nwq_value.specs.declared.value.Value.TheVariants.{Text as TextValue};
+ghost use Rattle.table_2da.specs.Look.{look};
+ghost use Rattle.hook_table.specs.Standard.{cell_function, function_numbered, IsAnswer};
 
 use engine_rows::at_least_zero;
 use nwq_text::put_number;
 use nwq_value::{Args, NoMemory, Text, Value};
 use std::alloc::Global;
+use table_2da::Tables;
 
 /// The int at a place of the arguments, 0 where there is none.
 fn int_at(args: &Args, i: usize) -> i32
@@ -205,4 +208,21 @@ pub fn pure_call(alloc: Global, n: u8, args: &Args) -> Result<Value, NoMemory>
         (function_numbered n).name (function_numbered n).result args.now v) }
 {
     value_of(alloc, n, args)
+}
+
+fn cell_value(alloc: Global, tables: &Tables, args: &Args) -> Result<Value, NoMemory>
+    ensures value { IfOk result (λ v. v ≡ TextValue
+        (look tables.now (text_at 0 args.now) (text_at 1 args.now) (int_at 2 args.now))) }
+{
+    let cell = tables.look(alloc, text_at(args, 0), text_at(args, 1), int_at(args, 2))?;
+    Ok(Value::Text(cell))
+}
+
+/// What the function that looks cells up gives for these arguments, in these tables. The closure of a
+/// program's tenth hook calls this.
+pub fn cell_call(alloc: Global, tables: &Tables, args: &Args) -> Result<Value, NoMemory>
+    ensures answer { IfOk result (λ v. IsAnswer tables.now (function_numbered cell_function).name
+        (function_numbered cell_function).result args.now v) }
+{
+    cell_value(alloc, tables, args)
 }

@@ -1,1 +1,6 @@
 mod LookLemmas
+mod CutLemmas
+mod LineLemmas
+mod FrontLemmas
+mod RowLemmas
+mod TableLemmas
