@@ -1,5 +1,5 @@
 -- The standard functions are the header's, and standard hooks serve its routines.
-use Rattle.std.proofs.Common.{◌≡◌, ◌≢◌, ℕ, zero, suc, ◌+◌, ◌<◌, ◌≤◌, List, [], ◌∷◌, drop, Option, Some, None, refl, sym, ap, subst, ◌∙◌, arith}
+use Rattle.std.proofs.Common.{◌≡◌, ◌≢◌, ℕ, zero, suc, ◌+◌, ◌<◌, ◌≤◌, List, [], ◌∷◌, ◌++◌, length, length-append, map, take, drop, Option, Some, None, refl, sym, ap, subst, ◌∙◌, arith}
 use Rattle.std.proofs.lemmas.Option.{none-some}
 use Rattle.std.specs.List.{slice_get}
 use Rattle.std.specs.Option.{option_map}
@@ -13,8 +13,8 @@ use Rattle.nwq_value.specs.declared.value.Value.{Value}
 use Rattle.engine_rows.specs.Pure.{CellLookup, pure}
 use Rattle.table_2da.specs.Look.{cell_of}
 use Rattle.table_2da.specs.declared.tables.Named.{Named}
-use Rattle.hook_table.specs.Standard.{Function, standard, function_numbered, number_named, pure_numbered, IsAnswer}
-use Rattle.hook_table.specs.Served.{StandsFor, BeginWith, AreStandard, AreTheHeaders, Serves, StandardServe}
+use Rattle.hook_table.specs.Standard.{Function, standard, function_numbered, cell_function, number_named, pure_numbered, IsAnswer}
+use Rattle.hook_table.specs.Served.{StandsFor, BeginWith, AreStandard, AreFirst, AreTheHeaders, Serves, StandardServe, FirstGrow, LastCompletes}
 use Rattle.hook_table.specs.declared.hook.Known.{Known}
 
 -- ---- the header's rows
@@ -152,3 +152,46 @@ standard_serve hooks tables n name gives takes are row =
         answers = λ args v a. same_value n h tables args tenth ∙ named (cell_of h.tables) (number_named h.name) n args v number a.value;
       },
     )
+
+-- ---- hooks that are put one by one
+
+begin_more : (fs : List Function) (hooks : List Known) (n : ℕ) (f : Function) (h : Known) → slice_get fs n ≡ Some f → BeginWith (take n fs) hooks
+    → length hooks ≡ n → StandsFor f h → BeginWith (take (n + 1) fs) (hooks ++ h ∷ [])
+begin_more [] hooks n f h at begin count stands = absurd (none-some f at)
+begin_more (g ∷ fs) [] zero f h at begin count stands = let same : g ≡ f = cc in (subst (λ k. StandsFor k h) (sym same) stands, tt)
+begin_more (g ∷ fs) (k ∷ hooks) zero f h at begin count stands = absurd (omega arith)
+begin_more (g ∷ fs) [] (suc n) f h at begin count stands = absurd begin
+begin_more (g ∷ fs) (k ∷ hooks) (suc n) f h at begin count stands =
+    let fewer : length hooks ≡ n = omega arith in
+    let next : suc (n + 1) ≡ suc n + 1 = omega arith in
+    subst (λ m. BeginWith (take m (g ∷ fs)) (k ∷ (hooks ++ h ∷ []))) next (begin.0, begin_more fs hooks n f h at begin.1 fewer stands)
+
+pub first_grow : FirstGrow
+first_grow n f hooks h at first stands = record {
+  begin = begin_more standard hooks n f h at first.begin first.count stands;
+  count = length-append hooks (h ∷ []) ∙ ap (λ m. m + 1) first.count;
+}
+
+last_at : (hooks : List Known) (h : Known) → slice_get (hooks ++ h ∷ []) (length hooks) ≡ Some h
+last_at [] h = refl
+last_at (k ∷ hooks) h = last_at hooks h
+
+same_hook : (h k : Known) → ◌≡◌ {A = Option Known} (Some h) (Some k) → h ≡ k
+same_hook h k e = cc
+
+pub last_completes : LastCompletes
+last_completes hooks h first stands = record {
+  begin = (first_grow 9 (function_numbered 9) hooks h refl first stands).begin;
+  cells = λ k at.
+      let here : slice_get (hooks ++ h ∷ []) 9 ≡ Some h = ap (slice_get (hooks ++ h ∷ [])) (sym first.count) ∙ last_at hooks h
+      in ap (λ x. x.tables) (sym (same_hook h k (sym here ∙ at)));
+}
+
+-- ---- what is known of hooks
+
+pub known_push : {A B : Type 0} (f : A → B) (new old : List A) (x : A) → new ≡ old ++ x ∷ [] → map f new ≡ map f old ++ f x ∷ []
+known_push {A} f new old x is = ap (map f) is ∙ pushed old
+  where
+    pushed : (xs : List A) → map f (xs ++ x ∷ []) ≡ map f xs ++ f x ∷ []
+    pushed [] = refl
+    pushed (y ∷ ys) = ap (λ zs. f y ∷ zs) (pushed ys)

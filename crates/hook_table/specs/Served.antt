@@ -1,5 +1,5 @@
 -- The hooks that serve the routines of a header.
-use Rattle.std.specs.Prelude.{◌≡◌, ℕ, ◌+◌, List, [], ◌∷◌, Option, Some, slice_get}
+use Rattle.std.specs.Prelude.{◌≡◌, ℕ, ◌+◌, List, [], ◌∷◌, ◌++◌, length, take, Option, Some, slice_get}
 use Rattle.nwq_value.specs.Roles.{header_signatures}
 use Rattle.nwq_value.specs.declared.engine.Role.TheVariants.{Pure}
 use Rattle.nwq_value.specs.declared.value.Ty.{Ty}
@@ -7,7 +7,7 @@ use Rattle.nwq_value.specs.declared.value.Value.{Value}
 use Rattle.engine_rows.specs.Pure.{pure}
 use Rattle.table_2da.specs.Look.{cell_of}
 use Rattle.table_2da.specs.declared.tables.Named.{Named}
-use Rattle.hook_table.specs.Standard.{Function, standard, cell_function, IsAnswer}
+use Rattle.hook_table.specs.Standard.{Function, standard, function_numbered, cell_function, IsAnswer}
 use Rattle.hook_table.specs.declared.hook.Known.{Known}
 
 -- the hook has the function's name and its types
@@ -26,6 +26,11 @@ BeginWith (f ∷ fs) (h ∷ hooks) = StandsFor f h × BeginWith fs hooks
 pub record AreStandard (hooks : List Known) (tables : List Named) : Type 0 where
   pub begin : BeginWith standard hooks
   pub cells : (h : Known) → slice_get hooks cell_function ≡ Some h → h.tables ≡ tables
+
+-- there is a hook for each of the first so many functions, in order, and no other
+pub record AreFirst (n : ℕ) (hooks : List Known) : Type 0 where
+  pub begin : BeginWith (take n standard) hooks
+  pub count : length hooks ≡ n
 
 -- ---- laws
 
@@ -46,3 +51,13 @@ StandardServe = (hooks : List Known) (tables : List Named) (n : ℕ) (name : Lis
     → AreStandard hooks tables
     → slice_get header_signatures (28 + n) ≡ Some (record { name = name; gives = gives; takes = takes; role = Some (Pure n) })
     → (h : Known) × (slice_get hooks n ≡ Some h) × Serves tables n takes gives h
+
+-- with a hook for the next function there is one more
+abbrev pub FirstGrow : Type 0
+FirstGrow = (n : ℕ) (f : Function) (hooks : List Known) (h : Known) → slice_get standard n ≡ Some f → AreFirst n hooks → StandsFor f h
+    → AreFirst (n + 1) (hooks ++ h ∷ [])
+
+-- with one for the function that looks cells up, the hooks are standard ones with its tables
+abbrev pub LastCompletes : Type 0
+LastCompletes = (hooks : List Known) (h : Known) → AreFirst cell_function hooks → StandsFor (function_numbered cell_function) h
+    → AreStandard (hooks ++ h ∷ []) h.tables

@@ -1,4 +1,4 @@
-ghost use Rattle.std.specs.Prelude.{◌≡◌, ◌<◌, [], ◌∷◌, ◌++◌, length, position, slice_get};
+ghost use Rattle.std.specs.Prelude.{◌≡◌, ◌<◌, [], ◌∷◌, ◌++◌, length, map, position, slice_get};
 ghost use Rattle.std.specs.Prelude.{IfOk, IfSome, OnOk, OnErr};
 ghost use Rattle.std.specs.Option.{ForSome};
 ghost use Rattle.std.specs.Str.{bytes_eq};
@@ -36,9 +36,12 @@ impl Hooks {
         }
     }
 
+    #[tactic(auto, using(crate::proofs::ServeLemmas::known_push))]
     /// Puts a hook last. After `NoMemory` it is dropped and the hooks are as before.
     pub fn push(&mut self, hook: Hook) -> Result<(), NoMemory>
         ensures ok { OnOk result (self.new.all.items ≡ self.old.all.items ++ hook ∷ []) }
+        ensures known { OnOk result (map (λ h. h.known) self.new.all.items
+            ≡ map (λ h. h.known) self.old.all.items ++ hook.known ∷ []) }
         ensures err { OnErr result (self.new.all.items ≡ self.old.all.items) }
     {
         self.all.push(hook)?;

@@ -1,5 +1,8 @@
 -- Where a list is cut at a byte.
-use Rattle.std.proofs.Common.{◌≡◌, ℕ, ◌+◌, ◌-◌, ◌<◌, ◌==◌, Bool, true, false, cond, List, [], ◌∷◌, ◌++◌, length, get_or, take, drop, Option, Some, None, refl, sym, ap, ◌∙◌, arith, length-drop, ◌≢◌, subst}
+use Rattle.std.proofs.Common.{◌≡◌, ℕ, ◌+◌, ◌-◌, ◌<◌, ◌==◌, Bool, true, false, cond, List, [], ◌∷◌, ◌++◌, length, get_or, take, drop, Option, Some, None, refl, sym, ap, ◌∙◌, arith, length-append, length-drop, ◌≢◌, true≢false, subst}
+use Rattle.std.proofs.Math.Seq.{take-append_seam}
+use Rattle.std.proofs.lemmas.Slice.Eq.{bytes_eq-Decides}
+use Rattle.std.specs.Str.{bytes_eq}
 use Rattle.std.proofs.lemmas.List.{take_more, drop_more, take_all, take-append-drop}
 use Rattle.std.proofs.lemmas.Bool.Decides.{nat_tests}
 use Rattle.table_2da.specs.Words.{IsFree}
@@ -63,3 +66,20 @@ free_more at bytes i b inside is other free =
 
 pub cut_end : (at : ℕ) (bytes : List ℕ) (i : ℕ) → i ≡ length bytes → IsFree at (take i bytes) → cut_at at bytes ≡ None
 cut_end at bytes i end free = cut_none at bytes (subst (IsFree at) (take_all i bytes (omega arith)) free)
+
+-- ---- prefixes
+
+pub prefix_short : (line prefix rest : List ℕ) → length line < length prefix → line ≢ prefix ++ rest
+prefix_short line prefix rest short is =
+    let whole : length line ≡ length prefix + length rest = ap length is ∙ length-append prefix rest in absurd (omega (arith, whole, short))
+
+pub prefix_is : (line prefix before rest : List ℕ) (n : ℕ) → before ≡ take n line → rest ≡ drop n line → bytes_eq before prefix ≡ true
+    → line ≡ prefix ++ rest
+prefix_is line prefix before rest n front behind same =
+    sym (take-append-drop n line) ∙ ap (λ xs. xs ++ drop n line) (sym front ∙ (bytes_eq-Decides before prefix).0 same)
+    ∙ ap (λ xs. prefix ++ xs) (sym behind)
+
+pub prefix_other : (line prefix before rest : List ℕ) → before ≡ take (length prefix) line → bytes_eq before prefix ≡ false → line ≢ prefix ++ rest
+prefix_other line prefix before rest front other is =
+    let same : before ≡ prefix = front ∙ ap (take (length prefix)) is ∙ take-append_seam prefix rest
+    in true≢false (sym ((bytes_eq-Decides before prefix).1 same) ∙ other)

@@ -82,9 +82,14 @@ nothing_behind line e =
 pub nothing_there : (line rest : List ℕ) → rest ≡ behind_blanks line → length rest ≡ 0 → AreBlanks line
 nothing_there line rest is e = nothing_behind line (sym is ∙ nil_of rest e)
 
+zero_test : (n : ℕ) → n ≢ 0 → (n == 0) ≡ false
+zero_test n h = grind (arith, nat_tests)
+
 nil_test : (xs : List ℕ) (t : Bool) → t ≡ (length xs == 0) → IsTrue t ↔ (xs ≡ [])
 nil_test [] t is = (λ h. refl, λ e. is)
-nil_test (x ∷ xs) t is = (λ h. absurd (true≢false (sym h ∙ is)), λ e. absurd (nil-cons e))
+nil_test (x ∷ xs) t is =
+    let some : length (x ∷ xs) ≢ 0 = λ e. absurd (omega arith)
+    in (λ h. absurd (true≢false (sym h ∙ is ∙ zero_test (length (x ∷ xs)) some)), λ e. absurd (nil-cons e))
   where
     nil-cons : x ∷ xs ≡ [] → ⊥
     nil-cons e = cc

@@ -4,3 +4,4 @@ mod LineLemmas
 mod FrontLemmas
 mod RowLemmas
 mod TableLemmas
+mod Worked

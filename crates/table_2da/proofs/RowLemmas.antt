@@ -1,5 +1,5 @@
 -- What the words of a line say, and what lines add to the rows.
-use Rattle.std.proofs.Common.{◌≡◌, ◌≢◌, ℕ, ◌+◌, ◌<◌, ◌≤◌, ◌⊎◌, inl, inr, length, Bool, true, false, not, ◌&&◌, true≢false, List, [], ◌∷◌, ◌++◌, map, Option, Some, None, Result, Ok, Err, refl, sym, ap, ◌∙◌, subst, arith, append_assoc}
+use Rattle.std.proofs.Common.{◌≡◌, ◌≢◌, ℕ, ◌+◌, ◌<◌, ◌≤◌, ◌⊎◌, inl, inr, length, Bool, true, false, not, ◌&&◌, true≢false, List, [], ◌∷◌, ◌++◌, map, Option, Some, None, Result, Ok, Err, IfOk, refl, sym, ap, ◌∙◌, subst, arith, append_assoc}
 use Rattle.std.specs.List.{list_any}
 use Rattle.table_2da.specs.declared.words.Part.{Part}
 use Rattle.table_2da.specs.declared.words.Part.TheVariants.{Columns, Row}
@@ -7,6 +7,7 @@ use Rattle.table_2da.specs.Words.{AreBlanks, PlainWord, BeginsWith, Words, none,
 use Rattle.table_2da.specs.Fronts.{IsOpen}
 use Rattle.table_2da.specs.Grammar.{AddsCells, Adds, nothing, row, row_limit, are_distinct, are_columns, IsColumns}
 use Rattle.table_2da.specs.Look.{same_name}
+use Rattle.table_2da.specs.Steps.{Took}
 use Rattle.table_2da.proofs.FrontLemmas.{blanks_begin, open_begins, open_blanks, one_front}
 
 -- ---- words so far
@@ -131,3 +132,10 @@ cells_too_many width rows after line cells says (inl wide) adds =
     let same : length cells ≡ length adds.cells = ap length (one_saying Row line cells adds.cells says adds.says) in
     let few = adds.few in absurd (omega (arith, same, few, wide))
 cells_too_many width rows after line cells says (inr full) adds = let room = adds.room in absurd (omega (arith, room, full))
+
+-- what could be done with the cells behind a row's first word could be done with its line
+pub row_took : {E : Type 0} (width : ℕ) (rows new : List (List (List ℕ))) (line rest : List ℕ) (word : PlainWord) (r : Result Bool E)
+    → BeginsWith line word rest → IfOk r (λ took. Took (AddsCells width rows rest) took new) → IfOk r (λ took. Took (Adds width rows line) took new)
+row_took width rows new line rest word (Ok true) begins took = row line rest word new begins took
+row_took width rows new line rest word (Ok false) begins took = λ after adds. adds_none width rows after line rest word begins took adds
+row_took width rows new line rest word (Err e) begins took = tt

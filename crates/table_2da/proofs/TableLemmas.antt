@@ -1,10 +1,11 @@
 -- Going on by lines, the first three lines, and that a file gives one thing.
-use Rattle.std.proofs.Common.{◌≡◌, ◌≢◌, ℕ, ◌+◌, ◌<◌, ◌⊎◌, inl, inr, length, Bool, true, false, List, [], ◌∷◌, ◌++◌, Option, Some, None, Result, Ok, Err, IfOk, IfErr, refl, sym, ap, ◌∙◌, subst, arith}
+use Rattle.std.proofs.Common.{◌≡◌, ◌≢◌, ℕ, ◌+◌, ◌<◌, ◌⊎◌, inl, inr, length, drop, codes, IsTrue, ◌↔◌, MatchBool, true≢false, Bool, true, false, List, [], ◌∷◌, ◌++◌, Option, Some, None, Result, Ok, Err, IfOk, IfErr, refl, sym, ap, ◌∙◌, subst, arith}
 use Rattle.std.proofs.lemmas.Option.{none-some}
 use Rattle.table_2da.specs.declared.fault.TableFault.{TableFault}
 use Rattle.table_2da.specs.declared.fault.TableFault.TheVariants.{Line as BadLine, NoMemory}
 use Rattle.table_2da.specs.declared.words.Part.TheVariants.{Columns}
 use Rattle.table_2da.specs.Table.{PlainTable}
+use Rattle.table_2da.specs.Words.{AreBlanks}
 use Rattle.table_2da.specs.Grammar.{Lines, none, Adds, Baffles, Follow, whole, goes, stops, IsHeading, IsSecond, IsColumns, HasColumns, Begins, with_columns, Gives, headless, no_second, no_columns, headed, GivesOf, HasTable, IsFaulty, OneTable}
 use Rattle.table_2da.specs.Steps.{first_line, GoesOn, ReadsOn, StopsAt, ThirdOn, SecondOn, Comes}
 use Rattle.table_2da.proofs.LineLemmas.{first_some, all_lines, one_lines, no_first}
@@ -24,6 +25,26 @@ pub goes_stop : (width n : ℕ) (rows : List (List (List ℕ))) (bytes line rest
     → GoesOn width n rows bytes (Err n)
 goes_stop width n rows bytes line rest e baffles =
     let lines = all_lines rest in (line ∷ lines.0, (first_some bytes line rest e).0 lines.0 lines.1, stops n rows line lines.0 baffles)
+
+-- ---- headings and defaults
+
+pub heading_by : (line rest : List ℕ) (t : Bool) → line ≡ codes "2DA V2.0" ++ rest → IsTrue t ↔ AreBlanks rest
+    → MatchBool t (IsHeading line) (IsHeading line → ⊥)
+heading_by line rest true is test = record { blanks = rest; blank = test.0 refl; is = is }
+heading_by line rest false is test = λ h.
+    let same : rest ≡ h.blanks = ap (drop 8) (sym is ∙ h.is) in true≢false (sym (test.1 (subst AreBlanks (sym same) h.blank)))
+
+pub no_heading : (line : List ℕ) → ((rest : List ℕ) → line ≢ codes "2DA V2.0" ++ rest) → IsHeading line → ⊥
+no_heading line other h = other h.blanks h.is
+
+pub second_by : (line : List ℕ) (t : Bool) → ((rest : List ℕ) → line ≢ codes "DEFAULT:" ++ rest) → IsTrue t ↔ AreBlanks line
+    → MatchBool t (IsSecond line) (IsSecond line → ⊥)
+second_by line true other test = inl (test.0 refl)
+second_by line false other test = λ s. neither s
+  where
+    neither : IsSecond line → ⊥
+    neither (inl blank) = true≢false (sym (test.1 blank))
+    neither (inr h) = other h.0 h.1
 
 -- ---- the third line
 

@@ -1,4 +1,4 @@
-ghost use Rattle.std.specs.Prelude.{◌≡◌};
+ghost use Rattle.std.specs.Prelude.{◌≡◌, ◌≢◌, ◌++◌, List, ℕ, MatchOption};
 ghost use Rattle.std.specs.Option.{option_map};
 ghost use Rattle.table_2da.specs.Grammar.{without_return};
 ghost use Rattle.table_2da.specs.Steps.{cut_at, first_line};
@@ -39,4 +39,19 @@ pub(crate) fn line_at(bytes: &[u8]) -> Option<(&[u8], &[u8])>
         None => Some((bytes, &bytes[bytes.len()..])),
         Some((line, rest)) => Some((trimmed(line), rest)),
     }
+}
+
+/// What follows a prefix of a line, where it has that prefix.
+pub(crate) fn behind_prefix<'a>(line: &'a [u8], prefix: &[u8]) -> Option<&'a [u8]>
+    ensures rest { MatchOption result ((rest : List ℕ) → line.now ≢ prefix.now ++ rest)
+        (λ rest. line.now ≡ prefix.now ++ rest.now) }
+{
+    if line.len() < prefix.len() {
+        return None;
+    }
+    let (before, rest) = line.split_at(prefix.len());
+    if before == prefix {
+        return Some(rest);
+    }
+    None
 }

@@ -6,7 +6,7 @@ ghost use Rattle.table_2da.specs.Look.{same_name};
 ghost use Rattle.table_2da.specs.Steps.{Comes, Found, ReadsOn, SecondOn, StopsAt, ThirdOn, Took};
 
 use crate::fault::TableFault;
-use crate::lines::line_at;
+use crate::lines::{behind_prefix, line_at};
 use crate::table::{Bytes, Cells, Rows, Table2, same_name};
 use crate::words::{Front, Part, are_blanks, front_of, texts};
 use nwq_value::NoMemory;
@@ -22,7 +22,7 @@ const MOST_ROWS: usize = 65_536;
 fn is_heading(line: &[u8]) -> bool
     ensures heading { MatchBool result (IsHeading line.now) (IsHeading line.now → ⊥) }
 {
-    match line.strip_prefix(b"2DA V2.0".as_slice()) {
+    match behind_prefix(line, b"2DA V2.0") {
         Some(rest) => are_blanks(rest),
         None => false,
     }
@@ -32,7 +32,10 @@ fn is_heading(line: &[u8]) -> bool
 fn is_second(line: &[u8]) -> bool
     ensures second { MatchBool result (IsSecond line.now) (IsSecond line.now → ⊥) }
 {
-    line.starts_with(b"DEFAULT:".as_slice()) || are_blanks(line)
+    match behind_prefix(line, b"DEFAULT:") {
+        Some(_) => true,
+        None => are_blanks(line),
+    }
 }
 
 /// Whether a column has this name.
@@ -81,7 +84,6 @@ fn columns_of(alloc: Global, line: &[u8]) -> Result<Option<Cells>, NoMemory>
     }
 }
 
-#[tactic(auto, using(crate::proofs::RowLemmas::cells_unsaid, crate::proofs::RowLemmas::cells_too_many))]
 /// Adds the cells of a row, or answers that they can't be added.
 fn add_cells(alloc: Global, rows: &mut Rows, width: usize, line: &[u8]) -> Result<bool, NoMemory>
     ensures took { IfOk result (λ took. Took (AddsCells width rows.old line.now) took rows.new) }
@@ -98,7 +100,7 @@ fn add_cells(alloc: Global, rows: &mut Rows, width: usize, line: &[u8]) -> Resul
     }
 }
 
-#[tactic(auto, using(crate::proofs::RowLemmas::adds_none, crate::proofs::RowLemmas::open_adds))]
+#[tactic(auto, using(crate::proofs::RowLemmas::open_adds))]
 /// Adds what a line behind the third adds, or answers that it breaks a rule.
 fn add_row(alloc: Global, rows: &mut Rows, width: usize, line: &[u8]) -> Result<bool, NoMemory>
     ensures took { IfOk result (λ took. Took (Adds width rows.old line.now) took rows.new) }

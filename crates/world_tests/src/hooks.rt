@@ -93,7 +93,6 @@ fn parts_of_strings(rt: HostRuntime) -> Result<(), Fail> {
     Ok(())
 }
 
-/// The hook of a closure for `abs`.
 #[test]
 fn a_hook_calls_its_closure(rt: HostRuntime) -> Result<(), Fail> {
     let alloc = rt.alloc();
@@ -101,9 +100,7 @@ fn a_hook_calls_its_closure(rt: HostRuntime) -> Result<(), Fail> {
         alloc,
         move |args: &Args| -> Result<Value, NoMemory>
             ensures { IfOk result (λ v. IsAnswer [] (codes "abs") IntTy args.now v) }
-        {
-            pure_call(alloc, 0, args)
-        },
+        { pure_call(alloc, 0, args) },
     )?;
     let name = Text::of(alloc, b"abs")?;
     let params = Tys::of_slice(alloc, &[Ty::Int])?;
@@ -113,5 +110,55 @@ fn a_hook_calls_its_closure(rt: HostRuntime) -> Result<(), Fail> {
     assert_eq!(rt; hooks.find(b"Abs"), None);
     let args = ints(alloc, -3)?;
     assert!(rt; hooks.call(0, &args)?.same(&Value::Int(3)));
+    Ok(())
+}
+
+/// Tables with one table `x`, or none where there is no memory for it.
+fn tables(alloc: Global) -> Result<Tables, NoMemory> {
+    let name = Text::of(alloc, b"x")?;
+    let mut tables = Tables::new(alloc);
+    match read_table(alloc, b"2DA V2.0\n\n LABEL COST\n0 Sword 10\n") {
+        Ok(table) => tables.push(name, table)?,
+        Err(_) => return Err(NoMemory),
+    }
+    Ok(tables)
+}
+
+#[test]
+fn a_hook_looks_cells_up(rt: HostRuntime) -> Result<(), Fail> {
+    let alloc = rt.alloc();
+    let tables = tables(alloc)?;
+    let own = tables.copy(alloc)?;
+    let call: Call = Box::new(
+        alloc,
+        move |args: &Args| -> Result<Value, NoMemory>
+            ensures { IfOk result
+                (λ v. IsAnswer own (codes "Get2DAString") TextTy args.now v) }
+        { cell_call(alloc, &own, args) },
+    )?;
+    let name = Text::of(alloc, b"Get2DAString")?;
+    let params = Tys::of_slice(alloc, &[Ty::Text, Ty::Text, Ty::Int])?;
+    let hook = Hook::new(name, params, Ty::Text, call, tables);
+    let args = texts_and(alloc, b"X", b"Cost", 0)?;
+    assert!(rt;
+        hook.answer(&args)?
+            .same(&Value::Text(Text::of(alloc, b"10")?))
+    );
+    Ok(())
+}
+
+#[test]
+fn a_hook_may_refuse(rt: HostRuntime) -> Result<(), Fail> {
+    let alloc = rt.alloc();
+    let call: Call = Box::new(
+        alloc,
+        |_args: &Args| -> Result<Value, NoMemory>
+            ensures { IfOk result (λ _. ⊥) }
+        { Err(NoMemory) },
+    )?;
+    let name = Text::of(alloc, b"abs")?;
+    let params = Tys::of_slice(alloc, &[Ty::Int])?;
+    let hook = Hook::new(name, params, Ty::Int, call, Tables::new(alloc));
+    assert!(rt; hook.answer(&ints(alloc, 1)?).is_err());
     Ok(())
 }

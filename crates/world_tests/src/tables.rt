@@ -57,7 +57,10 @@ fn names_of_tables_fold(rt: HostRuntime) -> Result<(), Fail> {
     let alloc = rt.alloc();
     let tables = tables_of(alloc, SWORDS)?;
     let copy = tables.copy(alloc)?;
-    assert_eq!(rt; copy.look(alloc, b"X", b"Cost", 1)?.bytes(), b"5".as_slice());
+    assert_eq!(rt;
+        copy.look(alloc, b"X", b"Cost", 1)?.bytes(),
+        b"5".as_slice()
+    );
     assert_eq!(rt; copy.look(alloc, b"y", b"COST", 0)?.bytes(), b"".as_slice());
     Ok(())
 }
