@@ -1,20 +1,20 @@
 -- The standard functions are the header's, and standard hooks serve its routines.
-use Rattle.std.proofs.Common.{◌≡◌, ◌≢◌, ℕ, zero, suc, ◌+◌, ◌<◌, ◌≤◌, List, [], ◌∷◌, ◌++◌, length, length-append, map, take, drop, Option, Some, None, refl, sym, ap, subst, ◌∙◌, arith}
+use Rattle.std.proofs.Common.{◌≡◌, ℕ, zero, suc, ◌+◌, List, [], ◌∷◌, ◌++◌, length, length-append, map, take, drop, Option, Some, None, refl, sym, ap, subst, ◌∙◌, arith}
 use Rattle.std.proofs.lemmas.Option.{none-some}
 use Rattle.std.specs.List.{slice_get}
 use Rattle.std.specs.Option.{option_map}
 use Rattle.nwq_value.specs.Header.{header_routines}
 use Rattle.nwq_value.specs.Roles.{Signature, header_signatures}
 use Rattle.nwq_value.specs.declared.engine.Role.{Role}
-use Rattle.nwq_value.specs.declared.engine.Role.TheVariants.{Pure, Built, World, Uncallable}
+use Rattle.nwq_value.specs.declared.engine.Role.TheVariants.{Pure}
 use Rattle.nwq_value.specs.declared.value.Ty.{Ty}
 use Rattle.nwq_value.specs.declared.value.Ty.TheVariants.{Void}
 use Rattle.nwq_value.specs.declared.value.Value.{Value}
 use Rattle.engine_rows.specs.Pure.{CellLookup, pure}
 use Rattle.table_2da.specs.Look.{cell_of}
 use Rattle.table_2da.specs.declared.tables.Named.{Named}
-use Rattle.hook_table.specs.Standard.{Function, standard, function_numbered, cell_function, number_named, pure_numbered, IsAnswer}
-use Rattle.hook_table.specs.Served.{StandsFor, BeginWith, AreStandard, AreFirst, AreTheHeaders, Serves, StandardServe, FirstGrow, LastCompletes}
+use Rattle.hook_table.specs.Standard.{Function, standard, function_numbered, number_named, pure_numbered}
+use Rattle.hook_table.specs.Served.{StandsFor, BeginWith, AreTheHeaders, StandardServe, FirstGrow, LastCompletes}
 use Rattle.hook_table.specs.declared.hook.Known.{Known}
 
 -- ---- the header's rows

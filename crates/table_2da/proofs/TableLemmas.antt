@@ -1,6 +1,5 @@
 -- Going on by lines, the first three lines, and that a file gives one thing.
-use Rattle.std.proofs.Common.{◌≡◌, ◌≢◌, ℕ, ◌+◌, ◌<◌, ◌⊎◌, inl, inr, length, drop, codes, IsTrue, ◌↔◌, MatchBool, true≢false, Bool, true, false, List, [], ◌∷◌, ◌++◌, Option, Some, None, Result, Ok, Err, IfOk, IfErr, refl, sym, ap, ◌∙◌, subst, arith}
-use Rattle.std.proofs.lemmas.Option.{none-some}
+use Rattle.std.proofs.Common.{◌≡◌, ◌≢◌, ℕ, ◌+◌, ◌⊎◌, inl, inr, length, drop, codes, IsTrue, ◌↔◌, MatchBool, true≢false, Bool, true, false, List, [], ◌∷◌, ◌++◌, Some, None, Result, Ok, Err, IfOk, IfErr, refl, sym, ap, ◌∙◌, subst}
 use Rattle.table_2da.specs.declared.fault.TableFault.{TableFault}
 use Rattle.table_2da.specs.declared.fault.TableFault.TheVariants.{Line as BadLine, NoMemory}
 use Rattle.table_2da.specs.declared.words.Part.TheVariants.{Columns}

@@ -1,5 +1,5 @@
 -- What single steps of the reading answer.
-use Rattle.std.specs.Prelude.{◌≡◌, ℕ, Bool, true, false, if◌then◌else◌, List, [], ◌∷◌, ◌++◌, ◌==◌, length, take, drop, Option, None, Some, MatchOption, Result, Ok, Err}
+use Rattle.std.specs.Prelude.{ℕ, Bool, true, false, if◌then◌else◌, List, [], ◌∷◌, ◌==◌, Option, None, Some, MatchOption, Result, Ok, Err}
 use Rattle.std.specs.Option.{option_map}
 use Rattle.table_2da.specs.declared.fault.TableFault.{TableFault}
 use Rattle.table_2da.specs.declared.fault.TableFault.TheVariants.{Line, NoMemory}

@@ -1,4 +1,3 @@
-use Rattle.std.proofs.Common.{inr}
 use Rattle.table_2da.proofs.TableLemmas.{second_by}
 use Rattle.table_2da.proofs.read.is_second.Goals as goal
 

@@ -1,4 +1,4 @@
-use Rattle.std.proofs.Common.{length, Ok, sym, subst}
+use Rattle.std.proofs.Common.{Ok, sym, subst}
 use Rattle.table_2da.specs.Grammar.{IsColumns}
 use Rattle.table_2da.specs.Steps.{Found, StopsAt, ReadsOn, ThirdOn}
 use Rattle.table_2da.proofs.TableLemmas.{third_rows, third_fault}

@@ -1,4 +1,4 @@
-use Rattle.std.proofs.Common.{◌≡◌, ◌==◌, length, ap, ◌∙◌}
+use Rattle.std.proofs.Common.{◌==◌, length, ap, ◌∙◌}
 use Rattle.table_2da.proofs.FrontLemmas.{blanks_test}
 use Rattle.table_2da.proofs.words.are_blanks.Goals as goal
 
