@@ -1,6 +1,7 @@
 -- The calls of routines by their roles.
 use Rattle.std.proofs.Common.{◌≡◌, ◌≢◌, ◌<◌, ◌+◌, ℕ, zero, suc, Bool, true, false, not, List, [], ◌∷◌, ◌++◌, map, length, get_or, take, Option, None, Some, slice_get, refl, sym, ap, subst, ◌∙◌, arith, append_assoc}
 use Rattle.std.specs.Prelude.{◌||◌, ◌&&◌, if◌then◌else◌}
+use Rattle.std.specs.Option.{IfSome}
 use Rattle.std.specs.List.{list_any, list_all}
 use Rattle.std.proofs.lemmas.List.{take_more}
 use Rattle.std.proofs.lemmas.Bool.{false≢true, and_parts}
@@ -16,14 +17,12 @@ use Rattle.nwq_value.specs.declared.value.Ty.{Ty}
 use Rattle.nwq_value.specs.declared.value.Value.{Value}
 use Rattle.nwq_value.specs.declared.value.Value.TheVariants.{Int, Text, Object, Effect, Event}
 use Rattle.stack_shape.specs.Calls.{argument_types, is_action}
-use Rattle.hook_table.specs.declared.hook.Hook.{Hook}
 use Rattle.hook_table.specs.declared.hook.Known.{Known}
-use Rattle.hook_table.specs.declared.hooks.Hooks.{Hooks}
 use Rattle.hook_table.specs.Standard.{types_of, IsAnswer}
 use Rattle.hook_table.specs.Served.{Serves, StandardServe}
 use Rattle.engine_rows.specs.Arguments.{ints_of}
 use Rattle.engine_rows.specs.Pure.{pure}
-use Rattle.world_core.specs.Calls.{known_of, tables_of, cells_of, AreServing}
+use Rattle.world_core.specs.Calls.{tables_of, cells_of, AreServing}
 
 -- ---- the ints among arguments
 
@@ -57,7 +56,7 @@ all_fit : list_all fits header_signatures ≡ true
 unfolding header_routines fits is_pure
 all_fit = refl
 
-at_place : {A : Type 0} → (test : A → Bool) (xs : List A) (n : ℕ) (x : A) → list_all test xs ≡ true → slice_get xs n ≡ Some x → test x ≡ true
+pub at_place : {A : Type 0} → (test : A → Bool) (xs : List A) (n : ℕ) (x : A) → list_all test xs ≡ true → slice_get xs n ≡ Some x → test x ≡ true
 at_place test [] n x all is = absurd (none-some x is)
 at_place test (y ∷ xs) zero x all is = ap test (sym (same_Some y x is)) ∙ (and_parts (test y) (list_all test xs) all).0
 at_place test (y ∷ xs) (suc n) x all is = at_place test xs n x (and_parts (test y) (list_all test xs) all).1 is
@@ -75,7 +74,7 @@ arguments_if : (b : Bool) (t : Ty) (rest all : List Ty) → rest ≡ all → b �
 arguments_if true t rest all same is = absurd (false≢true (sym is))
 arguments_if false t rest all same is = ap (λ (ts : List Ty). t ∷ ts) same
 
-or_false : (a b : Bool) → (a || b) ≡ false → (a ≡ false) × (b ≡ false)
+pub or_false : (a b : Bool) → (a || b) ≡ false → (a ≡ false) × (b ≡ false)
 or_false true b is = absurd (false≢true (sym is))
 or_false false b is = (refl, is)
 
@@ -91,17 +90,18 @@ mapped_at f (x ∷ xs) zero y is = (x, refl, same_Some (f x) y is)
 mapped_at f (x ∷ xs) (suc n) y is = mapped_at f xs n y is
 
 -- the hook that serves a pure routine
-pub record IsServed (hooks : Hooks) (k : ℕ) (args : List Value) : Type 0 where
-  pub hook : Hook
-  pub there : slice_get hooks.all.items k ≡ Some hook
-  pub types : types_of args ≡ hook.known.params
-  pub answers : (v : Value) → IsAnswer hook.known.tables hook.known.name hook.known.result args v → pure (cells_of hooks) k args ≡ Some v
+pub record IsServed {H : Type 0} (known : H → Known) (hooks : List H) (k : ℕ) (args : List Value) : Type 0 where
+  pub hook : H
+  pub there : slice_get hooks k ≡ Some hook
+  pub types : types_of args ≡ (known hook).params
+  pub answers : (v : Value) → IsAnswer (known hook).tables (known hook).name (known hook).result args v → pure (cells_of (map known hooks)) k args ≡ Some v
 
-pub served : (hooks : Hooks) (k : ℕ) (r : Routine) (args : List Value) → PureAsHeader → StandardServe → AreServing hooks → IsRoutine r → r.role ≡ role.Pure k → types_of args ≡ argument_types r.params → IsServed hooks k args
-served hooks k r args header serve serving is pure types =
-    let row = header r.name r.result (parameter_types r.params) k (sym is.role ∙ pure) in
-    let s = serve (known_of hooks) (tables_of (known_of hooks)) k r.name r.result (parameter_types r.params) serving row in
-    let m = mapped_at (λ (h : Hook). h.known) hooks.all.items k s.0 s.1 in
+pub served : {H : Type 0} → (hooks : List H) (known : H → Known) (k : ℕ) (r : Routine) (args : List Value) → PureAsHeader → StandardServe → AreServing (map known hooks) → IsRoutine r → r.role ≡ role.Pure k →
+    types_of args ≡ argument_types r.params → IsServed known hooks k args
+served hooks known k r args header serve serving is own types =
+    let row = header r.name r.result (parameter_types r.params) k (sym is.role ∙ own) in
+    let s = serve (map known hooks) (tables_of (map known hooks)) k r.name r.result (parameter_types r.params) serving row in
+    let m = mapped_at known hooks k s.0 s.1 in
     let plain = all_arguments r.params (takes_none (28 + k) k (record { name = r.name; gives = r.result; takes = parameter_types r.params; role = Some (role.Pure k) }) row refl) in
     record {
       hook = m.0;
@@ -109,3 +109,15 @@ served hooks k r args header serve serving is pure types =
       types = types ∙ (plain ∙ (sym s.2.params ∙ ap (λ (h : Known). h.params) (sym m.2)));
       answers = λ v is. s.2.answers args v (subst (λ (h : Known). IsAnswer h.tables h.name h.result args v) m.2 is);
     }
+
+pub inside : {A : Type 0} → (xs : List A) (n : ℕ) (x : A) → slice_get xs n ≡ Some x → n < length xs
+inside [] n x is = absurd (none-some x is)
+inside (y ∷ xs) zero x is = omega arith
+inside (y ∷ xs) (suc n) x is = omega (arith, inside xs n x is)
+
+pub of_some : {A : Type 0} → (P : A → Type 0) (o : Option A) (x : A) → o ≡ Some x → IfSome o P → P x
+of_some P None x is holds = absurd (none-some x is)
+of_some P (Some y) x is holds = subst P (same_Some y x is) holds
+
+pub for_some : {A : Type 0} → (P : A → Type 0) (o : Option A) (x y : A) → o ≡ Some x → o ≡ Some y → P x → P y
+for_some P o x y is other holds = subst P (same_Some x y (sym is ∙ other)) holds

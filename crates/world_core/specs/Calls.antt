@@ -1,7 +1,6 @@
 -- What the calls on a world speak of beside the definitions of engine_rows.
-use Rattle.std.specs.Prelude.{◌≡◌, ◌<◌, ◌^◌, ℕ, List, [], ◌∷◌, Option, None, Some, map, slice_get}
+use Rattle.std.specs.Prelude.{◌≡◌, ◌<◌, ◌^◌, ℕ, List, [], ◌∷◌, Option, None, Some, slice_get}
 use Rattle.hook_table.specs.declared.hook.Known.{Known}
-use Rattle.hook_table.specs.declared.hooks.Hooks.{Hooks}
 use Rattle.hook_table.specs.Served.{AreStandard}
 use Rattle.hook_table.specs.Standard.{cell_function, types_of}
 use Rattle.nwq_value.specs.Engine.{EngineTable}
@@ -22,9 +21,6 @@ planned s = record { due = s.due; object = s.object; script = s.script }
 
 -- ---- hooks
 
-abbrev pub known_of : Hooks → List Known
-known_of hooks = map (λ h. h.known) hooks.all.items
-
 abbrev pub tables_of_hook : Option Known → List Named
 tables_of_hook None = []
 tables_of_hook (Some h) = h.tables
@@ -33,12 +29,12 @@ tables_of_hook (Some h) = h.tables
 abbrev pub tables_of : List Known → List Named
 tables_of hooks = tables_of_hook (slice_get hooks cell_function)
 
-abbrev pub cells_of : Hooks → CellLookup
-cells_of hooks = cell_of (tables_of (known_of hooks))
+abbrev pub cells_of : List Known → CellLookup
+cells_of hooks = cell_of (tables_of hooks)
 
 -- the hooks begin with the standard ones, whatever tables they have
-abbrev pub AreServing : Hooks → Type 0
-AreServing hooks = AreStandard (known_of hooks) (tables_of (known_of hooks))
+abbrev pub AreServing : List Known → Type 0
+AreServing hooks = AreStandard hooks (tables_of hooks)
 
 -- the arguments of a call that are values have the types of the routine's parameters, first to last
 abbrev pub FitArguments : EngineTable → ℕ → List Value → Type 0

@@ -17,7 +17,8 @@ ghost use Rattle.world_core.specs.Calls.{cells_of, AreServing, IsEarly};
 ghost use Rattle.world_rows.specs.Row.{does};
 
 use engine_rows::Told;
-use hook_table::{Hooks, standard_hooks_serve};
+use hook_table::Hooks;
+use hook_table::laws::standard_hooks_serve;
 use nwq_value::header::roles_tell;
 use nwq_value::{Args, Effect, Ints, NoMemory, Role, Routine, Text, Ty, Value};
 use std::alloc::Global;
@@ -139,11 +140,12 @@ fn pure_call(
     routine: &Routine,
     args: &Args,
 ) -> Result<Option<Value>, NoMemory>
-    requires hooks { AreServing hooks.now }
+    requires hooks { AreServing (map (λ h. h.known) hooks.now.all.items) }
     requires routine { IsRoutine routine.now }
     requires role { routine.now.role ≡ role.Pure k }
     requires types { types_of args.now ≡ argument_types routine.now.params }
-    ensures value { IfOk result (λ value. value ≡ pure (cells_of hooks.now) k args.now) }
+    ensures value { IfOk result
+        (λ value. value ≡ pure (cells_of (map (λ h. h.known) hooks.now.all.items)) k args.now) }
 {
     roles_tell();
     standard_hooks_serve();
@@ -196,6 +198,7 @@ pub(crate) fn take_room<X: Drop>(parts: &mut Parts<X>, room: u32) -> Result<(), 
 }
 
 /// A call of a routine by its role.
+#[tactic(auto, unfolding(world_rows::specs::Row::does))]
 pub(crate) fn by_role<X: Drop>(
     parts: &mut Parts<X>,
     room: u32,
@@ -211,12 +214,12 @@ pub(crate) fn by_role<X: Drop>(
     requires caller { caller ≤ count parts.old.world }
     requires room { room ≤ parts.old.posts }
     requires small { room ≤ 1 }
-    requires hooks { AreServing hooks.now }
+    requires hooks { AreServing (map (λ h. h.known) hooks.now.all.items) }
     requires routine { IsRoutine routine.now }
     requires types { types_of args ≡ argument_types routine.now.params }
     ensures ok { IfOk result (λ value. record { value = value; world = parts.new.world }
-        ≡ by_role (cells_of hooks.now) number routine.now routine.now.role
-            (call caller args action) parts.old.world) }
+        ≡ by_role (cells_of (map (λ h. h.known) hooks.now.all.items)) number routine.now
+        routine.now.role (call caller args action) parts.old.world) }
     ensures err { OnErr result (parts.new.world ≡ parts.old.world) }
     ensures posts { room ≤ parts.new.posts }
 {
