@@ -1,0 +1,7 @@
+mod TreeLemmas
+mod CodeLemmas
+mod AssemblyLemmas
+mod OneTree
+mod OneCode
+mod OneAssembly
+mod Steps
