@@ -9,7 +9,8 @@ use Rattle.nwq_work.specs.declared.flaw.CodeFlaw.TheVariants as code
 use Rattle.nwq_work.specs.declared.flaw.AreaFlaw.TheVariants as area
 use Rattle.nwq_work.specs.Refusal.{line_of, Absent, TooLong, At, BadCode, BadArea}
 use Rattle.nwq_sums.specs.Meaning.{prints_of}
-use Rattle.nwq_top.specs.Texts.{trace_text, end_text, disassembled_line, assembled_line}
+use Rattle.nwq_files.specs.Texts.{disassembled_line, assembled_line}
+use Rattle.nwq_top.specs.Texts.{trace_text, end_text}
 use Rattle.nwq_top.specs.Words.{form_of, Run, Tree, Disassemble, Assemble, NoForm}
 
 -- texts

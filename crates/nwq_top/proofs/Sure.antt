@@ -1,14 +1,8 @@
 -- The work of each form of words has one outcome.
-use Rattle.std.proofs.Common.{◌++◌, ℕ, List, length}
+use Rattle.std.proofs.Common.{◌++◌, ℕ, List}
 use Rattle.nwq_value.specs.Engine.{EngineTable}
-use Rattle.nwq_work.specs.Outcomes.{IsSure, agree, prefixes, sure_then, sure_puts, sure_writes}
-use Rattle.nwq_work.specs.Work.{puts, writes}
-use Rattle.gff_text.specs.Text.{tree_text}
-use Rattle.ncs_text.specs.Listing.{listing}
-use Rattle.nwq_files.specs.Trees.{tree_named}
-use Rattle.nwq_files.specs.Codes.{code_named}
-use Rattle.nwq_files.specs.Assemblies.{assembly_named}
-use Rattle.nwq_files.specs.Laws.{SureTrees, SureCodes, SureAssemblies}
+use Rattle.nwq_work.specs.Outcomes.{IsSure, agree, prefixes, sure_then, sure_puts}
+use Rattle.nwq_files.specs.Laws.{SureCommands}
 use Rattle.nwq_sources.specs.Headers.{table_of}
 use Rattle.nwq_sources.specs.Units.{PlainScript, unit_of}
 use Rattle.nwq_sources.specs.Laws.{SureTables, SureUnits}
@@ -18,12 +12,12 @@ use Rattle.nwq_sums.specs.Symbols.{symbols}
 use Rattle.nwq_sums.specs.Meaning.{prints_of}
 use Rattle.nwq_sums.specs.Emission.{code_of}
 use Rattle.nwq_sums.specs.Laws.{OneBuilding, OneRun}
-use Rattle.nwq_top.specs.Texts.{trace_text, end_text, disassembled_line, assembled_line}
+use Rattle.nwq_top.specs.Texts.{trace_text, end_text}
 use Rattle.nwq_top.specs.Words.{Form, Run, Tree, Disassemble, Assemble, NoForm}
-use Rattle.nwq_top.specs.Command.{plays, play_by, play_of, runs_under, runs, puts_tree, shows_tree, writes_and_puts, writes_listing, disassembles, writes_assembly, assembles, work_of}
+use Rattle.nwq_top.specs.Command.{plays, play_by, play_of, runs_under, runs, work_of}
 use Rattle.nwq_top.specs.Laws.{OneOutcome, Prefixes}
 
-module _ (tables : SureTables) (units : SureUnits) (built : OneBuilding) (run : OneRun) (trees : SureTrees) (codes : SureCodes) (assemblies : SureAssemblies) where
+module _ (tables : SureTables) (units : SureUnits) (built : OneBuilding) (run : OneRun) (files : SureCommands) where
   sure_plays : (printer : ℕ) (sums : List (List ℕ)) → IsSure (plays printer sums)
   unfolding plays
   sure_plays printer sums = (
@@ -47,29 +41,11 @@ module _ (tables : SureTables) (units : SureUnits) (built : OneBuilding) (run : 
   unfolding runs
   sure_runs header script = sure_then (table_of header) (runs_under script) (tables header) (sure_under script)
 
-  sure_tree : (file : List ℕ) → IsSure (shows_tree file)
-  unfolding shows_tree
-  sure_tree file = sure_then (tree_named file) puts_tree (trees file) (λ tree. sure_puts (tree_text tree))
-
-  sure_told : (name bytes line : List ℕ) → IsSure (writes_and_puts name bytes line)
-  unfolding writes_and_puts
-  sure_told name bytes line = sure_then (writes name bytes) (λ done. puts line) (sure_writes name bytes) (λ done. sure_puts line)
-
-  sure_disassembles : (file to : List ℕ) → IsSure (disassembles file to)
-  unfolding disassembles
-  sure_disassembles file to =
-      sure_then (code_named file) (writes_listing to) (codes file) (λ ops. sure_told to (listing ops) (disassembled_line to (length ops)))
-
-  sure_assembles : (file to : List ℕ) → IsSure (assembles file to)
-  unfolding assembles
-  sure_assembles file to =
-      sure_then (assembly_named file) (writes_assembly to) (assemblies file) (λ bytes. sure_told to bytes (assembled_line to (length bytes)))
-
   sure_work : (form : Form) → IsSure (work_of form)
   sure_work (Run header script) = sure_runs header script
-  sure_work (Tree file) = sure_tree file
-  sure_work (Disassemble file to) = sure_disassembles file to
-  sure_work (Assemble file to) = sure_assembles file to
+  sure_work (Tree file) = files.tree file
+  sure_work (Disassemble file to) = files.disassembled file to
+  sure_work (Assemble file to) = files.assembled file to
   sure_work NoForm = tt
 
   pub one_outcome : OneOutcome

@@ -5,9 +5,9 @@ ghost use Rattle.nwq_top.specs.Words.{form_of};
 ghost use Rattle.nwq_top.specs.Command.{work_of, MayWrite};
 ghost use Rattle.nwq_top.specs.Endings.{ComesOfResult};
 
-use crate::convert::{assemble_file, disassemble_file, show_tree};
 use crate::run::run;
 use crate::words::{Command, command_of};
+use nwq_files::{assemble_file, disassemble_file, show_tree};
 use nwq_outside::{Files, Sink};
 use nwq_work::{Status, refuse_form};
 use std::alloc::Global;

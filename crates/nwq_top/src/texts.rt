@@ -1,6 +1,5 @@
 ghost use Rattle.std.specs.Prelude.{◌≡◌, ◌++◌, codes, decimal, OnOk, IfOk};
-ghost use Rattle.nwq_text.specs.Escape.{escaped};
-ghost use Rattle.nwq_top.specs.Texts.{print_line, trace_text, end_text, done_line};
+ghost use Rattle.nwq_top.specs.Texts.{print_line, trace_text, end_text};
 
 use nwq_sums::Played;
 use nwq_text::{put_count as put_decimal, put_number, put_text};
@@ -56,18 +55,5 @@ pub fn played_text(alloc: Global, played: &Played) -> Result<Vec<u8>, NoMemory>
     let mut text = Vec::new(alloc);
     put_trace(&mut text, played.printed.as_slice())?;
     put_end(&mut text, played.count)?;
-    Ok(text)
-}
-
-/// The line that tells what was done to a file, with a number.
-pub fn done_line(alloc: Global, done: &str, name: &[u8], count: u64) -> Result<Vec<u8>, NoMemory>
-    ensures { IfOk result (λ text. text.items ≡ done_line done.now name.now count) }
-{
-    let mut text = Vec::new(alloc);
-    put_ascii(&mut text, done)?;
-    put_text(&mut text, name)?;
-    put_ascii(&mut text, " ")?;
-    put_decimal(&mut text, count)?;
-    put_ascii(&mut text, "\n")?;
     Ok(text)
 }

@@ -5,16 +5,18 @@ ghost use Rattle.nwq_outside.specs.Outside.{Contents};
 ghost use Rattle.gff_tree.specs.Whole.{plain_gff};
 ghost use Rattle.nwq_work.specs.Work.{Does, CutsShort};
 ghost use Rattle.nwq_work.specs.Counts.{Counted, Tallies, KeepsBut, StopsArea, StopsCode};
-ghost use Rattle.nwq_top.specs.Texts.{done_line};
-ghost use Rattle.nwq_top.specs.Command.{puts_tree, shows_tree, writes_and_puts};
-ghost use Rattle.nwq_top.specs.Command.{writes_listing, disassembles, writes_assembly, assembles};
+ghost use Rattle.nwq_files.specs.Texts.{done_line};
+ghost use Rattle.nwq_files.specs.Commands.{puts_tree, shows_tree, writes_and_puts};
+ghost use Rattle.nwq_files.specs.Commands.{writes_listing, disassembles, writes_assembly, assembles};
 
+use crate::assembly::read_assembly;
+use crate::code::read_code;
 use crate::texts::done_line;
+use crate::tree::read_tree;
 use gff_text::tree_text;
 use gff_tree::Gff;
 use ncs_file::Code;
 use ncs_text::disassemble;
-use nwq_files::{read_assembly, read_code, read_tree};
 use nwq_outside::{Files, Sink};
 use nwq_value::NoMemory;
 use nwq_work::{Status, put, write_file};
@@ -34,7 +36,7 @@ fn put_tree<S: Sink>(alloc: Global, tree: &Gff, out: &mut S) -> Result<(), Statu
 }
 
 /// Shows the tree of the GFF file of this name.
-#[tactic(auto, using(crate::proofs::Steps::steps), unfolding(crate::specs::Command::shows_tree))]
+#[tactic(auto, using(crate::proofs::Steps::steps), unfolding(crate::specs::Commands::shows_tree))]
 pub fn show_tree<F: Files, S: Sink>(
     alloc: Global,
     file: &str,
@@ -58,7 +60,7 @@ pub fn show_tree<F: Files, S: Sink>(
 }
 
 /// Writes a file, and puts the line that tells what was done to it, with a number.
-#[tactic(auto, using(crate::proofs::Steps::steps, nwq_work::specs::Parts::puts_does), unfolding(crate::specs::Command::writes_and_puts))]
+#[tactic(auto, using(crate::proofs::Steps::steps), unfolding(crate::specs::Commands::writes_and_puts))]
 fn write_and_put<F: Files, S: Sink>(
     alloc: Global,
     to: &str,
@@ -124,7 +126,7 @@ fn write_listing<F: Files, S: Sink>(
 }
 
 /// Writes the text of the file of bytecode of this name under another.
-#[tactic(auto, using(crate::proofs::Steps::steps), unfolding(crate::specs::Command::disassembles))]
+#[tactic(auto, using(crate::proofs::Steps::steps), unfolding(crate::specs::Commands::disassembles))]
 pub fn disassemble_file<F: Files, S: Sink>(
     alloc: Global,
     file: &str,
@@ -150,7 +152,7 @@ pub fn disassemble_file<F: Files, S: Sink>(
 }
 
 /// Writes the file of the assembler text of this name under another.
-#[tactic(auto, using(crate::proofs::Steps::steps), unfolding(crate::specs::Command::assembles))]
+#[tactic(auto, using(crate::proofs::Steps::steps), unfolding(crate::specs::Commands::assembles))]
 pub fn assemble_file<F: Files, S: Sink>(
     alloc: Global,
     file: &str,
