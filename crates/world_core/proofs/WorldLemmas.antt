@@ -12,7 +12,6 @@ use Rattle.engine_rows.specs.World.{World, count}
 use Rattle.engine_rows.specs.Rows.{Answered, Call}
 use Rattle.engine_rows.specs.Engine.{by_role, by_routine, engine}
 use Rattle.engine_rows.specs.Kept.{IsWorld, IsBegun, BeginKeeps, EngineKeeps}
-use Rattle.engine_rows.specs.Turns.{begin}
 use Rattle.world_rows.specs.Begun.{IsBegunAs}
 
 answered : {X : Type 0} → (r : Result (Option Value) NoMemory) (a : Answered X) (w v : World X) → IfOk r (λ value. record { value = value; world = v } ≡ a) → OnErr r (v ≡ w) →

@@ -68,7 +68,11 @@ fn lines(alloc: Global, w: &mut World<u32>, t: &Table) -> bool {
         && does(alloc, w, t, 4, 0, &[Int(-7)])
         && does(alloc, w, t, 5, 3, &[Object(9)])
         && does(alloc, w, t, 13, 2, &[Text(b"hi"), Int(0)])
-        && told(alloc, w, b"0 #1 print a\\n\n0 #0 print -7\n0 #3 print #9\n0 #2 speak hi\n")
+        && told(
+            alloc,
+            w,
+            b"0 #1 print a\\n\n0 #0 print -7\n0 #3 print #9\n0 #2 speak hi\n",
+        )
         && told(alloc, w, b"")
 }
 
@@ -167,7 +171,11 @@ fn effects(alloc: Global, w: &mut World<u32>, t: &Table) -> bool {
         && does(alloc, w, t, 23, 1, &[Int(2), effect, Object(2), Int(0)])
         && does(alloc, w, t, 23, 1, &[Int(3), effect, Object(2), Int(0)])
         && does(alloc, w, t, 23, 1, &[Int(2), effect, Object(9), Int(0)])
-        && told(alloc, w, b"0 #2 apply 0 25(1,8)\n0 #2 apply 1 25(1,8)\n0 #2 apply 2 25(1,8)\n")
+        && told(
+            alloc,
+            w,
+            b"0 #2 apply 0 25(1,8)\n0 #2 apply 1 25(1,8)\n0 #2 apply 2 25(1,8)\n",
+        )
         && next(w, 4) == Some((4, 1, Is::Unapply(2)))
         && told(alloc, w, b"4 #2 expire 25(1,8)\n")
 }
@@ -198,9 +206,19 @@ fn events(alloc: Global, w: &mut World<u32>, t: &Table) -> bool {
 }
 
 fn world_functions(alloc: Global, w: &mut World<u32>, t: &Table) -> bool {
-    gives(alloc, w, t, 25, &[Int(3), Int(8), Int(-1)], &Effect(25, &[3, 8, -1]))
-        && does(alloc, w, t, 27, 2, &[Int(1), Object(3)])
-        && told(alloc, w, b"0 #1 call EffectDamage(3,8,-1)\n0 #2 call SetCommandable(1,#3)\n")
+    gives(
+        alloc,
+        w,
+        t,
+        25,
+        &[Int(3), Int(8), Int(-1)],
+        &Effect(25, &[3, 8, -1]),
+    ) && does(alloc, w, t, 27, 2, &[Int(1), Object(3)])
+        && told(
+            alloc,
+            w,
+            b"0 #1 call EffectDamage(3,8,-1)\n0 #2 call SetCommandable(1,#3)\n",
+        )
 }
 
 fn ends(alloc: Global, w: &mut World<u32>) -> bool {
@@ -210,7 +228,11 @@ fn ends(alloc: Global, w: &mut World<u32>) -> bool {
     w.no_script(0, &name).is_ok()
         && w.deep(2, &name).is_ok()
         && w.fault(3).is_ok()
-        && told(alloc, w, b"0 #0 noscript a b\n0 #2 deep a b\n0 #3 fault divide\n")
+        && told(
+            alloc,
+            w,
+            b"0 #0 noscript a b\n0 #2 deep a b\n0 #3 fault divide\n",
+        )
         && w.may_run(0, 3)
         && w.may_run(9, 9)
         && !w.may_run(0, 4)
