@@ -1,5 +1,5 @@
 -- What is in sight as the definitions have it, and what is left of it when a scope ends.
-use Rattle.std.specs.Prelude.{ℕ, length, take, Option, None, Some}
+use Rattle.std.specs.Prelude.{ℤ, [], ◌∷◌, ◌++◌, length, take}
 use Rattle.nwq_value.specs.Engine.{EngineTable}
 use Rattle.nss_scopes.specs.declared.sight.Sight.{Sight}
 use Rattle.nss_scopes.specs.declared.sight.Mark.{Mark}
@@ -44,3 +44,7 @@ left_by m d = record d {
   may_break = m.may_break;
   labels = m.labels;
 }
+
+-- a case of this value more
+abbrev pub with_int : ℤ → spec.Labels → spec.Labels
+with_int v l = record l { cases = l.cases ++ v ∷ [] }

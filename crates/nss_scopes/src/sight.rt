@@ -1,5 +1,6 @@
 //! What is in sight where a node stands.
 
+ghost use Rattle.nss_typing.specs.Sight.{case_seen, declaration_seen, default_seen};
 ghost use Rattle.std.specs.Prelude.{◌≡◌, ◌+◌, ◌≤◌, None, Some, IfOk, OnOk};
 ghost use Rattle.std.specs.Option.{option_map};
 ghost use Rattle.nwq_value.specs.Engine.{EngineTable};
@@ -8,13 +9,13 @@ ghost use Rattle.nss_typing.specs.Sight.{crosses_with, declared, entered, frame_
 ghost use Rattle.nss_typing.specs.Sight.{is_of_header, is_taken, is_taken_by_other, looped};
 ghost use Rattle.nss_typing.specs.Sight.{start, switched, variable_of};
 ghost use Rattle.nss_scopes.specs.Slots.{meaning_of};
-ghost use Rattle.nss_scopes.specs.Views.{in_sight, left_by, mark_of};
+ghost use Rattle.nss_scopes.specs.Views.{in_sight, left_by, mark_of, with_int};
 
 use crate::heads::Heads;
 use crate::labels::Labels;
 use crate::names::{Meaning, Names};
 use crate::structs::Structs;
-use nwq_value::{NoMemory, Table, Text, Ty};
+use nwq_value::{Const, NoMemory, Table, Text, Ty};
 use std::alloc::Global;
 use std::mem;
 
@@ -274,6 +275,49 @@ impl Sight {
         self.in_loop = false;
         self.may_break = false;
         mark
+    }
+
+    /// A case of this value stands here. After `NoMemory` nothing is told of what is in sight.
+    pub fn see_case(&mut self, value: &Const) -> Result<(), NoMemory>
+        ensures seen { OnOk result ((table : EngineTable) → in_sight table self.new
+            ≡ case_seen (in_sight table self.old) (Some value.now)) }
+    {
+        match value {
+            Const::Int(value) => self.see_int(*value),
+            Const::Text(_) | Const::SelfObject | Const::InvalidObject => Ok(()),
+        }
+    }
+
+    fn see_int(&mut self, value: i32) -> Result<(), NoMemory>
+        ensures seen { OnOk result
+            (self.new ≡ record self.old { labels = option_map (with_int value) self.old.labels }) }
+    {
+        match &mut self.labels {
+            Some(labels) => labels.add_case(value),
+            None => Ok(()),
+        }
+    }
+
+    /// A `default` stands here.
+    pub fn see_default(&mut self)
+        ensures seen { (table : EngineTable)
+            → in_sight table self.new ≡ default_seen (in_sight table self.old) }
+    {
+        match &mut self.labels {
+            Some(labels) => labels.add_default(),
+            None => {}
+        }
+    }
+
+    /// A declaration stands here.
+    pub fn see_declaration(&mut self)
+        ensures seen { (table : EngineTable)
+            → in_sight table self.new ≡ declaration_seen (in_sight table self.old) }
+    {
+        match &mut self.labels {
+            Some(labels) => labels.add_declaration(),
+            None => {}
+        }
     }
 
     /// What began with a mark is left: all is as before it, but for the numbers of variables, the

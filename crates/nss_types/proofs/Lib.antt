@@ -1,3 +1,6 @@
 pub mod Faults
 pub mod ArgumentLemmas
 pub mod WalkLemmas
+pub mod RowLemmas
+pub mod NameRows
+pub mod Judged

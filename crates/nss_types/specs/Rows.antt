@@ -1,0 +1,17 @@
+-- Typed parts in a row.
+use Rattle.std.specs.Prelude.{List, [], ◌∷◌, ◌++◌, Option, None, Some}
+use Rattle.std.specs.Option.{option_map}
+use Rattle.nss_typing.specs.Nodes.{two}
+
+-- one more behind others, where all are typed
+abbrev pub and_one : {A : Type 0} → Option (List A) → Option A → Option (List A)
+and_one None one = None
+and_one (Some all) None = None
+and_one (Some all) (Some x) = Some (all ++ x ∷ [])
+
+abbrev pub appended : {A : Type 0} → List A × List A → List A
+appended p = p.0 ++ p.1
+
+-- some, and the rest behind them
+abbrev pub with_rest : {A : Type 0} → Option (List A) → Option (List A) → Option (List A)
+with_rest all rest = option_map appended (two all rest)
