@@ -1,5 +1,6 @@
 -- A verdict by the fault that code finds.
-use Rattle.std.proofs.Common.{◌≡◌, Bool, true, false, not, ◌&&◌, Option, None, Some, refl, sym, ap, ◌∙◌}
+use Rattle.std.proofs.Common.{◌≡◌, Bool, true, false, not, ◌&&◌, Option, None, Some, Result, Ok, Err, refl, sym, ap, ◌∙◌}
+use Rattle.std.specs.Result.{OnOk}
 use Rattle.nss_tree.specs.Source.{SourceDeclared}
 use Rattle.nwq_value.specs.declared.value.Ty.{Ty}
 use Rattle.nss_typing.specs.declared.fault.FaultKind.{FaultKind}
@@ -23,3 +24,8 @@ pub variable_is : (s : Sight) (d : SourceDeclared) (t : Ty) (x : Option TypedExp
     → asked (variable_rows s d.name) (variable_rule s d) (Some (t, x)) ≡ by_fault k (record { token = d.token; name = record { number = s.next; ty = t }; value = x })
 variable_is s d t x a b c k taken fits crosses is =
     ruled_when _ _ _ ∙ ap (λ f. by_fault f (record { token = d.token; name = record { number = s.next; ty = t }; value = x })) (sym (rw (is, taken, fits, crosses) refl))
+
+-- what is ensured for all, at one of them
+pub on_ok_at : {A B E : Type 0} (r : Result A E) (P : B → Type 0) (b : B) → OnOk r ((x : B) → P x) → OnOk r (P b)
+on_ok_at (Ok a) P b h = h b
+on_ok_at (Err e) P b h = tt

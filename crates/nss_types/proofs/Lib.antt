@@ -4,3 +4,4 @@ pub mod WalkLemmas
 pub mod RowLemmas
 pub mod NameRows
 pub mod Judged
+pub mod StatementRows

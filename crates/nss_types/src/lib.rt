@@ -11,10 +11,16 @@ pub mod declared;
 pub mod expression;
 pub mod given;
 pub mod judge;
+#[tactic(auto, using(crate::proofs::Faults::kept_append))]
+pub mod judge_statement;
 pub mod known;
+#[tactic(auto, using(crate::proofs::Faults::kept_append))]
+pub mod label;
 pub mod line;
 pub mod note;
 pub mod row;
 pub mod rules;
+#[tactic(auto, using(crate::proofs::Faults::kept_append))]
+pub mod statement;
 
 pub use given::Given;
