@@ -1,0 +1,4 @@
+pub mod Views
+pub mod Arguments
+pub mod Rows
+pub mod Faults

@@ -1,0 +1,26 @@
+//! Types a unit of NWScript, or finds its least fault.
+#![tactic(auto)]
+
+#[tactic(auto, using(crate::proofs::ArgumentLemmas::filled_is))]
+pub mod call;
+pub mod called;
+pub mod constant;
+#[tactic(auto, using(crate::proofs::Faults::kept_append))]
+pub mod declared;
+#[tactic(auto, using(nss_tree::specs::Readings::plain_cases, crate::proofs::Faults::kept_append))]
+pub mod expression;
+pub mod given;
+pub mod judge;
+#[tactic(auto, using(crate::proofs::Faults::kept_append))]
+pub mod judge_statement;
+pub mod known;
+#[tactic(auto, using(crate::proofs::Faults::kept_append))]
+pub mod label;
+pub mod line;
+pub mod note;
+pub mod row;
+pub mod rules;
+#[tactic(auto, using(crate::proofs::Faults::kept_append))]
+pub mod statement;
+
+pub use given::Given;
