@@ -1,4 +1,0 @@
-pub mod Views
-pub mod Arguments
-pub mod Rows
-pub mod Faults
