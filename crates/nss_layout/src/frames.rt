@@ -15,7 +15,7 @@ ghost use Rattle.nss_layout.specs.Room.{AreRoomy, IsRoomy, all_stmt_cells, body_
 
 use crate::structs::cells_of;
 use nss_tree::{Item, Stmt};
-use nss_typing::units::{TypedItem, TypedName, TypedParameter, TypedStmt};
+use nss_typing::{TypedItem, TypedName, TypedParameter, TypedStmt};
 use nwq_value::{Items, NoMemory, Ty};
 
 /// How many cells parameters have together.
@@ -94,7 +94,9 @@ fn stmt_positions(
             stmt_positions(structs, positions, depth, then)?;
         }
         Stmt::IfElse {
-            then, otherwise, ..
+            then,
+            otherwise,
+            ..
         } => {
             stmt_positions(structs, positions, depth, then)?;
             stmt_positions(structs, positions, depth, otherwise)?;
@@ -186,7 +188,9 @@ fn item_positions(
             names_positions(structs, positions, globals, names.as_slice())
         }
         Item::Function {
-            parameters, body, ..
+            parameters,
+            body,
+            ..
         } => {
             function_positions(structs, positions, parameters.as_slice(), body)?;
             Ok(globals)

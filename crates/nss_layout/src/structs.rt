@@ -8,7 +8,7 @@ ghost use Rattle.nss_typing.specs.UnitReading.{typed_item, typed_items};
 ghost use Rattle.code_emission.specs.Layout.{cell_types, cells, line_cells, structs_from};
 
 use nss_tree::Item;
-use nss_typing::units::{TypedItem, TypedLine};
+use nss_typing::{TypedItem, TypedLine};
 use nwq_value::{Items, NoMemory, Ty};
 use std::alloc::Global;
 
@@ -30,13 +30,7 @@ pub(crate) fn cells_of(structs: &[Items<Ty>], ty: Ty) -> u32
     match ty {
         Ty::Void => 0,
         Ty::Struct(number) => struct_types(structs, number).len() as u32,
-        Ty::Int
-        | Ty::Text
-        | Ty::Object
-        | Ty::Effect
-        | Ty::Event
-        | Ty::Action
-        | Ty::Refused => 1,
+        Ty::Int | Ty::Text | Ty::Object | Ty::Effect | Ty::Event | Ty::Action | Ty::Refused => 1,
     }
 }
 
@@ -47,22 +41,13 @@ fn put_cells(structs: &[Items<Ty>], types: &mut Items<Ty>, ty: Ty) -> Result<(),
     match ty {
         Ty::Void => Ok(()),
         Ty::Struct(number) => types.extend(struct_types(structs, number)),
-        Ty::Int
-        | Ty::Text
-        | Ty::Object
-        | Ty::Effect
-        | Ty::Event
-        | Ty::Action
-        | Ty::Refused => types.push(ty),
+        Ty::Int | Ty::Text | Ty::Object | Ty::Effect | Ty::Event | Ty::Action | Ty::Refused =>
+            types.push(ty),
     }
 }
 
 /// Puts the types of the cells of a line's fields last.
-fn put_line(
-    structs: &[Items<Ty>],
-    types: &mut Items<Ty>,
-    line: &TypedLine,
-) -> Result<(), NoMemory>
+fn put_line(structs: &[Items<Ty>], types: &mut Items<Ty>, line: &TypedLine) -> Result<(), NoMemory>
     ensures { OnOk result (types.new ≡ types.old ++ line_cells structs.now line.now) }
 {
     for _name in line.names.as_slice() {
@@ -87,10 +72,7 @@ fn fields_cells(
 }
 
 /// The structs among these items, each as the types of its cells.
-pub(crate) fn structs_of(
-    alloc: Global,
-    items: &[TypedItem],
-) -> Result<Vec<Items<Ty>>, NoMemory>
+pub(crate) fn structs_of(alloc: Global, items: &[TypedItem]) -> Result<Vec<Items<Ty>>, NoMemory>
     ensures { IfOk result (λ structs. structs.items ≡ structs_from [] (typed_items items.now)) }
 {
     let mut structs = Vec::new(alloc);
@@ -101,11 +83,7 @@ pub(crate) fn structs_of(
 }
 
 /// Puts the struct last that an item declares, if it is one.
-fn put_struct(
-    alloc: Global,
-    structs: &mut Vec<Items<Ty>>,
-    item: &TypedItem,
-) -> Result<(), NoMemory>
+fn put_struct(alloc: Global, structs: &mut Vec<Items<Ty>>, item: &TypedItem) -> Result<(), NoMemory>
     ensures { OnOk result ((rest : List typed.TypedItem) →
         structs_from structs.old.items (typed_item item.now ∷ rest)
         ≡ structs_from structs.new.items rest) }
