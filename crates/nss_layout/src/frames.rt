@@ -1,128 +1,154 @@
 //! The positions of variables, in the order of their numbers.
 
-ghost use Rattle.std.specs.Prelude.{◌≡◌, ◌++◌, ◌+◌, ◌≤◌, IfOk, OnOk};
+ghost use Rattle.std.specs.Prelude.{◌≡◌, ◌++◌, ◌+◌, IfOk, OnOk};
 ghost use Rattle.std.specs.Option.{option_map};
-ghost use Rattle.nss_typing.specs.UnitReading.{
-  typed_items,
-  typed_item,
-  typed_names,
-  typed_stmt,
-  typed_stmts,
-};
+ghost use Rattle.nss_tree.specs.Reading.{tree_of_stmts};
+ghost use Rattle.nss_tree.specs.Statements.{map_stmts};
+ghost use Rattle.nss_typing.specs.Reading.{plain};
+ghost use Rattle.nss_typing.specs.UnitReading.{typed_items, typed_item, typed_names, typed_stmt};
+ghost use Rattle.nss_typing.specs.UnitReading.{typed_stmts};
 ghost use Rattle.code_emission.specs.Layout as laid;
-ghost use Rattle.code_emission.specs.Bounds.{depth_limit};
-ghost use Rattle.nss_layout.specs.Room.{AreRoomy, IsRoomy, all_stmt_cells, body_cells, stmt_cells};
 
 use crate::structs::cells_of;
 use nss_tree::{Item, Stmt};
 use nss_typing::{TypedItem, TypedName, TypedParameter, TypedStmt};
 use nwq_value::{Items, NoMemory, Ty};
 
+/// So many cells more. No frame of so many cells that they aren't a number of 32 bits can be made.
+fn deeper(depth: u32, cells: usize) -> Result<u32, NoMemory>
+    ensures { IfOk result (λ all. all ≡ depth + cells) }
+{
+    if cells > (u32::MAX - depth) as usize {
+        return Err(NoMemory);
+    }
+    Ok(depth + cells as u32)
+}
+
 /// How many cells parameters have together.
-fn params_cells(structs: &[Items<Ty>], parameters: &[TypedParameter]) -> u32
-    requires room { laid.params_cells structs.now parameters.now ≤ depth_limit }
-    ensures { result ≡ laid.params_cells structs.now parameters.now }
+fn params_cells(structs: &[Items<Ty>], parameters: &[TypedParameter]) -> Result<u32, NoMemory>
+    ensures { IfOk result (λ cells. cells ≡ laid.params_cells structs.now parameters.now) }
 {
     let mut cells = 0;
     for parameter in parameters {
-        cells += cells_of(structs, parameter.ty);
+        cells = deeper(cells, cells_of(structs, parameter.ty))?;
     }
-    cells
+    Ok(cells)
 }
 
-/// Puts the positions of parameters last: the last parameter stands at the bottom.
+/// Puts the positions of parameters last, where they have so many cells together: the last
+/// parameter stands at the bottom.
 fn params_positions(
     structs: &[Items<Ty>],
     positions: &mut Items<u32>,
+    cells: u32,
     parameters: &[TypedParameter],
-) -> Result<u32, NoMemory>
-    requires room { laid.params_cells structs.now parameters.now ≤ depth_limit }
-    ensures ok { OnOk result (positions.new
+) -> Result<(), NoMemory>
+    requires all { cells ≡ laid.params_cells structs.now parameters.now }
+    ensures { OnOk result (positions.new
         ≡ positions.old ++ laid.params_positions structs.now parameters.now) }
-    ensures cells { IfOk result (λ cells. cells ≡ laid.params_cells structs.now parameters.now) }
 {
-    let all = params_cells(structs, parameters);
-    let mut above = all;
+    let mut above = cells;
     for parameter in parameters {
-        above -= cells_of(structs, parameter.ty);
+        above -= cells_of(structs, parameter.ty) as u32;
         positions.push(above)?;
     }
-    Ok(all)
+    Ok(())
 }
 
-/// Puts the positions of names last that are declared from this depth on, and gives the depth
-/// behind them.
-fn names_positions(
-    structs: &[Items<Ty>],
-    positions: &mut Items<u32>,
-    depth: u32,
-    names: &[TypedName],
-) -> Result<u32, NoMemory>
-    requires room { depth + laid.names_cells structs.now (typed_names names.now) ≤ depth_limit }
-    ensures ok { OnOk result (positions.new
-        ≡ positions.old ++ laid.names_positions structs.now depth (typed_names names.now)) }
-    ensures depth { IfOk result
+/// The depth behind names that are declared from this depth on.
+fn names_behind(structs: &[Items<Ty>], mut depth: u32, names: &[TypedName]) -> Result<u32, NoMemory>
+    ensures { IfOk result
         (λ behind. behind ≡ depth + laid.names_cells structs.now (typed_names names.now)) }
 {
-    let mut depth = depth;
     for name in names {
-        positions.push(depth)?;
-        depth += cells_of(structs, name.name.ty);
+        depth = deeper(depth, cells_of(structs, name.name.ty))?;
     }
     Ok(depth)
 }
 
-/// Puts the positions of what a statement declares last, and gives the depth behind it.
+/// Puts the positions of names last that are declared from this depth on.
+fn names_positions(
+    structs: &[Items<Ty>],
+    positions: &mut Items<u32>,
+    mut depth: u32,
+    names: &[TypedName],
+) -> Result<(), NoMemory>
+    ensures { OnOk result (positions.new
+        ≡ positions.old ++ laid.names_positions structs.now depth (typed_names names.now)) }
+{
+    for name in names {
+        positions.push(depth)?;
+        depth = deeper(depth, cells_of(structs, name.name.ty))?;
+    }
+    Ok(())
+}
+
+/// The depth behind a statement.
+#[tactic(auto, using(nss_tree::specs::Readings::plain_cases))]
+fn behind(structs: &[Items<Ty>], depth: u32, stmt: &TypedStmt) -> Result<u32, NoMemory>
+    ensures { IfOk result
+        (λ behind. behind ≡ depth + laid.declared_cells structs.now (typed_stmt stmt.now)) }
+{
+    match stmt {
+        Stmt::Declaration { names, .. } => names_behind(structs, depth, names.as_slice()),
+        Stmt::Block { .. } => Ok(depth),
+        Stmt::If { .. } => Ok(depth),
+        Stmt::IfElse { .. } => Ok(depth),
+        Stmt::While { .. } => Ok(depth),
+        Stmt::Do { .. } => Ok(depth),
+        Stmt::For { .. } => Ok(depth),
+        Stmt::Switch { .. } => Ok(depth),
+        Stmt::Empty { .. } => Ok(depth),
+        Stmt::Expression { .. } => Ok(depth),
+        Stmt::Break { .. } => Ok(depth),
+        Stmt::Continue { .. } => Ok(depth),
+        Stmt::Return { .. } => Ok(depth),
+        Stmt::Case { .. } => Ok(depth),
+        Stmt::Default { .. } => Ok(depth),
+    }
+}
+
+/// Puts the positions of what a statement declares last.
 #[cycle(statements)]
+#[tactic(auto, using(nss_tree::specs::Readings::plain_cases))]
 fn stmt_positions(
     structs: &[Items<Ty>],
     positions: &mut Items<u32>,
     depth: u32,
     stmt: &TypedStmt,
-) -> Result<u32, NoMemory>
-    requires room { depth + stmt_cells structs.now (typed_stmt stmt.now) ≤ depth_limit }
-    ensures ok { OnOk result (positions.new
+) -> Result<(), NoMemory>
+    ensures { OnOk result (positions.new
         ≡ positions.old ++ laid.positions structs.now depth (typed_stmt stmt.now)) }
-    ensures depth { IfOk result
-        (λ behind. behind ≡ depth + laid.declared_cells structs.now (typed_stmt stmt.now)) }
 {
     match stmt {
-        Stmt::Block { items, .. } => stmts_positions(structs, positions, depth, items.as_slice())?,
-        Stmt::Empty { .. } => {}
-        Stmt::Expression { .. } => {}
-        Stmt::If { then, .. } => {
-            stmt_positions(structs, positions, depth, then)?;
+        Stmt::Declaration { names, .. } => {
+            names_positions(structs, positions, depth, names.as_slice())
         }
+        Stmt::Block { items, .. } => stmts_positions(structs, positions, depth, items.as_slice()),
+        Stmt::If { then, .. } => stmt_positions(structs, positions, depth, then),
         Stmt::IfElse {
             then,
             otherwise,
             ..
         } => {
             stmt_positions(structs, positions, depth, then)?;
-            stmt_positions(structs, positions, depth, otherwise)?;
+            stmt_positions(structs, positions, depth, otherwise)
         }
-        Stmt::While { body, .. } => {
-            stmt_positions(structs, positions, depth, body)?;
-        }
-        Stmt::Do { body, .. } => {
-            stmt_positions(structs, positions, depth, body)?;
-        }
-        Stmt::For { body, .. } => {
-            stmt_positions(structs, positions, depth, body)?;
-        }
+        Stmt::While { body, .. } => stmt_positions(structs, positions, depth, body),
+        Stmt::Do { body, .. } => stmt_positions(structs, positions, depth, body),
+        Stmt::For { body, .. } => stmt_positions(structs, positions, depth, body),
         Stmt::Switch { body, .. } => {
-            stmts_positions(structs, positions, depth + 1, body.as_slice())?
+            let depth = deeper(depth, 1)?;
+            stmts_positions(structs, positions, depth, body.as_slice())
         }
-        Stmt::Break { .. } => {}
-        Stmt::Continue { .. } => {}
-        Stmt::Return { .. } => {}
-        Stmt::Declaration { names, .. } => {
-            return names_positions(structs, positions, depth, names.as_slice());
-        }
-        Stmt::Case { .. } => {}
-        Stmt::Default { .. } => {}
+        Stmt::Empty { .. } => Ok(()),
+        Stmt::Expression { .. } => Ok(()),
+        Stmt::Break { .. } => Ok(()),
+        Stmt::Continue { .. } => Ok(()),
+        Stmt::Return { .. } => Ok(()),
+        Stmt::Case { .. } => Ok(()),
+        Stmt::Default { .. } => Ok(()),
     }
-    Ok(depth)
 }
 
 /// The same of statements in a row.
@@ -130,16 +156,15 @@ fn stmt_positions(
 fn stmts_positions(
     structs: &[Items<Ty>],
     positions: &mut Items<u32>,
-    depth: u32,
+    mut depth: u32,
     stmts: &[TypedStmt],
 ) -> Result<(), NoMemory>
-    requires room { depth + all_stmt_cells structs.now (typed_stmts stmts.now) ≤ depth_limit }
     ensures { OnOk result (positions.new
         ≡ positions.old ++ laid.all_positions structs.now depth (typed_stmts stmts.now)) }
 {
-    let mut depth = depth;
     for stmt in stmts {
-        depth = stmt_positions(structs, positions, depth, stmt)?;
+        stmt_positions(structs, positions, depth, stmt)?;
+        depth = behind(structs, depth, stmt)?;
     }
     Ok(())
 }
@@ -151,39 +176,47 @@ fn function_positions(
     parameters: &[TypedParameter],
     body: &Option<Items<TypedStmt>>,
 ) -> Result<(), NoMemory>
-    requires room { laid.params_cells structs.now parameters.now
-        + body_cells structs.now (option_map typed_stmts body.now) ≤ depth_limit }
     ensures { OnOk result (positions.new
         ≡ positions.old
         ++ (laid.params_positions structs.now parameters.now
         ++ laid.body_positions structs.now (laid.params_cells structs.now parameters.now)
-        (option_map typed_stmts body.now))) }
+        (option_map (map_stmts plain) (option_map tree_of_stmts body.now)))) }
 {
-    let depth = params_positions(structs, positions, parameters)?;
+    let depth = params_cells(structs, parameters)?;
+    params_positions(structs, positions, depth, parameters)?;
     match body {
         None => Ok(()),
         Some(body) => stmts_positions(structs, positions, depth, body.as_slice()),
     }
 }
 
-/// Puts the positions of what an item declares last, where so many cells of globals stand before
-/// it, and gives how many stand behind it.
-fn item_positions(
-    structs: &[Items<Ty>],
-    positions: &mut Items<u32>,
-    globals: u32,
-    item: &TypedItem,
-) -> Result<u32, NoMemory>
-    requires frame { IsRoomy structs.now (typed_item item.now) }
-    requires room { globals + laid.item_cells structs.now (typed_item item.now) ≤ depth_limit }
-    ensures ok { OnOk result (positions.new
-        ≡ positions.old ++ laid.item_positions structs.now globals (typed_item item.now)) }
-    ensures globals { IfOk result
+/// How many cells of globals stand behind an item.
+fn globals_behind(structs: &[Items<Ty>], globals: u32, item: &TypedItem) -> Result<u32, NoMemory>
+    ensures { IfOk result
         (λ behind. behind ≡ globals + laid.item_cells structs.now (typed_item item.now)) }
 {
     match item {
         Item::Struct { .. } => Ok(globals),
         Item::Const { .. } => Ok(globals),
+        Item::Global { names, .. } => names_behind(structs, globals, names.as_slice()),
+        Item::Function { .. } => Ok(globals),
+    }
+}
+
+/// Puts the positions of what an item declares last, where so many cells of globals stand before
+/// it.
+fn item_positions(
+    structs: &[Items<Ty>],
+    positions: &mut Items<u32>,
+    globals: u32,
+    item: &TypedItem,
+) -> Result<(), NoMemory>
+    ensures { OnOk result (positions.new
+        ≡ positions.old ++ laid.item_positions structs.now globals (typed_item item.now)) }
+{
+    match item {
+        Item::Struct { .. } => Ok(()),
+        Item::Const { .. } => Ok(()),
         Item::Global { names, .. } => {
             names_positions(structs, positions, globals, names.as_slice())
         }
@@ -191,10 +224,7 @@ fn item_positions(
             parameters,
             body,
             ..
-        } => {
-            function_positions(structs, positions, parameters.as_slice(), body)?;
-            Ok(globals)
-        }
+        } => function_positions(structs, positions, parameters.as_slice(), body),
     }
 }
 
@@ -204,16 +234,15 @@ pub(crate) fn items_positions(
     positions: &mut Items<u32>,
     items: &[TypedItem],
 ) -> Result<u32, NoMemory>
-    requires frames { AreRoomy structs.now (typed_items items.now) }
-    requires room { laid.global_cells structs.now (typed_items items.now) ≤ depth_limit }
-    ensures ok { OnOk result (positions.new
+    ensures positions { OnOk result (positions.new
         ≡ positions.old ++ laid.items_positions structs.now 0 (typed_items items.now)) }
     ensures globals { IfOk result
         (λ globals. globals ≡ laid.global_cells structs.now (typed_items items.now)) }
 {
     let mut globals = 0;
     for item in items {
-        globals = item_positions(structs, positions, globals, item)?;
+        item_positions(structs, positions, globals, item)?;
+        globals = globals_behind(structs, globals, item)?;
     }
     Ok(globals)
 }

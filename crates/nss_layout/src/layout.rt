@@ -1,7 +1,6 @@
 ghost use Rattle.std.specs.Prelude.{◌≡◌, ◌<◌, ◌^◌, length, slice_get, slice_index_or, Some, IfOk, []};
 ghost use Rattle.nss_typing.specs.UnitReading.{typed_unit};
 ghost use Rattle.code_emission.specs.Layout.{cell_types, cells, layout_of, position};
-ghost use Rattle.nss_layout.specs.Room.{HasRoom};
 
 use crate::frames::items_positions;
 use crate::structs::{cells_of, struct_types, structs_of};
@@ -46,16 +45,19 @@ impl Layout {
         requires few { cells self.now.structs ty < 2 ^ 32 }
         ensures cells { result ≡ cells self.now.structs ty }
     {
-        cells_of(self.structs.as_slice(), ty)
+        cells_of(self.structs.as_slice(), ty) as u32
     }
 
     /// How many cells of the frame, or of the globals, stand beneath the variable of this number.
     pub fn position(&self, variable: u32) -> u32
         ensures position { result ≡ position self.now variable }
     {
-        match self.positions.get(variable as usize) {
-            Some(position) => *position,
-            None => 0,
+        let positions = self.positions.as_slice();
+        let variable = variable as usize;
+        if variable < positions.len() {
+            positions[variable]
+        } else {
+            0
         }
     }
 
@@ -80,7 +82,6 @@ impl Layout {
 
 /// The layout of a unit.
 pub fn lay(alloc: Global, unit: &Typed) -> Result<Layout, NoMemory>
-    requires room { HasRoom (typed_unit unit.now) }
     ensures laid { IfOk result (λ layout. layout ≡ layout_of (typed_unit unit.now)) }
 {
     let items = unit.items.as_slice();

@@ -2,8 +2,7 @@
 //! variable in its frame or among the globals.
 //!
 //! Contracts see a [`Layout`] as the layout of `code_emission/specs/Layout.antt`. Promised: [`lay`]
-//! gives the layout of the unit, and the methods look it up in constant time. `specs/Room.antt`
-//! says what a unit must keep so that its positions are numbers of 32 bits. The page is
+//! gives the layout of the unit, and the methods look it up in constant time. The page is
 //! docs/CODE.md.
 #![tactic(auto)]
 

@@ -1,6 +1,6 @@
 //! The cells of structs and of types.
 
-ghost use Rattle.std.specs.Prelude.{◌≡◌, ◌++◌, ◌∷◌, ◌<◌, ◌^◌, [], List, slice_index_or};
+ghost use Rattle.std.specs.Prelude.{◌≡◌, ◌++◌, ◌∷◌, [], List, slice_index_or};
 ghost use Rattle.std.specs.Prelude.{IfOk, OnOk};
 ghost use Rattle.std.specs.List.{flat_map};
 ghost use Rattle.nss_typing.specs.Typed as typed;
@@ -23,13 +23,12 @@ pub(crate) fn struct_types(structs: &[Items<Ty>], number: u16) -> &[Ty]
 }
 
 /// How many cells a value of the type has.
-pub(crate) fn cells_of(structs: &[Items<Ty>], ty: Ty) -> u32
-    requires few { cells structs.now ty < 2 ^ 32 }
+pub(crate) fn cells_of(structs: &[Items<Ty>], ty: Ty) -> usize
     ensures { result ≡ cells structs.now ty }
 {
     match ty {
         Ty::Void => 0,
-        Ty::Struct(number) => struct_types(structs, number).len() as u32,
+        Ty::Struct(number) => struct_types(structs, number).len(),
         Ty::Int | Ty::Text | Ty::Object | Ty::Effect | Ty::Event | Ty::Action | Ty::Refused => 1,
     }
 }
