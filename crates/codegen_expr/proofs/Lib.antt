@@ -1,2 +1,4 @@
-pub mod Lines
+pub mod Dropping
 pub mod Rows
+pub mod Nodes
+pub mod Ready

@@ -10,27 +10,27 @@ use Rattle.code_emission.specs.Operations.{comparison_kind, comparison_size, sum
 
 pub equal_row : (t : Ty) (cells : ℕ) → IsTrue (is_compared t) → HasRow (ops.Equal (comparison_kind t) (comparison_size t cells))
 unfolding has_type
-equal_row Void cells is = absurd is
+equal_row Void cells is = absurd cc
 equal_row Int cells is = record { kind = refl; sizes = λ _. refl }
 equal_row Text cells is = record { kind = refl; sizes = λ _. refl }
 equal_row Object cells is = record { kind = refl; sizes = λ _. refl }
 equal_row Effect cells is = record { kind = refl; sizes = λ _. refl }
 equal_row Event cells is = record { kind = refl; sizes = λ _. refl }
-equal_row Action cells is = absurd is
+equal_row Action cells is = absurd cc
 equal_row (Struct n) cells is = record { kind = refl; sizes = λ other. absurd (other refl) }
-equal_row Refused cells is = absurd is
+equal_row Refused cells is = absurd cc
 
 pub nequal_row : (t : Ty) (cells : ℕ) → IsTrue (is_compared t) → HasRow (ops.Nequal (comparison_kind t) (comparison_size t cells))
 unfolding has_type
-nequal_row Void cells is = absurd is
+nequal_row Void cells is = absurd cc
 nequal_row Int cells is = record { kind = refl; sizes = λ _. refl }
 nequal_row Text cells is = record { kind = refl; sizes = λ _. refl }
 nequal_row Object cells is = record { kind = refl; sizes = λ _. refl }
 nequal_row Effect cells is = record { kind = refl; sizes = λ _. refl }
 nequal_row Event cells is = record { kind = refl; sizes = λ _. refl }
-nequal_row Action cells is = absurd is
+nequal_row Action cells is = absurd cc
 nequal_row (Struct n) cells is = record { kind = refl; sizes = λ other. absurd (other refl) }
-nequal_row Refused cells is = absurd is
+nequal_row Refused cells is = absurd cc
 
 pub sum_row : (t : Ty) → HasRow (ops.Add (sum_kind t))
 unfolding has_type

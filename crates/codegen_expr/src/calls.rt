@@ -36,7 +36,6 @@ pub(crate) fn emit_room(
 }
 
 /// Puts constants, the last one first.
-#[tactic(auto, using(crate::proofs::Constants::constants_step))]
 pub(crate) fn emit_constants(out: &mut Emitter, constants: &[Const]) -> Result<(), NoMemory>
     ensures { OnOk result (out.new
         ≡ record out.old { lines = out.old.lines ++ code.constants constants.now }) }

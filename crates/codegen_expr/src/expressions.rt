@@ -22,9 +22,9 @@ ghost use Rattle.codegen_expr.specs.Emitted.{AreReady, IsReady, extended};
 
 use crate::calls::{emit_called, emit_constants, emit_room};
 use crate::lines::{bytes_of, emit_constant, emit_top_again, is_void};
-use crate::operations::{Shortcut, combine, operate, operation, shortcut};
+use crate::operations::{Shortcut, combine, operate, operation, shortcut_of};
 use crate::places::{
-    emit_decrement, emit_first, emit_increment, emit_name, emit_write, home, member_home, read,
+    emit_decrement, emit_first, emit_increment, emit_name, emit_write, home_of, member_home, read,
     step_before,
 };
 use code_emission::parts::places_above;
@@ -104,7 +104,7 @@ fn expression(
 
 /// A member of a place is read there, of another value it is cut out.
 #[cycle(emit)]
-#[tactic(auto, using(crate::proofs::Ready::member_labels), unfolding(ncs_code::specs::Spelling::has_type))]
+#[tactic(auto, unfolding(ncs_code::specs::Spelling::has_type))]
 fn member(
     out: &mut Emitter,
     layout: &Layout,
@@ -149,7 +149,7 @@ fn prefix(
         (code.emit layout.now out.old.labels depth (plain of.now)))
         (code.labels (plain of.now))) }
 {
-    let home = home(layout, of)?;
+    let home = home_of(layout, of)?;
     step_before(out, layout, operator, home, depth)?;
     expression(out, layout, of, depth)?;
     operate(out, operator)
@@ -169,7 +169,7 @@ fn postfix(
         (code.emit layout.now out.old.labels depth (plain of.now)))
         (code.labels (plain of.now))) }
 {
-    let home = home(layout, of)?;
+    let home = home_of(layout, of)?;
     expression(out, layout, of, depth)?;
     match operator {
         PostfixOperator::Increment => emit_increment(out, layout, depth + 1, home),
@@ -210,7 +210,7 @@ fn binary(
 {
     let ty = left.ty();
     let op = operation(operator, ty, layout.cells(ty));
-    match shortcut(operator) {
+    match shortcut_of(operator) {
         Shortcut::WhereTrue => or_else(out, layout, &op, left, right, depth),
         Shortcut::WhereFalse => and_then(out, layout, &op, left, right, depth),
         Shortcut::Never => operands(out, layout, &op, left, right, depth),
@@ -337,7 +337,7 @@ fn assign(
         (typed.assign ty operator (plain place.now) (plain value.now)))
         (code.labels (plain value.now))) }
 {
-    let home = home(layout, place)?;
+    let home = home_of(layout, place)?;
     let count = layout.cells(ty);
     let first = emit_first(out, layout, operator, home, count, depth)?;
     expression(out, layout, value, depth + first)?;

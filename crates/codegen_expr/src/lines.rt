@@ -75,7 +75,7 @@ pub fn emit_top_again(out: &mut Emitter) -> Result<(), NoMemory>
 }
 
 /// Takes so many cells off: puts nothing where there are none.
-#[tactic(auto, using(crate::proofs::Lines::dropped_some), unfolding(ncs_code::specs::Spelling::has_type))]
+#[tactic(auto, using(crate::proofs::Dropping::dropped_some), unfolding(ncs_code::specs::Spelling::has_type))]
 pub fn drop_cells(out: &mut Emitter, cells: u32) -> Result<(), NoMemory>
     requires small { cells < 2 ^ 29 }
     ensures ok { OnOk result (out.new

@@ -137,7 +137,7 @@ pub enum Shortcut {
     Never,
 }
 
-pub(crate) fn shortcut(operator: BinaryOperator) -> Shortcut
+pub(crate) fn shortcut_of(operator: BinaryOperator) -> Shortcut
     ensures { plain_shortcut result ≡ code.shortcut operator }
 {
     match operator {

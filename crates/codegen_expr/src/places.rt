@@ -45,7 +45,7 @@ fn moved(home: Home, offset: u32) -> Result<Option<Home>, NoMemory>
     }
 }
 
-fn home_of_name(layout: &Layout, place: &Place) -> Option<Home>
+fn name_home(layout: &Layout, place: &Place) -> Option<Home>
     ensures { option_map plain_home result ≡ code.home_of_name layout.now place.now }
 {
     match place {
@@ -57,13 +57,13 @@ fn home_of_name(layout: &Layout, place: &Place) -> Option<Home>
 
 /// Where an expression lies, if it is a place.
 #[tactic(auto, using(nss_typing::specs::Readings::known))]
-pub(crate) fn home(layout: &Layout, e: &Expression) -> Result<Option<Home>, NoMemory>
+pub(crate) fn home_of(layout: &Layout, e: &Expression) -> Result<Option<Home>, NoMemory>
     ensures { IfOk result
         (λ home. option_map plain_home home ≡ code.home layout.now (plain_expr e.now)) }
 {
     match e {
-        Expression::Name { place, .. } => Ok(home_of_name(layout, place)),
-        Expression::Member { of, before, .. } => match home(layout, of)? {
+        Expression::Name { place, .. } => Ok(name_home(layout, place)),
+        Expression::Member { of, before, .. } => match home_of(layout, of)? {
             None => Ok(None),
             Some(home) => moved(home, *before),
         },
@@ -85,7 +85,7 @@ pub(crate) fn member_home(
     ensures { IfOk result (λ home. option_map plain_home home
         ≡ option_map (code.moved before) (code.home layout.now (plain_expr of.now))) }
 {
-    match home(layout, of)? {
+    match home_of(layout, of)? {
         None => Ok(None),
         Some(home) => moved(home, before),
     }

@@ -1,0 +1,163 @@
+-- When a node's code can be added, that of its parts can.
+use Rattle.std.proofs.Common.{◌≡◌, ◌<◌, ◌≤◌, ◌+◌, ◌^◌, ℕ, suc, zero, List, [], ◌∷◌, Bool, true, false, length, drop, get_or, arith, refl, ap, sym, ◌∙◌, subst}
+use Rattle.nwq_value.specs.Limits.{struct_cell_limit}
+use Rattle.nwq_value.specs.declared.engine.Const.{Const}
+use Rattle.nwq_value.specs.declared.engine.Const.TheVariants as const
+use Rattle.nwq_value.specs.declared.value.Ty.{Ty}
+use Rattle.nss_tree.specs.declared.operators.BinaryOperator.{BinaryOperator}
+use Rattle.nss_tree.specs.declared.operators.AssignOperator.{AssignOperator}
+use Rattle.nss_tree.specs.declared.operators.PrefixOperator.{PrefixOperator}
+use Rattle.nss_tree.specs.declared.operators.PostfixOperator.{PostfixOperator}
+use Rattle.nss_typing.specs.declared.expressions.Expression.{Expression}
+use Rattle.nss_typing.specs.declared.places.Place.{Place}
+use Rattle.nss_typing.specs.declared.places.Callee.{Callee}
+use Rattle.nss_typing.specs.declared.places.Callee.TheVariants.{Unit as InUnit, Engine}
+use Rattle.nss_typing.specs.Reading.{plain, plain_all}
+use Rattle.nss_typing.specs.Typed.{TypedExpr, TypedExprs, literal, name, call, member, prefix, postfix, binary, assign, no_typed, more_typed, type_of}
+use Rattle.code_emission.specs.Bounds.{depth_limit, weight, all_weight, IsType, IsCallee, IsOperator, IsExpr, AreExprs}
+use Rattle.code_emission.specs.Layout.{Layout, cells}
+use Rattle.code_emission.specs.Expressions.{labels, all_labels, shortcut, shortcut_labels, is_set, cells_first, result_room, is_captured, argument_labels, count_arguments, arguments_cells}
+use Rattle.codegen_expr.specs.Emitted.{AreReady, IsReady}
+
+-- ---- more functions have labels
+
+callee_grows : (n m count : ℕ) (f : Callee) → n ≤ m → IsCallee n count f → IsCallee m count f
+callee_grows n m count (InUnit f) le is = omega arith
+callee_grows n m count (Engine routine) le is = is
+
+mutual
+  pub grows : (n m : ℕ) (l : Layout) (x : TypedExpr) → n ≤ m → IsExpr n l x → IsExpr m l x
+  grows n m l (literal k) le is = is
+  grows n m l (name t p) le is = is
+  grows n m l (call t f xs ks) le is = (is.0, callee_grows n m (count_arguments xs + length ks) f le is.1, is.2, all_grow n m l xs le is.3)
+  grows n m l (member t x offset) le is = (is.0, is.1, is.2, grows n m l x le is.3)
+  grows n m l (prefix t o x) le is = (is.0, grows n m l x le is.1)
+  grows n m l (postfix t o x) le is = (is.0, grows n m l x le is.1)
+  grows n m l (binary t o x y) le is = (is.0, is.1, is.2, grows n m l x le is.3, grows n m l y le is.4)
+  grows n m l (assign t o x y) le is = (is.0, grows n m l x le is.1, grows n m l y le is.2)
+
+  pub all_grow : (n m : ℕ) (l : Layout) (xs : TypedExprs) → n ≤ m → AreExprs n l xs → AreExprs m l xs
+  all_grow n m l no_typed le are = tt
+  all_grow n m l (more_typed x xs) le are = (grows n m l x le are.0, all_grow n m l xs le are.1)
+
+-- ---- cells and weights
+
+const_few : (l : Layout) (k : Const) → cells l.structs (type_of (literal k)) ≤ struct_cell_limit
+const_few l (const.Int n) = omega arith
+const_few l (const.Text bytes) = omega arith
+const_few l const.SelfObject = omega arith
+const_few l const.InvalidObject = omega arith
+
+pub type_few : (n : ℕ) (l : Layout) (x : TypedExpr) → IsExpr n l x → cells l.structs (type_of x) ≤ struct_cell_limit
+type_few n l (literal k) is = const_few l k
+type_few n l (name t p) is = is.0.few
+type_few n l (call t f xs ks) is = is.0.few
+type_few n l (member t x offset) is = is.0.few
+type_few n l (prefix t o x) is = is.0.few
+type_few n l (postfix t o x) is = is.0.few
+type_few n l (binary t o x y) is = is.0.few
+type_few n l (assign t o x y) is = is.0.few
+
+pub weight_some : (x : TypedExpr) → struct_cell_limit ≤ weight x
+weight_some (literal k) = omega arith
+weight_some (name t p) = omega arith
+weight_some (call t f xs ks) = omega arith
+weight_some (member t x offset) = omega arith
+weight_some (prefix t o x) = omega arith
+weight_some (postfix t o x) = omega arith
+weight_some (binary t o x y) = omega arith
+weight_some (assign t o x y) = omega arith
+
+arguments_few : (n : ℕ) (l : Layout) (xs : TypedExprs) → AreExprs n l xs → arguments_cells l xs ≤ all_weight xs
+arguments_few n l no_typed are = omega arith
+arguments_few n l (more_typed x xs) are = omega (arith, type_few n l x are.0, weight_some x, arguments_few n l xs are.1)
+
+-- ---- parts of a node
+
+pub same_ready : (n : ℕ) (l : Layout) (d : ℕ) (the : Expression) (x : TypedExpr) → plain the ≡ x → IsReady n l d (plain the) → IsReady n l d x
+same_ready n l d the x is ready = subst (IsReady n l d) is ready
+
+pub name_type : {n d : ℕ} {l : Layout} {t : Ty} {p : Place} → IsReady n l d (name t p) → IsType l t
+name_type ready = ready.bounded.0
+
+pub small_depth : (n : ℕ) (l : Layout) (d : ℕ) (x : TypedExpr) → IsReady n l d x → d < 2 ^ 29
+small_depth n l d x ready = omega (arith, ready.deep)
+
+pub member_ready : (n : ℕ) (l : Layout) (d : ℕ) (t : Ty) (x : TypedExpr) (offset : ℕ) → IsReady n l d (member t x offset) → IsReady n l d x
+member_ready n l d t x offset r = record { bounded = r.bounded.3; deep = omega (arith, r.deep); globals = r.globals; labelled = r.labelled }
+
+pub prefix_ready : (n : ℕ) (l : Layout) (d : ℕ) (t : Ty) (o : PrefixOperator) (x : TypedExpr) → IsReady n l d (prefix t o x) → IsReady n l d x
+prefix_ready n l d t o x r = record { bounded = r.bounded.1; deep = omega (arith, r.deep); globals = r.globals; labelled = r.labelled }
+
+pub postfix_ready : (n : ℕ) (l : Layout) (d : ℕ) (t : Ty) (o : PostfixOperator) (x : TypedExpr) → IsReady n l d (postfix t o x) → IsReady n l d x
+postfix_ready n l d t o x r = record { bounded = r.bounded.1; deep = omega (arith, r.deep); globals = r.globals; labelled = r.labelled }
+
+pub first_ready : (n : ℕ) (l : Layout) (d : ℕ) (t : Ty) (o : BinaryOperator) (x y : TypedExpr) → IsReady n l d (binary t o x y)
+    → IsReady (n + shortcut_labels (shortcut o)) l d x
+first_ready n l d t o x y r = record {
+  bounded = grows n (n + shortcut_labels (shortcut o)) l x (omega arith) r.bounded.3;
+  deep = omega (arith, r.deep);
+  globals = r.globals;
+  labelled = omega (arith, r.labelled);
+}
+
+pub second_ready : (n : ℕ) (l : Layout) (d : ℕ) (t : Ty) (o : BinaryOperator) (x y : TypedExpr) → IsReady n l d (binary t o x y)
+    → IsReady (n + shortcut_labels (shortcut o) + labels x) l (d + cells l.structs (type_of x)) y
+second_ready n l d t o x y r = record {
+  bounded = grows n (n + shortcut_labels (shortcut o) + labels x) l y (omega arith) r.bounded.4;
+  deep = omega (arith, r.deep, r.bounded.1.few);
+  globals = r.globals;
+  labelled = omega (arith, r.labelled);
+}
+
+first_few : (b : Bool) (count : ℕ) → cells_first b count ≤ count
+first_few true count = omega arith
+first_few false count = omega arith
+
+pub value_ready : (n : ℕ) (l : Layout) (d : ℕ) (t : Ty) (o : AssignOperator) (x y : TypedExpr) → IsReady n l d (assign t o x y)
+    → IsReady n l (d + cells_first (is_set o) (cells l.structs t)) y
+value_ready n l d t o x y r = record {
+  bounded = r.bounded.2;
+  deep = omega (arith, r.deep, r.bounded.0.few, first_few (is_set o) (cells l.structs t));
+  globals = r.globals;
+  labelled = r.labelled;
+}
+
+room_few : (l : Layout) (f : Callee) (t : Ty) → cells l.structs t ≤ struct_cell_limit → length (result_room l f t) ≤ struct_cell_limit
+room_few l (InUnit f) t few = few
+room_few l (Engine routine) t few = omega arith
+
+pub arguments_ready : (n : ℕ) (l : Layout) (d : ℕ) (t : Ty) (f : Callee) (xs : TypedExprs) (ks : List Const) → IsReady n l d (call t f xs ks)
+    → AreReady n l (d + length (result_room l f t) + length ks) xs
+arguments_ready n l d t f xs ks r = record {
+  bounded = r.bounded.3;
+  deep = omega (arith, r.deep, room_few l f t r.bounded.0.few);
+  globals = r.globals;
+  labelled = r.labelled;
+}
+
+-- ---- arguments, the last one first
+
+pub last_ready : (n : ℕ) (l : Layout) (d : ℕ) (x : TypedExpr) (xs : TypedExprs) → AreReady n l d (more_typed x xs)
+    → IsReady (n + all_labels xs + argument_labels (is_captured x)) l (d + arguments_cells l xs) x
+last_ready n l d x xs r = record {
+  bounded = grows n (n + all_labels xs + argument_labels (is_captured x)) l x (omega arith) r.bounded.0;
+  deep = omega (arith, r.deep, arguments_few n l xs r.bounded.1);
+  globals = r.globals;
+  labelled = omega (arith, r.labelled);
+}
+
+pub rest_ready : (n : ℕ) (l : Layout) (d : ℕ) (x : TypedExpr) (xs : TypedExprs) → AreReady n l d (more_typed x xs) → AreReady n l d xs
+rest_ready n l d x xs r = record { bounded = r.bounded.1; deep = omega (arith, r.deep); globals = r.globals; labelled = omega (arith, r.labelled) }
+
+pub drop_ready : (n : ℕ) (l : Layout) (d : ℕ) (xs : List Expression) (i : ℕ) → AreReady n l d (plain_all xs) → AreReady n l d (plain_all (drop i xs))
+unfolding plain_all
+drop_ready n l d xs zero r = r
+drop_ready n l d [] (suc i) r = r
+drop_ready n l d (x ∷ xs) (suc i) r = drop_ready n l d xs i (rest_ready n l d (plain x) (plain_all xs) r)
+
+pub drop_weight : (xs : List Expression) (i : ℕ) → all_weight (plain_all (drop i xs)) ≤ all_weight (plain_all xs)
+unfolding plain_all
+drop_weight xs zero = omega arith
+drop_weight [] (suc i) = omega arith
+drop_weight (x ∷ xs) (suc i) = omega (arith, drop_weight xs i)
