@@ -21,14 +21,14 @@ ghost use Rattle.code_emission.specs.Expressions as code;
 ghost use Rattle.codegen_expr.specs.Emitted.{AreReady, IsReady, extended};
 
 use crate::calls::{emit_called, emit_constants, emit_room};
-use crate::lines::{bytes_of, emit_constant, emit_top_again, is_void};
+use crate::lines::{bytes_of, emit_constant, emit_top_again, is_void, skip_right};
 use crate::operations::{Shortcut, combine, operate, operation, shortcut_of};
 use crate::places::{
     emit_decrement, emit_first, emit_increment, emit_name, emit_write, home_of, member_home, read,
     step_before,
 };
 use code_emission::parts::places_above;
-use ncs_code::{Lit, Op};
+use ncs_code::Op;
 use ncs_emit::{Emitter, Jump, part_laws};
 use nss_layout::Layout;
 use nss_tree::{AssignOperator, BinaryOperator, PostfixOperator, PrefixOperator};
@@ -245,12 +245,7 @@ fn or_else(
     let other = out.label()?;
     let end = out.label()?;
     expression(out, layout, left, depth)?;
-    emit_top_again(out)?;
-    out.jump(Jump::Jz, other)?;
-    out.op(&Op::Const(Lit::Int(1)))?;
-    out.op(op)?;
-    out.jump(Jump::Jmp, end)?;
-    out.place(other);
+    skip_right(out, op, other, end)?;
     expression(out, layout, right, depth + layout.cells(left.ty()))?;
     out.op(op)?;
     out.place(end);
@@ -388,8 +383,9 @@ fn arguments(
     let mut i = given.len();
     while i > 0 {
         i -= 1;
-        argument(out, layout, &given[i], depth)?;
-        depth += layout.cells(given[i].ty());
+        let last = &given[i];
+        argument(out, layout, last, depth)?;
+        depth += layout.cells(last.ty());
     }
     Ok(())
 }

@@ -1,17 +1,20 @@
 //! Lines that many nodes share.
 
-ghost use Rattle.std.specs.Prelude.{◌≡◌, ◌++◌, ◌∷◌, ◌*◌, ◌<◌, ◌≤◌, ◌^◌, [], map, OnOk};
+ghost use Rattle.std.specs.Prelude.{◌≡◌, ◌++◌, ◌∷◌, ◌*◌, ◌<◌, ◌≤◌, ◌^◌, [], pos, OnOk};
 ghost use Rattle.std.specs.List.{AllByRecursion};
 ghost use Rattle.nwq_value.specs.Limits.{struct_cell_limit};
 ghost use Rattle.code_emission.specs.Bounds.{IsCell, IsType, depth_limit};
 ghost use Rattle.code_emission.specs.Layout.{cell_types};
 ghost use Rattle.code_emission.specs.Operations as code;
 ghost use Rattle.ncs_code.specs.Plain as ops;
-ghost use Rattle.ncs_emit.specs.Labelled.{Instruction};
+ghost use Rattle.ncs_code.specs.Plain.{plain};
+ghost use Rattle.ncs_code.specs.Spelling.{HasRow};
+ghost use Rattle.ncs_emit.specs.Labelled.{Instruction, JumpTo, Label, placements};
+ghost use Rattle.ncs_emit.specs.declared.jump.Jump.TheVariants.{Jmp, Jz};
 ghost use Rattle.nss_typing.specs.Types.{is_void};
 
 use ncs_code::{Lit, Op};
-use ncs_emit::Emitter;
+use ncs_emit::{Emitter, Jump, part_laws};
 use nss_layout::Layout;
 use nwq_value::{Const, NoMemory, Ty};
 
@@ -72,6 +75,34 @@ pub fn emit_top_again(out: &mut Emitter) -> Result<(), NoMemory>
         offset: -4,
         size: 4,
     })
+}
+
+/// Goes on to the right operand of `||` where the left one on top is 0, and else leaves it out.
+#[tactic(auto, unfolding(ncs_code::specs::Spelling::has_type))]
+pub(crate) fn skip_right(
+    out: &mut Emitter,
+    op: &Op<'_>,
+    right: u32,
+    end: u32,
+) -> Result<(), NoMemory>
+    requires row { HasRow (plain op.now) }
+    requires right { right < out.old.labels }
+    requires end { end < out.old.labels }
+    requires unplaced { placements out.old.lines right ≡ 0 }
+    ensures { OnOk result (out.new ≡ record out.old {
+      lines = out.old.lines
+          ++ code.top_again ∷ JumpTo Jz right ∷ code.int_constant (pos 1)
+          ∷ Instruction (plain op.now) ∷ JumpTo Jmp end ∷ Label right ∷ [];
+    }) }
+{
+    part_laws();
+    emit_top_again(out)?;
+    out.jump(Jump::Jz, right)?;
+    out.op(&Op::Const(Lit::Int(1)))?;
+    out.op(op)?;
+    out.jump(Jump::Jmp, end)?;
+    out.place(right);
+    Ok(())
 }
 
 /// Takes so many cells off: puts nothing where there are none.

@@ -6,40 +6,40 @@ use Rattle.codegen_expr.specs.Emitted.{extended}
 use Rattle.codegen_expr.proofs.expressions.+emit.Given as goal
 
 abbrev pub decreases-expression : goal.decreases-expression
-decreases-expression l = weight (plain l.e)
+decreases-expression l = weight (plain l.e.now)
 
 abbrev pub decreases-member : goal.decreases-member
-decreases-member l = weight (plain l.of) + 1
+decreases-member l = weight (plain l.of.now) + 1
 
 abbrev pub decreases-prefix : goal.decreases-prefix
-decreases-prefix l = weight (plain l.of) + 1
+decreases-prefix l = weight (plain l.of.now) + 1
 
 abbrev pub decreases-postfix : goal.decreases-postfix
-decreases-postfix l = weight (plain l.of) + 1
+decreases-postfix l = weight (plain l.of.now) + 1
 
 abbrev pub decreases-binary : goal.decreases-binary
-decreases-binary l = weight (plain l.left) + weight (plain l.right) + 2
+decreases-binary l = weight (plain l.left.now) + weight (plain l.right.now) + 2
 
 abbrev pub decreases-or_else : goal.decreases-or_else
-decreases-or_else l = weight (plain l.left) + weight (plain l.right) + 1
+decreases-or_else l = weight (plain l.left.now) + weight (plain l.right.now) + 1
 
 abbrev pub decreases-and_then : goal.decreases-and_then
-decreases-and_then l = weight (plain l.left) + weight (plain l.right) + 1
+decreases-and_then l = weight (plain l.left.now) + weight (plain l.right.now) + 1
 
 abbrev pub decreases-operands : goal.decreases-operands
-decreases-operands l = weight (plain l.left) + weight (plain l.right) + 1
+decreases-operands l = weight (plain l.left.now) + weight (plain l.right.now) + 1
 
 abbrev pub decreases-assign : goal.decreases-assign
-decreases-assign l = weight (plain l.value) + 1
+decreases-assign l = weight (plain l.value.now) + 1
 
 abbrev pub decreases-call : goal.decreases-call
-decreases-call l = all_weight (plain_all l.given) + 3
+decreases-call l = all_weight (plain_all l.given.now) + 3
 
 abbrev pub decreases-arguments : goal.decreases-arguments
-decreases-arguments l = all_weight (plain_all l.given) + 2
+decreases-arguments l = all_weight (plain_all l.given.now) + 2
 
 abbrev pub decreases-argument : goal.decreases-argument
-decreases-argument l = weight (plain l.given) + 1
+decreases-argument l = weight (plain l.given.now) + 1
 
 abbrev pub decreases-arguments-loop-i : goal.decreases-arguments-loop-i
 decreases-arguments-loop-i l = l.i
