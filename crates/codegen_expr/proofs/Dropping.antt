@@ -1,5 +1,5 @@
 -- Lines that many nodes share.
-use Rattle.std.proofs.Common.{◌≡◌, ◌<◌, ◌≤◌, ℕ, suc, zero, [], ◌∷◌, arith, refl}
+use Rattle.std.proofs.Common.{◌≡◌, ◌<◌, ℕ, suc, zero, [], ◌∷◌, arith, refl}
 use Rattle.ncs_code.specs.Plain as ops
 use Rattle.ncs_emit.specs.Labelled.{Instruction}
 use Rattle.code_emission.specs.Operations.{beneath, dropped}

@@ -1,12 +1,11 @@
 -- The code of nodes in parts, and labelled code that grows part by part.
-use Rattle.std.proofs.Common.{◌≡◌, ◌<◌, ◌≤◌, ◌+◌, ◌-◌, ℕ, suc, zero, ℤ, pos, List, [], ◌∷◌, ◌++◌, Option, Some, None, Result, Ok, Err, length, drop, get_or, arith, refl, ap, sym, ◌∙◌, append_assoc, subst}
+use Rattle.std.proofs.Common.{◌≡◌, ◌<◌, ◌+◌, ℕ, pos, List, [], ◌∷◌, ◌++◌, Option, Some, None, Result, Ok, Err, length, drop, get_or, arith, refl, ap, sym, ◌∙◌, append_assoc}
 use Rattle.std.specs.Option.{option_map}
 use Rattle.std.specs.Result.{OnOk}
 use Rattle.std.proofs.lemmas.List.{append-nil, at_drop_more}
 use Rattle.nss_tree.specs.declared.operators.PrefixOperator.{PrefixOperator}
 use Rattle.nss_tree.specs.declared.operators.PrefixOperator.TheVariants as pre
 use Rattle.nwq_value.specs.declared.engine.Const.{Const}
-use Rattle.nwq_value.specs.declared.value.Ty.{Ty}
 use Rattle.ncs_code.specs.Plain as ops
 use Rattle.ncs_code.specs.Plain.{PlainOp}
 use Rattle.ncs_emit.specs.declared.jump.Jump.TheVariants.{Jmp, Jz}

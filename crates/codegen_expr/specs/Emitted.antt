@@ -1,8 +1,8 @@
 -- Labelled code that grows at its end, and when an expression's code can be added.
 use Rattle.std.specs.Prelude.{ℕ, ◌+◌, ◌<◌, ◌≤◌, ◌^◌, List, ◌++◌}
 use Rattle.ncs_emit.specs.Labelled.{Line, LabelledCode}
-use Rattle.nss_typing.specs.Typed.{TypedExpr, TypedExprs, type_of}
-use Rattle.code_emission.specs.Layout.{Layout, cells}
+use Rattle.nss_typing.specs.Typed.{TypedExpr, TypedExprs}
+use Rattle.code_emission.specs.Layout.{Layout}
 use Rattle.code_emission.specs.Bounds.{depth_limit, weight, all_weight, IsExpr, AreExprs}
 use Rattle.code_emission.specs.Expressions.{labels, all_labels}
 

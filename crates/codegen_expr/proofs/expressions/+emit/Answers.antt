@@ -1,4 +1,4 @@
-use Rattle.std.proofs.Common.{◌≡◌, ◌∙◌, ◌+◌, ◌≤◌, ap, sym, refl, arith, ℕ, length, drop, Some}
+use Rattle.std.proofs.Common.{◌≡◌, ◌∙◌, ◌+◌, ap, sym, refl, arith, length}
 use Rattle.std.specs.Option.{option_map}
 use Rattle.nss_typing.specs.Reading.{plain, plain_all}
 use Rattle.nss_typing.specs.Readings.{plain_assign, plain_binary, plain_call, plain_member, plain_postfix, plain_prefix}
@@ -10,7 +10,7 @@ use Rattle.code_emission.specs.Layout.{cells}
 use Rattle.code_emission.specs.Expressions as code
 use Rattle.codegen_expr.specs.Parts.{plain_home, plain_shortcut}
 use Rattle.codegen_expr.proofs.Nodes.{arguments_step, call_code, extended_none, known_code, member_read_code, or_code}
-use Rattle.codegen_expr.proofs.Ready.{argument_falls, argument_ready, assign_is_of, assign_parts, at_labels, binary_is_of, binary_parts, call_parts, called_ready, captured_ready, counted, falls_arguments, falls_both, falls_first, falls_one, falls_second, member_parts, next_left, none_left, plain_ready, postfix_parts, prefix_parts, ready_few, ready_fits, short_first, short_second, type_few}
+use Rattle.codegen_expr.proofs.Ready.{argument_falls, argument_ready, assign_is_of, assign_parts, at_labels, binary_is_of, binary_parts, call_parts, called_ready, captured_ready, counted, falls_arguments, falls_both, falls_first, falls_one, falls_second, member_parts, next_left, none_left, plain_ready, postfix_parts, prefix_parts, ready_few, ready_fits, short_first, short_second}
 use Rattle.codegen_expr.proofs.expressions.+emit.Goals as goal
 
 -- ---- from an expression to its node

@@ -1,4 +1,4 @@
-use Rattle.std.proofs.Common.{◌≡◌, ◌≤◌, ◌++◌, ◌+◌, drop, length}
+use Rattle.std.proofs.Common.{◌≡◌, ◌≤◌, ◌+◌, drop, length}
 use Rattle.nss_typing.specs.Reading.{plain, plain_all}
 use Rattle.code_emission.specs.Bounds.{weight, all_weight}
 use Rattle.code_emission.specs.Expressions as code
