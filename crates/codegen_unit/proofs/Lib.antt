@@ -1,2 +1,6 @@
 pub mod Bounded
 pub mod Known
+pub mod Names
+pub mod Arms
+pub mod InRow
+pub mod Choosing

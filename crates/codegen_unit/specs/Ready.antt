@@ -84,7 +84,7 @@ pub record SwitchReady (made : ℕ) (l : Layout) (depth : ℕ) (around : Exits) 
 
 -- The labels of a switch from a number on were made and are placed nowhere: as many as these statements place.
 pub record AreOpen (made : ℕ) (lines : List Line) (at : ℕ) (xs : TypedStmts) : Type 0 where
-  pub made : at + count_labels xs ≤ made
+  pub inside : at + count_labels xs ≤ made
   pub unplaced : (label : ℕ) → at ≤ label → label < at + count_labels xs → placements lines label ≡ 0
 
 abbrev pub AreOpenIn : ℕ → List Line → Option ℕ → TypedStmts → Type 0

@@ -7,5 +7,7 @@
 
 mod declarations;
 mod exits;
+mod loops;
 mod parts;
+mod statements;
 mod switches;

@@ -1,19 +1,24 @@
 //! The labels of a switch, and the tests that lead to them.
 
 ghost use Rattle.std.specs.Prelude.{◌≡◌, ◌++◌, ◌+◌, ◌≤◌, ◌<◌, ◌^◌, ◌∷◌, [], ℕ, IfOk, OnOk};
+ghost use Rattle.nss_typing.specs.Reading.{plain};
 ghost use Rattle.nss_typing.specs.UnitReading.{typed_stmt, typed_stmts};
+ghost use Rattle.code_emission.specs.Bounds.{depth_limit};
+ghost use Rattle.code_emission.specs.Expressions as expr;
+ghost use Rattle.codegen_expr.specs.Emitted.{IsReady, extended};
 ghost use Rattle.ncs_code.specs.Plain as ops;
-ghost use Rattle.ncs_emit.specs.Labelled.{Instruction, JumpTo, placements};
-ghost use Rattle.ncs_emit.specs.declared.jump.Jump.TheVariants.{Jnz};
+ghost use Rattle.ncs_emit.specs.Labelled.{Instruction, JumpTo, Label, placements};
+ghost use Rattle.ncs_emit.specs.declared.jump.Jump.TheVariants.{Jmp, Jnz};
 ghost use Rattle.code_emission.specs.Operations as operations;
 ghost use Rattle.code_emission.specs.Statements as code;
 ghost use Rattle.codegen_unit.specs.Ready.{IsOpenAt};
 
-use codegen_expr::{emit_constant, emit_top_again};
+use codegen_expr::{drop_cells, emit_constant, emit_expr, emit_top_again};
 use ncs_code::Op;
-use ncs_emit::{Emitter, Jump};
+use ncs_emit::{Emitter, Jump, part_laws};
+use nss_layout::Layout;
 use nss_tree::Stmt;
-use nss_typing::TypedStmt;
+use nss_typing::{Expression, TypedStmt};
 use nwq_value::{Const, NoMemory};
 
 /// Whether a statement is a label of a switch.
@@ -79,9 +84,7 @@ pub(crate) fn count_labels(stmts: &[TypedStmt]) -> u32
 {
     let mut count = 0;
     for stmt in stmts {
-        if is_label(stmt) {
-            count += 1;
-        }
+        count = behind(count, stmt);
     }
     count
 }
@@ -155,6 +158,7 @@ pub(crate) fn emit_tests(
     stmts: &[TypedStmt],
 ) -> Result<(), NoMemory>
     requires made { at + code.count_labels (typed_stmts stmts.now) ≤ out.old.labels }
+    requires small { out.old.labels < 2 ^ 32 }
     ensures { OnOk result (out.new ≡ record out.old {
       lines = out.old.lines ++ code.tests at (typed_stmts stmts.now);
     }) }
@@ -182,6 +186,7 @@ pub(crate) fn otherwise(end: u32, mut at: u32, stmts: &[TypedStmt]) -> u32
 
 /// Places a label of a switch where the statement is one, and gives the number of the next.
 pub(crate) fn place_label(out: &mut Emitter, at: Option<u32>, stmt: &TypedStmt) -> Option<u32>
+    requires small { out.old.labels < 2 ^ 32 }
     requires open { IsOpenAt out.old.labels out.old.lines at (typed_stmt stmt.now) }
     ensures placed { out.new
         ≡ record out.old { lines = out.old.lines ++ code.placed at (typed_stmt stmt.now) } }
@@ -198,4 +203,43 @@ pub(crate) fn place_label(out: &mut Emitter, at: Option<u32>, stmt: &TypedStmt) 
             }
         }
     }
+}
+
+/// Evaluates the selector, and goes on at the case that it fits.
+#[tactic(auto, using(crate::proofs::Choosing::otherwise_made))]
+pub(crate) fn emit_choice(
+    out: &mut Emitter,
+    layout: &Layout,
+    value: &Expression,
+    depth: u32,
+    end: u32,
+    body: &[TypedStmt],
+) -> Result<(), NoMemory>
+    requires ready { IsReady out.old.labels layout.now depth (plain value.now) }
+    requires made { end + 1 + code.count_labels (typed_stmts body.now) ≤ out.old.labels }
+    ensures { OnOk result (out.new ≡ extended out.old
+        (expr.emit layout.now out.old.labels depth (plain value.now)
+        ++ (code.tests (end + 1) (typed_stmts body.now)
+        ++ JumpTo Jmp (code.otherwise end (end + 1) (typed_stmts body.now)) ∷ []))
+        (expr.labels (plain value.now))) }
+{
+    emit_expr(out, layout, value, depth)?;
+    emit_tests(out, end + 1, body)?;
+    out.jump(Jump::Jmp, otherwise(end, end + 1, body))
+}
+
+/// Takes off the cells that the body declares, and behind the end the selector.
+pub(crate) fn close_switch(out: &mut Emitter, end: u32, cells: u32) -> Result<(), NoMemory>
+    requires small { cells ≤ depth_limit }
+    requires made { end < out.old.labels }
+    requires unplaced { placements out.old.lines end ≡ 0 }
+    ensures { OnOk result (out.new ≡ record out.old {
+      lines = out.old.lines
+          ++ (operations.dropped cells ++ Label end ∷ operations.dropped 1);
+    }) }
+{
+    part_laws();
+    drop_cells(out, cells)?;
+    out.place(end);
+    drop_cells(out, 1)
 }
