@@ -69,7 +69,7 @@ pub tested_none : (add : PlacementsAdd) (above : ExprsPlaceAbove) (l : Layout) (
 tested_none add above l n d None label lt = refl
 tested_none add above l n d (Some x) label lt = above l n d x label lt
 
-other_label : (k label : ℕ) → k < label → cond (eqb k label) 1 0 ≡ 0
+other_label : (k label : ℕ) → k < label → ◌≡◌ {A = ℕ} (cond (eqb k label) 1 0) 0
 other_label k label lt = grind (arith, nat_tests)
 
 test_none : (at : ℕ) (x : TypedStmt) (label : ℕ) → placements (test_of at x) label ≡ 0

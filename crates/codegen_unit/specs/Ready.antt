@@ -1,9 +1,10 @@
 -- When the code of a statement can be added to labelled code.
 use Rattle.std.specs.Prelude.{◌≡◌, ℕ, ◌+◌, ◌<◌, ◌≤◌, ◌^◌, Bool, true, false, List, Option, None, Some, IsTrue}
 use Rattle.ncs_emit.specs.Labelled.{Line, placements}
-use Rattle.nss_typing.specs.Typed.{TypedExpr, TypedName, TypedStmt, TypedStmts}
+use Rattle.nss_typing.specs.Typed.{TypedExpr, TypedItem, TypedName, TypedStmt, TypedStmts}
 use Rattle.code_emission.specs.Layout.{Layout}
-use Rattle.code_emission.specs.Bounds.{depth_limit, stmt_weight, all_stmt_weight, names_weight, IsStmt, AreStmts, AreNames}
+use Rattle.code_emission.specs.Bounds.{depth_limit, stmt_weight, all_stmt_weight, names_weight, globals_weight, IsStmt, AreStmts, AreNames, AreItems}
+use Rattle.code_emission.specs.Units.{body_count, functions_labels, globals_labels}
 use Rattle.code_emission.specs.Statements as code
 use Rattle.code_emission.specs.Statements.{stmt_labels, all_stmt_labels, names_labels, count_labels}
 use Rattle.codegen_expr.specs.Emitted.{IsReady}
@@ -95,3 +96,23 @@ AreOpenIn made lines (Some at) xs = AreOpen made lines at xs
 abbrev pub IsOpenAt : ℕ → List Line → Option ℕ → TypedStmt → Type 0
 IsOpenAt made lines None x = Unit {0}
 IsOpenAt made lines (Some at) x = IsTrue (code.is_label x) → (at < made) × (placements lines at ≡ 0)
+
+-- ---- items
+
+-- the functions of these items: their own labels were made
+pub record FunctionsReady (made : ℕ) (l : Layout) (items : List TypedItem) : Type 0 where
+  pub bounded : AreItems made l items
+  pub globals : l.globals ≤ depth_limit
+  pub labelled : made + functions_labels items < 2 ^ 32
+
+-- the labels of the functions of these items, from a number on, were made and are placed nowhere
+pub record AreFunctionsOpen (made : ℕ) (lines : List Line) (at : ℕ) (items : List TypedItem) : Type 0 where
+  pub inside : at + body_count items ≤ made
+  pub unplaced : (label : ℕ) → at ≤ label → label < at + body_count items → placements lines label ≡ 0
+
+-- the globals of these items, at a depth
+pub record GlobalsReady (made : ℕ) (l : Layout) (depth : ℕ) (items : List TypedItem) : Type 0 where
+  pub bounded : AreItems made l items
+  pub deep : depth + globals_weight items ≤ depth_limit
+  pub globals : l.globals ≤ depth_limit
+  pub labelled : made + globals_labels items < 2 ^ 32

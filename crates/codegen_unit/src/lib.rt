@@ -11,3 +11,4 @@ mod loops;
 mod parts;
 mod statements;
 mod switches;
+mod units;

@@ -1,12 +1,14 @@
 use Rattle.std.proofs.Common.{◌≡◌, ◌∙◌, ◌+◌, ◌<◌, ap, sym, refl, arith, ℕ, Some, rules}
+use Rattle.std.specs.Option.{option_map}
 use Rattle.nss_tree.specs.Readings.{tree_case_label, tree_default_label, tree_do_loop, tree_empty, tree_for_loop, tree_if_else, tree_if_only, tree_switch, tree_while_loop}
 use Rattle.nss_tree.specs.Statements.{map_stmt}
 use Rattle.ncs_emit.specs.Labelled.{LabelledCode}
 use Rattle.nss_typing.specs.Reading.{plain}
 use Rattle.nss_typing.specs.UnitReading.{typed_stmt, typed_stmts}
+use Rattle.code_emission.specs.Expressions.{labels}
 use Rattle.code_emission.specs.Statements as code
 use Rattle.codegen_unit.specs.Ready.{plain_exits}
-use Rattle.codegen_unit.proofs.Arms.{body_of_switch_ready, body_ready, do_is, do_parts, for_is, for_parts, if_else_is, if_else_parts, if_only_is, if_only_parts, known_code, known_none, switch_is, switch_parts, while_is, while_parts}
+use Rattle.codegen_unit.proofs.Arms.{body_of_switch_ready, body_ready, do_is, do_parts, for_is, for_parts, if_else_is, if_else_parts, if_only_is, if_only_parts, falls_row, all_size, known_code, known_none, plain_in_switch, switch_is, switch_parts, while_is, while_parts}
 use Rattle.codegen_unit.proofs.Choosing.{choice_open, close_open, for_open, switch_code}
 use Rattle.codegen_unit.proofs.InRow.{cells_done, cells_step, code_done, code_step, next_falls, next_few, next_ready, open_after, open_at, open_known, rest_ready, stmts_few, switch_few}
 use Rattle.codegen_unit.proofs.statements.+statement.Goals as goal
@@ -100,3 +102,55 @@ statements-returns-clause-depth t c = cells_done c.args.layout.now c.args.stmts.
 
 pub block-drop_cells-requires : goal.block-drop_cells-requires
 block-drop_cells-requires t c = record { small = omega (arith, c.in_ok-behind.ensures.depth, stmts_few _ _ _ _ _ c.requires.ready) }
+
+-- ---- a `for`, and a switch
+
+pub for_loop-place-requires-clause-unplaced : goal.for_loop-place-requires-clause-unplaced
+for_loop-place-requires-clause-unplaced t c =
+    let made = ap (λ (d : LabelledCode). d.labels) c.in_ok-top.ensures.made in
+    let top = c.in_ok-top.top in
+    for_open c.part_laws.ensures.placements c.places_above.ensures.exprs c.places_above.ensures.stmt c.args.layout.now (plain_exits c.in_loop-exits.result) c.args.depth top (top + 1) (top + 2) (top + 2)
+    (option_map plain c.args.start.now) (option_map plain c.args.condition.now) (option_map plain c.args.step.now) (typed_stmt c.args.body.now) _ _ _ _ _
+    c.in_ok-emit_evaluated.ensures c.in_ok-emit_turn.ensures c.in_ok-statement.ensures c.in_ok-emit_again.ensures
+    (omega (arith, made, c.in_ok-top.ensures.first)) (omega arith) (omega arith)
+    (c.in_ok-top.ensures.unplaced (top + 2) (omega (arith, c.in_ok-top.ensures.first)) (omega (arith, c.in_ok-top.ensures.first)))
+
+pub switch-statements-requires : goal.switch-statements-requires
+switch-statements-requires t c =
+    let made = ap (λ (d : LabelledCode). d.labels) c.in_ok-end.ensures.made in
+    let after = ap (λ (d : LabelledCode). d.labels) c.in_ok-emit_choice.ensures in (
+      falls_row (all_size (typed_stmts c.args.body.now)) t c.decreases,
+      (
+        body_of_switch_ready (c.args.out.now.labels + 1 + code.count_labels (typed_stmts c.args.body.now) + labels (plain c.args.value.now)) c.emit_choice.new.out.labels c.args.layout.now (c.args.depth + 1) (c.args.depth + 1)
+            c.in_switch-exits.result c.args.exits (typed_stmts c.args.body.now) (record { label = c.in_ok-end.end; depth = c.args.depth + 1 }) c.requires.body
+            (omega (arith, made, after, c.count_labels.ensures)) refl c.in_switch-exits.ensures.breaks c.in_switch-exits.ensures.continues (omega (arith, made, after, c.in_ok-end.ensures.first)),
+        record {
+          inside = omega (arith, made, after, c.count_labels.ensures, c.in_ok-end.ensures.first);
+          unplaced = λ label from to.
+              choice_open c.part_laws.ensures.placements c.places_above.ensures.exprs c.args.layout.now c.args.depth c.in_ok-end.end _ (plain c.args.value.now) (typed_stmts c.args.body.now) _ _ c.in_ok-emit_choice.ensures label
+              (omega (arith, made, from, to, c.count_labels.ensures, c.in_ok-end.ensures.first))
+              (c.in_ok-end.ensures.unplaced label (omega (arith, from, c.in_ok-end.ensures.first)) (omega (arith, to, c.count_labels.ensures, c.in_ok-end.ensures.first)));
+        },
+      ),
+    )
+
+pub switch-close_switch-requires-clause-small : goal.switch-close_switch-requires-clause-small
+switch-close_switch-requires-clause-small t c = omega (arith, c.in_ok-behind.ensures.depth, switch_few _ _ _ _ _ c.requires.body)
+
+pub switch-close_switch-requires-clause-unplaced : goal.switch-close_switch-requires-clause-unplaced
+switch-close_switch-requires-clause-unplaced t c =
+    let made = ap (λ (d : LabelledCode). d.labels) c.in_ok-end.ensures.made in
+    let after = ap (λ (d : LabelledCode). d.labels) c.in_ok-emit_choice.ensures in
+    close_open c.part_laws.ensures.placements c.places_above.ensures.stmt c.args.layout.now (plain_exits c.in_switch-exits.result) (c.args.depth + 1) (c.in_ok-end.end + 1) c.in_ok-end.end (typed_stmts c.args.body.now) _ _
+    c.in_ok-behind.ensures.code (omega (arith, made, after, c.in_ok-end.ensures.first)) (omega arith)
+    (choice_open c.part_laws.ensures.placements c.places_above.ensures.exprs c.args.layout.now c.args.depth c.in_ok-end.end _ (plain c.args.value.now) (typed_stmts c.args.body.now) _ _ c.in_ok-emit_choice.ensures c.in_ok-end.end
+    (omega (arith, made, c.in_ok-end.ensures.first))
+    (c.in_ok-end.ensures.unplaced c.in_ok-end.end (omega (arith, c.in_ok-end.ensures.first)) (omega (arith, c.in_ok-end.ensures.first))))
+
+pub switch-returns : goal.switch-returns
+switch-returns t c =
+    switch_code c.args.layout.now (plain_exits c.args.exits) (plain_exits c.in_switch-exits.result) c.args.depth _ (plain c.args.value.now) (typed_stmts c.args.body.now) _ _ _ _ c.in_ok-end.end _ _
+    c.in_ok-end.ensures.first
+    (c.in_ok-end.ensures.made ∙ ap (λ (k : ℕ). record c.args.out.now { labels = c.args.out.now.labels + (1 + k) }) c.count_labels.ensures)
+    c.in_ok-emit_choice.ensures (plain_in_switch c.in_switch-exits.result c.args.exits c.in_ok-end.end (c.args.depth + 1) c.in_switch-exits.ensures.breaks c.in_switch-exits.ensures.continues) c.in_ok-behind.ensures.code (omega (arith, c.in_ok-behind.ensures.depth))
+    c.close_switch.ensures
