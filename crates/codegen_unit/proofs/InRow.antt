@@ -28,7 +28,7 @@ use Rattle.codegen_unit.proofs.Known.{stmts_next, stmts_past}
 
 -- ---- cells
 
-names_few : (n : ℕ) (l : Layout) (xs : List TypedName) → AreNames n l xs → names_cells l.structs xs ≤ names_weight xs
+pub names_few : (n : ℕ) (l : Layout) (xs : List TypedName) → AreNames n l xs → names_cells l.structs xs ≤ names_weight xs
 names_few n l [] are = omega arith
 names_few n l (x ∷ xs) are = omega (arith, are.0.few, names_few n l xs are.2)
 

@@ -4,3 +4,4 @@ pub mod Names
 pub mod Arms
 pub mod InRow
 pub mod Choosing
+pub mod Listed

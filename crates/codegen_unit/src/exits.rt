@@ -1,6 +1,6 @@
 //! Where `break` and `continue` lead.
 
-ghost use Rattle.std.specs.Prelude.{◌≡◌, Some};
+ghost use Rattle.std.specs.Prelude.{◌≡◌, None, Some};
 ghost use Rattle.code_emission.specs.Statements as code;
 ghost use Rattle.codegen_unit.specs.Ready.{plain_exits};
 
@@ -20,7 +20,8 @@ pub struct Exits {
 
 /// Outside of all loops and switches.
 pub(crate) fn no_exits() -> Exits
-    ensures { plain_exits result ≡ code.no_exits }
+    ensures none { result ≡ record { break_to = None; continue_to = None } }
+    ensures plain { plain_exits result ≡ code.no_exits }
 {
     Exits {
         break_to: None,

@@ -12,3 +12,5 @@ mod parts;
 mod statements;
 mod switches;
 mod units;
+
+pub use units::{GenFault, generate};

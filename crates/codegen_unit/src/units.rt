@@ -1,8 +1,14 @@
 //! The code of a whole unit: its start, and its functions.
 
 ghost use Rattle.std.specs.Prelude.{◌≡◌, ◌++◌, ◌+◌, ◌<◌, ◌≤◌, ◌^◌, ◌∷◌, [], ℕ, List, None, true};
-ghost use Rattle.std.specs.Prelude.{IfOk, OnOk, if◌then◌else◌};
-ghost use Rattle.ncs_emit.specs.Labelled.{placements};
+ghost use Rattle.std.specs.Prelude.{IfErr, IfOk, OnOk, if◌then◌else◌};
+ghost use Rattle.nwq_value.specs.Limits.{file_limit};
+ghost use Rattle.ncs_code.specs.File.{file_length};
+ghost use Rattle.ncs_code.specs.Plain as ops;
+ghost use Rattle.ncs_emit.specs.Faults.{Fails};
+ghost use Rattle.ncs_emit.specs.Labelled.{Instruction, JumpTo, Label, placements, program};
+ghost use Rattle.ncs_emit.specs.declared.jump.Jump.TheVariants.{Jsr};
+ghost use Rattle.code_emission.specs.Operations.{dropped};
 ghost use Rattle.nss_typing.specs.Typed as typed;
 ghost use Rattle.nss_typing.specs.UnitReading.{typed_item, typed_items, typed_stmts, typed_unit};
 ghost use Rattle.code_emission.specs.Bounds.{AreItems, IsBounded, IsEntry, depth_limit, globals_weight};
@@ -16,13 +22,19 @@ use crate::declarations::{emit_names, names_cells};
 use crate::exits::no_exits;
 use crate::statements::statements;
 use crate::switches::make_labels;
+use code_emission::laws::each_placed_once;
+use code_emission::parts::places_above;
 use codegen_expr::drop_cells;
 use ncs_code::Op;
-use ncs_emit::{Emitter, Jump, part_laws};
-use nss_layout::Layout;
+use ncs_emit::{EmitFault, Emitter, Jump, part_laws};
+use nss_layout::{Layout, lay};
 use nss_tree::Item;
 use nss_typing::{EntryPoint, Typed, TypedItem, TypedParameter, TypedStmt};
 use nwq_value::NoMemory;
+use std::alloc::Global;
+
+/// Why a file was not made: it would be so large, or memory ran out.
+pub type GenFault = EmitFault;
 
 /// How many cells parameters have together.
 fn params_cells(layout: &Layout, parameters: &[TypedParameter]) -> u32
@@ -50,10 +62,14 @@ fn emit_function(
         (record { break_to = None; continue_to = None }) (typed_stmts body.now) }
     requires made { number < out.old.labels }
     requires unplaced { placements out.old.lines number ≡ 0 }
-    ensures { OnOk result (out.new ≡ extended out.old
+    ensures code { OnOk result (out.new ≡ extended out.old
         (units.emit_function layout.now out.old.labels number parameters.now (typed_stmts body.now))
         (code.all_stmt_labels (typed_stmts body.now))) }
+    ensures others { OnOk result ((label : ℕ) → number < label → label < out.old.labels
+        → placements out.new.lines label ≡ placements out.old.lines label) }
 {
+    part_laws();
+    places_above();
     out.place(number);
     let depth = params_cells(layout, parameters);
     let behind = statements(out, layout, no_exits(), None, body, depth)?;
@@ -83,6 +99,8 @@ fn emit_item(
         ≡ out.old.labels + units.functions_labels (typed_item item.now ∷ [])) }
     ensures number { IfOk result
         (λ next. next ≡ number + units.body_count (typed_item item.now ∷ [])) }
+    ensures others { IfOk result (λ next. (label : ℕ) → next ≤ label → label < out.old.labels
+        → placements out.new.lines label ≡ placements out.old.lines label) }
 {
     match item {
         Item::Struct { .. } => Ok(number),
@@ -231,8 +249,42 @@ fn emit_entry(out: &mut Emitter, entry: EntryPoint) -> Result<(), NoMemory>
     }
 }
 
-/// Adds the start of a unit with globals.
+/// Begins on top of the globals, and takes them off at the end.
 #[tactic(auto, unfolding(ncs_code::specs::Spelling::has_type))]
+fn emit_main(out: &mut Emitter, layout: &Layout, entry: EntryPoint) -> Result<(), NoMemory>
+    requires made { IsEntry out.old.labels entry }
+    requires globals { layout.now.globals ≤ depth_limit }
+    ensures { OnOk result (out.new ≡ record out.old {
+      lines = out.old.lines
+          ++ (Instruction ops.SaveBp
+          ∷ (units.entry_call entry
+          ++ (Instruction ops.RestoreBp
+          ∷ (dropped layout.now.globals ++ Instruction ops.Retn ∷ []))));
+    }) }
+{
+    out.op(&Op::SaveBp)?;
+    emit_entry(out, entry)?;
+    out.op(&Op::RestoreBp)?;
+    drop_cells(out, layout.globals())?;
+    out.op(&Op::Retn)
+}
+
+/// Calls what makes the globals, and begins it.
+#[tactic(auto, unfolding(ncs_code::specs::Spelling::has_type))]
+fn begin_globals(out: &mut Emitter) -> Result<(), NoMemory>
+    requires small { out.old.labels + 1 < 2 ^ 32 }
+    ensures { OnOk result (out.new ≡ extended out.old
+        (JumpTo Jsr out.old.labels ∷ Instruction ops.Retn ∷ Label out.old.labels ∷ []) 1) }
+{
+    part_laws();
+    let init = out.label()?;
+    out.jump(Jump::Jsr, init)?;
+    out.op(&Op::Retn)?;
+    out.place(init);
+    Ok(())
+}
+
+/// Adds the start of a unit with globals.
 fn emit_init(
     out: &mut Emitter,
     layout: &Layout,
@@ -245,16 +297,9 @@ fn emit_init(
         (units.emit_start layout.now out.old.labels true (typed_items items.now) entry)
         (units.start_labels true (typed_items items.now))) }
 {
-    let init = out.label()?;
-    out.jump(Jump::Jsr, init)?;
-    out.op(&Op::Retn)?;
-    out.place(init);
+    begin_globals(out)?;
     emit_globals(out, layout, items)?;
-    out.op(&Op::SaveBp)?;
-    emit_entry(out, entry)?;
-    out.op(&Op::RestoreBp)?;
-    drop_cells(out, layout.globals())?;
-    out.op(&Op::Retn)
+    emit_main(out, layout, entry)
 }
 
 /// Adds the start of a unit.
@@ -281,4 +326,38 @@ fn emit_start(
     }
     emit_entry(out, entry)?;
     out.op(&Op::Retn)
+}
+
+/// Adds the code of a unit to none.
+fn emit_unit(out: &mut Emitter, layout: &Layout, unit: &Typed) -> Result<(), NoMemory>
+    requires bounded { IsBounded (typed_unit unit.now) }
+    requires few { (units.unit_code (typed_unit unit.now)).labels < 2 ^ 32 }
+    requires laid { layout.now ≡ laid.layout_of (typed_unit unit.now) }
+    requires lines { out.old.lines ≡ [] }
+    requires labels { out.old.labels ≡ 0 }
+    ensures { OnOk result (out.new ≡ units.unit_code (typed_unit unit.now)) }
+{
+    part_laws();
+    places_above();
+    let items = unit.items.as_slice();
+    make_labels(out, body_count(items))?;
+    emit_start(out, layout, items, unit.entry)?;
+    emit_functions(out, layout, items)
+}
+
+/// The file of a typed unit, or the size of one that is too large.
+pub fn generate(alloc: Global, unit: &Typed) -> Result<Vec<u8>, GenFault>
+    requires bounded { IsBounded (typed_unit unit.now) }
+    requires few { (units.unit_code (typed_unit unit.now)).labels < 2 ^ 32 }
+    ensures file { IfOk result (λ bytes. bytes.items ≡ units.unit_file (typed_unit unit.now)) }
+    ensures small { OnOk result
+        (file_length (program (units.unit_code (typed_unit unit.now)).lines) ≤ file_limit) }
+    ensures fault { IfErr result
+        (λ fault. Fails fault (units.unit_code (typed_unit unit.now)).lines) }
+{
+    each_placed_once();
+    let layout = lay(alloc, unit)?;
+    let mut out = Emitter::new(alloc);
+    emit_unit(&mut out, &layout, unit)?;
+    out.finish(alloc)
 }
