@@ -1,32 +1,29 @@
 -- From a statement that is known to its parts: that their code can be added, that they are smaller, and that the statement's code is theirs.
-use Rattle.std.proofs.Common.{◌≡◌, ◌<◌, ◌≤◌, ◌+◌, ◌-◌, ◌^◌, ℕ, Bool, true, false, List, [], ◌∷◌, ◌++◌, Option, Some, None, Result, Ok, Err, length, drop, arith, refl, ap, sym, ◌∙◌, subst}
+use Rattle.std.proofs.Common.{◌≡◌, ◌<◌, ◌≤◌, ◌+◌, ◌^◌, ℕ, true, List, [], ◌++◌, Option, Some, None, Result, Ok, Err, arith, ap, sym, ◌∙◌, subst}
 use Rattle.std.specs.Option.{option_map}
 use Rattle.std.specs.Result.{OnOk}
-use Rattle.std.proofs.lemmas.List.{append-nil}
 use Rattle.nss_tree.specs.declared.statements.DeclaredName.{DeclaredName}
 use Rattle.nss_tree.specs.declared.statements.Stmt.{Stmt}
 use Rattle.nss_tree.specs.Reading.{tree_of_stmt, tree_of_stmts}
-use Rattle.nss_tree.specs.Readings.{stmts_more}
 use Rattle.nss_tree.specs.Statements as s
 use Rattle.nss_tree.specs.Statements.{PlainStmt, map_stmt, map_stmts}
-use Rattle.nwq_value.specs.Limits.{struct_cell_limit}
 use Rattle.nwq_value.specs.declared.value.Ty.{Ty}
 use Rattle.nwq_value.specs.declared.engine.Const.{Const}
-use Rattle.ncs_emit.specs.Labelled.{Line, LabelledCode}
+use Rattle.ncs_emit.specs.Labelled.{LabelledCode}
 use Rattle.nss_typing.specs.declared.expressions.Expression.{Expression}
 use Rattle.nss_typing.specs.declared.places.Variable.{Variable}
 use Rattle.nss_typing.specs.Reading.{plain}
 use Rattle.nss_typing.specs.Typed.{TypedExpr, TypedName, TypedStmt, TypedStmts}
 use Rattle.nss_typing.specs.UnitReading.{typed_names, typed_stmt, typed_stmts}
-use Rattle.code_emission.specs.Bounds.{depth_limit, weight, some_weight, names_weight, stmt_weight, all_stmt_weight, IsExpr, IsSome, IsStmt, AreStmts, AreNames}
-use Rattle.code_emission.specs.Layout.{Layout, cells, Structs, names_cells, declared_cells}
+use Rattle.code_emission.specs.Bounds.{depth_limit, weight, some_weight, stmt_weight, IsExpr, IsSome, IsStmt, AreStmts}
+use Rattle.code_emission.specs.Layout.{Layout}
 use Rattle.code_emission.specs.Expressions.{labels}
-use Rattle.code_emission.specs.Statements.{Exits, in_switch, some_labels, names_labels, count_labels, stmt_labels, all_stmt_labels, emit_stmt}
+use Rattle.code_emission.specs.Statements.{Exits, in_switch, some_labels, count_labels, stmt_labels, emit_stmt}
 use Rattle.codegen_expr.specs.Emitted.{IsReady, extended}
 use Rattle.codegen_unit.specs.declared.exits.Target.{Target}
 use Rattle.codegen_unit.specs.declared.exits.Exits as code
 use Rattle.codegen_unit.specs.Ready.{IsMade, IsPartReady, LoopReady, NamesReady, StmtReady, StmtsReady, SwitchReady, depth_of, label_of, leads, plain_exits}
-use Rattle.codegen_unit.proofs.Bounded.{grows, some_grows, all_names_grow, stmt_grows, stmts_grow, extended_none}
+use Rattle.codegen_unit.proofs.Bounded.{grows, stmt_grows, stmts_grow, extended_none}
 
 -- ---- sizes
 

@@ -1,21 +1,18 @@
 -- The labels of a switch, and what is placed in loops and switches.
-use Rattle.std.proofs.Common.{◌≡◌, ◌<◌, ◌≤◌, ◌+◌, ◌-◌, ℕ, Bool, true, false, cond, eqb, List, [], ◌∷◌, ◌++◌, Option, Some, None, Result, Ok, Err, zero, suc, arith, refl, ap, sym, ◌∙◌, append_assoc, subst}
-use Rattle.std.specs.Prelude.{IsTrue}
+use Rattle.std.proofs.Common.{◌≡◌, ◌<◌, ◌≤◌, ◌+◌, ℕ, Bool, true, false, cond, eqb, List, [], ◌∷◌, ◌++◌, Option, Some, None, Result, Ok, Err, zero, suc, arith, refl, ap, ◌∙◌, append_assoc}
 use Rattle.std.specs.Result.{OnOk}
 use Rattle.std.proofs.lemmas.Bool.Decides.{nat_tests}
 use Rattle.nss_tree.specs.Statements as s
-use Rattle.nwq_value.specs.declared.value.Ty.{Ty}
 use Rattle.ncs_emit.specs.declared.jump.Jump.TheVariants.{Jmp, Jz}
-use Rattle.ncs_emit.specs.Labelled.{Line, Instruction, JumpTo, Label, LabelledCode, placements}
+use Rattle.ncs_emit.specs.Labelled.{Line, JumpTo, Label, LabelledCode, placements}
 use Rattle.ncs_emit.specs.Laws.{PlacementsAdd}
 use Rattle.nss_typing.specs.Typed.{TypedExpr, TypedStmt, TypedStmts, type_of}
 use Rattle.code_emission.specs.Parts.{ExprsPlaceAbove, StmtPlacesAbove}
 use Rattle.code_emission.specs.Layout.{Layout, cells, declared_cells, all_declared_cells}
-use Rattle.code_emission.specs.Operations.{dropped, int_constant}
+use Rattle.code_emission.specs.Operations.{dropped}
 use Rattle.code_emission.specs.Expressions.{emit, labels}
 use Rattle.code_emission.specs.Statements.{Exits, in_switch, is_label, is_default, count_labels, behind, placed, placed_on, test_of, tests, otherwise, evaluated, tested, some_labels, stmt_labels, all_stmt_labels, emit_stmt, emit_stmts}
 use Rattle.codegen_expr.specs.Emitted.{extended}
-use Rattle.codegen_unit.specs.Ready.{AreOpen}
 
 -- ---- where a switch goes on
 

@@ -1,12 +1,10 @@
 -- Statements in a row: what is left, behind what is done, gives what all give.
-use Rattle.std.proofs.Common.{◌≡◌, ◌<◌, ◌≤◌, ◌+◌, ◌^◌, ℕ, Bool, true, false, cond, eqb, List, [], ◌∷◌, ◌++◌, Option, Some, None, zero, suc, length, drop, get_or, arith, refl, ap, sym, ◌∙◌, append_assoc, subst}
+use Rattle.std.proofs.Common.{◌≡◌, ◌<◌, ◌≤◌, ◌+◌, ℕ, Bool, true, false, cond, List, [], ◌∷◌, ◌++◌, Option, Some, None, zero, suc, length, drop, get_or, arith, refl, ap, sym, ◌∙◌, append_assoc, subst}
 use Rattle.std.specs.Prelude.{IsTrue}
 use Rattle.std.proofs.lemmas.Bool.Decides.{nat_tests}
-use Rattle.std.proofs.lemmas.List.{append-nil}
 use Rattle.nss_tree.specs.declared.statements.Stmt.{Stmt}
 use Rattle.nss_tree.specs.Reading.{tree_of_stmts}
 use Rattle.nss_tree.specs.Statements as s
-use Rattle.nwq_value.specs.Limits.{struct_cell_limit}
 use Rattle.nwq_value.specs.declared.value.Ty.{Ty}
 use Rattle.nwq_value.specs.declared.engine.Const.{Const}
 use Rattle.ncs_emit.specs.Labelled.{Line, Label, LabelledCode, placements}
@@ -17,11 +15,11 @@ use Rattle.nss_typing.specs.Typed.{TypedName, TypedStmt, TypedStmts}
 use Rattle.nss_typing.specs.UnitReading.{typed_stmt, typed_stmts}
 use Rattle.code_emission.specs.Parts.{StmtPlacesAbove}
 use Rattle.code_emission.specs.Bounds.{depth_limit, names_weight, stmt_weight, all_stmt_weight, IsStmt, AreStmts, AreNames}
-use Rattle.code_emission.specs.Layout.{Layout, cells, names_cells, declared_cells, all_declared_cells}
-use Rattle.code_emission.specs.Statements.{Exits, is_label, count_labels, behind, placed, placed_on, stmt_labels, all_stmt_labels, emit_stmt, emit_stmts}
+use Rattle.code_emission.specs.Layout.{Layout, names_cells, declared_cells, all_declared_cells}
+use Rattle.code_emission.specs.Statements.{Exits, is_label, count_labels, placed, placed_on, stmt_labels, all_stmt_labels, emit_stmt, emit_stmts}
 use Rattle.codegen_expr.specs.Emitted.{extended}
 use Rattle.codegen_unit.specs.declared.exits.Exits as code
-use Rattle.codegen_unit.specs.Ready.{AreOpen, AreOpenIn, IsMade, IsOpenAt, StmtReady, StmtsReady, SwitchReady, leads}
+use Rattle.codegen_unit.specs.Ready.{AreOpenIn, IsOpenAt, StmtReady, StmtsReady, SwitchReady, leads}
 use Rattle.codegen_unit.proofs.Arms.{size, all_size, made_grows}
 use Rattle.codegen_unit.proofs.Bounded.{extended_none, extended_twice, stmts_grow}
 use Rattle.codegen_unit.proofs.Known.{stmts_next, stmts_past}

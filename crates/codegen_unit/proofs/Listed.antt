@@ -1,17 +1,14 @@
 -- Items, one after another: their functions and their globals.
-use Rattle.std.proofs.Common.{◌≡◌, ◌<◌, ◌≤◌, ◌+◌, ◌^◌, ℕ, Bool, true, false, cond, eqb, ltb, List, [], ◌∷◌, ◌++◌, Option, Some, None, Result, Ok, Err, zero, suc, length, drop, get_or, map, arith, refl, ap, sym, ◌∙◌, append_assoc, subst}
-use Rattle.std.specs.Option.{option_map}
+use Rattle.std.proofs.Common.{◌≡◌, ◌<◌, ◌≤◌, ◌+◌, ◌^◌, ℕ, Bool, true, false, cond, eqb, ltb, List, [], ◌∷◌, ◌++◌, Some, None, Result, Ok, Err, zero, suc, length, drop, get_or, arith, refl, ap, sym, ◌∙◌, append_assoc, subst}
 use Rattle.std.specs.Result.{OnOk}
 use Rattle.std.proofs.lemmas.Bool.Decides.{nat_tests}
-use Rattle.std.proofs.lemmas.List.{append-nil, at_drop_more, drop_all}
+use Rattle.std.proofs.lemmas.List.{at_drop_more}
 use Rattle.nss_tree.specs.declared.units.Item.{Item}
-use Rattle.nss_tree.specs.Statements as s
 use Rattle.nss_tree.specs.Units.{structure, constant, global, function}
-use Rattle.nwq_value.specs.Limits.{struct_cell_limit}
 use Rattle.nwq_value.specs.declared.value.Ty.{Ty}
 use Rattle.nwq_value.specs.declared.engine.Const.{Const}
 use Rattle.ncs_code.specs.Plain as ops
-use Rattle.ncs_emit.specs.Labelled.{Line, Instruction, JumpTo, Label, LabelledCode, placements}
+use Rattle.ncs_emit.specs.Labelled.{Line, Instruction, Label, LabelledCode, placements}
 use Rattle.ncs_emit.specs.Laws.{PlacementsAdd}
 use Rattle.nss_typing.specs.declared.expressions.Expression.{Expression}
 use Rattle.nss_typing.specs.declared.places.Variable.{Variable}
@@ -20,11 +17,11 @@ use Rattle.nss_typing.specs.declared.places.EntryPoint.TheVariants.{Main, Condit
 use Rattle.nss_typing.specs.Typed.{TypedItem, TypedName, TypedParameter, TypedStmts, TypedUnit}
 use Rattle.nss_typing.specs.UnitReading.{typed_item, typed_items}
 use Rattle.code_emission.specs.Parts.{NamesPlaceAbove, StmtsPlaceAbove}
-use Rattle.code_emission.specs.Bounds.{depth_limit, names_weight, globals_weight, all_stmt_weight, AreNames, AreItems, IsBounded, IsEntry}
+use Rattle.code_emission.specs.Bounds.{depth_limit, globals_weight, AreItems, IsBounded}
 use Rattle.code_emission.specs.Layout.{Layout, layout_of, names_cells, item_cells, global_cells, params_cells, all_declared_cells}
 use Rattle.code_emission.specs.Operations.{dropped}
-use Rattle.code_emission.specs.Statements.{no_exits, names_labels, emit_names, all_stmt_labels, emit_stmts}
-use Rattle.code_emission.specs.Units.{body_count, functions_labels, emit_function, emit_functions, has_globals, globals_labels, emit_globals, entry_call, start_labels, emit_start, unit_code}
+use Rattle.code_emission.specs.Statements.{Exits, no_exits, names_labels, emit_names, all_stmt_labels, emit_stmts}
+use Rattle.code_emission.specs.Units.{body_count, functions_labels, emit_function, has_globals, globals_labels, emit_globals, entry_call, start_labels, emit_start, unit_code}
 use Rattle.codegen_expr.specs.Emitted.{extended}
 use Rattle.codegen_unit.specs.Ready.{AreFunctionsOpen, FunctionsReady, GlobalsReady}
 use Rattle.codegen_unit.proofs.Bounded.{all_names_grow, stmts_grow}
@@ -52,23 +49,23 @@ items_grow n m l (function i t x ps None ∷ ys) le are = items_grow n m l ys le
 items_grow n m l (function i t x ps (Some body) ∷ ys) le are = (stmts_grow n m l false false body le are.0, are.1, items_grow n m l ys le are.2)
 
 functions_add : (y : TypedItem) (ys : List TypedItem) → functions_labels (y ∷ ys) ≡ functions_labels (y ∷ []) + functions_labels ys
-functions_add (structure i x ls) ys = refl
-functions_add (constant i t x k) ys = refl
-functions_add (global i t xs) ys = refl
-functions_add (function i t x ps None) ys = refl
+functions_add (structure i x ls) ys = omega arith
+functions_add (constant i t x k) ys = omega arith
+functions_add (global i t xs) ys = omega arith
+functions_add (function i t x ps None) ys = omega arith
 functions_add (function i t x ps (Some body)) ys = omega arith
 
 globals_add : (y : TypedItem) (ys : List TypedItem) → globals_labels (y ∷ ys) ≡ globals_labels (y ∷ []) + globals_labels ys
-globals_add (structure i x ls) ys = refl
-globals_add (constant i t x k) ys = refl
+globals_add (structure i x ls) ys = omega arith
+globals_add (constant i t x k) ys = omega arith
 globals_add (global i t xs) ys = omega arith
-globals_add (function i t x ps body) ys = refl
+globals_add (function i t x ps body) ys = omega arith
 
 bodies_add : (y : TypedItem) (ys : List TypedItem) → body_count (y ∷ ys) ≡ body_count (y ∷ []) + body_count ys
-bodies_add (structure i x ls) ys = refl
-bodies_add (constant i t x k) ys = refl
-bodies_add (global i t xs) ys = refl
-bodies_add (function i t x ps None) ys = refl
+bodies_add (structure i x ls) ys = omega arith
+bodies_add (constant i t x k) ys = omega arith
+bodies_add (global i t xs) ys = omega arith
+bodies_add (function i t x ps None) ys = omega arith
 bodies_add (function i t x ps (Some body)) ys = omega arith
 
 item_few : (n : ℕ) (l : Layout) (y : TypedItem) (ys : List TypedItem) → AreItems n l (y ∷ ys) → item_cells l.structs y + globals_weight ys ≤ globals_weight (y ∷ ys)
@@ -176,7 +173,84 @@ start_none add names l n true ys e label lt =
     (globals_none add names l (n + 1) 0 ys label (omega arith)) main in
     omega (arith, later_label n label lt)
 
+-- ---- the code of a function
+
+on_ok : {T E P Q : Type 0} (r : Result T E) → OnOk r P → (P → Q) → OnOk r Q
+on_ok (Ok x) p f = f p
+on_ok (Err e) p f = tt
+
+pub function_code : {T E : Type 0} (r : Result T E) (l : Layout) (ex : Exits) (f depth cells : ℕ) (ps : List TypedParameter) (body : TypedStmts) (c0 c1 c2 c3 c4 c5 : LabelledCode)
+    → c1 ≡ record c0 { lines = c0.lines ++ Label f ∷ [] } → depth ≡ params_cells l.structs ps → ex ≡ no_exits
+    → c2 ≡ extended c1 (emit_stmts l ex c1.labels depth None body) (all_stmt_labels body) → cells ≡ all_declared_cells l.structs body
+    → c3 ≡ record c2 { lines = c2.lines ++ dropped cells } → c4 ≡ record c3 { lines = c3.lines ++ dropped depth } → OnOk r (c5 ≡ record c4 { lines = c4.lines ++ Instruction ops.Retn ∷ [] })
+    → OnOk r (c5 ≡ extended c0 (emit_function l c0.labels f ps body) (all_stmt_labels body))
+function_code r l ex f depth cells ps body c0 c1 c2 c3 c4 c5 e1 is-depth is-ex e2 is-cells e3 e4 put =
+    let retn = Instruction ops.Retn ∷ [] in
+    let n = c0.labels in
+    let p = params_cells l.structs ps in
+    let inner = emit_stmts l no_exits n p None body in
+    let gone = dropped (all_declared_cells l.structs body) in
+    let f2 : c2 ≡ record { lines = (c0.lines ++ Label f ∷ []) ++ inner; labels = n + all_stmt_labels body } =
+    e2 ∙ (ap (λ c. extended c (emit_stmts l ex c.labels depth None body) (all_stmt_labels body)) e1
+    ∙ (ap (λ z. record { lines = (c0.lines ++ Label f ∷ []) ++ emit_stmts l z n depth None body; labels = n + all_stmt_labels body }) is-ex
+    ∙ ap (λ z. record { lines = (c0.lines ++ Label f ∷ []) ++ emit_stmts l no_exits n z None body; labels = n + all_stmt_labels body }) is-depth)) in
+    let f3 : c3 ≡ record { lines = ((c0.lines ++ Label f ∷ []) ++ inner) ++ gone; labels = n + all_stmt_labels body } =
+    e3 ∙ (ap (λ (c : LabelledCode). record c { lines = c.lines ++ dropped cells }) f2
+    ∙ ap (λ z. record { lines = ((c0.lines ++ Label f ∷ []) ++ inner) ++ dropped z; labels = n + all_stmt_labels body }) is-cells) in
+    let f4 : c4 ≡ record { lines = (((c0.lines ++ Label f ∷ []) ++ inner) ++ gone) ++ dropped p; labels = n + all_stmt_labels body } =
+    e4 ∙ (ap (λ (c : LabelledCode). record c { lines = c.lines ++ dropped depth }) f3
+    ∙ ap (λ z. record { lines = (((c0.lines ++ Label f ∷ []) ++ inner) ++ gone) ++ dropped z; labels = n + all_stmt_labels body }) is-depth) in
+    on_ok r put (λ e. e
+    ∙ (ap (λ (c : LabelledCode). record c { lines = c.lines ++ retn }) f4
+    ∙ ap (λ zs. record { lines = zs; labels = n + all_stmt_labels body })
+    (append_assoc (((c0.lines ++ Label f ∷ []) ++ inner) ++ gone) (dropped p) retn
+    ∙ (append_assoc ((c0.lines ++ Label f ∷ []) ++ inner) gone (dropped p ++ retn)
+    ∙ (append_assoc (c0.lines ++ Label f ∷ []) inner (gone ++ (dropped p ++ retn))
+    ∙ append_assoc c0.lines (Label f ∷ []) (inner ++ (gone ++ (dropped p ++ retn))))))))
+
 -- ---- a unit
+
+no_globals : (ys : List TypedItem) → has_globals ys ≡ false → globals_labels ys ≡ 0
+no_globals [] is = refl
+no_globals (structure i x ls ∷ ys) is = no_globals ys is
+no_globals (constant i t x k ∷ ys) is = no_globals ys is
+no_globals (global i t xs ∷ ys) is = absurd cc
+no_globals (function i t x ps body ∷ ys) is = no_globals ys is
+
+started_few : (b : Bool) (ys : List TypedItem) → (b ≡ false → globals_labels ys ≡ 0) → globals_labels ys ≤ start_labels b ys
+started_few true ys f = omega arith
+started_few false ys f = omega (arith, f refl)
+
+module _ (u : TypedUnit) (l : Layout) (bounded : IsBounded u) (few : (unit_code u).labels < 2 ^ 32) (is : l ≡ layout_of u) where
+  items_bounded : AreItems (body_count u.items) l u.items
+  items_bounded = subst (λ z. AreItems (body_count u.items) z u.items) (sym is) bounded.items
+
+  small_globals : l.globals ≤ depth_limit
+  small_globals = omega (arith, ap (λ (z : Layout). z.globals) is, bounded.globals, globals_few (body_count u.items) (layout_of u) u.items bounded.items)
+
+  pub unit_globals : (n : ℕ) → n ≡ body_count u.items → GlobalsReady n l 0 u.items
+  unit_globals n same = record {
+    bounded = items_grow (body_count u.items) n l u.items (omega arith) items_bounded;
+    deep = omega (arith, bounded.globals);
+    globals = small_globals;
+    labelled = omega (arith, few, started_few (has_globals u.items) u.items (no_globals u.items));
+  }
+
+  pub unit_functions : (m : ℕ) → m ≡ body_count u.items + start_labels (has_globals u.items) u.items → FunctionsReady m l u.items
+  unit_functions m same = record {
+    bounded = items_grow (body_count u.items) m l u.items (omega arith) items_bounded;
+    globals = small_globals;
+    labelled = omega (arith, few);
+  }
+
+  pub unit_open : (add : PlacementsAdd) (names : NamesPlaceAbove) (n m : ℕ) (before lines : List Line) → n ≡ body_count u.items → n ≤ m → before ≡ []
+      → lines ≡ before ++ emit_start l n (has_globals u.items) u.items u.entry → AreFunctionsOpen m lines 0 u.items
+  unit_open add names n m before lines same le none put = record {
+    inside = omega arith;
+    unplaced = λ label from to.
+        ap (λ ls. placements ls label) (put ∙ ap (λ ls. ls ++ emit_start l n (has_globals u.items) u.items u.entry) none)
+        ∙ start_none add names l n (has_globals u.items) u.items u.entry label (omega arith);
+  }
 
 pub globals_ready : (n : ℕ) (l : Layout) (ys : List TypedItem) → GlobalsReady n l 0 ys → n + start_labels (has_globals ys) ys < 2 ^ 32 → has_globals ys ≡ true → GlobalsReady (n + 1) l 0 ys
 globals_ready n l ys ready few has =

@@ -1,16 +1,14 @@
 -- Declared names, one after another.
-use Rattle.std.proofs.Common.{◌≡◌, ◌<◌, ◌≤◌, ◌+◌, ◌^◌, ℕ, List, ◌∷◌, ◌++◌, length, drop, get_or, arith, ap, sym, refl, ◌∙◌, append_assoc, subst}
+use Rattle.std.proofs.Common.{◌≡◌, ◌<◌, ◌+◌, ℕ, List, ◌∷◌, length, drop, get_or, arith, ap, sym, refl, ◌∙◌, subst}
 use Rattle.std.specs.Option.{option_map}
 use Rattle.std.proofs.lemmas.List.{at_drop_more}
-use Rattle.nwq_value.specs.Limits.{struct_cell_limit}
 use Rattle.nss_tree.specs.declared.statements.DeclaredName.{DeclaredName}
-use Rattle.ncs_emit.specs.Labelled.{Line, LabelledCode}
+use Rattle.ncs_emit.specs.Labelled.{LabelledCode}
 use Rattle.nss_typing.specs.declared.expressions.Expression.{Expression}
 use Rattle.nss_typing.specs.declared.places.Variable.{Variable}
 use Rattle.nss_typing.specs.Reading.{plain}
-use Rattle.nss_typing.specs.Typed.{TypedExpr, TypedName}
+use Rattle.nss_typing.specs.Typed.{TypedName}
 use Rattle.nss_typing.specs.UnitReading.{typed_name, typed_names}
-use Rattle.code_emission.specs.Bounds.{AreNames, IsSome}
 use Rattle.code_emission.specs.Layout.{Layout, cells}
 use Rattle.code_emission.specs.Statements.{emit_names, initial, names_labels, some_labels}
 use Rattle.codegen_expr.specs.Emitted.{extended}

@@ -1,4 +1,3 @@
-use Rattle.std.proofs.Common.{arith}
 use Rattle.codegen_unit.proofs.Names.{names_ready, names_step}
 use Rattle.codegen_unit.proofs.declarations.emit_names.Goals as goal
 

@@ -1,4 +1,4 @@
-use Rattle.std.proofs.Common.{◌≡◌, ◌∙◌, ◌+◌, ◌<◌, ap, sym, refl, arith, ℕ, Some, rules}
+use Rattle.std.proofs.Common.{◌≡◌, ◌∙◌, ◌+◌, ap, refl, arith, ℕ}
 use Rattle.std.specs.Option.{option_map}
 use Rattle.nss_tree.specs.Readings.{tree_case_label, tree_default_label, tree_do_loop, tree_empty, tree_for_loop, tree_if_else, tree_if_only, tree_switch, tree_while_loop}
 use Rattle.nss_tree.specs.Statements.{map_stmt}
@@ -8,7 +8,7 @@ use Rattle.nss_typing.specs.UnitReading.{typed_stmt, typed_stmts}
 use Rattle.code_emission.specs.Expressions.{labels}
 use Rattle.code_emission.specs.Statements as code
 use Rattle.codegen_unit.specs.Ready.{plain_exits}
-use Rattle.codegen_unit.proofs.Arms.{body_of_switch_ready, body_ready, do_is, do_parts, for_is, for_parts, if_else_is, if_else_parts, if_only_is, if_only_parts, falls_row, all_size, known_code, known_none, plain_in_switch, switch_is, switch_parts, while_is, while_parts}
+use Rattle.codegen_unit.proofs.Arms.{body_of_switch_ready, do_is, do_parts, for_is, for_parts, if_else_is, if_else_parts, if_only_is, if_only_parts, falls_row, all_size, known_code, known_none, plain_in_switch, switch_is, switch_parts, while_is, while_parts}
 use Rattle.codegen_unit.proofs.Choosing.{choice_open, close_open, for_open, switch_code}
 use Rattle.codegen_unit.proofs.InRow.{cells_done, cells_step, code_done, code_step, next_falls, next_few, next_ready, open_after, open_at, open_known, rest_ready, stmts_few, switch_few}
 use Rattle.codegen_unit.proofs.statements.+statement.Goals as goal

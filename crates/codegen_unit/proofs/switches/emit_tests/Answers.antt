@@ -1,6 +1,5 @@
 use Rattle.std.proofs.Common.{arith, ap}
 use Rattle.ncs_emit.specs.Labelled.{LabelledCode}
-use Rattle.code_emission.specs.Statements as code
 use Rattle.codegen_unit.proofs.Known.{count_step, tests_done, tests_step}
 use Rattle.codegen_unit.proofs.switches.emit_tests.Goals as goal
 
