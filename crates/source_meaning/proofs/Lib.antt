@@ -1,0 +1,12 @@
+mod Trees
+mod Examples
+mod Ledger
+mod Cells
+mod Steps
+mod Operators
+mod Variables
+mod Places
+mod Expressions
+mod Induction
+mod Calls
+mod EngineCalls
