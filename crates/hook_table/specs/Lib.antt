@@ -1,0 +1,3 @@
+pub mod Known
+pub mod Standard
+pub mod Sets

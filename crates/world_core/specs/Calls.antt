@@ -1,0 +1,57 @@
+-- What the calls on a world speak of beside the definitions of engine_rows.
+use Rattle.std.specs.Prelude.{◌≡◌, ◌<◌, ◌^◌, ℕ, List, [], ◌∷◌, Option, None, Some, map, slice_get}
+use Rattle.delay_agenda.specs.declared.entry.Entry.{Entry}
+use Rattle.hook_table.specs.Known.{Known}
+use Rattle.hook_table.specs.Standard.{AreStandard, cell_function, types_of}
+use Rattle.nwq_value.specs.Engine.{EngineTable}
+use Rattle.nwq_value.specs.declared.engine.Role.{Role}
+use Rattle.nwq_value.specs.declared.engine.Role.TheVariants.{Pure}
+use Rattle.nwq_value.specs.declared.engine.Routine.{Routine}
+use Rattle.nwq_value.specs.declared.value.Value.{Value}
+use Rattle.stack_shape.specs.Calls.{argument_types}
+use Rattle.table_2da.specs.Look.{cell_of}
+use Rattle.table_2da.specs.declared.tables.Named.{Named}
+use Rattle.engine_rows.specs.Pure.{CellLookup}
+use Rattle.engine_rows.specs.World.{World}
+use Rattle.engine_rows.specs.Turns.{Planned, Begun, begin}
+use Rattle.world_core.specs.declared.world.Start.{Start}
+
+-- ---- events and starts of a plan
+
+abbrev pub planned : Start → Planned
+planned s = record { due = s.due; object = s.object; script = s.script }
+
+-- ---- hooks
+
+abbrev pub tables_of_hook : Option Known → List Named
+tables_of_hook None = []
+tables_of_hook (Some h) = h.tables
+
+-- the tables in which hooks look cells up
+abbrev pub tables_of : List Known → List Named
+tables_of hooks = tables_of_hook (slice_get hooks cell_function)
+
+abbrev pub cells_of : List Known → CellLookup
+cells_of hooks = cell_of (tables_of hooks)
+
+-- the hooks begin with the standard ones, whatever tables they have
+abbrev pub AreServing : List Known → Type 0
+AreServing hooks = AreStandard hooks (tables_of hooks)
+
+-- the arguments of a call that are values have the types of the routine's parameters, first to last
+abbrev pub FitArguments : EngineTable → ℕ → List Value → Type 0
+FitArguments table n values = (r : Routine) → slice_get table.routines n ≡ Some r → types_of values ≡ argument_types r.params
+
+-- ---- times and numbers
+
+-- the clock and the number of the next post are so small that more can be posted
+pub record IsEarly {X : Type 0} (w : World X) : Type 0 where
+  pub clock : w.clock < 2 ^ 62
+  pub next : w.agenda.next < 2 ^ 63
+
+-- ---- the next entry
+
+-- What was begun of a world until a time: the entry, and the world in which it runs, or none, and the world as it was.
+abbrev pub IsBegunAs : {X : Type 0} → ℕ → World X → Option (Entry X) → World X → Type 0
+IsBegunAs until w None v = (begin until w ≡ None) × (v ≡ w)
+IsBegunAs until w (Some e) v = begin until w ≡ Some (record { entry = e; world = v })
