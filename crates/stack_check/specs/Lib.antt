@@ -1,0 +1,4 @@
+pub mod Shared
+pub mod Held
+pub mod Facts
+pub mod Checked
