@@ -8,6 +8,7 @@
 #![tactic(auto)]
 
 mod operation;
+mod runs;
 mod top;
 mod values;
 
