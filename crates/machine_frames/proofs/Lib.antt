@@ -1,3 +1,6 @@
 pub mod Depths
 pub mod Popped
 pub mod RunLemmas
+pub mod RangeLemmas
+pub mod Tests
+pub mod FrameLemmas

@@ -21,7 +21,7 @@ on_int_has (Holds (Object o) ∷ cells) go h = absurd (h refl)
 on_int_has (Holds (Effect e) ∷ cells) go h = absurd (h refl)
 on_int_has (Holds (Event n) ∷ cells) go h = absurd (h refl)
 
-on_int_is : {A : Type 0} (cells : List Cell) (go : ℤ → List Cell → Option A) (n : ℤ) → slice_get cells 0 ≡ Some (Holds (Int n)) → on_int cells go ≡ go n (drop 1 cells)
+pub on_int_is : {A : Type 0} (cells : List Cell) (go : ℤ → List Cell → Option A) (n : ℤ) → slice_get cells 0 ≡ Some (Holds (Int n)) → on_int cells go ≡ go n (drop 1 cells)
 on_int_is [] go n h = absurd cc
 on_int_is (c ∷ cells) go n h = ap (λ (c : Cell). on_int (c ∷ cells) go) (same h)
   where

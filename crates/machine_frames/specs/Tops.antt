@@ -1,12 +1,12 @@
 -- What stands so many cells down from the top of a stack.
-use Rattle.std.specs.Prelude.{◌≡◌, ◌≢◌, ℕ, ℤ, List, Option, None, Some, drop, slice_get, Bool, true, false, not, ◌==◌, if◌then◌else◌}
+use Rattle.std.specs.Prelude.{◌≡◌, ◌≢◌, ℕ, ℤ, List, ◌∷◌, Option, None, Some, drop, slice_get, slice_set, Bool, true, false, not, ◌==◌, if◌then◌else◌}
 use Rattle.std.specs.Option.{option_and_then}
 use Rattle.nwq_value.specs.declared.value.Value.{Value}
 use Rattle.nwq_value.specs.declared.value.Value.TheVariants.{Int, Text}
 use Rattle.saved_state.specs.declared.cell.Cell.{Cell}
-use Rattle.saved_state.specs.declared.cell.Cell.TheVariants.{Value as Holds}
+use Rattle.saved_state.specs.declared.cell.Cell.TheVariants.{Value as Holds, Base}
 use Rattle.stack_shape.specs.declared.range.CellRange.{CellRange}
-use Rattle.machine_step.specs.Cells.{of_int, values_at, values_on}
+use Rattle.machine_step.specs.Cells.{of_int, on_int, values_at, values_on}
 use Rattle.machine_step.specs.Operators.{opposite}
 
 pub record HasValue (depth : ℕ) (cells : List Cell) : Type 0 where
@@ -37,3 +37,12 @@ negated kind cells = if kind == 0x03 then of_int opposite cells else None
 abbrev pub answer_of : Bool → Bool → Bool
 answer_of true = not
 answer_of false = λ b. b
+
+-- the int so far down changes where it stands
+abbrev pub int_at : (ℤ → ℤ) → ℕ → List Cell → Option (List Cell)
+int_at f depth cells = on_int (drop depth cells) (λ n rest. Some (slice_set cells depth (Holds (Int (f n)))))
+
+-- the BP that a base cell on top keeps
+abbrev pub bp_on_top : List Cell → Option ℕ
+bp_on_top (Base bp ∷ cells) = Some bp
+bp_on_top _ = None

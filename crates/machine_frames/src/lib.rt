@@ -7,9 +7,12 @@
 //! in words.
 #![tactic(auto)]
 
+mod change;
+mod frame;
 mod operation;
+mod ranges;
 mod runs;
 mod top;
 mod values;
 
-pub use operation::{Binary, Unary};
+pub use frame::Frame;
