@@ -1,3 +1,3 @@
-pub mod Known
-pub mod Standard
 pub mod Sets
+pub mod Standard
+pub mod Served

@@ -1,17 +1,14 @@
 -- The functions that hooks answer for, and what is kept of each hook.
 use Prim.Native.String.{String}
-use Rattle.std.specs.Prelude.{◌≡◌, ℕ, ◌+◌, List, [], ◌∷◌, Option, None, Some, codes, map, position, slice_get}
+use Rattle.std.specs.Prelude.{◌≡◌, ℕ, List, [], ◌∷◌, Option, None, Some, codes, map, position, slice_get}
 use Rattle.std.specs.Str.{bytes_eq}
-use Rattle.nwq_value.specs.Roles.{header_signatures}
 use Rattle.nwq_value.specs.Values.{type_of}
-use Rattle.nwq_value.specs.declared.engine.Role.TheVariants.{Pure}
 use Rattle.nwq_value.specs.declared.value.Ty.{Ty}
 use Rattle.nwq_value.specs.declared.value.Ty.TheVariants.{Int, Text, Void}
 use Rattle.nwq_value.specs.declared.value.Value.{Value}
 use Rattle.engine_rows.specs.Pure.{CellLookup, pure}
 use Rattle.table_2da.specs.Look.{cell_of}
 use Rattle.table_2da.specs.declared.tables.Named.{Named}
-use Rattle.hook_table.specs.Known.{Known}
 
 -- a function of strings and numbers: its name, its parameters' types and its result's
 pub record Function : Type 0 where
@@ -45,6 +42,10 @@ function_or_none (Some f) = f
 abbrev pub function_numbered : ℕ → Function
 function_numbered n = function_or_none (slice_get standard n)
 
+-- the number of the function that looks cells up
+abbrev pub cell_function : ℕ
+cell_function = 9
+
 -- the number of the function of this name
 unfoldable pub number_named : List ℕ → Option ℕ
 number_named name = position (λ f. bytes_eq f.name name) standard
@@ -65,44 +66,3 @@ types_of args = map type_of args
 pub record IsAnswer (tables : List Named) (name : List ℕ) (gives : Ty) (args : List Value) (v : Value) : Type 0 where
   pub value : pure_named tables name args ≡ Some v
   pub ty : type_of v ≡ gives
-
--- the number of the function that looks cells up
-abbrev pub cell_function : ℕ
-cell_function = 9
-
--- the hook has the function's name and its types
-pub record StandsFor (f : Function) (h : Known) : Type 0 where
-  pub name : h.name ≡ f.name
-  pub params : h.params ≡ f.params
-  pub result : h.result ≡ f.result
-
--- the first hooks stand for these functions, one each
-abbrev pub BeginWith : List Function → List Known → Type 0
-BeginWith [] hooks = Unit {0}
-BeginWith (f ∷ fs) [] = ⊥
-BeginWith (f ∷ fs) (h ∷ hooks) = StandsFor f h × BeginWith fs hooks
-
--- hooks that begin with one for each of the functions, in order; the one that looks cells up has these tables
-pub record AreStandard (hooks : List Known) (tables : List Named) : Type 0 where
-  pub begin : BeginWith standard hooks
-  pub cells : (h : Known) → slice_get hooks cell_function ≡ Some h → h.tables ≡ tables
-
--- ---- laws
-
--- the functions are those of the built-in header that have a Pure role, with its names and types
-abbrev pub AreTheHeaders : Type 0
-AreTheHeaders = (n : ℕ) (f : Function) → slice_get standard n ≡ Some f
-    → slice_get header_signatures (28 + n) ≡ Some (record { name = f.name; gives = f.result; takes = f.params; role = Some (Pure n) })
-
--- a hook for a function, whose answers are what the function of a number gives
-pub record Serves (tables : List Named) (n : ℕ) (params : List Ty) (gives : Ty) (h : Known) : Type 0 where
-  pub params : h.params ≡ params
-  pub result : h.result ≡ gives
-  pub answers : (args : List Value) (v : Value) → IsAnswer h.tables h.name h.result args v → pure (cell_of tables) n args ≡ Some v
-
--- for a routine with the role Pure n there is a hook n that takes its arguments, and answers what the definition gives
-abbrev pub StandardServe : Type 0
-StandardServe = (hooks : List Known) (tables : List Named) (n : ℕ) (name : List ℕ) (gives : Ty) (takes : List Ty)
-    → AreStandard hooks tables
-    → slice_get header_signatures (28 + n) ≡ Some (record { name = name; gives = gives; takes = takes; role = Some (Pure n) })
-    → (h : Known) × (slice_get hooks n ≡ Some h) × Serves tables n takes gives h

@@ -3,40 +3,33 @@ ghost use Rattle.hook_table.specs.Sets.{answer_sets};
 ghost use Rattle.hook_table.specs.Standard.{types_of, IsAnswer};
 
 use nwq_value::{Args, NoMemory, Text, Ty, Tys, Value};
-use std::marker::Model;
 use table_2da::Tables;
 
 /// A function over lists of arguments. It may refuse for want of memory.
 pub type Call = Box<dyn Fn(&Args) -> Result<Value, NoMemory>>;
 
-/// A function under its name, with the types of its parameters and its result. One that looks cells
-/// up has the tables in which it looks.
-///
-/// Kept beside the closure: it may be called on every list of arguments of its types, and what it
-/// answers there is the function's value.
+/// What is known of a hook: the name of its function, the types of the parameters and of the result,
+/// and the tables in which it looks cells up, where it does.
 #[derive(Drop)]
-pub struct Hook {
-    name: Text,
-    params: Tys,
-    gives: Ty,
-    call: Call,
-    tables: Tables,
-    ghost callable: { (args : _) → types_of args.now ≡ params → Call.pre call args },
-    ghost answers: { (args : _) (v : _) → types_of args.now ≡ params → Call.post call args (Ok v)
-        → IsAnswer tables name gives args.now v } by { Prim.hlevel answer_sets },
+pub struct Known {
+    pub name: Text,
+    pub params: Tys,
+    pub result: Ty,
+    pub tables: Tables,
 }
 
-impl Model for Hook {
-    ghost use Rattle.hook_table.specs.Known.{Known};
-
-    ghost Value = { Known };
-
-    ghost view = { λ h. record {
-      name = h.name;
-      params = h.params;
-      result = h.gives;
-      tables = h.tables;
-    } };
+/// A function that scripts call by way of a closure.
+///
+/// Kept beside the closure: it may be called on every list of arguments of the hook's types, and what
+/// it answers there is the function's value.
+#[derive(Drop)]
+pub struct Hook {
+    pub known: Known,
+    call: Call,
+    ghost callable: { (args : _) → types_of args.now ≡ known.params → Call.pre call args },
+    ghost answers: { (args : _) (v : _) → types_of args.now ≡ known.params
+        → Call.post call args (Ok v)
+        → IsAnswer known.tables known.name known.result args.now v } by { Prim.hlevel answer_sets },
 }
 
 impl Hook {
@@ -46,31 +39,24 @@ impl Hook {
         requires callable { (args : _) → types_of args.now ≡ params → Call.pre call args }
         requires answers { (args : _) (v : _) → types_of args.now ≡ params
             → Call.post call args (Ok v) → IsAnswer tables name gives args.now v }
-        ensures hook { result
+        ensures known { result.known
             ≡ record { name = name; params = params; result = gives; tables = tables } }
     {
-        Hook {
+        let known = Known {
             name,
             params,
-            gives,
-            call,
+            result: gives,
             tables,
-        }
+        };
+        Hook { known, call }
     }
 
     /// The function's value for these arguments.
     pub fn answer(&self, args: &Args) -> Result<Value, NoMemory>
-        requires types { types_of args.now ≡ self.now.params }
-        ensures answer { IfOk result
-            (λ v. IsAnswer self.now.tables self.now.name self.now.result args.now v) }
+        requires types { types_of args.now ≡ self.now.known.params }
+        ensures answer { IfOk result (λ v. IsAnswer
+            self.now.known.tables self.now.known.name self.now.known.result args.now v) }
     {
         (self.call)(args)
-    }
-
-    /// The name of the function.
-    pub fn name(&self) -> &[u8]
-        ensures name { result.now ≡ self.now.name }
-    {
-        self.name.bytes()
     }
 }

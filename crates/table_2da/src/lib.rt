@@ -8,8 +8,15 @@
 //! `specs/Look.antt` which cell is meant. See docs/TABLES.md.
 #![tactic(auto)]
 
+pub mod fault;
+pub mod laws;
+mod lines;
+pub mod read;
 pub mod table;
 pub mod tables;
+pub mod words;
 
+pub use fault::TableFault;
+pub use read::read_table;
 pub use table::{Bytes, Cells, Rows, Table2};
 pub use tables::{Named, Tables};

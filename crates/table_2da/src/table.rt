@@ -30,7 +30,6 @@ impl Model for Table2 {
 }
 
 /// Whether two names are equal, whatever the case of their letters.
-#[tactic(auto, using(crate::proofs::LookLemmas::same_by_test))]
 pub fn same_name(a: &[u8], b: &[u8]) -> bool
     ensures test { result ≡ same_name a.now b.now }
 {

@@ -1,13 +1,18 @@
-// A library with one function.
+//! The world in which scripts run, as code.
+//!
+//! Contracts see a [`World`] as the record that `engine_rows` defines, beside the spare room for
+//! posts (`specs/Held.antt`). Each call is one equation of worlds by a definition of `engine_rows`;
+//! for want of memory it answers `NoMemory` and leaves the world as it was. Every world keeps what
+//! `IsWorld` says there, and `World::keeps` hands it to whoever asks.
+//!
+//! What an answer's type is stands in `specs/Answers.antt`, as a law. docs/WORLD.md tells the calls in
+//! words.
 #![tactic(auto)]
 
-ghost use Rattle.std.specs.Prelude.{◌≡◌};
-ghost use Rattle.world_core.specs.Echo.{echo_of};
+mod laws;
+mod saved;
+mod world;
 
-// The `ensures` clause is the contract: what `echo` returns is `echo_of` of its argument, a definition
-// in `specs/Echo.antt`, which a caller's clause can cite too.
-pub fn echo(x: usize) -> usize
-    ensures { result ≡ echo_of x }
-{
-    x
-}
+pub use laws::answers_have_types;
+pub use saved::WorldParts;
+pub use world::{Events, Start, World};

@@ -1,0 +1,242 @@
+//! The calls on a world.
+ghost use Rattle.std.specs.Prelude.{◌≡◌, ◌<◌, ◌≤◌, ◌+◌, ◌^◌, ◌++◌, [], drop, length, map, slice_get};
+ghost use Rattle.std.specs.Prelude.{IfOk, IfSome, OnOk, OnErr, IsTrue, Some};
+ghost use Rattle.std.specs.List.{AllByRecursion};
+ghost use Rattle.std.specs.Option.{option_copied};
+ghost use Rattle.delay_agenda.specs.Order.{first_due};
+ghost use Rattle.engine_rows.specs.Alike.{};
+ghost use Rattle.engine_rows.specs.AlikeLaws.{call};
+ghost use Rattle.engine_rows.specs.Engine.{engine, may_run, no_script, too_deep};
+ghost use Rattle.engine_rows.specs.Kept.{IsActing, IsWorld};
+ghost use Rattle.engine_rows.specs.Trace.{trace_text};
+ghost use Rattle.engine_rows.specs.Turns.{new_world, turn, turn_done, unapply, fault, drained};
+ghost use Rattle.engine_rows.specs.Turns.{with_entries};
+ghost use Rattle.engine_rows.specs.World.{count, effects_of, queue_of};
+ghost use Rattle.world_core.specs.Calls.{planned, cells_of, AreServing, FitArguments, IsBegunAs};
+ghost use Rattle.world_core.specs.Calls.{IsEarly};
+
+use action_queue::Item;
+use area_tree::Area;
+use delay_agenda::Entry;
+use hook_table::Hooks;
+use nwq_value::{Args, Effect, Items, NoMemory, Randoms, Table, Text, Value};
+use std::alloc::Global;
+use std::marker::Model;
+use world_rows::Parts;
+
+/// An event or a start of a plan: when it is due, its object, and the name of its script.
+#[derive(Drop)]
+pub struct Start {
+    pub due: u64,
+    pub object: u32,
+    pub script: Text,
+}
+
+/// The events and starts of a plan, in order.
+pub type Events = Items<Start>;
+
+/// The world in which scripts run.
+///
+/// `room` counts the posts that a Turn's end may make without memory. The agenda has at least so
+/// much room.
+#[derive(Drop)]
+pub struct World<X> {
+    parts: Parts<X>,
+    room: u32,
+}
+
+impl<X> Model for World<X> {
+    ghost use Rattle.std.specs.Prelude.{◌≤◌};
+    ghost use Rattle.std.specs.Coded.{codes};
+    ghost use Rattle.gff_tree.specs.contracts.tree.Gff as gff;
+    ghost use Rattle.engine_rows.specs.Kept.{IsWorld};
+    ghost use Rattle.world_core.specs.Held.{Held};
+
+    ghost Value = { Held X };
+
+    ghost coded = { Prim.hlevel (codes, gff.the_row.coded) };
+
+    ghost view = { λ w. record { world = w.parts.world; room = w.room } };
+
+    ghost invariant = { λ w. IsWorld w.parts.world × (w.room ≤ w.parts.posts) × (w.room ≤ 1) };
+}
+
+impl<X: Drop> World<X> {
+    /// The world of an area and a plan's events, which are posted with numbers from 0.
+    pub fn new(
+        alloc: Global,
+        area: Area,
+        random: Randoms,
+        events: &Events,
+        version: u8,
+    ) -> Result<World<X>, NoMemory>
+        requires objects { AllByRecursion (λ s. s.object ≤ length area.objects) events.now }
+        ensures world { IfOk result
+            (λ w. w.world ≡ new_world area random (map planned events.now) version) }
+    {
+    }
+
+    /// The call of a routine: what it gives, and how it leaves the world, is the routine's row.
+    pub fn engine(
+        &mut self,
+        hooks: &Hooks,
+        table: &Table,
+        routine: u16,
+        caller: u32,
+        args: Args,
+        action: Option<X>,
+    ) -> Result<Option<Value>, NoMemory>
+        requires early { IsEarly self.old.world }
+        requires caller { caller ≤ count self.old.world }
+        requires hooks { AreServing hooks.now.all.items }
+        requires types { FitArguments table.now routine args }
+        ensures ok { IfOk result (λ value. record { value = value; world = self.new.world }
+            ≡ engine table.now (cells_of hooks.now.all.items) routine (call caller args action)
+                self.old.world) }
+        ensures err { OnErr result (self.new.world ≡ self.old.world) }
+        ensures room { self.old.room ≤ self.new.room }
+    {
+    }
+
+    /// Takes the next entry that is due by a time, sets the clock to when it is due, and makes room
+    /// for a post.
+    pub fn begin(&mut self, until: u64) -> Result<Option<Entry<X>>, NoMemory>
+        ensures ok { IfOk result (λ entry. IsBegunAs until self.old.world entry self.new.world) }
+        ensures ready { IfOk result (λ entry. IfSome entry (λ _. 1 ≤ self.new.room)) }
+        ensures err { OnErr result (self.new.world ≡ self.old.world) }
+        ensures room { self.old.room ≤ self.new.room }
+    {
+    }
+
+    /// The object turns to its next action: a stored one is the answer, and the Turn is done after
+    /// it; of any other kind this call does it.
+    pub fn turn(&mut self, object: u32) -> Result<Option<X>, NoMemory>
+        requires early { IsEarly self.old.world }
+        requires first { 1 ≤ object }
+        requires within { object ≤ count self.old.world }
+        requires acting { IsActing object self.old.world }
+        ensures ok { IfOk result (λ action. record { action = action; world = self.new.world }
+            ≡ turn object self.old.world) }
+        ensures err { OnErr result (self.new.world ≡ self.old.world) }
+        ensures room { self.old.room ≤ self.new.room }
+    {
+    }
+
+    /// The Turn is done, after its stored action: the object turns to the next one, or rests. It
+    /// posts into the spare room.
+    pub fn turn_done(&mut self, object: u32)
+        requires early { IsEarly self.old.world }
+        requires first { 1 ≤ object }
+        requires within { object ≤ count self.old.world }
+        requires acting { IsActing object self.old.world }
+        requires room { 1 ≤ self.old.room }
+        ensures done { self.new.world ≡ turn_done object self.old.world }
+    {
+    }
+
+    /// The effect of this number ends, where it still stands on the object.
+    pub fn unapply(&mut self, object: u32, number: u64) -> Result<(), NoMemory>
+        requires first { 1 ≤ object }
+        requires within { object ≤ count self.old.world }
+        ensures ok { OnOk result (self.new.world ≡ unapply object number self.old.world) }
+        ensures err { OnErr result (self.new.world ≡ self.old.world) }
+        ensures room { self.old.room ≤ self.new.room }
+    {
+    }
+
+    /// A division by zero ended the entry, in a script of this object.
+    pub fn fault(&mut self, object: u32) -> Result<(), NoMemory>
+        ensures ok { OnOk result (self.new.world ≡ fault object self.old.world) }
+        ensures err { OnErr result (self.new.world ≡ self.old.world) }
+        ensures room { self.old.room ≤ self.new.room }
+    {
+    }
+
+    /// The script of this name, which was to run as this object, isn't listed.
+    pub fn no_script(&mut self, object: u32, name: &Text) -> Result<(), NoMemory>
+        ensures ok { OnOk result (self.new.world ≡ no_script object name.now self.old.world) }
+        ensures err { OnErr result (self.new.world ≡ self.old.world) }
+        ensures room { self.old.room ≤ self.new.room }
+    {
+    }
+
+    /// The script of this name, which was to run as this object, would run too deep.
+    pub fn deep(&mut self, object: u32, name: &Text) -> Result<(), NoMemory>
+        ensures ok { OnOk result (self.new.world ≡ too_deep object name.now self.old.world) }
+        ensures err { OnErr result (self.new.world ≡ self.old.world) }
+        ensures room { self.old.room ≤ self.new.room }
+    {
+    }
+
+    /// Whether a script of this caller may run another one on the target, which may be any number.
+    pub fn may_run(&self, caller: u32, target: u32) -> bool
+        ensures test { result ≡ may_run caller target self.now.world }
+    {
+    }
+
+    /// Appends the text of the lines that are kept, and keeps none.
+    pub fn drain(&mut self, out: &mut Vec<u8>) -> Result<(), NoMemory>
+        ensures ok { OnOk result (out.new.items
+            ≡ out.old.items ++ trace_text self.old.world.trace) }
+        ensures drained { OnOk result (self.new.world ≡ drained self.old.world) }
+        ensures err { OnErr result (out.new.items ≡ out.old.items) }
+        ensures kept { OnErr result (self.new.world ≡ self.old.world) }
+        ensures room { self.old.room ≤ self.new.room }
+    {
+    }
+
+    pub fn clock(&self) -> u64
+        ensures clock { result ≡ self.now.world.clock }
+    {
+    }
+
+    /// When the next entry is due; `None` exactly where the agenda is empty.
+    pub fn next_due(&self) -> Option<u64>
+        ensures due { result ≡ first_due self.now.world.agenda.entries }
+    {
+    }
+
+    /// How many objects there are.
+    pub fn count(&self) -> u32
+        ensures count { result ≡ count self.now.world }
+    {
+    }
+
+    /// The effect that stands on an object at place `i`, counted from 0.
+    pub fn effect_at(&self, o: u32, i: usize) -> Option<&Effect>
+        requires first { 1 ≤ o }
+        requires within { o ≤ count self.now.world }
+        ensures effect { option_copied result
+            ≡ option_map (λ s. s.effect) (slice_get (effects_of o self.now.world) i) }
+    {
+    }
+
+    /// The action of an object at place `i` of its queue, counted from 0.
+    pub fn item_at(&self, o: u32, i: usize) -> Option<&Item<X>>
+        requires first { 1 ≤ o }
+        requires within { o ≤ count self.now.world }
+        ensures item { option_copied result ≡ slice_get (queue_of o self.now.world).actions i }
+    {
+    }
+
+    /// Takes the agenda's first entry off; all else stays, the clock too.
+    pub fn take_entry(&mut self) -> Option<Entry<X>>
+        ensures taken { result ≡ slice_get self.old.world.agenda.entries 0 }
+        ensures left { self.new.world
+            ≡ with_entries (drop 1 self.old.world.agenda.entries) self.old.world }
+    {
+    }
+
+    /// The area; takes no memory.
+    pub fn into_area(self) -> Area
+        ensures area { result ≡ self.world.area }
+    {
+    }
+
+    /// What every world keeps.
+    pub fn keeps(&self)
+        ensures kept { IsWorld self.now.world }
+    {
+        let _ = self.room;
+    }
+}

@@ -1,0 +1,7 @@
+//! Tests of what scripts call: tables, hooks, the world.
+#![tactic(auto)]
+
+#[cfg(test)]
+mod hooks;
+#[cfg(test)]
+mod tables;
