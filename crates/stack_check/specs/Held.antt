@@ -30,3 +30,14 @@ pub record IsIn (heap : Heap) (held : Held) : Type 0 where
 pub record HeapGrows (before after : Heap) : Type 0 where
   pub slots : Grows before.slots after.slots
   pub saved : Grows before.saved after.saved
+
+-- The shape after a step, where there is one.
+abbrev pub AfterStep : Heap → Heap → Option Held → Option TopShape → Type 0
+AfterStep before after None shape = HeapGrows before after × (shape ≡ None)
+AfterStep before after (Some held) shape = HeapGrows before after × IsIn after held × (shape ≡ Some (shape_of after held))
+
+-- the shape is held
+pub record Holds (before after : Heap) (held : Held) (shape : TopShape) : Type 0 where
+  pub grows : HeapGrows before after
+  pub inside : IsIn after held
+  pub is : shape_of after held ≡ shape

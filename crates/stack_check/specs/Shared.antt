@@ -1,5 +1,5 @@
 -- Lists that share their lower parts, as numbers of nodes: 0 is the empty list, and k + 1 the list whose top is node k.
-use Rattle.std.specs.Prelude.{◌≡◌, ◌≤◌, ℕ, zero, suc, List, [], ◌∷◌, length, Option, None, Some, slice_get}
+use Rattle.std.specs.Prelude.{◌≡◌, ◌≤◌, ℕ, zero, suc, List, [], ◌∷◌, ◌++◌, length, Option, None, Some, slice_get}
 use Rattle.stack_check.specs.declared.lists.Node.{Node}
 
 abbrev pub with_node : {A : Type 0} → Option (Node A) → (ℕ → List A) → List A
@@ -17,10 +17,14 @@ unfoldable pub read : {A : Type 0} → List (Node A) → ℕ → List A
 read nodes number = read_within number nodes number
 
 -- each node lies on a list of older nodes
-abbrev pub AreOlder : {A : Type 0} → List (Node A) → Type 0
-AreOlder nodes = (k : ℕ) (n : Node _) → slice_get nodes k ≡ Some n → n.below ≤ k
+pub record AreOlder {A : Type 0} (nodes : List (Node A)) : Type 0 where
+  pub by : (k : ℕ) (n : Node A) → slice_get nodes k ≡ Some n → n.below ≤ k
 
 -- Nodes are only added, and the lists that were there stay as they were.
 pub record Grows {A : Type 0} (before after : List (Node A)) : Type 0 where
   pub longer : length before ≤ length after
   pub same : (number : ℕ) → number ≤ length before → read after number ≡ read before number
+
+-- What both lists begin with, this list begins with too.
+pub record HoldsCommon {A : Type 0} (a b common : List A) : Type 0 where
+  pub by : (front x y : List A) → a ≡ front ++ x → b ≡ front ++ y → (z : List A) × (common ≡ front ++ z)

@@ -1,5 +1,5 @@
-use crate::held::Held;
-use crate::lists::Lists;
+use crate::places::Places;
+use crate::rows::Rows;
 use nwq_value::Items;
 use stack_shape::Entry;
 
@@ -13,25 +13,15 @@ pub struct Trial {
     pub given: Option<u32>,
 }
 
-/// The shape at a place of a trial.
-#[derive(Clone, Copy)]
-pub struct Row {
-    pub trial: u32,
-    pub place: u32,
-    pub held: Held,
-}
-
 /// What was found so far.
 #[derive(Drop)]
 pub struct Facts {
     /// All trials. The first is the script's start.
     pub trials: Items<Trial>,
-    /// By the place at which a called routine begins: the number of its newest trial, or 0.
-    pub called: Items<u32>,
-    /// By the place of a STORE_STATE: the number of the trial of what it stores, or 0.
-    pub stored: Items<u32>,
-    /// For each place a list of its rows.
-    pub rows: Lists<Row>,
-    /// By place: the number of the list of its rows.
-    pub rows_at: Items<u32>,
+    /// By the place at which a called routine begins: the number of its newest trial.
+    pub called: Places,
+    /// By the place of a STORE_STATE: the number of the trial of what it stores.
+    pub stored: Places,
+    /// The shapes that were found.
+    pub rows: Rows,
 }

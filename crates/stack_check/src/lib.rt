@@ -15,7 +15,14 @@ mod facts;
 mod fault;
 mod held;
 mod laws;
+mod leads;
 mod lists;
+mod places;
+mod reach;
+mod rows;
+mod seen;
+mod slots;
+mod todo;
 
 pub use checked::{Checked, check};
 pub use fault::CheckFault;
