@@ -4,3 +4,4 @@ pub mod RunLemmas
 pub mod RangeLemmas
 pub mod Tests
 pub mod FrameLemmas
+pub mod TakeLemmas

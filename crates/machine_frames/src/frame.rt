@@ -109,11 +109,12 @@ impl Frame {
         self.own
     }
 
-    /// The next instruction stands at this place.
-    pub(crate) fn go_to(&mut self, place: u32)
-        ensures place { self.new ≡ record self.old { place = place } }
+    /// The next instruction stands behind one of this size.
+    pub(crate) fn step_over(&mut self, size: u32)
+        requires small { self.old.place + size ≤ file_limit }
+        ensures place { self.new ≡ record self.old { place = self.old.place + size } }
     {
-        self.place = place;
+        self.place += size;
     }
 
     /// An instruction of this size that changes nothing but the cells and the place. `false` says

@@ -7,6 +7,7 @@
 //! in words.
 #![tactic(auto)]
 
+mod arguments;
 mod change;
 mod frame;
 mod operation;
@@ -15,4 +16,5 @@ mod runs;
 mod top;
 mod values;
 
+pub use arguments::Arguments;
 pub use frame::Frame;
