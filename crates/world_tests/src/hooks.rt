@@ -28,13 +28,17 @@ fn gives(alloc: Global, n: u8, args: &Args, text: &[u8]) -> Result<bool, NoMemor
     }
 }
 
-fn ints(alloc: Global, first: i32) -> Result<Args, NoMemory> {
+fn ints(alloc: Global, first: i32) -> Result<Args, NoMemory>
+    ensures types { IfOk result (λ args. types_of args ≡ IntTy ∷ []) }
+{
     let mut args = Args::new(alloc);
     args.push(Value::Int(first))?;
     Ok(args)
 }
 
-fn text(alloc: Global, bytes: &[u8]) -> Result<Args, NoMemory> {
+fn text(alloc: Global, bytes: &[u8]) -> Result<Args, NoMemory>
+    ensures types { IfOk result (λ args. types_of args ≡ TextTy ∷ []) }
+{
     let text = Text::of(alloc, bytes)?;
     let mut args = Args::new(alloc);
     args.push(Value::Text(text))?;
@@ -49,9 +53,13 @@ fn text_and(alloc: Global, bytes: &[u8], more: &[i32]) -> Result<Args, NoMemory>
     Ok(args)
 }
 
-fn texts_and(alloc: Global, bytes: &[u8], other: &[u8], n: i32) -> Result<Args, NoMemory> {
+fn texts_and(alloc: Global, bytes: &[u8], other: &[u8], n: i32) -> Result<Args, NoMemory>
+    ensures types { IfOk result (λ args. types_of args ≡ TextTy ∷ TextTy ∷ IntTy ∷ []) }
+{
+    let bytes = Text::of(alloc, bytes)?;
     let other = Text::of(alloc, other)?;
-    let mut args = text(alloc, bytes)?;
+    let mut args = Args::new(alloc);
+    args.push(Value::Text(bytes))?;
     args.push(Value::Text(other))?;
     args.push(Value::Int(n))?;
     Ok(args)
@@ -125,25 +133,12 @@ fn tables(alloc: Global) -> Result<Tables, NoMemory> {
 }
 
 #[test]
-fn a_hook_looks_cells_up(rt: HostRuntime) -> Result<(), Fail> {
+fn a_cell_is_looked_up(rt: HostRuntime) -> Result<(), Fail> {
     let alloc = rt.alloc();
-    let tables = tables(alloc)?;
-    let own = tables.copy(alloc)?;
-    let call: Call = Box::new(
-        alloc,
-        move |args: &Args| -> Result<Value, NoMemory>
-            ensures { IfOk result
-                (λ v. IsAnswer own (codes "Get2DAString") TextTy args.now v) }
-        { cell_call(alloc, &own, args) },
-    )?;
-    let name = Text::of(alloc, b"Get2DAString")?;
-    let params = Tys::of_slice(alloc, &[Ty::Text, Ty::Text, Ty::Int])?;
-    let hook = Hook::new(name, params, Ty::Text, call, tables);
     let args = texts_and(alloc, b"X", b"Cost", 0)?;
-    assert!(rt;
-        hook.answer(&args)?
-            .same(&Value::Text(Text::of(alloc, b"10")?))
-    );
+    let ten = Value::Text(Text::of(alloc, b"10")?);
+    let tables = tables(alloc)?;
+    assert!(rt; cell_call(alloc, &tables, &args)?.same(&ten));
     Ok(())
 }
 
