@@ -1,11 +1,10 @@
 //! A world taken apart, to be saved, and put together again.
-use area_tree::Area;
 use delay_agenda::Agenda;
 use engine_rows::Objects;
 use nwq_value::Randoms;
 
-/// A world without its area, the lines that it keeps, and the running entry's user number. The agenda
-/// has the number of the next post.
+/// A world without its area, the lines that it keeps, and the running entry's user number. The
+/// agenda has the number of the next post.
 #[derive(Drop)]
 pub struct WorldParts<X> {
     pub clock: u64,
