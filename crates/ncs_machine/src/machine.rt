@@ -20,8 +20,8 @@ ghost use Rattle.ncs_machine.specs.Steps.{FitArguments, next_of, state};
 ghost use Rattle.world_core.specs.Calls.{AreServing, IsEarly};
 
 use crate::scripts::{Loaded, Scripts};
-use machine_frames::{Arguments, Frame};
 use hook_table::Hooks;
+use machine_frames::{Arguments, Frame};
 use nwq_value::{Args, NoMemory, Routine, Table, Text};
 use saved_state::Saved;
 use std::alloc::Global;
