@@ -23,3 +23,10 @@ named_is name scripts = rw (front_of name scripts, length_of scripts) refl
 
 pub position_is : (name : List ℕ) (scripts : List Loaded) → position_from (λ l. bytes_eq (map to_ascii_lowercase name) l.name) 0 scripts ≡ script_named (scripts_of scripts) name
 position_is name scripts = sym (position_from-zero (λ l. bytes_eq (map to_ascii_lowercase name) l.name) scripts) ∙ named_is name scripts
+
+pub named_by : (name own : List ℕ) (scripts slice : List Loaded) (n : Option ℕ) → own ≡ name → slice ≡ scripts
+    → n ≡ position_from (λ l. bytes_eq (map to_ascii_lowercase own) l.name) 0 slice → n ≡ script_named (scripts_of scripts) name
+named_by name own scripts slice n a b e =
+    e ∙ ap (λ own. position_from (λ l. bytes_eq (map to_ascii_lowercase own) l.name) 0 slice) a
+    ∙ ap (position_from (λ l. bytes_eq (map to_ascii_lowercase name) l.name) 0) b
+    ∙ position_is name scripts

@@ -17,8 +17,8 @@ use Rattle.machine_step.specs.Outlines.{Outline, Typed, Keeps, outline, outlines
 use Rattle.machine_step.specs.Frames.{Frame}
 use Rattle.machine_step.specs.Act.{Act, Moves, act}
 use Rattle.machine_step.specs.Machine.{Script, Host, State, Next, Goes, Ends, Divided, followed, next_op, step}
-use Rattle.ncs_machine.specs.declared.run.Ran.TheVariants as answer
-use Rattle.ncs_machine.specs.declared.run.Ran as answers
+use Rattle.ncs_machine.specs.declared.entry.Ran.TheVariants as answer
+use Rattle.ncs_machine.specs.declared.entry.Ran as answers
 use Rattle.machine_step.specs.Runs.{Ending, Over, ZeroDivisor, OutOfInstructions, Ran, after_step, counted, run, entry}
 use Rattle.shape_tables.specs.Fits.{Tables, IsListed, FitsOne}
 use Rattle.shape_tables.specs.Safe.{IsSafe, IsSafeFrame, AreSafeFrames, GoesSafely, from_base}

@@ -59,7 +59,7 @@ fn run_machine(
     requires alone { machine.old.waiting ≡ [] }
     ensures room { world.old.room ≤ world.new.room }
     ensures run { IsRunOf result.0 result.1 result.2
-        (run_of (host (scripts_of scripts.now) (engine_view table.now hooks.now.all.items)) limit
+        (run_of (host (scripts_of scripts.now) (engine_view table.now (map (λ h. h.known) hooks.now.all.items))) limit
         (state machine.old (world.old.world)))
         (scripts_of scripts.now) (tables_of scripts.now)
         (world.old.world) (world.new.world) }
@@ -110,7 +110,7 @@ pub fn run(
     requires hooks { AreServing (map (λ h. h.known) hooks.now.all.items) }
     ensures room { world.old.room ≤ world.new.room }
     ensures run { IsRunOf result.0 result.1 result.2
-        (run_from (host (scripts_of scripts.now) (engine_view table.now hooks.now.all.items)) limit script begin caller
+        (run_from (host (scripts_of scripts.now) (engine_view table.now (map (λ h. h.known) hooks.now.all.items))) limit script begin caller
         (world.old.world))
         (scripts_of scripts.now) (tables_of scripts.now)
         (world.old.world) (world.new.world) }
