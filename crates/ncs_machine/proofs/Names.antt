@@ -1,13 +1,13 @@
 -- Scripts by their names.
-use Rattle.std.proofs.Common.{◌≡◌, ℕ, List, [], ◌∷◌, length, map, Option, Bool, ap, ◌∙◌, refl, sym}
-use Rattle.std.specs.Prelude.{not, cond, nat_lt, Some, None}
+use Rattle.std.proofs.Common.{◌≡◌, ℕ, List, [], ◌∷◌, length, map, Option, ap, ◌∙◌, refl, sym}
+use Rattle.std.specs.Prelude.{not}
 use Rattle.std.specs.Char.{to_ascii_lowercase}
-use Rattle.std.specs.List.{position, position_from, position_or_len, prefix_len}
+use Rattle.std.specs.List.{position, position_from, prefix_len}
 use Rattle.std.specs.Str.{bytes_eq}
 use Rattle.std.proofs.lemmas.Iterator.Adapters.{position_from-zero}
 use Rattle.machine_step.specs.Machine.{script_named}
 use Rattle.ncs_machine.specs.declared.scripts.Loaded.{Loaded}
-use Rattle.ncs_machine.specs.Host.{script_of, scripts_of}
+use Rattle.ncs_machine.specs.Host.{scripts_of}
 
 length_of : (scripts : List Loaded) → length (scripts_of scripts) ≡ length scripts
 length_of [] = refl

@@ -1,4 +1,4 @@
-use Rattle.std.proofs.Common.{arith, ◌≡◌, Some, sym, subst, ap, ◌∙◌}
+use Rattle.std.proofs.Common.{arith, Some, subst, ap, ◌∙◌}
 use Rattle.ncs_machine.specs.Host.{scripts_of, tables_of}
 use Rattle.ncs_machine.specs.Steps.{Stays, next_of, state}
 use Rattle.ncs_machine.proofs.Answers.{answers_typed}

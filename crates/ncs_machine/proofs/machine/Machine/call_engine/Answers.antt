@@ -1,4 +1,4 @@
-use Rattle.std.proofs.Common.{sym, ◌∙◌}
+use Rattle.std.proofs.Common.{[], sym, ◌∙◌}
 use Rattle.ncs_machine.specs.Host.{scripts_of}
 use Rattle.ncs_machine.proofs.Calls.{asks_follow, call_typed, executes_follow}
 use Rattle.ncs_machine.proofs.machine.Machine.call_engine.Goals as goal
@@ -19,5 +19,5 @@ returns-in_ok-ask-in-Some-clause-called g c =
 
 pub ask-requires-clause-types : goal.ask-requires-clause-types
 ask-requires-clause-types g c =
-    call_typed _ c.args.number c.args.count c.in-Some.routine.now c.args.self.now.running c.take.new.self.running c.in_ok-args-in-Some.args
+    call_typed (record { table = c.args.table.now; cell = λ name column row. [] }) c.args.number c.args.count c.in-Some.routine.now c.args.self.now.running c.take.new.self.running c.in_ok-args-in-Some.args
     (sym c.in-Some.ensures.entry) c.in_ok-args-in-Some.ensures.call

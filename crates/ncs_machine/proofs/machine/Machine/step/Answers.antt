@@ -1,4 +1,4 @@
-use Rattle.std.proofs.Common.{◌≡◌, Some, sym, ap, ◌∙◌, rules}
+use Rattle.std.proofs.Common.{◌≡◌, Some, rules}
 use Rattle.std.specs.Prelude.{slice_get}
 use Rattle.ncs_code.specs.Plain.{plain}
 use Rattle.ncs_code.specs.File.{op_at}
