@@ -1,10 +1,6 @@
 //! Instructions that name cells by offsets and sizes.
-<<<<<<< HEAD
-ghost use Rattle.std.specs.Prelude.{◌≡◌, ◌≢◌, ◌+◌, ◌≤◌, ◌<◌, ◌^◌, None, Some, OnOk, IfSome, drop, length};
-=======
 ghost use Rattle.std.specs.Prelude.{◌≡◌, ◌≢◌, ◌+◌, ◌≤◌, ◌<◌, ◌^◌, None, Some, OnOk, IfSome, drop};
 ghost use Rattle.std.specs.Prelude.{length};
->>>>>>> c2e3fab3de56b585125b09a3562cbff0973c0c53
 ghost use Rattle.machine_step.specs.Act.{bp_range, compared};
 ghost use Rattle.machine_step.specs.Cells.{int_changed, pair_compared, range_kept, range_pushed};
 ghost use Rattle.machine_step.specs.Cells.{range_written, runs_compared, values_dropped};

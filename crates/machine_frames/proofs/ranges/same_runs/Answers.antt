@@ -1,8 +1,4 @@
-<<<<<<< HEAD
-use Rattle.std.proofs.Common.{arith, ◌≡◌, ◌<◌, ◌+◌, ℕ, sym, ◌∙◌}
-=======
 use Rattle.std.proofs.Common.{arith, ◌∙◌}
->>>>>>> c2e3fab3de56b585125b09a3562cbff0973c0c53
 use Rattle.machine_frames.proofs.RangeLemmas.{upper_has, lower_has, lower_lies, same_is, same_goes_on, same_ends}
 use Rattle.machine_frames.proofs.ranges.same_runs.Goals as goal
 

@@ -1,8 +1,4 @@
-<<<<<<< HEAD
-use Rattle.std.proofs.Common.{arith, ◌≡◌, ◌<◌, ◌+◌, ◌-◌, ℕ, suc}
-=======
 use Rattle.std.proofs.Common.{arith, ◌≡◌, ◌<◌, ◌-◌, ℕ, suc}
->>>>>>> c2e3fab3de56b585125b09a3562cbff0973c0c53
 use Rattle.machine_frames.proofs.RunLemmas.{push_begins, push_fits, next_has, next_pushed}
 use Rattle.machine_frames.proofs.runs.push_copies.Goals as goal
 
