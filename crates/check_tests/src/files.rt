@@ -40,12 +40,10 @@ fn verdict_of(alloc: Global, table: &Table, text: &[u8]) -> Verdict {
 /// The number of the first text with another verdict, counted from 0, or their count.
 pub fn first_other(alloc: Global, texts: &[&[u8]], wanted: Verdict) -> Result<usize, NoMemory> {
     let table = built_in(alloc)?;
-    let mut count = 0;
-    for text in texts {
+    for (i, text) in texts.iter().enumerate() {
         if verdict_of(alloc, &table, text) != wanted {
-            return Ok(count);
+            return Ok(i);
         }
-        count += 1;
     }
-    Ok(count)
+    Ok(texts.len())
 }
