@@ -1,0 +1,15 @@
+mod Trees
+mod Examples
+mod Ledger
+mod Cells
+mod Steps
+mod Operators
+mod Variables
+mod Places
+mod Expressions
+mod Calls
+mod EngineCalls
+mod Induction
+mod Captures
+mod Statements
+mod AllStatements

@@ -1,0 +1,16 @@
+pub mod Values
+pub mod Evaluation
+pub mod Spots
+pub mod Expressions
+pub mod Statements
+pub mod Scripts
+pub mod Plays
+pub mod Ledger
+pub mod Kept
+pub mod Fine
+pub mod Simulation
+pub mod Carries
+pub mod Calling
+pub mod Laws
+pub mod FineStatements
+pub mod StatementsRun
