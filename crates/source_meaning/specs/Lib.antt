@@ -1,0 +1,6 @@
+pub mod Values
+pub mod Evaluation
+pub mod Spots
+pub mod Expressions
+pub mod Statements
+pub mod Scripts
