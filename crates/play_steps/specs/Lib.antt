@@ -1,0 +1,3 @@
+pub mod Plays
+pub mod EndText
+pub mod Laws
