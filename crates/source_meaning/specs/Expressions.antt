@@ -1,15 +1,13 @@
 -- What an expression means in a running script: its value, with the steps that it takes and what it changes. Operands are evaluated left
 -- to right, arguments last to first.
-use Rattle.std.specs.Prelude.{ℕ, pos, Bool, true, false, not, List, [], ◌∷◌, ◌++◌, map, Option, None, Some, slice_get}
-use Rattle.std.specs.Option.{option_map}
+use Rattle.std.specs.Prelude.{ℕ, Bool, true, false, List, [], ◌∷◌, Option, None, Some, slice_get}
 use Rattle.std.specs.List.{flat_map}
 use Rattle.nss_tree.specs.declared.operators.PrefixOperator.{PrefixOperator}
 use Rattle.nss_tree.specs.declared.operators.PrefixOperator.TheVariants as pre
-use Rattle.nss_tree.specs.declared.operators.PostfixOperator.{PostfixOperator}
 use Rattle.nss_tree.specs.declared.operators.BinaryOperator.{BinaryOperator}
 use Rattle.nwq_value.specs.declared.value.Ty.{Ty}
 use Rattle.nwq_value.specs.declared.value.Value.{Value}
-use Rattle.nwq_value.specs.declared.value.Value.TheVariants.{Int, Text, Object}
+use Rattle.nwq_value.specs.declared.value.Value.TheVariants.{Text, Object}
 use Rattle.nwq_value.specs.declared.engine.Const.{Const}
 use Rattle.nwq_value.specs.declared.engine.Routine.{Routine}
 use Rattle.nwq_value.specs.Engine.{EngineTable}
@@ -17,17 +15,15 @@ use Rattle.nss_typing.specs.declared.places.Place.{Place}
 use Rattle.nss_typing.specs.declared.places.Place.TheVariants.{Local, Global, Const as IsConst}
 use Rattle.nss_typing.specs.declared.places.Callee.{Callee}
 use Rattle.nss_typing.specs.declared.places.Callee.TheVariants.{Unit as InUnit, Engine}
-use Rattle.nss_typing.specs.Types.{is_void}
-use Rattle.nss_typing.specs.Typed.{TypedExpr, TypedExprs, literal, name, call, member, prefix, postfix, binary, assign, no_typed, more_typed, type_of}
+use Rattle.nss_typing.specs.Typed.{TypedExpr, TypedExprs, literal, name, call, member, prefix, postfix, binary, assign, no_typed, more_typed}
 use Rattle.code_emission.specs.Layout.{Structs, cell_types, cells}
 use Rattle.code_emission.specs.Expressions.{Shortcut, WhereTrue, WhereFalse, Never, shortcut, is_captured}
 use Rattle.engine_rows.specs.Pure.{CellLookup}
-use Rattle.engine_rows.specs.World.{World}
 use Rattle.engine_rows.specs.Rows.{Answered}
 use Rattle.engine_rows.specs.Engine.{engine}
 use Rattle.machine_step.specs.Calls.{is_execute_script}
 use Rattle.source_meaning.specs.Values.{constant_value, start_part, parts_of, is_true, one_int, test_value, operate, divides_by_zero, applied, prefixed, postfixed}
-use Rattle.source_meaning.specs.Evaluation.{Deferred, Progress, Outcome, Gives, Divides, OutOfSteps, bind, spend, chosen}
+use Rattle.source_meaning.specs.Evaluation.{Deferred, Progress, Outcome, Gives, Divides, bind, spend, chosen}
 use Rattle.source_meaning.specs.Spots.{Spot, further, spot, read_at, written_at}
 
 -- What a running script stands in: header and tables, the structs of its unit, its number among the scripts, the object that it runs as,

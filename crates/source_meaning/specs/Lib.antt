@@ -4,3 +4,4 @@ pub mod Spots
 pub mod Expressions
 pub mod Statements
 pub mod Scripts
+pub mod Plays

@@ -1,18 +1,17 @@
 -- What a script means: its functions, its start, a deferred call of it, and how it runs other scripts.
-use Rattle.std.specs.Prelude.{ℕ, zero, suc, Bool, true, false, List, [], ◌∷◌, ◌++◌, map, length, Option, None, Some, slice_get}
+use Rattle.std.specs.Prelude.{ℕ, zero, suc, List, [], ◌∷◌, ◌++◌, map, Option, None, Some, slice_get}
 use Rattle.std.specs.Char.{to_ascii_lowercase}
 use Rattle.std.specs.List.{position}
 use Rattle.std.specs.Str.{bytes_eq}
 use Rattle.nss_tree.specs.Units.{global, function}
-use Rattle.nss_tree.specs.Statements.{no_stmt}
 use Rattle.nwq_value.specs.declared.value.Ty.{Ty}
-use Rattle.nwq_value.specs.declared.value.Ty.TheVariants.{Void, Int}
+use Rattle.nwq_value.specs.declared.value.Ty.TheVariants.{Int}
 use Rattle.nwq_value.specs.declared.value.Value.{Value}
 use Rattle.nwq_value.specs.Engine.{EngineTable}
 use Rattle.nss_typing.specs.declared.places.EntryPoint.{EntryPoint}
 use Rattle.nss_typing.specs.declared.places.EntryPoint.TheVariants.{Main, Conditional}
 use Rattle.nss_typing.specs.Typed.{TypedParameter, TypedStmts, TypedName, TypedItem, TypedUnit}
-use Rattle.code_emission.specs.Layout.{Structs, structs_from, cell_types}
+use Rattle.code_emission.specs.Layout.{structs_from, cell_types}
 use Rattle.engine_rows.specs.Pure.{CellLookup}
 use Rattle.engine_rows.specs.World.{World}
 use Rattle.engine_rows.specs.Engine.{may_run, no_script, too_deep}
