@@ -1,2 +1,6 @@
 mod Trees
 mod Examples
+mod Ledger
+mod Cells
+mod Steps
+mod Operators

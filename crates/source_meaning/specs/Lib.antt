@@ -5,3 +5,6 @@ pub mod Expressions
 pub mod Statements
 pub mod Scripts
 pub mod Plays
+pub mod Ledger
+pub mod Kept
+pub mod Fine
