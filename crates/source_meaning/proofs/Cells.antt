@@ -183,27 +183,31 @@ written cells over new old under top above count e f h k types =
 
 -- ---- what stands where
 
-pub part_lengths : (b c : ℕ) (v : List Value) → b ≤ length v → length (take b v) ≡ b
-part_lengths b c v h = length-take-le b v h
-
 parts_split : (b c : ℕ) (v : List Value) → v ≡ take b v ++ (parts_of b c v ++ drop c (drop b v))
 parts_split b c v = sym (take-append-drop b v) ∙ ap (λ t. take b v ++ t) (sym (take-append-drop c (drop b v)))
 
 -- parts of a value stand over the parts before them
-pub part_stands : (cells : List Cell) (place : ℕ) (v : List Value) (b c : ℕ) → b ≤ length v → Stands cells place v → Stands cells (place + b) (parts_of b c v)
-part_stands cells place v b c h s =
+pub part_is : (cells : List Cell) (place : ℕ) (v : List Value) (b c : ℕ) (s : Stands cells place v)
+    → cells ≡ (s.above ++ pushed (drop c (drop b v)) []) ++ pushed (parts_of b c v) (pushed (take b v) s.below)
+part_is cells place v b c s =
     let front = take b v in
     let part = parts_of b c v in
     let rest = drop c (drop b v) in
-    record {
-      above = s.above ++ pushed rest [];
-      below = pushed front s.below;
-      is = s.is
-          ∙ ap (λ t. s.above ++ pushed t s.below) (parts_split b c v)
-          ∙ ap (λ t. s.above ++ t) (pushed_append front (part ++ rest) s.below ∙ pushed_append part rest (pushed front s.below) ∙ pushed_alone rest (pushed part (pushed front s.below)))
-          ∙ sym (append_assoc s.above (pushed rest []) (pushed part (pushed front s.below)));
-      at = let n = pushed_length front s.below in let m = part_lengths b c v h in let a = s.at in omega (arith, n, m, a);
-    }
+    s.is
+    ∙ ap (λ t. s.above ++ pushed t s.below) (parts_split b c v)
+    ∙ ap (λ t. s.above ++ t) (pushed_append front (part ++ rest) s.below ∙ pushed_append part rest (pushed front s.below) ∙ pushed_alone rest (pushed part (pushed front s.below)))
+    ∙ sym (append_assoc s.above (pushed rest []) (pushed part (pushed front s.below)))
+
+pub part_at : (cells : List Cell) (place : ℕ) (v : List Value) (b : ℕ) → b ≤ length v → (s : Stands cells place v) → length (pushed (take b v) s.below) ≡ place + b
+part_at cells place v b h s = let n = pushed_length (take b v) s.below in let m = length-take-le b v h in let a = s.at in omega (arith, n, m, a)
+
+pub part_stands : (cells : List Cell) (place : ℕ) (v : List Value) (b c : ℕ) → b ≤ length v → Stands cells place v → Stands cells (place + b) (parts_of b c v)
+part_stands cells place v b c h s = record {
+  above = s.above ++ pushed (drop c (drop b v)) [];
+  below = pushed (take b v) s.below;
+  is = part_is cells place v b c s;
+  at = part_at cells place v b h s;
+}
 
 -- what stands over other cells
 pub stands_over : (cells more : List Cell) (place : ℕ) (v : List Value) → Stands cells place v → Stands (more ++ cells) place v

@@ -4,3 +4,4 @@ mod Ledger
 mod Cells
 mod Steps
 mod Operators
+mod Variables
