@@ -5,3 +5,4 @@ mod Cells
 mod Steps
 mod Operators
 mod Variables
+mod Places

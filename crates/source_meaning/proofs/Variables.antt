@@ -156,8 +156,8 @@ module _ (x : Site) (scope : List ℕ) where
 
 -- ---- spots
 
-module _ (table : EngineTable) (functions : List Function) (x : Site) (scope : List ℕ) where
-  pub home_of : Spot → Home
+module _ (x : Site) (scope : List ℕ) where
+  abbrev pub home_of : Spot → Home
   home_of (OfLocal n b) = InFrame (position x.layout n + b)
   home_of (OfGlobal n b) = InGlobals (position x.layout n + b)
 
@@ -173,7 +173,6 @@ module _ (table : EngineTable) (functions : List Function) (x : Site) (scope : L
 
   of_member : (t : Ty) (e : TypedExpr) (before : ℕ) → AreParts (cell_types x.layout.structs (type_of e)) before (cell_types x.layout.structs t) → (s : Spot)
       → spot e ≡ Some s → IsSpot (type_of e) s → home x.layout e ≡ Some (home_of s) → SpotOf (member t e before)
-  unfolding home_of
   of_member t e before p (OfLocal n b) is f h =
       let sum : position x.layout n + b + before ≡ position x.layout n + (b + before) = omega arith in
       record {
@@ -191,9 +190,9 @@ module _ (table : EngineTable) (functions : List Function) (x : Site) (scope : L
         home_is = ap (option_map (moved before)) h ∙ ap (λ k. Some (InGlobals k)) sum;
       }
 
+module _ (table : EngineTable) (functions : List Function) (x : Site) (scope : List ℕ) where
   -- what can be written has a spot
-  pub spot_of : (e : TypedExpr) → is_place e ≡ true → IsFine table functions x scope e → SpotOf e
-  unfolding home_of
+  pub spot_of : (e : TypedExpr) → is_place e ≡ true → IsFine table functions x scope e → SpotOf x scope e
   spot_of (name t (Local n)) h f =
       let sum : position x.layout n ≡ position x.layout n + 0 = omega arith in
       record {
@@ -213,7 +212,7 @@ module _ (table : EngineTable) (functions : List Function) (x : Site) (scope : L
         home_is = ap (λ k. Some (InGlobals k)) sum;
       }
   spot_of (name t (IsConst k)) h f = absurd cc
-  spot_of (member t e before) h f = let s = spot_of e h f.0 in of_member t e before f.1 s.where_is s.is s.fine s.home_is
+  spot_of (member t e before) h f = let s = spot_of e h f.0 in of_member x scope t e before f.1 s.where_is s.is s.fine s.home_is
   spot_of (literal k) h f = absurd cc
   spot_of (call t g es ks) h f = absurd cc
   spot_of (prefix t o e) h f = absurd cc
