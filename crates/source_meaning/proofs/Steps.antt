@@ -1,12 +1,17 @@
 -- Single instructions of a running script.
-use Rattle.std.proofs.Common.{arith, ◌≡◌, ◌≤◌, ◌<◌, ◌+◌, ◌-◌, ℕ, List, [], ◌∷◌, ◌++◌, length, drop, reverse, Some, None, Bool, true, false, sym, subst, ◌∙◌, ap, refl, zero-add}
+use Rattle.std.proofs.Common.{arith, ◌≡◌, ◌≤◌, ◌<◌, ◌+◌, ◌-◌, ℕ, List, [], ◌∷◌, ◌++◌, length, take, drop, reverse, Option, Some, None, Bool, true, false, sym, subst, ◌∙◌, ap, refl, zero-add, append_assoc}
 use Rattle.std.specs.Prelude.{ℤ, pos, ◌&&◌, nat_le, if◌then◌else◌}
 use Rattle.std.specs.Option.{option_map, option_and_then}
 use Rattle.std.proofs.lemmas.Bool.Decides.{nat_tests}
+use Rattle.std.proofs.lemmas.List.{reverse-append, length-reverse, length-drop, length-take-le, take_at, drop_at, take-append-drop}
+use Rattle.nss_tree.specs.declared.operators.BinaryOperator.{BinaryOperator}
+use Rattle.nwq_value.specs.declared.value.Ty.{Ty}
+use Rattle.nwq_value.specs.declared.value.Ty.TheVariants.{Int as IntTy}
 use Rattle.nwq_value.specs.declared.value.Value.{Value}
 use Rattle.nwq_value.specs.declared.value.Value.TheVariants.{Int}
 use Rattle.nwq_value.specs.declared.engine.Const.{Const}
 use Rattle.nwq_value.specs.declared.engine.Const.TheVariants as const
+use Rattle.nss_typing.specs.Types.{binary_type}
 use Rattle.ncs_code.specs.Plain.{PlainOp}
 use Rattle.ncs_code.specs.Plain as ops
 use Rattle.ncs_code.specs.Spelling.{op_size}
@@ -16,17 +21,21 @@ use Rattle.ncs_emit.specs.Standing.{LinesStand}
 use Rattle.saved_state.specs.declared.cell.Cell.{Cell}
 use Rattle.saved_state.specs.declared.cell.Cell.TheVariants.{Value as Holds}
 use Rattle.saved_state.specs.declared.saved.Saved.{Saved}
-use Rattle.code_emission.specs.Operations.{beneath, bytes_of, literal_of}
+use Rattle.stack_shape.specs.Ranges.{cell_count}
+use Rattle.code_emission.specs.Layout.{Structs, cell_types}
+use Rattle.code_emission.specs.Operations.{beneath, bytes_of, literal_of, operation}
 use Rattle.engine_rows.specs.World.{World}
 use Rattle.machine_step.specs.Operators.{sum, difference, is_zero}
 use Rattle.machine_step.specs.Values.{literal_value}
-use Rattle.machine_step.specs.Cells.{values_on, values_at, value_types, overwritten, from_bp, value_pushed, range_pushed, range_written, int_written, int_changed, values_dropped, zero_on_top}
+use Rattle.machine_step.specs.Cells.{values_on, values_at, value_types, with_values, overwritten, from_bp, of_int, value_pushed, range_pushed, range_written, int_written, int_changed, values_dropped, values_kept, zero_on_top}
 use Rattle.machine_step.specs.Act.{Act, Moves, act, moved, cells_after, place_after, is_division, bp_range, one_more, one_less}
-use Rattle.machine_step.specs.Machine.{Goes, step, followed, next_op}
-use Rattle.source_meaning.specs.Values.{constant_value}
+use Rattle.machine_step.specs.Machine.{Goes, Divided, step, followed, next_op}
+use Rattle.machine_step.specs.Laws.{EqualityIsTested}
+use Rattle.source_meaning.specs.Values.{constant_value, parts_of, one_int, operate, divides_by_zero}
 use Rattle.source_meaning.specs.Ledger.{MachineHost}
 use Rattle.source_meaning.specs.Kept.{pushed, Site, IsListed, at}
-use Rattle.source_meaning.proofs.Cells.{values_pushed, dropped_pushed, depth_beneath, range_there, values_in, copied, written, put_there}
+use Rattle.source_meaning.proofs.Cells.{pushed_over, values_pushed, dropped_pushed, count_of, depth_beneath, range_there, values_in, copied, written, put_there}
+use Rattle.source_meaning.proofs.Operators.{of_one, operator_does, operation_acts, operation_passes}
 
 -- ---- lines that stand one after another
 
@@ -225,3 +234,91 @@ module _ (host : MachineHost) (x : Site) (listed : IsListed host x) where
       moves place next (ops.MovSp (beneath count)) (pushed v cells) cells calls pending world begins refl
       (ap (λ d. values_dropped d (pushed v cells)) (depth_beneath count)
       ∙ ap (option_map (λ _. drop count (pushed v cells))) there ∙ ap Some rest) refl goes
+
+  -- ---- one int on top, and parts of the value on top
+
+  pub one_goes : (place next : ℕ) (op : PlainOp) (f : ℤ → ℤ) (v : List Value) (cells : List Cell) (calls : List ℕ) (pending : List Saved) (world : World Saved)
+      → op_at x.code place ≡ Some op
+      → act host.table op (at x place (pushed v cells) calls pending world).running ≡ moved op (at x place (pushed v cells) calls pending world).running
+      → cells_after op x.self (record { cells = pushed v cells; bp = x.bp }) ≡ of_int f (pushed v cells) → (is_division op && zero_on_top (pushed v cells)) ≡ false
+      → place_after op place (pushed v cells) ≡ next → value_types v ≡ IntTy ∷ []
+      → step host (at x place (pushed v cells) calls pending world) ≡ Some (Goes (at x next (pushed (one_int f v) cells) calls pending world))
+  one_goes place next op f v cells calls pending world begins acts after undivided goes typed =
+      moves place next op (pushed v cells) (pushed (one_int f v) cells) calls pending world begins acts (after ∙ of_one f v cells typed) undivided goes
+
+  -- the parts of a value the other way round
+  reversed_part : (o n : ℕ) (v : List Value) → o + n ≤ length v → take n (drop (length v - (o + n)) (reverse v)) ≡ reverse (parts_of o n v)
+  reversed_part o n v h =
+      let a = take o v in
+      let b = parts_of o n v in
+      let c = drop n (drop o v) in
+      let whole : v ≡ a ++ (b ++ c) = sym (take-append-drop o v) ∙ ap (λ t. take o v ++ t) (sym (take-append-drop n (drop o v))) in
+      let turned : reverse v ≡ reverse c ++ (reverse b ++ reverse a) =
+          ap reverse whole ∙ reverse-append a (b ++ c) ∙ ap (λ t. t ++ reverse a) (reverse-append b c) ∙ append_assoc (reverse c) (reverse b) (reverse a) in
+      let rest_size : length c ≡ length v - (o + n) = length-drop n (drop o v) ∙ ap (λ k. k - n) (length-drop o v) ∙ omega arith in
+      let back_size : length (reverse c) ≡ length v - (o + n) = length-reverse c ∙ rest_size in
+      let left : length (drop o v) ≡ length v - o = length-drop o v in
+      let part_size : length (reverse b) ≡ n = length-reverse b ∙ length-take-le n (drop o v) (omega (arith, left, h)) in
+      ap (λ t. take n (drop (length v - (o + n)) t)) turned
+      ∙ ap (take n) (drop_at (reverse c) (reverse b ++ reverse a) (length v - (o + n)) back_size)
+      ∙ take_at (reverse b) (reverse a) n part_size
+
+  pub cut_goes : (place next total offset count : ℕ) (v : List Value) (cells : List Cell) (calls : List ℕ) (pending : List Saved) (world : World Saved)
+      → op_at x.code place ≡ Some (ops.Destruct (bytes_of total) (bytes_of offset) (bytes_of count)) → place + 8 ≡ next → length v ≡ total → offset + count ≤ total
+      → step host (at x place (pushed v cells) calls pending world) ≡ Some (Goes (at x next (pushed (parts_of offset count v) cells) calls pending world))
+  unfolding act cells_after
+  cut_goes place next total offset count v cells calls pending world begins goes size inside =
+      let stack = pushed v cells in
+      let there : values_on total stack ≡ Some (reverse v) = ap (λ k. values_on k stack) (sym size) ∙ values_pushed v cells in
+      let rest : drop total stack ≡ cells = ap (λ k. drop k stack) (sym size) ∙ dropped_pushed v cells in
+      let fits : nat_le (offset + count) total ≡ true = grind (arith, nat_tests, inside) in
+      let part : take count (drop (total - (offset + count)) (reverse v)) ≡ reverse (parts_of offset count v) =
+          ap (λ k. take count (drop (k - (offset + count)) (reverse v))) (sym size) ∙ reversed_part offset count v (omega (arith, size, inside)) in
+      let kept : values_kept total offset count stack ≡ Some (pushed (parts_of offset count v) cells) =
+          ap (λ (b : Bool). if b then option_map (λ vs. with_values (take count (drop (total - (offset + count)) vs)) (drop total stack)) (values_on total stack) else None) fits
+          ∙ ap (option_map (λ vs. with_values (take count (drop (total - (offset + count)) vs)) (drop total stack))) there
+          ∙ ap (λ vs. Some (with_values vs (drop total stack))) part
+          ∙ ap (λ t. Some (with_values (reverse (parts_of offset count v)) t)) rest in
+      moves place next (ops.Destruct (bytes_of total) (bytes_of offset) (bytes_of count)) stack (pushed (parts_of offset count v) cells) calls pending world begins refl
+      (ap (λ t. option_and_then (λ k. option_and_then (λ o. option_and_then (λ n. values_kept k o n stack) (cell_count (bytes_of count))) (cell_count (bytes_of offset))) t) (count_of total)
+      ∙ ap (λ t. option_and_then (λ o. option_and_then (λ n. values_kept total o n stack) (cell_count (bytes_of count))) t) (count_of offset)
+      ∙ ap (λ t. option_and_then (λ n. values_kept total offset n stack) t) (count_of count)
+      ∙ kept)
+      refl goes
+
+  -- a second copy of the value on top
+  pub top_copied : (place next : ℕ) (v : Value) (cells : List Cell) (calls : List ℕ) (pending : List Saved) (world : World Saved)
+      → op_at x.code place ≡ Some (ops.CpTopSp (beneath 1) (bytes_of 1)) → place + 8 ≡ next
+      → step host (at x place (Holds v ∷ cells) calls pending world) ≡ Some (Goes (at x next (Holds v ∷ Holds v ∷ cells) calls pending world))
+  unfolding act cells_after
+  top_copied place next v cells calls pending world begins goes =
+      moves place next (ops.CpTopSp (beneath 1) (bytes_of 1)) (Holds v ∷ cells) (Holds v ∷ Holds v ∷ cells) calls pending world begins refl
+      (ap (λ r. range_pushed r (Holds v ∷ cells)) (range_there 1 0 1 (omega arith) refl) ∙ copied (Holds v ∷ cells) [] (v ∷ []) cells 0 1 refl refl refl)
+      refl goes
+
+  -- ---- operators
+
+  pub operator_goes : (tested : EqualityIsTested) (place next : ℕ) (structs : Structs) (o : BinaryOperator) (s t r : Ty) (v w : List Value) (cells : List Cell) (calls : List ℕ) (pending : List Saved) (world : World Saved)
+      → op_at x.code place ≡ Some (operation o s (length (cell_types structs s))) → place + op_size (operation o s (length (cell_types structs s))) ≡ next
+      → binary_type o s t ≡ Some r → value_types v ≡ cell_types structs s → value_types w ≡ cell_types structs t → divides_by_zero o w ≡ false
+      → step host (at x place (pushed w (pushed v cells)) calls pending world) ≡ Some (Goes (at x next (pushed (operate o v w) cells) calls pending world))
+  operator_goes tested place next structs o s t r v w cells calls pending world begins goes typed tv tw divides =
+      let does = operator_does tested structs o s t r v w cells x.self x.bp typed tv tw in
+      moves place next (operation o s (length (cell_types structs s))) (pushed w (pushed v cells)) (pushed (operate o v w) cells) calls pending world begins
+      (operation_acts host.table (at x place (pushed w (pushed v cells)) calls pending world).running o s (length (cell_types structs s)))
+      does.after (does.undivided ∙ divides)
+      (operation_passes o s (length (cell_types structs s)) place (pushed w (pushed v cells)) ∙ goes)
+
+  pub operator_divides : (tested : EqualityIsTested) (place : ℕ) (structs : Structs) (o : BinaryOperator) (s t r : Ty) (v w : List Value) (cells : List Cell) (calls : List ℕ) (pending : List Saved) (world : World Saved)
+      → op_at x.code place ≡ Some (operation o s (length (cell_types structs s)))
+      → binary_type o s t ≡ Some r → value_types v ≡ cell_types structs s → value_types w ≡ cell_types structs t → divides_by_zero o w ≡ true
+      → step host (at x place (pushed w (pushed v cells)) calls pending world) ≡ Some Divided
+  operator_divides tested place structs o s t r v w cells calls pending world begins typed tv tw divides =
+      let does = operator_does tested structs o s t r v w cells x.self x.bp typed tv tw in
+      let op = operation o s (length (cell_types structs s)) in
+      let stack = pushed w (pushed v cells) in
+      let f = (at x place stack calls pending world).running in
+      let is : moved op f ≡ Some Act.Divides =
+          ap (option_map (λ (t : List Cell). if is_division op && zero_on_top stack then Act.Divides else Moves (at x (place_after op place stack) t calls pending world).running)) does.after
+          ∙ ap (λ (b : Bool). Some (if b then Act.Divides else Moves (at x (place_after op place stack) (pushed (operate o v w) cells) calls pending world).running)) (does.undivided ∙ divides) in
+      acted place op stack calls pending world Act.Divides begins (operation_acts host.table f o s (length (cell_types structs s)) ∙ is)

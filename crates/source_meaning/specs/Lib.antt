@@ -8,3 +8,4 @@ pub mod Plays
 pub mod Ledger
 pub mod Kept
 pub mod Fine
+pub mod Simulation
