@@ -1,11 +1,11 @@
 -- Pieces of a run one after another, and the cases of an evaluation.
-use Rattle.std.proofs.Common.{arith, ◌≡◌, ◌≤◌, ◌+◌, ℕ, zero, suc, Some, sym, ◌∙◌, ap, refl, zero-add}
+use Rattle.std.proofs.Common.{arith, ◌≡◌, ◌≤◌, ◌+◌, ℕ, zero, suc, Bool, true, false, Some, sym, ◌∙◌, ap, refl, zero-add}
 use Rattle.saved_state.specs.declared.saved.Saved.{Saved}
 use Rattle.engine_rows.specs.World.{World}
 use Rattle.engine_rows.specs.Alike.{Alike}
 use Rattle.machine_step.specs.Machine.{Goes, step}
 use Rattle.machine_step.specs.Runs.{Ran, run, after_step}
-use Rattle.source_meaning.specs.Evaluation.{Deferred, Progress, Outcome, Gives, Divides, OutOfSteps, bind, spend, spend_of}
+use Rattle.source_meaning.specs.Evaluation.{Deferred, Progress, Outcome, Gives, Divides, OutOfSteps, bind, spend, spend_of, chosen}
 use Rattle.source_meaning.specs.Ledger.{Machine, MachineHost, later, Took, Sim}
 
 recount : (r : Ran (World Saved)) (m n : ℕ) → m ≡ n → record r { count = m } ≡ record r { count = n }
@@ -90,6 +90,28 @@ module _ (host : MachineHost) (R : Saved → Deferred → Type 0) where
       → Sim host R B place p.left c s e (spend p go)
   unfolding spend
   sim_spend B place c s t e p go h alike k = spend_case B place c s t e p go p.left refl h alike k
+
+  -- the same where the instruction is known once a step is left
+  paid_case : {A : Type 0} (B : A → Progress → Type 0) (place : (a : A) (p : Progress) → B a p → Machine)
+      (c : ℕ) (s : Machine) (e : A → ℕ) (p : Progress) (go : Progress → Outcome A) (left : ℕ) → p.left ≡ left → Alike R s.world p.world
+      → ((m : ℕ) → p.left ≡ suc m → (t : Machine) × (step host s ≡ Some (Goes t)) × Sim host R B place m (15 + c) t e (go (record p { left = m })))
+      → Sim host R B place left c s e (spend_of left p go)
+  paid_case B place c s e p go zero is alike k = (s, took_less host 0 (omega arith) (took_none host 0 c s), alike)
+  paid_case B place c s e p go (suc m) is alike k = let x = k m is in sim_after B place e (go (record p { left = m })) (took_paid host m c s x.0 x.1) x.2
+
+  pub sim_paid : {A : Type 0} (B : A → Progress → Type 0) (place : (a : A) (p : Progress) → B a p → Machine)
+      (c : ℕ) (s : Machine) (e : A → ℕ) (p : Progress) (go : Progress → Outcome A) → Alike R s.world p.world
+      → ((m : ℕ) → p.left ≡ suc m → (t : Machine) × (step host s ≡ Some (Goes t)) × Sim host R B place m (15 + c) t e (go (record p { left = m })))
+      → Sim host R B place p.left c s e (spend p go)
+  unfolding spend
+  sim_paid B place c s e p go alike k = paid_case B place c s e p go p.left refl alike k
+
+  -- one of two ways
+  pub sim_chosen : {A : Type 0} (B : A → Progress → Type 0) (place : (a : A) (p : Progress) → B a p → Machine)
+      (n c : ℕ) (s : Machine) (e : A → ℕ) (b : Bool) (go other : Progress → Outcome A) (p : Progress)
+      → (b ≡ true → Sim host R B place n c s e (go p)) → (b ≡ false → Sim host R B place n c s e (other p)) → Sim host R B place n c s e (chosen b go other p)
+  sim_chosen B place n c s e true go other p h k = h refl
+  sim_chosen B place n c s e false go other p h k = k refl
 
   -- a value's place by further instructions
   pub sim_map : {A : Type 0} (B : A → Progress → Type 0) (place : (a : A) (p : Progress) → B a p → Machine)

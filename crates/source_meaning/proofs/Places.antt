@@ -1,13 +1,15 @@
 -- Reads and writes of variables, in a frame and among the globals.
 use Rattle.std.proofs.Common.{arith, ◌≡◌, ◌≤◌, ◌<◌, ◌+◌, ◌-◌, ℕ, zero, suc, List, [], ◌∷◌, ◌++◌, length, take, drop, Option, Some, None, Bool, true, false, sym, subst, ◌∙◌, ap, refl, append_assoc}
-use Rattle.std.specs.Prelude.{ℤ, pos}
+use Rattle.std.specs.Prelude.{ℤ, pos, if◌then◌else◌}
+use Rattle.std.proofs.lemmas.Bool.Decides.{Decides-eqb}
 use Rattle.std.specs.Option.{option_map}
-use Rattle.std.proofs.lemmas.List.{length-append, length-map, length-take-le, length-drop}
+use Rattle.std.proofs.lemmas.List.{length-append, length-map, length-take-le, take_at, drop_at}
 use Rattle.nwq_value.specs.declared.value.Ty.{Ty}
 use Rattle.nwq_value.specs.declared.value.Ty.TheVariants.{Int as IntTy}
 use Rattle.nwq_value.specs.declared.value.Value.{Value}
 use Rattle.nwq_value.specs.declared.value.Value.TheVariants.{Int, Text, Object, Effect, Event}
 use Rattle.nwq_value.specs.Values.{type_of as type_of_value}
+use Rattle.ncs_code.specs.Plain.{PlainOp}
 use Rattle.ncs_code.specs.File.{op_at}
 use Rattle.nss_typing.specs.declared.places.Place.{Place}
 use Rattle.nss_typing.specs.declared.places.Place.TheVariants.{Local, Global, Const as IsConst}
@@ -24,7 +26,7 @@ use Rattle.machine_step.specs.Cells.{value_types}
 use Rattle.machine_step.specs.Machine.{Goes, step}
 use Rattle.source_meaning.specs.Values.{parts_of, with_parts, one_int}
 use Rattle.source_meaning.specs.Evaluation.{Variables, with_variable, Deferred, Progress}
-use Rattle.source_meaning.specs.Spots.{Spot, OfLocal, OfGlobal, read_at, written_at}
+use Rattle.source_meaning.specs.Spots.{Spot, OfLocal, OfGlobal, further, spot, read_at, written_at}
 use Rattle.source_meaning.specs.Ledger.{Machine, MachineHost}
 use Rattle.source_meaning.specs.Kept.{pushed, Stands, Site, IsListed, at, In, part_types, Vars, Kept, spot_at}
 use Rattle.source_meaning.specs.Fine.{AreParts}
@@ -262,6 +264,154 @@ module _ (host : MachineHost) (R : Saved → Deferred → Type 0) (x : Site) (li
       let some = f.2.some in
       let old : value_types new ≡ value_types (parts_of b (length new) (p.globals n)) = types ∙ sym typed ∙ ap (λ k. value_types (parts_of b k (p.globals n))) (sym long) in
       base_writes place next (depth + count) count temps between calls pending K n b new f.0 (omega (arith, all, inside, long)) old begins goes long some f.1
+
+  -- ---- ints that change where they stand
+
+  int_is : (v : List Value) → value_types v ≡ IntTy ∷ [] → (n : ℤ) × (v ≡ Int n ∷ [])
+  int_is (Int n ∷ []) h = (n, refl)
+  int_is v h = absurd cc
+
+  -- what an instruction does with an int in the frame, and with one among the globals
+  abbrev pub InFrameCounts : (ℤ → ℤ) → (ℕ → Home → PlainOp) → Type 0
+  InFrameCounts f op = (place next depth from : ℕ) (cells over under : List Cell) (n : ℤ) (calls : List ℕ) (pending : List Saved) (world : World Saved)
+      → op_at x.code place ≡ Some (op depth (InFrame from)) → place + 6 ≡ next → cells ≡ over ++ Holds (Int n) ∷ under → length over + (1 + from) ≡ depth
+      → step host (at x place cells calls pending world) ≡ Some (Goes (at x next (over ++ Holds (Int (f n)) ∷ under) calls pending world))
+
+  abbrev pub InGlobalsCounts : (ℤ → ℤ) → (ℕ → Home → PlainOp) → Type 0
+  InGlobalsCounts f op = (place next depth from above : ℕ) (cells over under : List Cell) (n : ℤ) (calls : List ℕ) (pending : List Saved) (world : World Saved)
+      → op_at x.code place ≡ Some (op depth (InGlobals from)) → place + 6 ≡ next → cells ≡ over ++ Holds (Int n) ∷ under
+      → above + (1 + from) ≡ x.layout.globals → x.bp ≤ length cells → (length cells - x.bp) + above ≡ length over
+      → step host (at x place cells calls pending world) ≡ Some (Goes (at x next (over ++ Holds (Int (f n)) ∷ under) calls pending world))
+
+  pub increases_frame : InFrameCounts (λ n. sum n (pos 1)) (increment x.layout)
+  increases_frame place next depth from cells over under n calls pending world begins goes is deep = frame_increased host x listed place next depth from cells over under n calls pending world begins goes is deep
+
+  pub decreases_frame : InFrameCounts (λ n. difference n (pos 1)) (decrement x.layout)
+  decreases_frame place next depth from cells over under n calls pending world begins goes is deep = frame_decreased host x listed place next depth from cells over under n calls pending world begins goes is deep
+
+  pub increases_globals : InGlobalsCounts (λ n. sum n (pos 1)) (increment x.layout)
+  increases_globals place next depth from above cells over under n calls pending world begins goes is deep low far =
+      base_increased host x listed place next x.layout.globals from above cells over under n calls pending world begins goes is deep low far
+
+  pub decreases_globals : InGlobalsCounts (λ n. difference n (pos 1)) (decrement x.layout)
+  decreases_globals place next depth from above cells over under n calls pending world begins goes is deep low far =
+      base_decreased host x listed place next x.layout.globals from above cells over under n calls pending world begins goes is deep low far
+
+  pub spot_counts : (f : ℤ → ℤ) (op : ℕ → Home → PlainOp) → InFrameCounts f op → InGlobalsCounts f op → (scope : List ℕ) (size : ℕ) (s : Spot) → IsSpot x scope IntTy s
+      → (p : Progress) (place next depth : ℕ) (temps between : List Cell) (calls : List ℕ) (pending : List Saved) (K : Kept R x scope size p.globals p.locals p.world)
+      → op_at x.code place ≡ Some (op depth (home_of x scope s)) → place + 6 ≡ next → length temps + size ≡ depth
+      → Put scope size (written_at s (one_int f (read_at s 1 p)) p).globals (written_at s (one_int f (read_at s 1 p)) p).locals (written_at s (one_int f (read_at s 1 p)) p).world
+          (spot_at R x place temps between calls pending K) next temps between calls pending
+  spot_counts f op in_frame in_globals scope size (OfLocal n b) fine p place next depth temps between calls pending K begins goes deep =
+      let v = p.locals n in
+      let typed = part_types_are (part_types x n) b (IntTy ∷ []) v fine.1 (K.local_values.typed n fine.0) in
+      let all = size_of x scope K.frame p.locals n K.local_values fine.0 in
+      let inside = fine.1.inside in
+      let m = int_is (parts_of b 1 v) typed in
+      let new = one_int f (parts_of b 1 v) in
+      let new_is : new ≡ Int (f m.0) ∷ [] = ap (one_int f) m.1 in
+      let long : length new ≡ 1 = ap length new_is in
+      let old_is : parts_of b (length new) v ≡ Int m.0 ∷ [] = ap (λ k. parts_of b k v) long ∙ m.1 in
+      let types : value_types new ≡ value_types (parts_of b (length new) v) = ap value_types new_is ∙ sym (ap value_types old_is) in
+      let s = K.local_values.value n fine.0 in
+      let above = s.above ++ pushed (drop (length new) (drop b v)) [] in
+      let below = pushed (take b v) s.below in
+      let rest = between ++ K.under in
+      let is = part_is K.frame (position x.layout n) v b (length new) s in
+      let at_is = part_at K.frame (position x.layout n) v b (omega (arith, all, inside)) s in
+      let whole : temps ++ (K.frame ++ rest) ≡ (temps ++ above) ++ Holds (Int m.0) ∷ (below ++ rest) =
+          ap (λ t. temps ++ (t ++ rest)) is ∙ split_in temps above below rest (parts_of b (length new) v) ∙ ap (λ u. (temps ++ above) ++ pushed u (below ++ rest)) old_is in
+      let a = ap length is in
+      let c = length-append above (pushed (parts_of b (length new) v) below) in
+      let d = pushed_length (parts_of b (length new) v) below in
+      let e = ap length old_is in
+      let g = length-append temps above in
+      let k = K.frame_size in
+      record {
+        kept = frame_kept K n b new fine.0 (omega (arith, all, inside, long)) types;
+        goes = in_frame place next depth (position x.layout n + b) (temps ++ (K.frame ++ rest)) (temps ++ above) (below ++ rest) m.0 calls pending K.machine begins goes whole (omega (arith, a, c, d, e, g, k, at_is, deep))
+            ∙ ap (λ u. Some (Goes (at x next ((temps ++ above) ++ pushed u (below ++ rest)) calls pending K.machine))) (sym new_is)
+            ∙ ap (λ t. Some (Goes (at x next t calls pending K.machine))) (sym (split_in temps above below rest new));
+      }
+  spot_counts f op in_frame in_globals scope size (OfGlobal n b) fine p place next depth temps between calls pending K begins goes deep =
+      let v = p.globals n in
+      let typed = part_types_are (part_types x n) b (IntTy ∷ []) v fine.2 (K.global_values.typed n fine.0) in
+      let all = size_of x x.globals K.under p.globals n K.global_values fine.0 in
+      let inside = fine.2.inside in
+      let full = fine.1 in
+      let m = int_is (parts_of b 1 v) typed in
+      let new = one_int f (parts_of b 1 v) in
+      let new_is : new ≡ Int (f m.0) ∷ [] = ap (one_int f) m.1 in
+      let long : length new ≡ 1 = ap length new_is in
+      let old_is : parts_of b (length new) v ≡ Int m.0 ∷ [] = ap (λ k. parts_of b k v) long ∙ m.1 in
+      let types : value_types new ≡ value_types (parts_of b (length new) v) = ap value_types new_is ∙ sym (ap value_types old_is) in
+      let s = K.global_values.value n fine.0 in
+      let above = s.above ++ pushed (drop (length new) (drop b v)) [] in
+      let below = pushed (take b v) s.below in
+      let is = part_is K.under (position x.layout n) v b (length new) s in
+      let at_is = part_at K.under (position x.layout n) v b (omega (arith, all, inside)) s in
+      let upper = temps ++ (K.frame ++ between) in
+      let whole : temps ++ (K.frame ++ (between ++ K.under)) ≡ (upper ++ above) ++ Holds (Int m.0) ∷ below =
+          ap (λ t. temps ++ (K.frame ++ (between ++ t))) is ∙ split_under temps K.frame between above below (parts_of b (length new) v) ∙ ap (λ u. (upper ++ above) ++ pushed u below) old_is in
+      let a = ap length is in
+      let c = length-append above (pushed (parts_of b (length new) v) below) in
+      let d = pushed_length (parts_of b (length new) v) below in
+      let e = ap length old_is in
+      let k = K.under_size in
+      record {
+        kept = under_kept K n b new fine.0 (omega (arith, all, inside, long)) types;
+        goes = in_globals place next depth (position x.layout n + b) (length above) (temps ++ (K.frame ++ (between ++ K.under))) (upper ++ above) below m.0 calls pending K.machine begins goes whole
+            (omega (arith, a, c, d, e, k, at_is, full)) (reaches temps between K) (far_down temps between above K)
+            ∙ ap (λ u. Some (Goes (at x next ((upper ++ above) ++ pushed u below) calls pending K.machine))) (sym new_is)
+            ∙ ap (λ t. Some (Goes (at x next t calls pending K.machine))) (sym (split_under temps K.frame between above below new));
+      }
+
+-- ---- what is read where it was written
+
+with_read : (b : ℕ) (new v : List Value) → b ≤ length v → parts_of b (length new) (with_parts b new v) ≡ new
+with_read b new v h =
+    ap (take (length new)) (drop_at (take b v) (new ++ drop (b + length new) v) b (length-take-le b v h))
+    ∙ take_at new (drop (b + length new) v) (length new) refl
+
+its_own : (variables : Variables) (n : ℕ) (v : List Value) → with_variable variables n v n ≡ v
+its_own variables n v = ap (λ (t : Bool). if t then v else variables n) ((Decides-eqb n n).1 refl)
+
+pub read_written : (x : Site) (scope : List ℕ) (t : Ty) (s : Spot) (globals : List Cell) (frame : List Cell) (p : Progress) (new : List Value) (count : ℕ) → IsSpot x scope t s
+    → Vars x x.globals globals p.globals → Vars x scope frame p.locals → length new ≡ count → read_at s count (written_at s new p) ≡ new
+read_written x scope t (OfLocal n b) globals frame p new count fine G L long =
+    let all = size_of x scope frame p.locals n L fine.0 in
+    let inside = fine.1.inside in
+    ap (λ v. parts_of b count v) (its_own p.locals n (with_parts b new (p.locals n)))
+    ∙ ap (λ k. parts_of b k (with_parts b new (p.locals n))) (sym long)
+    ∙ with_read b new (p.locals n) (omega (arith, all, inside))
+read_written x scope t (OfGlobal n b) globals frame p new count fine G L long =
+    let all = size_of x x.globals globals p.globals n G fine.0 in
+    let inside = fine.2.inside in
+    ap (λ v. parts_of b count v) (its_own p.globals n (with_parts b new (p.globals n)))
+    ∙ ap (λ k. parts_of b k (with_parts b new (p.globals n))) (sym long)
+    ∙ with_read b new (p.globals n) (omega (arith, all, inside))
+
+-- a write takes no step
+pub written_left : (s : Spot) (new : List Value) (p : Progress) → (written_at s new p).left ≡ p.left
+written_left (OfLocal n b) new p = refl
+written_left (OfGlobal n b) new p = refl
+
+-- what can't be written has neither spot nor home
+pub record NoSpot (l : Layout) (e : TypedExpr) : Type 0 where
+  pub spot_is : spot e ≡ None
+  pub home_is : home l e ≡ None
+
+pub no_spot : (l : Layout) (e : TypedExpr) → is_place e ≡ false → NoSpot l e
+no_spot l (name t (Local m)) h = absurd cc
+no_spot l (name t (Global m)) h = absurd cc
+no_spot l (name t (IsConst k)) h = record { spot_is = refl; home_is = refl }
+no_spot l (member t d before) h = let s = no_spot l d h in record { spot_is = ap (option_map (further before)) s.spot_is; home_is = ap (option_map (moved before)) s.home_is }
+no_spot l (literal k) h = record { spot_is = refl; home_is = refl }
+no_spot l (call t g es ks) h = record { spot_is = refl; home_is = refl }
+no_spot l (prefix t o d) h = record { spot_is = refl; home_is = refl }
+no_spot l (postfix t o d) h = record { spot_is = refl; home_is = refl }
+no_spot l (binary t o c d) h = record { spot_is = refl; home_is = refl }
+no_spot l (assign t o c d) h = record { spot_is = refl; home_is = refl }
 
 -- ---- the code of what can be written
 
