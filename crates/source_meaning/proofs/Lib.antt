@@ -6,3 +6,4 @@ mod Steps
 mod Operators
 mod Variables
 mod Places
+mod Expressions
