@@ -1,6 +1,6 @@
 -- The code of expressions does what they mean, node by node.
 use Rattle.std.proofs.Common.{arith, ◌≡◌, ◌≤◌, ◌<◌, ◌+◌, ◌-◌, ℕ, zero, suc, List, [], ◌∷◌, ◌++◌, length, Option, Some, None, Bool, true, false, sym, subst, ◌∙◌, ap, refl, append_assoc}
-use Rattle.std.specs.Prelude.{ℤ, pos, not, ◌&&◌}
+use Rattle.std.specs.Prelude.{ℤ, pos, not, ◌&&◌, ◌||◌}
 use Rattle.std.specs.Option.{option_map}
 use Rattle.std.proofs.lemmas.Bool.Decides.{Decides-int_eq}
 use Rattle.std.proofs.lemmas.List.{length-append, length-map}
@@ -39,7 +39,7 @@ use Rattle.code_emission.specs.Expressions.{Home, InFrame, InGlobals, home, at_h
 use Rattle.engine_rows.specs.Alike.{Alike}
 use Rattle.engine_rows.specs.Pure.{CellLookup}
 use Rattle.engine_rows.specs.World.{World}
-use Rattle.machine_step.specs.Operators.{is_zero, opposite, complement, negation, sum, difference, either}
+use Rattle.machine_step.specs.Operators.{as_int, is_zero, either}
 use Rattle.machine_step.specs.Cells.{value_types, of_int, zero_on_top}
 use Rattle.machine_step.specs.Frames.{Frame}
 use Rattle.machine_step.specs.Act.{act, moved, cells_after, place_after, is_division}
@@ -47,17 +47,17 @@ use Rattle.machine_step.specs.Machine.{Goes, step}
 use Rattle.machine_step.specs.Laws.{EqualityIsTested}
 use Rattle.source_meaning.specs.Values.{constant_value, parts_of, one_int, test_value, is_true, int_part, operate, divides_by_zero, applied, prefixed, postfixed}
 use Rattle.source_meaning.specs.Evaluation.{Deferred, Progress, Outcome, Gives, Divides, OutOfSteps, bind, spend, chosen}
-use Rattle.source_meaning.specs.Spots.{Spot, further, spot, read_at, written_at}
+use Rattle.source_meaning.specs.Spots.{Spot, OfLocal, OfGlobal, further, spot, read_at, written_at}
 use Rattle.source_meaning.specs.Expressions.{Caller, eval, member_of, stepped, before_operand, operated, unwritten, combined, assigned, write_there, read_there, is_step}
 use Rattle.source_meaning.specs.Scripts.{Function}
 use Rattle.source_meaning.specs.Ledger.{Machine, MachineHost, Took, Sim}
-use Rattle.source_meaning.specs.Kept.{pushed, Stands, Site, IsListed, at, In, Kept, spot_at}
+use Rattle.source_meaning.specs.Kept.{pushed, Site, IsListed, at, part_types, Kept, spot_at}
 use Rattle.source_meaning.specs.Fine.{AreParts, IsFine}
 use Rattle.source_meaning.specs.Simulation.{Executor, running_at, HoldsValue, value_place, value_credits, ExprRuns}
-use Rattle.source_meaning.proofs.Cells.{pushed_over}
-use Rattle.source_meaning.proofs.Ledger.{took_none, took_free, took_then, took_less, sim_after, sim_bind, sim_spend, sim_paid, sim_chosen}
-use Rattle.source_meaning.proofs.Operators.{one_typed, are_ints, same_types, applied_type, combination_is, applied_reads, int_types}
-use Rattle.source_meaning.proofs.Places.{frame_reads, base_reads, spot_reads, spot_writes, spot_counts, increases_frame, decreases_frame, increases_globals, decreases_globals, place_code, read_written, written_left, no_spot}
+use Rattle.source_meaning.proofs.Cells.{pushed_over, pushed_length}
+use Rattle.source_meaning.proofs.Ledger.{took_none, took_cost, took_free, took_then, took_less, sim_after, sim_bind, sim_spend, sim_paid, sim_chosen}
+use Rattle.source_meaning.proofs.Operators.{one_typed, are_ints, if_some, compound_type, operator_does, same_types, applied_type, combination_is, applied_reads, int_types}
+use Rattle.source_meaning.proofs.Places.{InFrameCounts, InGlobalsCounts, frame_reads, base_reads, spot_reads, spot_writes, spot_counts, increases_frame, decreases_frame, increases_globals, decreases_globals, place_code, read_written, written_left, no_spot}
 use Rattle.source_meaning.proofs.Steps.{both_stand, sizes, moves, constant_goes, int_goes, jump_goes, zero_jumps, other_passes, one_goes, cut_goes, top_copied, operator_goes, operator_divides}
 use Rattle.source_meaning.proofs.Variables.{part_types_are, home_of, IsSpot, SpotOf, spot_of}
 
@@ -74,6 +74,16 @@ typed_length v ts h = sym (length-map v type_of_value) ∙ ap length h
 as_int_value : (v : List Value) → value_types v ≡ IntTy ∷ [] → (n : ℤ) × (v ≡ Int n ∷ [])
 as_int_value (Int n ∷ []) h = (n, refl)
 as_int_value v h = absurd cc
+
+-- sums of sizes
+sums : (a b c : ℕ) → a + b + c ≡ a + (b + c)
+sums a b c = omega arith
+
+alone : (a b : ℕ) → a + (b + 0) ≡ a + b
+alone a b = omega arith
+
+ends : (a b c : ℕ) → a + b + c ≡ a + (b + (c + 0))
+ends a b c = omega arith
 
 module _ (host : MachineHost) (R : Saved → Deferred → Type 0) (tested : EqualityIsTested) (x : Site) (listed : IsListed host x)
     (tables : CellLookup) (execute : Executor) (functions : List Function) (caller : Caller) (most : ℕ) where
@@ -266,3 +276,337 @@ module _ (host : MachineHost) (R : Saved → Deferred → Type 0) (tested : Equa
   unfolding act cells_after
   not_runs t e r scope size n depth place c p K temps between calls pending fine stands deep le =
       unary_runs e pre.Not ops.Not r (λ f. refl) (λ stack. refl) refl (λ at_place stack. refl) scope size n depth place c p K temps between calls pending fine.0 fine.1 t fine.2 stands deep le
+
+  -- ---- counting in place
+
+  spot_typed : (scope : List ℕ) (size : ℕ) (t : Ty) (s : Spot) → IsSpot x scope t s → (p : Progress) → Kept R x scope size p.globals p.locals p.world
+      → value_types (read_at s (length (cell_types x.layout.structs t)) p) ≡ cell_types x.layout.structs t
+  spot_typed scope size t (OfLocal n b) f p K = part_types_are (part_types x n) b (cell_types x.layout.structs t) (p.locals n) f.1 (K.local_values.typed n f.0)
+  spot_typed scope size t (OfGlobal n b) f p K = part_types_are (part_types x n) b (cell_types x.layout.structs t) (p.globals n) f.2 (K.global_values.typed n f.0)
+
+  abbrev SixBytes : (ℕ → Home → PlainOp) → Type 0
+  SixBytes op = (depth : ℕ) (h : Home) → op_size (op depth h) ≡ 6
+
+  -- the new int is given
+  count_first : (f : ℤ → ℤ) (op : ℕ → Home → PlainOp) → InFrameCounts host R x listed f op → InGlobalsCounts host R x listed f op → SixBytes op
+      → (t : Ty) (e : TypedExpr) (scope : List ℕ) (size n depth place c : ℕ) (p : Progress) (K : Kept R x scope size p.globals p.locals p.world) (temps between : List Cell) (calls : List ℕ) (pending : List Saved)
+      → is_place e ≡ true → IsFine host.table functions x scope e → type_of e ≡ IntTy → t ≡ IntTy → length temps + size ≡ depth
+      → CodeRuns scope size place c p t (stepped (spot e) (one_int f) (λ old new. new) p) temps between calls pending (spot_at R x place temps between calls pending K)
+      (at_home (op depth) (home x.layout e) ++ emit x.layout n depth e)
+  count_first f op in_frame in_globals six t e scope size n depth place c p K temps between calls pending there fine int is_int deep =
+      let found = spot_of host.table functions x scope e there fine in
+      let s = found.where_is in
+      let h = home_of x scope s in
+      let of_int = subst (λ (u : Ty). IsSpot x scope u s) int found.fine in
+      let code = Instruction (op depth h) ∷ Instruction (read x.layout depth 1 h) ∷ [] in
+      let is = ap (λ o. at_home (op depth) o ++ emit x.layout n depth e) found.home_is
+          ∙ ap (λ ls. Instruction (op depth h) ∷ ls) (place_code x.layout n depth e h there found.home_is ∙ ap (λ (u : Ty). Instruction (read x.layout depth (length (cell_types x.layout.structs u)) h) ∷ []) int) in
+      let middle = place + op_size (op depth h) in
+      let next = place + lines_size code in
+      let first : place + 6 ≡ middle = ap (λ k. place + k) (sym (six depth h)) in
+      let second : middle + 8 ≡ next = goes_on middle depth 1 h ∙ sums place (op_size (op depth h)) (lines_size (Instruction (read x.layout depth 1 h) ∷ [])) in
+      subst (λ o. CodeRuns scope size place c p t (stepped o (one_int f) (λ old new. new) p) temps between calls pending (spot_at R x place temps between calls pending K) (at_home (op depth) (home x.layout e) ++ emit x.layout n depth e)) (sym found.is)
+      (by_code scope size place c p t (stepped (Some s) (one_int f) (λ old new. new) p) temps between calls pending (spot_at R x place temps between calls pending K)
+      (at_home (op depth) (home x.layout e) ++ emit x.layout n depth e) code is
+      (λ lines. sim_paid host R (HoldsValue R x scope size t) (value_place R x scope size t next temps between calls pending) c (spot_at R x place temps between calls pending K) (value_credits c) p
+      (λ q. Gives (one_int f (read_at s 1 q)) (written_at s (one_int f (read_at s 1 q)) q)) K.alike
+      (λ m left.
+      let q = record p { left = m } in
+      let old_typed = spot_typed scope size IntTy s of_int q K in
+      let new = one_int f (read_at s 1 q) in
+      let new_typed = one_typed f (read_at s 1 q) old_typed in
+      let put = spot_counts host R x listed f op in_frame in_globals scope size s of_int q place middle depth temps between calls pending K lines.0 first deep in
+      let got = spot_reads host R x listed scope size IntTy s of_int (written_at s new q) middle next depth temps between calls pending put.kept lines.1.0 second deep in
+      let same = read_written x scope IntTy s K.under K.frame q new 1 of_int K.global_values K.local_values (typed_length new (IntTy ∷ []) new_typed) in
+      let goes = got.goes ∙ ap (λ v. Some (Goes (spot_at R x next (pushed v temps) between calls pending put.kept))) same in
+      (spot_at R x middle temps between calls pending put.kept, put.goes,
+      ((new_typed ∙ ap (cell_types x.layout.structs) (sym is_int), put.kept),
+      subst (λ k. Took host m (15 + c) (spot_at R x middle temps between calls pending put.kept) k (8 + c) (spot_at R x next (pushed new temps) between calls pending put.kept)) (sym (written_left s new q))
+      (took_cost host m (15 + c) (8 + c) (spot_at R x middle temps between calls pending put.kept) (spot_at R x next (pushed new temps) between calls pending put.kept) (omega arith) goes))))))
+
+  -- the old int is given
+  count_after : (f : ℤ → ℤ) (op : ℕ → Home → PlainOp) → InFrameCounts host R x listed f op → InGlobalsCounts host R x listed f op → SixBytes op
+      → (t : Ty) (e : TypedExpr) (scope : List ℕ) (size n depth place c : ℕ) (p : Progress) (K : Kept R x scope size p.globals p.locals p.world) (temps between : List Cell) (calls : List ℕ) (pending : List Saved)
+      → is_place e ≡ true → IsFine host.table functions x scope e → type_of e ≡ IntTy → t ≡ IntTy → length temps + size ≡ depth
+      → CodeRuns scope size place c p t (stepped (spot e) (one_int f) (λ old new. old) p) temps between calls pending (spot_at R x place temps between calls pending K)
+      (emit x.layout n depth e ++ at_home (op (depth + 1)) (home x.layout e))
+  count_after f op in_frame in_globals six t e scope size n depth place c p K temps between calls pending there fine int is_int deep =
+      let found = spot_of host.table functions x scope e there fine in
+      let s = found.where_is in
+      let h = home_of x scope s in
+      let of_int = subst (λ (u : Ty). IsSpot x scope u s) int found.fine in
+      let code = Instruction (read x.layout depth 1 h) ∷ Instruction (op (depth + 1) h) ∷ [] in
+      let is = ap (λ o. emit x.layout n depth e ++ at_home (op (depth + 1)) o) found.home_is
+          ∙ ap (λ ls. ls ++ Instruction (op (depth + 1) h) ∷ []) (place_code x.layout n depth e h there found.home_is ∙ ap (λ (u : Ty). Instruction (read x.layout depth (length (cell_types x.layout.structs u)) h) ∷ []) int) in
+      let middle = place + op_size (read x.layout depth 1 h) in
+      let next = place + lines_size code in
+      let first : place + 8 ≡ middle = goes_on place depth 1 h ∙ alone place (op_size (read x.layout depth 1 h)) in
+      let second : middle + 6 ≡ next = ap (λ k. middle + k) (sym (six (depth + 1) h)) ∙ ends place (op_size (read x.layout depth 1 h)) (op_size (op (depth + 1) h)) in
+      subst (λ o. CodeRuns scope size place c p t (stepped o (one_int f) (λ old new. old) p) temps between calls pending (spot_at R x place temps between calls pending K) (emit x.layout n depth e ++ at_home (op (depth + 1)) (home x.layout e))) (sym found.is)
+      (by_code scope size place c p t (stepped (Some s) (one_int f) (λ old new. old) p) temps between calls pending (spot_at R x place temps between calls pending K)
+      (emit x.layout n depth e ++ at_home (op (depth + 1)) (home x.layout e)) code is
+      (λ lines. sim_paid host R (HoldsValue R x scope size t) (value_place R x scope size t next temps between calls pending) c (spot_at R x place temps between calls pending K) (value_credits c) p
+      (λ q. Gives (read_at s 1 q) (written_at s (one_int f (read_at s 1 q)) q)) K.alike
+      (λ m left.
+      let q = record p { left = m } in
+      let old = read_at s 1 q in
+      let new = one_int f old in
+      let got = spot_reads host R x listed scope size IntTy s of_int q place middle depth temps between calls pending K lines.0 first deep in
+      let size_is = pushed_length old temps in
+      let one = typed_length old (IntTy ∷ []) got.typed in
+      let put = spot_counts host R x listed f op in_frame in_globals scope size s of_int q middle next (depth + 1) (pushed old temps) between calls pending K lines.1.0 second (omega (arith, size_is, one, deep)) in
+      (spot_at R x middle (pushed old temps) between calls pending K, got.goes,
+      ((got.typed ∙ ap (cell_types x.layout.structs) (sym is_int), put.kept),
+      subst (λ k. Took host m (15 + c) (spot_at R x middle (pushed old temps) between calls pending K) k (8 + c) (spot_at R x next (pushed old temps) between calls pending put.kept)) (sym (written_left s new q))
+      (took_cost host m (15 + c) (8 + c) (spot_at R x middle (pushed old temps) between calls pending K) (spot_at R x next (pushed old temps) between calls pending put.kept) (omega arith) put.goes))))))
+
+  increment_six : SixBytes (increment x.layout)
+  increment_six depth (InFrame from) = refl
+  increment_six depth (InGlobals from) = refl
+
+  decrement_six : SixBytes (decrement x.layout)
+  decrement_six depth (InFrame from) = refl
+  decrement_six depth (InGlobals from) = refl
+
+  increment_runs : (t : Ty) (e : TypedExpr) → Runs (prefix t pre.Increment e)
+  increment_runs t e scope size n depth place c p K temps between calls pending fine stands deep le =
+      count_first (prefixed pre.Increment) (increment x.layout) (increases_frame host R x listed) (increases_globals host R x listed) increment_six t e scope size n depth place c p K temps between calls pending
+      (fine.3 refl) fine.0 fine.1 fine.2 deep stands
+
+  decrement_runs : (t : Ty) (e : TypedExpr) → Runs (prefix t pre.Decrement e)
+  decrement_runs t e scope size n depth place c p K temps between calls pending fine stands deep le =
+      count_first (prefixed pre.Decrement) (decrement x.layout) (decreases_frame host R x listed) (decreases_globals host R x listed) decrement_six t e scope size n depth place c p K temps between calls pending
+      (fine.3 refl) fine.0 fine.1 fine.2 deep stands
+
+  prefix_runs : (t : Ty) (o : PrefixOperator) (e : TypedExpr) → Runs e → Runs (prefix t o e)
+  prefix_runs t pre.Minus e r = minus_runs t e r
+  prefix_runs t pre.Complement e r = complement_runs t e r
+  prefix_runs t pre.Not e r = not_runs t e r
+  prefix_runs t pre.Increment e r = increment_runs t e
+  prefix_runs t pre.Decrement e r = decrement_runs t e
+
+  postfix_runs : (t : Ty) (o : PostfixOperator) (e : TypedExpr) → Runs (postfix t o e)
+  postfix_runs t post.Increment e scope size n depth place c p K temps between calls pending fine stands deep le =
+      count_after (postfixed post.Increment) (increment x.layout) (increases_frame host R x listed) (increases_globals host R x listed) increment_six t e scope size n depth place c p K temps between calls pending
+      fine.3 fine.0 fine.1 fine.2 deep stands
+  postfix_runs t post.Decrement e scope size n depth place c p K temps between calls pending fine stands deep le =
+      count_after (postfixed post.Decrement) (decrement x.layout) (decreases_frame host R x listed) (decreases_globals host R x listed) decrement_six t e scope size n depth place c p K temps between calls pending
+      fine.3 fine.0 fine.1 fine.2 deep stands
+
+  -- ---- binary operators
+
+  -- two values over the frame
+  both_over : (v w : List Value) (temps rest : List Cell) → pushed w (pushed v temps) ++ rest ≡ pushed w (pushed v (temps ++ rest))
+  both_over v w temps rest = pushed_over w (pushed v temps) rest ∙ ap (pushed w) (pushed_over v temps rest)
+
+  -- the instruction of an operator, on the two values on top
+  operator_runs : (o : BinaryOperator) (s t r : Ty) (v w : List Value) → binary_type o s t ≡ Some r → value_types v ≡ cell_types x.layout.structs s → value_types w ≡ cell_types x.layout.structs t
+      → (scope : List ℕ) (size place next c d : ℕ) (p : Progress) (K : Kept R x scope size p.globals p.locals p.world) (temps between : List Cell) (calls : List ℕ) (pending : List Saved)
+      → op_at x.code place ≡ Some (operation o s (length (cell_types x.layout.structs s))) → place + op_size (operation o s (length (cell_types x.layout.structs s))) ≡ next → 1 ≤ c → d ≤ 7 + c
+      → Sim host R (HoldsValue R x scope size r) (value_place R x scope size r next temps between calls pending) p.left c (spot_at R x place (pushed w (pushed v temps)) between calls pending K) (value_credits d)
+      (operated x.self o v w unwritten p)
+  operator_runs o s t r v w typed tv tw scope size place next c d p K temps between calls pending begins goes some enough =
+      let rest = K.frame ++ (between ++ K.under) in
+      sim_chosen host R (HoldsValue R x scope size r) (value_place R x scope size r next temps between calls pending) p.left c (spot_at R x place (pushed w (pushed v temps)) between calls pending K) (value_credits d)
+      (divides_by_zero o w) (λ q. Divides x.self q) (λ q. spend q (λ u. Gives (operate o v w) (unwritten (operate o v w) u))) p
+      (λ zero_is. (spot_at R x place (pushed w (pushed v temps)) between calls pending K, took_less host 1 some (took_none host p.left c (spot_at R x place (pushed w (pushed v temps)) between calls pending K)),
+      ap (λ t. step host (at x place t calls pending K.machine)) (both_over v w temps rest)
+      ∙ operator_divides host x listed tested place x.layout.structs o s t r v w (temps ++ rest) calls pending K.machine begins typed tv tw zero_is,
+      refl, K.alike))
+      (λ other_is. sim_paid host R (HoldsValue R x scope size r) (value_place R x scope size r next temps between calls pending) c (spot_at R x place (pushed w (pushed v temps)) between calls pending K) (value_credits d)
+      p (λ u. Gives (operate o v w) (unwritten (operate o v w) u)) K.alike
+      (λ m left. (spot_at R x next (pushed (operate o v w) temps) between calls pending K,
+      ap (λ t. step host (at x place t calls pending K.machine)) (both_over v w temps rest)
+      ∙ operator_goes host x listed tested place next x.layout.structs o s t r v w (temps ++ rest) calls pending K.machine begins goes typed tv tw other_is
+      ∙ ap (λ t. Some (Goes (at x next t calls pending K.machine))) (sym (pushed_over (operate o v w) temps rest)),
+      ((does_type o s t r v w typed tv tw, K),
+      took_less host (8 + d) (omega (arith, enough)) (took_none host m (15 + c) (spot_at R x next (pushed (operate o v w) temps) between calls pending K))))))
+    where
+      does_type : (o : BinaryOperator) (s t r : Ty) (v w : List Value) → binary_type o s t ≡ Some r → value_types v ≡ cell_types x.layout.structs s → value_types w ≡ cell_types x.layout.structs t
+          → value_types (operate o v w) ≡ cell_types x.layout.structs r
+      does_type o s t r v w typed tv tw = let does = operator_does tested x.layout.structs o s t r v w [] 0 0 typed tv tw in does.typed
+
+  -- an operator that evaluates both operands
+  both_run : (t : Ty) (o : BinaryOperator) (d e : TypedExpr) → Runs d → Runs e
+      → (first second : ℕ) (scope : List ℕ) (size depth place c : ℕ) (p : Progress) (K : Kept R x scope size p.globals p.locals p.world) (temps between : List Cell) (calls : List ℕ) (pending : List Saved)
+      → IsFine host.table functions x scope d → IsFine host.table functions x scope e → binary_type o (type_of d) (type_of e) ≡ Some t → length temps + size ≡ depth → p.left ≤ most
+      → CodeRuns scope size place c p t (bind (value_of d p) (λ v q. bind (value_of e q) (λ w r. operated x.self o v w unwritten r))) temps between calls pending (spot_at R x place temps between calls pending K)
+      (emit x.layout first depth d ++ (emit x.layout second (depth + length (cell_types x.layout.structs (type_of d))) e ++ Instruction (operation o (type_of d) (length (cell_types x.layout.structs (type_of d)))) ∷ []))
+  both_run t o d e rd re first second scope size depth place c p K temps between calls pending fine_d fine_e typed deep le lines =
+      let structs = x.layout.structs in
+      let wide = length (cell_types structs (type_of d)) in
+      let op = Instruction (operation o (type_of d) wide) ∷ [] in
+      let left = emit x.layout first depth d in
+      let right = emit x.layout second (depth + wide) e in
+      let a = both_stand x.code x.places place left (right ++ op) lines in
+      let one = place + lines_size left in
+      let b = both_stand x.code x.places one right op a.1 in
+      let two = one + lines_size right in
+      let next = place + lines_size (left ++ (right ++ op)) in
+      let goes : two + op_size (operation o (type_of d) wide) ≡ next = let h = sizes left (right ++ op) in let k = sizes right op in omega (arith, h, k) in
+      sim_bind host R (HoldsValue R x scope size (type_of d)) (value_place R x scope size (type_of d) one temps between calls pending)
+      (HoldsValue R x scope size t) (value_place R x scope size t next temps between calls pending) p.left c (spot_at R x place temps between calls pending K) (value_credits c) (value_credits c)
+      (value_of d p) (λ v q. bind (value_of e q) (λ w r. operated x.self o v w unwritten r))
+      (rd scope size first depth place c p K temps between calls pending fine_d a.0 deep le)
+      (λ v q h less.
+      let long = typed_length v (cell_types structs (type_of d)) h.0 in
+      let size_is = pushed_length v temps in
+      sim_bind host R (HoldsValue R x scope size (type_of e)) (value_place R x scope size (type_of e) two (pushed v temps) between calls pending)
+      (HoldsValue R x scope size t) (value_place R x scope size t next temps between calls pending) q.left (8 + c) (spot_at R x one (pushed v temps) between calls pending h.1) (value_credits (8 + c)) (value_credits c)
+      (value_of e q) (λ w r. operated x.self o v w unwritten r)
+      (re scope size second (depth + wide) one (8 + c) q h.1 (pushed v temps) between calls pending fine_e b.0 (omega (arith, long, size_is, deep)) (omega (arith, less, le)))
+      (λ w r k fewer. operator_runs o (type_of d) (type_of e) t v w typed h.0 k.0 scope size two next (8 + (8 + c)) c r k.1 temps between calls pending b.1.0 goes (omega arith) (omega arith)))
+
+  -- ---- `&&` and `||`
+
+  is_nothing : (a : ℤ) → is_zero a ≡ true → a ≡ pos 0
+  is_nothing a h = (Decides-int_eq a (pos 0)).0 h
+
+  not_true : (b : Bool) → not b ≡ true → b ≡ false
+  not_true false h = refl
+  not_true true h = absurd cc
+
+  not_false : (b : Bool) → not b ≡ false → b ≡ true
+  not_false true h = refl
+  not_false false h = absurd cc
+
+  and_runs : (t : Ty) (d e : TypedExpr) → Runs d → Runs e → Runs (binary t bin.And d e)
+  and_runs t d e rd re scope size n depth place c p K temps between calls pending fine stands deep le =
+      let structs = x.layout.structs in
+      let ints = are_ints (type_of d) (type_of e) t fine.2 in
+      let wide = length (cell_types structs (type_of d)) in
+      let op = Instruction (operation bin.And (type_of d) wide) ∷ Label n ∷ [] in
+      let left = emit x.layout (n + 1) depth d in
+      let right = emit x.layout (n + 1 + labels d) (depth + wide) e in
+      let behind = top_again ∷ JumpTo Jz n ∷ (right ++ op) in
+      let a = both_stand x.code x.places place left behind stands in
+      let one = place + lines_size left in
+      let b = both_stand x.code x.places (one + 8 + 6) right op a.1.1.1 in
+      let two = one + 8 + 6 + lines_size right in
+      let next = place + lines_size (left ++ behind) in
+      let ending : two + 2 ≡ next = let h = sizes left behind in let k = sizes right op in omega (arith, h, k) in
+      let B = HoldsValue R x scope size t in
+      let there = value_place R x scope size t next temps between calls pending in
+      sim_bind host R (HoldsValue R x scope size (type_of d)) (value_place R x scope size (type_of d) one temps between calls pending) B there
+      p.left c (spot_at R x place temps between calls pending K) (value_credits c) (value_credits c)
+      (value_of d p) (λ v q. chosen (is_true v) (λ r. bind (value_of e r) (λ w s. operated x.self bin.And v w unwritten s)) (λ r. spend r (λ s. Gives (test_value false) s)) q)
+      (rd scope size (n + 1) depth place c p K temps between calls pending fine.0 a.0 deep le)
+      (λ v q h less.
+      let value = as_int_value v (int_types structs v (type_of d) ints.left h.0) in
+      let typed = subst (λ (u : List Value). value_types u ≡ cell_types structs (type_of d)) value.1 h.0 in
+      let number = value.0 in
+      let L = h.1 in
+      let rest = L.frame ++ (between ++ L.under) in
+      let s0 = spot_at R x one (Holds (Int number) ∷ temps) between calls pending L in
+      let s1 = spot_at R x (one + 8) (Holds (Int number) ∷ Holds (Int number) ∷ temps) between calls pending L in
+      let first : step host s0 ≡ Some (Goes s1) = top_copied host x listed one (one + 8) (Int number) (temps ++ rest) calls pending L.machine a.1.0 refl in
+      subst (λ u. Sim host R B there q.left (8 + c) (spot_at R x one (pushed u temps) between calls pending L) (value_credits c)
+      (chosen (is_true u) (λ r. bind (value_of e r) (λ w s. operated x.self bin.And u w unwritten s)) (λ r. spend r (λ s. Gives (test_value false) s)) q)) (sym value.1)
+      (sim_chosen host R B there q.left (8 + c) s0 (value_credits c) (is_true (Int number ∷ []))
+      (λ r. bind (value_of e r) (λ w s. operated x.self bin.And (Int number ∷ []) w unwritten s)) (λ r. spend r (λ s. Gives (test_value false) s)) q
+      (λ holds.
+      let nonzero = not_true (is_zero number) holds in
+      let s2 = spot_at R x (one + 8 + 6) (Holds (Int number) ∷ temps) between calls pending L in
+      let second : step host s1 ≡ Some (Goes s2) = other_passes host x listed (one + 8) (one + 8 + 6) _ number (Holds (Int number) ∷ (temps ++ rest)) calls pending L.machine a.1.1.0.begins nonzero refl in
+      sim_after host R B there (value_credits c) (bind (value_of e q) (λ w s. operated x.self bin.And (Int number ∷ []) w unwritten s))
+      (took_then host (took_cost host q.left (8 + c) (7 + c) s0 s1 (omega arith) first) (took_cost host q.left (7 + c) (6 + c) s1 s2 (omega arith) second))
+      (sim_bind host R (HoldsValue R x scope size (type_of e)) (value_place R x scope size (type_of e) two (Holds (Int number) ∷ temps) between calls pending) B there
+      q.left (6 + c) s2 (value_credits (6 + c)) (value_credits c) (value_of e q) (λ w s. operated x.self bin.And (Int number ∷ []) w unwritten s)
+      (re scope size (n + 1 + labels d) (depth + wide) (one + 8 + 6) (6 + c) q L (Holds (Int number) ∷ temps) between calls pending fine.1 b.0
+      (let long = typed_length (Int number ∷ []) (cell_types structs (type_of d)) typed in omega (arith, long, deep)) (omega (arith, less, le)))
+      (λ w r k fewer. operator_runs bin.And (type_of d) (type_of e) t (Int number ∷ []) w fine.2 typed k.0 scope size two next (8 + (6 + c)) c r k.1 temps between calls pending b.1.0 ending (omega arith) (omega arith))))
+      (λ fails.
+      let nothing = not_false (is_zero number) fails in
+      let s2 = spot_at R x next (Holds (Int number) ∷ temps) between calls pending L in
+      let label : x.places n ≡ next = b.1.1.0 ∙ ending in
+      let second : step host s1 ≡ Some (Goes s2) = zero_jumps host x listed (one + 8) next _ number (Holds (Int number) ∷ (temps ++ rest)) calls pending L.machine a.1.1.0.begins nothing (a.1.1.0.leads ∙ label) in
+      let same : Int number ≡ Int (pos 0) = ap Int (is_nothing number nothing) in
+      sim_after host R B there (value_credits c) (spend q (λ s. Gives (test_value false) s)) (took_cost host q.left (8 + c) (7 + c) s0 s1 (omega arith) first)
+      (sim_paid host R B there (7 + c) s1 (value_credits c) q (λ s. Gives (test_value false) s) L.alike
+      (λ m gone. (s2, second,
+      ((ap (cell_types structs) (sym ints.result), L),
+      subst (λ u. Took host m (15 + (7 + c)) s2 m (8 + c) (spot_at R x next (Holds u ∷ temps) between calls pending L)) same (took_less host (8 + c) (omega arith) (took_none host m (15 + (7 + c)) s2)))))))))
+
+  or_runs : (t : Ty) (d e : TypedExpr) → Runs d → Runs e → Runs (binary t bin.Or d e)
+  or_runs t d e rd re scope size n depth place c p K temps between calls pending fine stands deep le =
+      let structs = x.layout.structs in
+      let ints = are_ints (type_of d) (type_of e) t fine.2 in
+      let wide = length (cell_types structs (type_of d)) in
+      let op = Instruction (operation bin.Or (type_of d) wide) in
+      let ending_lines = op ∷ Label (n + 1) ∷ [] in
+      let left = emit x.layout (n + 2) depth d in
+      let right = emit x.layout (n + 2 + labels d) (depth + wide) e in
+      let behind = top_again ∷ JumpTo Jz n ∷ int_constant (pos 1) ∷ op ∷ JumpTo Jmp (n + 1) ∷ Label n ∷ (right ++ ending_lines) in
+      let a = both_stand x.code x.places place left behind stands in
+      let one = place + lines_size left in
+      let start = one + 8 + 6 + 6 + 2 + 6 + 0 in
+      let b = both_stand x.code x.places start right ending_lines a.1.1.1.1.1.1.1 in
+      let two = start + lines_size right in
+      let next = place + lines_size (left ++ behind) in
+      let ending : two + 2 ≡ next = let h = sizes left behind in let k = sizes right ending_lines in omega (arith, h, k) in
+      let B = HoldsValue R x scope size t in
+      let there = value_place R x scope size t next temps between calls pending in
+      sim_bind host R (HoldsValue R x scope size (type_of d)) (value_place R x scope size (type_of d) one temps between calls pending) B there
+      p.left c (spot_at R x place temps between calls pending K) (value_credits c) (value_credits c)
+      (value_of d p) (λ v q. chosen (is_true v) (λ r. spend r (λ s. Gives (test_value true) s)) (λ r. bind (value_of e r) (λ w s. operated x.self bin.Or v w unwritten s)) q)
+      (rd scope size (n + 2) depth place c p K temps between calls pending fine.0 a.0 deep le)
+      (λ v q h less.
+      let value = as_int_value v (int_types structs v (type_of d) ints.left h.0) in
+      let typed = subst (λ (u : List Value). value_types u ≡ cell_types structs (type_of d)) value.1 h.0 in
+      let number = value.0 in
+      let L = h.1 in
+      let rest = L.frame ++ (between ++ L.under) in
+      let s0 = spot_at R x one (Holds (Int number) ∷ temps) between calls pending L in
+      let s1 = spot_at R x (one + 8) (Holds (Int number) ∷ Holds (Int number) ∷ temps) between calls pending L in
+      let first : step host s0 ≡ Some (Goes s1) = top_copied host x listed one (one + 8) (Int number) (temps ++ rest) calls pending L.machine a.1.0 refl in
+      subst (λ u. Sim host R B there q.left (8 + c) (spot_at R x one (pushed u temps) between calls pending L) (value_credits c)
+      (chosen (is_true u) (λ r. spend r (λ s. Gives (test_value true) s)) (λ r. bind (value_of e r) (λ w s. operated x.self bin.Or u w unwritten s)) q)) (sym value.1)
+      (sim_chosen host R B there q.left (8 + c) s0 (value_credits c) (is_true (Int number ∷ []))
+      (λ r. spend r (λ s. Gives (test_value true) s)) (λ r. bind (value_of e r) (λ w s. operated x.self bin.Or (Int number ∷ []) w unwritten s)) q
+      (λ holds.
+      let nonzero = not_true (is_zero number) holds in
+      let one_typed_as = ap (cell_types structs) (sym ints.right) in
+      let s2 = spot_at R x (one + 8 + 6) (Holds (Int number) ∷ temps) between calls pending L in
+      let s3 = spot_at R x (one + 8 + 6 + 6) (Holds (Int (pos 1)) ∷ Holds (Int number) ∷ temps) between calls pending L in
+      let s4 = spot_at R x (one + 8 + 6 + 6 + 2) (Holds (Int (either number (pos 1))) ∷ temps) between calls pending L in
+      let s5 = spot_at R x next (Holds (Int (either number (pos 1))) ∷ temps) between calls pending L in
+      let second : step host s1 ≡ Some (Goes s2) = other_passes host x listed (one + 8) (one + 8 + 6) _ number (Holds (Int number) ∷ (temps ++ rest)) calls pending L.machine a.1.1.0.begins nonzero refl in
+      let third : step host s2 ≡ Some (Goes s3) = int_goes host x listed (one + 8 + 6) (one + 8 + 6 + 6) (pos 1) (Holds (Int number) ∷ (temps ++ rest)) calls pending L.machine a.1.1.1.0 refl in
+      let fourth : step host s3 ≡ Some (Goes s4) =
+          operator_goes host x listed tested (one + 8 + 6 + 6) (one + 8 + 6 + 6 + 2) structs bin.Or (type_of d) (type_of e) t (Int number ∷ []) (Int (pos 1) ∷ []) (temps ++ rest) calls pending L.machine a.1.1.1.1.0 refl fine.2 typed one_typed_as refl in
+      let label : x.places (n + 1) ≡ next = b.1.1.0 ∙ ending in
+      let fifth : step host s4 ≡ Some (Goes s5) = jump_goes host x listed (one + 8 + 6 + 6 + 2) next _ (Holds (Int (either number (pos 1))) ∷ (temps ++ rest)) calls pending L.machine a.1.1.1.1.1.0.begins (a.1.1.1.1.1.0.leads ∙ label) in
+      let same : Int (either number (pos 1)) ≡ Int (pos 1) = ap (λ (z : Bool). Int (as_int (not z || true))) nonzero in
+      sim_paid host R B there (8 + c) s0 (value_credits c) q (λ s. Gives (test_value true) s) L.alike
+      (λ m gone. (s1, first,
+      ((ap (cell_types structs) (sym ints.result), L),
+      subst (λ u. Took host m (15 + (8 + c)) s1 m (8 + c) (spot_at R x next (Holds u ∷ temps) between calls pending L)) same
+      (took_then host (took_cost host m (15 + (8 + c)) (20 + c) s1 s2 (omega arith) second)
+      (took_then host (took_cost host m (20 + c) (19 + c) s2 s3 (omega arith) third)
+      (took_then host (took_cost host m (19 + c) (18 + c) s3 s4 (omega arith) fourth) (took_cost host m (18 + c) (8 + c) s4 s5 (omega arith) fifth))))))))
+      (λ fails.
+      let nothing = not_false (is_zero number) fails in
+      let s2 = spot_at R x start (Holds (Int number) ∷ temps) between calls pending L in
+      let label : x.places n ≡ start = a.1.1.1.1.1.1.0 ∙ omega arith in
+      let second : step host s1 ≡ Some (Goes s2) = zero_jumps host x listed (one + 8) start _ number (Holds (Int number) ∷ (temps ++ rest)) calls pending L.machine a.1.1.0.begins nothing (a.1.1.0.leads ∙ label) in
+      sim_after host R B there (value_credits c) (bind (value_of e q) (λ w s. operated x.self bin.Or (Int number ∷ []) w unwritten s))
+      (took_then host (took_cost host q.left (8 + c) (7 + c) s0 s1 (omega arith) first) (took_cost host q.left (7 + c) (6 + c) s1 s2 (omega arith) second))
+      (sim_bind host R (HoldsValue R x scope size (type_of e)) (value_place R x scope size (type_of e) two (Holds (Int number) ∷ temps) between calls pending) B there
+      q.left (6 + c) s2 (value_credits (6 + c)) (value_credits c) (value_of e q) (λ w s. operated x.self bin.Or (Int number ∷ []) w unwritten s)
+      (re scope size (n + 2 + labels d) (depth + wide) start (6 + c) q L (Holds (Int number) ∷ temps) between calls pending fine.1 b.0
+      (let long = typed_length (Int number ∷ []) (cell_types structs (type_of d)) typed in omega (arith, long, deep)) (omega (arith, less, le)))
+      (λ w r k fewer. operator_runs bin.Or (type_of d) (type_of e) t (Int number ∷ []) w fine.2 typed k.0 scope size two next (8 + (6 + c)) c r k.1 temps between calls pending b.1.0 ending (omega arith) (omega arith))))))
+
+  plain_runs : (t : Ty) (o : BinaryOperator) (d e : TypedExpr) → shortcut o ≡ Never → Runs d → Runs e → Runs (binary t o d e)
+  plain_runs t o d e never rd re scope size n depth place c p K temps between calls pending fine stands deep le =
+      let wide = length (cell_types x.layout.structs (type_of d)) in
+      let code = λ (k : Shortcut). binary_code n k (operation o (type_of d) wide) (emit x.layout (n + shortcut_labels k) depth d) (emit x.layout (n + shortcut_labels k + labels d) (depth + wide) e) in
+      subst (λ (k : Shortcut). CodeRuns scope size place c p t (combined x.self o k (λ q. value_of d q) (λ q. value_of e q) p) temps between calls pending (spot_at R x place temps between calls pending K)
+      (binary_code n k (operation o (type_of d) wide) (emit x.layout (n + shortcut_labels k) depth d) (emit x.layout (n + shortcut_labels k + labels d) (depth + wide) e))) (sym never)
+      (both_run t o d e rd re (n + 0) (n + 0 + labels d) scope size depth place c p K temps between calls pending fine.0 fine.1 fine.2 deep le)
+      stands
+
+  binary_runs : (t : Ty) (o : BinaryOperator) (d e : TypedExpr) → Runs d → Runs e → Runs (binary t o d e)
+  binary_runs t bin.Or d e rd re = or_runs t d e rd re
+  binary_runs t bin.And d e rd re = and_runs t d e rd re
+  binary_runs t o d e rd re = plain_runs t o d e refl rd re

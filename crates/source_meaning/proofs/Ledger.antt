@@ -34,6 +34,10 @@ module _ (host : MachineHost) where
   pub took_paid : (n c : ℕ) (s t : Machine) → step host s ≡ Some (Goes t) → Took host (suc n) c s n (15 + c) t
   took_paid n c s t h = record { count = 1; goes = one_goes s t h; spent = omega arith; paid = omega arith; few = omega arith }
 
+  -- an instruction that costs one of the credits
+  pub took_cost : (n c d : ℕ) (s t : Machine) → d + 1 ≤ c → step host s ≡ Some (Goes t) → Took host n c s n d t
+  took_cost n c d s t less h = record { count = 1; goes = one_goes s t h; spent = omega arith; paid = omega arith; few = omega arith }
+
   then_goes : (a b : ℕ) (s t u : Machine) → ((k : ℕ) → run host (a + k) s ≡ later a (run host k t)) → ((k : ℕ) → run host (b + k) t ≡ later b (run host k u))
       → (k : ℕ) → run host (a + b + k) s ≡ later (a + b) (run host k u)
   then_goes a b s t u g h k =

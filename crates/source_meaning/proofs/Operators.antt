@@ -117,7 +117,7 @@ on_both : (a b : Bool) → (a && b) ≡ true → (a ≡ true) × (b ≡ true)
 on_both true b h = (refl, h)
 on_both false b h = absurd cc
 
-if_some : {A : Type 0} (b : Bool) (x y : A) → (if b then Some x else None) ≡ Some y → (b ≡ true) × (x ≡ y)
+pub if_some : {A : Type 0} (b : Bool) (x y : A) → (if b then Some x else None) ≡ Some y → (b ≡ true) × (x ≡ y)
 if_some true x y h = (refl, cc)
 if_some false x y h = absurd cc
 
@@ -132,6 +132,14 @@ are_compared s t r h = let w = if_some (is_compared s && same_type s t) IntTy r 
 
 pub int_types : (structs : Structs) (v : List Value) (t : Ty) → t ≡ IntTy → value_types v ≡ cell_types structs t → value_types v ≡ IntTy ∷ []
 int_types structs v t e h = h ∙ ap (cell_types structs) e
+
+-- and gives a value of its place's type
+pub compound_type : (o : AssignOperator) (b : BinaryOperator) (s t r : Ty) → applied o ≡ Some b → assigned_type o s t ≡ Some r → r ≡ s
+compound_type asg.Set b s t r h k = absurd cc
+compound_type asg.Add b IntTy IntTy r h k = cc
+compound_type asg.Add b TextTy TextTy r h k = cc
+compound_type asg.Add b s t r h k = absurd cc
+compound_type o b s t r h k = let i = are_ints s t r k in i.result ∙ sym i.left
 
 -- the operator that an assignment applies has the assignment's types
 pub applied_type : (o : AssignOperator) (b : BinaryOperator) (s t r : Ty) → applied o ≡ Some b → assigned_type o s t ≡ Some r → binary_type b s t ≡ Some r
