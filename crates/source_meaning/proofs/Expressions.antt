@@ -28,7 +28,7 @@ use Rattle.ncs_emit.specs.declared.jump.Jump.TheVariants.{Jmp, Jz}
 use Rattle.ncs_emit.specs.Labelled.{Line, Instruction, JumpTo, Label, lines_size}
 use Rattle.ncs_emit.specs.Standing.{LinesStand}
 use Rattle.nss_typing.specs.declared.places.Place.TheVariants.{Local, Global, Const as IsConst}
-use Rattle.nss_typing.specs.Types.{binary_type, assigned_type}
+use Rattle.nss_typing.specs.Types.{same_type, binary_type}
 use Rattle.nss_typing.specs.Typed.{TypedExpr, literal, name, call, member, prefix, postfix, binary, assign, type_of, is_place}
 use Rattle.saved_state.specs.declared.cell.Cell.{Cell}
 use Rattle.saved_state.specs.declared.cell.Cell.TheVariants.{Value as Holds}
@@ -162,6 +162,14 @@ module _ (host : MachineHost) (R : Saved → Deferred → Type 0) (tested : Equa
   goes_on : (place depth count : ℕ) (h : Home) → place + 8 ≡ place + lines_size (Instruction (read x.layout depth count h) ∷ [])
   goes_on place depth count (InFrame from) = omega arith
   goes_on place depth count (InGlobals from) = omega arith
+
+  written_on : (place depth count : ℕ) (h : Home) → place + 8 ≡ place + lines_size (Instruction (write x.layout depth count h) ∷ [])
+  written_on place depth count (InFrame from) = omega arith
+  written_on place depth count (InGlobals from) = omega arith
+
+  operated_type : (o : BinaryOperator) (s t r : Ty) (v w : List Value) → binary_type o s t ≡ Some r → value_types v ≡ cell_types x.layout.structs s → value_types w ≡ cell_types x.layout.structs t
+      → value_types (operate o v w) ≡ cell_types x.layout.structs r
+  operated_type o s t r v w typed tv tw = let does = operator_does tested x.layout.structs o s t r v w [] 0 0 typed tv tw in does.typed
 
   -- ---- members
 
@@ -419,12 +427,8 @@ module _ (host : MachineHost) (R : Saved → Deferred → Type 0) (tested : Equa
       ap (λ t. step host (at x place t calls pending K.machine)) (both_over v w temps rest)
       ∙ operator_goes host x listed tested place next x.layout.structs o s t r v w (temps ++ rest) calls pending K.machine begins goes typed tv tw other_is
       ∙ ap (λ t. Some (Goes (at x next t calls pending K.machine))) (sym (pushed_over (operate o v w) temps rest)),
-      ((does_type o s t r v w typed tv tw, K),
+      ((operated_type o s t r v w typed tv tw, K),
       took_less host (8 + d) (omega (arith, enough)) (took_none host m (15 + c) (spot_at R x next (pushed (operate o v w) temps) between calls pending K))))))
-    where
-      does_type : (o : BinaryOperator) (s t r : Ty) (v w : List Value) → binary_type o s t ≡ Some r → value_types v ≡ cell_types x.layout.structs s → value_types w ≡ cell_types x.layout.structs t
-          → value_types (operate o v w) ≡ cell_types x.layout.structs r
-      does_type o s t r v w typed tv tw = let does = operator_does tested x.layout.structs o s t r v w [] 0 0 typed tv tw in does.typed
 
   -- an operator that evaluates both operands
   both_run : (t : Ty) (o : BinaryOperator) (d e : TypedExpr) → Runs d → Runs e
@@ -610,3 +614,159 @@ module _ (host : MachineHost) (R : Saved → Deferred → Type 0) (tested : Equa
   binary_runs t bin.Or d e rd re = or_runs t d e rd re
   binary_runs t bin.And d e rd re = and_runs t d e rd re
   binary_runs t o d e rd re = plain_runs t o d e refl rd re
+
+  -- ---- assignments
+
+  -- the code and the meaning of an assignment to what has a home and a spot
+  set_runs : (t : Ty) (d e : TypedExpr) → Runs e → Runs (assign t asg.Set d e)
+  set_runs t d e re scope size n depth place c p K temps between calls pending fine stands deep le =
+      let structs = x.layout.structs in
+      let same = if_some (same_type (type_of d) (type_of e)) (type_of d) t fine.3 in
+      let of_place : type_of d ≡ t = same.1 in
+      let of_value : type_of e ≡ t = sym (same_types (type_of d) (type_of e) same.0) ∙ same.1 in
+      let wide = length (cell_types structs t) in
+      let found = spot_of host.table functions x scope d fine.2 fine.0 in
+      let s = found.where_is in
+      let h = home_of x scope s in
+      let spot_fine = subst (λ (u : Ty). IsSpot x scope u s) of_place found.fine in
+      let right = emit x.layout n (depth + 0) e in
+      let store = Instruction (write x.layout (depth + wide) wide h) ∷ [] in
+      let is : emit x.layout n depth (assign t asg.Set d e) ≡ right ++ store = ap (λ o. right ++ at_home (write x.layout (depth + wide) wide) o) found.home_is in
+      let B = HoldsValue R x scope size t in
+      subst (λ o. CodeRuns scope size place c p t (assigned x.self None o wide (λ q. value_of e q) p) temps between calls pending (spot_at R x place temps between calls pending K) (emit x.layout n depth (assign t asg.Set d e))) (sym found.is)
+      (by_code scope size place c p t (assigned x.self None (Some s) wide (λ q. value_of e q) p) temps between calls pending (spot_at R x place temps between calls pending K)
+      (emit x.layout n depth (assign t asg.Set d e)) (right ++ store) is
+      (λ lines.
+      let b = both_stand x.code x.places place right store lines in
+      let middle = place + lines_size right in
+      let next = place + lines_size (right ++ store) in
+      let goes : middle + 8 ≡ next = let h1 = sizes right store in let h2 = written_on middle (depth + wide) wide h in omega (arith, h1, h2) in
+      sim_bind host R (HoldsValue R x scope size (type_of e)) (value_place R x scope size (type_of e) middle temps between calls pending) B (value_place R x scope size t next temps between calls pending)
+      p.left c (spot_at R x place temps between calls pending K) (value_credits c) (value_credits c) (value_of e p) (λ parts q. spend q (λ r. Gives parts (written_at s parts r)))
+      (re scope size n (depth + 0) place c p K temps between calls pending fine.1 b.0 (omega (arith, deep)) le)
+      (λ v q held less.
+      let typed : value_types v ≡ cell_types structs t = held.0 ∙ ap (cell_types structs) of_value in
+      sim_paid host R B (value_place R x scope size t next temps between calls pending) (8 + c) (spot_at R x middle (pushed v temps) between calls pending held.1) (value_credits c)
+      q (λ r. Gives v (written_at s v r)) held.1.alike
+      (λ m left.
+      let r = record q { left = m } in
+      let put = spot_writes host R x listed scope size t s spot_fine r v typed middle next depth temps between calls pending held.1 b.1.0 goes deep in
+      (spot_at R x next (pushed v temps) between calls pending put.kept, put.goes,
+      ((typed, put.kept),
+      subst (λ k. Took host m (15 + (8 + c)) (spot_at R x next (pushed v temps) between calls pending put.kept) k (8 + c) (spot_at R x next (pushed v temps) between calls pending put.kept)) (sym (written_left s v r))
+      (took_less host (8 + c) (omega arith) (took_none host m (15 + (8 + c)) (spot_at R x next (pushed v temps) between calls pending put.kept)))))))))
+      stands
+
+  -- `o=` for an operator: the place is read, the value follows, the operator is applied, and the place is written
+  compound_lines : ℕ → ℕ → BinaryOperator → Ty → TypedExpr → Home → List Line
+  compound_lines n depth b t e h =
+      Instruction (read x.layout depth (length (cell_types x.layout.structs t)) h)
+      ∷ (emit x.layout n (depth + length (cell_types x.layout.structs t)) e
+      ++ (Instruction (operation b t (length (cell_types x.layout.structs t)))
+      ∷ Instruction (write x.layout (depth + length (cell_types x.layout.structs t)) (length (cell_types x.layout.structs t)) h) ∷ []))
+
+  compound_runs : (t : Ty) (b : BinaryOperator) (e : TypedExpr) (s : Spot) → Runs e
+      → (scope : List ℕ) (size n depth place c : ℕ) (p : Progress) (K : Kept R x scope size p.globals p.locals p.world) (temps between : List Cell) (calls : List ℕ) (pending : List Saved)
+      → IsSpot x scope t s → IsFine host.table functions x scope e → binary_type b t (type_of e) ≡ Some t → length temps + size ≡ depth → p.left ≤ most
+      → CodeRuns scope size place c p t (assigned x.self (Some b) (Some s) (length (cell_types x.layout.structs t)) (λ q. value_of e q) p) temps between calls pending (spot_at R x place temps between calls pending K)
+      (compound_lines n depth b t e (home_of x scope s))
+  unfolding compound_lines
+  compound_runs t b e s re scope size n depth place c p K temps between calls pending spot_fine fine typed deep le lines =
+      let structs = x.layout.structs in
+      let wide = length (cell_types structs t) in
+      let h = home_of x scope s in
+      let load = read x.layout depth wide h in
+      let right = emit x.layout n (depth + wide) e in
+      let op = operation b t wide in
+      let store = write x.layout (depth + wide) wide h in
+      let last = Instruction op ∷ Instruction store ∷ [] in
+      let one = place + op_size load in
+      let first : place + 8 ≡ one = goes_on place depth wide h ∙ alone place (op_size load) in
+      let a = both_stand x.code x.places one right last lines.1 in
+      let two = one + lines_size right in
+      let three = two + op_size op in
+      let next = place + lines_size (Instruction load ∷ (right ++ last)) in
+      let third : three + 8 ≡ next =
+          let h1 = sizes right last in let h2 = written_on three (depth + wide) wide h in omega (arith, h1, h2) in
+      let B = HoldsValue R x scope size t in
+      let there = value_place R x scope size t next temps between calls pending in
+      sim_paid host R B there c (spot_at R x place temps between calls pending K) (value_credits c) p
+      (λ q. bind (value_of e q) (λ w r. operated x.self b (read_at s wide q) w (written_at s) r)) K.alike
+      (λ m left.
+      let q = record p { left = m } in
+      let old = read_at s wide q in
+      let got = spot_reads host R x listed scope size t s spot_fine q place one depth temps between calls pending K lines.0 first deep in
+      let size_is = pushed_length old temps in
+      let long = typed_length old (cell_types structs t) got.typed in
+      let s1 = spot_at R x one (pushed old temps) between calls pending K in
+      (s1, got.goes,
+      sim_bind host R (HoldsValue R x scope size (type_of e)) (value_place R x scope size (type_of e) two (pushed old temps) between calls pending) B there
+      m (15 + c) s1 (value_credits (15 + c)) (value_credits c) (value_of e q) (λ w r. operated x.self b old w (written_at s) r)
+      (re scope size n (depth + wide) one (15 + c) q K (pushed old temps) between calls pending fine a.0 (omega (arith, size_is, long, deep)) (omega (arith, left, le)))
+      (λ w r held less.
+      let L = held.1 in
+      let rest = L.frame ++ (between ++ L.under) in
+      let s2 = spot_at R x two (pushed w (pushed old temps)) between calls pending L in
+      sim_chosen host R B there r.left (8 + (15 + c)) s2 (value_credits c) (divides_by_zero b w) (λ u. Divides x.self u) (λ u. spend u (λ z. Gives (operate b old w) (written_at s (operate b old w) z))) r
+      (λ zero_is. (s2, took_less host 1 (omega arith) (took_none host r.left (8 + (15 + c)) s2),
+      ap (λ t. step host (at x two t calls pending L.machine)) (both_over old w temps rest)
+      ∙ operator_divides host x listed tested two structs b t (type_of e) t old w (temps ++ rest) calls pending L.machine a.1.0 typed got.typed held.0 zero_is,
+      refl, L.alike))
+      (λ other_is. sim_paid host R B there (8 + (15 + c)) s2 (value_credits c) r (λ z. Gives (operate b old w) (written_at s (operate b old w) z)) L.alike
+      (λ k gone.
+      let z = record r { left = k } in
+      let new = operate b old w in
+      let new_typed = operated_type b t (type_of e) t old w typed got.typed held.0 in
+      let s3 = spot_at R x three (pushed new temps) between calls pending L in
+      let put = spot_writes host R x listed scope size t s spot_fine z new new_typed three next depth temps between calls pending L a.1.1.0 third deep in
+      let s4 = spot_at R x next (pushed new temps) between calls pending put.kept in
+      (s3,
+      ap (λ t. step host (at x two t calls pending L.machine)) (both_over old w temps rest)
+      ∙ operator_goes host x listed tested two three structs b t (type_of e) t old w (temps ++ rest) calls pending L.machine a.1.0 refl typed got.typed held.0 other_is
+      ∙ ap (λ t. Some (Goes (at x three t calls pending L.machine))) (sym (pushed_over new temps rest)),
+      ((new_typed, put.kept),
+      subst (λ j. Took host k (15 + (8 + (15 + c))) s3 j (8 + c) s4) (sym (written_left s new z))
+      (took_cost host k (15 + (8 + (15 + c))) (8 + c) s3 s4 (omega arith) put.goes)))))))) 
+
+  -- an assignment whose operator is known
+  applied_runs : (t : Ty) (o : AssignOperator) (b : BinaryOperator) (d e : TypedExpr) → applied o ≡ Some b → Runs e
+      → ((n depth : ℕ) (h : Home) → home x.layout d ≡ Some h → emit x.layout n depth (assign t o d e) ≡ compound_lines n depth b t e h) → Runs (assign t o d e)
+  applied_runs t o b d e is_applied re code scope size n depth place c p K temps between calls pending fine stands deep le =
+      let of_place : t ≡ type_of d = compound_type o b (type_of d) (type_of e) t is_applied fine.3 in
+      let found = spot_of host.table functions x scope d fine.2 fine.0 in
+      let s = found.where_is in
+      let spot_fine = subst (λ (u : Ty). IsSpot x scope u s) (sym of_place) found.fine in
+      let typed : binary_type b t (type_of e) ≡ Some t = ap (λ u. binary_type b u (type_of e)) of_place ∙ applied_type o b (type_of d) (type_of e) t is_applied fine.3 in
+      let wide = length (cell_types x.layout.structs t) in
+      subst (λ a. CodeRuns scope size place c p t (assigned x.self a (spot d) wide (λ q. value_of e q) p) temps between calls pending (spot_at R x place temps between calls pending K) (emit x.layout n depth (assign t o d e))) (sym is_applied)
+      (subst (λ u. CodeRuns scope size place c p t (assigned x.self (Some b) u wide (λ q. value_of e q) p) temps between calls pending (spot_at R x place temps between calls pending K) (emit x.layout n depth (assign t o d e))) (sym found.is)
+      (by_code scope size place c p t (assigned x.self (Some b) (Some s) wide (λ q. value_of e q) p) temps between calls pending (spot_at R x place temps between calls pending K)
+      (emit x.layout n depth (assign t o d e)) (compound_lines n depth b t e (home_of x scope s)) (code n depth (home_of x scope s) found.home_is)
+      (compound_runs t b e s re scope size n depth place c p K temps between calls pending spot_fine fine.1 typed deep le)))
+      stands
+
+  compound_is : (t : Ty) (o : AssignOperator) (b : BinaryOperator) (d e : TypedExpr) → applied o ≡ Some b → (n depth : ℕ) (h : Home) → home x.layout d ≡ Some h
+      → emit x.layout n depth (assign t o d e) ≡ compound_lines n depth b t e h
+  unfolding compound_lines
+  compound_is t o b d e is_applied n depth h found =
+      let wide = length (cell_types x.layout.structs t) in
+      ap (λ u. read_first (is_set o) (at_home (read x.layout depth wide) u) ++ (emit x.layout n (depth + cells_first (is_set o) wide) e ++ (combination o t ++ at_home (write x.layout (depth + wide) wide) u))) found
+      ∙ ap (λ u. read_first u (Instruction (read x.layout depth wide h) ∷ []) ++ (emit x.layout n (depth + cells_first u wide) e ++ (combination o t ++ Instruction (write x.layout (depth + wide) wide h) ∷ []))) (applied_reads o b is_applied)
+      ∙ ap (λ u. Instruction (read x.layout depth wide h) ∷ (emit x.layout n (depth + wide) e ++ (u ++ Instruction (write x.layout (depth + wide) wide h) ∷ []))) (combination_is o b t wide is_applied)
+
+  other_runs : (t : Ty) (o : AssignOperator) (b : BinaryOperator) (d e : TypedExpr) → applied o ≡ Some b → Runs e → Runs (assign t o d e)
+  other_runs t o b d e is_applied re = applied_runs t o b d e is_applied re (compound_is t o b d e is_applied)
+
+  assign_runs : (t : Ty) (o : AssignOperator) (d e : TypedExpr) → Runs e → Runs (assign t o d e)
+  assign_runs t asg.Set d e re = set_runs t d e re
+  assign_runs t asg.Add d e re = other_runs t asg.Add bin.Add d e refl re
+  assign_runs t asg.Subtract d e re = other_runs t asg.Subtract bin.Subtract d e refl re
+  assign_runs t asg.Multiply d e re = other_runs t asg.Multiply bin.Multiply d e refl re
+  assign_runs t asg.Divide d e re = other_runs t asg.Divide bin.Divide d e refl re
+  assign_runs t asg.Remainder d e re = other_runs t asg.Remainder bin.Remainder d e refl re
+  assign_runs t asg.BitAnd d e re = other_runs t asg.BitAnd bin.BitAnd d e refl re
+  assign_runs t asg.BitOr d e re = other_runs t asg.BitOr bin.BitOr d e refl re
+  assign_runs t asg.BitXor d e re = other_runs t asg.BitXor bin.BitXor d e refl re
+  assign_runs t asg.ShiftLeft d e re = other_runs t asg.ShiftLeft bin.ShiftLeft d e refl re
+  assign_runs t asg.ShiftRight d e re = other_runs t asg.ShiftRight bin.ShiftRight d e refl re
+  assign_runs t asg.UnsignedShiftRight d e re = other_runs t asg.UnsignedShiftRight bin.UnsignedShiftRight d e refl re
