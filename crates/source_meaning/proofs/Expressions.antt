@@ -103,7 +103,7 @@ module _ (host : MachineHost) (R : Saved → Deferred → Type 0) (tested : Equa
 
   -- ---- literals and names
 
-  literal_runs : (k : Const) → Runs (literal k)
+  pub literal_runs : (k : Const) → Runs (literal k)
   literal_runs k scope size n depth place c p K temps between calls pending fine stands deep le =
       let next = place + lines_size (constant k ∷ []) in
       sim_paid host R (HoldsValue R x scope size (const_type k)) (value_place R x scope size (const_type k) next temps between calls pending)
@@ -112,7 +112,7 @@ module _ (host : MachineHost) (R : Saved → Deferred → Type 0) (tested : Equa
       constant_goes host x listed place next k (temps ++ (K.frame ++ (between ++ K.under))) calls pending K.machine stands.0 (omega arith),
       ((constant_typed x.layout.structs x.self k, K), took_less host (8 + c) (omega arith) (took_none host m (15 + c) (spot_at R x next (Holds (constant_value x.self k) ∷ temps) between calls pending K)))))
 
-  local_runs : (t : Ty) (i : ℕ) → Runs (name t (Local i))
+  pub local_runs : (t : Ty) (i : ℕ) → Runs (name t (Local i))
   local_runs t i scope size n depth place c p K temps between calls pending fine stands deep le =
       let next = place + lines_size (emit x.layout n depth (name t (Local i))) in
       let v = p.locals i in
@@ -124,7 +124,7 @@ module _ (host : MachineHost) (R : Saved → Deferred → Type 0) (tested : Equa
       (typed_length v (cell_types x.layout.structs t) typed) fine.2 deep,
       ((typed, K), took_less host (8 + c) (omega arith) (took_none host m (15 + c) (spot_at R x next (pushed v temps) between calls pending K)))))
 
-  global_runs : (t : Ty) (i : ℕ) → Runs (name t (Global i))
+  pub global_runs : (t : Ty) (i : ℕ) → Runs (name t (Global i))
   global_runs t i scope size n depth place c p K temps between calls pending fine stands deep le =
       let next = place + lines_size (emit x.layout n depth (name t (Global i))) in
       let v = p.globals i in
@@ -136,7 +136,7 @@ module _ (host : MachineHost) (R : Saved → Deferred → Type 0) (tested : Equa
       (typed_length v (cell_types x.layout.structs t) typed) fine.2 fine.3,
       ((typed, K), took_less host (8 + c) (omega arith) (took_none host m (15 + c) (spot_at R x next (pushed v temps) between calls pending K)))))
 
-  constant_runs : (t : Ty) (k : Const) → Runs (name t (IsConst k))
+  pub constant_runs : (t : Ty) (k : Const) → Runs (name t (IsConst k))
   constant_runs t k scope size n depth place c p K temps between calls pending fine stands deep le =
       let next = place + lines_size (constant k ∷ []) in
       sim_paid host R (HoldsValue R x scope size t) (value_place R x scope size t next temps between calls pending)
@@ -235,7 +235,7 @@ module _ (host : MachineHost) (R : Saved → Deferred → Type 0) (tested : Equa
   member_case t e before true h r = member_there t e before h
   member_case t e before false h r = member_out t e before h r
 
-  member_runs : (t : Ty) (e : TypedExpr) (before : ℕ) → Runs e → Runs (member t e before)
+  pub member_runs : (t : Ty) (e : TypedExpr) (before : ℕ) → Runs e → Runs (member t e before)
   member_runs t e before r = member_case t e before (is_place e) refl r
 
   -- ---- prefix operators
@@ -386,14 +386,14 @@ module _ (host : MachineHost) (R : Saved → Deferred → Type 0) (tested : Equa
       count_first (prefixed pre.Decrement) (decrement x.layout) (decreases_frame host R x listed) (decreases_globals host R x listed) decrement_six t e scope size n depth place c p K temps between calls pending
       (fine.3 refl) fine.0 fine.1 fine.2 deep stands
 
-  prefix_runs : (t : Ty) (o : PrefixOperator) (e : TypedExpr) → Runs e → Runs (prefix t o e)
+  pub prefix_runs : (t : Ty) (o : PrefixOperator) (e : TypedExpr) → Runs e → Runs (prefix t o e)
   prefix_runs t pre.Minus e r = minus_runs t e r
   prefix_runs t pre.Complement e r = complement_runs t e r
   prefix_runs t pre.Not e r = not_runs t e r
   prefix_runs t pre.Increment e r = increment_runs t e
   prefix_runs t pre.Decrement e r = decrement_runs t e
 
-  postfix_runs : (t : Ty) (o : PostfixOperator) (e : TypedExpr) → Runs (postfix t o e)
+  pub postfix_runs : (t : Ty) (o : PostfixOperator) (e : TypedExpr) → Runs (postfix t o e)
   postfix_runs t post.Increment e scope size n depth place c p K temps between calls pending fine stands deep le =
       count_after (postfixed post.Increment) (increment x.layout) (increases_frame host R x listed) (increases_globals host R x listed) increment_six t e scope size n depth place c p K temps between calls pending
       fine.3 fine.0 fine.1 fine.2 deep stands
@@ -610,7 +610,7 @@ module _ (host : MachineHost) (R : Saved → Deferred → Type 0) (tested : Equa
       (both_run t o d e rd re (n + 0) (n + 0 + labels d) scope size depth place c p K temps between calls pending fine.0 fine.1 fine.2 deep le)
       stands
 
-  binary_runs : (t : Ty) (o : BinaryOperator) (d e : TypedExpr) → Runs d → Runs e → Runs (binary t o d e)
+  pub binary_runs : (t : Ty) (o : BinaryOperator) (d e : TypedExpr) → Runs d → Runs e → Runs (binary t o d e)
   binary_runs t bin.Or d e rd re = or_runs t d e rd re
   binary_runs t bin.And d e rd re = and_runs t d e rd re
   binary_runs t o d e rd re = plain_runs t o d e refl rd re
@@ -757,7 +757,7 @@ module _ (host : MachineHost) (R : Saved → Deferred → Type 0) (tested : Equa
   other_runs : (t : Ty) (o : AssignOperator) (b : BinaryOperator) (d e : TypedExpr) → applied o ≡ Some b → Runs e → Runs (assign t o d e)
   other_runs t o b d e is_applied re = applied_runs t o b d e is_applied re (compound_is t o b d e is_applied)
 
-  assign_runs : (t : Ty) (o : AssignOperator) (d e : TypedExpr) → Runs e → Runs (assign t o d e)
+  pub assign_runs : (t : Ty) (o : AssignOperator) (d e : TypedExpr) → Runs e → Runs (assign t o d e)
   assign_runs t asg.Set d e re = set_runs t d e re
   assign_runs t asg.Add d e re = other_runs t asg.Add bin.Add d e refl re
   assign_runs t asg.Subtract d e re = other_runs t asg.Subtract bin.Subtract d e refl re

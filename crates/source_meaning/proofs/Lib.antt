@@ -7,3 +7,4 @@ mod Operators
 mod Variables
 mod Places
 mod Expressions
+mod Induction

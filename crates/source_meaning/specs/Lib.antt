@@ -9,3 +9,5 @@ pub mod Ledger
 pub mod Kept
 pub mod Fine
 pub mod Simulation
+pub mod Carries
+pub mod Laws

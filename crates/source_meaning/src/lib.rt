@@ -7,3 +7,7 @@
 //! knows variables and values, and neither stack nor place nor jump. The page on it is
 //! docs/MEANING.md.
 #![tactic(auto)]
+
+mod laws;
+
+pub use laws::expressions_run;

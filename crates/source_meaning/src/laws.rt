@@ -1,0 +1,13 @@
+//! Laws about the definitions, each the contract of a function that does nothing.
+ghost use Rattle.source_meaning.specs.Laws.{ExpressionsRun};
+
+use machine_step::equality_is_tested;
+
+/// The code of an expression in which nothing is called does what the expression means. It ends
+/// behind itself with the value on top of the stack, at the next division by zero, or out of steps;
+/// each step has an instruction of its own, and at most 16 instructions stand for a step.
+pub fn expressions_run()
+    ensures runs { ExpressionsRun }
+{
+    equality_is_tested();
+}
