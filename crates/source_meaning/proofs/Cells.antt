@@ -10,12 +10,12 @@ use Rattle.nwq_value.specs.declared.value.Value.{Value}
 use Rattle.nwq_value.specs.Values.{type_of}
 use Rattle.nwq_value.specs.Roles.{ty_eq, tys_eq}
 use Rattle.saved_state.specs.declared.cell.Cell.{Cell}
-use Rattle.saved_state.specs.declared.cell.Cell.TheVariants.{Value as Holds}
+use Rattle.saved_state.specs.declared.cell.Cell.TheVariants.{Value as Holds, Base}
 use Rattle.stack_shape.specs.Ranges.{cell_count, depth_of, range_of, range_at}
 use Rattle.code_emission.specs.Operations.{beneath, bytes_of}
 use Rattle.machine_step.specs.Cells.{values_on, values_at, value_types, with_values, overwritten, range_pushed, range_written}
 use Rattle.source_meaning.specs.Values.{parts_of}
-use Rattle.source_meaning.specs.Kept.{pushed, Stands}
+use Rattle.source_meaning.specs.Kept.{pushed, Stands, IsHeld, AreHeld}
 
 -- ---- lists
 
@@ -263,3 +263,32 @@ others_stand above new old below place v same (inr more) s =
           ∙ ap (λ t. s.above ++ t) (sym (pushed_alone v (p.between ++ pushed new below)));
       at = length-append p.between (pushed new below) ∙ omega (arith, deep, sum, news, size, a, same);
     }
+
+-- ---- cells that hold values
+
+pub held_over : (a b : List Cell) → AreHeld a → AreHeld b → AreHeld (a ++ b)
+held_over [] b h k = k
+held_over (c ∷ a) b h k = (h.0, held_over a b h.1 k)
+
+pub held_parts : (a b : List Cell) → AreHeld (a ++ b) → AreHeld a × AreHeld b
+held_parts [] b h = (tt, h)
+held_parts (c ∷ a) b h = let p = held_parts a b h.1 in ((h.0, p.0), p.1)
+
+values_held : (v : List Value) → AreHeld (map Holds v)
+values_held [] = tt
+values_held (w ∷ v) = (tt, values_held v)
+
+pub held_pushed : (v : List Value) (cells : List Cell) → AreHeld cells → AreHeld (pushed v cells)
+held_pushed v cells h = held_over (map Holds (reverse v)) cells (values_held (reverse v)) h
+
+pub held_put : (above below : List Cell) (new old : List Value) → AreHeld (above ++ pushed old below) → AreHeld (above ++ pushed new below)
+held_put above below new old h =
+    let p = held_parts above (pushed old below) h in
+    let q = held_parts (map Holds (reverse old)) below p.1 in
+    held_over above (pushed new below) p.0 (held_pushed new below q.1)
+
+-- so many values lie on top where these cells do
+pub held_values : (cells rest : List Cell) → AreHeld cells → (v : List Value) × (values_on (length cells) (cells ++ rest) ≡ Some v)
+held_values [] rest h = ([], refl)
+held_values (Holds w ∷ cells) rest h = let v = held_values cells rest h.1 in (w ∷ v.0, ap (option_map (λ vs. w ∷ vs)) v.1)
+held_values (Base bp ∷ cells) rest h = absurd h.0

@@ -51,10 +51,10 @@ use Rattle.source_meaning.specs.Spots.{Spot, OfLocal, OfGlobal, further, spot, r
 use Rattle.source_meaning.specs.Expressions.{Caller, eval, member_of, stepped, before_operand, operated, unwritten, combined, assigned, write_there, read_there, is_step}
 use Rattle.source_meaning.specs.Scripts.{Function}
 use Rattle.source_meaning.specs.Ledger.{Machine, MachineHost, Took, Sim}
-use Rattle.source_meaning.specs.Kept.{pushed, Site, IsListed, at, part_types, Kept, spot_at}
+use Rattle.source_meaning.specs.Kept.{pushed, AreHeld, Site, IsListed, at, part_types, Kept, spot_at}
 use Rattle.source_meaning.specs.Fine.{AreParts, IsFine}
 use Rattle.source_meaning.specs.Simulation.{Executor, running_at, HoldsValue, value_place, value_credits, ExprRuns}
-use Rattle.source_meaning.proofs.Cells.{pushed_over, pushed_length}
+use Rattle.source_meaning.proofs.Cells.{held_pushed, pushed_over, pushed_length}
 use Rattle.source_meaning.proofs.Ledger.{took_none, took_cost, took_free, took_then, took_less, sim_after, sim_bind, sim_spend, sim_paid, sim_chosen}
 use Rattle.source_meaning.proofs.Operators.{one_typed, are_ints, if_some, compound_type, operator_does, same_types, applied_type, combination_is, applied_reads, int_types}
 use Rattle.source_meaning.proofs.Places.{InFrameCounts, InGlobalsCounts, frame_reads, base_reads, spot_reads, spot_writes, spot_counts, increases_frame, decreases_frame, increases_globals, decreases_globals, place_code, read_written, written_left, no_spot}
@@ -104,7 +104,7 @@ module _ (host : MachineHost) (R : Saved → Deferred → Type 0) (tested : Equa
   -- ---- literals and names
 
   pub literal_runs : (k : Const) → Runs (literal k)
-  literal_runs k scope size n depth place c p K temps between calls pending fine stands deep le =
+  literal_runs k scope size n depth place c p K temps between calls pending fine stands deep le held =
       let next = place + lines_size (constant k ∷ []) in
       sim_paid host R (HoldsValue R x scope size (const_type k)) (value_place R x scope size (const_type k) next temps between calls pending)
       c (spot_at R x place temps between calls pending K) (value_credits c) p (λ q. Gives (constant_value x.self k ∷ []) q) K.alike
@@ -113,7 +113,7 @@ module _ (host : MachineHost) (R : Saved → Deferred → Type 0) (tested : Equa
       ((constant_typed x.layout.structs x.self k, K), took_less host (8 + c) (omega arith) (took_none host m (15 + c) (spot_at R x next (Holds (constant_value x.self k) ∷ temps) between calls pending K)))))
 
   pub local_runs : (t : Ty) (i : ℕ) → Runs (name t (Local i))
-  local_runs t i scope size n depth place c p K temps between calls pending fine stands deep le =
+  local_runs t i scope size n depth place c p K temps between calls pending fine stands deep le held =
       let next = place + lines_size (emit x.layout n depth (name t (Local i))) in
       let v = p.locals i in
       let typed : value_types v ≡ cell_types x.layout.structs t = K.local_values.typed i fine.0 ∙ ap (cell_types x.layout.structs) fine.1 in
@@ -125,7 +125,7 @@ module _ (host : MachineHost) (R : Saved → Deferred → Type 0) (tested : Equa
       ((typed, K), took_less host (8 + c) (omega arith) (took_none host m (15 + c) (spot_at R x next (pushed v temps) between calls pending K)))))
 
   pub global_runs : (t : Ty) (i : ℕ) → Runs (name t (Global i))
-  global_runs t i scope size n depth place c p K temps between calls pending fine stands deep le =
+  global_runs t i scope size n depth place c p K temps between calls pending fine stands deep le held =
       let next = place + lines_size (emit x.layout n depth (name t (Global i))) in
       let v = p.globals i in
       let typed : value_types v ≡ cell_types x.layout.structs t = K.global_values.typed i fine.0 ∙ ap (cell_types x.layout.structs) fine.1 in
@@ -137,7 +137,7 @@ module _ (host : MachineHost) (R : Saved → Deferred → Type 0) (tested : Equa
       ((typed, K), took_less host (8 + c) (omega arith) (took_none host m (15 + c) (spot_at R x next (pushed v temps) between calls pending K)))))
 
   pub constant_runs : (t : Ty) (k : Const) → Runs (name t (IsConst k))
-  constant_runs t k scope size n depth place c p K temps between calls pending fine stands deep le =
+  constant_runs t k scope size n depth place c p K temps between calls pending fine stands deep le held =
       let next = place + lines_size (constant k ∷ []) in
       sim_paid host R (HoldsValue R x scope size t) (value_place R x scope size t next temps between calls pending)
       c (spot_at R x place temps between calls pending K) (value_credits c) p (λ q. Gives (constant_value x.self k ∷ []) q) K.alike
@@ -174,7 +174,7 @@ module _ (host : MachineHost) (R : Saved → Deferred → Type 0) (tested : Equa
   -- ---- members
 
   member_there : (t : Ty) (e : TypedExpr) (before : ℕ) → is_place e ≡ true → Runs (member t e before)
-  member_there t e before there scope size n depth place c p K temps between calls pending fine stands deep le =
+  member_there t e before there scope size n depth place c p K temps between calls pending fine stands deep le held =
       let whole = spot_of host.table functions x scope (member t e before) there fine in
       let inner = spot_of host.table functions x scope e there fine.0 in
       let count = length (cell_types x.layout.structs t) in
@@ -199,7 +199,7 @@ module _ (host : MachineHost) (R : Saved → Deferred → Type 0) (tested : Equa
       stands))
 
   member_out : (t : Ty) (e : TypedExpr) (before : ℕ) → is_place e ≡ false → Runs e → Runs (member t e before)
-  member_out t e before out r scope size n depth place c p K temps between calls pending fine stands deep le =
+  member_out t e before out r scope size n depth place c p K temps between calls pending fine stands deep le held =
       let none = no_spot x.layout e out in
       let count = length (cell_types x.layout.structs t) in
       let total = length (cell_types x.layout.structs (type_of e)) in
@@ -218,7 +218,7 @@ module _ (host : MachineHost) (R : Saved → Deferred → Type 0) (tested : Equa
       sim_bind host R (HoldsValue R x scope size (type_of e)) (value_place R x scope size (type_of e) middle temps between calls pending)
       (HoldsValue R x scope size t) (value_place R x scope size t next temps between calls pending) p.left c (spot_at R x place temps between calls pending K) (value_credits c) (value_credits c)
       (value_of e p) (λ parts q. spend q (λ r. Gives (parts_of before count parts) r))
-      (r scope size n depth place c p K temps between calls pending fine.0 b.0 deep le)
+      (r scope size n depth place c p K temps between calls pending fine.0 b.0 deep le held)
       (λ v q h less.
       sim_paid host R (HoldsValue R x scope size t) (value_place R x scope size t next temps between calls pending) (8 + c) (spot_at R x middle (pushed v temps) between calls pending h.1) (value_credits c)
       q (λ r. Gives (parts_of before count v) r) h.1.alike
@@ -244,10 +244,10 @@ module _ (host : MachineHost) (R : Saved → Deferred → Type 0) (tested : Equa
       → ((f : Frame) → act host.table op f ≡ moved op f) → ((stack : List Cell) → cells_after op x.self (record { cells = stack; bp = x.bp }) ≡ of_int (prefixed o) stack)
       → is_division op ≡ false → ((place : ℕ) (stack : List Cell) → place_after op place stack ≡ place + op_size op)
       → (scope : List ℕ) (size n depth place c : ℕ) (p : Progress) (K : Kept R x scope size p.globals p.locals p.world) (temps between : List Cell) (calls : List ℕ) (pending : List Saved)
-      → IsFine host.table functions x scope e → type_of e ≡ IntTy → (t : Ty) → t ≡ IntTy → LinesStand x.code x.places place (emit x.layout n depth e ++ Instruction op ∷ []) → length temps + size ≡ depth → p.left ≤ most
+      → IsFine host.table functions x scope e → type_of e ≡ IntTy → (t : Ty) → t ≡ IntTy → LinesStand x.code x.places place (emit x.layout n depth e ++ Instruction op ∷ []) → length temps + size ≡ depth → p.left ≤ most → AreHeld temps
       → Sim host R (HoldsValue R x scope size t) (value_place R x scope size t (place + lines_size (emit x.layout n depth e ++ Instruction op ∷ [])) temps between calls pending)
       p.left c (spot_at R x place temps between calls pending K) (value_credits c) (bind (value_of e p) (λ parts q. spend q (λ r. Gives (one_int (prefixed o) parts) r)))
-  unary_runs e o op r acts after undivided passes scope size n depth place c p K temps between calls pending fine int t is_int stands deep le =
+  unary_runs e o op r acts after undivided passes scope size n depth place c p K temps between calls pending fine int t is_int stands deep le held =
       let value = emit x.layout n depth e in
       let b = both_stand x.code x.places place value (Instruction op ∷ []) stands in
       let middle = place + lines_size value in
@@ -256,7 +256,7 @@ module _ (host : MachineHost) (R : Saved → Deferred → Type 0) (tested : Equa
       sim_bind host R (HoldsValue R x scope size (type_of e)) (value_place R x scope size (type_of e) middle temps between calls pending)
       (HoldsValue R x scope size t) (value_place R x scope size t next temps between calls pending) p.left c (spot_at R x place temps between calls pending K) (value_credits c) (value_credits c)
       (value_of e p) (λ parts q. spend q (λ r. Gives (one_int (prefixed o) parts) r))
-      (r scope size n depth place c p K temps between calls pending fine b.0 deep le)
+      (r scope size n depth place c p K temps between calls pending fine b.0 deep le held)
       (λ v q h less.
       let ints = int_types x.layout.structs v (type_of e) int h.0 in
       let rest = h.1.frame ++ (between ++ h.1.under) in
@@ -272,18 +272,18 @@ module _ (host : MachineHost) (R : Saved → Deferred → Type 0) (tested : Equa
 
   minus_runs : (t : Ty) (e : TypedExpr) → Runs e → Runs (prefix t pre.Minus e)
   unfolding act cells_after
-  minus_runs t e r scope size n depth place c p K temps between calls pending fine stands deep le =
-      unary_runs e pre.Minus (ops.Neg 0x03) r (λ f. refl) (λ stack. refl) refl (λ at_place stack. refl) scope size n depth place c p K temps between calls pending fine.0 fine.1 t fine.2 stands deep le
+  minus_runs t e r scope size n depth place c p K temps between calls pending fine stands deep le held =
+      unary_runs e pre.Minus (ops.Neg 0x03) r (λ f. refl) (λ stack. refl) refl (λ at_place stack. refl) scope size n depth place c p K temps between calls pending fine.0 fine.1 t fine.2 stands deep le held
 
   complement_runs : (t : Ty) (e : TypedExpr) → Runs e → Runs (prefix t pre.Complement e)
   unfolding act cells_after
-  complement_runs t e r scope size n depth place c p K temps between calls pending fine stands deep le =
-      unary_runs e pre.Complement ops.Comp r (λ f. refl) (λ stack. refl) refl (λ at_place stack. refl) scope size n depth place c p K temps between calls pending fine.0 fine.1 t fine.2 stands deep le
+  complement_runs t e r scope size n depth place c p K temps between calls pending fine stands deep le held =
+      unary_runs e pre.Complement ops.Comp r (λ f. refl) (λ stack. refl) refl (λ at_place stack. refl) scope size n depth place c p K temps between calls pending fine.0 fine.1 t fine.2 stands deep le held
 
   not_runs : (t : Ty) (e : TypedExpr) → Runs e → Runs (prefix t pre.Not e)
   unfolding act cells_after
-  not_runs t e r scope size n depth place c p K temps between calls pending fine stands deep le =
-      unary_runs e pre.Not ops.Not r (λ f. refl) (λ stack. refl) refl (λ at_place stack. refl) scope size n depth place c p K temps between calls pending fine.0 fine.1 t fine.2 stands deep le
+  not_runs t e r scope size n depth place c p K temps between calls pending fine stands deep le held =
+      unary_runs e pre.Not ops.Not r (λ f. refl) (λ stack. refl) refl (λ at_place stack. refl) scope size n depth place c p K temps between calls pending fine.0 fine.1 t fine.2 stands deep le held
 
   -- ---- counting in place
 
@@ -377,12 +377,12 @@ module _ (host : MachineHost) (R : Saved → Deferred → Type 0) (tested : Equa
   decrement_six depth (InGlobals from) = refl
 
   increment_runs : (t : Ty) (e : TypedExpr) → Runs (prefix t pre.Increment e)
-  increment_runs t e scope size n depth place c p K temps between calls pending fine stands deep le =
+  increment_runs t e scope size n depth place c p K temps between calls pending fine stands deep le held =
       count_first (prefixed pre.Increment) (increment x.layout) (increases_frame host R x listed) (increases_globals host R x listed) increment_six t e scope size n depth place c p K temps between calls pending
       (fine.3 refl) fine.0 fine.1 fine.2 deep stands
 
   decrement_runs : (t : Ty) (e : TypedExpr) → Runs (prefix t pre.Decrement e)
-  decrement_runs t e scope size n depth place c p K temps between calls pending fine stands deep le =
+  decrement_runs t e scope size n depth place c p K temps between calls pending fine stands deep le held =
       count_first (prefixed pre.Decrement) (decrement x.layout) (decreases_frame host R x listed) (decreases_globals host R x listed) decrement_six t e scope size n depth place c p K temps between calls pending
       (fine.3 refl) fine.0 fine.1 fine.2 deep stands
 
@@ -394,10 +394,10 @@ module _ (host : MachineHost) (R : Saved → Deferred → Type 0) (tested : Equa
   prefix_runs t pre.Decrement e r = decrement_runs t e
 
   pub postfix_runs : (t : Ty) (o : PostfixOperator) (e : TypedExpr) → Runs (postfix t o e)
-  postfix_runs t post.Increment e scope size n depth place c p K temps between calls pending fine stands deep le =
+  postfix_runs t post.Increment e scope size n depth place c p K temps between calls pending fine stands deep le held =
       count_after (postfixed post.Increment) (increment x.layout) (increases_frame host R x listed) (increases_globals host R x listed) increment_six t e scope size n depth place c p K temps between calls pending
       fine.3 fine.0 fine.1 fine.2 deep stands
-  postfix_runs t post.Decrement e scope size n depth place c p K temps between calls pending fine stands deep le =
+  postfix_runs t post.Decrement e scope size n depth place c p K temps between calls pending fine stands deep le held =
       count_after (postfixed post.Decrement) (decrement x.layout) (decreases_frame host R x listed) (decreases_globals host R x listed) decrement_six t e scope size n depth place c p K temps between calls pending
       fine.3 fine.0 fine.1 fine.2 deep stands
 
@@ -433,10 +433,10 @@ module _ (host : MachineHost) (R : Saved → Deferred → Type 0) (tested : Equa
   -- an operator that evaluates both operands
   both_run : (t : Ty) (o : BinaryOperator) (d e : TypedExpr) → Runs d → Runs e
       → (first second : ℕ) (scope : List ℕ) (size depth place c : ℕ) (p : Progress) (K : Kept R x scope size p.globals p.locals p.world) (temps between : List Cell) (calls : List ℕ) (pending : List Saved)
-      → IsFine host.table functions x scope d → IsFine host.table functions x scope e → binary_type o (type_of d) (type_of e) ≡ Some t → length temps + size ≡ depth → p.left ≤ most
+      → IsFine host.table functions x scope d → IsFine host.table functions x scope e → binary_type o (type_of d) (type_of e) ≡ Some t → length temps + size ≡ depth → p.left ≤ most → AreHeld temps
       → CodeRuns scope size place c p t (bind (value_of d p) (λ v q. bind (value_of e q) (λ w r. operated x.self o v w unwritten r))) temps between calls pending (spot_at R x place temps between calls pending K)
       (emit x.layout first depth d ++ (emit x.layout second (depth + length (cell_types x.layout.structs (type_of d))) e ++ Instruction (operation o (type_of d) (length (cell_types x.layout.structs (type_of d)))) ∷ []))
-  both_run t o d e rd re first second scope size depth place c p K temps between calls pending fine_d fine_e typed deep le lines =
+  both_run t o d e rd re first second scope size depth place c p K temps between calls pending fine_d fine_e typed deep le held lines =
       let structs = x.layout.structs in
       let wide = length (cell_types structs (type_of d)) in
       let op = Instruction (operation o (type_of d) wide) ∷ [] in
@@ -451,14 +451,14 @@ module _ (host : MachineHost) (R : Saved → Deferred → Type 0) (tested : Equa
       sim_bind host R (HoldsValue R x scope size (type_of d)) (value_place R x scope size (type_of d) one temps between calls pending)
       (HoldsValue R x scope size t) (value_place R x scope size t next temps between calls pending) p.left c (spot_at R x place temps between calls pending K) (value_credits c) (value_credits c)
       (value_of d p) (λ v q. bind (value_of e q) (λ w r. operated x.self o v w unwritten r))
-      (rd scope size first depth place c p K temps between calls pending fine_d a.0 deep le)
+      (rd scope size first depth place c p K temps between calls pending fine_d a.0 deep le held)
       (λ v q h less.
       let long = typed_length v (cell_types structs (type_of d)) h.0 in
       let size_is = pushed_length v temps in
       sim_bind host R (HoldsValue R x scope size (type_of e)) (value_place R x scope size (type_of e) two (pushed v temps) between calls pending)
       (HoldsValue R x scope size t) (value_place R x scope size t next temps between calls pending) q.left (8 + c) (spot_at R x one (pushed v temps) between calls pending h.1) (value_credits (8 + c)) (value_credits c)
       (value_of e q) (λ w r. operated x.self o v w unwritten r)
-      (re scope size second (depth + wide) one (8 + c) q h.1 (pushed v temps) between calls pending fine_e b.0 (omega (arith, long, size_is, deep)) (omega (arith, less, le)))
+      (re scope size second (depth + wide) one (8 + c) q h.1 (pushed v temps) between calls pending fine_e b.0 (omega (arith, long, size_is, deep)) (omega (arith, less, le)) (held_pushed v temps held))
       (λ w r k fewer. operator_runs o (type_of d) (type_of e) t v w typed h.0 k.0 scope size two next (8 + (8 + c)) c r k.1 temps between calls pending b.1.0 goes (omega arith) (omega arith)))
 
   -- ---- `&&` and `||`
@@ -475,7 +475,7 @@ module _ (host : MachineHost) (R : Saved → Deferred → Type 0) (tested : Equa
   not_false false h = absurd cc
 
   and_runs : (t : Ty) (d e : TypedExpr) → Runs d → Runs e → Runs (binary t bin.And d e)
-  and_runs t d e rd re scope size n depth place c p K temps between calls pending fine stands deep le =
+  and_runs t d e rd re scope size n depth place c p K temps between calls pending fine stands deep le held =
       let structs = x.layout.structs in
       let ints = are_ints (type_of d) (type_of e) t fine.2 in
       let wide = length (cell_types structs (type_of d)) in
@@ -494,7 +494,7 @@ module _ (host : MachineHost) (R : Saved → Deferred → Type 0) (tested : Equa
       sim_bind host R (HoldsValue R x scope size (type_of d)) (value_place R x scope size (type_of d) one temps between calls pending) B there
       p.left c (spot_at R x place temps between calls pending K) (value_credits c) (value_credits c)
       (value_of d p) (λ v q. chosen (is_true v) (λ r. bind (value_of e r) (λ w s. operated x.self bin.And v w unwritten s)) (λ r. spend r (λ s. Gives (test_value false) s)) q)
-      (rd scope size (n + 1) depth place c p K temps between calls pending fine.0 a.0 deep le)
+      (rd scope size (n + 1) depth place c p K temps between calls pending fine.0 a.0 deep le held)
       (λ v q h less.
       let value = as_int_value v (int_types structs v (type_of d) ints.left h.0) in
       let typed = subst (λ (u : List Value). value_types u ≡ cell_types structs (type_of d)) value.1 h.0 in
@@ -517,7 +517,7 @@ module _ (host : MachineHost) (R : Saved → Deferred → Type 0) (tested : Equa
       (sim_bind host R (HoldsValue R x scope size (type_of e)) (value_place R x scope size (type_of e) two (Holds (Int number) ∷ temps) between calls pending) B there
       q.left (6 + c) s2 (value_credits (6 + c)) (value_credits c) (value_of e q) (λ w s. operated x.self bin.And (Int number ∷ []) w unwritten s)
       (re scope size (n + 1 + labels d) (depth + wide) (one + 8 + 6) (6 + c) q L (Holds (Int number) ∷ temps) between calls pending fine.1 b.0
-      (let long = typed_length (Int number ∷ []) (cell_types structs (type_of d)) typed in omega (arith, long, deep)) (omega (arith, less, le)))
+      (let long = typed_length (Int number ∷ []) (cell_types structs (type_of d)) typed in omega (arith, long, deep)) (omega (arith, less, le)) (tt, held))
       (λ w r k fewer. operator_runs bin.And (type_of d) (type_of e) t (Int number ∷ []) w fine.2 typed k.0 scope size two next (8 + (6 + c)) c r k.1 temps between calls pending b.1.0 ending (omega arith) (omega arith))))
       (λ fails.
       let nothing = not_false (is_zero number) fails in
@@ -532,7 +532,7 @@ module _ (host : MachineHost) (R : Saved → Deferred → Type 0) (tested : Equa
       subst (λ u. Took host m (15 + (7 + c)) s2 m (8 + c) (spot_at R x next (Holds u ∷ temps) between calls pending L)) same (took_less host (8 + c) (omega arith) (took_none host m (15 + (7 + c)) s2)))))))))
 
   or_runs : (t : Ty) (d e : TypedExpr) → Runs d → Runs e → Runs (binary t bin.Or d e)
-  or_runs t d e rd re scope size n depth place c p K temps between calls pending fine stands deep le =
+  or_runs t d e rd re scope size n depth place c p K temps between calls pending fine stands deep le held =
       let structs = x.layout.structs in
       let ints = are_ints (type_of d) (type_of e) t fine.2 in
       let wide = length (cell_types structs (type_of d)) in
@@ -553,7 +553,7 @@ module _ (host : MachineHost) (R : Saved → Deferred → Type 0) (tested : Equa
       sim_bind host R (HoldsValue R x scope size (type_of d)) (value_place R x scope size (type_of d) one temps between calls pending) B there
       p.left c (spot_at R x place temps between calls pending K) (value_credits c) (value_credits c)
       (value_of d p) (λ v q. chosen (is_true v) (λ r. spend r (λ s. Gives (test_value true) s)) (λ r. bind (value_of e r) (λ w s. operated x.self bin.Or v w unwritten s)) q)
-      (rd scope size (n + 2) depth place c p K temps between calls pending fine.0 a.0 deep le)
+      (rd scope size (n + 2) depth place c p K temps between calls pending fine.0 a.0 deep le held)
       (λ v q h less.
       let value = as_int_value v (int_types structs v (type_of d) ints.left h.0) in
       let typed = subst (λ (u : List Value). value_types u ≡ cell_types structs (type_of d)) value.1 h.0 in
@@ -598,16 +598,16 @@ module _ (host : MachineHost) (R : Saved → Deferred → Type 0) (tested : Equa
       (sim_bind host R (HoldsValue R x scope size (type_of e)) (value_place R x scope size (type_of e) two (Holds (Int number) ∷ temps) between calls pending) B there
       q.left (6 + c) s2 (value_credits (6 + c)) (value_credits c) (value_of e q) (λ w s. operated x.self bin.Or (Int number ∷ []) w unwritten s)
       (re scope size (n + 2 + labels d) (depth + wide) start (6 + c) q L (Holds (Int number) ∷ temps) between calls pending fine.1 b.0
-      (let long = typed_length (Int number ∷ []) (cell_types structs (type_of d)) typed in omega (arith, long, deep)) (omega (arith, less, le)))
+      (let long = typed_length (Int number ∷ []) (cell_types structs (type_of d)) typed in omega (arith, long, deep)) (omega (arith, less, le)) (tt, held))
       (λ w r k fewer. operator_runs bin.Or (type_of d) (type_of e) t (Int number ∷ []) w fine.2 typed k.0 scope size two next (8 + (6 + c)) c r k.1 temps between calls pending b.1.0 ending (omega arith) (omega arith))))))
 
   plain_runs : (t : Ty) (o : BinaryOperator) (d e : TypedExpr) → shortcut o ≡ Never → Runs d → Runs e → Runs (binary t o d e)
-  plain_runs t o d e never rd re scope size n depth place c p K temps between calls pending fine stands deep le =
+  plain_runs t o d e never rd re scope size n depth place c p K temps between calls pending fine stands deep le held =
       let wide = length (cell_types x.layout.structs (type_of d)) in
       let code = λ (k : Shortcut). binary_code n k (operation o (type_of d) wide) (emit x.layout (n + shortcut_labels k) depth d) (emit x.layout (n + shortcut_labels k + labels d) (depth + wide) e) in
       subst (λ (k : Shortcut). CodeRuns scope size place c p t (combined x.self o k (λ q. value_of d q) (λ q. value_of e q) p) temps between calls pending (spot_at R x place temps between calls pending K)
       (binary_code n k (operation o (type_of d) wide) (emit x.layout (n + shortcut_labels k) depth d) (emit x.layout (n + shortcut_labels k + labels d) (depth + wide) e))) (sym never)
-      (both_run t o d e rd re (n + 0) (n + 0 + labels d) scope size depth place c p K temps between calls pending fine.0 fine.1 fine.2 deep le)
+      (both_run t o d e rd re (n + 0) (n + 0 + labels d) scope size depth place c p K temps between calls pending fine.0 fine.1 fine.2 deep le held)
       stands
 
   pub binary_runs : (t : Ty) (o : BinaryOperator) (d e : TypedExpr) → Runs d → Runs e → Runs (binary t o d e)
@@ -619,7 +619,7 @@ module _ (host : MachineHost) (R : Saved → Deferred → Type 0) (tested : Equa
 
   -- the code and the meaning of an assignment to what has a home and a spot
   set_runs : (t : Ty) (d e : TypedExpr) → Runs e → Runs (assign t asg.Set d e)
-  set_runs t d e re scope size n depth place c p K temps between calls pending fine stands deep le =
+  set_runs t d e re scope size n depth place c p K temps between calls pending fine stands deep le held =
       let structs = x.layout.structs in
       let same = if_some (same_type (type_of d) (type_of e)) (type_of d) t fine.3 in
       let of_place : type_of d ≡ t = same.1 in
@@ -643,14 +643,14 @@ module _ (host : MachineHost) (R : Saved → Deferred → Type 0) (tested : Equa
       let goes : middle + 8 ≡ next = let h1 = sizes right store in let h2 = written_on middle (depth + wide) wide h in omega (arith, h1, h2) in
       sim_bind host R (HoldsValue R x scope size (type_of e)) (value_place R x scope size (type_of e) middle temps between calls pending) B (value_place R x scope size t next temps between calls pending)
       p.left c (spot_at R x place temps between calls pending K) (value_credits c) (value_credits c) (value_of e p) (λ parts q. spend q (λ r. Gives parts (written_at s parts r)))
-      (re scope size n (depth + 0) place c p K temps between calls pending fine.1 b.0 (omega (arith, deep)) le)
-      (λ v q held less.
-      let typed : value_types v ≡ cell_types structs t = held.0 ∙ ap (cell_types structs) of_value in
-      sim_paid host R B (value_place R x scope size t next temps between calls pending) (8 + c) (spot_at R x middle (pushed v temps) between calls pending held.1) (value_credits c)
-      q (λ r. Gives v (written_at s v r)) held.1.alike
+      (re scope size n (depth + 0) place c p K temps between calls pending fine.1 b.0 (omega (arith, deep)) le held)
+      (λ v q there less.
+      let typed : value_types v ≡ cell_types structs t = there.0 ∙ ap (cell_types structs) of_value in
+      sim_paid host R B (value_place R x scope size t next temps between calls pending) (8 + c) (spot_at R x middle (pushed v temps) between calls pending there.1) (value_credits c)
+      q (λ r. Gives v (written_at s v r)) there.1.alike
       (λ m left.
       let r = record q { left = m } in
-      let put = spot_writes host R x listed scope size t s spot_fine r v typed middle next depth temps between calls pending held.1 b.1.0 goes deep in
+      let put = spot_writes host R x listed scope size t s spot_fine r v typed middle next depth temps between calls pending there.1 b.1.0 goes deep in
       (spot_at R x next (pushed v temps) between calls pending put.kept, put.goes,
       ((typed, put.kept),
       subst (λ k. Took host m (15 + (8 + c)) (spot_at R x next (pushed v temps) between calls pending put.kept) k (8 + c) (spot_at R x next (pushed v temps) between calls pending put.kept)) (sym (written_left s v r))
@@ -667,11 +667,11 @@ module _ (host : MachineHost) (R : Saved → Deferred → Type 0) (tested : Equa
 
   compound_runs : (t : Ty) (b : BinaryOperator) (e : TypedExpr) (s : Spot) → Runs e
       → (scope : List ℕ) (size n depth place c : ℕ) (p : Progress) (K : Kept R x scope size p.globals p.locals p.world) (temps between : List Cell) (calls : List ℕ) (pending : List Saved)
-      → IsSpot x scope t s → IsFine host.table functions x scope e → binary_type b t (type_of e) ≡ Some t → length temps + size ≡ depth → p.left ≤ most
+      → IsSpot x scope t s → IsFine host.table functions x scope e → binary_type b t (type_of e) ≡ Some t → length temps + size ≡ depth → p.left ≤ most → AreHeld temps
       → CodeRuns scope size place c p t (assigned x.self (Some b) (Some s) (length (cell_types x.layout.structs t)) (λ q. value_of e q) p) temps between calls pending (spot_at R x place temps between calls pending K)
       (compound_lines n depth b t e (home_of x scope s))
   unfolding compound_lines
-  compound_runs t b e s re scope size n depth place c p K temps between calls pending spot_fine fine typed deep le lines =
+  compound_runs t b e s re scope size n depth place c p K temps between calls pending spot_fine fine typed deep le held lines =
       let structs = x.layout.structs in
       let wide = length (cell_types structs t) in
       let h = home_of x scope s in
@@ -702,27 +702,27 @@ module _ (host : MachineHost) (R : Saved → Deferred → Type 0) (tested : Equa
       (s1, got.goes,
       sim_bind host R (HoldsValue R x scope size (type_of e)) (value_place R x scope size (type_of e) two (pushed old temps) between calls pending) B there
       m (15 + c) s1 (value_credits (15 + c)) (value_credits c) (value_of e q) (λ w r. operated x.self b old w (written_at s) r)
-      (re scope size n (depth + wide) one (15 + c) q K (pushed old temps) between calls pending fine a.0 (omega (arith, size_is, long, deep)) (omega (arith, left, le)))
-      (λ w r held less.
-      let L = held.1 in
+      (re scope size n (depth + wide) one (15 + c) q K (pushed old temps) between calls pending fine a.0 (omega (arith, size_is, long, deep)) (omega (arith, left, le)) (held_pushed old temps held))
+      (λ w r result less.
+      let L = result.1 in
       let rest = L.frame ++ (between ++ L.under) in
       let s2 = spot_at R x two (pushed w (pushed old temps)) between calls pending L in
       sim_chosen host R B there r.left (8 + (15 + c)) s2 (value_credits c) (divides_by_zero b w) (λ u. Divides x.self u) (λ u. spend u (λ z. Gives (operate b old w) (written_at s (operate b old w) z))) r
       (λ zero_is. (s2, took_less host 1 (omega arith) (took_none host r.left (8 + (15 + c)) s2),
       ap (λ t. step host (at x two t calls pending L.machine)) (both_over old w temps rest)
-      ∙ operator_divides host x listed tested two structs b t (type_of e) t old w (temps ++ rest) calls pending L.machine a.1.0 typed got.typed held.0 zero_is,
+      ∙ operator_divides host x listed tested two structs b t (type_of e) t old w (temps ++ rest) calls pending L.machine a.1.0 typed got.typed result.0 zero_is,
       refl, L.alike))
       (λ other_is. sim_paid host R B there (8 + (15 + c)) s2 (value_credits c) r (λ z. Gives (operate b old w) (written_at s (operate b old w) z)) L.alike
       (λ k gone.
       let z = record r { left = k } in
       let new = operate b old w in
-      let new_typed = operated_type b t (type_of e) t old w typed got.typed held.0 in
+      let new_typed = operated_type b t (type_of e) t old w typed got.typed result.0 in
       let s3 = spot_at R x three (pushed new temps) between calls pending L in
       let put = spot_writes host R x listed scope size t s spot_fine z new new_typed three next depth temps between calls pending L a.1.1.0 third deep in
       let s4 = spot_at R x next (pushed new temps) between calls pending put.kept in
       (s3,
       ap (λ t. step host (at x two t calls pending L.machine)) (both_over old w temps rest)
-      ∙ operator_goes host x listed tested two three structs b t (type_of e) t old w (temps ++ rest) calls pending L.machine a.1.0 refl typed got.typed held.0 other_is
+      ∙ operator_goes host x listed tested two three structs b t (type_of e) t old w (temps ++ rest) calls pending L.machine a.1.0 refl typed got.typed result.0 other_is
       ∙ ap (λ t. Some (Goes (at x three t calls pending L.machine))) (sym (pushed_over new temps rest)),
       ((new_typed, put.kept),
       subst (λ j. Took host k (15 + (8 + (15 + c))) s3 j (8 + c) s4) (sym (written_left s new z))
@@ -731,7 +731,7 @@ module _ (host : MachineHost) (R : Saved → Deferred → Type 0) (tested : Equa
   -- an assignment whose operator is known
   applied_runs : (t : Ty) (o : AssignOperator) (b : BinaryOperator) (d e : TypedExpr) → applied o ≡ Some b → Runs e
       → ((n depth : ℕ) (h : Home) → home x.layout d ≡ Some h → emit x.layout n depth (assign t o d e) ≡ compound_lines n depth b t e h) → Runs (assign t o d e)
-  applied_runs t o b d e is_applied re code scope size n depth place c p K temps between calls pending fine stands deep le =
+  applied_runs t o b d e is_applied re code scope size n depth place c p K temps between calls pending fine stands deep le held =
       let of_place : t ≡ type_of d = compound_type o b (type_of d) (type_of e) t is_applied fine.3 in
       let found = spot_of host.table functions x scope d fine.2 fine.0 in
       let s = found.where_is in
@@ -742,7 +742,7 @@ module _ (host : MachineHost) (R : Saved → Deferred → Type 0) (tested : Equa
       (subst (λ u. CodeRuns scope size place c p t (assigned x.self (Some b) u wide (λ q. value_of e q) p) temps between calls pending (spot_at R x place temps between calls pending K) (emit x.layout n depth (assign t o d e))) (sym found.is)
       (by_code scope size place c p t (assigned x.self (Some b) (Some s) wide (λ q. value_of e q) p) temps between calls pending (spot_at R x place temps between calls pending K)
       (emit x.layout n depth (assign t o d e)) (compound_lines n depth b t e (home_of x scope s)) (code n depth (home_of x scope s) found.home_is)
-      (compound_runs t b e s re scope size n depth place c p K temps between calls pending spot_fine fine.1 typed deep le)))
+      (compound_runs t b e s re scope size n depth place c p K temps between calls pending spot_fine fine.1 typed deep le held)))
       stands
 
   compound_is : (t : Ty) (o : AssignOperator) (b : BinaryOperator) (d e : TypedExpr) → applied o ≡ Some b → (n depth : ℕ) (h : Home) → home x.layout d ≡ Some h

@@ -8,3 +8,4 @@ mod Variables
 mod Places
 mod Expressions
 mod Induction
+mod Calls

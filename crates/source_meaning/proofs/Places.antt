@@ -28,10 +28,10 @@ use Rattle.source_meaning.specs.Values.{parts_of, with_parts, one_int}
 use Rattle.source_meaning.specs.Evaluation.{Variables, with_variable, Deferred, Progress}
 use Rattle.source_meaning.specs.Spots.{Spot, OfLocal, OfGlobal, further, spot, read_at, written_at}
 use Rattle.source_meaning.specs.Ledger.{Machine, MachineHost}
-use Rattle.source_meaning.specs.Kept.{pushed, Stands, Site, IsListed, at, In, part_types, Vars, Kept, spot_at}
+use Rattle.source_meaning.specs.Kept.{pushed, AreHeld, Stands, Site, IsListed, at, In, part_types, Vars, Kept, spot_at}
 use Rattle.source_meaning.specs.Fine.{AreParts}
 use Rattle.source_meaning.specs.Scripts.{Function}
-use Rattle.source_meaning.proofs.Cells.{pushed_over, pushed_length, part_stands, part_is, part_at, stands_length, types_count}
+use Rattle.source_meaning.proofs.Cells.{held_put, pushed_over, pushed_length, part_stands, part_is, part_at, stands_length, types_count}
 use Rattle.source_meaning.proofs.Steps.{frame_copied, frame_written, base_copied, base_written, frame_increased, frame_decreased, base_increased, base_decreased}
 use Rattle.source_meaning.proofs.Variables.{part_types_are, vars_put, size_of, home_of, IsSpot}
 
@@ -127,6 +127,9 @@ module _ (host : MachineHost) (R : Saved → Deferred → Type 0) (x : Site) (li
         same_length ((K.local_values.value n i).above ++ pushed (drop (length new) (drop b (locals n))) []) (pushed (take b (locals n)) (K.local_values.value n i).below) new (parts_of b (length new) (locals n)) types
         ∙ sym (ap length (part_is K.frame (position x.layout n) (locals n) b (length new) (K.local_values.value n i)))
         ∙ K.frame_size;
+    under_held = K.under_held;
+    frame_held = held_put ((K.local_values.value n i).above ++ pushed (drop (length new) (drop b (locals n))) []) (pushed (take b (locals n)) (K.local_values.value n i).below) new (parts_of b (length new) (locals n))
+        (subst AreHeld (part_is K.frame (position x.layout n) (locals n) b (length new) (K.local_values.value n i)) K.frame_held);
     global_values = K.global_values;
     local_values = vars_put x scope K.frame locals n b new K.local_values i h types;
     alike = K.alike;
@@ -144,6 +147,9 @@ module _ (host : MachineHost) (R : Saved → Deferred → Type 0) (x : Site) (li
         ∙ sym (ap length (part_is K.under (position x.layout n) (globals n) b (length new) (K.global_values.value n i)))
         ∙ K.under_size;
     frame_size = K.frame_size;
+    under_held = held_put ((K.global_values.value n i).above ++ pushed (drop (length new) (drop b (globals n))) []) (pushed (take b (globals n)) (K.global_values.value n i).below) new (parts_of b (length new) (globals n))
+        (subst AreHeld (part_is K.under (position x.layout n) (globals n) b (length new) (K.global_values.value n i)) K.under_held);
+    frame_held = K.frame_held;
     global_values = vars_put x x.globals K.under globals n b new K.global_values i h types;
     local_values = K.local_values;
     alike = K.alike;

@@ -4,6 +4,7 @@ use Rattle.nwq_value.specs.declared.value.Ty.{Ty}
 use Rattle.nwq_value.specs.declared.value.Value.{Value}
 use Rattle.ncs_code.specs.Plain.{PlainOp}
 use Rattle.saved_state.specs.declared.cell.Cell.{Cell}
+use Rattle.saved_state.specs.declared.cell.Cell.TheVariants.{Value as Holds, Base}
 use Rattle.saved_state.specs.declared.saved.Saved.{Saved}
 use Rattle.code_emission.specs.Layout.{Layout, cell_types, cells, position}
 use Rattle.engine_rows.specs.World.{World}
@@ -25,6 +26,15 @@ pub record Stands (cells : List Cell) (place : ℕ) (parts : List Value) : Type 
   pub below : List Cell
   pub is : cells ≡ above ++ pushed parts below
   pub at : length below ≡ place
+
+-- cells that hold values
+abbrev pub IsHeld : Cell → Type 0
+IsHeld (Holds v) = Unit {0}
+IsHeld (Base bp) = ⊥
+
+abbrev pub AreHeld : List Cell → Type 0
+AreHeld [] = Unit {0}
+AreHeld (c ∷ cells) = IsHeld c × AreHeld cells
 
 -- ---- a running script
 
@@ -81,6 +91,8 @@ pub record Kept (R : Saved → Deferred → Type 0) (x : Site) (scope : List ℕ
   pub machine : World Saved
   pub under_size : length under ≡ x.bp
   pub frame_size : length frame ≡ size
+  pub under_held : AreHeld under
+  pub frame_held : AreHeld frame
   pub global_values : Vars x x.globals under globals
   pub local_values : Vars x scope frame locals
   pub alike : Alike R machine world

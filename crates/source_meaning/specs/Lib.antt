@@ -10,4 +10,5 @@ pub mod Kept
 pub mod Fine
 pub mod Simulation
 pub mod Carries
+pub mod Calling
 pub mod Laws

@@ -15,7 +15,7 @@ use Rattle.source_meaning.specs.Evaluation.{Deferred, Progress, Outcome}
 use Rattle.source_meaning.specs.Expressions.{Running, Caller, eval}
 use Rattle.source_meaning.specs.Scripts.{Function}
 use Rattle.source_meaning.specs.Ledger.{Machine, MachineHost, Sim}
-use Rattle.source_meaning.specs.Kept.{pushed, Site, Kept, spot_at}
+use Rattle.source_meaning.specs.Kept.{pushed, AreHeld, Site, Kept, spot_at}
 use Rattle.source_meaning.specs.Fine.{IsFine}
 
 -- how another script is run
@@ -46,6 +46,6 @@ abbrev pub ExprRuns : MachineHost → (Saved → Deferred → Type 0) → Site �
 ExprRuns host R x tables execute functions caller most e =
     (scope : List ℕ) (size n depth place c : ℕ) (p : Progress) (kept : Kept R x scope size p.globals p.locals p.world)
     (temps between : List Cell) (calls : List ℕ) (pending : List Saved)
-    → IsFine host.table functions x scope e → LinesStand x.code x.places place (emit x.layout n depth e) → length temps + size ≡ depth → p.left ≤ most
+    → IsFine host.table functions x scope e → LinesStand x.code x.places place (emit x.layout n depth e) → length temps + size ≡ depth → p.left ≤ most → AreHeld temps
     → Sim host R (HoldsValue R x scope size (type_of e)) (value_place R x scope size (type_of e) (place + lines_size (emit x.layout n depth e)) temps between calls pending)
     p.left c (spot_at R x place temps between calls pending kept) (value_credits c) (eval (running_at host tables execute x) caller e p)
