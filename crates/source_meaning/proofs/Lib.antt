@@ -9,3 +9,4 @@ mod Places
 mod Expressions
 mod Induction
 mod Calls
+mod EngineCalls
