@@ -7,6 +7,7 @@ mod Operators
 mod Variables
 mod Places
 mod Expressions
-mod Induction
 mod Calls
 mod EngineCalls
+mod Induction
+mod Captures

@@ -1,5 +1,5 @@
 //! Laws about the definitions, each the contract of a function that does nothing.
-ghost use Rattle.source_meaning.specs.Laws.{ExpressionsRun};
+ghost use Rattle.source_meaning.specs.Laws.{CapturesAreCarried, EngineCallsRun, ExpressionsRun};
 
 use machine_step::equality_is_tested;
 
@@ -11,3 +11,17 @@ pub fn expressions_run()
 {
     equality_is_tested();
 }
+
+/// The code of an expression that calls the engine does what the expression means: its arguments
+/// from the last one to the first, with the defaults, and an action that is captured on the way.
+pub fn engine_calls_run()
+    ensures runs { EngineCallsRun }
+{
+    equality_is_tested();
+}
+
+/// A state that is captured in a listed script carries the deferred call, with the values that the
+/// globals and the variables in sight have then.
+pub fn captures_are_carried()
+    ensures carried { CapturesAreCarried }
+{}
