@@ -11,3 +11,5 @@ mod Calls
 mod EngineCalls
 mod Induction
 mod Captures
+mod Statements
+mod AllStatements

@@ -1,5 +1,6 @@
 //! Laws about the definitions, each the contract of a function that does nothing.
-ghost use Rattle.source_meaning.specs.Laws.{CapturesAreCarried, EngineCallsRun, ExpressionsRun};
+ghost use Rattle.source_meaning.specs.Laws.{CapturesAreCarried, EngineCallsRun, EngineStatementsRun};
+ghost use Rattle.source_meaning.specs.Laws.{ExpressionsRun, StatementsRun};
 
 use machine_step::equality_is_tested;
 
@@ -25,3 +26,12 @@ pub fn engine_calls_run()
 pub fn captures_are_carried()
     ensures carried { CapturesAreCarried }
 {}
+
+/// The code of a statement without `switch` does what the statement means: declarations, loops with
+/// `break` and `continue`, and `return`.
+pub fn statements_run()
+    ensures quiet { StatementsRun }
+    ensures engine { EngineStatementsRun }
+{
+    equality_is_tested();
+}

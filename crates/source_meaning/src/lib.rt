@@ -10,4 +10,4 @@
 
 mod laws;
 
-pub use laws::{captures_are_carried, engine_calls_run, expressions_run};
+pub use laws::{captures_are_carried, engine_calls_run, expressions_run, statements_run};
