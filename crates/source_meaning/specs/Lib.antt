@@ -14,3 +14,4 @@ pub mod Calling
 pub mod Laws
 pub mod FineStatements
 pub mod StatementsRun
+pub mod FunctionsRun

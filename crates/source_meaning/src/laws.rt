@@ -1,5 +1,6 @@
 //! Laws about the definitions, each the contract of a function that does nothing.
 ghost use Rattle.source_meaning.specs.Laws.{CapturesAreCarried, EngineCallsRun, EngineStatementsRun};
+ghost use Rattle.source_meaning.specs.FunctionsRun.{FunctionsRun};
 ghost use Rattle.source_meaning.specs.Laws.{ExpressionsRun, StatementsRun};
 
 use machine_step::equality_is_tested;
@@ -32,6 +33,14 @@ pub fn captures_are_carried()
 pub fn statements_run()
     ensures quiet { StatementsRun }
     ensures engine { EngineStatementsRun }
+{
+    equality_is_tested();
+}
+
+/// The functions of a script do what their calls mean, recursion among them, and so do all its
+/// expressions.
+pub fn functions_run()
+    ensures runs { FunctionsRun }
 {
     equality_is_tested();
 }

@@ -17,4 +17,6 @@
 
 mod laws;
 
-pub use laws::{captures_are_carried, engine_calls_run, expressions_run, statements_run};
+pub use laws::{
+    captures_are_carried, engine_calls_run, expressions_run, functions_run, statements_run,
+};
