@@ -174,7 +174,7 @@ module _ (host : MachineHost) (R : Saved → Deferred → Type 0) (x : Site) (li
       let q = record p { locals = bound fn.parameters values } in
       let same : x.places f ≡ start = omega arith in
       let cells_are : pushed_all values (pushed room (lower ++ K.under)) ≡ pushed_all values [] ++ (pushed room lower ++ K.under) =
-          ap (pushed_all values) (sym (pushed_over room lower K.under)) ∙ sym (all_over values [] (pushed room lower ++ K.under)) in
+      ap (pushed_all values) (sym (pushed_over room lower K.under)) ∙ sym (all_over values [] (pushed room lower ++ K.under)) in
       let typed = start_typed (cell_types structs fn.result) placed.cells in
       subst (λ (z : ℕ). Sim host R (HasResult R x fn.result) (result_place R x fn.result back lower calls pending) p.left c (at x z (pushed_all values (pushed room (lower ++ K.under))) (back ∷ calls) pending K.machine) (λ v. d)
       (body_run (running_at host tables execute x) caller (Some fn) values p)) (sym same)
@@ -221,19 +221,21 @@ module _ (host : MachineHost) (R : Saved → Deferred → Type 0) (x : Site) (li
           let s2 = spot_at R x (one + lines_size (dropped many) + lines_size (dropped size)) [] between (back ∷ calls) pending K2 in
           let s3 = spot_at R x back [] between calls pending K2 in
           let third = goes_back host R x listed tables execute functions caller most fn.result (one + lines_size (dropped many) + lines_size (dropped size)) back (K2.frame ++ (between ++ K2.under)) calls pending K2.machine returns in
-          let ending : K2.frame ++ (between ++ K2.under) ≡ pushed room (lower ++ K2.under) = ap (λ t. t ++ (between ++ K2.under)) bare ∙ pushed_over room lower K2.under in
-          ((typed, globals_alone K2),
-          subst (λ (z : List Cell). Took host r.left (c + one_of many) (spot_at R x one [] between (back ∷ calls) pending h) r.left d (at x back z calls pending K2.machine)) ending
-          (took_then host first (took_then host (took_less host (d + 1 + one_of size) (omega (arith, enough, few)) (took_none host r.left c (spot_at R x (one + lines_size (dropped many)) [] between (back ∷ calls) pending K1)))
-          (took_then host second (took_cost host r.left (d + 1) d s2 s3 (omega arith) third)))))
+          let ending : K2.frame ++ (between ++ K2.under) ≡ pushed room (lower ++ K2.under) = ap (λ t. t ++ (between ++ K2.under)) bare ∙ pushed_over room lower K2.under in (
+            (typed, globals_alone K2),
+            subst (λ (z : List Cell). Took host r.left (c + one_of many) (spot_at R x one [] between (back ∷ calls) pending h) r.left d (at x back z calls pending K2.machine)) ending
+                (took_then host first (took_then host (took_less host (d + 1 + one_of size) (omega (arith, enough, few)) (took_none host r.left c (spot_at R x (one + lines_size (dropped many)) [] between (back ∷ calls) pending K1)))
+                (took_then host second (took_cost host r.left (d + 1) d s2 s3 (omega arith) third)))),
+          )
       left_by fn scope size many one two lower back calls pending c d enough seen beneath typed drops more returns Broke r h = absurd (never h.0)
       left_by fn scope size many one two lower back calls pending c d enough seen beneath typed drops more returns Continued r h = absurd (never h.0)
       left_by fn scope size many one two lower back calls pending c d enough seen beneath typed drops more returns (Returned v) r h =
           let bare = nothing_left h.1.frame h.1.frame_size in
-          let ending : h.1.frame ++ (pushed v lower ++ h.1.under) ≡ pushed v (lower ++ h.1.under) = ap (λ t. t ++ (pushed v lower ++ h.1.under)) bare ∙ pushed_over v lower h.1.under in
-          ((h.0, globals_alone h.1),
-          subst (λ (z : List Cell). Took host r.left c (spot_at R x back [] (pushed v lower) calls pending h.1) r.left d (at x back z calls pending h.1.machine)) ending
-          (took_less host d (omega (arith, enough)) (took_none host r.left c (spot_at R x back [] (pushed v lower) calls pending h.1))))
+          let ending : h.1.frame ++ (pushed v lower ++ h.1.under) ≡ pushed v (lower ++ h.1.under) = ap (λ t. t ++ (pushed v lower ++ h.1.under)) bare ∙ pushed_over v lower h.1.under in (
+            (h.0, globals_alone h.1),
+            subst (λ (z : List Cell). Took host r.left c (spot_at R x back [] (pushed v lower) calls pending h.1) r.left d (at x back z calls pending h.1.machine)) ending
+                (took_less host d (omega (arith, enough)) (took_none host r.left c (spot_at R x back [] (pushed v lower) calls pending h.1))),
+          )
 
 -- ---- recursion
 
@@ -249,8 +251,8 @@ functions_run tested s host x tables execute fs listed engine_runs captures exec
     let before = functions_run tested s host x tables execute fs listed engine_runs captures executes placed k in
     let c = running_at host tables execute x in
     let now : CallsRun host (Carries s) x fs (calls c fs (suc k)) (suc k) = λ f fn is values types p less K lower back cs pending credits rest enough.
-        subst (λ r. Sim host (Carries s) (HasResult (Carries s) x fn.result) (result_place (Carries s) x fn.result back lower cs pending) p.left credits
-        (at x (x.places f) (pushed_all values (pushed (start_parts (cell_types x.layout.structs fn.result)) (lower ++ K.under))) (back ∷ cs) pending K.machine) (λ v. rest) r)
-        (found_run host (Carries s) x tables execute (calls c fs k) f fn (slice_get fs f) values p is)
-        (function_runs host (Carries s) x listed tables execute fs (calls c fs k) k before.1 f fn (placed f fn is) values types p (omega (arith, less)) K lower back cs pending credits rest enough) in
+    subst (λ r. Sim host (Carries s) (HasResult (Carries s) x fn.result) (result_place (Carries s) x fn.result back lower cs pending) p.left credits
+    (at x (x.places f) (pushed_all values (pushed (start_parts (cell_types x.layout.structs fn.result)) (lower ++ K.under))) (back ∷ cs) pending K.machine) (λ v. rest) r)
+    (found_run host (Carries s) x tables execute (calls c fs k) f fn (slice_get fs f) values p is)
+    (function_runs host (Carries s) x listed tables execute fs (calls c fs k) k before.1 f fn (placed f fn is) values types p (omega (arith, less)) K lower back cs pending credits rest enough) in
     (now, λ e. every_runs host (Carries s) tested x listed tables execute fs (calls c fs (suc k)) (suc k) engine_runs captures (executes (suc k)) now (λ g fn is. (placed g fn is).cells) e)

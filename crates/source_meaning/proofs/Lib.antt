@@ -15,3 +15,7 @@ mod Statements
 mod AllStatements
 mod UnitCalls
 mod Functions
+mod Placing
+mod WorldMaps
+mod RowMaps
+mod EngineAlike

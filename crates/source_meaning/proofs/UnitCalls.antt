@@ -143,29 +143,32 @@ module _ (host : MachineHost) (R : Saved → Deferred → Type 0) (tested : Equa
       let types : all_types a.values ≡ parameter_types x fine.function.parameters = h.types ∙ values_fit x es ks fine.function.parameters fine.arguments fine.values in
       let result_is = ap (cell_types x.layout.structs) fine.result in
       let cells_are : pushed_all a.values (pushed room temps) ++ rest ≡ pushed_all a.values (pushed room (lower ++ K.under)) =
-          all_over a.values (pushed room temps) rest ∙ ap (pushed_all a.values) (pushed_over room temps rest ∙ ap (pushed room) (above_globals temps K.frame between K.under)) in
+      all_over a.values (pushed room temps) rest ∙ ap (pushed_all a.values) (pushed_over room temps rest ∙ ap (pushed room) (above_globals temps K.frame between K.under)) in
       let s = spot_at R x place (pushed_all a.values (pushed room temps)) between calls h.now K in
       let s1 = at x (x.places f) (pushed_all a.values (pushed room (lower ++ K.under))) (next ∷ calls) pending K.machine in
       let goes : step host s ≡ Some (Goes s1) =
-          call_goes place (x.places f) offset (pushed_all a.values (pushed room temps) ++ rest) calls h.now K.machine begins leads
-          ∙ ap (λ z. Some (Goes (at x (x.places f) z ((place + 6) ∷ calls) h.now K.machine))) cells_are
-          ∙ ap (λ z. Some (Goes (at x (x.places f) (pushed_all a.values (pushed room (lower ++ K.under))) ((place + 6) ∷ calls) z K.machine))) none.1
-          ∙ ap (λ z. Some (Goes (at x (x.places f) (pushed_all a.values (pushed room (lower ++ K.under))) (z ∷ calls) pending K.machine))) ending in
+      call_goes place (x.places f) offset (pushed_all a.values (pushed room temps) ++ rest) calls h.now K.machine begins leads
+      ∙ ap (λ z. Some (Goes (at x (x.places f) z ((place + 6) ∷ calls) h.now K.machine))) cells_are
+      ∙ ap (λ z. Some (Goes (at x (x.places f) (pushed_all a.values (pushed room (lower ++ K.under))) ((place + 6) ∷ calls) z K.machine))) none.1
+      ∙ ap (λ z. Some (Goes (at x (x.places f) (pushed_all a.values (pushed room (lower ++ K.under))) (z ∷ calls) pending K.machine))) ending in
       sim_paid host R (HoldsValue R x scope size t) (value_place R x scope size t next temps between calls pending) c s (value_credits c) q (λ r. bind (caller f a.values r) (λ parts u. Gives parts (record u { locals = r.locals }))) K.alike
       (λ m left.
-      let r = record q { left = m } in
-      (s1, goes,
-      sim_bind host R (HasResult R x fine.function.result) (result_place R x fine.function.result next lower calls pending) (HoldsValue R x scope size t) (value_place R x scope size t next temps between calls pending)
-      m (15 + c) s1 (λ v. 12 + c) (value_credits c) (caller f a.values r) (λ parts u. Gives parts (record u { locals = r.locals }))
-      (subst (λ ts. Sim host R (HasResult R x fine.function.result) (result_place R x fine.function.result next lower calls pending) m (15 + c) (at x (x.places f) (pushed_all a.values (pushed (start_parts ts) (lower ++ K.under))) (next ∷ calls) pending K.machine) (λ v. 12 + c) (caller f a.values r)) result_is
-      (calls_run f fine.function fine.is a.values types r (omega (arith, left, le)) (globals_of K) lower next calls pending (15 + c) (12 + c) (omega arith)))
-      (λ v u g less.
-      let M = with_frame K g.1 in
-      let back_is : pushed v (lower ++ g.1.under) ≡ pushed v temps ++ (K.frame ++ (between ++ g.1.under)) =
-          ap (pushed v) (sym (above_globals temps K.frame between g.1.under)) ∙ sym (pushed_over v temps (K.frame ++ (between ++ g.1.under))) in
-      ((g.0 ∙ result_is, M),
-      subst (λ z. Took host u.left (12 + c) (at x next (pushed v (lower ++ g.1.under)) calls pending g.1.machine) u.left (8 + c) (at x next z calls pending g.1.machine)) back_is
-      (took_less host (8 + c) (omega arith) (took_none host u.left (12 + c) (at x next (pushed v (lower ++ g.1.under)) calls pending g.1.machine)))))))
+      let r = record q { left = m } in (
+        s1,
+        goes,
+        sim_bind host R (HasResult R x fine.function.result) (result_place R x fine.function.result next lower calls pending) (HoldsValue R x scope size t) (value_place R x scope size t next temps between calls pending)
+            m (15 + c) s1 (λ v. 12 + c) (value_credits c) (caller f a.values r) (λ parts u. Gives parts (record u { locals = r.locals }))
+            (subst (λ ts. Sim host R (HasResult R x fine.function.result) (result_place R x fine.function.result next lower calls pending) m (15 + c) (at x (x.places f) (pushed_all a.values (pushed (start_parts ts) (lower ++ K.under))) (next ∷ calls) pending K.machine) (λ v. 12 + c) (caller f a.values r)) result_is
+            (calls_run f fine.function fine.is a.values types r (omega (arith, left, le)) (globals_of K) lower next calls pending (15 + c) (12 + c) (omega arith)))
+            (λ v u g less.
+            let M = with_frame K g.1 in
+            let back_is : pushed v (lower ++ g.1.under) ≡ pushed v temps ++ (K.frame ++ (between ++ g.1.under)) =
+            ap (pushed v) (sym (above_globals temps K.frame between g.1.under)) ∙ sym (pushed_over v temps (K.frame ++ (between ++ g.1.under))) in (
+              (g.0 ∙ result_is, M),
+              subst (λ z. Took host u.left (12 + c) (at x next (pushed v (lower ++ g.1.under)) calls pending g.1.machine) u.left (8 + c) (at x next z calls pending g.1.machine)) back_is
+                  (took_less host (8 + c) (omega arith) (took_none host u.left (12 + c) (at x next (pushed v (lower ++ g.1.under)) calls pending g.1.machine))),
+            )),
+      ))
 
   pub unit_call_runs : (t : Ty) (f : ℕ) (es : TypedExprs) (ks : List Const) → CapturesCarry host R x tables execute functions → CallsRun host R x functions caller most
       → ((g : ℕ) (fn : Function) → slice_get functions g ≡ Some fn → AllByRecursion IsCell (cell_types x.layout.structs fn.result)) → EachRuns host R tested x listed tables execute functions caller most es

@@ -15,3 +15,5 @@ pub mod Laws
 pub mod FineStatements
 pub mod StatementsRun
 pub mod FunctionsRun
+pub mod Placing
+pub mod EngineHost

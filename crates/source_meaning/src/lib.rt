@@ -18,5 +18,6 @@
 mod laws;
 
 pub use laws::{
-    captures_are_carried, engine_calls_run, expressions_run, functions_run, statements_run,
+    captures_are_carried, engine_calls_run, engine_is_run, expressions_run, functions_run,
+    functions_stand, statements_run,
 };
