@@ -1,22 +1,13 @@
 -- The engine leaves worlds alike, whatever relation says which stored actions belong together.
-use Rattle.std.proofs.Common.{◌≡◌, ℕ, List, Option, None, Some, sym, subst, refl, ap, ap₂, ◌∙◌}
+use Rattle.std.proofs.Common.{◌≡◌, Option, None, Some, sym, subst, refl, ap, ap₂, ◌∙◌}
 use Rattle.std.specs.Option.{option_map}
-use Rattle.nwq_value.specs.declared.value.Value.{Value}
-use Rattle.nwq_value.specs.declared.engine.Routine.{Routine}
-use Rattle.saved_state.specs.declared.saved.Saved.{Saved}
-use Rattle.stack_shape.specs.Calls.{argument_types, result_types}
-use Rattle.engine_rows.specs.Pure.{CellLookup}
-use Rattle.engine_rows.specs.World.{World}
 use Rattle.engine_rows.specs.Rows.{Answered}
 use Rattle.engine_rows.specs.Engine.{engine}
 use Rattle.engine_rows.specs.Mapped.{map_answered}
 use Rattle.engine_rows.specs.Alike.{Related, left_of, right_of, Alike, OptionAlike, AnsweredAlike}
 use Rattle.engine_rows.specs.AlikeLaws.{call, EngineKeepsAlike}
-use Rattle.source_meaning.specs.Evaluation.{Deferred}
-use Rattle.source_meaning.specs.Ledger.{MachineHost}
 use Rattle.source_meaning.specs.Carries.{Carries}
-use Rattle.source_meaning.specs.Calling.{EngineRuns}
-use Rattle.source_meaning.specs.EngineHost.{HasEngine, AnswersAreTyped, EngineIsRun}
+use Rattle.source_meaning.specs.EngineHost.{EngineIsRun}
 use Rattle.source_meaning.proofs.RowMaps.{engine_map}
 
 -- an action of two sides

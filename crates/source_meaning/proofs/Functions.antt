@@ -1,9 +1,8 @@
 -- Functions do what their calls mean, by the number of calls that may nest.
-use Rattle.std.proofs.Common.{arith, ◌≡◌, ◌≤◌, ◌<◌, ◌+◌, ◌-◌, ℕ, zero, suc, List, [], ◌∷◌, ◌++◌, length, map, drop, Option, Some, None, true, false, sym, subst, ◌∙◌, ap, refl, append_assoc}
+use Rattle.std.proofs.Common.{arith, ◌≡◌, ◌≤◌, ◌+◌, ◌-◌, ℕ, zero, suc, List, [], ◌∷◌, ◌++◌, length, Option, Some, None, true, false, sym, subst, ◌∙◌, ap, refl}
 use Rattle.std.specs.Prelude.{slice_get}
 use Rattle.std.specs.List.{AllByRecursion}
-use Rattle.std.proofs.lemmas.List.{length-map, length-drop}
-use Rattle.nss_tree.specs.Statements.{block, empty, expression, if_only, if_else, while_loop, do_loop, for_loop, switch, break_off, continue_on, return_from, declaration, case_label, default_label, no_stmt, more_stmts}
+use Rattle.std.proofs.lemmas.List.{length-map}
 use Rattle.nwq_value.specs.declared.value.Ty.{Ty}
 use Rattle.nwq_value.specs.declared.value.Ty.TheVariants.{Void, Int as IntTy, Text as TextTy, Object as ObjectTy, Effect as EffectTy, Event as EventTy, Action, Struct, Refused}
 use Rattle.nwq_value.specs.declared.value.Value.{Value}
@@ -14,7 +13,7 @@ use Rattle.ncs_emit.specs.Labelled.{Instruction, lines_size}
 use Rattle.ncs_emit.specs.Standing.{LinesStand}
 use Rattle.nss_typing.specs.declared.places.Callee.TheVariants.{Unit as InUnit, Engine}
 use Rattle.nss_typing.specs.declared.places.Place.TheVariants.{Local, Global, Const as IsConst}
-use Rattle.nss_typing.specs.Typed.{TypedExpr, TypedExprs, TypedParameter, TypedStmts, literal, name, call, member, prefix, postfix, binary, assign, no_typed, more_typed}
+use Rattle.nss_typing.specs.Typed.{TypedExpr, TypedExprs, TypedParameter, literal, name, call, member, prefix, postfix, binary, assign, no_typed, more_typed}
 use Rattle.saved_state.specs.declared.cell.Cell.{Cell}
 use Rattle.saved_state.specs.declared.saved.Saved.{Saved}
 use Rattle.code_emission.specs.Bounds.{IsCell}
@@ -26,17 +25,17 @@ use Rattle.engine_rows.specs.World.{World}
 use Rattle.machine_step.specs.Cells.{value_types}
 use Rattle.machine_step.specs.Laws.{EqualityIsTested}
 use Rattle.source_meaning.specs.Values.{start_part, start_parts}
-use Rattle.source_meaning.specs.Evaluation.{Variables, no_variables, Deferred, Progress, Outcome, Gives, bind}
-use Rattle.source_meaning.specs.Expressions.{Running, Caller}
+use Rattle.source_meaning.specs.Evaluation.{Variables, no_variables, Deferred, Progress, Gives}
+use Rattle.source_meaning.specs.Expressions.{Caller}
 use Rattle.source_meaning.specs.Statements.{Flow, Next, Broke, Continued, Returned, execs}
 use Rattle.source_meaning.specs.Scripts.{Function, bound, result_of, body_run, calls}
-use Rattle.source_meaning.specs.Ledger.{Machine, MachineHost, Took, Sim}
-use Rattle.source_meaning.specs.Kept.{pushed, AreHeld, Site, IsListed, at, In, part_types, Vars, Kept, spot_at}
+use Rattle.source_meaning.specs.Ledger.{MachineHost, Took, Sim}
+use Rattle.source_meaning.specs.Kept.{pushed, Site, IsListed, at, In, part_types, Vars, Kept, spot_at}
 use Rattle.source_meaning.specs.Carries.{Carries}
 use Rattle.source_meaning.specs.Simulation.{Executor, running_at, ExprRuns}
 use Rattle.source_meaning.specs.Calling.{pushed_all, all_types, EngineRuns, CapturesCarry, ExecutesRun}
-use Rattle.source_meaning.specs.FineStatements.{after_stmts, AreFineStmts}
-use Rattle.source_meaning.specs.StatementsRun.{Exit, IsExit, AreExits, FlowHolds, flow_place, one_of, flow_credits}
+use Rattle.source_meaning.specs.FineStatements.{after_stmts}
+use Rattle.source_meaning.specs.StatementsRun.{IsExit, FlowHolds, flow_place, one_of, flow_credits}
 use Rattle.source_meaning.specs.FunctionsRun.{KeepsGlobals, parameter_types, HasResult, result_place, CallsRun, AreParameters, parameter_scope, IsPlaced, FunctionsRun}
 use Rattle.source_meaning.proofs.Cells.{pushed_over, pushed_length}
 use Rattle.source_meaning.proofs.Ledger.{took_none, took_cost, took_then, took_less, sim_bind}

@@ -1,8 +1,8 @@
 -- Each routine does the same where the stored actions are changed.
-use Rattle.std.proofs.Common.{◌≡◌, ℕ, ℤ, pos, negsuc, zero, suc, Bool, true, false, not, List, [], ◌∷◌, ◌++◌, map, Option, None, Some, refl, sym, ap, ap₂, ◌∙◌}
+use Rattle.std.proofs.Common.{◌≡◌, ℕ, ℤ, pos, negsuc, zero, suc, Bool, true, false, List, [], ◌∷◌, Option, None, Some, refl, ap, ap₂, ◌∙◌}
 use Rattle.std.specs.Prelude.{if◌then◌else◌, ◌==◌, slice_get, cond}
 use Rattle.std.specs.Option.{option_map}
-use Rattle.std.specs.List.{AllZip, find, list_any}
+use Rattle.std.specs.List.{AllZip, list_any}
 use Rattle.action_queue.specs.declared.queue.Item.{Item}
 use Rattle.action_queue.specs.declared.queue.Item.TheVariants.{Do, Wait, Speak}
 use Rattle.area_tree.specs.Area.{object}
@@ -19,7 +19,7 @@ use Rattle.engine_rows.specs.Arguments.{int_at, text_at, object_at, effect_at, e
 use Rattle.engine_rows.specs.Pure.{CellLookup}
 use Rattle.engine_rows.specs.World.{World, is_valid, queue_of, effects_of}
 use Rattle.engine_rows.specs.Changes.{told, post, later, with_action, with_actions, with_busy, with_effect, with_effects, with_variables, has_turn, without_turn, without_first, is_effect}
-use Rattle.engine_rows.specs.Rows.{Call, Answered, Row, rows, leaves, drawn_from, drawn, assigned, delayed, awake, appended, appended_do, at_rest, cleared, changed_variables, applied, applied_to, removed, event_script, signalled}
+use Rattle.engine_rows.specs.Rows.{Call, Row, rows, leaves, drawn_from, drawn, assigned, delayed, awake, appended, appended_do, at_rest, cleared, changed_variables, applied, applied_to, removed, event_script, signalled}
 use Rattle.engine_rows.specs.Engine.{row_numbered, by_row, by_role, by_routine, engine}
 use Rattle.engine_rows.specs.Mapped.{map_item, map_world, map_call, map_answered}
 use Rattle.source_meaning.proofs.WorldMaps.{map_if, post_map, has_turn_map, without_turn_map, queue_map, effects_map, with_effects_map, with_actions_map, with_busy_map, with_action_map, with_effect_map}

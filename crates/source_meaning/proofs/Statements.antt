@@ -10,12 +10,11 @@ use Rattle.nwq_value.specs.declared.value.Ty.TheVariants.{Void, Int as IntTy, Te
 use Rattle.nwq_value.specs.declared.value.Value.{Value}
 use Rattle.nwq_value.specs.declared.value.Value.TheVariants.{Int}
 use Rattle.nwq_value.specs.declared.engine.Const.{Const}
-use Rattle.nwq_value.specs.Values.{type_of as type_of_value, start_value}
+use Rattle.nwq_value.specs.Values.{type_of as type_of_value}
 use Rattle.ncs_code.specs.Plain as ops
-use Rattle.ncs_code.specs.Spelling.{op_size}
 use Rattle.ncs_code.specs.File.{op_at, jump_place}
 use Rattle.ncs_emit.specs.declared.jump.Jump.TheVariants.{Jmp, Jz, Jnz}
-use Rattle.ncs_emit.specs.Labelled.{Line, Instruction, JumpTo, Label, lines_size}
+use Rattle.ncs_emit.specs.Labelled.{Instruction, JumpTo, Label, lines_size}
 use Rattle.ncs_emit.specs.Standing.{LinesStand}
 use Rattle.nss_typing.specs.Typed.{TypedExpr, TypedName, TypedStmt, TypedStmts, type_of}
 use Rattle.saved_state.specs.declared.cell.Cell.{Cell}
@@ -23,27 +22,26 @@ use Rattle.saved_state.specs.declared.cell.Cell.TheVariants.{Value as Holds, Bas
 use Rattle.saved_state.specs.declared.saved.Saved.{Saved}
 use Rattle.stack_shape.specs.StackEffects.{type_of_one}
 use Rattle.code_emission.specs.Bounds.{IsCell}
-use Rattle.code_emission.specs.Layout.{Structs, cell_types, cells, position, names_cells, declared_cells, all_declared_cells}
+use Rattle.code_emission.specs.Layout.{cell_types, cells, position, names_cells, declared_cells, all_declared_cells}
 use Rattle.code_emission.specs.Operations.{beneath, bytes_of, dropped, int_constant, started, cell_kind}
 use Rattle.code_emission.specs.Expressions.{emit, labels}
-use Rattle.code_emission.specs.Statements.{Exits, in_loop, some_labels, evaluated, tested, stored, returned, initial, names_labels, emit_names, placed, placed_on, stmt_labels, all_stmt_labels, emit_stmt, emit_stmts}
+use Rattle.code_emission.specs.Statements.{Exits, in_loop, some_labels, evaluated, tested, stored, initial, emit_names, stmt_labels, emit_stmt, emit_stmts}
 use Rattle.engine_rows.specs.Pure.{CellLookup}
 use Rattle.engine_rows.specs.World.{World}
 use Rattle.machine_step.specs.Operators.{is_zero}
 use Rattle.machine_step.specs.Values.{starting_value}
 use Rattle.machine_step.specs.Cells.{value_types, value_pushed}
-use Rattle.machine_step.specs.Act.{act, cells_after, returned as machine_returned, Moves}
+use Rattle.machine_step.specs.Act.{act, cells_after, Moves}
 use Rattle.machine_step.specs.Machine.{Goes, step}
 use Rattle.source_meaning.specs.Values.{start_part, start_parts, is_true}
-use Rattle.source_meaning.specs.Evaluation.{Variables, with_variable, Deferred, Progress, Outcome, Gives, OutOfSteps, bind, spend, chosen}
+use Rattle.source_meaning.specs.Evaluation.{Variables, with_variable, Deferred, Progress, Outcome, Gives, bind, spend, chosen}
 use Rattle.source_meaning.specs.Expressions.{Running, Caller, made, eval}
 use Rattle.source_meaning.specs.Statements.{Flow, Next, Broke, Continued, Returned, on_next, on_body, turns, looped, maybe, tested as tested_value, initial as initial_value, declared, exec, execs}
 use Rattle.source_meaning.specs.Scripts.{Function}
 use Rattle.source_meaning.specs.Ledger.{Machine, MachineHost, Took, Sim}
 use Rattle.source_meaning.specs.Kept.{pushed, Stands, AreHeld, Site, IsListed, at, In, part_types, Vars, Kept, spot_at}
 use Rattle.source_meaning.specs.Simulation.{Executor, running_at, HoldsValue, value_place, value_credits, ExprRuns}
-use Rattle.source_meaning.specs.Fine.{IsFine}
-use Rattle.source_meaning.specs.FineStatements.{after_names, after_stmt, after_stmts, DeclaresNothing, IsFineValue, IsFineTest, IsFineMaybe, AreFineNames, IsFineReturn, IsFineStmt, AreFineStmts}
+use Rattle.source_meaning.specs.FineStatements.{after_names, after_stmt, after_stmts, DeclaresNothing, IsFineValue, IsFineTest, IsFineMaybe, AreFineNames, IsFineStmt, AreFineStmts}
 use Rattle.source_meaning.specs.StatementsRun.{Exit, IsExit, AreExits, FlowHolds, flow_place, one_of, flow_credits, StmtRuns}
 use Rattle.source_meaning.proofs.Cells.{parted, held_over, pushed_alone, held_parts, held_pushed, pushed_over, pushed_length, pushed_append, stands_over, stands_length}
 use Rattle.source_meaning.proofs.Ledger.{took_none, took_cost, took_then, took_less, sim_after, sim_bind, sim_paid, sim_chosen, sim_map}

@@ -1,5 +1,5 @@
 -- The code of a call of a function of the script does what the call means, where the functions do.
-use Rattle.std.proofs.Common.{arith, ◌≡◌, ◌≤◌, ◌<◌, ◌+◌, ℕ, zero, suc, List, [], ◌∷◌, ◌++◌, length, map, Some, Bool, true, false, sym, subst, ◌∙◌, ap, refl, append_assoc}
+use Rattle.std.proofs.Common.{arith, ◌≡◌, ◌≤◌, ◌+◌, ℕ, List, [], ◌∷◌, ◌++◌, length, map, Some, Bool, true, false, sym, subst, ◌∙◌, ap, refl, append_assoc}
 use Rattle.std.specs.Prelude.{ℤ, slice_get, if◌then◌else◌}
 use Rattle.std.specs.List.{AllByRecursion}
 use Rattle.std.proofs.lemmas.List.{length-map}
@@ -13,7 +13,7 @@ use Rattle.nwq_value.specs.Values.{type_of as type_of_value}
 use Rattle.ncs_code.specs.Plain as ops
 use Rattle.ncs_code.specs.File.{op_at, jump_place}
 use Rattle.ncs_emit.specs.declared.jump.Jump.TheVariants.{Jsr}
-use Rattle.ncs_emit.specs.Labelled.{Line, Instruction, JumpTo, lines_size}
+use Rattle.ncs_emit.specs.Labelled.{JumpTo, lines_size}
 use Rattle.ncs_emit.specs.Standing.{LinesStand}
 use Rattle.nss_typing.specs.declared.places.Callee.TheVariants.{Unit as InUnit}
 use Rattle.nss_typing.specs.Typed.{TypedExpr, TypedExprs, TypedParameter, call, no_typed, more_typed, type_of}
@@ -25,20 +25,19 @@ use Rattle.code_emission.specs.Operations.{started}
 use Rattle.code_emission.specs.Expressions.{constants, is_captured, emit_all}
 use Rattle.engine_rows.specs.Pure.{CellLookup}
 use Rattle.engine_rows.specs.World.{World}
-use Rattle.machine_step.specs.Cells.{value_types}
-use Rattle.machine_step.specs.Act.{act, called as machine_called, Moves}
+use Rattle.machine_step.specs.Act.{act, Moves}
 use Rattle.machine_step.specs.Machine.{Goes, step}
 use Rattle.machine_step.specs.Laws.{EqualityIsTested}
 use Rattle.source_meaning.specs.Values.{start_parts}
-use Rattle.source_meaning.specs.Evaluation.{Variables, no_variables, Deferred, Progress, Outcome, Gives, bind, spend}
-use Rattle.source_meaning.specs.Expressions.{Caller, Arguments, made, unit_called, eval}
+use Rattle.source_meaning.specs.Evaluation.{Variables, no_variables, Deferred, Progress, Outcome, Gives, bind}
+use Rattle.source_meaning.specs.Expressions.{Caller, Arguments, made, unit_called}
 use Rattle.source_meaning.specs.Scripts.{Function}
 use Rattle.source_meaning.specs.Ledger.{Machine, MachineHost, Took, Sim}
-use Rattle.source_meaning.specs.Kept.{pushed, AreHeld, Site, IsListed, at, Kept, spot_at}
-use Rattle.source_meaning.specs.Fine.{argument_type, argument_types, AreValues, parameter_type, CallsFunction, IsFine}
-use Rattle.source_meaning.specs.Simulation.{Executor, running_at, HoldsValue, value_place, value_credits, ExprRuns}
+use Rattle.source_meaning.specs.Kept.{pushed, Site, IsListed, at, Kept, spot_at}
+use Rattle.source_meaning.specs.Fine.{argument_type, argument_types, AreValues, parameter_type, CallsFunction}
+use Rattle.source_meaning.specs.Simulation.{Executor, HoldsValue, value_place, value_credits, ExprRuns}
 use Rattle.source_meaning.specs.Calling.{pushed_all, all_types, with_types, types_before, constant_types, one_if, actions_in, CapturesCarry}
-use Rattle.source_meaning.specs.FunctionsRun.{KeepsGlobals, parameter_types, HasResult, result_place, CallsRun}
+use Rattle.source_meaning.specs.FunctionsRun.{parameter_types, HasResult, result_place, CallsRun}
 use Rattle.source_meaning.proofs.Cells.{pushed_over, pushed_length, held_pushed}
 use Rattle.source_meaning.proofs.Ledger.{took_none, took_less, sim_after, sim_bind, sim_paid}
 use Rattle.source_meaning.proofs.Places.{above_globals}

@@ -14,10 +14,9 @@ use Rattle.engine_rows.specs.Pure.{CellLookup}
 use Rattle.saved_state.specs.declared.cell.Cell.{Cell}
 use Rattle.saved_state.specs.declared.saved.Saved.{Saved}
 use Rattle.code_emission.specs.Layout.{cell_types, params_cells, position}
-use Rattle.engine_rows.specs.World.{World}
 use Rattle.machine_step.specs.Cells.{value_types}
 use Rattle.source_meaning.specs.Values.{start_parts}
-use Rattle.source_meaning.specs.Evaluation.{Variables, no_variables, Deferred, Progress}
+use Rattle.source_meaning.specs.Evaluation.{no_variables, Deferred, Progress}
 use Rattle.source_meaning.specs.Expressions.{Caller}
 use Rattle.source_meaning.specs.Scripts.{Function, Setting, calls}
 use Rattle.source_meaning.specs.Ledger.{Machine, MachineHost, Sim}
