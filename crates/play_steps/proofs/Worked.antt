@@ -96,8 +96,8 @@ unfolding trace_text line_text digits escaped spelling value_text
 delays_stopped area = refl
 
 -- what isn't due yet stays
-delays_early : (area : PlainArea) → end_text name_of (delays area 8 9) ≡ codes "due 10 2 stored #1\nend done clock 5 entries 2 instructions 9\n"
-unfolding end_text world_text digits
+delays_early : (area : PlainArea) → end_text name_of (delays area 8 9) ≡ codes "due 10 2 stored #1 s\nend done clock 5 entries 2 instructions 9\n"
+unfolding end_text world_text digits escaped spelling
 delays_early area = refl
 
 -- ---- a play that is broken off, and goes on from there

@@ -47,14 +47,14 @@ abbrev pub script_text : List ℕ → List ℕ
 script_text [] = codes "-"
 script_text (b ∷ name) = escaped (b ∷ name)
 
-abbrev pub kind_text : {X : Type 0} → Kind X → List ℕ
-kind_text (Event o name user) = codes "event " ++ object_text o ++ 32 ∷ script_text name
-kind_text (Stored o x) = codes "stored " ++ object_text o
-kind_text (Turn o) = codes "turn " ++ object_text o
-kind_text (Unapply o) = codes "unapply " ++ object_text o
+abbrev pub kind_text : {X : Type 0} → (X → List ℕ) → Kind X → List ℕ
+kind_text name_of (Event o name user) = codes "event " ++ object_text o ++ 32 ∷ script_text name
+kind_text name_of (Stored o x) = codes "stored " ++ object_text o ++ 32 ∷ escaped (name_of x)
+kind_text name_of (Turn o) = codes "turn " ++ object_text o
+kind_text name_of (Unapply o) = codes "unapply " ++ object_text o
 
-abbrev pub due_line : {X : Type 0} → Entry X → List ℕ
-due_line e = codes "due " ++ decimal e.due ++ 32 ∷ decimal e.number ++ 32 ∷ kind_text e.kind ++ 10 ∷ []
+abbrev pub due_line : {X : Type 0} → (X → List ℕ) → Entry X → List ℕ
+due_line name_of e = codes "due " ++ decimal e.due ++ 32 ∷ decimal e.number ++ 32 ∷ kind_text name_of e.kind ++ 10 ∷ []
 
 -- ---- the whole
 
@@ -71,7 +71,7 @@ end_line ending clock entries count =
 
 -- what stands on objects, what is in their queues, and what waits on the agenda
 unfoldable pub world_text : {X : Type 0} → (X → List ℕ) → World X → List ℕ
-world_text name_of w = by_object standing_lines 1 w.things ++ by_object (queue_lines name_of) 1 w.things ++ flat_map due_line w.agenda.entries
+world_text name_of w = by_object standing_lines 1 w.things ++ by_object (queue_lines name_of) 1 w.things ++ flat_map (due_line name_of) w.agenda.entries
 
 unfoldable pub end_text : {X : Type 0} → (X → List ℕ) → Played X → List ℕ
 end_text name_of p = world_text name_of p.last.world ++ end_line p.ending p.last.world.clock p.last.entries p.last.count

@@ -3,7 +3,11 @@
 #![tactic(auto)]
 
 #[cfg(test)]
+mod areas;
+#[cfg(test)]
 mod commands;
+#[cfg(test)]
+mod files;
 #[cfg(test)]
 mod parts;
 #[cfg(test)]

@@ -1,0 +1,4 @@
+mod NumberLemmas
+mod AnswerLemmas
+mod ServeLemmas
+mod PlaceLemmas

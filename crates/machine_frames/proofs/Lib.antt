@@ -1,0 +1,7 @@
+pub mod Depths
+pub mod Popped
+pub mod RunLemmas
+pub mod RangeLemmas
+pub mod Tests
+pub mod FrameLemmas
+pub mod TakeLemmas

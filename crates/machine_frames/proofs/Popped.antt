@@ -1,0 +1,140 @@
+-- Values on top of cells.
+use Rattle.std.proofs.Common.{arith, ◌≡◌, ◌≢◌, ◌≤◌, ◌+◌, ℕ, suc, List, [], ◌∷◌, length, drop, Option, Some, None, sym, ap, ◌∙◌, refl}
+use Rattle.std.specs.Prelude.{ℤ, slice_get, slice_set}
+use Rattle.nwq_value.specs.declared.value.Value.TheVariants.{Int, Text, Object, Effect, Event}
+use Rattle.saved_state.specs.declared.cell.Cell.{Cell}
+use Rattle.saved_state.specs.declared.cell.Cell.TheVariants.{Value as Holds, Base}
+use Rattle.machine_step.specs.Cells.{on_int, on_text, of_int, of_ints, of_texts, zero_on_top}
+use Rattle.machine_step.specs.Act.{int_dropped}
+use Rattle.machine_step.specs.Operators.{is_zero}
+use Rattle.machine_frames.specs.Tops.{HasValue, HasInt, HasText}
+
+-- ---- an int on top
+
+pub on_int_has : {A : Type 0} (cells : List Cell) (go : ℤ → List Cell → Option A) → on_int cells go ≢ None → HasInt 0 cells
+on_int_has [] go h = absurd (h refl)
+on_int_has (Base bp ∷ cells) go h = absurd (h refl)
+on_int_has (Holds (Int n) ∷ cells) go h = record { int = n; is = refl }
+on_int_has (Holds (Text t) ∷ cells) go h = absurd (h refl)
+on_int_has (Holds (Object o) ∷ cells) go h = absurd (h refl)
+on_int_has (Holds (Effect e) ∷ cells) go h = absurd (h refl)
+on_int_has (Holds (Event n) ∷ cells) go h = absurd (h refl)
+
+pub on_int_is : {A : Type 0} (cells : List Cell) (go : ℤ → List Cell → Option A) (n : ℤ) → slice_get cells 0 ≡ Some (Holds (Int n)) → on_int cells go ≡ go n (drop 1 cells)
+on_int_is [] go n h = absurd cc
+on_int_is (c ∷ cells) go n h = ap (λ (c : Cell). on_int (c ∷ cells) go) (same h)
+  where
+    same : slice_get (c ∷ cells) 0 ≡ Some (Holds (Int n)) → c ≡ Holds (Int n)
+    same h = cc
+
+-- the cell under the top one
+lower : (cells : List Cell) (i : ℕ) → slice_get (drop 1 cells) i ≡ slice_get cells (i + 1)
+lower [] i = refl
+lower (c ∷ cells) i = let e : suc i ≡ i + 1 = omega arith in ap (slice_get (c ∷ cells)) e
+
+has_lower : (cells : List Cell) → HasInt 0 (drop 1 cells) → HasInt 1 cells
+has_lower cells h = record { int = h.int; is = sym (lower cells 0) ∙ h.is }
+
+drop_two : (cells : List Cell) → drop 1 (drop 1 cells) ≡ drop 2 cells
+drop_two [] = refl
+drop_two (c ∷ cells) = refl
+
+within : (cells : List Cell) (c : Cell) → slice_get cells 1 ≡ Some c → 2 ≤ length cells
+within [] c h = absurd cc
+within (a ∷ []) c h = absurd cc
+within (a ∷ b ∷ cells) c h = omega arith
+
+within_one : (cells : List Cell) (c : Cell) → slice_get cells 0 ≡ Some c → 1 ≤ length cells
+within_one [] c h = absurd cc
+within_one (a ∷ cells) c h = omega arith
+
+-- ---- two ints
+
+pub first_int : (f : ℤ → ℤ → ℤ) (cells : List Cell) → of_ints f cells ≢ None → HasInt 0 cells
+first_int f cells h = on_int_has cells (λ y rest. on_int rest (λ x below. Some (Holds (Int (f x y)) ∷ below))) h
+
+pub second_int : (f : ℤ → ℤ → ℤ) (cells : List Cell) → of_ints f cells ≢ None → HasInt 1 cells
+second_int f cells h = let top = first_int f cells h in
+    has_lower cells (on_int_has (drop 1 cells) (λ x below. Some (Holds (Int (f x top.int)) ∷ below))
+    (λ none. h (on_int_is cells (λ y rest. on_int rest (λ x below. Some (Holds (Int (f x y)) ∷ below))) top.int top.is ∙ none)))
+
+pub two_lie : (f : ℤ → ℤ → ℤ) (cells : List Cell) → of_ints f cells ≢ None → 2 ≤ length cells
+two_lie f cells h = let second = second_int f cells h in within cells (Holds (Int second.int)) second.is
+
+pub two_is : (f : ℤ → ℤ → ℤ) (cells : List Cell) (x y : ℤ) → slice_get cells 0 ≡ Some (Holds (Int y)) → slice_get cells 1 ≡ Some (Holds (Int x))
+    → of_ints f cells ≡ Some (Holds (Int (f x y)) ∷ drop 2 cells)
+two_is f cells x y a b =
+    on_int_is cells (λ y rest. on_int rest (λ x below. Some (Holds (Int (f x y)) ∷ below))) y a
+    ∙ on_int_is (drop 1 cells) (λ x below. Some (Holds (Int (f x y)) ∷ below)) x (lower cells 0 ∙ b)
+    ∙ ap (λ (below : List Cell). Some (Holds (Int (f x y)) ∷ below)) (drop_two cells)
+
+pub zero_is : (cells : List Cell) (y : ℤ) → slice_get cells 0 ≡ Some (Holds (Int y)) → zero_on_top cells ≡ is_zero y
+zero_is [] y h = absurd cc
+zero_is (c ∷ cells) y h = ap (λ (c : Cell). zero_on_top (c ∷ cells)) (same h)
+  where
+    same : slice_get (c ∷ cells) 0 ≡ Some (Holds (Int y)) → c ≡ Holds (Int y)
+    same h = cc
+
+pub ruleset two_lemmas = (first_int, second_int, two_lie, two_is, zero_is)
+
+-- ---- one int
+
+pub one_has : (f : ℤ → ℤ) (cells : List Cell) → of_int f cells ≢ None → HasInt 0 cells
+one_has f cells h = on_int_has cells (λ x rest. Some (Holds (Int (f x)) ∷ rest)) h
+
+pub one_value : (f : ℤ → ℤ) (cells : List Cell) → of_int f cells ≢ None → HasValue 0 cells
+one_value f cells h = let top = one_has f cells h in record { value = Int top.int; is = top.is }
+
+pub one_is : (f : ℤ → ℤ) (cells : List Cell) (x : ℤ) → slice_get cells 0 ≡ Some (Holds (Int x)) → of_int f cells ≡ Some (slice_set cells 0 (Holds (Int (f x))))
+one_is f [] x h = absurd cc
+one_is f (c ∷ cells) x h = on_int_is (c ∷ cells) (λ x rest. Some (Holds (Int (f x)) ∷ rest)) x h
+
+pub ruleset one_lemmas = (one_has, one_value, one_is)
+
+pub dropped_lies : (cells : List Cell) → int_dropped cells ≢ None → 1 ≤ length cells
+dropped_lies cells h = let top = on_int_has cells (λ n rest. Some rest) h in within_one cells (Holds (Int top.int)) top.is
+
+pub dropped_is : (cells : List Cell) → int_dropped cells ≢ None → int_dropped cells ≡ Some (drop 1 cells)
+dropped_is cells h = let top = on_int_has cells (λ n rest. Some rest) h in on_int_is cells (λ n rest. Some rest) top.int top.is
+
+pub ruleset drop_lemmas = (dropped_lies, dropped_is)
+
+-- ---- two texts
+
+on_text_has : {A : Type 0} (cells : List Cell) (go : List ℕ → List Cell → Option A) → on_text cells go ≢ None → HasText 0 cells
+on_text_has [] go h = absurd (h refl)
+on_text_has (Base bp ∷ cells) go h = absurd (h refl)
+on_text_has (Holds (Int n) ∷ cells) go h = absurd (h refl)
+on_text_has (Holds (Text t) ∷ cells) go h = record { text = t; is = refl }
+on_text_has (Holds (Object o) ∷ cells) go h = absurd (h refl)
+on_text_has (Holds (Effect e) ∷ cells) go h = absurd (h refl)
+on_text_has (Holds (Event n) ∷ cells) go h = absurd (h refl)
+
+on_text_is : {A : Type 0} (cells : List Cell) (go : List ℕ → List Cell → Option A) (t : List ℕ) → slice_get cells 0 ≡ Some (Holds (Text t)) → on_text cells go ≡ go t (drop 1 cells)
+on_text_is [] go t h = absurd cc
+on_text_is (c ∷ cells) go t h = ap (λ (c : Cell). on_text (c ∷ cells) go) (same h)
+  where
+    same : slice_get (c ∷ cells) 0 ≡ Some (Holds (Text t)) → c ≡ Holds (Text t)
+    same h = cc
+
+pub first_text : (f : List ℕ → List ℕ → List ℕ) (cells : List Cell) → of_texts f cells ≢ None → HasText 0 cells
+first_text f cells h = on_text_has cells (λ b rest. on_text rest (λ a below. Some (Holds (Text (f a b)) ∷ below))) h
+
+pub second_text : (f : List ℕ → List ℕ → List ℕ) (cells : List Cell) → of_texts f cells ≢ None → HasText 1 cells
+second_text f cells h =
+    let top = first_text f cells h in
+    let next = on_text_has (drop 1 cells) (λ a below. Some (Holds (Text (f a top.text)) ∷ below))
+    (λ none. h (on_text_is cells (λ b rest. on_text rest (λ a below. Some (Holds (Text (f a b)) ∷ below))) top.text top.is ∙ none)) in
+    record { text = next.text; is = sym (lower cells 0) ∙ next.is }
+
+pub texts_lie : (f : List ℕ → List ℕ → List ℕ) (cells : List Cell) → of_texts f cells ≢ None → 2 ≤ length cells
+texts_lie f cells h = let second = second_text f cells h in within cells (Holds (Text second.text)) second.is
+
+pub texts_is : (f : List ℕ → List ℕ → List ℕ) (cells : List Cell) (a b : List ℕ) → slice_get cells 0 ≡ Some (Holds (Text b)) → slice_get cells 1 ≡ Some (Holds (Text a))
+    → of_texts f cells ≡ Some (Holds (Text (f a b)) ∷ drop 2 cells)
+texts_is f cells a b h i =
+    on_text_is cells (λ b rest. on_text rest (λ a below. Some (Holds (Text (f a b)) ∷ below))) b h
+    ∙ on_text_is (drop 1 cells) (λ a below. Some (Holds (Text (f a b)) ∷ below)) a (lower cells 0 ∙ i)
+    ∙ ap (λ (below : List Cell). Some (Holds (Text (f a b)) ∷ below)) (drop_two cells)
+
+pub ruleset text_lemmas = (first_text, second_text, texts_lie, texts_is)

@@ -1,0 +1,307 @@
+-- Runs of values among cells.
+use Rattle.std.proofs.Common.{arith, ◌≡◌, ◌≢◌, ◌<◌, ◌≤◌, ◌+◌, ◌-◌, ℕ, zero, suc, List, [], ◌∷◌, ◌++◌, length, map, take, drop, Option, Some, None, sym, ap, ◌∙◌, refl, subst, append_assoc}
+use Rattle.std.specs.Prelude.{slice_get, slice_set, IfSome}
+use Rattle.std.specs.Option.{option_map}
+use Rattle.std.proofs.lemmas.Option.{slice_get_within}
+use Rattle.std.proofs.lemmas.List.{take-append-drop, length-take-le, length-drop}
+use Rattle.nwq_value.specs.declared.value.Value.{Value}
+use Rattle.saved_state.specs.declared.cell.Cell.{Cell}
+use Rattle.saved_state.specs.declared.cell.Cell.TheVariants.{Value as Holds, Base}
+use Rattle.saved_state.specs.Cells.{StackView}
+use Rattle.machine_step.specs.Cells.{values_on, with_values, overwritten}
+use Rattle.machine_frames.specs.Tops.{HasValue, AreValues}
+
+-- ---- lists
+
+pub get_dropped : {A : Type 0} (n : ℕ) (xs : List A) (i : ℕ) → slice_get (drop n xs) i ≡ slice_get xs (n + i)
+get_dropped zero xs i = ap (slice_get xs) (omega arith)
+get_dropped (suc n) [] i = refl
+get_dropped (suc n) (x ∷ xs) i = let next : suc (n + i) ≡ suc n + i = omega arith in get_dropped n xs i ∙ ap (slice_get (x ∷ xs)) next
+
+get_front : {A : Type 0} (xs ys : List A) (i : ℕ) → i < length xs → slice_get (xs ++ ys) i ≡ slice_get xs i
+get_front [] ys i less = absurd (omega arith)
+get_front (x ∷ xs) ys zero less = refl
+get_front (x ∷ xs) ys (suc i) less = get_front xs ys i (omega arith)
+
+get_behind : {A : Type 0} (xs ys : List A) (i : ℕ) → slice_get (xs ++ ys) (length xs + i) ≡ slice_get ys i
+get_behind [] ys i = ap (slice_get ys) (omega arith)
+get_behind (x ∷ xs) ys i = let next : suc (length xs) + i ≡ suc (length xs + i) = omega arith in ap (slice_get (x ∷ (xs ++ ys))) next ∙ get_behind xs ys i
+
+get_taken : {A : Type 0} (n : ℕ) (xs : List A) (i : ℕ) → i < n → slice_get (take n xs) i ≡ slice_get xs i
+get_taken zero xs i less = absurd (omega arith)
+get_taken (suc n) [] i less = refl
+get_taken (suc n) (x ∷ xs) zero less = refl
+get_taken (suc n) (x ∷ xs) (suc i) less = get_taken n xs i (omega arith)
+
+drop_is : {A : Type 0} (xs : List A) (i : ℕ) (x : A) → slice_get xs i ≡ Some x → drop i xs ≡ x ∷ drop (suc i) xs
+drop_is [] i x h = absurd cc
+drop_is (y ∷ ys) zero x h = cc
+drop_is (y ∷ ys) (suc i) x h = drop_is ys i x h
+
+take_is : {A : Type 0} (xs : List A) (i : ℕ) (x : A) → slice_get xs i ≡ Some x → take (suc i) xs ≡ take i xs ++ x ∷ []
+take_is [] i x h = absurd cc
+take_is (y ∷ ys) zero x h = cc
+take_is (y ∷ ys) (suc i) x h = ap (λ t. y ∷ t) (take_is ys i x h)
+
+set_seam : {A : Type 0} (xs : List A) (y : A) (ys : List A) (new : A) → slice_set (xs ++ y ∷ ys) (length xs) new ≡ xs ++ new ∷ ys
+set_seam [] y ys new = refl
+set_seam (x ∷ xs) y ys new = ap (λ t. x ∷ t) (set_seam xs y ys new)
+
+drop_all : {A : Type 0} (xs : List A) (n : ℕ) → n ≡ length xs → drop n xs ≡ []
+drop_all [] zero e = refl
+drop_all [] (suc n) e = refl
+drop_all (x ∷ xs) zero e = absurd (omega arith)
+drop_all (x ∷ xs) (suc n) e = drop_all xs n (omega arith)
+
+some_in : {A : Type 0} (xs : List A) (i : ℕ) → i < length xs → (x : A) × (slice_get xs i ≡ Some x)
+some_in [] i less = absurd (omega arith)
+some_in (x ∷ xs) zero less = (x, refl)
+some_in (x ∷ xs) (suc i) less = some_in xs i (omega arith)
+
+-- ---- values on cells
+
+on_map : {A B : Type 0} (f : A → B) (o : Option A) (b : B) → option_map f o ≡ Some b → (a : A) × (o ≡ Some a) × (f a ≡ b)
+on_map f None b h = absurd cc
+on_map f (Some a) b h = (a, refl, cc)
+
+pub length_is : (n : ℕ) (cells : List Cell) (vs : List Value) → values_on n cells ≡ Some vs → (length vs ≡ n) × (n ≤ length cells)
+length_is zero cells vs h = let e : [] ≡ vs = cc in (sym (ap length e), omega arith)
+length_is (suc n) [] vs h = absurd cc
+length_is (suc n) (Base bp ∷ cells) vs h = absurd cc
+length_is (suc n) (Holds v ∷ cells) vs h =
+    let m = on_map (λ (vs : List Value). v ∷ vs) (values_on n cells) vs h in
+    let rest = length_is n cells m.0 m.1 in
+    (sym (ap length m.2) ∙ ap suc rest.0, let less = rest.1 in omega arith)
+
+-- the value of that number is in the cell so far down
+pub record Got (vs : List Value) (cells : List Cell) (i : ℕ) : Type 0 where
+  pub v : Value
+  pub in_values : slice_get vs i ≡ Some v
+  pub in_cells : slice_get cells i ≡ Some (Holds v)
+
+pub got : (n : ℕ) (cells : List Cell) (vs : List Value) → values_on n cells ≡ Some vs → (i : ℕ) → i < n → Got vs cells i
+got zero cells vs h i less = absurd (omega arith)
+got (suc n) [] vs h i less = absurd cc
+got (suc n) (Base bp ∷ cells) vs h i less = absurd cc
+got (suc n) (Holds v ∷ cells) vs h zero less =
+    let m = on_map (λ (vs : List Value). v ∷ vs) (values_on n cells) vs h in
+    record { v = v; in_values = sym (ap (λ vs. slice_get vs 0) m.2); in_cells = refl }
+got (suc n) (Holds v ∷ cells) vs h (suc i) less =
+    let m = on_map (λ (vs : List Value). v ∷ vs) (values_on n cells) vs h in
+    let g = got n cells m.0 m.1 i (omega arith) in
+    record { v = g.v; in_values = sym (ap (λ vs. slice_get vs (suc i)) m.2) ∙ g.in_values; in_cells = g.in_cells }
+
+-- so many values are there
+pub record There (n : ℕ) (cells : List Cell) : Type 0 where
+  pub vs : List Value
+  pub are : values_on n cells ≡ Some vs
+
+there_in : (n : ℕ) (cells : List Cell) (o : Option (List Value)) → values_on n cells ≡ o → o ≢ None → There n cells
+there_in n cells None e h = absurd (h refl)
+there_in n cells (Some vs) e h = record { vs = vs; are = e }
+
+pub there : (n : ℕ) (cells : List Cell) → AreValues n cells → There n cells
+there n cells h = there_in n cells (values_on n cells) refl h
+
+got_below : (n from : ℕ) (cells : List Cell) (vs : List Value) → values_on n (drop from cells) ≡ Some vs → (i : ℕ) → i < n → (v : Value) × (slice_get vs i ≡ Some v) × (slice_get cells (from + i) ≡ Some (Holds v))
+got_below n from cells vs h i less = let g = got n (drop from cells) vs h i less in (g.v, g.in_values, sym (get_dropped from cells i) ∙ g.in_cells)
+
+-- ---- values that are written onto others, the lowest first
+
+pub record CopiedDown (from onto count left : ℕ) (first now : StackView) : Type 0 where
+  pub source : There count (drop from first.cells)
+  pub target : AreValues count (drop onto first.cells)
+  pub order : from ≤ onto
+  pub few : left ≤ count
+  pub bp : now.bp ≡ first.bp
+  pub cells : now.cells ≡ take (onto + left) first.cells ++ with_values (drop left source.vs) (drop (onto + count) first.cells)
+
+target_inside : (onto count k : ℕ) (cells : List Cell) → AreValues count (drop onto cells) → k < count → onto + k < length cells
+target_inside onto count k cells h less =
+    let t = there count (drop onto cells) h in
+    let g = got_below count onto cells t.vs t.are k less in
+    slice_get_within cells (onto + k) (Holds g.0) g.2
+
+-- a place in the part that isn't written yet
+unwritten : (from onto count left : ℕ) (first now : StackView) → CopiedDown from onto count left first now → (k depth : ℕ) → left ≡ suc k → depth < onto + left
+    → slice_get now.cells depth ≡ slice_get first.cells depth
+unwritten from onto count left first now c k depth e less =
+    let few = c.few in
+    let inside = target_inside onto count k first.cells c.target (omega arith) in
+    let size : length (take (onto + left) first.cells) ≡ onto + left = length-take-le (onto + left) first.cells (omega arith) in
+    ap (λ t. slice_get t depth) c.cells
+    ∙ get_front (take (onto + left) first.cells) (with_values (drop left c.source.vs) (drop (onto + count) first.cells)) depth (omega (arith, size, less))
+    ∙ get_taken (onto + left) first.cells depth less
+
+pub reads : (from onto count left : ℕ) (first now : StackView) (k : ℕ) → CopiedDown from onto count left first now → left ≡ suc k → HasValue (from + k) now.cells
+reads from onto count left first now k c e =
+    let few = c.few in
+    let order = c.order in
+    let g = got_below count from first.cells c.source.vs c.source.are k (omega arith) in
+    record { value = g.0; is = unwritten from onto count left first now c k (from + k) e (omega arith) ∙ g.2 }
+
+pub writes : (from onto count left : ℕ) (first now : StackView) (k : ℕ) → CopiedDown from onto count left first now → left ≡ suc k → HasValue (onto + k) now.cells
+writes from onto count left first now k c e =
+    let few = c.few in
+    let t = there count (drop onto first.cells) c.target in
+    let g = got_below count onto first.cells t.vs t.are k (omega arith) in
+    record { value = g.0; is = unwritten from onto count left first now c k (onto + k) e (omega arith) ∙ g.2 }
+
+pub copied : (from onto count left : ℕ) (first now : StackView) (k : ℕ) (v : Value) → CopiedDown from onto count left first now → left ≡ suc k
+    → slice_get now.cells (from + k) ≡ Some (Holds v)
+    → CopiedDown from onto count k first (record now { cells = slice_set now.cells (onto + k) (Holds v) })
+copied from onto count left first now k v c e read =
+    let few = c.few in
+    let order = c.order in
+    let g = got_below count from first.cells c.source.vs c.source.are k (omega arith) in
+    let seen = sym (unwritten from onto count left first now c k (from + k) e (omega arith)) in
+    let t = there count (drop onto first.cells) c.target in
+    let old = got_below count onto first.cells t.vs t.are k (omega arith) in
+    let inside = target_inside onto count k first.cells c.target (omega arith) in
+    record {
+      source = c.source;
+      target = c.target;
+      order = c.order;
+      few = omega arith;
+      bp = c.bp;
+      cells = step (same (seen ∙ read) g.2 g.1) old.0 old.2 (omega arith);
+    }
+  where
+    behind : List Cell
+    behind = drop (onto + count) first.cells
+
+    same : {w : Value} → slice_get first.cells (from + k) ≡ Some (Holds v) → slice_get first.cells (from + k) ≡ Some (Holds w) → slice_get c.source.vs k ≡ Some w → slice_get c.source.vs k ≡ Some v
+    same a b d = cc
+
+    step : slice_get c.source.vs k ≡ Some v → (w : Value) → slice_get first.cells (onto + k) ≡ Some (Holds w) → onto + k ≤ length first.cells
+        → slice_set now.cells (onto + k) (Holds v) ≡ take (onto + k) first.cells ++ with_values (drop k c.source.vs) (drop (onto + count) first.cells)
+    step is w old less =
+        let more : onto + left ≡ suc (onto + k) = omega arith in
+        let size : length (take (onto + k) first.cells) ≡ onto + k = length-take-le (onto + k) first.cells less in
+        let rest = with_values (drop left c.source.vs) (drop (onto + count) first.cells) in
+        let split : take (onto + left) first.cells ≡ take (onto + k) first.cells ++ Holds w ∷ [] = ap (λ n. take n first.cells) more ∙ take_is first.cells (onto + k) (Holds w) old in
+        let whole : now.cells ≡ take (onto + k) first.cells ++ Holds w ∷ rest =
+        c.cells ∙ ap (λ t. t ++ rest) split ∙ append_assoc (take (onto + k) first.cells) (Holds w ∷ []) rest in
+        let values : drop k c.source.vs ≡ v ∷ drop left c.source.vs = drop_is c.source.vs k v is ∙ ap (λ n. v ∷ drop n c.source.vs) (sym e) in
+        ap (λ t. slice_set t (onto + k) (Holds v)) whole
+        ∙ ap (λ n. slice_set (take (onto + k) first.cells ++ Holds w ∷ rest) n (Holds v)) (sym size)
+        ∙ set_seam (take (onto + k) first.cells) (Holds w) rest (Holds v)
+        ∙ ap (λ vs. take (onto + k) first.cells ++ with_values vs (drop (onto + count) first.cells)) (sym values)
+
+-- nothing is written yet
+begun_in : (from onto count : ℕ) (first : StackView) (s : There count (drop from first.cells)) → AreValues count (drop onto first.cells) → from ≤ onto
+    → CopiedDown from onto count count first first
+begun_in from onto count first s target order = record {
+  source = s;
+  target = target;
+  order = order;
+  few = omega arith;
+  bp = refl;
+  cells =
+      let none = drop_all s.vs count (sym (length_is count (drop from first.cells) s.vs s.are).0) in
+      sym (ap (λ vs. take (onto + count) first.cells ++ with_values vs (drop (onto + count) first.cells)) none ∙ take-append-drop (onto + count) first.cells);
+}
+
+pub copy_begins : (from onto count : ℕ) (first : StackView) → AreValues count (drop from first.cells) → AreValues count (drop onto first.cells) → from ≤ onto
+    → CopiedDown from onto count count first first
+copy_begins from onto count first source target order = begun_in from onto count first (there count (drop from first.cells) source) target order
+
+pub copy_ends : (from onto count left : ℕ) (first now : StackView) → CopiedDown from onto count left first now → left ≡ 0
+    → IfSome (values_on count (drop from first.cells)) (λ vs. now ≡ record first { cells = overwritten onto vs first.cells })
+copy_ends from onto count left first now c e =
+    let size = (length_is count (drop from first.cells) c.source.vs c.source.are).0 in
+    let upto : onto + left ≡ onto = omega arith in
+    let cells : now.cells ≡ overwritten onto c.source.vs first.cells =
+    c.cells ∙ ap (λ n. take n first.cells ++ with_values (drop left c.source.vs) (drop (onto + count) first.cells)) upto
+    ∙ ap (λ n. take onto first.cells ++ with_values (drop n c.source.vs) (drop (onto + count) first.cells)) e
+    ∙ ap (λ n. take onto first.cells ++ with_values c.source.vs (drop (onto + n) first.cells)) (sym size) in
+    subst (λ o. IfSome o (λ vs. now ≡ record first { cells = overwritten onto vs first.cells })) (sym c.source.are) (both cells c.bp)
+  where
+    both : now.cells ≡ overwritten onto c.source.vs first.cells → now.bp ≡ first.bp → now ≡ record first { cells = overwritten onto c.source.vs first.cells }
+    both a b = ap (λ (cells : List Cell). record now { cells = cells }) a ∙ ap (λ (bp : ℕ). record first { cells = overwritten onto c.source.vs first.cells; bp = bp }) b
+
+-- the depths fit as the stack's length does
+pub from_fits : (from onto count left len k : ℕ) (first now : StackView) → CopiedDown from onto count left first now → left ≡ suc k → len ≡ length first.cells → from + k < len
+from_fits from onto count left len k first now c e size =
+    let few = c.few in
+    let order = c.order in
+    let inside = target_inside onto count k first.cells c.target (omega arith) in omega arith
+
+pub onto_fits : (from onto count left len k : ℕ) (first now : StackView) → CopiedDown from onto count left first now → left ≡ suc k → len ≡ length first.cells → onto + k < len
+onto_fits from onto count left len k first now c e size =
+    let few = c.few in
+    let inside = target_inside onto count k first.cells c.target (omega arith) in omega arith
+
+pub ruleset copy_lemmas = (reads, writes, copied, copy_begins, copy_ends, from_fits, onto_fits)
+
+-- ---- copies that are pushed, the lowest first
+
+pub record PushedCopies (above count left : ℕ) (first now : StackView) : Type 0 where
+  pub source : There count (drop above first.cells)
+  pub few : left ≤ count
+  pub bp : now.bp ≡ first.bp
+  pub cells : now.cells ≡ with_values (drop left source.vs) first.cells
+
+-- the value that is read next lies as far down as the lowest one did
+next_is : (above count left : ℕ) (first now : StackView) (k : ℕ) (p : PushedCopies above count left first now) → left ≡ suc k
+    → (v : Value) × (slice_get p.source.vs k ≡ Some v) × (slice_get now.cells (above + (count - 1)) ≡ Some (Holds v))
+next_is above count left first now k p e =
+    let few = p.few in
+    let g = got_below count above first.cells p.source.vs p.source.are k (omega arith) in
+    let size = (length_is count (drop above first.cells) p.source.vs p.source.are).0 in
+    let pushed : length (map Holds (drop left p.source.vs)) ≡ count - left = length_map (drop left p.source.vs) ∙ length-drop left p.source.vs ∙ ap (λ n. n - left) size in
+    let where_is : above + (count - 1) ≡ length (map Holds (drop left p.source.vs)) + (above + k) = omega (arith, pushed, few) in (
+      g.0,
+      g.1,
+      ap (λ t. slice_get t (above + (count - 1))) p.cells
+          ∙ ap (slice_get (with_values (drop left p.source.vs) first.cells)) where_is
+          ∙ get_behind (map Holds (drop left p.source.vs)) first.cells (above + k) ∙ g.2,
+    )
+  where
+    length_map : (vs : List Value) → length (map Holds vs) ≡ length vs
+    length_map [] = refl
+    length_map (v ∷ vs) = ap suc (length_map vs)
+
+pub next_has : (above count left : ℕ) (first now : StackView) (k : ℕ) → PushedCopies above count left first now → left ≡ suc k → HasValue (above + (count - 1)) now.cells
+next_has above count left first now k p e = let n = next_is above count left first now k p e in record { value = n.0; is = n.2 }
+
+pub next_pushed : (above count left : ℕ) (first now : StackView) (k : ℕ) (v : Value) → PushedCopies above count left first now → left ≡ suc k
+    → slice_get now.cells (above + (count - 1)) ≡ Some (Holds v) → PushedCopies above count k first (record now { cells = Holds v ∷ now.cells })
+next_pushed above count left first now k v p e read =
+    let few = p.few in
+    let n = next_is above count left first now k p e in
+    record { source = p.source; few = omega arith; bp = p.bp; cells = step (same read n.2 n.1) }
+  where
+    same : {w : Value} → slice_get now.cells (above + (count - 1)) ≡ Some (Holds v) → slice_get now.cells (above + (count - 1)) ≡ Some (Holds w)
+        → slice_get p.source.vs k ≡ Some w → slice_get p.source.vs k ≡ Some v
+    same a b d = cc
+
+    step : slice_get p.source.vs k ≡ Some v → Holds v ∷ now.cells ≡ with_values (drop k p.source.vs) first.cells
+    step is =
+        let values : drop k p.source.vs ≡ v ∷ drop left p.source.vs = drop_is p.source.vs k v is ∙ ap (λ n. v ∷ drop n p.source.vs) (sym e) in
+        ap (λ t. Holds v ∷ t) p.cells ∙ ap (λ vs. with_values vs first.cells) (sym values)
+
+pub push_begins : (above count : ℕ) (first : StackView) → AreValues count (drop above first.cells) → PushedCopies above count count first first
+push_begins above count first h = let s = there count (drop above first.cells) h in record {
+  source = s;
+  few = omega arith;
+  bp = refl;
+  cells = sym (ap (λ vs. with_values vs first.cells) (drop_all s.vs count (sym (length_is count (drop above first.cells) s.vs s.are).0)));
+}
+
+pub push_ends : (above count left : ℕ) (first now : StackView) → PushedCopies above count left first now → left ≡ 0
+    → IfSome (values_on count (drop above first.cells)) (λ vs. now ≡ record first { cells = with_values vs first.cells })
+push_ends above count left first now p e =
+    let cells : now.cells ≡ with_values p.source.vs first.cells = p.cells ∙ ap (λ n. with_values (drop n p.source.vs) first.cells) e in
+    subst (λ o. IfSome o (λ vs. now ≡ record first { cells = with_values vs first.cells })) (sym p.source.are) (both cells p.bp)
+  where
+    both : now.cells ≡ with_values p.source.vs first.cells → now.bp ≡ first.bp → now ≡ record first { cells = with_values p.source.vs first.cells }
+    both a b = ap (λ (cells : List Cell). record now { cells = cells }) a ∙ ap (λ (bp : ℕ). record first { cells = with_values p.source.vs first.cells; bp = bp }) b
+
+pub push_fits : (above count left len k : ℕ) (first now : StackView) → PushedCopies above count left first now → left ≡ suc k → len ≡ length first.cells → above + (count - 1) < len
+push_fits above count left len k first now p e size =
+    let few = p.few in
+    let g = got_below count above first.cells p.source.vs p.source.are (count - 1) (omega arith) in
+    let inside = slice_get_within first.cells (above + (count - 1)) (Holds g.0) g.2 in omega arith
+
+pub ruleset push_lemmas = (next_has, next_pushed, push_begins, push_ends, push_fits)

@@ -1,0 +1,210 @@
+//! Instructions that name cells by offsets and sizes.
+ghost use Rattle.std.specs.Prelude.{◌≡◌, ◌≢◌, ◌+◌, ◌≤◌, ◌<◌, ◌^◌, None, Some, OnOk, IfSome, drop};
+ghost use Rattle.std.specs.Prelude.{length};
+ghost use Rattle.machine_step.specs.Act.{bp_range, compared};
+ghost use Rattle.machine_step.specs.Cells.{int_changed, pair_compared, range_kept, range_pushed};
+ghost use Rattle.machine_step.specs.Cells.{range_written, runs_compared, values_dropped};
+ghost use Rattle.machine_step.specs.Cells.{values_kept, values_on};
+ghost use Rattle.machine_step.specs.Values.{values_eq};
+ghost use Rattle.stack_shape.specs.StackEffects.{type_of_both};
+ghost use Rattle.machine_frames.specs.Operations.{unary_of};
+ghost use Rattle.machine_frames.specs.Tops.{AreValues, answer_of, int_at, reached};
+
+use crate::operation::{Unary, as_int, of_one};
+use crate::runs::{copy_down, push_copies};
+use crate::top::{int, put, value};
+use machine_step::equality_is_tested;
+use nwq_value::{NoMemory, Value};
+use saved_state::{Cell, Stack};
+use stack_shape::{CellRange, cell_count, range_at};
+use std::alloc::Global;
+
+/// The values of a range are pushed.
+#[tactic(auto, using(crate::proofs::RangeLemmas::pushed_lemmas))]
+pub fn push_range(
+    alloc: Global,
+    stack: &mut Stack,
+    range: Option<CellRange>,
+) -> Result<(), NoMemory>
+    requires case { range_pushed range stack.old.cells ≢ None }
+    ensures cells { OnOk result (range_pushed range stack.old.cells ≡ Some stack.new.cells) }
+    ensures bp { OnOk result (stack.new.bp ≡ stack.old.bp) }
+{
+    match range {
+        None => unreachable!(),
+        Some(range) => push_copies(alloc, stack, range.above, range.count),
+    }
+}
+
+/// The top values are written onto the cells of a range.
+#[tactic(auto, using(crate::proofs::RangeLemmas::written_lemmas))]
+pub fn write_range(
+    alloc: Global,
+    stack: &mut Stack,
+    range: Option<CellRange>,
+) -> Result<(), NoMemory>
+    requires case { range_written range stack.old.cells ≢ None }
+    ensures cells { OnOk result (range_written range stack.old.cells ≡ Some stack.new.cells) }
+    ensures bp { OnOk result (stack.new.bp ≡ stack.old.bp) }
+{
+    match range {
+        None => unreachable!(),
+        Some(range) => copy_down(alloc, stack, 0, range.above, range.count),
+    }
+}
+
+/// The int so far down changes where it stands.
+#[tactic(auto, using(crate::proofs::RangeLemmas::at_lemmas))]
+fn change_at(stack: &mut Stack, depth: usize, op: Unary) -> Result<(), NoMemory>
+    requires case { int_at (unary_of op) depth stack.old.cells ≢ None }
+    ensures cells { OnOk result
+        (int_at (unary_of op) depth stack.old.cells ≡ Some stack.new.cells) }
+    ensures bp { OnOk result (stack.new.bp ≡ stack.old.bp) }
+{
+    let n = int(stack, depth);
+    put(stack, depth, Value::Int(of_one(op, n)))?;
+    Ok(())
+}
+
+/// The int at a range changes.
+#[tactic(auto, using(crate::proofs::RangeLemmas::changed_lemmas))]
+pub fn change_int(stack: &mut Stack, range: Option<CellRange>, op: Unary) -> Result<(), NoMemory>
+    requires case { int_changed (unary_of op) range stack.old.cells ≢ None }
+    ensures cells { OnOk result
+        (int_changed (unary_of op) range stack.old.cells ≡ Some stack.new.cells) }
+    ensures bp { OnOk result (stack.new.bp ≡ stack.old.bp) }
+{
+    match range {
+        None => unreachable!(),
+        Some(range) => change_at(stack, range.above, op),
+    }
+}
+
+/// The cells at an offset from BP, as those so far down from the top.
+#[tactic(auto, using(crate::proofs::RangeLemmas::bp_lemmas))]
+pub fn bp_range(stack: &Stack, offset: i32, size: u16) -> Option<CellRange>
+    requires inside { reached (bp_range stack.now offset size) stack.now.cells ≢ None }
+    ensures range { result ≡ bp_range stack.now offset size }
+{
+    match range_at(offset, size) {
+        None => None,
+        Some(range) => {
+            let over_bp = stack.len() - stack.bp();
+            Some(CellRange {
+                above: over_bp + range.above,
+                count: range.count,
+            })
+        }
+    }
+}
+
+/// So many values are popped.
+#[tactic(auto, using(crate::proofs::RangeLemmas::dropped_lemmas))]
+pub fn drop_values(stack: &mut Stack, count: Option<usize>)
+    requires case { values_dropped count stack.old.cells ≢ None }
+    ensures cells { values_dropped count stack.old.cells ≡ Some stack.new.cells }
+    ensures bp { stack.new.bp ≡ stack.old.bp }
+{
+    match count {
+        None => unreachable!(),
+        Some(count) => stack.drop_top(count),
+    }
+}
+
+/// Of the `total` values on top those are kept that begin `offset` cells above the lowest of them.
+#[tactic(auto, using(crate::proofs::RangeLemmas::kept_lemmas))]
+fn keep_values(
+    alloc: Global,
+    stack: &mut Stack,
+    total: usize,
+    offset: usize,
+    count: usize,
+) -> Result<(), NoMemory>
+    requires case { values_kept total offset count stack.old.cells ≢ None }
+    requires small { offset + count < 2 ^ 32 }
+    ensures cells { OnOk result
+        (values_kept total offset count stack.old.cells ≡ Some stack.new.cells) }
+    ensures bp { OnOk result (stack.new.bp ≡ stack.old.bp) }
+{
+    let above = total - (offset + count);
+    let rest = total - count;
+    copy_down(alloc, stack, above, rest, count)?;
+    stack.drop_top(rest);
+    Ok(())
+}
+
+/// DESTRUCT, whose three numbers are of bytes.
+pub fn keep_range(
+    alloc: Global,
+    stack: &mut Stack,
+    total: u16,
+    offset: u16,
+    size: u16,
+) -> Result<(), NoMemory>
+    requires case { range_kept total offset size stack.old.cells ≢ None }
+    ensures cells { OnOk result
+        (range_kept total offset size stack.old.cells ≡ Some stack.new.cells) }
+    ensures bp { OnOk result (stack.new.bp ≡ stack.old.bp) }
+{
+    match (
+        cell_count(total as u32),
+        cell_count(offset as u32),
+        cell_count(size as u32),
+    ) {
+        (Some(total), Some(offset), Some(count)) => {
+            keep_values(alloc, stack, total, offset, count)
+        }
+        _ => unreachable!(),
+    }
+}
+
+/// Whether the `count` values on top are equal to as many beneath them.
+#[tactic(auto, using(crate::proofs::RangeLemmas::same_lemmas))]
+fn same_runs(stack: &Stack, count: usize) -> bool
+    requires upper { AreValues count stack.now.cells }
+    requires lower { AreValues count (drop count stack.now.cells) }
+    ensures same { IfSome (values_on count stack.now.cells)
+        (λ upper. IfSome (values_on count (drop count stack.now.cells))
+        (λ lower. result ≡ values_eq upper lower)) }
+{
+    equality_is_tested();
+    let len = stack.len();
+    for i in 0..count {
+        if !value(stack, i).same(value(stack, count + i)) {
+            return false;
+        }
+    }
+    true
+}
+
+/// Two runs of so many values are compared. `negated` says that 1 is for those that differ.
+#[tactic(auto, using(crate::proofs::RangeLemmas::runs_lemmas))]
+fn compare_runs(stack: &mut Stack, count: usize, negated: bool) -> Result<(), NoMemory>
+    requires case { runs_compared (answer_of negated) (Some count) stack.old.cells ≢ None }
+    ensures cells { OnOk result (runs_compared (answer_of negated) (Some count) stack.old.cells
+        ≡ Some stack.new.cells) }
+    ensures bp { OnOk result (stack.new.bp ≡ stack.old.bp) }
+{
+    let len = stack.len();
+    let same = same_runs(stack, count);
+    stack.drop_top(count + count);
+    stack.push(Cell::Value(Value::Int(as_int(same != negated))))
+}
+
+/// EQUAL and NEQUAL.
+#[tactic(auto, using(crate::proofs::RangeLemmas::pair_lemmas))]
+pub fn compare(stack: &mut Stack, kind: u8, size: u16, negated: bool) -> Result<(), NoMemory>
+    requires case { compared (answer_of negated) kind size stack.old.cells ≢ None }
+    ensures cells { OnOk result
+        (compared (answer_of negated) kind size stack.old.cells ≡ Some stack.new.cells) }
+    ensures bp { OnOk result (stack.new.bp ≡ stack.old.bp) }
+{
+    if kind == 0x24 {
+        match cell_count(size as u32) {
+            None => unreachable!(),
+            Some(count) => compare_runs(stack, count, negated),
+        }
+    } else {
+        compare_runs(stack, 1, negated)
+    }
+}

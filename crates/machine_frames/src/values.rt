@@ -1,0 +1,145 @@
+//! Instructions that pop and push values.
+ghost use Rattle.std.specs.Prelude.{◌≡◌, ◌≢◌, ◌&&◌, false, None, Some, OnOk};
+ghost use Rattle.ncs_code.specs.Plain.{plain_lit};
+ghost use Rattle.machine_step.specs.Act.{added, if_ints, int_dropped};
+ghost use Rattle.machine_step.specs.Cells.{of_int, of_ints, of_texts, value_pushed, zero_on_top};
+ghost use Rattle.machine_step.specs.Operators.{opposite};
+ghost use Rattle.machine_step.specs.Values.{joined_texts, literal_value, starting_value};
+ghost use Rattle.machine_frames.specs.Operations.{binary_of, divides, unary_of};
+ghost use Rattle.machine_frames.specs.Tops.{negated};
+
+use crate::operation::{Binary, Unary, of_one, of_two};
+use crate::top::{int, put, text};
+use ncs_code::Lit;
+use nwq_value::{NoMemory, Text, Value, start_of};
+use saved_state::{Cell, Stack};
+use stack_shape::type_of_one;
+use std::alloc::Global;
+
+/// An operation of the two ints on top.
+#[tactic(auto, using(crate::proofs::Popped::two_lemmas))]
+pub fn two_ints(stack: &mut Stack, op: Binary) -> Result<(), NoMemory>
+    requires case { of_ints (binary_of op) stack.old.cells ≢ None }
+    requires divisor { (divides op && zero_on_top stack.old.cells) ≡ false }
+    ensures cells { OnOk result (of_ints (binary_of op) stack.old.cells ≡ Some stack.new.cells) }
+    ensures bp { OnOk result (stack.new.bp ≡ stack.old.bp) }
+{
+    let y = int(stack, 0);
+    let x = int(stack, 1);
+    stack.drop_top(2);
+    stack.push(Cell::Value(Value::Int(of_two(op, x, y))))
+}
+
+/// The same of an instruction whose type byte says that it is of ints.
+pub fn kind_ints(stack: &mut Stack, kind: u8, op: Binary) -> Result<(), NoMemory>
+    requires case { if_ints kind (of_ints (binary_of op) stack.old.cells) ≢ None }
+    requires divisor { (divides op && zero_on_top stack.old.cells) ≡ false }
+    ensures cells { OnOk result
+        (if_ints kind (of_ints (binary_of op) stack.old.cells) ≡ Some stack.new.cells) }
+    ensures bp { OnOk result (stack.new.bp ≡ stack.old.bp) }
+{
+    if kind == 0x20 {
+        two_ints(stack, op)
+    } else {
+        unreachable!()
+    }
+}
+
+/// An operation of the int on top.
+#[tactic(auto, using(crate::proofs::Popped::one_lemmas))]
+pub fn one_int(stack: &mut Stack, op: Unary) -> Result<(), NoMemory>
+    requires case { of_int (unary_of op) stack.old.cells ≢ None }
+    ensures cells { OnOk result (of_int (unary_of op) stack.old.cells ≡ Some stack.new.cells) }
+    ensures bp { OnOk result (stack.new.bp ≡ stack.old.bp) }
+{
+    let x = int(stack, 0);
+    put(stack, 0, Value::Int(of_one(op, x)))
+}
+
+/// NEG.
+pub fn negate(stack: &mut Stack, kind: u8) -> Result<(), NoMemory>
+    requires case { negated kind stack.old.cells ≢ None }
+    ensures cells { OnOk result (negated kind stack.old.cells ≡ Some stack.new.cells) }
+    ensures bp { OnOk result (stack.new.bp ≡ stack.old.bp) }
+{
+    if kind == 0x03 {
+        one_int(stack, Unary::Neg)
+    } else {
+        unreachable!()
+    }
+}
+
+/// The two texts on top become one.
+#[tactic(auto, using(crate::proofs::Popped::text_lemmas))]
+fn two_texts(alloc: Global, stack: &mut Stack) -> Result<(), NoMemory>
+    requires case { of_texts joined_texts stack.old.cells ≢ None }
+    ensures cells { OnOk result (of_texts joined_texts stack.old.cells ≡ Some stack.new.cells) }
+    ensures bp { OnOk result (stack.new.bp ≡ stack.old.bp) }
+{
+    let joined = text(stack, 1).join(alloc, text(stack, 0))?;
+    stack.drop_top(2);
+    stack.push(Cell::Value(Value::Text(joined)))
+}
+
+/// ADD, of ints or of texts.
+pub fn add(alloc: Global, stack: &mut Stack, kind: u8) -> Result<(), NoMemory>
+    requires case { added kind stack.old.cells ≢ None }
+    ensures cells { OnOk result (added kind stack.old.cells ≡ Some stack.new.cells) }
+    ensures bp { OnOk result (stack.new.bp ≡ stack.old.bp) }
+{
+    if kind == 0x20 {
+        two_ints(stack, Binary::Add)
+    } else if kind == 0x23 {
+        two_texts(alloc, stack)
+    } else {
+        unreachable!()
+    }
+}
+
+/// Pops an int.
+#[tactic(auto, using(crate::proofs::Popped::drop_lemmas))]
+pub fn drop_int(stack: &mut Stack)
+    requires case { int_dropped stack.old.cells ≢ None }
+    ensures cells { int_dropped stack.old.cells ≡ Some stack.new.cells }
+    ensures bp { stack.new.bp ≡ stack.old.bp }
+{
+    stack.drop_top(1);
+}
+
+/// RSADD.
+pub fn push_start(alloc: Global, stack: &mut Stack, kind: u8) -> Result<(), NoMemory>
+    requires case { value_pushed (starting_value kind) stack.old.cells ≢ None }
+    ensures cells { OnOk result
+        (value_pushed (starting_value kind) stack.old.cells ≡ Some stack.new.cells) }
+    ensures bp { OnOk result (stack.new.bp ≡ stack.old.bp) }
+{
+    match type_of_one(kind) {
+        None => unreachable!(),
+        Some(ty) => stack.push(Cell::Value(start_of(alloc, ty))),
+    }
+}
+
+/// CONST, in a script that runs with the object `own` as self.
+pub fn push_literal(
+    alloc: Global,
+    stack: &mut Stack,
+    own: u32,
+    lit: &Lit<'_>,
+) -> Result<(), NoMemory>
+    requires case { value_pushed (literal_value own (plain_lit lit.now)) stack.old.cells ≢ None }
+    ensures cells { OnOk result
+        (value_pushed (literal_value own (plain_lit lit.now)) stack.old.cells
+        ≡ Some stack.new.cells) }
+    ensures bp { OnOk result (stack.new.bp ≡ stack.old.bp) }
+{
+    match lit {
+        Lit::Int(n) => stack.push(Cell::Value(Value::Int(*n))),
+        Lit::Float(_) => unreachable!(),
+        Lit::Text(bytes) => {
+            let text = Text::of(alloc, bytes)?;
+            stack.push(Cell::Value(Value::Text(text)))
+        }
+        Lit::Object(0) => stack.push(Cell::Value(Value::Object(own))),
+        Lit::Object(_) => stack.push(Cell::Value(Value::Object(0))),
+    }
+}

@@ -1,0 +1,7 @@
+mod LookLemmas
+mod CutLemmas
+mod LineLemmas
+mod FrontLemmas
+mod RowLemmas
+mod TableLemmas
+mod Worked

@@ -1,0 +1,174 @@
+//! Effects that stand on objects.
+ghost use Rattle.std.specs.Prelude.{◌≡◌, ◌<◌, ◌≤◌, ◌+◌, ◌^◌, length, position, OnOk, OnErr, pos};
+ghost use Rattle.engine_rows.specs.Changes.{is_effect, is_numbered};
+ghost use Rattle.engine_rows.specs.Kept.{IsWorld};
+ghost use Rattle.engine_rows.specs.Rows.{applied, applied_to, removed};
+ghost use Rattle.engine_rows.specs.Turns.{unapply};
+ghost use Rattle.engine_rows.specs.World.{count, effects_of};
+
+use crate::parts::Parts;
+use delay_agenda::Kind;
+use engine_rows::{Stood, Told};
+use nwq_value::{Effect, NoMemory};
+
+/// Whether an effect that stands is equal to this one.
+fn is_effect(effect: &Effect, stood: &Stood) -> bool
+    ensures test { result ≡ is_effect effect.now stood.now }
+{
+    effect.same(&stood.effect)
+}
+
+/// The place of the first effect that is equal to this one.
+fn place_of_equal(standing: &[Stood], effect: &Effect) -> Option<usize>
+    ensures place { result ≡ position (is_effect effect.now) standing.now }
+{
+    standing.iter().position(|stood| is_effect(effect, stood))
+}
+
+/// The place of the first effect of this number.
+fn place_of_number(standing: &[Stood], number: u64) -> Option<usize>
+    ensures place { result ≡ position (is_numbered number) standing.now }
+{
+    standing.iter().position(|stood| stood.is_numbered(number))
+}
+
+impl<X: Drop> Parts<X> {
+    /// The effect stands on the object until the agenda ends it.
+    fn apply_for_a_time(&mut self, o: u32, effect: Effect, ms: i32) -> Result<(), NoMemory>
+        requires first { 1 ≤ o }
+        requires within { o ≤ length self.old.world.things }
+        requires room { 1 ≤ self.old.posts }
+        requires line { 1 ≤ self.old.lines }
+        requires few { self.old.world.agenda.next < 2 ^ 63 }
+        requires early { self.old.world.clock < 2 ^ 62 }
+        ensures ok { OnOk result (self.new.world ≡ applied (pos 1) o effect ms self.old.world) }
+        ensures err { OnErr result (self.new.world ≡ self.old.world) }
+        ensures posts { self.old.posts ≤ self.new.posts + 1 }
+    {
+        let standing = effect.copy(self.alloc())?;
+        let number = self.next_number();
+        let due = self.later(ms);
+        self.add_effect(o, Some(number), standing)?;
+        self.tell(o, Told::Apply(1, effect));
+        self.post(due, Kind::Unapply { object: o });
+        Ok(())
+    }
+
+    /// The effect stands on the object without end.
+    fn apply_for_good(&mut self, o: u32, effect: Effect) -> Result<(), NoMemory>
+        requires first { 1 ≤ o }
+        requires within { o ≤ length self.old.world.things }
+        requires line { 1 ≤ self.old.lines }
+        ensures ok { OnOk result (self.new.world ≡ applied (pos 2) o effect (pos 0) self.old.world) }
+        ensures err { OnErr result (self.new.world ≡ self.old.world) }
+        ensures posts { self.old.posts ≤ self.new.posts }
+    {
+        let standing = effect.copy(self.alloc())?;
+        self.add_effect(o, None, standing)?;
+        self.tell(o, Told::Apply(2, effect));
+        Ok(())
+    }
+
+    /// The effect is applied to an object, with this duration.
+    #[tactic(auto, using(crate::proofs::EffectLemmas::other_duration))]
+    fn apply(&mut self, duration: i32, o: u32, effect: Effect, ms: i32) -> Result<(), NoMemory>
+        requires first { 1 ≤ o }
+        requires within { o ≤ length self.old.world.things }
+        requires room { 1 ≤ self.old.posts }
+        requires line { 1 ≤ self.old.lines }
+        requires few { self.old.world.agenda.next < 2 ^ 63 }
+        requires early { self.old.world.clock < 2 ^ 62 }
+        ensures ok { OnOk result (self.new.world ≡ applied duration o effect ms self.old.world) }
+        ensures err { OnErr result (self.new.world ≡ self.old.world) }
+        ensures posts { self.old.posts ≤ self.new.posts + 1 }
+    {
+        match duration {
+            0 => {
+                self.tell(o, Told::Apply(0, effect));
+                Ok(())
+            }
+            1 => self.apply_for_a_time(o, effect, ms),
+            2 => self.apply_for_good(o, effect),
+            _ => {
+                drop(effect);
+                Ok(())
+            }
+        }
+    }
+
+    /// The effect is applied to the target, where there is such an object.
+    pub(crate) fn apply_to(
+        &mut self,
+        duration: i32,
+        o: u32,
+        effect: Effect,
+        ms: i32,
+    ) -> Result<(), NoMemory>
+        requires world { IsWorld self.old.world }
+        requires room { 1 ≤ self.old.posts }
+        requires line { 1 ≤ self.old.lines }
+        requires few { self.old.world.agenda.next < 2 ^ 63 }
+        requires early { self.old.world.clock < 2 ^ 62 }
+        ensures ok { OnOk result (self.new.world ≡ applied_to duration o effect ms self.old.world) }
+        ensures err { OnErr result (self.new.world ≡ self.old.world) }
+        ensures posts { self.old.posts ≤ self.new.posts + 1 }
+    {
+        if self.is_valid(o) {
+            self.apply(duration, o, effect, ms)
+        } else {
+            drop(effect);
+            Ok(())
+        }
+    }
+
+    /// The first effect of an object that is equal to this one goes, where there is one.
+    #[tactic(auto, using(crate::proofs::EffectLemmas::removed_at, crate::proofs::EffectLemmas::none_removed, crate::proofs::EffectLemmas::place_inside))]
+    fn remove_standing(&mut self, o: u32, effect: Effect)
+        requires first { 1 ≤ o }
+        requires within { o ≤ length self.old.world.things }
+        requires line { 1 ≤ self.old.lines }
+        ensures removed { self.new.world ≡ removed o effect self.old.world }
+        ensures posts { self.new.posts ≡ self.old.posts }
+    {
+        match place_of_equal(self.effects(o), &effect) {
+            None => drop(effect),
+            Some(at) => {
+                drop(self.take_effect(o, at));
+                self.tell(o, Told::Remove(effect));
+            }
+        }
+    }
+
+    /// The same of any number, also one without an object.
+    #[tactic(auto, using(crate::proofs::EffectLemmas::none_without_object))]
+    pub(crate) fn remove_effect(&mut self, o: u32, effect: Effect)
+        requires world { IsWorld self.old.world }
+        requires line { 1 ≤ self.old.lines }
+        ensures removed { self.new.world ≡ removed o effect self.old.world }
+        ensures posts { self.new.posts ≡ self.old.posts }
+    {
+        if self.is_valid(o) {
+            self.remove_standing(o, effect);
+        } else {
+            drop(effect);
+        }
+    }
+
+    /// The first effect of this number that stands on an object ends, where there is one.
+    #[tactic(auto, using(crate::proofs::EffectLemmas::expired_at, crate::proofs::EffectLemmas::none_expired, crate::proofs::EffectLemmas::place_inside))]
+    pub fn unapply(&mut self, o: u32, number: u64)
+        requires first { 1 ≤ o }
+        requires within { o ≤ length self.old.world.things }
+        requires line { 1 ≤ self.old.lines }
+        ensures ended { self.new.world ≡ unapply o number self.old.world }
+        ensures posts { self.new.posts ≡ self.old.posts }
+    {
+        match place_of_number(self.effects(o), number) {
+            None => {}
+            Some(at) => {
+                let stood = self.take_effect(o, at);
+                self.tell(o, Told::Expire(stood.effect));
+            }
+        }
+    }
+}

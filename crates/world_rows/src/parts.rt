@@ -1,0 +1,461 @@
+//! The parts of a world, and the small changes that everything else is made of.
+ghost use Rattle.std.specs.Prelude.{◌≡◌, ◌<◌, ◌≤◌, ◌+◌, ◌-◌, ◌^◌, ◌↔◌, ◌∷◌, [], drop, filter, length};
+ghost use Rattle.std.specs.Prelude.{not, pos, slice_get, Some, IfOk, OnOk, OnErr, IsTrue};
+ghost use Rattle.std.specs.List.{remove};
+ghost use Rattle.area_tree.specs.Variables.{IntVar, TextVar, is_int, is_text, put};
+ghost use Rattle.delay_agenda.specs.Order.{first_due};
+ghost use Rattle.delay_agenda.specs.Waiting.{turn_count};
+ghost use Rattle.engine_rows.specs.Changes.{told, post, with_busy, with_actions, with_action};
+ghost use Rattle.engine_rows.specs.Changes.{with_effect, with_effects, with_variables, without_turn};
+ghost use Rattle.engine_rows.specs.Turns.{drained, still, with_entries};
+ghost use Rattle.engine_rows.specs.World.{count, effects_of, is_valid, queue_of};
+ghost use Rattle.world_rows.specs.Saved.{put_together};
+
+use crate::saved::WorldParts;
+use crate::things::{add_effect, append, clear, of_object, set_busy, take_effect, take_head};
+use crate::turns::idle_objects;
+use action_queue::{Item, Queue};
+use area_tree::Area;
+use delay_agenda::{Agenda, Entry, Kind};
+use engine_rows::{Line, Stood, Things, Told};
+use nwq_value::{Effect, Items, NoMemory, Randoms};
+use std::alloc::Global;
+use std::collections::VecDeque;
+use std::marker::Model;
+
+/// The parts of a world.
+///
+/// Lines and entries are told and posted without memory where there is room for them, so a routine
+/// takes all of its room before it changes anything.
+#[derive(Drop)]
+pub struct Parts<X> {
+    alloc: Global,
+    clock: u64,
+    area: Area,
+    things: Vec<Things<X>>,
+    agenda: Agenda<X>,
+    trace: Vec<Line>,
+    random: VecDeque<u32>,
+    user: i32,
+    version: u8,
+}
+
+impl<X> Model for Parts<X> {
+    ghost use Rattle.std.specs.Prelude.{◌-◌, length};
+    ghost use Rattle.std.specs.Vec.{vec_capacity};
+    ghost use Rattle.std.specs.Coded.{codes};
+    ghost use Rattle.gff_tree.specs.contracts.tree.Gff as gff;
+    ghost use Rattle.world_rows.specs.Parts.{PartsView};
+
+    ghost Value = { PartsView X };
+
+    ghost coded = { Prim.hlevel (codes, gff.the_row.coded) };
+
+    ghost view = { λ p. record {
+      world = record {
+        clock = p.clock;
+        area = p.area;
+        things = p.things.items;
+        agenda = p.agenda.waiting;
+        trace = p.trace.items;
+        random = p.random.items;
+        user = p.user;
+        version = p.version;
+      };
+      posts = p.agenda.room;
+      lines = vec_capacity p.trace - length p.trace.items;
+    } };
+}
+
+impl<X: Drop> Parts<X> {
+    /// The world of an area before anything is planned.
+    pub fn new(
+        alloc: Global,
+        area: Area,
+        random: Randoms,
+        version: u8,
+    ) -> Result<Parts<X>, NoMemory>
+        ensures world { IfOk result (λ parts. parts.world ≡ still area random version) }
+    {
+        match idle_objects(alloc, area.count()) {
+            Err(NoMemory) => {
+                drop(area);
+                drop(random);
+                Err(NoMemory)
+            }
+            Ok(things) => Ok(Parts {
+                alloc,
+                clock: 0,
+                area,
+                things,
+                agenda: Agenda::new(alloc),
+                trace: Vec::new(alloc),
+                random: VecDeque::from_vec(random.into_vec()),
+                user: 0,
+                version,
+            }),
+        }
+    }
+
+    /// The world of an area and of what was saved beside it; takes no memory.
+    pub fn from_parts(alloc: Global, area: Area, saved: WorldParts<X>) -> Parts<X>
+        ensures world { result.world ≡ put_together area saved }
+    {
+        let WorldParts {
+            clock,
+            objects,
+            agenda,
+            random,
+            version,
+        } = saved;
+        Parts {
+            alloc,
+            clock,
+            area,
+            things: objects.into_vec(),
+            agenda,
+            trace: Vec::new(alloc),
+            random: VecDeque::from_vec(random.into_vec()),
+            user: 0,
+            version,
+        }
+    }
+
+    /// The area, and what is saved beside it. After `NoMemory` all is dropped.
+    pub fn into_parts(self) -> Result<(Area, WorldParts<X>), NoMemory>
+        ensures parts { IfOk result (λ both. put_together both.0 both.1
+            ≡ record self.world { trace = []; user = pos 0 }) }
+    {
+        let Parts {
+            alloc,
+            clock,
+            area,
+            things,
+            agenda,
+            trace,
+            mut random,
+            user: _,
+            version,
+        } = self;
+        drop(trace);
+        match Randoms::of_slice(alloc, random.make_contiguous()) {
+            Err(NoMemory) => {
+                drop(area);
+                drop(things);
+                drop(agenda);
+                Err(NoMemory)
+            }
+            Ok(left) => Ok((
+                area,
+                WorldParts {
+                    clock,
+                    objects: Items::of_vec(things),
+                    agenda,
+                    random: left,
+                    version,
+                },
+            )),
+        }
+    }
+
+    /// Makes room for so many posts. After `NoMemory` there is at least the room that there was.
+    pub fn room_for_posts(&mut self, n: u32) -> Result<(), NoMemory>
+        ensures ok { OnOk result (n ≤ self.new.posts) }
+        ensures posts { self.old.posts ≤ self.new.posts }
+        ensures lines { self.new.lines ≡ self.old.lines }
+        ensures same { self.new.world ≡ self.old.world }
+    {
+        self.agenda.reserve(n)
+    }
+
+    /// Makes room for a line.
+    pub fn room_for_line(&mut self) -> Result<(), NoMemory>
+        ensures ok { OnOk result (1 ≤ self.new.lines) }
+        ensures posts { self.new.posts ≡ self.old.posts }
+        ensures lines { self.old.lines ≤ self.new.lines }
+        ensures same { self.new.world ≡ self.old.world }
+    {
+        self.trace.reserve(1)?;
+        Ok(())
+    }
+
+    /// Tells a line, at the clock's time.
+    pub fn tell(&mut self, object: u32, what: Told)
+        requires room { 1 ≤ self.old.lines }
+        ensures told { self.new ≡ record self.old {
+          world = told object what self.old.world;
+          lines = self.old.lines - 1;
+        } }
+    {
+        let clock = self.clock;
+        self.trace.push_reserved(Line {
+            clock,
+            object,
+            told: what,
+        });
+    }
+
+    /// Posts work under the next number.
+    pub fn post(&mut self, due: u64, kind: Kind<X>)
+        requires room { 1 ≤ self.old.posts }
+        requires few { self.old.world.agenda.next < 2 ^ 63 }
+        ensures posted { self.new.world ≡ post due kind self.old.world }
+        ensures posts { self.old.posts ≤ self.new.posts + 1 }
+        ensures lines { self.new.lines ≡ self.old.lines }
+    {
+        self.agenda.post(due, kind);
+    }
+
+    /// Sets an object's mark; its actions stay.
+    pub(crate) fn set_busy(&mut self, o: u32, busy: bool)
+        requires first { 1 ≤ o }
+        requires within { o ≤ length self.old.world.things }
+        ensures mark { self.new ≡ record self.old { world = with_busy o busy self.old.world } }
+    {
+        set_busy(&mut self.things, o, busy);
+    }
+
+    /// Drops an object's actions; its mark stays.
+    pub(crate) fn clear(&mut self, o: u32)
+        requires first { 1 ≤ o }
+        requires within { o ≤ length self.old.world.things }
+        ensures empty { self.new ≡ record self.old { world = with_actions o [] self.old.world } }
+    {
+        clear(&mut self.things, o);
+    }
+
+    /// Puts an action last in an object's queue. After `NoMemory` it is dropped.
+    pub(crate) fn append(&mut self, o: u32, item: Item<X>) -> Result<(), NoMemory>
+        requires first { 1 ≤ o }
+        requires within { o ≤ length self.old.world.things }
+        ensures ok { OnOk result
+            (self.new ≡ record self.old { world = with_action o item self.old.world }) }
+        ensures err { OnErr result (self.new ≡ self.old) }
+    {
+        append(&mut self.things, o, item)
+    }
+
+    /// Takes the first action off an object's queue.
+    pub(crate) fn take_head(&mut self, o: u32) -> Option<Item<X>>
+        requires first { 1 ≤ o }
+        requires within { o ≤ length self.old.world.things }
+        ensures taken { result ≡ slice_get (queue_of o self.old.world).actions 0 }
+        ensures left { self.new ≡ record self.old {
+          world = with_actions o (drop 1 (queue_of o self.old.world).actions) self.old.world;
+        } }
+    {
+        take_head(&mut self.things, o)
+    }
+
+    /// Puts an effect last on an object. After `NoMemory` it is dropped.
+    pub(crate) fn add_effect(
+        &mut self,
+        o: u32,
+        number: Option<u64>,
+        effect: Effect,
+    ) -> Result<(), NoMemory>
+        requires first { 1 ≤ o }
+        requires within { o ≤ length self.old.world.things }
+        ensures ok { OnOk result
+            (self.new ≡ record self.old { world = with_effect o number effect self.old.world }) }
+        ensures err { OnErr result (self.new ≡ self.old) }
+    {
+        add_effect(&mut self.things, o, Stood { number, effect })
+    }
+
+    /// Takes the effect at a place off an object.
+    pub(crate) fn take_effect(&mut self, o: u32, at: usize) -> Stood
+        requires first { 1 ≤ o }
+        requires within { o ≤ length self.old.world.things }
+        requires there { at < length (effects_of o self.old.world) }
+        ensures taken { slice_get (effects_of o self.old.world) at ≡ Some result }
+        ensures left { self.new ≡ record self.old {
+          world = with_effects o (remove (effects_of o self.old.world) at) self.old.world;
+        } }
+    {
+        take_effect(self.alloc, &mut self.things, o, at)
+    }
+
+    /// The effects that stand on an object.
+    pub fn effects(&self, o: u32) -> &[Stood]
+        requires first { 1 ≤ o }
+        requires within { o ≤ length self.now.world.things }
+        ensures effects { result.now ≡ effects_of o self.now.world }
+    {
+        of_object(self.things.as_slice(), o).effects.as_slice()
+    }
+
+    /// What an object is to do, and its mark.
+    pub fn queue(&self, o: u32) -> &Queue<X>
+        requires first { 1 ≤ o }
+        requires within { o ≤ length self.now.world.things }
+        ensures queue { result.now ≡ queue_of o self.now.world }
+    {
+        &of_object(self.things.as_slice(), o).queue
+    }
+
+    /// Takes the Turn of an object off the agenda; whether there was one.
+    pub(crate) fn cancel_turn(&mut self, o: u32) -> bool
+        requires one { turn_count o self.old.world.agenda.entries ≤ 1 }
+        ensures found { IsTrue result ↔ (0 < turn_count o self.old.world.agenda.entries) }
+        ensures left { self.new.world ≡ without_turn o self.old.world }
+        ensures posts { self.old.posts ≤ self.new.posts }
+        ensures lines { self.new.lines ≡ self.old.lines }
+    {
+        self.agenda.cancel_turn(o)
+    }
+
+    /// The number of the next post.
+    pub fn next_number(&self) -> u64
+        ensures next { result ≡ self.now.world.agenda.next }
+    {
+        self.agenda.next_number()
+    }
+
+    /// When the next entry is due; `None` exactly where the agenda is empty.
+    pub fn next_due(&self) -> Option<u64>
+        ensures due { result ≡ first_due self.now.world.agenda.entries }
+    {
+        self.agenda.next_due()
+    }
+
+    /// How many objects there are.
+    pub fn count(&self) -> u32
+        ensures count { result ≡ count self.now.world }
+    {
+        self.area.count()
+    }
+
+    /// Whether there is an object of this number.
+    pub fn is_valid(&self, o: u32) -> bool
+        ensures test { result ≡ is_valid o self.now.world }
+    {
+        0 < o && o <= self.count()
+    }
+
+    pub fn clock(&self) -> u64
+        ensures clock { result ≡ self.now.world.clock }
+    {
+        self.clock
+    }
+
+    pub(crate) fn user(&self) -> i32
+        ensures user { result ≡ self.now.world.user }
+    {
+        self.user
+    }
+
+    pub(crate) fn version(&self) -> u8
+        ensures version { result ≡ self.now.world.version }
+    {
+        self.version
+    }
+
+    pub fn alloc(&self) -> Global {
+        self.alloc
+    }
+
+    pub(crate) fn area(&self) -> &Area
+        ensures area { result.now ≡ self.now.world.area }
+    {
+        &self.area
+    }
+
+    /// Gives an int variable of an object a value.
+    pub(crate) fn set_int(&mut self, o: u32, name: &[u8], n: i32) -> Result<(), NoMemory>
+        requires first { 1 ≤ o }
+        requires within { o ≤ count self.old.world }
+        ensures ok { OnOk result (self.new ≡ record self.old {
+          world = with_variables o (put (IntVar name.now n)) self.old.world;
+        }) }
+        ensures err { OnErr result (self.new ≡ self.old) }
+    {
+        self.area.set_int(o, name, n)
+    }
+
+    /// Gives a string variable of an object a value.
+    pub(crate) fn set_text(&mut self, o: u32, name: &[u8], text: &[u8]) -> Result<(), NoMemory>
+        requires first { 1 ≤ o }
+        requires within { o ≤ count self.old.world }
+        ensures ok { OnOk result (self.new ≡ record self.old {
+          world = with_variables o (put (TextVar name.now text.now)) self.old.world;
+        }) }
+        ensures err { OnErr result (self.new ≡ self.old) }
+    {
+        self.area.set_text(o, name, text)
+    }
+
+    /// Takes an int variable of an object out.
+    pub(crate) fn delete_int(&mut self, o: u32, name: &[u8])
+        requires first { 1 ≤ o }
+        requires within { o ≤ count self.old.world }
+        ensures gone { self.new ≡ record self.old {
+          world = with_variables o (filter (λ v. not (is_int name.now v))) self.old.world;
+        } }
+    {
+        self.area.delete_int(o, name);
+    }
+
+    /// Takes a string variable of an object out.
+    pub(crate) fn delete_text(&mut self, o: u32, name: &[u8])
+        requires first { 1 ≤ o }
+        requires within { o ≤ count self.old.world }
+        ensures gone { self.new ≡ record self.old {
+          world = with_variables o (filter (λ v. not (is_text name.now v))) self.old.world;
+        } }
+    {
+        self.area.delete_text(o, name);
+    }
+
+    /// Takes the next of the random numbers; `None` exactly where they are used up.
+    pub(crate) fn draw(&mut self) -> Option<u32>
+        ensures drawn { result ≡ slice_get self.old.world.random 0 }
+        ensures left { self.new ≡ record self.old {
+          world = record self.old.world { random = drop 1 self.old.world.random };
+        } }
+    {
+        self.random.pop_front()
+    }
+
+    /// Takes the first entry that waits off the agenda; all else stays.
+    pub fn take_entry(&mut self) -> Option<Entry<X>>
+        ensures taken { result ≡ slice_get self.old.world.agenda.entries 0 }
+        ensures left { self.new.world
+            ≡ with_entries (drop 1 self.old.world.agenda.entries) self.old.world }
+        ensures posts { self.old.posts ≤ self.new.posts }
+    {
+        self.agenda.take()
+    }
+
+    /// Sets the clock, and the user number of the entry that runs.
+    pub(crate) fn set_now(&mut self, clock: u64, user: i32)
+        ensures now { self.new ≡ record self.old {
+          world = record self.old.world { clock = clock; user = user };
+        } }
+    {
+        self.clock = clock;
+        self.user = user;
+    }
+
+    /// The lines that are kept.
+    pub fn trace(&self) -> &[Line]
+        ensures trace { result.now ≡ self.now.world.trace }
+    {
+        self.trace.as_slice()
+    }
+
+    /// Keeps no line any more.
+    pub fn clear_trace(&mut self)
+        ensures drained { self.new.world ≡ drained self.old.world }
+        ensures posts { self.new.posts ≡ self.old.posts }
+    {
+        self.trace.clear();
+    }
+
+    /// The area; takes no memory.
+    pub fn into_area(self) -> Area
+        ensures area { result ≡ self.world.area }
+    {
+        self.area
+    }
+}

@@ -1,0 +1,137 @@
+//! The rows: what a routine of each number does.
+ghost use Rattle.std.specs.Prelude.{◌≡◌, ◌<◌, ◌≤◌, ◌+◌, ◌^◌, IfOk, OnErr, None, Some, Ok};
+ghost use Rattle.std.specs.Prelude.{IsErr, MatchResult};
+ghost use Rattle.nwq_value.specs.declared.value.Value.TheVariants as value;
+ghost use Rattle.engine_rows.specs.AlikeLaws.{call};
+ghost use Rattle.engine_rows.specs.Kept.{IsWorld};
+ghost use Rattle.engine_rows.specs.Rows.{as_int};
+ghost use Rattle.engine_rows.specs.World.{count};
+ghost use Rattle.world_rows.specs.Row.{does};
+
+use crate::args::{event_at, int_at, object_at, take_effect, take_text, text_at};
+use crate::parts::Parts;
+use action_queue::Item;
+use engine_rows::Told;
+use nwq_value::{Args, NoMemory, Text, Value};
+
+/// The answer of a routine that gives nothing.
+fn nothing(done: Result<(), NoMemory>) -> Result<Option<Value>, NoMemory>
+    ensures answer { MatchResult done (λ _. result ≡ Ok None) (λ _. IsErr result) }
+{
+    match done {
+        Ok(()) => Ok(None),
+        Err(NoMemory) => Err(NoMemory),
+    }
+}
+
+/// The answer of a routine that gives a string.
+fn string(text: Result<Text, NoMemory>) -> Result<Option<Value>, NoMemory>
+    ensures answer { MatchResult text (λ t. result ≡ Ok (Some (value.Text t))) (λ _. IsErr result) }
+{
+    match text {
+        Ok(text) => Ok(Some(Value::Text(text))),
+        Err(NoMemory) => Err(NoMemory),
+    }
+}
+
+fn as_int(test: bool) -> i32
+    ensures int { result ≡ as_int test }
+{
+    if test { 1 } else { 0 }
+}
+
+impl<X: Drop> Parts<X> {
+    /// The routine of this number in the built-in header. The room for a post and a line is there,
+    /// and all other room is taken before anything is changed.
+    #[tactic(auto, unfolding(crate::specs::Row::does))]
+    pub fn row(
+        &mut self,
+        number: u16,
+        caller: u32,
+        args: Args,
+        action: Option<X>,
+    ) -> Result<Option<Value>, NoMemory>
+        requires world { IsWorld self.old.world }
+        requires caller { caller ≤ count self.old.world }
+        requires room { 1 ≤ self.old.posts }
+        requires line { 1 ≤ self.old.lines }
+        requires few { self.old.world.agenda.next < 2 ^ 63 }
+        requires early { self.old.world.clock < 2 ^ 62 }
+        ensures ok { IfOk result (λ value. record { value = value; world = self.new.world }
+            ≡ does number (call caller args action) self.old.world) }
+        ensures err { OnErr result (self.new.world ≡ self.old.world) }
+        ensures posts { self.old.posts ≤ self.new.posts + 1 }
+    {
+        let alloc = self.alloc();
+        match number {
+            0 => Ok(Some(Value::Int(self.random(int_at(&args, 0))))),
+            1 => {
+                let text = take_text(alloc, args, 0);
+                self.tell(caller, Told::Print(Value::Text(text)));
+                Ok(None)
+            }
+            4 => {
+                self.tell(caller, Told::Print(Value::Int(int_at(&args, 0))));
+                Ok(None)
+            }
+            5 => {
+                self.tell(caller, Told::Print(Value::Object(object_at(&args, 0))));
+                Ok(None)
+            }
+            6 => {
+                self.assign(object_at(&args, 0), action);
+                Ok(None)
+            }
+            7 => {
+                self.delay(caller, int_at(&args, 0), action);
+                Ok(None)
+            }
+            9 => {
+                self.clear_all(caller);
+                Ok(None)
+            }
+            10 => nothing(self.add_do(caller, action)),
+            11 => nothing(self.add_action(caller, Item::Wait(int_at(&args, 0)))),
+            12 => {
+                let text = take_text(alloc, args, 0);
+                nothing(self.add_action(caller, Item::Speak(text)))
+            }
+            13 => {
+                let text = take_text(alloc, args, 0);
+                self.tell(caller, Told::Speak(text));
+                Ok(None)
+            }
+            14 => {
+                let object = self.area().by_tag(text_at(&args, 0), int_at(&args, 1));
+                Ok(Some(Value::Object(object)))
+            }
+            15 => string(Text::of(alloc, self.tag(object_at(&args, 0)))),
+            16 => Ok(Some(Value::Int(as_int(self.is_valid(object_at(&args, 0)))))),
+            17 => Ok(Some(Value::Int(self.get_local_int(&args)))),
+            18 => nothing(self.put_local_int(&args)),
+            19 => string(Text::of(alloc, self.get_local_text(&args))),
+            20 => nothing(self.put_local_text(&args)),
+            21 => {
+                self.drop_local_int(&args);
+                Ok(None)
+            }
+            22 => {
+                self.drop_local_text(&args);
+                Ok(None)
+            }
+            23 => {
+                let (duration, o, ms) = (int_at(&args, 0), object_at(&args, 2), int_at(&args, 3));
+                nothing(self.apply_to(duration, o, take_effect(alloc, args, 1), ms))
+            }
+            24 => {
+                let o = object_at(&args, 0);
+                self.remove_effect(o, take_effect(alloc, args, 1));
+                Ok(None)
+            }
+            38 => Ok(Some(Value::Event(int_at(&args, 0)))),
+            39 => nothing(self.signal(object_at(&args, 0), event_at(&args, 1))),
+            40 => Ok(Some(Value::Int(self.user()))),
+            _ => Ok(None),
+        }
+    }
+}
