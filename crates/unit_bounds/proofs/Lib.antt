@@ -1,2 +1,4 @@
 pub mod Walks
-pub mod Lists
+pub mod ListLaws
+pub mod NodeLaws
+pub mod StatementLaws

@@ -45,7 +45,7 @@ pub rest_step : {X : Type 0} (P : List X → ℕ → Type 0) (xs : List X) (i : 
 rest_step P xs i x o s None is lt sum one before = tt
 rest_step P xs i x None s (Some w) is lt sum one before = absurd sum
 rest_step P xs i x (Some a) None (Some w) is lt sum one before = absurd sum
-rest_step P xs i x (Some a) (Some u) (Some w) is lt sum one before v p =
+rest_step P xs i x (Some a) (Some u) (Some w) is lt sum one before = λ v p.
     let left : P (drop i xs) (u + v) = subst (λ ys. P ys (u + v)) (sym (next_left xs i x is lt)) (one (drop (i + 1) xs) v p) in
     let e : a + (u + v) ≡ w + v = omega (arith, sum) in
     subst (P xs) e (before (u + v) left)

@@ -107,7 +107,10 @@ fn statement(
         Stmt::Break { .. } => weightless(breaks),
         Stmt::Continue { .. } => weightless(continues),
         Stmt::Return { value, .. } => part(bodies, layout, value),
-        Stmt::Declaration { names: declared, .. } => names(bodies, layout, declared.as_slice()),
+        Stmt::Declaration {
+            names: declared,
+            ..
+        } => names(bodies, layout, declared.as_slice()),
         Stmt::Case { value, .. } => weightless(is_constant(value)),
         Stmt::Default { .. } => Some(0),
     }

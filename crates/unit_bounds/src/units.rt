@@ -68,7 +68,10 @@ fn item_weight(bodies: u32, layout: &Layout, item: &TypedItem) -> Option<u32>
     match item {
         Item::Struct { .. } => Some(0),
         Item::Const { .. } => Some(0),
-        Item::Global { names: declared, .. } => names(bodies, layout, declared.as_slice()),
+        Item::Global {
+            names: declared,
+            ..
+        } => names(bodies, layout, declared.as_slice()),
         Item::Function {
             parameters,
             body,

@@ -1,4 +1,4 @@
-use Rattle.unit_bounds.proofs.Lists.{Exprs}
+use Rattle.unit_bounds.proofs.ListLaws.{Exprs}
 use Rattle.unit_bounds.proofs.Walks.{Rest}
 use Rattle.unit_bounds.proofs.expressions.+expressions.Given as goal
 

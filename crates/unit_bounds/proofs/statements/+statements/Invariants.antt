@@ -1,4 +1,4 @@
-use Rattle.unit_bounds.proofs.Lists.{Stmts}
+use Rattle.unit_bounds.proofs.ListLaws.{Stmts}
 use Rattle.unit_bounds.proofs.Walks.{Rest}
 use Rattle.unit_bounds.proofs.statements.+statements.Given as goal
 

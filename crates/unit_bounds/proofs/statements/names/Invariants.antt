@@ -1,4 +1,4 @@
-use Rattle.unit_bounds.proofs.Lists.{Names}
+use Rattle.unit_bounds.proofs.ListLaws.{Names}
 use Rattle.unit_bounds.proofs.Walks.{Rest}
 use Rattle.unit_bounds.proofs.statements.names.Given as goal
 

@@ -1,4 +1,4 @@
-use Rattle.unit_bounds.proofs.Lists.{Bodies}
+use Rattle.unit_bounds.proofs.ListLaws.{Bodies}
 use Rattle.unit_bounds.proofs.Walks.{Rest}
 use Rattle.unit_bounds.proofs.units.body_count.Given as goal
 

@@ -1,4 +1,4 @@
-use Rattle.unit_bounds.proofs.Lists.{Items}
+use Rattle.unit_bounds.proofs.ListLaws.{Items}
 use Rattle.unit_bounds.proofs.Walks.{Rest}
 use Rattle.unit_bounds.proofs.units.items_weight.Given as goal
 

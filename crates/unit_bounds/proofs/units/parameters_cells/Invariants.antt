@@ -1,4 +1,4 @@
-use Rattle.unit_bounds.proofs.Lists.{Params}
+use Rattle.unit_bounds.proofs.ListLaws.{Params}
 use Rattle.unit_bounds.proofs.Walks.{Rest}
 use Rattle.unit_bounds.proofs.units.parameters_cells.Given as goal
 

@@ -32,7 +32,7 @@ pub exprs_more : (b : ℕ) (l : Layout) (x : Expression) (s : Option ℕ) → If
     → IfSome s (λ u. (ys : List Expression) (v : ℕ) → Exprs b l ys v → Exprs b l (x ∷ ys) (u + v))
 unfolding plain_all
 exprs_more b l x None one = tt
-exprs_more b l x (Some u) one ys v p = ((one.0, p.0), omega (arith, one.1, p.1))
+exprs_more b l x (Some u) one = λ ys v p. ((one.0, p.0), omega (arith, one.1, p.1))
 
 pub count_is : (xs : List Expression) (n : ℕ) → count_arguments (plain_all xs) + n ≡ length xs + n
 unfolding plain_all
@@ -47,7 +47,7 @@ Names b l xs w = NamesWeigh b l (typed_names xs) w
 pub names_more : (b : ℕ) (l : Layout) (x : DeclaredName Expression Variable) (s : Option ℕ) → IfSome s (NamesWeigh b l (typed_name x ∷ []))
     → IfSome s (λ u. (ys : List (DeclaredName Expression Variable)) (v : ℕ) → Names b l ys v → Names b l (x ∷ ys) (u + v))
 names_more b l x None one = tt
-names_more b l x (Some u) one ys v p = ((one.0.0, one.0.1, p.0), omega (arith, one.1, p.1))
+names_more b l x (Some u) one = λ ys v p. ((one.0.0, one.0.1, p.0), omega (arith, one.1, p.1))
 
 -- ---- statements
 
@@ -61,7 +61,7 @@ stmts_nothing b l breaks continues = (tt, refl)
 pub stmts_added : (b : ℕ) (l : Layout) (breaks continues : Bool) (x : Stmt Expression Const Ty Variable) (s : Option ℕ) → IfSome s (StmtWeighs b l breaks continues (typed_stmt x))
     → IfSome s (λ u. (ys : List (Stmt Expression Const Ty Variable)) (v : ℕ) → Stmts b l breaks continues ys v → Stmts b l breaks continues (x ∷ ys) (u + v))
 stmts_added b l breaks continues x None one = tt
-stmts_added b l breaks continues x (Some u) one ys v p =
+stmts_added b l breaks continues x (Some u) one = λ ys v p.
     subst (λ t. StmtsWeigh b l breaks continues (map_stmts plain t) (u + v)) (sym (stmts_more x ys)) ((one.0, p.0), omega (arith, one.1, p.1))
 
 -- ---- parameters and items
@@ -72,7 +72,7 @@ Params structs xs n = n ≡ params_cells structs xs
 pub params_more : (structs : Structs) (x : TypedParameter) (s : Option ℕ) → IfSome s (λ n. n ≡ cells structs x.ty)
     → IfSome s (λ u. (ys : List TypedParameter) (v : ℕ) → Params structs ys v → Params structs (x ∷ ys) (u + v))
 params_more structs x None one = tt
-params_more structs x (Some u) one ys v p = omega (arith, one, p)
+params_more structs x (Some u) one = λ ys v p. omega (arith, one, p)
 
 abbrev pub Items : ℕ → Layout → List (Item Expression Const Ty Variable) → ℕ → Type 0
 Items b l xs w = ItemsWeigh b l (typed_items xs) w
@@ -81,7 +81,11 @@ pub items_more : (b : ℕ) (l : Layout) (x : Item Expression Const Ty Variable) 
     → IfSome s (λ u. (rest : List TypedItem) (v : ℕ) → ItemsWeigh b l rest v → ItemsWeigh b l (typed_item x ∷ rest) (u + v))
     → IfSome s (λ u. (ys : List (Item Expression Const Ty Variable)) (v : ℕ) → Items b l ys v → Items b l (x ∷ ys) (u + v))
 items_more b l x None one = tt
-items_more b l x (Some u) one ys v p = one (typed_items ys) v p
+items_more b l x (Some u) one = λ ys v p. one (typed_items ys) v p
 
 abbrev pub Bodies : List (Item Expression Const Ty Variable) → ℕ → Type 0
 Bodies xs n = n ≡ body_count (typed_items xs)
+
+pub bodies_more : (x : Item Expression Const Ty Variable) (n : ℕ) → ((rest : List TypedItem) → body_count (typed_item x ∷ rest) ≡ n + body_count rest)
+    → (ys : List (Item Expression Const Ty Variable)) (v : ℕ) → Bodies ys v → Bodies (x ∷ ys) (n + v)
+bodies_more x n one ys v p = omega (arith, one (typed_items ys), p)
