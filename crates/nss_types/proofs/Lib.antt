@@ -5,3 +5,4 @@ pub mod RowLemmas
 pub mod NameRows
 pub mod Judged
 pub mod StatementRows
+pub mod SameSight

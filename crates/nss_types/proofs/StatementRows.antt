@@ -20,6 +20,7 @@ use Rattle.nss_typing.specs.Sight.{Head, Sight}
 use Rattle.nss_typing.specs.Typed.{TypedStmts}
 use Rattle.nss_typing.specs.UnitReading.{typed_stmt, typed_stmts}
 use Rattle.nss_typing.specs.Verdicts.{after, afters, one_more_stmt, stmt_faults, stmt_verdict, stmts_faults, stmts_fine}
+use Rattle.nss_scopes.specs.declared.sight.Mark.{Mark}
 use Rattle.nss_scopes.specs.declared.sight.Sight.{Sight as Held}
 use Rattle.nss_scopes.specs.Views.{in_sight, left_by, mark_of}
 use Rattle.nss_types.specs.Rows.{and_one, stmts_with_rest}
@@ -88,3 +89,11 @@ left_is first t c d e a names structs seen table adds is =
     let h : d.seen ≡ c.seen = ap (λ x. x.seen) is ∙ (ap (λ x. x.seen) adds.others ∙ seen) in
     let n : d.next ≡ a.next = ap (λ x. x.next) is in
     rw (kept, s, h, n) refl
+
+pub scope_left : (first : NamesStandFirst) (t : EngineTable) (c d l : Held) (m : Mark) (e a : Sight) → e.names ≡ c.names → e.structs ≡ c.structs → e.seen ≡ c.seen → e.table ≡ t
+    → OnlyAdds e a → l ≡ left_by m d → m ≡ mark_of c → in_sight t d ≡ a → in_sight t l ≡ record (in_sight t c) { next = a.next }
+scope_left first t c d l m e a names structs seen table adds leave mark is =
+    ap (in_sight t) (leave ∙ ap (λ k. left_by k d) mark) ∙ left_is first t c d e a names structs seen table adds is
+
+pub stmts_first : (first : List (Stmt Expression Const Ty Variable)) (rest : Option TypedStmts) → first ≡ [] → stmts_with_rest (Some (typed_stmts first)) rest ≡ rest
+stmts_first first rest is = ap (λ xs. stmts_with_rest (Some (typed_stmts xs)) rest) is ∙ stmts_begin rest
