@@ -2,3 +2,4 @@ pub mod Views
 pub mod Arguments
 pub mod Rows
 pub mod Faults
+pub mod Returns

@@ -9,6 +9,8 @@ pub mod constant;
 pub mod declared;
 #[tactic(auto, using(nss_tree::specs::Readings::plain_cases, crate::proofs::Faults::kept_append))]
 pub mod expression;
+#[tactic(auto, using(crate::proofs::Faults::kept_append))]
+pub mod function;
 pub mod given;
 pub mod judge;
 #[tactic(auto, using(crate::proofs::Faults::kept_append))]
@@ -18,6 +20,10 @@ pub mod known;
 pub mod label;
 pub mod line;
 pub mod note;
+#[tactic(auto, using(crate::proofs::Faults::kept_append))]
+pub mod parameter;
+#[tactic(auto, using(nss_tree::specs::Readings::plain_cases))]
+pub mod returns;
 pub mod row;
 pub mod rules;
 #[tactic(auto, using(crate::proofs::Faults::kept_append))]
