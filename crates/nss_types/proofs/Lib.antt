@@ -8,3 +8,5 @@ pub mod StatementRows
 pub mod SameSight
 pub mod ReturnLemmas
 pub mod ParameterRows
+pub mod FunctionLemmas
+pub mod FieldRows

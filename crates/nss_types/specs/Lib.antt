@@ -3,3 +3,4 @@ pub mod Arguments
 pub mod Rows
 pub mod Faults
 pub mod Returns
+pub mod Fields

@@ -1,6 +1,6 @@
 //! Functions, with their heads and bodies.
 
-ghost use Rattle.std.specs.Prelude.{◌≡◌, ◌++◌, ◌∷◌, ◌&&◌, [], not, IfOk, OnOk, Some, is_some};
+ghost use Rattle.std.specs.Prelude.{◌≡◌, ◌++◌, ◌∷◌, ◌&&◌, [], false, not, IfOk, OnOk, Some, is_some};
 ghost use Rattle.std.specs.Option.{option_map};
 ghost use Rattle.nss_tree.specs.Reading.{plain_stmts};
 ghost use Rattle.nss_tree.specs.Units as unit;
@@ -11,11 +11,11 @@ ghost use Rattle.nss_typing.specs.Rules.{agrees, function_rows, function_rule, g
 ghost use Rattle.nss_typing.specs.Rules.{head_rule, is_missing, is_refused, may_declare};
 ghost use Rattle.nss_typing.specs.Rules.{params_of, same_types};
 ghost use Rattle.nss_typing.specs.Rules as rules;
-ghost use Rattle.nss_typing.specs.Sight.{first_types};
+ghost use Rattle.nss_typing.specs.Sight.{first_types, has_body};
 ghost use Rattle.nss_typing.specs.Types.{is_void};
 ghost use Rattle.nss_typing.specs.UnitReading.{typed_item, typed_stmts};
-ghost use Rattle.nss_typing.specs.Verdicts.{after_body, body_faults, body_fine, head, head_faults};
-ghost use Rattle.nss_typing.specs.Verdicts.{head_verdict, in_body, in_function, function_verdict};
+ghost use Rattle.nss_typing.specs.Verdicts.{after_body, after_params, body_faults, body_fine};
+ghost use Rattle.nss_typing.specs.Verdicts.{params_faults, params_fine};
 ghost use Rattle.nss_typing.specs.Verdicts.{after_item, item_faults, item_fine};
 ghost use Rattle.nss_scopes.specs.Entries.{head_of, meant_of, signature_of};
 ghost use Rattle.nss_scopes.specs.Views.{in_sight};
@@ -310,5 +310,178 @@ fn body_there(
             Some(xs) => Ok(Some(Some(xs))),
             None => Ok(None),
         },
+    }
+}
+
+/// What a function is walked to, while its scope is still there.
+#[derive(Drop)]
+pub struct FunctionParts {
+    pub head: Option<TypedHead>,
+    pub declared: Head,
+    pub body: Option<Option<Items<TypedStmt>>>,
+}
+
+/// What is known of a function before its scope begins.
+#[derive(Clone, Copy)]
+pub struct Outside {
+    pub meant: Option<Meant>,
+    pub is_taken: bool,
+    pub is_second: bool,
+}
+
+/// The parameters, the head and the body of a function, in the scope that begins with them.
+fn parts(
+    given: &Given<'_>,
+    c: &mut Sight,
+    least: &mut Option<Fault>,
+    token: u32,
+    name: &Text,
+    outside: Outside,
+    ps: &[Parameter],
+    body: &Option<Items<Stmt>>,
+) -> Result<FunctionParts, NoMemory>
+    ensures head { IfOk result (λ r. option_map typed_head r.head ≡ fine (asked head_rows
+        (head_rule_by outside.is_taken outside.is_second)
+        (three (params_fine (sight_in given.now c.old) false ps.now)
+        (option_map meant_of outside.meant) (first_types name.now c.old.seen)))) }
+    ensures declared { IfOk result (λ r. head_of r.declared ≡ record {
+      called = name.now;
+      types = option_map rules.signature_of (option_map typed_head r.head);
+      has_body = is_some body.now;
+    }) }
+    ensures body { IfOk result (λ r. option_map (option_map typed_stmts) r.body
+        ≡ body_fine (heads_in given.now) (after_params (sight_in given.now c.old) ps.now)
+        (option_map plain_stmts body.now)) }
+    ensures least { OnOk result (least.new ≡ kept (kept (kept least.old
+        (params_faults (sight_in given.now c.old) false ps.now)) (at token (asked head_rows
+        (head_rule_by outside.is_taken outside.is_second)
+        (three (params_fine (sight_in given.now c.old) false ps.now)
+        (option_map meant_of outside.meant) (first_types name.now c.old.seen)))))
+        (body_faults (heads_in given.now) (after_params (sight_in given.now c.old) ps.now)
+        (option_map plain_stmts body.now))) }
+    ensures sight { OnOk result (sight_in given.now c.new
+        ≡ after_body (after_params (sight_in given.now c.old) ps.now)
+        (option_map plain_stmts body.now)) }
+{
+    scopes_only_add();
+    let alloc = given.alloc;
+    let params = parameters(alloc, given.table, c, least, ps)?;
+    let first = first_types(&c.seen, name.bytes());
+    let (is_taken, is_second) = (outside.is_taken, outside.is_second);
+    let head = judge_head(
+        least,
+        token,
+        params,
+        outside.meant,
+        first,
+        is_taken,
+        is_second,
+    );
+    match declaration(alloc, name, &head, body.is_some()) {
+        Ok(declared) => match body_there(given, c, least, body) {
+            Ok(body) => Ok(FunctionParts {
+                head,
+                declared,
+                body,
+            }),
+            Err(error) => {
+                drop(head);
+                drop(declared);
+                Err(error)
+            }
+        },
+        Err(error) => {
+            drop(head);
+            Err(error)
+        }
+    }
+}
+
+/// Whether a body is the second one of its function.
+fn is_second(with_body: bool, seen: &Heads, name: &[u8]) -> bool
+    ensures { result ≡ (with_body && has_body name.now seen.now) }
+{
+    if with_body {
+        seen.has_body(name)
+    } else {
+        false
+    }
+}
+
+/// A function; its declaration is seen behind it.
+pub fn function(
+    given: &Given<'_>,
+    c: &mut Sight,
+    least: &mut Option<Fault>,
+    token: u32,
+    ty: &TypeName,
+    name: &Text,
+    ps: &[Parameter],
+    body: &Option<Items<Stmt>>,
+) -> Result<Option<TypedItem>, NoMemory>
+    ensures value { IfOk result (λ r. option_map typed_item r
+        ≡ item_fine (heads_in given.now) (sight_in given.now c.old)
+        (unit.function token ty.now name.now ps.now (option_map plain_stmts body.now))) }
+    ensures least { OnOk result (least.new ≡ kept least.old
+        (item_faults (heads_in given.now) (sight_in given.now c.old)
+        (unit.function token ty.now name.now ps.now (option_map plain_stmts body.now)))) }
+    ensures sight { OnOk result (sight_in given.now c.new ≡ after_item (sight_in given.now c.old)
+        (unit.function token ty.now name.now ps.now (option_map plain_stmts body.now))) }
+{
+    scopes_only_add();
+    let alloc = given.alloc;
+    let outside = Outside {
+        meant: type_means(&c.structs, ty),
+        is_taken: c.is_taken_by_other(given.table, name.bytes()),
+        is_second: is_second(body.is_some(), &c.seen, name.bytes()),
+    };
+    let copied = name.copy(alloc)?;
+    let ty = result_type(&c.structs, ty);
+    let mark = c.begin(ty);
+    let walked = parts(given, c, least, token, name, outside, ps, body);
+    c.leave(mark);
+    match walked {
+        Ok(walked) => close(alloc, c, least, token, copied, walked),
+        Err(error) => {
+            drop(copied);
+            Err(error)
+        }
+    }
+}
+
+/// A function whose scope is left.
+fn close(
+    alloc: Global,
+    c: &mut Sight,
+    least: &mut Option<Fault>,
+    token: u32,
+    name: Text,
+    walked: FunctionParts,
+) -> Result<Option<TypedItem>, NoMemory>
+    ensures value { IfOk result (λ r. option_map typed_item r
+        ≡ fine (asked function_rows (function_rule token name)
+        (two (option_map typed_head walked.head)
+        (option_map (option_map typed_stmts) walked.body)))) }
+    ensures least { OnOk result (least.new ≡ kept least.old (at token
+        (asked function_rows (function_rule token name)
+        (two (option_map typed_head walked.head)
+        (option_map (option_map typed_stmts) walked.body))))) }
+    ensures sight { OnOk result (c.new ≡ record c.old {
+      seen = c.old.seen ++ head_of walked.declared ∷ [];
+    }) }
+{
+    let FunctionParts {
+        head,
+        declared,
+        body,
+    } = walked;
+    match c.seen.push(alloc, declared) {
+        Ok(()) => Ok(judge_function(least, token, name, head, body)),
+        Err(error) => {
+            drop(name);
+            drop(head);
+            drop(body);
+            Err(error)
+        }
     }
 }

@@ -10,6 +10,8 @@ pub mod declared;
 #[tactic(auto, using(nss_tree::specs::Readings::plain_cases, crate::proofs::Faults::kept_append))]
 pub mod expression;
 #[tactic(auto, using(crate::proofs::Faults::kept_append))]
+pub mod field;
+#[tactic(auto, using(crate::proofs::Faults::kept_append))]
 pub mod function;
 pub mod given;
 pub mod judge;
