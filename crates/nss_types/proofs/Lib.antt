@@ -10,3 +10,4 @@ pub mod ReturnLemmas
 pub mod ParameterRows
 pub mod FunctionLemmas
 pub mod FieldRows
+pub mod ItemRows

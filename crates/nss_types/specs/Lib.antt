@@ -4,3 +4,4 @@ pub mod Rows
 pub mod Faults
 pub mod Returns
 pub mod Fields
+pub mod Answers

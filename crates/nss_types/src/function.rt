@@ -77,7 +77,7 @@ fn agrees(first: Option<&Signature>, head: &TypedHead) -> bool
 
 /// The types of the first declaration of a function, maybe no declaration; `None` where it isn't
 /// typed.
-fn first_types<'a>(seen: &'a Heads, name: &[u8]) -> Option<Option<&'a Signature>>
+pub fn first_types<'a>(seen: &'a Heads, name: &[u8]) -> Option<Option<&'a Signature>>
     ensures { option_map (option_map (λ s. signature_of s.now)) result
         ≡ first_types name.now seen.now }
 {

@@ -7,6 +7,7 @@ pub mod called;
 pub mod constant;
 #[tactic(auto, using(crate::proofs::Faults::kept_append))]
 pub mod declared;
+pub mod entry;
 #[tactic(auto, using(nss_tree::specs::Readings::plain_cases, crate::proofs::Faults::kept_append))]
 pub mod expression;
 #[tactic(auto, using(crate::proofs::Faults::kept_append))]
@@ -14,6 +15,8 @@ pub mod field;
 #[tactic(auto, using(crate::proofs::Faults::kept_append))]
 pub mod function;
 pub mod given;
+#[tactic(auto, using(crate::proofs::Faults::kept_append))]
+pub mod item;
 pub mod judge;
 #[tactic(auto, using(crate::proofs::Faults::kept_append))]
 pub mod judge_statement;
@@ -30,5 +33,7 @@ pub mod row;
 pub mod rules;
 #[tactic(auto, using(crate::proofs::Faults::kept_append))]
 pub mod statement;
+pub mod unit;
 
 pub use given::Given;
+pub use unit::{TypeFault, type_unit};
