@@ -11,3 +11,4 @@ pub mod ParameterRows
 pub mod FunctionLemmas
 pub mod FieldRows
 pub mod ItemRows
+pub mod UnitLemmas
