@@ -4,7 +4,7 @@ use Rattle.std.specs.Option.{IfSome}
 use Rattle.nss_tree.specs.declared.statements.DeclaredName.{DeclaredName}
 use Rattle.nss_tree.specs.declared.statements.Stmt.{Stmt}
 use Rattle.nss_tree.specs.declared.units.Item.{Item}
-use Rattle.nss_tree.specs.Readings.{stmts_more, stmts_none}
+use Rattle.nss_tree.specs.Readings.{stmts_more}
 use Rattle.nss_tree.specs.Reading.{tree_of_stmts}
 use Rattle.nss_tree.specs.Statements.{map_stmts}
 use Rattle.nwq_value.specs.declared.value.Ty.{Ty}

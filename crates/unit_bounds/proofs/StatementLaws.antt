@@ -1,11 +1,11 @@
 -- The weight of each statement by those of its parts, where `break` may stand in it (i) and `continue` (j).
-use Rattle.std.proofs.Common.{◌≡◌, ◌+◌, ℕ, Bool, true, List, [], ◌∷◌, Option, Some, None, arith, ap, sym, refl, ◌∙◌, subst}
+use Rattle.std.proofs.Common.{◌≡◌, ◌+◌, ℕ, Bool, true, List, Option, Some, None, arith, ap, sym, refl, ◌∙◌, subst}
 use Rattle.std.specs.Prelude.{IsTrue}
 use Rattle.std.specs.Option.{IfSome, option_map}
 use Rattle.nss_tree.specs.declared.statements.DeclaredName.{DeclaredName}
 use Rattle.nss_tree.specs.declared.statements.Stmt.{Stmt}
 use Rattle.nss_tree.specs.Reading.{tree_of_stmt, tree_of_stmts}
-use Rattle.nss_tree.specs.Statements.{PlainStmt, map_stmt, block, empty, expression, if_only, if_else, while_loop, do_loop, for_loop, switch, break_off, continue_on, return_from, declaration, case_label, default_label}
+use Rattle.nss_tree.specs.Statements.{PlainStmt, map_stmt, block, expression, if_only, if_else, while_loop, do_loop, for_loop, switch, return_from, declaration}
 use Rattle.nwq_value.specs.declared.value.Ty.{Ty}
 use Rattle.nwq_value.specs.declared.engine.Const.{Const}
 use Rattle.nss_typing.specs.declared.expressions.Expression.{Expression}
@@ -13,7 +13,7 @@ use Rattle.nss_typing.specs.declared.places.Variable.{Variable}
 use Rattle.nss_typing.specs.Reading.{plain}
 use Rattle.nss_typing.specs.Typed.{TypedStmt}
 use Rattle.nss_typing.specs.UnitReading.{typed_names, typed_stmt, typed_stmts}
-use Rattle.code_emission.specs.Bounds.{IsConstant, IsExpr, IsSome, IsStmt, some_weight, stmt_weight, weight}
+use Rattle.code_emission.specs.Bounds.{IsExpr, IsSome, IsStmt, some_weight, stmt_weight, weight}
 use Rattle.code_emission.specs.Layout.{Layout}
 use Rattle.unit_bounds.specs.Weights.{IsSum, NamesWeigh, PartWeighs, StmtWeighs, StmtsWeigh, Weighs}
 use Rattle.unit_bounds.proofs.Walks.{both}

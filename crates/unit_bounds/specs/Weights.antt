@@ -1,5 +1,5 @@
 -- What keeps the bounds, with how much it weighs.
-use Rattle.std.specs.Prelude.{◌≡◌, ◌+◌, ℕ, Bool, List, Option, None, Some}
+use Rattle.std.specs.Prelude.{◌≡◌, ◌+◌, ℕ, Bool, List, Option, Some}
 use Rattle.nss_typing.specs.Typed.{TypedExpr, TypedExprs, TypedItem, TypedName, TypedStmt, TypedStmts}
 use Rattle.code_emission.specs.Layout.{Layout}
 use Rattle.code_emission.specs.Bounds.{weight, all_weight, some_weight, names_weight, stmt_weight, all_stmt_weight, globals_weight, IsExpr, AreExprs, IsSome, AreNames, IsStmt, AreStmts, AreItems}
