@@ -1,11 +1,9 @@
 -- What the calls on a world speak of beside the definitions of engine_rows.
-use Rattle.std.specs.Prelude.{◌≡◌, ◌<◌, ◌^◌, ℕ, List, [], ◌∷◌, Option, None, Some, map, slice_get}
-use Rattle.delay_agenda.specs.declared.entry.Entry.{Entry}
-use Rattle.hook_table.specs.Known.{Known}
-use Rattle.hook_table.specs.Standard.{AreStandard, cell_function, types_of}
+use Rattle.std.specs.Prelude.{◌≡◌, ◌<◌, ◌^◌, ℕ, List, [], ◌∷◌, Option, None, Some, slice_get}
+use Rattle.hook_table.specs.declared.hook.Known.{Known}
+use Rattle.hook_table.specs.Served.{AreStandard}
+use Rattle.hook_table.specs.Standard.{cell_function, types_of}
 use Rattle.nwq_value.specs.Engine.{EngineTable}
-use Rattle.nwq_value.specs.declared.engine.Role.{Role}
-use Rattle.nwq_value.specs.declared.engine.Role.TheVariants.{Pure}
 use Rattle.nwq_value.specs.declared.engine.Routine.{Routine}
 use Rattle.nwq_value.specs.declared.value.Value.{Value}
 use Rattle.stack_shape.specs.Calls.{argument_types}
@@ -13,8 +11,8 @@ use Rattle.table_2da.specs.Look.{cell_of}
 use Rattle.table_2da.specs.declared.tables.Named.{Named}
 use Rattle.engine_rows.specs.Pure.{CellLookup}
 use Rattle.engine_rows.specs.World.{World}
-use Rattle.engine_rows.specs.Turns.{Planned, Begun, begin}
-use Rattle.world_core.specs.declared.world.Start.{Start}
+use Rattle.engine_rows.specs.Turns.{Planned}
+use Rattle.world_core.specs.declared.start.Start.{Start}
 
 -- ---- events and starts of a plan
 
@@ -48,10 +46,3 @@ FitArguments table n values = (r : Routine) → slice_get table.routines n ≡ S
 pub record IsEarly {X : Type 0} (w : World X) : Type 0 where
   pub clock : w.clock < 2 ^ 62
   pub next : w.agenda.next < 2 ^ 63
-
--- ---- the next entry
-
--- What was begun of a world until a time: the entry, and the world in which it runs, or none, and the world as it was.
-abbrev pub IsBegunAs : {X : Type 0} → ℕ → World X → Option (Entry X) → World X → Type 0
-IsBegunAs until w None v = (begin until w ≡ None) × (v ≡ w)
-IsBegunAs until w (Some e) v = begin until w ≡ Some (record { entry = e; world = v })

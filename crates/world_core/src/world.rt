@@ -2,9 +2,8 @@
 ghost use Rattle.std.specs.Prelude.{◌≡◌, ◌<◌, ◌≤◌, ◌+◌, ◌^◌, ◌++◌, [], drop, length, map, slice_get};
 ghost use Rattle.std.specs.Prelude.{IfOk, IfSome, OnOk, OnErr, IsTrue, Some};
 ghost use Rattle.std.specs.List.{AllByRecursion};
-ghost use Rattle.std.specs.Option.{option_copied};
+ghost use Rattle.std.specs.Option.{option_copied, option_map};
 ghost use Rattle.delay_agenda.specs.Order.{first_due};
-ghost use Rattle.engine_rows.specs.Alike.{};
 ghost use Rattle.engine_rows.specs.AlikeLaws.{call};
 ghost use Rattle.engine_rows.specs.Engine.{engine, may_run, no_script, too_deep};
 ghost use Rattle.engine_rows.specs.Kept.{IsActing, IsWorld};
@@ -12,28 +11,21 @@ ghost use Rattle.engine_rows.specs.Trace.{trace_text};
 ghost use Rattle.engine_rows.specs.Turns.{new_world, turn, turn_done, unapply, fault, drained};
 ghost use Rattle.engine_rows.specs.Turns.{with_entries};
 ghost use Rattle.engine_rows.specs.World.{count, effects_of, queue_of};
-ghost use Rattle.world_core.specs.Calls.{planned, cells_of, AreServing, FitArguments, IsBegunAs};
-ghost use Rattle.world_core.specs.Calls.{IsEarly};
+ghost use Rattle.world_core.specs.Calls.{planned, cells_of, AreServing, FitArguments, IsEarly};
+ghost use Rattle.world_rows.specs.Begun.{IsBegunAs};
 
 use action_queue::Item;
 use area_tree::Area;
-use delay_agenda::Entry;
+use delay_agenda::{Entry, calls_keep_order};
+use engine_rows::{Told, calls_keep_worlds, entries_keep_worlds};
 use hook_table::Hooks;
-use nwq_value::{Args, Effect, Items, NoMemory, Randoms, Table, Text, Value};
+use nwq_value::{Args, Effect, NoMemory, Randoms, Table, Text, Value};
+use crate::engine::{by_role, take_room};
+use crate::start::{Events, post_all};
+use crate::trace::put_trace;
 use std::alloc::Global;
 use std::marker::Model;
 use world_rows::Parts;
-
-/// An event or a start of a plan: when it is due, its object, and the name of its script.
-#[derive(Drop)]
-pub struct Start {
-    pub due: u64,
-    pub object: u32,
-    pub script: Text,
-}
-
-/// The events and starts of a plan, in order.
-pub type Events = Items<Start>;
 
 /// The world in which scripts run.
 ///
@@ -70,12 +62,25 @@ impl<X: Drop> World<X> {
         events: &Events,
         version: u8,
     ) -> Result<World<X>, NoMemory>
-        requires objects { AllByRecursion (λ s. s.object ≤ length area.objects) events.now }
+        requires objects { AllByRecursion (λ p. p.object ≤ length area.objects)
+            (map planned events.now) }
         ensures world { IfOk result
             (λ w. w.world ≡ new_world area random (map planned events.now) version) }
     {
+        calls_keep_worlds::<X>();
+        match Parts::new(alloc, area, random, version) {
+            Err(NoMemory) => Err(NoMemory),
+            Ok(mut parts) => match post_all(&mut parts, events.as_slice()) {
+                Err(NoMemory) => {
+                    drop(parts);
+                    Err(NoMemory)
+                }
+                Ok(()) => Ok(World { parts, room: 0 }),
+            },
+        }
     }
 
+    #[tactic(auto, unfolding(engine_rows::specs::Engine::engine))]
     /// The call of a routine: what it gives, and how it leaves the world, is the routine's row.
     pub fn engine(
         &mut self,
@@ -88,14 +93,26 @@ impl<X: Drop> World<X> {
     ) -> Result<Option<Value>, NoMemory>
         requires early { IsEarly self.old.world }
         requires caller { caller ≤ count self.old.world }
-        requires hooks { AreServing hooks.now.all.items }
+        requires hooks { AreServing (map (λ h. h.known) hooks.now.all.items) }
         requires types { FitArguments table.now routine args }
         ensures ok { IfOk result (λ value. record { value = value; world = self.new.world }
-            ≡ engine table.now (cells_of hooks.now.all.items) routine (call caller args action)
-                self.old.world) }
+            ≡ engine table.now (cells_of (map (λ h. h.known) hooks.now.all.items)) routine
+                (call caller args action) self.old.world) }
         ensures err { OnErr result (self.new.world ≡ self.old.world) }
         ensures room { self.old.room ≤ self.new.room }
     {
+        calls_keep_worlds::<X>();
+        match table.routine(routine) {
+            None => {
+                drop(args);
+                drop(action);
+                Ok(None)
+            }
+            Some(found) => {
+                let room = self.room;
+                by_role(&mut self.parts, room, hooks, routine, found, caller, args, action)
+            }
+        }
     }
 
     /// Takes the next entry that is due by a time, sets the clock to when it is due, and makes room
@@ -106,6 +123,11 @@ impl<X: Drop> World<X> {
         ensures err { OnErr result (self.new.world ≡ self.old.world) }
         ensures room { self.old.room ≤ self.new.room }
     {
+        entries_keep_worlds::<X>();
+        take_room(&mut self.parts, self.room)?;
+        let entry = self.parts.begin(until);
+        self.room = 1;
+        Ok(entry)
     }
 
     /// The object turns to its next action: a stored one is the answer, and the Turn is done after
@@ -120,6 +142,9 @@ impl<X: Drop> World<X> {
         ensures err { OnErr result (self.new.world ≡ self.old.world) }
         ensures room { self.old.room ≤ self.new.room }
     {
+        entries_keep_worlds::<X>();
+        take_room(&mut self.parts, self.room)?;
+        Ok(self.parts.turn(object))
     }
 
     /// The Turn is done, after its stored action: the object turns to the next one, or rests. It
@@ -132,6 +157,9 @@ impl<X: Drop> World<X> {
         requires room { 1 ≤ self.old.room }
         ensures done { self.new.world ≡ turn_done object self.old.world }
     {
+        entries_keep_worlds::<X>();
+        self.parts.turn_done(object);
+        self.room = 0;
     }
 
     /// The effect of this number ends, where it still stands on the object.
@@ -142,6 +170,10 @@ impl<X: Drop> World<X> {
         ensures err { OnErr result (self.new.world ≡ self.old.world) }
         ensures room { self.old.room ≤ self.new.room }
     {
+        entries_keep_worlds::<X>();
+        self.parts.room_for_line()?;
+        self.parts.unapply(object, number);
+        Ok(())
     }
 
     /// A division by zero ended the entry, in a script of this object.
@@ -150,6 +182,10 @@ impl<X: Drop> World<X> {
         ensures err { OnErr result (self.new.world ≡ self.old.world) }
         ensures room { self.old.room ≤ self.new.room }
     {
+        entries_keep_worlds::<X>();
+        self.parts.room_for_line()?;
+        self.parts.tell(object, Told::Divide);
+        Ok(())
     }
 
     /// The script of this name, which was to run as this object, isn't listed.
@@ -158,6 +194,11 @@ impl<X: Drop> World<X> {
         ensures err { OnErr result (self.new.world ≡ self.old.world) }
         ensures room { self.old.room ≤ self.new.room }
     {
+        calls_keep_worlds::<X>();
+        let name = name.copy(self.parts.alloc())?;
+        self.parts.room_for_line()?;
+        self.parts.tell(object, Told::NoScript(name));
+        Ok(())
     }
 
     /// The script of this name, which was to run as this object, would run too deep.
@@ -166,12 +207,18 @@ impl<X: Drop> World<X> {
         ensures err { OnErr result (self.new.world ≡ self.old.world) }
         ensures room { self.old.room ≤ self.new.room }
     {
+        calls_keep_worlds::<X>();
+        let name = name.copy(self.parts.alloc())?;
+        self.parts.room_for_line()?;
+        self.parts.tell(object, Told::Deep(name));
+        Ok(())
     }
 
     /// Whether a script of this caller may run another one on the target, which may be any number.
     pub fn may_run(&self, caller: u32, target: u32) -> bool
         ensures test { result ≡ may_run caller target self.now.world }
     {
+        self.parts.is_valid(target) || target == caller
     }
 
     /// Appends the text of the lines that are kept, and keeps none.
@@ -183,23 +230,30 @@ impl<X: Drop> World<X> {
         ensures kept { OnErr result (self.new.world ≡ self.old.world) }
         ensures room { self.old.room ≤ self.new.room }
     {
+        entries_keep_worlds::<X>();
+        put_trace(out, self.parts.trace())?;
+        self.parts.clear_trace();
+        Ok(())
     }
 
     pub fn clock(&self) -> u64
         ensures clock { result ≡ self.now.world.clock }
     {
+        self.parts.clock()
     }
 
     /// When the next entry is due; `None` exactly where the agenda is empty.
     pub fn next_due(&self) -> Option<u64>
         ensures due { result ≡ first_due self.now.world.agenda.entries }
     {
+        self.parts.next_due()
     }
 
     /// How many objects there are.
     pub fn count(&self) -> u32
         ensures count { result ≡ count self.now.world }
     {
+        self.parts.count()
     }
 
     /// The effect that stands on an object at place `i`, counted from 0.
@@ -209,6 +263,10 @@ impl<X: Drop> World<X> {
         ensures effect { option_copied result
             ≡ option_map (λ s. s.effect) (slice_get (effects_of o self.now.world) i) }
     {
+        match self.parts.effects(o).get(i) {
+            None => None,
+            Some(stood) => Some(&stood.effect),
+        }
     }
 
     /// The action of an object at place `i` of its queue, counted from 0.
@@ -217,6 +275,7 @@ impl<X: Drop> World<X> {
         requires within { o ≤ count self.now.world }
         ensures item { option_copied result ≡ slice_get (queue_of o self.now.world).actions i }
     {
+        self.parts.queue(o).at(i)
     }
 
     /// Takes the agenda's first entry off; all else stays, the clock too.
@@ -225,18 +284,22 @@ impl<X: Drop> World<X> {
         ensures left { self.new.world
             ≡ with_entries (drop 1 self.old.world.agenda.entries) self.old.world }
     {
+        calls_keep_order::<X>();
+        self.parts.take_entry()
     }
 
     /// The area; takes no memory.
     pub fn into_area(self) -> Area
         ensures area { result ≡ self.world.area }
     {
+        let World { parts, room: _ } = self;
+        parts.into_area()
     }
 
     /// What every world keeps.
     pub fn keeps(&self)
         ensures kept { IsWorld self.now.world }
     {
-        let _ = self.room;
+        let _ = &self.parts;
     }
 }

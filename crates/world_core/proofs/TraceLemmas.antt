@@ -1,0 +1,13 @@
+-- The trace's text, line by line.
+use Rattle.std.proofs.Common.{◌≡◌, ℕ, ◌+◌, ◌<◌, List, [], ◌∷◌, ◌++◌, length, get_or, take, ap, sym, ◌∙◌}
+use Rattle.std.proofs.lemmas.List.{take_more, flat_map_more}
+use Rattle.std.specs.List.{flat_map}
+use Rattle.engine_rows.specs.declared.data.Line.{Line}
+use Rattle.engine_rows.specs.Trace.{line_text}
+
+-- one more line was appended
+pub one_more_line : (before now : List ℕ) (lines : List Line) (i : ℕ) (x d : Line) → i < length lines → x ≡ get_or lines i d
+    → now ≡ (before ++ flat_map line_text (take i lines)) ++ line_text x → now ≡ before ++ flat_map line_text (take (i + 1) lines)
+one_more_line before now lines i x d h is e =
+    e ∙ flat_map_more line_text before (take i lines) x ∙ ap (λ y. before ++ flat_map line_text (take i lines ++ y ∷ [])) is
+    ∙ ap (λ ys. before ++ flat_map line_text ys) (sym (take_more lines i d h))

@@ -1,0 +1,25 @@
+-- What worlds keep through calls.
+use Rattle.std.proofs.Common.{◌≡◌, ◌≤◌, ℕ, List, [], ◌∷◌, drop, Result, Ok, Err, Option, Some, slice_get, refl, sym, ap, subst, ◌∙◌, arith}
+use Rattle.std.specs.Result.{IfOk, OnErr}
+use Rattle.nwq_value.specs.Engine.{EngineTable}
+use Rattle.nwq_value.specs.declared.engine.Routine.{Routine}
+use Rattle.nwq_value.specs.declared.memory.NoMemory.{NoMemory}
+use Rattle.nwq_value.specs.declared.value.Value.{Value}
+use Rattle.engine_rows.specs.Pure.{CellLookup}
+use Rattle.engine_rows.specs.World.{World, count}
+use Rattle.engine_rows.specs.Rows.{Answered, Call}
+use Rattle.engine_rows.specs.Engine.{by_role, by_routine, engine}
+use Rattle.engine_rows.specs.Kept.{IsWorld, EngineKeeps}
+
+answered : {X : Type 0} → (r : Result (Option Value) NoMemory) (a : Answered X) (w v : World X) → IfOk r (λ value. record { value = value; world = v } ≡ a) → OnErr r (v ≡ w) →
+    IsWorld w → IsWorld a.world → IsWorld v
+answered {X = X} (Ok value) a w v ok err before after = subst IsWorld (sym (ap (λ (x : Answered X). x.world) ok)) after
+answered (Err e) a w v ok err before after = subst IsWorld (sym err) before
+
+-- a call of a routine leaves what every world keeps
+pub engine_kept : {X : Type 0} → EngineKeeps X → (table : EngineTable) (cell : CellLookup) (n : ℕ) (r : Routine) (c : Call X) (w v : World X) (result : Result (Option Value) NoMemory) →
+    Some r ≡ slice_get table.routines n → IfOk result (λ value. record { value = value; world = v } ≡ by_role cell n r r.role c w) → OnErr result (v ≡ w) → IsWorld w → c.caller ≤ count w → IsWorld v
+unfolding engine
+engine_kept {X = X} keeps table cell n r c w v result there ok err world caller =
+    answered result (by_role cell n r r.role c w) w v ok err world
+    (subst (λ (o : Option Routine). IsWorld (by_routine cell n o c w).world) (sym there) (keeps table cell n c w world caller).world)
