@@ -28,13 +28,17 @@ fn gives(alloc: Global, n: u8, args: &Args, text: &[u8]) -> Result<bool, NoMemor
     }
 }
 
-fn ints(alloc: Global, first: i32) -> Result<Args, NoMemory> {
+fn ints(alloc: Global, first: i32) -> Result<Args, NoMemory>
+    ensures types { IfOk result (λ args. types_of args ≡ IntTy ∷ []) }
+{
     let mut args = Args::new(alloc);
     args.push(Value::Int(first))?;
     Ok(args)
 }
 
-fn text(alloc: Global, bytes: &[u8]) -> Result<Args, NoMemory> {
+fn text(alloc: Global, bytes: &[u8]) -> Result<Args, NoMemory>
+    ensures types { IfOk result (λ args. types_of args ≡ TextTy ∷ []) }
+{
     let text = Text::of(alloc, bytes)?;
     let mut args = Args::new(alloc);
     args.push(Value::Text(text))?;
@@ -49,9 +53,13 @@ fn text_and(alloc: Global, bytes: &[u8], more: &[i32]) -> Result<Args, NoMemory>
     Ok(args)
 }
 
-fn texts_and(alloc: Global, bytes: &[u8], other: &[u8], n: i32) -> Result<Args, NoMemory> {
+fn texts_and(alloc: Global, bytes: &[u8], other: &[u8], n: i32) -> Result<Args, NoMemory>
+    ensures types { IfOk result (λ args. types_of args ≡ TextTy ∷ TextTy ∷ IntTy ∷ []) }
+{
+    let bytes = Text::of(alloc, bytes)?;
     let other = Text::of(alloc, other)?;
-    let mut args = text(alloc, bytes)?;
+    let mut args = Args::new(alloc);
+    args.push(Value::Text(bytes))?;
     args.push(Value::Text(other))?;
     args.push(Value::Int(n))?;
     Ok(args)

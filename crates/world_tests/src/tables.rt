@@ -70,7 +70,7 @@ fn quotes_and_blanks_part_words(rt: HostRuntime) -> Result<(), Fail> {
     let alloc = rt.alloc();
     let tables = tables_of(
         alloc,
-        b"2DA V2.0 \t\r\nDEFAULT: 7\r\n\t\"A B\"c\t D\r\n\r\n0 \"****\"x\"y \"a\"b\r\n1 \"\"",
+        b"2DA V2.0 \t\r\nDEFAULT: 7\r\n\t\"A B\"c\t D\r\n\r\n0 \"****\"x\"y a\"b\r\n1 \"\"",
     )?;
     assert!(rt; is_cell(alloc, &tables, b"a b", 0, b"****")?);
     assert!(rt; is_cell(alloc, &tables, b"C", 0, b"x\"y")?);
