@@ -82,7 +82,16 @@ pub const WRITTEN: [u8; 791] = [
 
 /// The base with the number in the four bytes from each place changed.
 pub fn changed(alloc: Global, changes: &[(usize, u32)]) -> Result<Vec<u8>, AllocError> {
-    let mut bytes = Vec::from_slice(alloc, BASE.as_slice())?;
+    changed_file(alloc, BASE.as_slice(), changes)
+}
+
+/// A file with the number in the four bytes from each place changed.
+pub fn changed_file(
+    alloc: Global,
+    file: &[u8],
+    changes: &[(usize, u32)],
+) -> Result<Vec<u8>, AllocError> {
+    let mut bytes = Vec::from_slice(alloc, file)?;
     for (place, n) in changes {
         if *place < bytes.len() && bytes.len() - *place >= 4 {
             LittleEndian::write_u32(&mut bytes[*place..], *n);

@@ -2,7 +2,11 @@
 #![tactic(auto)]
 
 #[cfg(test)]
+mod areas;
+#[cfg(test)]
 mod files;
+#[cfg(test)]
+mod texts;
 #[cfg(test)]
 mod trees;
 #[cfg(test)]

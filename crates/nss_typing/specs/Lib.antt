@@ -12,3 +12,4 @@ pub mod Places
 pub mod Reading
 pub mod Readings
 pub mod Scopes
+pub mod UnitReading

@@ -1,9 +1,9 @@
 -- What stops a command is one of its statuses.
 use Rattle.nwq_work.specs.declared.status.Status.{Status}
 use Rattle.nwq_work.specs.declared.status.Status.TheVariants.{Done, Words, Script, Code, Area, Limit, Missing, Fault, Memory, Long}
-use Rattle.nwq_work.specs.Counts.{StopsSource}
-use Rattle.nwq_top.specs.Words.{Form, Run, NoForm}
-use Rattle.nwq_top.specs.Endings.{EndsRun, ComesOf, StopsCommand}
+use Rattle.nwq_work.specs.Counts.{StopsSource, StopsCode, StopsArea}
+use Rattle.nwq_top.specs.Words.{Form, Run, Tree, Disassemble, Assemble, NoForm}
+use Rattle.nwq_top.specs.Endings.{EndsRun, EndsTree, EndsCode, ComesOf, StopsCommand}
 
 source_ends : (status : Status) → StopsSource status → EndsRun status
 source_ends Done h = tt
@@ -17,6 +17,33 @@ source_ends Fault h = h
 source_ends Memory h = h
 source_ends Long h = h
 
+area_ends : (status : Status) → StopsArea status → EndsTree status
+area_ends Done h = tt
+area_ends Words h = h
+area_ends Script h = h
+area_ends Code h = h
+area_ends Area h = h
+area_ends Limit h = h
+area_ends Missing h = h
+area_ends Fault h = h
+area_ends Memory h = h
+area_ends Long h = h
+
+code_ends : (status : Status) → StopsCode status → EndsCode status
+code_ends Done h = tt
+code_ends Words h = h
+code_ends Script h = h
+code_ends Code h = h
+code_ends Area h = h
+code_ends Limit h = h
+code_ends Missing h = h
+code_ends Fault h = h
+code_ends Memory h = h
+code_ends Long h = h
+
 pub stops_come : (form : Form) (status : Status) → StopsCommand form status → ComesOf form status
 stops_come (Run header script) status h = source_ends status h
+stops_come (Tree file) status h = area_ends status h
+stops_come (Disassemble file to) status h = code_ends status h
+stops_come (Assemble file to) status h = code_ends status h
 stops_come NoForm status h = h

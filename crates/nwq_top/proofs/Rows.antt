@@ -4,10 +4,14 @@ use Rattle.std.specs.Prelude.{codes}
 use Rattle.std.specs.Fmt.{digits}
 use Rattle.nwq_text.specs.Escape.{escaped, spelling}
 use Rattle.nwq_work.specs.declared.cause.Cause.TheVariants as cause
-use Rattle.nwq_work.specs.Refusal.{line_of, Absent, TooLong, At}
+use Rattle.gff_bytes.specs.declared.rows.Part.TheVariants as part
+use Rattle.nwq_work.specs.declared.flaw.CodeFlaw.TheVariants as code
+use Rattle.nwq_work.specs.declared.flaw.AreaFlaw.TheVariants as area
+use Rattle.nwq_work.specs.Refusal.{line_of, Absent, TooLong, At, BadCode, BadArea}
 use Rattle.nwq_sums.specs.Meaning.{prints_of}
+use Rattle.nwq_files.specs.Texts.{disassembled_line, assembled_line}
 use Rattle.nwq_top.specs.Texts.{trace_text, end_text}
-use Rattle.nwq_top.specs.Words.{form_of, Run, NoForm}
+use Rattle.nwq_top.specs.Words.{form_of, Run, Tree, Disassemble, Assemble, NoForm}
 
 -- texts
 trace_of_sum : trace_text (prints_of ((2 ∷ 3 ∷ []) ∷ [])) ++ end_text 7 ≡ codes "0 #0 print 5\nend done clock 0 entries 1 instructions 7\n"
@@ -30,6 +34,30 @@ line_of_long : line_of (TooLong (codes "a b\\.nss")) ≡ codes "long a b\\\\.nss
 unfolding escaped spelling
 line_of_long = refl
 
+line_of_code : line_of (BadCode (codes "e.ncs") (code.TypeByte 13)) ≡ codes "refused e.ncs 13 typebyte\n"
+unfolding digits escaped spelling
+line_of_code = refl
+
+line_of_target : line_of (BadCode (codes "a.txt") (code.LineTarget 1)) ≡ codes "refused a.txt target 1\n"
+unfolding digits escaped spelling
+line_of_target = refl
+
+line_of_range : line_of (BadArea (codes "a.git") (area.Range part.Index 0)) ≡ codes "refused a.git range index 0\n"
+unfolding digits escaped spelling
+line_of_range = refl
+
+line_of_shape : line_of (BadArea (codes "a.git") (area.Shape 1 2 3)) ≡ codes "refused a.git shape 1 2 3\n"
+unfolding digits escaped spelling
+line_of_shape = refl
+
+line_of_disassembly : disassembled_line (codes "a.txt") 3 ≡ codes "disassembled a.txt 3\n"
+unfolding digits escaped spelling
+line_of_disassembly = refl
+
+line_of_assembly : assembled_line (codes "e.ncs") 13 ≡ codes "assembled e.ncs 13\n"
+unfolding digits escaped spelling
+line_of_assembly = refl
+
 -- words
 built_in_header : form_of (codes "run" ∷ codes "-" ∷ codes "p" ∷ []) ≡ Run (codes "-") (codes "p")
 built_in_header = refl
@@ -48,3 +76,12 @@ dashed_words = refl
 
 two_dashes : form_of (codes "run" ∷ codes "--" ∷ codes "p" ∷ []) ≡ NoForm
 two_dashes = refl
+
+tree_words : form_of (codes "tree" ∷ codes "a.git" ∷ []) ≡ Tree (codes "a.git")
+tree_words = refl
+
+listing_words : form_of (codes "dis" ∷ codes "e.ncs" ∷ codes "-" ∷ []) ≡ Disassemble (codes "e.ncs") (codes "-")
+listing_words = refl
+
+assembly_words : form_of (codes "asm" ∷ codes "a.txt" ∷ codes "e.ncs" ∷ []) ≡ Assemble (codes "a.txt") (codes "e.ncs")
+assembly_words = refl

@@ -3,8 +3,8 @@ use Rattle.std.specs.Prelude.{Result, Ok, Err}
 use Rattle.nwq_work.specs.declared.status.Status.{Status}
 use Rattle.nwq_work.specs.declared.status.Status.TheVariants.{Done, Words, Fault, Memory}
 use Rattle.nwq_work.specs.Work.{Finished}
-use Rattle.nwq_work.specs.Counts.{StopsSource}
-use Rattle.nwq_top.specs.Words.{Form, Run, NoForm}
+use Rattle.nwq_work.specs.Counts.{StopsSource, StopsCode, StopsArea}
+use Rattle.nwq_top.specs.Words.{Form, Run, Tree, Disassemble, Assemble, NoForm}
 
 abbrev pub EndsWords : Status → Type 0
 EndsWords Words = Unit {0}
@@ -16,14 +16,28 @@ abbrev pub EndsRun : Status → Type 0
 EndsRun Done = Unit {0}
 EndsRun status = StopsSource status
 
+abbrev pub EndsTree : Status → Type 0
+EndsTree Done = Unit {0}
+EndsTree status = StopsArea status
+
+abbrev pub EndsCode : Status → Type 0
+EndsCode Done = Unit {0}
+EndsCode status = StopsCode status
+
 -- one table: the status may come of this form
 abbrev pub ComesOf : Form → Status → Type 0
 ComesOf (Run header script) status = EndsRun status
+ComesOf (Tree file) status = EndsTree status
+ComesOf (Disassemble file to) status = EndsCode status
+ComesOf (Assemble file to) status = EndsCode status
 ComesOf NoForm status = EndsWords status
 
 -- the same of a command's answer, in which `Done` is no error
 abbrev pub StopsCommand : Form → Status → Type 0
 StopsCommand (Run header script) status = StopsSource status
+StopsCommand (Tree file) status = StopsArea status
+StopsCommand (Disassemble file to) status = StopsCode status
+StopsCommand (Assemble file to) status = StopsCode status
 StopsCommand NoForm status = EndsWords status
 
 abbrev pub ComesOfResult : Form → Result Finished Status → Type 0

@@ -6,6 +6,9 @@ use Rattle.nwq_top.specs.declared.words.Command.TheVariants as command
 
 pub data Form : Type 0 where
   Run : (header script : List ℕ) → Form  -- the header is a file's name, or `-` for the built-in one
+  Tree : (file : List ℕ) → Form
+  Disassemble : (file to : List ℕ) → Form
+  Assemble : (file to : List ℕ) → Form
   NoForm : Form
 
 abbrev pub is_between : ℕ → ℕ → ℕ → Bool
@@ -28,9 +31,21 @@ is_option (b ∷ more) = b == 45
 abbrev pub run_form : List ℕ → List ℕ → Form
 run_form header script = cond (is_script_name script) (Run header script) NoForm
 
+-- a command and one word
+abbrev pub one_word_form : List ℕ → List ℕ → Form
+one_word_form command file = cond (bytes_eq command (codes "tree")) (Tree file) NoForm
+
+-- a command and two words
+abbrev pub two_word_form : List ℕ → List ℕ → List ℕ → Form
+two_word_form command first second =
+    cond (bytes_eq command (codes "run")) (run_form first second)
+    (cond (bytes_eq command (codes "dis")) (Disassemble first second)
+    (cond (bytes_eq command (codes "asm")) (Assemble first second) NoForm))
+
 -- which command these words are, by the first of them
 abbrev pub command_form : List (List ℕ) → Form
-command_form (command ∷ (header ∷ (script ∷ []))) = cond (bytes_eq command (codes "run")) (run_form header script) NoForm
+command_form (command ∷ (file ∷ [])) = one_word_form command file
+command_form (command ∷ (first ∷ (second ∷ []))) = two_word_form command first second
 command_form _ = NoForm
 
 -- which command these words are, if they are one: there are no options
@@ -41,3 +56,6 @@ form_of words = cond (list_any is_option words) NoForm (command_form words)
 abbrev pub IsCommand : Command → Form → Type 0
 IsCommand command.NoForm form = form ≡ NoForm
 IsCommand (command.Run header script) form = form ≡ Run header.now script.now
+IsCommand (command.Tree file) form = form ≡ Tree file.now
+IsCommand (command.Disassemble file to) form = form ≡ Disassemble file.now to.now
+IsCommand (command.Assemble file to) form = form ≡ Assemble file.now to.now

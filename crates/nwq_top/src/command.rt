@@ -7,6 +7,7 @@ ghost use Rattle.nwq_top.specs.Endings.{ComesOfResult};
 
 use crate::run::run;
 use crate::words::{Command, command_of};
+use nwq_files::{assemble_file, disassemble_file, show_tree};
 use nwq_outside::{Files, Sink};
 use nwq_work::{Status, refuse_form};
 use std::alloc::Global;
@@ -34,5 +35,8 @@ pub fn command<F: Files, S: Sink>(
     match command_of(words) {
         Command::NoForm => Err(refuse_form(alloc, out)),
         Command::Run(header, script) => run(alloc, header, script, files, out),
+        Command::Tree(file) => show_tree(alloc, file, files, out),
+        Command::Disassemble(file, to) => disassemble_file(alloc, file, to, files, out),
+        Command::Assemble(file, to) => assemble_file(alloc, file, to, files, out),
     }
 }

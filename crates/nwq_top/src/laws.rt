@@ -2,6 +2,7 @@
 
 ghost use Rattle.nwq_top.specs.Laws.{OneOutcome, Prefixes};
 
+use nwq_files::laws::one_file;
 use nwq_sources::laws::one_source;
 use nwq_sums::laws::{one_building, one_run};
 
@@ -12,6 +13,7 @@ pub fn one_outcome()
     ensures prefixes { Prefixes }
 {
     one_source();
+    one_file();
     one_building();
     one_run();
 }

@@ -4,7 +4,7 @@
 //! [`nwq_program`] is what `main` calls. What a command does is a
 //! [`Work`](../../nwq_work/specs/Work.antt), a function of the form of its words
 //! (`specs/Command.antt`), and the clause `does` says that the call did it. The parts of that work
-//! that read sources are `nwq_sources`'. See docs/COMMANDS.md and docs/THEOREMS.md.
+//! that read sources are `nwq_sources`', and its commands over other files `nwq_files`'. See docs/COMMANDS.md and docs/THEOREMS.md.
 #![tactic(auto)]
 
 mod command;

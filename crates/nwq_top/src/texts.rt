@@ -2,7 +2,7 @@ ghost use Rattle.std.specs.Prelude.{◌≡◌, ◌++◌, codes, decimal, OnOk, I
 ghost use Rattle.nwq_top.specs.Texts.{print_line, trace_text, end_text};
 
 use nwq_sums::Played;
-use nwq_text::put_number;
+use nwq_text::{put_count as put_decimal, put_number, put_text};
 use nwq_value::NoMemory;
 use std::alloc::Global;
 

@@ -1,6 +1,7 @@
-ghost use Rattle.std.specs.Prelude.{◌≡◌, map, string_bytes, bytes_eq, codes};
+ghost use Rattle.std.specs.Prelude.{◌≡◌, map, string_bytes, bytes_eq};
 ghost use Rattle.std.specs.List.{list_all, list_any};
 ghost use Rattle.nwq_top.specs.Words.{is_script_byte, is_script_name, is_option, command_form};
+ghost use Rattle.nwq_top.specs.Words.{one_word_form, two_word_form, run_form};
 ghost use Rattle.nwq_top.specs.Words.{form_of, IsCommand};
 
 /// How many characters the name of a script has at most.
@@ -11,6 +12,12 @@ const NAME_MOST: usize = 16;
 pub enum Command<'a> {
     /// Plays one start entry of the second, a script, under the header that the first names.
     Run(&'a str, &'a str),
+    /// Shows the tree of a GFF file.
+    Tree(&'a str),
+    /// Writes the text of the first, a file of bytecode, under the second name.
+    Disassemble(&'a str, &'a str),
+    /// Writes the file of the first, an assembler text, under the second name.
+    Assemble(&'a str, &'a str),
     /// The words are no form of a command.
     NoForm,
 }
@@ -52,23 +59,52 @@ fn has_dashed(words: &[String]) -> bool
     words.iter().any(|word| is_dashed(word.as_str()))
 }
 
-fn is_run(word: &str) -> bool
-    ensures { result ≡ bytes_eq word.now (codes "run") }
+fn is_word(word: &str, name: &str) -> bool
+    ensures { result ≡ bytes_eq word.now name.now }
 {
-    word == "run"
+    word == name
+}
+
+fn one_word<'a>(command: &str, file: &'a str) -> Command<'a>
+    ensures { IsCommand result (one_word_form command.now file.now) }
+{
+    if is_word(command, "tree") {
+        Command::Tree(file)
+    } else {
+        Command::NoForm
+    }
+}
+
+fn run_words<'a>(header: &'a str, script: &'a str) -> Command<'a>
+    ensures { IsCommand result (run_form header.now script.now) }
+{
+    if names_script(script) {
+        Command::Run(header, script)
+    } else {
+        Command::NoForm
+    }
+}
+
+fn two_words<'a>(command: &str, first: &'a str, second: &'a str) -> Command<'a>
+    ensures { IsCommand result (two_word_form command.now first.now second.now) }
+{
+    if is_word(command, "run") {
+        run_words(first, second)
+    } else if is_word(command, "dis") {
+        Command::Disassemble(first, second)
+    } else if is_word(command, "asm") {
+        Command::Assemble(first, second)
+    } else {
+        Command::NoForm
+    }
 }
 
 fn command_by(words: &[String]) -> Command<'_>
     ensures { IsCommand result (command_form (map string_bytes words.now)) }
 {
     match words {
-        [command, header, script] => {
-            if is_run(command.as_str()) && names_script(script.as_str()) {
-                Command::Run(header.as_str(), script.as_str())
-            } else {
-                Command::NoForm
-            }
-        }
+        [command, file] => one_word(command.as_str(), file.as_str()),
+        [command, first, second] => two_words(command.as_str(), first.as_str(), second.as_str()),
         _ => Command::NoForm,
     }
 }

@@ -80,6 +80,16 @@ abbrev pub StopsSource : Status → Type 0
 StopsSource Script = Unit {0}
 StopsSource status = StopsRead status
 
+-- what stops a part that reads a file of bytecode or an assembler text: it isn't there, is too long or refused, or the work is cut
+abbrev pub StopsCode : Status → Type 0
+StopsCode Code = Unit {0}
+StopsCode status = StopsRead status
+
+-- what stops a part that reads a GFF file, its area or a plan: it isn't there, is too long or refused, or the work is cut
+abbrev pub StopsArea : Status → Type 0
+StopsArea Area = Unit {0}
+StopsArea status = StopsRead status
+
 -- a refusal answers its own status, or the work is cut
 abbrev pub Refusing : Status → Status → Type 0
 Refusing status answer = (answer ≡ status) ⊎ CutsShort answer

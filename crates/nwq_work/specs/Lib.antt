@@ -1,3 +1,4 @@
+pub mod Flaws
 pub mod Refusal
 pub mod Work
 pub mod Counts

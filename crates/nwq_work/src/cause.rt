@@ -14,6 +14,31 @@ pub enum Cause {
     Nested,
     /// The token can't stand there, or the unit ends too early.
     Syntax,
+    /// A type whose values are left out, a float literal, or a call of a routine that can't be
+    /// called.
+    RefusedType,
+    /// A name isn't in sight.
+    Unknown,
+    /// A name, a function's body or a label is there a second time.
+    Redeclared,
+    /// A function has too few or too many arguments.
+    Arity,
+    /// What must be constant isn't.
+    NotConst,
+    /// What is written is no variable and no member of one.
+    NotPlace,
+    /// A `break`, a `continue` or a label stands where none may stand.
+    Outside,
+    /// A type is wrong in another way.
+    Mismatch,
+    /// A function with a result can end without one.
+    NoReturn,
+    /// A struct, a frame or the globals have too many cells.
+    Cells,
+    /// No function begins the script.
+    Entry,
+    /// The code would be larger than a file may be.
+    Large,
     /// The unit has a tree, and no code is made for it yet.
     NotBuilt,
     /// The token fits no line of a header, or the header ends inside one.
@@ -35,6 +60,18 @@ impl Cause {
             Cause::Include => "include",
             Cause::Nested => "nested",
             Cause::Syntax => "syntax",
+            Cause::RefusedType => "refusedtype",
+            Cause::Unknown => "unknown",
+            Cause::Redeclared => "redeclared",
+            Cause::Arity => "arity",
+            Cause::NotConst => "notconst",
+            Cause::NotPlace => "notplace",
+            Cause::Outside => "outside",
+            Cause::Mismatch => "mismatch",
+            Cause::NoReturn => "noreturn",
+            Cause::Cells => "cells",
+            Cause::Entry => "entry",
+            Cause::Large => "large",
             Cause::NotBuilt => "notbuilt",
             Cause::Header => "header",
             Cause::Twice => "twice",

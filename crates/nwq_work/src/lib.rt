@@ -11,10 +11,13 @@
 
 mod calls;
 mod cause;
+mod flaw;
 mod refusal;
 mod status;
+mod text;
 
 pub use calls::{put, read_file, write_file};
 pub use cause::Cause;
-pub use refusal::{refuse_absent, refuse_at, refuse_form, refuse_long};
+pub use flaw::{AreaFlaw, CodeFlaw};
+pub use refusal::{refuse_absent, refuse_area, refuse_at, refuse_code, refuse_form, refuse_long};
 pub use status::Status;

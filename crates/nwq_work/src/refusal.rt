@@ -1,24 +1,20 @@
-ghost use Rattle.std.specs.Prelude.{◌≡◌, ◌++◌, ℕ, codes, OnOk, IfOk, IsTrue};
+ghost use Rattle.std.specs.Prelude.{◌≡◌, ◌++◌, ℕ, codes, IfOk, IsTrue};
 ghost use Rattle.nwq_outside.specs.Outside.{Rises};
 ghost use Rattle.nwq_text.specs.Escape.{escaped};
 ghost use Rattle.nwq_work.specs.Refusal.{line_of, NoForm, Absent, TooLong, At};
+ghost use Rattle.nwq_work.specs.Refusal.{BadCode, BadArea};
 ghost use Rattle.nwq_work.specs.Parts.{Refuses};
 ghost use Rattle.nwq_work.specs.Counts.{Counted, TalliesEnd, Refusing};
 
 use crate::calls::put_line;
 use crate::cause::Cause;
+use crate::flaw::{AreaFlaw, CodeFlaw, put_area_flaw, put_code_flaw};
 use crate::status::Status;
+use crate::text::put_ascii;
 use nwq_outside::Sink;
 use nwq_text::{put_number, put_text};
 use nwq_value::NoMemory;
 use std::alloc::Global;
-
-fn put_ascii(out: &mut Vec<u8>, text: &str) -> Result<(), NoMemory>
-    ensures { OnOk result (out.new.items ≡ out.old.items ++ text.now) }
-{
-    out.extend_from_slice(text.as_bytes())?;
-    Ok(())
-}
 
 /// A line of a word, a space and a file's name.
 fn name_line(alloc: Global, word: &str, name: &[u8]) -> Result<Vec<u8>, NoMemory>
@@ -50,6 +46,32 @@ fn place_line(
     put_number(&mut text, i64::from(at))?;
     put_ascii(&mut text, " ")?;
     put_ascii(&mut text, cause.word())?;
+    put_ascii(&mut text, "\n")?;
+    Ok(text)
+}
+
+/// The line for a file of bytecode or an assembler text.
+fn code_line(alloc: Global, name: &[u8], flaw: CodeFlaw) -> Result<Vec<u8>, NoMemory>
+    ensures { IfOk result (λ text. text.items ≡ line_of (BadCode name.now flaw)) }
+{
+    let mut text = Vec::new(alloc);
+    put_ascii(&mut text, "refused ")?;
+    put_text(&mut text, name)?;
+    put_ascii(&mut text, " ")?;
+    put_code_flaw(&mut text, flaw)?;
+    put_ascii(&mut text, "\n")?;
+    Ok(text)
+}
+
+/// The line for a GFF file, an area or a plan.
+fn area_line(alloc: Global, name: &[u8], flaw: AreaFlaw) -> Result<Vec<u8>, NoMemory>
+    ensures { IfOk result (λ text. text.items ≡ line_of (BadArea name.now flaw)) }
+{
+    let mut text = Vec::new(alloc);
+    put_ascii(&mut text, "refused ")?;
+    put_text(&mut text, name)?;
+    put_ascii(&mut text, " ")?;
+    put_area_flaw(&mut text, flaw)?;
     put_ascii(&mut text, "\n")?;
     Ok(text)
 }
@@ -95,6 +117,38 @@ pub fn refuse_at<S: Sink>(
 {
     match put_line(place_line(alloc, name, line, at, cause), out) {
         Ok(()) => Status::Script,
+        Err(cut) => cut,
+    }
+}
+
+/// Refuses the file of bytecode, or the assembler text, of this name.
+#[tactic(auto, using(crate::proofs::Tallied::put_cut))]
+pub fn refuse_code<S: Sink>(alloc: Global, name: &[u8], flaw: CodeFlaw, out: &mut S) -> Status
+    ensures does { IsTrue S.tells →
+        Refuses (BadCode name.now flaw) (S.taken out.old) result (S.taken out.new) }
+    ensures counts { (faults absences longs : ℕ) → TalliesEnd result
+        (Counted faults absences longs (S.faults out.old))
+        (Counted faults absences longs (S.faults out.new)) }
+    ensures only { Refusing Status.Code result }
+{
+    match put_line(code_line(alloc, name, flaw), out) {
+        Ok(()) => Status::Code,
+        Err(cut) => cut,
+    }
+}
+
+/// Refuses the GFF file, the area in it, or the plan, of this name.
+#[tactic(auto, using(crate::proofs::Tallied::put_cut))]
+pub fn refuse_area<S: Sink>(alloc: Global, name: &[u8], flaw: AreaFlaw, out: &mut S) -> Status
+    ensures does { IsTrue S.tells →
+        Refuses (BadArea name.now flaw) (S.taken out.old) result (S.taken out.new) }
+    ensures counts { (faults absences longs : ℕ) → TalliesEnd result
+        (Counted faults absences longs (S.faults out.old))
+        (Counted faults absences longs (S.faults out.new)) }
+    ensures only { Refusing Status.Area result }
+{
+    match put_line(area_line(alloc, name, flaw), out) {
+        Ok(()) => Status::Area,
         Err(cut) => cut,
     }
 }

@@ -1,0 +1,9 @@
+mod TreeLemmas
+mod CodeLemmas
+mod AssemblyLemmas
+mod CommandLemmas
+mod OneTree
+mod OneCode
+mod OneAssembly
+mod OneCommand
+mod Steps

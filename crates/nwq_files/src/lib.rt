@@ -1,0 +1,20 @@
+//! What commands do with files that are no source texts: the tree of a GFF file, the instructions
+//! of a file of bytecode, and the file that an assembler text stands for.
+//!
+//! Each of these is a part of the work of a command (`specs/Trees.antt`, `specs/Codes.antt`,
+//! `specs/Assemblies.antt`), for every command that names such a file. A file that is broken is
+//! refused here, for the first thing that is wrong with it. `specs/Commands.antt` has the whole
+//! work of the commands that turn a file into a text, or a text into a file. See docs/COMMANDS.md.
+#![tactic(auto)]
+
+mod assembly;
+mod code;
+mod commands;
+pub mod laws;
+mod texts;
+mod tree;
+
+pub use assembly::read_assembly;
+pub use code::read_code;
+pub use commands::{assemble_file, disassemble_file, show_tree};
+pub use tree::read_tree;
