@@ -1,11 +1,22 @@
 -- The play of files: the play of `play_steps`, with scripts that the machine runs.
 use Rattle.std.specs.Prelude.{ℕ, List, [], Option, None, Some, slice_get}
+use Rattle.nwq_value.specs.Engine.{EngineTable}
 use Rattle.saved_state.specs.declared.saved.Saved.{Saved}
+use Rattle.hook_table.specs.declared.hook.Known.{Known}
 use Rattle.machine_step.specs.Machine.{Host, Script, script_named}
 use Rattle.machine_step.specs.Runs as runs
 use Rattle.engine_rows.specs.World.{World}
-use Rattle.play_steps.specs.Plays.{Ending, Over, Divided, Stopped, Run, Runner, Played, play}
+use Rattle.play_steps.specs.Plays.{Ending, Over, Divided, Stopped, Run, Runner, Bounds, Progress, Played, play, play_on}
 use Rattle.play_steps.specs.EndText.{end_text}
+use Rattle.world_core.specs.Calls.{cells_of}
+use Rattle.ncs_machine.specs.Host.{EngineView, host}
+
+-- the engine under a header, whose cells are looked up in the hooks' tables
+abbrev pub engine_view : EngineTable → List Known → EngineView
+engine_view table hooks = record { table = table; cell = cells_of hooks }
+
+abbrev pub host_of : List Script → EngineTable → List Known → Host (World Saved)
+host_of scripts table hooks = host scripts (engine_view table hooks)
 
 -- How an entry's scripts end by how the machine's run does, with the object as which the last script ran. Scripts that were checked never
 -- come to a stack fault.
@@ -20,8 +31,8 @@ abbrev pub run_of : runs.Ran (World Saved) → Run Saved
 run_of r = record { ending = ending_of r.ending r.last.running.self; count = r.count; world = r.last.world }
 
 -- how scripts run that may take so many instructions in an entry
-abbrev pub runner : Host (World Saved) → ℕ → Runner Saved
-runner host limit = record {
+unfoldable pub code_runner : Host (World Saved) → ℕ → Runner Saved
+code_runner host limit = record {
   named = script_named host.scripts;
   script = λ script self w. run_of (runs.run_script host limit script self w);
   stored = λ saved self w. run_of (runs.run_stored host limit saved self w);
@@ -29,7 +40,16 @@ runner host limit = record {
 
 -- the play of files from a world on: at most so many instructions in an entry, so many entries, and those that are due by this time
 abbrev pub code_play : Host (World Saved) → ℕ → ℕ → ℕ → World Saved → Played Saved
-code_play host limit entries until w = play (runner host limit) entries until w
+code_play host limit entries until w = play (code_runner host limit) entries until w
+
+-- a world in which so many entries were taken and so many instructions counted, before any line is told
+abbrev pub played_before : ℕ → ℕ → World Saved → Progress Saved
+played_before entries count w = record { entries = entries; count = count; trace = []; world = w }
+
+-- the play that goes on from there, and is broken off once `stop` entries were taken in all
+abbrev pub code_play_on : Host (World Saved) → ℕ → ℕ → ℕ → ℕ → ℕ → ℕ → World Saved → Played Saved
+code_play_on host limit entries until stop taken done w =
+    play_on (code_runner host limit) (record { entries = entries; until = until; stop = stop }) (played_before taken done w)
 
 -- ---- the text at its end
 

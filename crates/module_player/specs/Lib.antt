@@ -1,1 +1,6 @@
 pub mod CodePlays
+pub mod Scenes
+pub mod Settings
+pub mod Entries
+pub mod Turns
+pub mod Answers
