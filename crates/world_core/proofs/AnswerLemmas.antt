@@ -1,12 +1,12 @@
 -- The types of answers.
-use Rattle.std.proofs.Common.{◌≡◌, ◌≢◌, ◌<◌, ◌+◌, nat_lt, arith, ℕ, ℤ, pos, negsuc, zero, suc, Bool, true, false, List, [], ◌∷◌, map, Option, None, Some, slice_get, refl, sym, ap, subst, ◌∙◌}
-use Rattle.std.specs.Prelude.{◌==◌, ◌&&◌, ◌||◌, if◌then◌else◌}
+use Rattle.std.proofs.Common.{◌≡◌, ◌≢◌, ◌<◌, ◌+◌, nat_lt, arith, ℕ, ℤ, pos, negsuc, zero, suc, Bool, true, false, List, [], ◌∷◌, Option, None, Some, slice_get, refl, sym, ap, subst, ◌∙◌}
+use Rattle.std.specs.Prelude.{◌==◌, ◌&&◌, if◌then◌else◌}
 use Rattle.std.specs.Option.{IfSome}
-use Rattle.std.specs.List.{list_any, list_all, find, AllByRecursion}
-use Rattle.std.proofs.lemmas.Bool.{false≢true, true≢false, eqb-true, and_parts}
+use Rattle.std.specs.List.{list_any, list_all, AllByRecursion}
+use Rattle.std.proofs.lemmas.Bool.{true≢false, eqb-true, and_parts}
 use Rattle.std.proofs.lemmas.Bool.Decides.{nat_tests}
 use Rattle.std.proofs.lemmas.Option.{none-some, same_Some}
-use Rattle.nwq_value.specs.Engine.{EngineTable, IsTable, IsRoutine, AreRoutines, IsNoStruct}
+use Rattle.nwq_value.specs.Engine.{IsRoutine, AreRoutines, IsNoStruct}
 use Rattle.nwq_value.specs.Header.{header_routines}
 use Rattle.nwq_value.specs.Roles.{Signature, BuiltAsHeader, PureAsHeader, WorldIsCallable, header_signatures, is_barred_type, types_of}
 use Rattle.nwq_value.specs.declared.engine.Role.{Role}
@@ -17,7 +17,7 @@ use Rattle.nwq_value.specs.declared.value.Ty.TheVariants.{Void, Int, Text, Objec
 use Rattle.nwq_value.specs.declared.value.Value.{Value}
 use Rattle.engine_rows.specs.Pure.{CellLookup, pure}
 use Rattle.engine_rows.specs.World.{World}
-use Rattle.engine_rows.specs.Rows.{Call, Answered, Row, rows, drawn, drawn_from}
+use Rattle.engine_rows.specs.Rows.{Call, Row, rows, drawn, drawn_from}
 use Rattle.engine_rows.specs.Engine.{by_role, by_routine, by_row, engine, row_numbered, world_value}
 use Rattle.world_core.specs.Answers.{IsOfType, AnswersHaveTypes}
 use Rattle.world_core.proofs.EngineLemmas.{at_place, or_false}

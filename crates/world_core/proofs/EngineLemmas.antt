@@ -1,6 +1,6 @@
 -- The calls of routines by their roles.
-use Rattle.std.proofs.Common.{◌≡◌, ◌≢◌, ◌<◌, ◌+◌, ℕ, zero, suc, Bool, true, false, not, List, [], ◌∷◌, ◌++◌, map, length, get_or, take, Option, None, Some, slice_get, refl, sym, ap, subst, ◌∙◌, arith, append_assoc}
-use Rattle.std.specs.Prelude.{◌||◌, ◌&&◌, if◌then◌else◌}
+use Rattle.std.proofs.Common.{◌≡◌, ◌<◌, ◌+◌, ℕ, zero, suc, Bool, true, false, not, List, [], ◌∷◌, ◌++◌, map, length, get_or, take, Option, None, Some, slice_get, refl, sym, ap, subst, ◌∙◌, arith}
+use Rattle.std.specs.Prelude.{◌||◌, if◌then◌else◌}
 use Rattle.std.specs.Option.{IfSome}
 use Rattle.std.specs.List.{list_any, list_all}
 use Rattle.std.proofs.lemmas.List.{take_more}
@@ -19,7 +19,7 @@ use Rattle.nwq_value.specs.declared.value.Value.TheVariants.{Int, Text, Object, 
 use Rattle.stack_shape.specs.Calls.{argument_types, is_action}
 use Rattle.hook_table.specs.declared.hook.Known.{Known}
 use Rattle.hook_table.specs.Standard.{types_of, IsAnswer}
-use Rattle.hook_table.specs.Served.{Serves, StandardServe}
+use Rattle.hook_table.specs.Served.{StandardServe}
 use Rattle.engine_rows.specs.Arguments.{ints_of}
 use Rattle.engine_rows.specs.Pure.{pure}
 use Rattle.world_core.specs.Calls.{tables_of, cells_of, AreServing}

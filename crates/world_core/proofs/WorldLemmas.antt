@@ -1,5 +1,5 @@
 -- What worlds keep through calls.
-use Rattle.std.proofs.Common.{◌≡◌, ◌≤◌, ℕ, List, [], ◌∷◌, drop, Result, Ok, Err, Option, Some, slice_get, refl, sym, ap, subst, ◌∙◌, arith}
+use Rattle.std.proofs.Common.{◌≡◌, ◌≤◌, ℕ, Result, Ok, Err, Option, Some, slice_get, sym, ap, subst}
 use Rattle.std.specs.Result.{IfOk, OnErr}
 use Rattle.nwq_value.specs.Engine.{EngineTable}
 use Rattle.nwq_value.specs.declared.engine.Routine.{Routine}

@@ -1,5 +1,5 @@
 -- What the calls on a world speak of beside the definitions of engine_rows.
-use Rattle.std.specs.Prelude.{◌≡◌, ◌<◌, ◌^◌, ℕ, List, [], ◌∷◌, Option, None, Some, slice_get}
+use Rattle.std.specs.Prelude.{◌≡◌, ◌<◌, ◌^◌, ℕ, List, [], Option, None, Some, slice_get}
 use Rattle.hook_table.specs.declared.hook.Known.{Known}
 use Rattle.hook_table.specs.Served.{AreStandard}
 use Rattle.hook_table.specs.Standard.{cell_function, types_of}

@@ -1,6 +1,6 @@
 //! The calls on a world.
 ghost use Rattle.std.specs.Prelude.{◌≡◌, ◌<◌, ◌≤◌, ◌+◌, ◌^◌, ◌++◌, [], drop, length, map, slice_get};
-ghost use Rattle.std.specs.Prelude.{IfOk, IfSome, OnOk, OnErr, IsTrue, Some};
+ghost use Rattle.std.specs.Prelude.{IfOk, IfSome, OnOk, OnErr, IsTrue, Some, pos};
 ghost use Rattle.std.specs.List.{AllByRecursion};
 ghost use Rattle.std.specs.Option.{option_copied, option_map};
 ghost use Rattle.delay_agenda.specs.Order.{first_due};
@@ -13,19 +13,20 @@ ghost use Rattle.engine_rows.specs.Turns.{with_entries};
 ghost use Rattle.engine_rows.specs.World.{count, effects_of, queue_of};
 ghost use Rattle.world_core.specs.Calls.{planned, cells_of, AreServing, FitArguments, IsEarly};
 ghost use Rattle.world_rows.specs.Begun.{IsBegunAs};
+ghost use Rattle.world_rows.specs.Saved.{put_together};
 
+use crate::engine::{by_role, take_room};
+use crate::start::{Events, post_all};
+use crate::trace::put_trace;
 use action_queue::Item;
 use area_tree::Area;
 use delay_agenda::{Entry, calls_keep_order};
 use engine_rows::{Told, calls_keep_worlds, entries_keep_worlds};
 use hook_table::Hooks;
 use nwq_value::{Args, Effect, NoMemory, Randoms, Table, Text, Value};
-use crate::engine::{by_role, take_room};
-use crate::start::{Events, post_all};
-use crate::trace::put_trace;
 use std::alloc::Global;
 use std::marker::Model;
-use world_rows::Parts;
+use world_rows::{Parts, WorldParts};
 
 /// The world in which scripts run.
 ///
@@ -80,6 +81,24 @@ impl<X: Drop> World<X> {
         }
     }
 
+    /// The world of an area and of what was saved beside it; takes no memory.
+    pub fn from_parts(alloc: Global, area: Area, saved: WorldParts<X>) -> World<X>
+        requires kept { IsWorld (put_together area saved) }
+        ensures world { result.world ≡ put_together area saved }
+    {
+        let parts = Parts::from_parts(alloc, area, saved);
+        World { parts, room: 0 }
+    }
+
+    /// The area, and what is saved beside it. After `NoMemory` all is dropped.
+    pub fn into_parts(self) -> Result<(Area, WorldParts<X>), NoMemory>
+        ensures parts { IfOk result (λ both. put_together both.0 both.1
+            ≡ record self.world { trace = []; user = pos 0 }) }
+    {
+        let World { parts, room: _ } = self;
+        parts.into_parts()
+    }
+
     #[tactic(auto, unfolding(engine_rows::specs::Engine::engine))]
     /// The call of a routine: what it gives, and how it leaves the world, is the routine's row.
     pub fn engine(
@@ -97,7 +116,7 @@ impl<X: Drop> World<X> {
         requires types { FitArguments table.now routine args }
         ensures ok { IfOk result (λ value. record { value = value; world = self.new.world }
             ≡ engine table.now (cells_of (map (λ h. h.known) hooks.now.all.items)) routine
-                (call caller args action) self.old.world) }
+            (call caller args action) self.old.world) }
         ensures err { OnErr result (self.new.world ≡ self.old.world) }
         ensures room { self.old.room ≤ self.new.room }
     {
@@ -110,7 +129,16 @@ impl<X: Drop> World<X> {
             }
             Some(found) => {
                 let room = self.room;
-                by_role(&mut self.parts, room, hooks, routine, found, caller, args, action)
+                by_role(
+                    &mut self.parts,
+                    room,
+                    hooks,
+                    routine,
+                    found,
+                    caller,
+                    args,
+                    action,
+                )
             }
         }
     }

@@ -1,5 +1,5 @@
 -- The beginning of a world, and of an entry.
-use Rattle.std.proofs.Common.{◌≡◌, ◌<◌, ◌≤◌, ◌+◌, ℕ, ℤ, zero, suc, Bool, true, false, nat_le, List, [], ◌∷◌, ◌++◌, drop, replicate, Option, None, Some, slice_get, refl, sym, ap, subst, ◌∙◌, arith}
+use Rattle.std.proofs.Common.{◌≡◌, ◌<◌, ◌≤◌, ◌+◌, ℕ, zero, suc, Bool, true, false, nat_le, List, [], ◌∷◌, ◌++◌, drop, replicate, None, Some, slice_get, refl, sym, ap, ◌∙◌, arith}
 use Rattle.std.specs.Prelude.{if◌then◌else◌}
 use Rattle.std.specs.Option.{IfSome}
 use Rattle.std.proofs.lemmas.Bool.{false≢true, true≢false}
@@ -8,7 +8,7 @@ use Rattle.std.proofs.lemmas.Option.{none-some, same_Some}
 use Rattle.delay_agenda.specs.declared.entry.Entry.{Entry}
 use Rattle.delay_agenda.specs.Order.{first_due}
 use Rattle.engine_rows.specs.World.{World}
-use Rattle.engine_rows.specs.Turns.{Begun, begin, begun, user_number, with_entries}
+use Rattle.engine_rows.specs.Turns.{begin, begun, user_number, with_entries}
 use Rattle.world_rows.specs.Begun.{IsBegunAs}
 
 one_more_suc : {A : Type 0} → (n : ℕ) (a : A) → replicate n a ++ a ∷ [] ≡ replicate (suc n) a

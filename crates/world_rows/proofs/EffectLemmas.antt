@@ -1,5 +1,5 @@
 -- Effects that are found among those of an object.
-use Rattle.std.proofs.Common.{◌≡◌, ◌≢◌, ◌<◌, ◌≤◌, ◌-◌, ◌+◌, ◌↔◌, ℕ, ℤ, pos, negsuc, zero, suc, Bool, true, false, cond, nat_lt, List, [], ◌∷◌, length, remove, Option, None, Some, slice_get, IsTrue, refl, sym, ap, subst, ◌∙◌, arith}
+use Rattle.std.proofs.Common.{◌≡◌, ◌≢◌, ◌<◌, ◌≤◌, ◌+◌, ◌↔◌, ℕ, ℤ, pos, negsuc, zero, suc, Bool, true, false, cond, nat_lt, List, [], ◌∷◌, length, remove, Option, None, Some, slice_get, IsTrue, refl, sym, ap, subst, ◌∙◌, arith}
 use Rattle.std.specs.Prelude.{◌==◌, ◌&&◌, ◌||◌, not, if◌then◌else◌}
 use Rattle.std.specs.Ordering.{int_eq}
 use Rattle.std.specs.Bool.{Decides}
@@ -10,7 +10,7 @@ use Rattle.std.proofs.lemmas.Option.{none-some}
 use Rattle.nwq_value.specs.declared.value.Effect.{Effect}
 use Rattle.engine_rows.specs.declared.data.Stood.{Stood}
 use Rattle.engine_rows.specs.declared.data.Told.TheVariants as line
-use Rattle.engine_rows.specs.World.{World, count, is_valid, effects_of, effects_in, things_at}
+use Rattle.engine_rows.specs.World.{World, count, is_valid, effects_of, effects_in}
 use Rattle.engine_rows.specs.Changes.{told, is_effect, is_numbered, same_effect, same_ints, with_effects, without_first}
 use Rattle.engine_rows.specs.Rows.{applied, removed}
 use Rattle.engine_rows.specs.Turns.{expired, unapply}

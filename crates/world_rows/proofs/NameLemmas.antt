@@ -1,6 +1,6 @@
 -- The names of an area's scripts are short: names of resources in a sound tree are.
-use Rattle.std.proofs.Common.{◌≡◌, ◌≤◌, ◌-◌, ℕ, zero, suc, Bool, true, false, nat_le, List, [], ◌∷◌, ◌++◌, map, length, take, Option, None, Some, IsTrue, refl, sym, ap, subst, ◌∙◌, arith}
-use Rattle.std.specs.Prelude.{if◌then◌else◌, ◌&&◌, codes}
+use Rattle.std.proofs.Common.{◌≡◌, ◌≤◌, ◌-◌, ℕ, zero, suc, Bool, true, false, nat_le, List, [], ◌∷◌, ◌++◌, map, length, take, Option, Some, sym, subst, arith}
+use Rattle.std.specs.Prelude.{if◌then◌else◌, codes}
 use Rattle.std.specs.List.{AllByRecursion}
 use Rattle.std.specs.Str.{bytes_eq}
 use Rattle.std.proofs.lemmas.List as lists
@@ -8,7 +8,7 @@ use Rattle.std.proofs.lemmas.Bool.{false≢true, and_parts}
 use Rattle.std.proofs.lemmas.Bool.Decides.{nat_tests}
 use Rattle.nwq_value.specs.Limits.{text_limit}
 use Rattle.gff_tree.specs.Tree.{PlainNode, PlainFields, PlainLeaf, PlainNodes, Scalar, Struct, NoField, MoreFields, Holds, Child, Children, NoNode, MoreNodes, Byte, Char, Word, Short, Dword, Int, Dword64, Int64, Float, Double, Str, Res, Localized, Void, fields_in, nodes_in, labels_of, are_distinct, resource_limit, depth_limit, is_sound, is_sound_node, are_sound_fields, is_sound_leaf, are_sound_nodes}
-use Rattle.gff_tree.specs.Fields.{fields_of, found}
+use Rattle.gff_tree.specs.Fields.{found}
 use Rattle.area_tree.specs.Objects.{Script, AreaObject, structs_in, scripts_in, with_script, object_of, objects_of, objects_under, list_labels}
 use Rattle.area_tree.specs.Area.{PlainArea, IsArea, bare, object, object_at, script_named, top_of}
 use Rattle.engine_rows.specs.Rows.{event_script, name_or}

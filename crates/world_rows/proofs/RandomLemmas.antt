@@ -1,5 +1,5 @@
 -- Random numbers.
-use Rattle.std.proofs.Common.{◌≡◌, ◌<◌, ◌≤◌, ℕ, ℤ, pos, negsuc, zero, suc, refl, arith}
+use Rattle.std.proofs.Common.{◌≡◌, ℕ, ℤ, pos, negsuc, zero, suc, refl}
 use Rattle.nwq_value.specs.declared.value.Value.TheVariants as value
 use Rattle.engine_rows.specs.Arguments.{at_least_zero}
 use Rattle.engine_rows.specs.World.{World}

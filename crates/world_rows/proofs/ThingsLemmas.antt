@@ -1,6 +1,6 @@
 -- What is kept of objects, where one of them is changed.
-use Rattle.std.proofs.Common.{◌≡◌, ◌<◌, ◌≤◌, ◌-◌, ℕ, zero, suc, List, [], ◌∷◌, ◌++◌, length, get_or, set, drop, remove, Result, Ok, Err, Option, None, Some, slice_get, refl, sym, ap, subst, ◌∙◌, arith}
-use Rattle.std.specs.Result.{OnOk, OnErr}
+use Rattle.std.proofs.Common.{◌≡◌, ◌<◌, ◌≤◌, ◌-◌, ℕ, zero, suc, List, [], ◌∷◌, length, get_or, set, Result, Ok, Err, Option, Some, slice_get, refl, sym, ap, subst, ◌∙◌, arith}
+use Rattle.std.specs.Result.{OnOk}
 use Rattle.action_queue.specs.Queued.{Queued}
 use Rattle.nwq_value.specs.declared.memory.NoMemory.{NoMemory}
 use Rattle.engine_rows.specs.declared.data.Stood.{Stood}
@@ -42,8 +42,8 @@ queue_changed zero things t q change first within is made = absurd (omega (arith
 queue_changed {X = X} (suc i) things t q change first within is made =
     subst (λ (k : ℕ). t ≡ get_or things k t → set things k (record { queue = q; effects = t.effects }) ≡ changed_at i (λ t. record t { queue = change (queue_in (slice_get things i)) }) things) (pred_suc i)
     (λ is.
-        queue_put things i t q within is
-        ∙ ap (λ (q : Queued X). changed_at i (λ t. record t { queue = q }) things) (made ∙ ap (λ (f : Option (Things X)). change (queue_in f)) (sym (things_read things i t within is))))
+    queue_put things i t q within is
+    ∙ ap (λ (q : Queued X). changed_at i (λ t. record t { queue = q }) things) (made ∙ ap (λ (f : Option (Things X)). change (queue_in f)) (sym (things_read things i t within is))))
     is
 
 pub effects_changed : {X : Type 0} → (o : ℕ) (things : List (Things X)) (t : Things X) (es : List Stood) (change : List Stood → List Stood) → 1 ≤ o → o ≤ length things → t ≡ get_or things (o - 1) t → es ≡ change t.effects →
@@ -52,8 +52,8 @@ effects_changed zero things t es change first within is made = absurd (omega (ar
 effects_changed {X = X} (suc i) things t es change first within is made =
     subst (λ (k : ℕ). t ≡ get_or things k t → set things k (record { queue = t.queue; effects = es }) ≡ changed_at i (λ t. record t { effects = change (effects_in (slice_get things i)) }) things) (pred_suc i)
     (λ is.
-        effects_put things i t es within is
-        ∙ ap (λ (es : List Stood). changed_at i (λ t. record t { effects = es }) things) (made ∙ ap (λ (f : Option (Things X)). change (effects_in f)) (sym (things_read things i t within is))))
+    effects_put things i t es within is
+    ∙ ap (λ (es : List Stood). changed_at i (λ t. record t { effects = es }) things) (made ∙ ap (λ (f : Option (Things X)). change (effects_in f)) (sym (things_read things i t within is))))
     is
 
 -- nothing is changed

@@ -63,12 +63,7 @@ impl<X: Drop> Parts<X> {
     }
 
     /// Gives an object's string variable a value.
-    fn set_local_text(
-        &mut self,
-        o: u32,
-        name: &[u8],
-        text: &[u8],
-    ) -> Result<(), NoMemory>
+    fn set_local_text(&mut self, o: u32, name: &[u8], text: &[u8]) -> Result<(), NoMemory>
         ensures ok { OnOk result (self.new.world
             ≡ changed_variables o (put (TextVar name.now text.now)) self.old.world) }
         ensures err { OnErr result (self.new.world ≡ self.old.world) }

@@ -1,6 +1,6 @@
 //! The parts of a world, and the small changes that everything else is made of.
 ghost use Rattle.std.specs.Prelude.{◌≡◌, ◌<◌, ◌≤◌, ◌+◌, ◌-◌, ◌^◌, ◌↔◌, ◌∷◌, [], drop, filter, length};
-ghost use Rattle.std.specs.Prelude.{not, slice_get, Some, IfOk, OnOk, OnErr, IsTrue};
+ghost use Rattle.std.specs.Prelude.{not, pos, slice_get, Some, IfOk, OnOk, OnErr, IsTrue};
 ghost use Rattle.std.specs.List.{remove};
 ghost use Rattle.area_tree.specs.Variables.{IntVar, TextVar, is_int, is_text, put};
 ghost use Rattle.delay_agenda.specs.Order.{first_due};
@@ -9,14 +9,16 @@ ghost use Rattle.engine_rows.specs.Changes.{told, post, with_busy, with_actions,
 ghost use Rattle.engine_rows.specs.Changes.{with_effect, with_effects, with_variables, without_turn};
 ghost use Rattle.engine_rows.specs.Turns.{drained, still, with_entries};
 ghost use Rattle.engine_rows.specs.World.{count, effects_of, is_valid, queue_of};
+ghost use Rattle.world_rows.specs.Saved.{put_together};
 
+use crate::saved::WorldParts;
 use crate::things::{add_effect, append, clear, of_object, set_busy, take_effect, take_head};
+use crate::turns::idle_objects;
 use action_queue::{Item, Queue};
 use area_tree::Area;
 use delay_agenda::{Agenda, Entry, Kind};
 use engine_rows::{Line, Stood, Things, Told};
-use crate::turns::idle_objects;
-use nwq_value::{Effect, NoMemory, Randoms};
+use nwq_value::{Effect, Items, NoMemory, Randoms};
 use std::alloc::Global;
 use std::collections::VecDeque;
 use std::marker::Model;
@@ -48,7 +50,6 @@ impl<X> Model for Parts<X> {
     ghost Value = { PartsView X };
 
     ghost coded = { Prim.hlevel (codes, gff.the_row.coded) };
-
 
     ghost view = { λ p. record {
       world = record {
@@ -93,6 +94,67 @@ impl<X: Drop> Parts<X> {
                 user: 0,
                 version,
             }),
+        }
+    }
+
+    /// The world of an area and of what was saved beside it; takes no memory.
+    pub fn from_parts(alloc: Global, area: Area, saved: WorldParts<X>) -> Parts<X>
+        ensures world { result.world ≡ put_together area saved }
+    {
+        let WorldParts {
+            clock,
+            objects,
+            agenda,
+            random,
+            version,
+        } = saved;
+        Parts {
+            alloc,
+            clock,
+            area,
+            things: objects.into_vec(),
+            agenda,
+            trace: Vec::new(alloc),
+            random: VecDeque::from_vec(random.into_vec()),
+            user: 0,
+            version,
+        }
+    }
+
+    /// The area, and what is saved beside it. After `NoMemory` all is dropped.
+    pub fn into_parts(self) -> Result<(Area, WorldParts<X>), NoMemory>
+        ensures parts { IfOk result (λ both. put_together both.0 both.1
+            ≡ record self.world { trace = []; user = pos 0 }) }
+    {
+        let Parts {
+            alloc,
+            clock,
+            area,
+            things,
+            agenda,
+            trace,
+            mut random,
+            user: _,
+            version,
+        } = self;
+        drop(trace);
+        match Randoms::of_slice(alloc, random.make_contiguous()) {
+            Err(NoMemory) => {
+                drop(area);
+                drop(things);
+                drop(agenda);
+                Err(NoMemory)
+            }
+            Ok(left) => Ok((
+                area,
+                WorldParts {
+                    clock,
+                    objects: Items::of_vec(things),
+                    agenda,
+                    random: left,
+                    version,
+                },
+            )),
         }
     }
 

@@ -133,25 +133,12 @@ fn tables(alloc: Global) -> Result<Tables, NoMemory> {
 }
 
 #[test]
-fn a_hook_looks_cells_up(rt: HostRuntime) -> Result<(), Fail> {
+fn a_cell_is_looked_up(rt: HostRuntime) -> Result<(), Fail> {
     let alloc = rt.alloc();
-    let tables = tables(alloc)?;
-    let own = tables.copy(alloc)?;
-    let call: Call = Box::new(
-        alloc,
-        move |args: &Args| -> Result<Value, NoMemory>
-            ensures { IfOk result
-                (λ v. IsAnswer own (codes "Get2DAString") TextTy args.now v) }
-        { cell_call(alloc, &own, args) },
-    )?;
-    let name = Text::of(alloc, b"Get2DAString")?;
-    let params = Tys::of_slice(alloc, &[Ty::Text, Ty::Text, Ty::Int])?;
-    let hook = Hook::new(name, params, Ty::Text, call, tables);
     let args = texts_and(alloc, b"X", b"Cost", 0)?;
-    assert!(rt;
-        hook.answer(&args)?
-            .same(&Value::Text(Text::of(alloc, b"10")?))
-    );
+    let ten = Value::Text(Text::of(alloc, b"10")?);
+    let tables = tables(alloc)?;
+    assert!(rt; cell_call(alloc, &tables, &args)?.same(&ten));
     Ok(())
 }
 

@@ -1,5 +1,4 @@
 use Rattle.std.proofs.Common.{[]}
-use Rattle.action_queue.specs.Queued.{Queued}
 use Rattle.world_rows.proofs.ThingsLemmas.{queue_changed}
 use Rattle.world_rows.proofs.things.clear.Goals as goal
 

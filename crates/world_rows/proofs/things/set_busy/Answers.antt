@@ -1,4 +1,3 @@
-use Rattle.action_queue.specs.Queued.{Queued}
 use Rattle.world_rows.proofs.ThingsLemmas.{queue_changed}
 use Rattle.world_rows.proofs.things.set_busy.Goals as goal
 
