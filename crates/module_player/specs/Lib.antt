@@ -2,5 +2,3 @@ pub mod CodePlays
 pub mod Scenes
 pub mod Settings
 pub mod Entries
-pub mod Turns
-pub mod Answers

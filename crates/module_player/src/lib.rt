@@ -7,12 +7,10 @@
 #![tactic(auto)]
 
 mod entry;
-mod play;
+mod names;
 mod played;
 mod running;
 mod scripts;
 mod setting;
-mod turn;
 
-pub use play::{play, play_on};
 pub use played::{How, Played};
