@@ -5,3 +5,8 @@ pub mod Numbers
 pub mod RowLemmas
 pub mod Keeping
 pub mod Reaching
+pub mod Steps
+pub mod Following
+pub mod Adding
+pub mod Calling
+pub mod CallSteps

@@ -20,6 +20,7 @@ use Rattle.stack_check.specs.declared.seen.Seen.{Seen}
 use Rattle.stack_check.specs.declared.seen.Seen.TheVariants.{Quiet, Changed, Bad}
 use Rattle.stack_check.specs.declared.leads.Lead.{Lead}
 use Rattle.stack_check.specs.declared.leads.Lead.TheVariants.{One, Two}
+use Rattle.stack_check.specs.Shared.{read}
 use Rattle.stack_check.specs.Held.{HeapGrows, IsIn, shape_of}
 use Rattle.stack_check.specs.Rows.{RowAdded, row_in}
 use Rattle.stack_check.specs.Facts.{current, first_place, first_held, callee_of, table_of}
@@ -124,7 +125,8 @@ abbrev pub Reached : Heap → Facts → Facts → ℕ → ℕ → Held → Seen 
 Reached heap before after number place held Quiet = (after ≡ before) × RowIs heap before number place (shape_of heap held)
 Reached heap before after number place held Changed =
     RowAdded before.rows after.rows number place held × (after ≡ record before { rows = after.rows })
-Reached heap before after number place held Bad = (RowIs heap before number place (shape_of heap held) → ⊥) × ((h : Held) × (row_in before.rows number place ≡ Some h))
+Reached heap before after number place held Bad =
+    (RowIs heap before number place (shape_of heap held) → ⊥) × ((h : Held) × (row_in before.rows number place ≡ Some h)) × (after ≡ before)
 
 -- ---- a new trial
 
@@ -190,3 +192,29 @@ pub record GivenOwed (header : EngineTable) (code : List PlainOp) (heap : Heap) 
   pub has : slice_get facts.trials number ≡ Some trial
   pub by : (table : ShapeTable) → MeetsRules header code table → (fits : TrialFits table heap facts number trial)
       → Beyond table trial.entry (callee_of heap (record trial { given = Some given })) fits.x fits.y
+
+-- what a visit comes to that has changed something before
+abbrev pub after_change : Seen → Seen
+after_change Bad = Bad
+after_change Changed = Changed
+after_change Quiet = Changed
+
+-- The trial of this number counts for the entry, and for the others the same as before.
+pub record CurrentSet (before after : Facts) (entry : Entry) (number : ℕ) : Type 0 where
+  pub trials : after.trials ≡ before.trials
+  pub rows : after.rows ≡ before.rows
+  pub only : (e : Entry) (n : ℕ) → current after e ≡ Some n → (current before e ≡ Some n) ⊎ ((e ≡ entry) × (n ≡ number))
+
+-- ---- calls
+
+-- the trial that counts for the routine that begins at a place
+pub record Calls (facts : Facts) (target : ℕ) (callee : Trial) : Type 0 where
+  pub number : ℕ
+  pub counts : current facts (Called target) ≡ Some number
+  pub has : slice_get facts.trials number ≡ Some callee
+
+-- A shape begins with what a trial takes, and these lie beneath.
+pub record Strips (heap : Heap) (held : Held) (callee : Trial) (rest beneath : ℕ) : Type 0 where
+  pub rest_in : rest ≤ length heap.slots
+  pub cells : read heap.slots held.cells ≡ read heap.slots callee.taken ++ read heap.slots rest
+  pub under : read heap.slots held.under ≡ read heap.slots callee.under ++ read heap.slots beneath

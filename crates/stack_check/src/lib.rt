@@ -10,6 +10,7 @@
 //! than it has instructions. The page is docs/SHAPES.md.
 #![tactic(auto)]
 
+mod calls;
 mod checked;
 mod facts;
 mod fault;

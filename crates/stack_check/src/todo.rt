@@ -35,16 +35,16 @@ impl Todo {
         self.spots.pop()
     }
 
-    pub fn add(&mut self, trial: u32, place: u32) -> Result<(), NoMemory> {
-        self.spots.push(Spot { trial, place })?;
+    pub fn add(&mut self, spot: Spot) -> Result<(), NoMemory> {
+        self.spots.push(spot)?;
         Ok(())
     }
 
     /// Keeps a call of the routine that begins at `target`.
-    pub fn add_call(&mut self, target: u32, trial: u32, place: u32) -> Result<(), NoMemory> {
+    pub fn add_call(&mut self, target: u32, spot: Spot) -> Result<(), NoMemory> {
         let below = self.called.get(target);
         if below as usize <= self.calls.len() {
-            let number = self.calls.push(below, Spot { trial, place })?;
+            let number = self.calls.push(below, spot)?;
             self.called.put(target, number)?;
         }
         Ok(())
