@@ -1,6 +1,6 @@
 -- What entries come to.
 use Rattle.std.proofs.Common.{arith, ◌≡◌, ◌≢◌, ◌≤◌, ◌<◌, ◌+◌, ℕ, Bool, true, false, List, [], ◌∷◌, Option, None, Some, sym, subst, ap, ◌∙◌, refl}
-use Rattle.std.specs.Prelude.{◌^◌, length, slice_get}
+use Rattle.std.specs.Prelude.{◌^◌, IsTrue, length, slice_get}
 use Rattle.saved_state.specs.declared.saved.Saved.{Saved}
 use Rattle.machine_step.specs.Machine.{Script, script_named}
 use Rattle.machine_step.specs.Runs.{run_stored}
@@ -19,10 +19,9 @@ use Rattle.ncs_machine.specs.Stored.{StatesFit, TurnedFits, TurnKeepsFits, TurnD
 use Rattle.ncs_machine.specs.declared.scripts.Begin.TheVariants as begins
 use Rattle.module_player.specs.declared.scripts.Ended.{Ended}
 use Rattle.module_player.specs.declared.entry.Entered.{Entered}
-use Rattle.module_player.specs.declared.setting.Setting.{Setting}
 use Rattle.module_player.specs.CodePlays.{code_runner, run_of}
 use Rattle.module_player.specs.Entries.{Comes, HasActed, HasEntered, HasRun, KeepsFits, entered, run, turn_taken}
-use Rattle.module_player.specs.Settings.{FitIn, host_in, runner_in, scripts_in, tables_in}
+use Rattle.module_player.specs.Scenes.{Scene, FitIn, host_in, runner_in, scripts_in, tables_in}
 
 -- ---- states that fit
 
@@ -31,21 +30,21 @@ same_fits w v agenda things scripts tables f = record { agenda = rw agenda f.age
 
 -- ---- the runner
 
-runner_named : (s : Setting) (limit : ℕ) (name : List ℕ) → (runner_in s limit).named name ≡ script_named (scripts_in s) name
+runner_named : (s : Scene) (limit : ℕ) (name : List ℕ) → (runner_in s limit).named name ≡ script_named (scripts_in s) name
 unfolding code_runner host
 runner_named s limit name = refl
 
-runner_script : (s : Setting) (limit n o : ℕ) (w : World Saved) → (runner_in s limit).script n o w ≡ run_of (run_from (host_in s) limit n begins.Start o w)
+runner_script : (s : Scene) (limit n o : ℕ) (w : World Saved) → (runner_in s limit).script n o w ≡ run_of (run_from (host_in s) limit n begins.Start o w)
 unfolding code_runner
 runner_script s limit n o w = refl
 
-runner_stored : (s : Setting) (limit : ℕ) (x : Saved) (o : ℕ) (w : World Saved) → (runner_in s limit).stored x o w ≡ run_of (run_stored (host_in s) limit x o w)
+runner_stored : (s : Scene) (limit : ℕ) (x : Saved) (o : ℕ) (w : World Saved) → (runner_in s limit).stored x o w ≡ run_of (run_stored (host_in s) limit x o w)
 unfolding code_runner
 runner_stored s limit x o w = refl
 
 -- ---- an entry of scripts alone
 
-pub script_entered : (s : Setting) (limit : ℕ) (ended : Ended) (n : ℕ) (stopped : Bool) (r : Run Saved) (w u v : World Saved)
+pub script_entered : (s : Scene) (limit : ℕ) (ended : Ended) (n : ℕ) (stopped : Bool) (r : Run Saved) (w u v : World Saved)
     → HasRun s limit ended n r w u → ((m : ℕ) → finished (λ x. x) (run ended m u) ≡ record { stopped = stopped; count = m; world = v })
     → v.agenda ≡ u.agenda → v.things ≡ u.things → HasEntered s limit (record { stopped = stopped; count = n }) (finished (λ x. x) r) w v
 script_entered s limit ended n stopped r w u v h f agenda things = record {
@@ -57,7 +56,7 @@ script_entered s limit ended n stopped r w u v h f agenda things = record {
 
 -- ---- events
 
-pub event_empty : (s : Setting) (limit o : ℕ) (name : List ℕ) (w : World Saved) → name ≡ [] → FitIn s w
+pub event_empty : (s : Scene) (limit o : ℕ) (name : List ℕ) (w : World Saved) → name ≡ [] → FitIn s w
     → HasEntered s limit (record { stopped = false; count = 0 }) (event_entry (runner_in s limit) o name w) w w
 event_empty s limit o name w empty f = record {
   is = ap (λ b. event_entry (runner_in s limit) o b w) empty;
@@ -66,7 +65,7 @@ event_empty s limit o name w empty f = record {
   few = omega arith;
 }
 
-pub named_unlisted : (s : Setting) (limit o : ℕ) (name : List ℕ) (w v : World Saved) → script_named (scripts_in s) name ≡ None → v ≡ no_script o name w → FitIn s w
+pub named_unlisted : (s : Scene) (limit o : ℕ) (name : List ℕ) (w v : World Saved) → script_named (scripts_in s) name ≡ None → v ≡ no_script o name w → FitIn s w
     → HasEntered s limit (record { stopped = false; count = 0 }) (named_entry (runner_in s limit) o name ((runner_in s limit).named name) w) w v
 named_unlisted s limit o name w v none is f = record {
   is = ap (λ n. named_entry (runner_in s limit) o name n w) (runner_named s limit name ∙ none) ∙ ap (λ x. record { stopped = false; count = 0; world = x }) (sym is);
@@ -75,36 +74,36 @@ named_unlisted s limit o name w v none is f = record {
   few = let k = ap (λ x. x.agenda.next) is in omega arith;
 }
 
-pub event_unlisted : (s : Setting) (limit o : ℕ) (name : List ℕ) (w v : World Saved) → name ≢ [] → script_named (scripts_in s) name ≡ None → v ≡ no_script o name w → FitIn s w
+pub event_unlisted : (s : Scene) (limit o : ℕ) (name : List ℕ) (w v : World Saved) → name ≢ [] → script_named (scripts_in s) name ≡ None → v ≡ no_script o name w → FitIn s w
     → HasEntered s limit (record { stopped = false; count = 0 }) (event_entry (runner_in s limit) o name w) w v
 event_unlisted s limit o [] w v some none is f = absurd (some refl)
 event_unlisted s limit o (b ∷ name) w v some none is f = named_unlisted s limit o (b ∷ name) w v none is f
 
-named_listed : (s : Setting) (limit o n : ℕ) (name : List ℕ) (w : World Saved) → script_named (scripts_in s) name ≡ Some n
+named_listed : (s : Scene) (limit o n : ℕ) (name : List ℕ) (w : World Saved) → script_named (scripts_in s) name ≡ Some n
     → named_entry (runner_in s limit) o name ((runner_in s limit).named name) w ≡ finished (λ x. x) (run_of (run_from (host_in s) limit n begins.Start o w))
 named_listed s limit o n name w is =
     ap (λ m. named_entry (runner_in s limit) o name m w) (runner_named s limit name ∙ is) ∙ ap (finished (λ x. x)) (runner_script s limit n o w)
 
-event_is : (s : Setting) (limit o n : ℕ) (name : List ℕ) (w : World Saved) → name ≢ [] → script_named (scripts_in s) name ≡ Some n
+event_is : (s : Scene) (limit o n : ℕ) (name : List ℕ) (w : World Saved) → name ≢ [] → script_named (scripts_in s) name ≡ Some n
     → event_entry (runner_in s limit) o name w ≡ finished (λ x. x) (run_of (run_from (host_in s) limit n begins.Start o w))
 event_is s limit o n [] w some is = absurd (some refl)
 event_is s limit o n (b ∷ name) w some is = named_listed s limit o n (b ∷ name) w is
 
-pub event_listed : (s : Setting) (limit o n : ℕ) (name : List ℕ) (e : Entered) (w v : World Saved) → name ≢ [] → script_named (scripts_in s) name ≡ Some n
+pub event_listed : (s : Scene) (limit o n : ℕ) (name : List ℕ) (e : Entered) (w v : World Saved) → name ≢ [] → script_named (scripts_in s) name ≡ Some n
     → HasEntered s limit e (finished (λ x. x) (run_of (run_from (host_in s) limit n begins.Start o w))) w v
     → HasEntered s limit e (event_entry (runner_in s limit) o name w) w v
 event_listed s limit o n name e w v some is h = subst (λ p. HasEntered s limit e p w v) (sym (event_is s limit o n name w some is)) h
 
 -- ---- stored actions
 
-pub stored_entered : (s : Setting) (limit o n number : ℕ) (x : Saved) (e : Entered) (w v : World Saved)
+pub stored_entered : (s : Scene) (limit o n number : ℕ) (x : Saved) (e : Entered) (w v : World Saved)
     → HasEntered s limit e (finished (λ y. y) (run_of (run_from (host_in s) limit n (begins.Stored x) o w))) w v
     → HasEntered s limit e (entered_as (runner_in s limit) (Stored o x) number w) w v
 stored_entered s limit o n number x e w v h = subst (λ r. HasEntered s limit e (finished (λ y. y) r) w v) (sym (runner_stored s limit x o w)) h
 
 -- ---- Turns
 
-pub action_entered : (s : Setting) (limit o : ℕ) (ended : Ended) (n : ℕ) (stopped : Bool) (r : Run Saved) (w u v : World Saved)
+pub action_entered : (s : Scene) (limit o : ℕ) (ended : Ended) (n : ℕ) (stopped : Bool) (r : Run Saved) (w u v : World Saved)
     → HasRun s limit ended n r w u → ((m : ℕ) → finished (turn_done o) (run ended m u) ≡ record { stopped = stopped; count = m; world = v })
     → v.agenda.next ≤ u.agenda.next + 1 → KeepsFits u v → HasActed s limit (record { stopped = stopped; count = n }) (finished (turn_done o) r) w v
 action_entered s limit o ended n stopped r w u v h f few fit = record {
@@ -120,19 +119,51 @@ acts_on o limit w v left acts = left.acting o acts
 pub fault_acts : (own o : ℕ) (w v : World Saved) → FaultKeeps Saved → IsWorld w → v ≡ fault own w → IsActing o w → IsActing o v
 fault_acts own o w v keeps world is acts = subst (IsActing o) (sym is) ((keeps own w world).acting o acts)
 
-pub turn_rests : (s : Setting) (limit o : ℕ) (w v : World Saved) → TurnKeeps Saved → TurnKeepsFits → IsWorld w → 1 ≤ o → o ≤ object_count w → IsActing o w → FitIn s w
+pub turn_rests : (s : Scene) (limit o : ℕ) (w v : World Saved) → TurnKeeps Saved → TurnKeepsFits → IsWorld w → IsTrue (is_valid o w) → IsActing o w → FitIn s w
     → record { action = None; world = v } ≡ turn o w
     → HasEntered s limit (record { stopped = false; count = 0 }) (turn_taken (runner_in s limit) o w) w v
-turn_rests s limit o w v keeps fits world first within acts f is = ?
+turn_rests s limit o w v keeps fits world valid acts f e =
+    subst (λ t. HasEntered s limit (record { stopped = false; count = 0 }) (turn_entry (runner_in s limit) o t.action t.world) w v) e (record {
+      is = refl;
+      within = omega arith;
+      fit = subst (FitIn s) (sym (ap (λ t. t.world) e)) (fits (scripts_in s) (tables_in s) o w f).world;
+      few = let k = (keeps o w world valid acts).at_most_one in let m = ap (λ t. t.world.agenda.next) e in omega arith;
+    })
 
-pub turn_acts : (s : Setting) (limit o : ℕ) (x : Saved) (e : Entered) (w u v : World Saved) → TurnKeeps Saved → IsWorld w → 1 ≤ o → o ≤ object_count w → IsActing o w
+-- a Turn that comes to a stored action
+pub record ActsNow (s : Scene) (o : ℕ) (x : Saved) (w u : World Saved) : Type 0 where
+  pub stored : FitsOne (scripts_in s) (tables_in s) x
+  pub fit : FitIn s u
+  pub clock : u.clock ≡ w.clock
+  pub few : u.agenda.next ≤ w.agenda.next + 1
+  pub objects : object_count u ≡ object_count w
+  pub acting : IsActing o u
+
+pub acts_now : (s : Scene) (o : ℕ) (x : Saved) (w u : World Saved) → TurnKeeps Saved → TurnKeepsFits → IsWorld w → IsTrue (is_valid o w) → IsActing o w → FitIn s w
+    → record { action = Some x; world = u } ≡ turn o w → ActsNow s o x w u
+acts_now s o x w u keeps fits world valid acts f e =
+    let k = subst (IsTurned o w) (sym e) (keeps o w world valid acts) in
+    let h = subst (TurnedFits (scripts_in s) (tables_in s)) (sym e) (fits (scripts_in s) (tables_in s) o w f) in
+    record { stored = h.action; fit = h.world; clock = k.clock; few = k.at_most_one; objects = k.objects; acting = k.acting }
+
+pub turn_acts : (s : Scene) (limit o : ℕ) (x : Saved) (e : Entered) (w u v : World Saved) → u.agenda.next ≤ w.agenda.next + 1
     → record { action = Some x; world = u } ≡ turn o w
     → HasActed s limit e (finished (turn_done o) (run_of (run_stored (host_in s) limit x o u))) u v
     → HasEntered s limit e (turn_taken (runner_in s limit) o w) w v
-turn_acts s limit o x e w u v keeps world first within acts is h = ?
+turn_acts s limit o x e w u v few is h =
+    subst (λ t. HasEntered s limit e (turn_entry (runner_in s limit) o t.action t.world) w v) is (record {
+      is = ap (finished (turn_done o)) (runner_stored s limit x o u) ∙ h.is;
+      within = h.within;
+      fit = h.fit;
+      few = let k = h.few in omega arith;
+    })
 
 pub ruleset event_lemmas = (event_empty, event_unlisted, event_listed)
+
 pub ruleset action_lemmas = (action_entered, acts_on)
+
 pub ruleset turn_lemmas = (fault_acts)
-pub ruleset turn_entry_lemmas = (turn_rests, turn_acts)
+
+pub ruleset turn_entry_lemmas = (turn_rests, turn_acts, acts_now)
+
 pub ruleset entry_lemmas = (stored_entered)

@@ -1,2 +1,3 @@
-pub mod Names
+pub mod NamedScripts
+pub mod Runs
 pub mod Entering

@@ -8,15 +8,12 @@ use Rattle.machine_step.specs.Runs as runs
 use Rattle.engine_rows.specs.World.{World}
 use Rattle.play_steps.specs.Plays.{Ending, Over, Divided, Stopped, Run, Runner, Bounds, Progress, Played, play, play_on}
 use Rattle.play_steps.specs.EndText.{end_text}
-use Rattle.world_core.specs.Calls.{cells_of}
-use Rattle.ncs_machine.specs.Host.{EngineView, host}
+use Rattle.ncs_machine.specs.declared.scripts.Loaded.{Loaded}
+use Rattle.ncs_machine.specs.Host.{engine_view, host, scripts_of}
 
--- the engine under a header, whose cells are looked up in the hooks' tables
-abbrev pub engine_view : EngineTable → List Known → EngineView
-engine_view table hooks = record { table = table; cell = cells_of hooks }
-
-abbrev pub host_of : List Script → EngineTable → List Known → Host (World Saved)
-host_of scripts table hooks = host scripts (engine_view table hooks)
+-- what listed scripts run in under a header
+abbrev pub host_of : List Loaded → EngineTable → List Known → Host (World Saved)
+host_of scripts table hooks = host (scripts_of scripts) (engine_view table hooks)
 
 -- How an entry's scripts end by how the machine's run does, with the object as which the last script ran. Scripts that were checked never
 -- come to a stack fault.

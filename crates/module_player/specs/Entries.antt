@@ -12,8 +12,7 @@ use Rattle.ncs_machine.specs.Stored.{StatesFit}
 use Rattle.module_player.specs.declared.scripts.Ended.{Ended}
 use Rattle.module_player.specs.declared.scripts.Ended.TheVariants.{Over, Divided, Stopped}
 use Rattle.module_player.specs.declared.entry.Entered.{Entered}
-use Rattle.module_player.specs.declared.setting.Setting.{Setting}
-use Rattle.module_player.specs.Settings.{FitIn}
+use Rattle.module_player.specs.Scenes.{Scene, FitIn}
 
 abbrev pub ending : Ended → Ending
 ending Over = plays.Over
@@ -25,7 +24,7 @@ abbrev pub run : Ended → ℕ → World Saved → Run Saved
 run ended count w = record { ending = ending ended; count = count; world = w }
 
 -- Scripts ran from the one world to the other: how they ended, and after how many instructions.
-pub record HasRun (s : Setting) (limit : ℕ) (ended : Ended) (count : ℕ) (r : Run Saved) (w v : World Saved) : Type 0 where
+pub record HasRun (s : Scene) (limit : ℕ) (ended : Ended) (count : ℕ) (r : Run Saved) (w v : World Saved) : Type 0 where
   pub is : r ≡ run ended count v
   pub within : count ≤ limit
   pub fit : FitIn s v
@@ -40,18 +39,18 @@ abbrev pub KeepsFits : World Saved → World Saved → Type 0
 KeepsFits w v = (scripts : List Script) (tables : Tables) → StatesFit scripts tables w → StatesFit scripts tables v
 
 -- An entry led from the one world to the other, and posted so many entries at most.
-pub record Comes (s : Setting) (limit : ℕ) (posts : ℕ) (e : Entered) (p : plays.Entered Saved) (w v : World Saved) : Type 0 where
+pub record Comes (s : Scene) (limit : ℕ) (posts : ℕ) (e : Entered) (p : plays.Entered Saved) (w v : World Saved) : Type 0 where
   pub is : p ≡ entered e v
   pub within : e.count ≤ limit
   pub fit : FitIn s v
   pub few : v.agenda.next ≤ w.agenda.next + posts
 
 -- a Turn's action: an entry for each instruction, and the next Turn
-abbrev pub HasActed : Setting → ℕ → Entered → plays.Entered Saved → World Saved → World Saved → Type 0
+abbrev pub HasActed : Scene → ℕ → Entered → plays.Entered Saved → World Saved → World Saved → Type 0
 HasActed s limit e p w v = Comes s limit (limit + 1) e p w v
 
 -- and an entry for what a Turn posts before
-abbrev pub HasEntered : Setting → ℕ → Entered → plays.Entered Saved → World Saved → World Saved → Type 0
+abbrev pub HasEntered : Scene → ℕ → Entered → plays.Entered Saved → World Saved → World Saved → Type 0
 HasEntered s limit e p w v = Comes s limit (limit + 2) e p w v
 
 -- a Turn of an object

@@ -1,4 +1,4 @@
 pub mod CodePlays
 pub mod Scenes
-pub mod Settings
 pub mod Entries
+pub mod Answers

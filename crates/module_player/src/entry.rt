@@ -1,5 +1,5 @@
 //! One agenda entry.
-ghost use Rattle.std.specs.Prelude.{◌≡◌, ◌≤◌, ◌<◌, ◌+◌, ◌^◌, ℕ, IfOk, OnOk, false, length};
+ghost use Rattle.std.specs.Prelude.{◌≡◌, ◌≤◌, ◌<◌, ◌+◌, ◌^◌, ℕ, IfOk, OnOk, false, length, map};
 ghost use Rattle.delay_agenda.specs.declared.entry.Kind.TheVariants as kind;
 ghost use Rattle.nwq_value.specs.Limits.{instruction_limit};
 ghost use Rattle.shape_tables.specs.Fits.{FitsOne};
@@ -13,8 +13,8 @@ ghost use Rattle.ncs_machine.specs.Host.{run_from};
 ghost use Rattle.ncs_machine.specs.Stored.{KindFits};
 ghost use Rattle.module_player.specs.CodePlays.{run_of};
 ghost use Rattle.module_player.specs.Entries.{HasActed, HasEntered, IsReady, KeepsFits, run, turn_taken};
-ghost use Rattle.module_player.specs.Settings.{FitIn, IsSet, host_in, runner_in};
-ghost use Rattle.module_player.specs.Settings.{scripts_in, tables_in};
+ghost use Rattle.module_player.specs.Scenes.{FitIn, IsSet, host_in, runner_in};
+ghost use Rattle.module_player.specs.Scenes.{scene, scripts_in, tables_in};
 
 use crate::names::script_named;
 use crate::scripts::{Ended, run_scripts};
@@ -43,9 +43,8 @@ const QUIET: Entered = Entered {
 /// What is left of an entry once its scripts are over, where that is nothing but the line of a
 /// division. Whether the entry was stopped.
 fn finish(world: &mut World<Saved>, ended: Ended) -> Result<bool, NoMemory>
-    ensures finished { IfOk result (λ stopped. (n : ℕ) →
-        finished (λ v. v) (run ended n world.old.world)
-        ≡ record { stopped = stopped; count = n; world = world.new.world }) }
+    ensures finished { IfOk result (λ stopped. (n : ℕ) → finished (λ v. v) (run ended n
+        world.old.world) ≡ record { stopped = stopped; count = n; world = world.new.world }) }
     ensures agenda { OnOk result (world.new.world.agenda ≡ world.old.world.agenda) }
     ensures things { OnOk result (world.new.world.things ≡ world.old.world.things) }
 {
@@ -68,11 +67,9 @@ fn finish_turn(world: &mut World<Saved>, object: u32, ended: Ended) -> Result<bo
     requires within { object ≤ object_count world.old.world }
     requires acting { IsActing object world.old.world }
     requires room { 1 ≤ world.old.room }
-    ensures finished { IfOk result (λ stopped. (n : ℕ) →
-        finished (turn_done object) (run ended n world.old.world)
-        ≡ record { stopped = stopped; count = n; world = world.new.world }) }
-    ensures few { OnOk result
-        (world.new.world.agenda.next ≤ world.old.world.agenda.next + 1) }
+    ensures finished { IfOk result (λ stopped. (n : ℕ) → finished (turn_done object) (run ended n
+        world.old.world) ≡ record { stopped = stopped; count = n; world = world.new.world }) }
+    ensures few { OnOk result (world.new.world.agenda.next ≤ world.old.world.agenda.next + 1) }
     ensures fit { OnOk result (KeepsFits world.old.world world.new.world) }
 {
     entries_keep_worlds::<Saved>();
@@ -103,17 +100,24 @@ fn script_entry(
     object: u32,
     limit: u64,
 ) -> Result<Entered, NoMemory>
-    requires set { IsSet setting.now }
+    requires set { IsSet (scene setting.now.scripts.now setting.now.table.now (map (λ h. h.known)
+        setting.now.hooks.now.all.items)) }
     requires listed { script < length setting.now.scripts.now }
-    requires stored { FitsBegin (scripts_in setting.now) (tables_in setting.now) begin }
+    requires stored { FitsBegin (scripts_in (scene setting.now.scripts.now setting.now.table.now
+        (map (λ h. h.known) setting.now.hooks.now.all.items))) (tables_in (scene
+        setting.now.scripts.now setting.now.table.now (map (λ h. h.known)
+        setting.now.hooks.now.all.items))) begin }
     requires limit { limit ≤ instruction_limit }
     requires ready { IsReady world.old.world }
-    requires fit { FitIn setting.now world.old.world }
+    requires fit { FitIn (scene setting.now.scripts.now setting.now.table.now (map (λ h. h.known)
+        setting.now.hooks.now.all.items)) world.old.world }
     requires object { object ≤ object_count world.old.world }
     requires room { 1 ≤ world.old.room }
-    ensures entered { IfOk result (λ e. HasEntered setting.now limit e (finished (λ v. v)
-        (run_of (run_from (host_in setting.now) limit script begin object world.old.world)))
-        world.old.world world.new.world) }
+    ensures entered { IfOk result (λ e. HasEntered (scene setting.now.scripts.now
+        setting.now.table.now (map (λ h. h.known) setting.now.hooks.now.all.items)) limit e
+        (finished (λ v. v) (run_of (run_from (host_in (scene setting.now.scripts.now
+        setting.now.table.now (map (λ h. h.known) setting.now.hooks.now.all.items))) limit script
+        begin object world.old.world))) world.old.world world.new.world) }
 {
     let (ended, count) = run_scripts(alloc, setting, world, script, begin, object, limit)?;
     let stopped = finish(world, ended)?;
@@ -130,14 +134,18 @@ fn event_entry(
     name: &Text,
     limit: u64,
 ) -> Result<Entered, NoMemory>
-    requires set { IsSet setting.now }
+    requires set { IsSet (scene setting.now.scripts.now setting.now.table.now (map (λ h. h.known)
+        setting.now.hooks.now.all.items)) }
     requires limit { limit ≤ instruction_limit }
     requires ready { IsReady world.old.world }
-    requires fit { FitIn setting.now world.old.world }
+    requires fit { FitIn (scene setting.now.scripts.now setting.now.table.now (map (λ h. h.known)
+        setting.now.hooks.now.all.items)) world.old.world }
     requires object { object ≤ object_count world.old.world }
     requires room { 1 ≤ world.old.room }
-    ensures entered { IfOk result (λ e. HasEntered setting.now limit e
-        (event_entry (runner_in setting.now limit) object name.now world.old.world)
+    ensures entered { IfOk result (λ e. HasEntered (scene setting.now.scripts.now
+        setting.now.table.now (map (λ h. h.known) setting.now.hooks.now.all.items)) limit e
+        (event_entry (runner_in (scene setting.now.scripts.now setting.now.table.now (map (λ h.
+        h.known) setting.now.hooks.now.all.items)) limit) object name.now world.old.world)
         world.old.world world.new.world) }
 {
     if name.bytes().is_empty() {
@@ -170,18 +178,26 @@ fn action_entry(
     saved: Saved,
     limit: u64,
 ) -> Result<Entered, NoMemory>
-    requires set { IsSet setting.now }
-    requires stored { FitsOne (scripts_in setting.now) (tables_in setting.now) saved }
+    requires set { IsSet (scene setting.now.scripts.now setting.now.table.now (map (λ h. h.known)
+        setting.now.hooks.now.all.items)) }
+    requires stored { FitsOne (scripts_in (scene setting.now.scripts.now setting.now.table.now
+        (map (λ h. h.known) setting.now.hooks.now.all.items))) (tables_in (scene
+        setting.now.scripts.now setting.now.table.now (map (λ h. h.known)
+        setting.now.hooks.now.all.items))) saved }
     requires limit { limit ≤ instruction_limit }
-    requires ready { IsReady world.old.world }
-    requires fit { FitIn setting.now world.old.world }
+    requires clock { world.old.world.clock < 2 ^ 62 }
+    requires next { world.old.world.agenda.next < 2 ^ 62 }
+    requires fit { FitIn (scene setting.now.scripts.now setting.now.table.now (map (λ h. h.known)
+        setting.now.hooks.now.all.items)) world.old.world }
     requires first { 1 ≤ object }
     requires within { object ≤ object_count world.old.world }
     requires acting { IsActing object world.old.world }
     requires room { 1 ≤ world.old.room }
-    ensures entered { IfOk result (λ e. HasActed setting.now limit e (finished (turn_done object)
-        (run_of (run_stored (host_in setting.now) limit saved object world.old.world)))
-        world.old.world world.new.world) }
+    ensures entered { IfOk result (λ e. HasActed (scene setting.now.scripts.now
+        setting.now.table.now (map (λ h. h.known) setting.now.hooks.now.all.items)) limit e
+        (finished (turn_done object) (run_of (run_stored (host_in (scene setting.now.scripts.now
+        setting.now.table.now (map (λ h. h.known) setting.now.hooks.now.all.items))) limit saved
+        object world.old.world))) world.old.world world.new.world) }
 {
     let script = saved.script;
     let begin = Begin::Stored(saved);
@@ -199,17 +215,21 @@ fn turn_entry(
     object: u32,
     limit: u64,
 ) -> Result<Entered, NoMemory>
-    requires set { IsSet setting.now }
+    requires set { IsSet (scene setting.now.scripts.now setting.now.table.now (map (λ h. h.known)
+        setting.now.hooks.now.all.items)) }
     requires limit { limit ≤ instruction_limit }
     requires ready { IsReady world.old.world }
-    requires fit { FitIn setting.now world.old.world }
+    requires fit { FitIn (scene setting.now.scripts.now setting.now.table.now (map (λ h. h.known)
+        setting.now.hooks.now.all.items)) world.old.world }
     requires first { 1 ≤ object }
     requires within { object ≤ object_count world.old.world }
     requires acting { IsActing object world.old.world }
     requires room { 1 ≤ world.old.room }
-    ensures entered { IfOk result (λ e. HasEntered setting.now limit e
-        (turn_taken (runner_in setting.now limit) object world.old.world)
-        world.old.world world.new.world) }
+    ensures entered { IfOk result (λ e. HasEntered (scene setting.now.scripts.now
+        setting.now.table.now (map (λ h. h.known) setting.now.hooks.now.all.items)) limit e
+        (turn_taken (runner_in (scene setting.now.scripts.now setting.now.table.now (map (λ h.
+        h.known) setting.now.hooks.now.all.items)) limit) object world.old.world) world.old.world
+        world.new.world) }
 {
     entries_keep_worlds::<Saved>();
     entries_keep_fits();
@@ -226,8 +246,7 @@ fn unapply_entry(world: &mut World<Saved>, object: u32, number: u64) -> Result<E
     requires within { object ≤ object_count world.old.world }
     ensures quiet { IfOk result (λ e. e ≡ record { stopped = false; count = 0 }) }
     ensures world { OnOk result (world.new.world ≡ unapply object number world.old.world) }
-    ensures few { OnOk result
-        (world.new.world.agenda.next ≤ world.old.world.agenda.next + 1) }
+    ensures few { OnOk result (world.new.world.agenda.next ≤ world.old.world.agenda.next + 1) }
     ensures fit { OnOk result (KeepsFits world.old.world world.new.world) }
 {
     entries_keep_worlds::<Saved>();
@@ -246,16 +265,23 @@ pub(crate) fn enter(
     entry: Entry<Saved>,
     limit: u64,
 ) -> Result<Entered, NoMemory>
-    requires set { IsSet setting.now }
+    requires set { IsSet (scene setting.now.scripts.now setting.now.table.now (map (λ h. h.known)
+        setting.now.hooks.now.all.items)) }
     requires limit { limit ≤ instruction_limit }
     requires ready { IsReady world.old.world }
-    requires fit { FitIn setting.now world.old.world }
+    requires fit { FitIn (scene setting.now.scripts.now setting.now.table.now (map (λ h. h.known)
+        setting.now.hooks.now.all.items)) world.old.world }
     requires placed { IsPlaced (object_count world.old.world) entry.kind }
     requires acting { (o : ℕ) → entry.kind ≡ kind.Turn o → IsActing o world.old.world }
-    requires stored { KindFits (scripts_in setting.now) (tables_in setting.now) entry.kind }
+    requires stored { KindFits (scripts_in (scene setting.now.scripts.now setting.now.table.now
+        (map (λ h. h.known) setting.now.hooks.now.all.items))) (tables_in (scene
+        setting.now.scripts.now setting.now.table.now (map (λ h. h.known)
+        setting.now.hooks.now.all.items))) entry.kind }
     requires room { 1 ≤ world.old.room }
-    ensures entered { IfOk result (λ e. HasEntered setting.now limit e
-        (entered_as (runner_in setting.now limit) entry.kind entry.number world.old.world)
+    ensures entered { IfOk result (λ e. HasEntered (scene setting.now.scripts.now
+        setting.now.table.now (map (λ h. h.known) setting.now.hooks.now.all.items)) limit e
+        (entered_as (runner_in (scene setting.now.scripts.now setting.now.table.now (map (λ h.
+        h.known) setting.now.hooks.now.all.items)) limit) entry.kind entry.number world.old.world)
         world.old.world world.new.world) }
 {
     let Entry {

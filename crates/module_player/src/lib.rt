@@ -9,7 +9,6 @@
 mod entry;
 mod names;
 mod played;
-mod running;
 mod scripts;
 mod setting;
 

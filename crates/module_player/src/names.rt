@@ -26,7 +26,7 @@ fn is_named(name: &[u8], own: &[u8]) -> bool
 }
 
 /// The number of the listed script of a name, where its letters count without their case.
-#[tactic(auto, using(crate::proofs::Names::position_is))]
+#[tactic(auto, using(crate::proofs::NamedScripts::position_is))]
 pub(crate) fn script_named(scripts: &Scripts, name: &[u8]) -> Option<usize>
     ensures number { result ≡ script_named (scripts_of scripts.now) name.now }
 {
