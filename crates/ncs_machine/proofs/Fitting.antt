@@ -1,5 +1,5 @@
 -- What is done to a world leaves its captured states fitting.
-use Rattle.std.proofs.Common.{◌≡◌, ◌≢◌, ℕ, zero, suc, ℤ, pos, negsuc, List, [], ◌∷◌, ◌++◌, Option, Some, None, Bool, true, false, sym, subst, ap, ◌∙◌, refl, if◌then◌else◌}
+use Rattle.std.proofs.Common.{ℕ, zero, suc, ℤ, pos, negsuc, List, [], ◌∷◌, ◌++◌, Option, Some, None, Bool, true, false, if◌then◌else◌}
 use Rattle.std.specs.Prelude.{slice_get, ◌==◌, nat_le}
 use Rattle.std.specs.List.{AllByRecursion, find, list_any}
 use Rattle.action_queue.specs.Queued.{Queued}
@@ -19,7 +19,7 @@ use Rattle.nwq_value.specs.declared.engine.Role.TheVariants as role
 use Rattle.nwq_value.specs.declared.engine.Routine.{Routine}
 use Rattle.saved_state.specs.declared.saved.Saved.{Saved}
 use Rattle.machine_step.specs.Machine.{Script}
-use Rattle.shape_tables.specs.Fits.{Tables, FitsAction, FitsOne}
+use Rattle.shape_tables.specs.Fits.{Tables, FitsAction}
 use Rattle.engine_rows.specs.declared.data.Things.{Things}
 use Rattle.engine_rows.specs.declared.data.Stood.{Stood}
 use Rattle.engine_rows.specs.declared.data.Told.{Told}
@@ -27,10 +27,10 @@ use Rattle.engine_rows.specs.declared.data.Told.TheVariants as line
 use Rattle.engine_rows.specs.Arguments.{int_at, text_at, object_at, effect_at, event_at}
 use Rattle.engine_rows.specs.AlikeLaws.{call}
 use Rattle.engine_rows.specs.World.{World, is_valid, queue_in, queue_of, effects_of, things_at}
-use Rattle.engine_rows.specs.Changes.{told, post, later, changed_at, changed_object, with_queue, with_effects, with_actions, with_busy, with_action, with_effect, with_variables, has_turn, without_turn, without_first, is_effect, is_numbered}
-use Rattle.engine_rows.specs.Rows.{Call, Answered, Row, rows, drawn_from, drawn, assigned, delayed, awake, appended, appended_do, at_rest, cleared, changed_variables, applied, applied_to, removed, event_script, signalled}
-use Rattle.engine_rows.specs.Engine.{row_numbered, by_row, by_role, by_routine, engine}
-use Rattle.engine_rows.specs.Turns.{Begun, Turned, begun, begin, turned, turn, next_turn, turn_done, expired, unapply, with_entries, user_number}
+use Rattle.engine_rows.specs.Changes.{told, post, later, changed_at, changed_object, with_queue, with_effects, with_actions, with_busy, with_action, with_variables, has_turn, without_turn, without_first, is_effect, is_numbered}
+use Rattle.engine_rows.specs.Rows.{Call, Row, rows, drawn_from, drawn, assigned, delayed, awake, appended, appended_do, at_rest, cleared, changed_variables, applied, applied_to, removed, event_script, signalled}
+use Rattle.engine_rows.specs.Engine.{by_row, by_role, by_routine, engine}
+use Rattle.engine_rows.specs.Turns.{begun, turned, next_turn, turn_done, expired, with_entries, user_number}
 use Rattle.ncs_machine.specs.Host.{EngineView, engine_answer}
 use Rattle.ncs_machine.specs.Stored.{KindFits, ItemFits, EntryFits, ItemsFit, ThingsFit, StatesFit, EngineKeepsFits, BegunFits, BeginKeepsFits, TurnedFits, TurnKeepsFits, TurnDoneKeepsFits, UnapplyKeepsFits, LinesKeepFits}
 

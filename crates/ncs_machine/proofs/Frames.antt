@@ -1,16 +1,15 @@
 -- Frames that run and wait.
-use Rattle.std.proofs.Common.{arith, ◌≡◌, ◌≢◌, ◌<◌, ◌≤◌, ℕ, List, [], ◌∷◌, ◌++◌, length, reverse, Option, Some, None, Bool, true, false, sym, ap, ◌∙◌, refl, if◌then◌else◌}
+use Rattle.std.proofs.Common.{arith, ◌≡◌, ◌≢◌, ◌<◌, ◌≤◌, ℕ, List, [], ◌∷◌, ◌++◌, length, reverse, Option, Some, None, Bool, true, false, ap, ◌∙◌, refl, if◌then◌else◌}
 use Rattle.std.specs.Prelude.{nat_lt}
 use Rattle.std.proofs.lemmas.List.{reverse-append, length-reverse}
 use Rattle.std.proofs.lemmas.Bool.Decides.{nat_tests}
 use Rattle.saved_state.specs.declared.saved.Saved.{Saved}
 use Rattle.machine_step.specs.Frames.{Frame, started}
-use Rattle.machine_step.specs.Act.{Act, Moves, Returns, returned}
-use Rattle.machine_step.specs.Machine.{Script, Host, State, Next, Goes, Ends, Divided, depth_limit, begun, executed, followed, over, script_named}
+use Rattle.machine_step.specs.Act.{Act, Moves, Returns}
+use Rattle.machine_step.specs.Machine.{Script, Host, State, Goes, depth_limit, begun, executed, followed, over, script_named}
 use Rattle.engine_rows.specs.World.{World}
 use Rattle.engine_rows.specs.Engine.{may_run, no_script, too_deep}
 use Rattle.ncs_machine.specs.Host.{EngineView, host}
-use Rattle.ncs_machine.specs.Steps.{Frames, state}
 
 pub pushed_last : {A : Type 0} (xs : List A) (x : A) → reverse (xs ++ x ∷ []) ≡ x ∷ reverse xs
 pushed_last xs x = reverse-append xs (x ∷ [])

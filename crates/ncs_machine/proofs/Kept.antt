@@ -1,10 +1,10 @@
 -- What a step leaves of the world and of the frames' objects.
-use Rattle.std.proofs.Common.{arith, ◌≡◌, ◌≢◌, ◌≤◌, ◌+◌, ℕ, zero, suc, ℤ, List, [], ◌∷◌, Option, Some, None, Bool, true, false, sym, subst, ap, ◌∙◌, refl, if◌then◌else◌}
-use Rattle.std.specs.Prelude.{slice_get, ◌&&◌, ◌||◌, ◌==◌, nat_lt, nat_le, length}
+use Rattle.std.proofs.Common.{arith, ◌≡◌, ◌≤◌, ℕ, List, [], ◌∷◌, Option, Some, None, Bool, true, false, sym, subst, ap, ◌∙◌, refl, if◌then◌else◌}
+use Rattle.std.specs.Prelude.{slice_get, ◌&&◌, nat_lt, length}
 use Rattle.std.specs.Option.{option_map, option_and_then}
-use Rattle.std.proofs.lemmas.Bool.Decides.{Decides-eqb, nat_tests}
+use Rattle.std.proofs.lemmas.Bool.Decides.{nat_tests}
 use Rattle.nwq_value.specs.declared.value.Value.{Value}
-use Rattle.nwq_value.specs.declared.value.Value.TheVariants.{Int, Text, Object, Effect, Event}
+use Rattle.nwq_value.specs.declared.value.Value.TheVariants.{Text, Object}
 use Rattle.nwq_value.specs.declared.engine.Routine.{Routine}
 use Rattle.nwq_value.specs.Engine.{EngineTable}
 use Rattle.ncs_code.specs.Plain.{PlainOp}
@@ -18,11 +18,11 @@ use Rattle.machine_step.specs.Cells.{zero_on_top}
 use Rattle.machine_step.specs.Calls.{Taken, arguments, is_execute_script}
 use Rattle.machine_step.specs.Act.{Act, Moves, Asks, Executes, Returns, Divides, act, moved, returned, restored, stored, stored_cells, asked, behind_call, engine_called, is_division, place_after, next_place, cells_after}
 use Rattle.machine_step.specs.Act as acts
-use Rattle.machine_step.specs.Machine.{Script, Host, State, Next, Goes, Ends, Divided, depth_limit, begun, executed, followed, next_op, over, script_named, step, with_answer}
-use Rattle.engine_rows.specs.World.{World, count, is_valid}
+use Rattle.machine_step.specs.Machine.{Script, Host, State, Next, Goes, depth_limit, begun, executed, followed, next_op, over, script_named, step, with_answer}
+use Rattle.engine_rows.specs.World.{World, count}
 use Rattle.engine_rows.specs.AlikeLaws.{call}
-use Rattle.engine_rows.specs.Engine.{engine, may_run, no_script, too_deep}
-use Rattle.engine_rows.specs.Kept.{IsWorld, IsStep, IsActing, EngineKeeps, NoScriptKeeps, TooDeepKeeps}
+use Rattle.engine_rows.specs.Engine.{may_run, no_script, too_deep}
+use Rattle.engine_rows.specs.Kept.{IsWorld, IsStep, EngineKeeps, NoScriptKeeps, TooDeepKeeps}
 use Rattle.ncs_machine.specs.Host.{EngineView, host, engine_answer}
 use Rattle.ncs_machine.specs.Endings.{IsLeft}
 

@@ -1,30 +1,21 @@
 -- A run, turn by turn.
-use Rattle.std.proofs.Common.{arith, ◌≡◌, ◌≢◌, ◌≤◌, ◌<◌, ◌+◌, ◌-◌, ℕ, zero, suc, List, [], ◌∷◌, length, map, Option, Some, None, sym, subst, ap, ◌∙◌, refl}
-use Rattle.std.specs.Prelude.{slice_get, ◌^◌}
-use Rattle.std.specs.Option.{option_map, option_and_then}
-use Rattle.std.proofs.lemmas.Option.{slice_get-map}
-use Rattle.nwq_value.specs.Engine.{EngineTable, IsTable}
-use Rattle.nwq_value.specs.Limits.{file_limit, instruction_limit}
-use Rattle.ncs_code.specs.Plain.{PlainOp}
-use Rattle.ncs_code.specs.Spelling.{op_size}
-use Rattle.ncs_code.specs.File.{IsCode, file_length, op_at}
-use Rattle.ncs_code.specs.Laws.{PlaceLaws}
+use Rattle.std.proofs.Common.{arith, ◌≡◌, ◌≤◌, ◌<◌, ◌+◌, ◌-◌, ℕ, suc, List, [], ◌∷◌, length, Option, Some, None, sym, subst, ap, ◌∙◌, refl}
+use Rattle.std.specs.Prelude.{◌^◌}
+use Rattle.nwq_value.specs.Engine.{IsTable}
+use Rattle.nwq_value.specs.Limits.{instruction_limit}
 use Rattle.saved_state.specs.declared.saved.Saved.{Saved}
 use Rattle.saved_state.specs.declared.cell.Cell.{Cell}
-use Rattle.saved_state.specs.declared.cell.Cell.TheVariants.{Value as Holds, Base}
-use Rattle.stack_shape.specs.declared.shape.Slot.{Slot}
-use Rattle.machine_step.specs.Outlines.{Outline, Typed, Keeps, outline, outlines}
+use Rattle.machine_step.specs.Outlines.{Outline, Typed, Keeps, outlines}
 use Rattle.machine_step.specs.Frames.{Frame}
-use Rattle.machine_step.specs.Act.{Act, Moves, act}
-use Rattle.machine_step.specs.Machine.{Script, Host, State, Next, Goes, Ends, Divided, followed, next_op, step}
-use Rattle.ncs_machine.specs.declared.run.Ran.TheVariants as answer
-use Rattle.ncs_machine.specs.declared.run.Ran as answers
-use Rattle.machine_step.specs.Runs.{Ending, Over, ZeroDivisor, OutOfInstructions, Ran, after_step, counted, run, entry}
-use Rattle.shape_tables.specs.Fits.{Tables, IsListed, FitsOne}
+use Rattle.machine_step.specs.Machine.{Script, Host, State, Next, Goes, Ends, Divided, step}
+use Rattle.ncs_machine.specs.declared.entry.Ran.TheVariants as answer
+use Rattle.ncs_machine.specs.declared.entry.Ran as answers
+use Rattle.machine_step.specs.Runs.{Ending, Over, ZeroDivisor, OutOfInstructions, Ran, after_step, counted, run}
+use Rattle.shape_tables.specs.Fits.{Tables}
 use Rattle.shape_tables.specs.Safe.{IsSafe, IsSafeFrame, AreSafeFrames, GoesSafely, from_base}
 use Rattle.shape_tables.specs.Laws.{AllMeet, IsReached, Unchanged, ByCall, ByMissing, ByDepth, IsWellStackedHost, StepsSafely, TablesTypeExecuteScript}
 use Rattle.engine_rows.specs.World.{World, count}
-use Rattle.engine_rows.specs.Kept.{IsWorld, IsActing, EngineKeeps, NoScriptKeeps, TooDeepKeeps}
+use Rattle.engine_rows.specs.Kept.{IsWorld, EngineKeeps, NoScriptKeeps, TooDeepKeeps}
 use Rattle.engine_rows.specs.declared.data.Told.TheVariants as line
 use Rattle.ncs_machine.specs.Host.{EngineView, host}
 use Rattle.ncs_machine.specs.Endings.{EndsAs, IsLeft, IsRunOf, WhereRan}
@@ -34,7 +25,7 @@ use Rattle.ncs_machine.proofs.Answers.{answers_well}
 use Rattle.ncs_machine.specs.Steps.{AnswersTyped, Frames, GoesWell, state}
 use Rattle.world_core.specs.Calls.{IsEarly}
 use Rattle.ncs_machine.proofs.Tame.{tame_host, tame_step, tame_is_sound}
-use Rattle.ncs_machine.proofs.Kept.{AllObjects, AreObjects, Leaves, WorldLaws, step_leaves}
+use Rattle.ncs_machine.proofs.Kept.{AllObjects, AreObjects, WorldLaws, step_leaves}
 
 abbrev pub Reached : List Script → EngineView → Tables → World Saved → World Saved → Type 0
 Reached scripts e tables first w = IsReached (tame_host (host scripts e)) tables first w

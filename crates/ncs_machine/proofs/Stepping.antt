@@ -1,5 +1,5 @@
 -- Steps, from an instruction's act.
-use Rattle.std.proofs.Common.{arith, ◌≡◌, ◌≢◌, ◌≤◌, ◌+◌, ℕ, List, [], ◌∷◌, length, map, Option, Some, None, sym, subst, ap, ◌∙◌, refl}
+use Rattle.std.proofs.Common.{arith, ◌≡◌, ◌≢◌, ◌≤◌, ◌+◌, ℕ, List, length, Option, Some, None, sym, subst, ap, ◌∙◌, refl}
 use Rattle.std.specs.Prelude.{slice_get, IfSome}
 use Rattle.std.specs.Option.{option_map, option_and_then}
 use Rattle.std.proofs.lemmas.Option.{slice_get-map}
@@ -11,12 +11,11 @@ use Rattle.ncs_code.specs.Laws.{PlaceLaws}
 use Rattle.saved_state.specs.declared.saved.Saved.{Saved}
 use Rattle.machine_step.specs.Frames.{Frame}
 use Rattle.machine_step.specs.Act.{Act, Moves, Divides, act}
-use Rattle.machine_step.specs.Machine.{Script, Host, State, Next, Goes, Ends, Divided, followed, next_op, step}
+use Rattle.machine_step.specs.Machine.{Script, Host, State, Next, Goes, Divided, followed, next_op, step}
 use Rattle.engine_rows.specs.World.{World}
 use Rattle.ncs_machine.specs.declared.scripts.Loaded.{Loaded}
 use Rattle.ncs_machine.specs.Host.{EngineView, host, script_of, scripts_of}
 use Rattle.ncs_machine.specs.Steps.{Frames, GoesWell, state}
-use Rattle.ncs_machine.proofs.Frames.{moves_on}
 
 some_act : (o : Option Act) (a : Act) (P : Act → Type 0) → o ≡ Some a → P a → IfSome o P
 some_act o a P e p = subst (λ o. IfSome o P) (sym e) p

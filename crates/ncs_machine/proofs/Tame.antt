@@ -1,13 +1,11 @@
 -- A header in which what can't be called gives nothing. Code runs under it as under the header itself, and each call has an answer of
 -- its routine's type.
-use Rattle.std.proofs.Common.{◌≡◌, ◌≢◌, ℕ, List, [], ◌∷◌, map, Option, Some, None, Bool, true, false, sym, subst, ap, ◌∙◌, refl, if◌then◌else◌}
+use Rattle.std.proofs.Common.{◌≡◌, ℕ, List, [], ◌∷◌, map, Option, Some, None, Bool, true, false, sym, subst, ap, ◌∙◌, refl, if◌then◌else◌}
 use Rattle.std.specs.Prelude.{slice_get, ◌&&◌, ◌==◌, length}
 use Rattle.std.specs.Option.{option_map, option_and_then}
 use Rattle.std.proofs.lemmas.Option.{slice_get-map}
 use Rattle.nwq_value.specs.declared.value.Ty.TheVariants.{Void}
 use Rattle.nwq_value.specs.declared.value.Value.{Value}
-use Rattle.nwq_value.specs.declared.engine.Role.{Role}
-use Rattle.nwq_value.specs.declared.engine.Role.TheVariants.{Built, Pure, World as WorldRole, Uncallable}
 use Rattle.nwq_value.specs.declared.engine.Routine.{Routine}
 use Rattle.nwq_value.specs.Engine.{EngineTable}
 use Rattle.ncs_code.specs.Plain.{PlainOp}
@@ -15,19 +13,18 @@ use Rattle.ncs_code.specs.Plain as ops
 use Rattle.saved_state.specs.declared.cell.Cell.{Cell}
 use Rattle.saved_state.specs.declared.saved.Saved.{Saved}
 use Rattle.stack_shape.specs.Calls.{is_callable, call_effect, fits_call, argument_types}
-use Rattle.stack_shape.specs.declared.shape.Slot.{Slot}
 use Rattle.stack_shape.specs.declared.shape.Entry.{Entry}
 use Rattle.stack_shape.specs.Stored.{TopShape}
-use Rattle.stack_shape.specs.Rule.{affected, called, called_with, rule}
+use Rattle.stack_shape.specs.Rule.{called_with, rule}
 use Rattle.machine_step.specs.Frames.{Frame}
 use Rattle.machine_step.specs.Cells.{value_types}
-use Rattle.machine_step.specs.Calls.{Taken, arguments, taken, is_execute_script}
+use Rattle.machine_step.specs.Calls.{arguments, taken, is_execute_script}
 use Rattle.machine_step.specs.Act.{Act, Moves, Asks, Executes, Returns, Divides, act, asked, engine_called}
-use Rattle.machine_step.specs.Machine.{Script, Host, State, Next, begun, executed, followed, next_op, script_named, step}
+use Rattle.machine_step.specs.Machine.{Host, State, Next, begun, executed, followed, next_op, script_named, step}
 use Rattle.shape_tables.specs.Tables.{ShapeTable}
 use Rattle.shape_tables.specs.Rules.{MeetsRules, IsSound, Obeys, Follows}
-use Rattle.shape_tables.specs.Fits.{Tables, FitsAction}
-use Rattle.shape_tables.specs.Laws.{AllMeet, RunsScripts, TypesExecuteScript, HasType, IsReached, IsWellStackedHost}
+use Rattle.shape_tables.specs.Fits.{Tables}
+use Rattle.shape_tables.specs.Laws.{AllMeet, RunsScripts, TypesExecuteScript, HasType, IsWellStackedHost}
 
 abbrev tame_as : Bool → Routine → Routine
 tame_as true r = r

@@ -10,8 +10,8 @@ use Rattle.ncs_machine.specs.declared.scripts.Begin.TheVariants.{Start, Stored}
 use Rattle.machine_step.specs.Runs.{Ending, Over, ZeroDivisor, OutOfInstructions}
 use Rattle.engine_rows.specs.World.{World, count}
 use Rattle.engine_rows.specs.Kept.{IsActing}
-use Rattle.ncs_machine.specs.declared.run.Ran.{Ran}
-use Rattle.ncs_machine.specs.declared.run.Ran.TheVariants.{Ended, Divide, Limit, NoMemory}
+use Rattle.ncs_machine.specs.declared.entry.Ran.{Ran}
+use Rattle.ncs_machine.specs.declared.entry.Ran.TheVariants.{Ended, Divide, Limit, NoMemory}
 
 -- each answer tells one ending, but for the want of memory, which may come at any time
 abbrev pub EndsAs : Ran → Ending → Type 0

@@ -1,5 +1,5 @@
 -- What the machine runs in here: listed scripts that were checked, a header's routines, and the engine over a world.
-use Rattle.std.specs.Prelude.{◌≡◌, ℕ, List, map, Option, None, Some, slice_get}
+use Rattle.std.specs.Prelude.{ℕ, List, map, Option, None, Some, slice_get}
 use Rattle.nwq_value.specs.declared.value.Value.{Value}
 use Rattle.nwq_value.specs.Engine.{EngineTable}
 use Rattle.saved_state.specs.declared.saved.Saved.{Saved}
@@ -14,7 +14,7 @@ use Rattle.engine_rows.specs.World.{World}
 use Rattle.engine_rows.specs.Rows.{Answered as EngineAnswer}
 use Rattle.engine_rows.specs.Engine.{engine, may_run, no_script, too_deep}
 use Rattle.engine_rows.specs.AlikeLaws.{call}
-use Rattle.hook_table.specs.declared.hook.Hook.{Hook}
+use Rattle.hook_table.specs.declared.hook.Known.{Known}
 use Rattle.world_core.specs.Calls.{cells_of}
 use Rattle.ncs_machine.specs.declared.scripts.Loaded.{Loaded}
 use Rattle.ncs_machine.specs.declared.scripts.Begin.{Begin}
@@ -51,8 +51,8 @@ pub record EngineView : Type 0 where
   pub cell : CellLookup
 
 -- the engine under a header, whose cells are looked up in the hooks' tables
-abbrev pub engine_view : EngineTable → List Hook → EngineView
-engine_view table hooks = record { table = table; cell = cells_of (map (λ h. h.known) hooks) }
+abbrev pub engine_view : EngineTable → List Known → EngineView
+engine_view table hooks = record { table = table; cell = cells_of hooks }
 
 -- what a call of a routine gives
 abbrev pub engine_answer : EngineView → ℕ → ℕ → List Value → Option Saved → World Saved → EngineAnswer Saved

@@ -1,5 +1,5 @@
 -- What the steps of a run are asked for.
-use Rattle.std.specs.Prelude.{◌≡◌, ◌≤◌, ◌<◌, ◌+◌, ◌^◌, ℕ, List, [], ◌∷◌, length, Option, None, Some, slice_get, true}
+use Rattle.std.specs.Prelude.{◌≡◌, ◌≤◌, ℕ, List, length, Option, None, Some, slice_get, true}
 use Rattle.nwq_value.specs.declared.value.Value.{Value}
 use Rattle.nwq_value.specs.declared.engine.Routine.{Routine}
 use Rattle.saved_state.specs.declared.saved.Saved.{Saved}

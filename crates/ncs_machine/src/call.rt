@@ -111,7 +111,7 @@ impl Machine {
         requires small { self.old.running.place + size ≤ file_limit }
         ensures room { world.old.room ≤ world.new.room }
         ensures called { OnOk result (IfSome (engine_called table.now number count
-            self.old.running) (λ a. followed (host (scripts_of scripts.now) (engine_view table.now hooks.now.all.items))
+            self.old.running) (λ a. followed (host (scripts_of scripts.now) (engine_view table.now (map (λ h. h.known) hooks.now.all.items)))
             (state self.old (world.old.world)) a
             ≡ Goes (state self.new (world.new.world)))) }
     {
@@ -119,9 +119,7 @@ impl Machine {
             None => unreachable!(),
             Some(routine) => {
                 let other_script = executes(routine.role);
-                let args = self
-                    .running
-                    .take_arguments(alloc, routine, number, count, size)?;
+                let args = self.take(alloc, routine, number, count, size)?;
                 let Arguments { values, action } = args;
                 if other_script {
                     self.execute_named(alloc, scripts, world, &values)?;

@@ -261,9 +261,9 @@ impl Machine {
         requires early { IsEarly (world.old.world) }
         requires caller { self.old.running.self ≤ object_count (world.old.world) }
         requires hooks { AreServing (map (λ h. h.known) hooks.now.all.items) }
-        requires types { FitArguments (engine_view table.now hooks.now.all.items) n values }
+        requires types { FitArguments (engine_view table.now (map (λ h. h.known) hooks.now.all.items)) n values }
         ensures room { world.old.room ≤ world.new.room }
-        ensures answered { OnOk result (answered (answer_of (engine_answer (engine_view table.now hooks.now.all.items) n
+        ensures answered { OnOk result (answered (answer_of (engine_answer (engine_view table.now (map (λ h. h.known) hooks.now.all.items)) n
             self.old.running.self values action (world.old.world))) self.old.running
             (state self.old (world.old.world)) ≡ state self.new (world.new.world)) }
     {

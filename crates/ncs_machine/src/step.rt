@@ -46,7 +46,7 @@ impl Machine {
         ensures room { world.old.room ≤ world.new.room }
         ensures stays { IfOk result (λ next. Stays next (world.old.world) (world.new.world)) }
         ensures next { IfOk result (λ next. IfSome (act table.now (plain op.now)
-            self.old.running) (λ a. followed (host (scripts_of scripts.now) (engine_view table.now hooks.now.all.items))
+            self.old.running) (λ a. followed (host (scripts_of scripts.now) (engine_view table.now (map (λ h. h.known) hooks.now.all.items)))
             (state self.old (world.old.world)) a
             ≡ next_of next (state self.new (world.new.world)))) }
     {
@@ -96,12 +96,12 @@ impl Machine {
         requires early { IsEarly (world.old.world) }
         requires caller { self.old.running.self ≤ count (world.old.world) }
         requires hooks { AreServing (map (λ h. h.known) hooks.now.all.items) }
-        requires well { GoesWell (step (host (scripts_of scripts.now) (engine_view table.now hooks.now.all.items))
+        requires well { GoesWell (step (host (scripts_of scripts.now) (engine_view table.now (map (λ h. h.known) hooks.now.all.items)))
             (state self.old (world.old.world))) }
         ensures room { world.old.room ≤ world.new.room }
         ensures stays { IfOk result (λ next. Stays next (world.old.world) (world.new.world)) }
         ensures next { IfOk result (λ next.
-            step (host (scripts_of scripts.now) (engine_view table.now hooks.now.all.items))
+            step (host (scripts_of scripts.now) (engine_view table.now (map (λ h. h.known) hooks.now.all.items)))
             (state self.old (world.old.world))
             ≡ Some (next_of next (state self.new (world.new.world)))) }
     {
