@@ -1,6 +1,8 @@
 -- What entries come to.
 use Rattle.std.proofs.Common.{arith, ◌≡◌, ◌≢◌, ◌≤◌, ◌<◌, ◌+◌, ℕ, Bool, true, false, List, [], ◌∷◌, Option, None, Some, sym, subst, ap, ◌∙◌, refl}
-use Rattle.std.specs.Prelude.{◌^◌, IsTrue, length, slice_get}
+use Rattle.nwq_value.specs.declared.memory.NoMemory.{NoMemory}
+use Rattle.std.specs.Prelude.{Result, Ok, Err, IfOk, OnOk, ◌^◌, ◌==◌, ◌&&◌, nat_le, IsTrue, length, slice_get}
+use Rattle.std.proofs.lemmas.Bool.{le-leb}
 use Rattle.saved_state.specs.declared.saved.Saved.{Saved}
 use Rattle.machine_step.specs.Machine.{Script, script_named}
 use Rattle.machine_step.specs.Runs.{run_stored}
@@ -74,9 +76,12 @@ named_unlisted s limit o name w v none is f = record {
   few = let k = ap (λ x. x.agenda.next) is in omega arith;
 }
 
-pub event_unlisted : (s : Scene) (limit o : ℕ) (name : List ℕ) (w v : World Saved) → name ≢ [] → script_named (scripts_in s) name ≡ None → v ≡ no_script o name w → FitIn s w
+pub some_bytes : (own name : List ℕ) (b : Bool) → own ≡ name → b ≡ (length own == 0) → b ≡ false → (length name == 0) ≡ false
+some_bytes own name b same is no = ap (λ x. length x == 0) (sym same) ∙ sym is ∙ no
+
+pub event_unlisted : (s : Scene) (limit o : ℕ) (name : List ℕ) (w v : World Saved) → (length name == 0) ≡ false → script_named (scripts_in s) name ≡ None → v ≡ no_script o name w → FitIn s w
     → HasEntered s limit (record { stopped = false; count = 0 }) (event_entry (runner_in s limit) o name w) w v
-event_unlisted s limit o [] w v some none is f = absurd (some refl)
+event_unlisted s limit o [] w v some none is f = absurd cc
 event_unlisted s limit o (b ∷ name) w v some none is f = named_unlisted s limit o (b ∷ name) w v none is f
 
 named_listed : (s : Scene) (limit o n : ℕ) (name : List ℕ) (w : World Saved) → script_named (scripts_in s) name ≡ Some n
@@ -84,15 +89,21 @@ named_listed : (s : Scene) (limit o n : ℕ) (name : List ℕ) (w : World Saved)
 named_listed s limit o n name w is =
     ap (λ m. named_entry (runner_in s limit) o name m w) (runner_named s limit name ∙ is) ∙ ap (finished (λ x. x)) (runner_script s limit n o w)
 
-event_is : (s : Scene) (limit o n : ℕ) (name : List ℕ) (w : World Saved) → name ≢ [] → script_named (scripts_in s) name ≡ Some n
+event_is : (s : Scene) (limit o n : ℕ) (name : List ℕ) (w : World Saved) → (length name == 0) ≡ false → script_named (scripts_in s) name ≡ Some n
     → event_entry (runner_in s limit) o name w ≡ finished (λ x. x) (run_of (run_from (host_in s) limit n begins.Start o w))
-event_is s limit o n [] w some is = absurd (some refl)
+event_is s limit o n [] w some is = absurd cc
 event_is s limit o n (b ∷ name) w some is = named_listed s limit o n (b ∷ name) w is
 
-pub event_listed : (s : Scene) (limit o n : ℕ) (name : List ℕ) (e : Entered) (w v : World Saved) → name ≢ [] → script_named (scripts_in s) name ≡ Some n
+pub event_listed : (s : Scene) (limit o n : ℕ) (name : List ℕ) (e : Entered) (w v : World Saved) → (length name == 0) ≡ false → script_named (scripts_in s) name ≡ Some n
     → HasEntered s limit e (finished (λ x. x) (run_of (run_from (host_in s) limit n begins.Start o w))) w v
     → HasEntered s limit e (event_entry (runner_in s limit) o name w) w v
 event_listed s limit o n name e w v some is h = subst (λ p. HasEntered s limit e p w v) (sym (event_is s limit o n name w some is)) h
+
+pub listed_event : (s : Scene) (limit o n : ℕ) (name : List ℕ) (r : Result Entered NoMemory) (w v : World Saved) → (length name == 0) ≡ false → script_named (scripts_in s) name ≡ Some n
+    → IfOk r (λ e. HasEntered s limit e (finished (λ x. x) (run_of (run_from (host_in s) limit n begins.Start o w))) w v)
+    → IfOk r (λ e. HasEntered s limit e (event_entry (runner_in s limit) o name w) w v)
+listed_event s limit o n name (Ok e) w v some is h = event_listed s limit o n name e w v some is h
+listed_event s limit o n name (Err e) w v some is h = tt
 
 -- ---- stored actions
 
@@ -100,6 +111,12 @@ pub stored_entered : (s : Scene) (limit o n number : ℕ) (x : Saved) (e : Enter
     → HasEntered s limit e (finished (λ y. y) (run_of (run_from (host_in s) limit n (begins.Stored x) o w))) w v
     → HasEntered s limit e (entered_as (runner_in s limit) (Stored o x) number w) w v
 stored_entered s limit o n number x e w v h = subst (λ r. HasEntered s limit e (finished (λ y. y) r) w v) (sym (runner_stored s limit x o w)) h
+
+pub stored_entry : (s : Scene) (limit o n number : ℕ) (x : Saved) (r : Result Entered NoMemory) (w v : World Saved)
+    → IfOk r (λ e. HasEntered s limit e (finished (λ y. y) (run_of (run_from (host_in s) limit n (begins.Stored x) o w))) w v)
+    → IfOk r (λ e. HasEntered s limit e (entered_as (runner_in s limit) (Stored o x) number w) w v)
+stored_entry s limit o n number x (Ok e) w v h = stored_entered s limit o n number x e w v h
+stored_entry s limit o n number x (Err e) w v h = tt
 
 -- ---- Turns
 
@@ -118,6 +135,9 @@ acts_on o limit w v left acts = left.acting o acts
 
 pub fault_acts : (own o : ℕ) (w v : World Saved) → FaultKeeps Saved → IsWorld w → v ≡ fault own w → IsActing o w → IsActing o v
 fault_acts own o w v keeps world is acts = subst (IsActing o) (sym is) ((keeps own w world).acting o acts)
+
+pub valid_object : (o : ℕ) (w : World Saved) → 1 ≤ o → o ≤ object_count w → IsTrue (is_valid o w)
+valid_object o w first within = subst (λ b. IsTrue (b && nat_le o (object_count w))) (sym (le-leb 1 o first)) (le-leb o (object_count w) within)
 
 pub turn_rests : (s : Scene) (limit o : ℕ) (w v : World Saved) → TurnKeeps Saved → TurnKeepsFits → IsWorld w → IsTrue (is_valid o w) → IsActing o w → FitIn s w
     → record { action = None; world = v } ≡ turn o w
@@ -158,12 +178,48 @@ turn_acts s limit o x e w u v few is h =
       few = let k = h.few in omega arith;
     })
 
+-- ---- the end of an effect
+
+pub unapply_fits : (o number : ℕ) (w v : World Saved) → UnapplyKeepsFits → v ≡ unapply o number w → KeepsFits w v
+unapply_fits o number w v keeps is scripts tables f = subst (StatesFit scripts tables) (sym is) (keeps scripts tables o number w f)
+
+pub unapply_entered : (s : Scene) (limit o number : ℕ) (e : Entered) (w v : World Saved) → FitIn s w → e ≡ record { stopped = false; count = 0 } → v ≡ unapply o number w
+    → v.agenda.next ≤ w.agenda.next + 1 → KeepsFits w v → HasEntered s limit e (entered_as (runner_in s limit) (Unapply o) number w) w v
+unapply_entered s limit o number e w v f quiet is few fits = record {
+  is = ap (λ x. record { stopped = false; count = 0; world = x }) (sym is) ∙ ap (λ q. entered q v) (sym quiet);
+  within = subst (λ q. q.count ≤ limit) (sym quiet) (omega arith);
+  fit = fits (scripts_in s) (tables_in s) f;
+  few = omega arith;
+}
+
+pub unapply_entry : (s : Scene) (limit o number : ℕ) (r : Result Entered NoMemory) (w v : World Saved) → FitIn s w
+    → IfOk r (λ e. e ≡ record { stopped = false; count = 0 }) → OnOk r (v ≡ unapply o number w) → OnOk r (v.agenda.next ≤ w.agenda.next + 1) → OnOk r (KeepsFits w v)
+    → IfOk r (λ e. HasEntered s limit e (entered_as (runner_in s limit) (Unapply o) number w) w v)
+unapply_entry s limit o number (Ok e) w v f quiet is few fits = unapply_entered s limit o number e w v f quiet is few fits
+unapply_entry s limit o number (Err e) w v f quiet is few fits = tt
+
+-- ---- a Turn that is done
+
+pub done_fits : (o : ℕ) (w v : World Saved) → TurnDoneKeepsFits → v ≡ turn_done o w → KeepsFits w v
+done_fits o w v keeps is scripts tables f = subst (StatesFit scripts tables) (sym is) (keeps scripts tables o w f)
+
+pub fault_fits : (own o : ℕ) (w u v : World Saved) → TurnDoneKeepsFits → u ≡ fault own w → v ≡ turn_done o u → KeepsFits w v
+fault_fits own o w u v keeps first is scripts tables f =
+    done_fits o u v keeps is scripts tables (same_fits w u (ap (λ x. x.agenda) first) (ap (λ x. x.things) first) scripts tables f)
+
+pub acted_turn : (s : Scene) (limit o : ℕ) (x : Saved) (r : Result Entered NoMemory) (w u v : World Saved) → u.agenda.next ≤ w.agenda.next + 1
+    → record { action = Some x; world = u } ≡ turn o w
+    → IfOk r (λ e. HasActed s limit e (finished (turn_done o) (run_of (run_stored (host_in s) limit x o u))) u v)
+    → IfOk r (λ e. HasEntered s limit e (turn_taken (runner_in s limit) o w) w v)
+acted_turn s limit o x (Ok e) w u v few is h = turn_acts s limit o x e w u v few is h
+acted_turn s limit o x (Err e) w u v few is h = tt
+
 pub ruleset event_lemmas = (event_empty, event_unlisted, event_listed)
 
 pub ruleset action_lemmas = (action_entered, acts_on)
 
-pub ruleset turn_lemmas = (fault_acts)
+pub ruleset turn_lemmas = (fault_acts, done_fits, fault_fits)
 
 pub ruleset turn_entry_lemmas = (turn_rests, turn_acts, acts_now)
 
-pub ruleset entry_lemmas = (stored_entered)
+pub ruleset entry_lemmas = (stored_entered, unapply_entered)

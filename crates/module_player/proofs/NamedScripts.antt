@@ -1,13 +1,13 @@
 -- Scripts by their names.
-use Rattle.std.proofs.Common.{◌≡◌, ℕ, List, [], ◌∷◌, length, map, Option, Bool, ap, ◌∙◌, refl, sym}
-use Rattle.std.specs.Prelude.{not, cond, nat_lt, Some, None}
+use Rattle.std.proofs.Common.{◌≡◌, ℕ, List, [], ◌∷◌, length, map, Option, ap, ◌∙◌, refl, sym}
+use Rattle.std.specs.Prelude.{not}
 use Rattle.std.specs.Char.{to_ascii_lowercase}
-use Rattle.std.specs.List.{position, position_from, position_or_len, prefix_len}
+use Rattle.std.specs.List.{position, position_from, prefix_len}
 use Rattle.std.specs.Str.{bytes_eq}
 use Rattle.std.proofs.lemmas.Iterator.Adapters.{position_from-zero}
 use Rattle.machine_step.specs.Machine.{script_named}
 use Rattle.ncs_machine.specs.declared.scripts.Loaded.{Loaded}
-use Rattle.ncs_machine.specs.Host.{script_of, scripts_of}
+use Rattle.ncs_machine.specs.Host.{scripts_of}
 
 length_of : (scripts : List Loaded) → length (scripts_of scripts) ≡ length scripts
 length_of [] = refl
@@ -22,4 +22,11 @@ named_is : (name : List ℕ) (scripts : List Loaded) → position (λ l. bytes_e
 named_is name scripts = rw (front_of name scripts, length_of scripts) refl
 
 pub position_is : (name : List ℕ) (scripts : List Loaded) → position_from (λ l. bytes_eq (map to_ascii_lowercase name) l.name) 0 scripts ≡ script_named (scripts_of scripts) name
-position_is name scripts = position_from-zero (λ l. bytes_eq (map to_ascii_lowercase name) l.name) scripts ∙ named_is name scripts
+position_is name scripts = sym (position_from-zero (λ l. bytes_eq (map to_ascii_lowercase name) l.name) scripts) ∙ named_is name scripts
+
+pub named_by : (name own : List ℕ) (scripts slice : List Loaded) (n : Option ℕ) → own ≡ name → slice ≡ scripts
+    → n ≡ position_from (λ l. bytes_eq (map to_ascii_lowercase own) l.name) 0 slice → n ≡ script_named (scripts_of scripts) name
+named_by name own scripts slice n a b e =
+    e ∙ ap (λ own. position_from (λ l. bytes_eq (map to_ascii_lowercase own) l.name) 0 slice) a
+    ∙ ap (position_from (λ l. bytes_eq (map to_ascii_lowercase name) l.name) 0) b
+    ∙ position_is name scripts

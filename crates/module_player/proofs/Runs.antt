@@ -55,28 +55,37 @@ module _ (s : Scene) (limit script o : ℕ) (begin : Begin) (n self : ℕ) (w v 
   within : n ≡ (run_from (host_in s) limit script begin o w).count → n ≤ limit
   within e = subst (λ m. m ≤ limit) (sym e) (entry_within s limit script o begin w)
 
-  pub over_told : FitIn s w → Told ran.Ended → HasRun s limit Over n (run_of (run_from (host_in s) limit script begin o w)) w v
-  over_told f t = record {
+  over_run : FitIn s w → Told ran.Ended → HasRun s limit Over n (run_of (run_from (host_in s) limit script begin o w)) w v
+  over_run f t = record {
     is = told_is (run_from (host_in s) limit script begin o w) runs.Over n self v t.ending t.counted t.own t.world;
     within = within t.counted;
     fit = t.fit f;
     left = left_within n limit w v (within t.counted) t.left;
   }
 
-  pub divided_told : FitIn s w → Told ran.Divide → HasRun s limit (Divided self) n (run_of (run_from (host_in s) limit script begin o w)) w v
-  divided_told f t = record {
+  pub over_told : (answer : Ran) → answer ≡ ran.Ended → FitIn s w → Told answer → HasRun s limit Over n (run_of (run_from (host_in s) limit script begin o w)) w v
+  over_told answer is f t = over_run f (subst Told is t)
+
+  divided_run : FitIn s w → Told ran.Divide → HasRun s limit (Divided self) n (run_of (run_from (host_in s) limit script begin o w)) w v
+  divided_run f t = record {
     is = told_is (run_from (host_in s) limit script begin o w) runs.ZeroDivisor n self v t.ending t.counted t.own t.world;
     within = within t.counted;
     fit = t.fit f;
     left = left_within n limit w v (within t.counted) t.left;
   }
 
-  pub stopped_told : FitIn s w → Told ran.Limit → HasRun s limit Stopped n (run_of (run_from (host_in s) limit script begin o w)) w v
-  stopped_told f t = record {
+  pub divided_told : (answer : Ran) → answer ≡ ran.Divide → FitIn s w → Told answer → HasRun s limit (Divided self) n (run_of (run_from (host_in s) limit script begin o w)) w v
+  divided_told answer is f t = divided_run f (subst Told is t)
+
+  stopped_run : FitIn s w → Told ran.Limit → HasRun s limit Stopped n (run_of (run_from (host_in s) limit script begin o w)) w v
+  stopped_run f t = record {
     is = told_is (run_from (host_in s) limit script begin o w) runs.OutOfInstructions n self v t.ending t.counted t.own t.world;
     within = within t.counted;
     fit = t.fit f;
     left = left_within n limit w v (within t.counted) t.left;
   }
+
+  pub stopped_told : (answer : Ran) → answer ≡ ran.Limit → FitIn s w → Told answer → HasRun s limit Stopped n (run_of (run_from (host_in s) limit script begin o w)) w v
+  stopped_told answer is f t = stopped_run f (subst Told is t)
 
 pub ruleset run_lemmas = (over_told, divided_told, stopped_told)

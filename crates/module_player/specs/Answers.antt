@@ -61,7 +61,7 @@ pub record IsPlayed (s : Scene) (answer : Played) (p : plays.Played Saved) (v : 
 pub record HasPlayed (s : Scene) (answer : Played) (p : plays.Played Saved) (tells : Bool) (before after : List ℕ) (faults now : ℕ) (v : World Saved) : Type 0 where
   pub played : IsPlayed s answer p v
   pub text : IsTrue tells → TakesTrace answer.how (trace_text p.last.trace) before after
-  pub faults : CountsPlay answer.how faults now
+  pub counts : CountsPlay answer.how faults now
 
 -- how a play ends that has taken as many entries as it may
 abbrev pub IsLastEnd : How → PlayEnd → Type 0

@@ -151,7 +151,7 @@ fn event_entry(
     if name.bytes().is_empty() {
         return Ok(QUIET);
     }
-    match script_named(setting.scripts, name.bytes()) {
+    match script_named(setting.scripts, name) {
         None => {
             world.no_script(object, name)?;
             Ok(QUIET)

@@ -9,7 +9,10 @@
 mod entry;
 mod names;
 mod played;
+mod plays;
 mod scripts;
 mod setting;
+mod turn;
 
 pub use played::{How, Played};
+pub use plays::{play, play_on};

@@ -1,11 +1,13 @@
 //! Scripts by their names.
-ghost use Rattle.std.specs.Prelude.{◌≡◌, map};
+ghost use Rattle.std.specs.Prelude.{◌≡◌, ◌<◌, ◌+◌, ◌^◌, length, map};
 ghost use Rattle.std.specs.Char.{to_ascii_lowercase};
+ghost use Rattle.std.specs.List.{position_from};
 ghost use Rattle.std.specs.Str.{bytes_eq};
 ghost use Rattle.machine_step.specs.Machine.{script_named};
 ghost use Rattle.ncs_machine.specs.Host.{scripts_of};
 
-use ncs_machine::Scripts;
+use ncs_machine::{Loaded, Scripts};
+use nwq_value::Text;
 
 /// Whether the first text is the second one, where letters of the first count without their case.
 fn is_named(name: &[u8], own: &[u8]) -> bool
@@ -25,13 +27,28 @@ fn is_named(name: &[u8], own: &[u8]) -> bool
     }
 }
 
+/// The number of the first script of this name, where the first of all has number `from`.
+fn named_from(scripts: &[Loaded], name: &[u8], from: usize) -> Option<usize>
+    requires small { from + length scripts.now < 2 ^ 62 }
+    ensures number { result
+        ≡ position_from (λ l. bytes_eq (map to_ascii_lowercase name.now) l.name) from scripts.now }
+{
+    match scripts {
+        [] => None,
+        [first, rest @ ..] => {
+            if is_named(name, first.name.bytes()) {
+                Some(from)
+            } else {
+                named_from(rest, name, from + 1)
+            }
+        }
+    }
+}
+
 /// The number of the listed script of a name, where its letters count without their case.
-#[tactic(auto, using(crate::proofs::NamedScripts::position_is))]
-pub(crate) fn script_named(scripts: &Scripts, name: &[u8]) -> Option<usize>
+pub(crate) fn script_named(scripts: &Scripts, name: &Text) -> Option<usize>
+    requires few { length scripts.now < 2 ^ 32 }
     ensures number { result ≡ script_named (scripts_of scripts.now) name.now }
 {
-    scripts
-        .as_slice()
-        .iter()
-        .position(|script| is_named(name, script.name.bytes()))
+    named_from(scripts.as_slice(), name.bytes(), 0)
 }
