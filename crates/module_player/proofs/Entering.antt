@@ -77,7 +77,7 @@ named_unlisted s limit o name w v none is f = record {
 }
 
 pub some_bytes : (own name : List ℕ) (b : Bool) → own ≡ name → b ≡ (length own == 0) → b ≡ false → (length name == 0) ≡ false
-some_bytes own name b same is no = ap (λ x. length x == 0) (sym same) ∙ sym is ∙ no
+some_bytes own name b same is not_so = ap (λ x. length x == 0) (sym same) ∙ sym is ∙ not_so
 
 pub event_unlisted : (s : Scene) (limit o : ℕ) (name : List ℕ) (w v : World Saved) → (length name == 0) ≡ false → script_named (scripts_in s) name ≡ None → v ≡ no_script o name w → FitIn s w
     → HasEntered s limit (record { stopped = false; count = 0 }) (event_entry (runner_in s limit) o name w) w v
@@ -112,11 +112,12 @@ pub stored_entered : (s : Scene) (limit o n number : ℕ) (x : Saved) (e : Enter
     → HasEntered s limit e (entered_as (runner_in s limit) (Stored o x) number w) w v
 stored_entered s limit o n number x e w v h = subst (λ r. HasEntered s limit e (finished (λ y. y) r) w v) (sym (runner_stored s limit x o w)) h
 
-pub stored_entry : (s : Scene) (limit o n number : ℕ) (x : Saved) (r : Result Entered NoMemory) (w v : World Saved)
+pub stored_entry : (s : Scene) (limit o n number : ℕ) (x : Saved) (k : Kind Saved) (r : Result Entered NoMemory) (w v : World Saved) → k ≡ Stored o x
     → IfOk r (λ e. HasEntered s limit e (finished (λ y. y) (run_of (run_from (host_in s) limit n (begins.Stored x) o w))) w v)
-    → IfOk r (λ e. HasEntered s limit e (entered_as (runner_in s limit) (Stored o x) number w) w v)
-stored_entry s limit o n number x (Ok e) w v h = stored_entered s limit o n number x e w v h
-stored_entry s limit o n number x (Err e) w v h = tt
+    → IfOk r (λ e. HasEntered s limit e (entered_as (runner_in s limit) k number w) w v)
+stored_entry s limit o n number x k (Ok e) w v kind h =
+    subst (λ q. HasEntered s limit e (entered_as (runner_in s limit) q number w) w v) (sym kind) (stored_entered s limit o n number x e w v h)
+stored_entry s limit o n number x k (Err e) w v kind h = tt
 
 -- ---- Turns
 
@@ -135,6 +136,9 @@ acts_on o limit w v left acts = left.acting o acts
 
 pub fault_acts : (own o : ℕ) (w v : World Saved) → FaultKeeps Saved → IsWorld w → v ≡ fault own w → IsActing o w → IsActing o v
 fault_acts own o w v keeps world is acts = subst (IsActing o) (sym is) ((keeps own w world).acting o acts)
+
+pub now_is : (a b : Option Saved) (u : World Saved) (t : Turned Saved) → a ≡ b → record { action = a; world = u } ≡ t → record { action = b; world = u } ≡ t
+now_is a b u t is e = ap (λ x. record { action = x; world = u }) (sym is) ∙ e
 
 pub valid_object : (o : ℕ) (w : World Saved) → 1 ≤ o → o ≤ object_count w → IsTrue (is_valid o w)
 valid_object o w first within = subst (λ b. IsTrue (b && nat_le o (object_count w))) (sym (le-leb 1 o first)) (le-leb o (object_count w) within)
@@ -192,11 +196,12 @@ unapply_entered s limit o number e w v f quiet is few fits = record {
   few = omega arith;
 }
 
-pub unapply_entry : (s : Scene) (limit o number : ℕ) (r : Result Entered NoMemory) (w v : World Saved) → FitIn s w
+pub unapply_entry : (s : Scene) (limit o number : ℕ) (k : Kind Saved) (r : Result Entered NoMemory) (w v : World Saved) → k ≡ Unapply o → FitIn s w
     → IfOk r (λ e. e ≡ record { stopped = false; count = 0 }) → OnOk r (v ≡ unapply o number w) → OnOk r (v.agenda.next ≤ w.agenda.next + 1) → OnOk r (KeepsFits w v)
-    → IfOk r (λ e. HasEntered s limit e (entered_as (runner_in s limit) (Unapply o) number w) w v)
-unapply_entry s limit o number (Ok e) w v f quiet is few fits = unapply_entered s limit o number e w v f quiet is few fits
-unapply_entry s limit o number (Err e) w v f quiet is few fits = tt
+    → IfOk r (λ e. HasEntered s limit e (entered_as (runner_in s limit) k number w) w v)
+unapply_entry s limit o number k (Ok e) w v kind f quiet is few fits =
+    subst (λ q. HasEntered s limit e (entered_as (runner_in s limit) q number w) w v) (sym kind) (unapply_entered s limit o number e w v f quiet is few fits)
+unapply_entry s limit o number k (Err e) w v kind f quiet is few fits = tt
 
 -- ---- a Turn that is done
 
