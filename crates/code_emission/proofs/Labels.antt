@@ -1,5 +1,5 @@
 -- Each label is placed once: the labels from a next one on are those that a node takes.
-use Rattle.std.proofs.Common.{◌≡◌, ℕ, ◌+◌, ◌-◌, List, [], ◌∷◌, ◌++◌, length, arith, refl, ap, ◌∙◌, Bool, true, false, eqb, cond, ltb, Option, Some, None, zero, suc}
+use Rattle.std.proofs.Common.{◌≡◌, ◌<◌, ℕ, ◌+◌, ◌-◌, List, [], ◌∷◌, ◌++◌, length, arith, refl, ap, ◌∙◌, Bool, true, false, eqb, cond, ltb, Option, Some, None, zero, suc}
 use Rattle.std.specs.Option.{option_map}
 use Rattle.std.proofs.lemmas.Bool.Decides.{nat_tests}
 use Rattle.nss_tree.specs.declared.operators.PrefixOperator.{PrefixOperator}
@@ -396,3 +396,34 @@ unfolding reached
 unit_placed add l b is entry label =
     turned (ltb label (body_count is + start_labels b is + functions_labels is)) _
     (unit_counts add label (reached label) (reached_next label) l b is entry ∙ reached_zero label)
+
+-- ---- no label below the next one is placed
+
+reached_not : (label n : ℕ) → label < n → reached label n ≡ 0
+unfolding reached
+reached_not label n lt = grind (arith, nat_tests)
+
+pub exprs_above : (add : PlacementsAdd) (l : Layout) (n depth : ℕ) (x : TypedExpr) (label : ℕ) → label < n → placements (emit l n depth x) label ≡ 0
+exprs_above add l n depth x label lt =
+    let f = (emit_counts add label (reached label) (reached_next label) l n (n + labels x) depth x refl).count in
+    omega (arith, f, reached_not label n lt)
+
+pub arguments_above : (add : PlacementsAdd) (l : Layout) (n depth : ℕ) (xs : TypedExprs) (label : ℕ) → label < n → placements (emit_all l n depth xs) label ≡ 0
+arguments_above add l n depth xs label lt =
+    let f = (all_counts add label (reached label) (reached_next label) l n (n + all_labels xs) depth xs refl).count in
+    omega (arith, f, reached_not label n lt)
+
+pub names_above : (add : PlacementsAdd) (l : Layout) (n depth : ℕ) (xs : List TypedName) (label : ℕ) → label < n → placements (emit_names l n depth xs) label ≡ 0
+names_above add l n depth xs label lt =
+    let f = (names_counts add label (reached label) (reached_next label) l n (n + names_labels xs) depth xs refl).count in
+    omega (arith, f, reached_not label n lt)
+
+pub stmt_above : (add : PlacementsAdd) (l : Layout) (out : Exits) (n depth : ℕ) (x : TypedStmt) (label : ℕ) → label < n → placements (emit_stmt l out n depth x) label ≡ 0
+stmt_above add l out n depth x label lt =
+    let f = (stmt_counts add label (reached label) (reached_next label) l out n (n + stmt_labels x) depth x refl).count in
+    omega (arith, f, reached_not label n lt)
+
+pub stmts_above : (add : PlacementsAdd) (l : Layout) (out : Exits) (n depth : ℕ) (xs : TypedStmts) (label : ℕ) → label < n → placements (emit_stmts l out n depth None xs) label ≡ 0
+stmts_above add l out n depth xs label lt =
+    let f = stmts_counts add label (reached label) (reached_next label) l out n (n + all_stmt_labels xs) depth None xs refl in
+    omega (arith, f, reached_not label n lt, none_placed add label (reached label) (reached_next label) xs)

@@ -5,3 +5,4 @@ pub mod Statements
 pub mod Units
 pub mod Bounds
 pub mod Laws
+pub mod Parts

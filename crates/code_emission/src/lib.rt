@@ -11,3 +11,4 @@
 #![tactic(auto)]
 
 pub mod laws;
+pub mod parts;

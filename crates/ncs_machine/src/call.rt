@@ -80,9 +80,10 @@ impl Machine {
         requires few { length scripts.now < 2 ^ 32 }
         requires both { AreNameAndTarget values.now }
         ensures room { world.old.room ≤ world.new.room }
-        ensures executed { (e : EngineView) (name : List ℕ) (target : ℕ) → values.now ≡ TextValue name ∷ ObjectValue target ∷ []
+        ensures executed { (e : EngineView) (name : List ℕ) (target : ℕ)
+            → values.now ≡ TextValue name ∷ ObjectValue target ∷ []
             → OnOk result (executed (host (scripts_of scripts.now) e) name target self.old.running
-            (state self.old (world.old.world)) ≡ state self.new (world.new.world)) }
+            (state self.old world.old.world) ≡ state self.new world.new.world) }
     {
         let target = target_in(values);
         self.execute(alloc, scripts, world, name_in(values), target)
@@ -102,8 +103,8 @@ impl Machine {
         size: u32,
     ) -> Result<(), NoMemory>
         requires few { length scripts.now < 2 ^ 32 }
-        requires early { IsEarly (world.old.world) }
-        requires caller { self.old.running.self ≤ object_count (world.old.world) }
+        requires early { IsEarly world.old.world }
+        requires caller { self.old.running.self ≤ object_count world.old.world }
         requires hooks { AreServing (map (λ h. h.known) hooks.now.all.items) }
         requires case { engine_called table.now number count self.old.running
             ≢ None }
@@ -111,9 +112,10 @@ impl Machine {
         requires small { self.old.running.place + size ≤ file_limit }
         ensures room { world.old.room ≤ world.new.room }
         ensures called { OnOk result (IfSome (engine_called table.now number count
-            self.old.running) (λ a. followed (host (scripts_of scripts.now) (engine_view table.now (map (λ h. h.known) hooks.now.all.items)))
-            (state self.old (world.old.world)) a
-            ≡ Goes (state self.new (world.new.world)))) }
+            self.old.running) (λ a. followed (host (scripts_of scripts.now)
+            (engine_view table.now (map (λ h. h.known) hooks.now.all.items)))
+            (state self.old world.old.world) a
+            ≡ Goes (state self.new world.new.world))) }
     {
         match table.routine(number) {
             None => unreachable!(),

@@ -50,7 +50,7 @@ fn run_machine(
     requires limit { limit ≤ instruction_limit }
     requires clock { world.old.world.clock < 2 ^ 62 }
     requires next { world.old.world.agenda.next < 2 ^ 62 }
-    requires caller { machine.old.running.self ≤ count (world.old.world) }
+    requires caller { machine.old.running.self ≤ count world.old.world }
     requires meets { AllMeet table.now (scripts_of scripts.now)
         (tables_of scripts.now) }
     requires hooks { AreServing (map (λ h. h.known) hooks.now.all.items) }
@@ -59,10 +59,11 @@ fn run_machine(
     requires alone { machine.old.waiting ≡ [] }
     ensures room { world.old.room ≤ world.new.room }
     ensures run { IsRunOf result.0 result.1 result.2
-        (run_of (host (scripts_of scripts.now) (engine_view table.now (map (λ h. h.known) hooks.now.all.items))) limit
-        (state machine.old (world.old.world)))
+        (run_of (host (scripts_of scripts.now)
+        (engine_view table.now (map (λ h. h.known) hooks.now.all.items))) limit
+        (state machine.old world.old.world))
         (scripts_of scripts.now) (tables_of scripts.now)
-        (world.old.world) (world.new.world) }
+        world.old.world world.new.world }
 {
     steps_are_safe::<Scene>();
     calls_keep_worlds::<Saved>();
@@ -104,16 +105,18 @@ pub fn run(
     requires limit { limit ≤ instruction_limit }
     requires clock { world.old.world.clock < 2 ^ 62 }
     requires next { world.old.world.agenda.next < 2 ^ 62 }
-    requires caller { caller ≤ count (world.old.world) }
+    requires caller { caller ≤ count world.old.world }
     requires meets { AllMeet table.now (scripts_of scripts.now)
         (tables_of scripts.now) }
     requires hooks { AreServing (map (λ h. h.known) hooks.now.all.items) }
     ensures room { world.old.room ≤ world.new.room }
     ensures run { IsRunOf result.0 result.1 result.2
-        (run_from (host (scripts_of scripts.now) (engine_view table.now (map (λ h. h.known) hooks.now.all.items))) limit script begin caller
-        (world.old.world))
+        (run_from (host (scripts_of scripts.now)
+        (engine_view table.now (map (λ h. h.known) hooks.now.all.items)))
+        limit script begin caller
+        world.old.world)
         (scripts_of scripts.now) (tables_of scripts.now)
-        (world.old.world) (world.new.world) }
+        world.old.world world.new.world }
 {
     entries_begin_safely();
     match begin {

@@ -135,7 +135,7 @@ impl Machine {
         self.running.own()
     }
 
-    /// The arguments of a call of the routine, which has this number. The instruction has this size.
+    /// The arguments of a call of the routine, which has this number, by an instruction of this size.
     pub(crate) fn take(
         &mut self,
         alloc: Global,
@@ -211,8 +211,8 @@ impl Machine {
         ensures begun { (e : EngineView) → OnOk result
             (begun (host (scripts_of scripts.now) e)
             (script_named (scripts_of scripts.now) name.now) name.now target
-            self.old.running (state self.old (world.old.world))
-            ≡ state self.new (world.new.world)) }
+            self.old.running (state self.old world.old.world)
+            ≡ state self.new world.new.world) }
     {
         match script_named(scripts, name) {
             None => world.no_script(target, name),
@@ -240,7 +240,7 @@ impl Machine {
         ensures room { world.old.room ≤ world.new.room }
         ensures executed { (e : EngineView) → OnOk result
             (executed (host (scripts_of scripts.now) e) name.now target self.old.running
-            (state self.old (world.old.world)) ≡ state self.new (world.new.world)) }
+            (state self.old world.old.world) ≡ state self.new world.new.world) }
     {
         if name.bytes().is_empty() || !world.may_run(self.running.own(), target) {
             return Ok(());
@@ -258,14 +258,16 @@ impl Machine {
         values: Args,
         action: Option<Saved>,
     ) -> Result<(), NoMemory>
-        requires early { IsEarly (world.old.world) }
-        requires caller { self.old.running.self ≤ object_count (world.old.world) }
+        requires early { IsEarly world.old.world }
+        requires caller { self.old.running.self ≤ object_count world.old.world }
         requires hooks { AreServing (map (λ h. h.known) hooks.now.all.items) }
-        requires types { FitArguments (engine_view table.now (map (λ h. h.known) hooks.now.all.items)) n values }
+        requires types { FitArguments
+            (engine_view table.now (map (λ h. h.known) hooks.now.all.items)) n values }
         ensures room { world.old.room ≤ world.new.room }
-        ensures answered { OnOk result (answered (answer_of (engine_answer (engine_view table.now (map (λ h. h.known) hooks.now.all.items)) n
-            self.old.running.self values action (world.old.world))) self.old.running
-            (state self.old (world.old.world)) ≡ state self.new (world.new.world)) }
+        ensures answered { OnOk result (answered (answer_of (engine_answer
+            (engine_view table.now (map (λ h. h.known) hooks.now.all.items)) n
+            self.old.running.self values action world.old.world)) self.old.running
+            (state self.old world.old.world) ≡ state self.new world.new.world) }
     {
         let own = self.running.own();
         match world.engine(hooks, table, n, own, values, action)? {

@@ -1,5 +1,6 @@
 //! One instruction of a running entry.
-ghost use Rattle.std.specs.Prelude.{◌≡◌, ◌≢◌, ◌≤◌, ◌<◌, ◌+◌, ◌^◌, None, Some, IfOk, IfSome, length, map};
+ghost use Rattle.std.specs.Prelude.{◌≡◌, ◌≢◌, ◌≤◌, ◌<◌, ◌+◌, ◌^◌, None, Some, IfOk, IfSome};
+ghost use Rattle.std.specs.Prelude.{length, map};
 ghost use Rattle.nwq_value.specs.Limits.{file_limit};
 ghost use Rattle.ncs_code.specs.Plain.{plain};
 ghost use Rattle.ncs_code.specs.Spelling.{op_size};
@@ -34,8 +35,8 @@ impl Machine {
         size: u32,
     ) -> Result<Next, NoMemory>
         requires few { length scripts.now < 2 ^ 32 }
-        requires early { IsEarly (world.old.world) }
-        requires caller { self.old.running.self ≤ count (world.old.world) }
+        requires early { IsEarly world.old.world }
+        requires caller { self.old.running.self ≤ count world.old.world }
         requires hooks { AreServing (map (λ h. h.known) hooks.now.all.items) }
         requires case { act table.now (plain op.now) self.old.running ≢ None }
         requires deep { (f : FrameView)
@@ -44,11 +45,12 @@ impl Machine {
         requires size { size ≡ op_size (plain op.now) }
         requires small { self.old.running.place + size ≤ file_limit }
         ensures room { world.old.room ≤ world.new.room }
-        ensures stays { IfOk result (λ next. Stays next (world.old.world) (world.new.world)) }
+        ensures stays { IfOk result (λ next. Stays next world.old.world world.new.world) }
         ensures next { IfOk result (λ next. IfSome (act table.now (plain op.now)
-            self.old.running) (λ a. followed (host (scripts_of scripts.now) (engine_view table.now (map (λ h. h.known) hooks.now.all.items)))
-            (state self.old (world.old.world)) a
-            ≡ next_of next (state self.new (world.new.world)))) }
+            self.old.running) (λ a. followed (host (scripts_of scripts.now)
+            (engine_view table.now (map (λ h. h.known) hooks.now.all.items)))
+            (state self.old world.old.world) a
+            ≡ next_of next (state self.new world.new.world))) }
     {
         match op {
             Op::Action { routine, count } => {
@@ -93,17 +95,19 @@ impl Machine {
         table: &Table,
     ) -> Result<Next, NoMemory>
         requires few { length scripts.now < 2 ^ 32 }
-        requires early { IsEarly (world.old.world) }
-        requires caller { self.old.running.self ≤ count (world.old.world) }
+        requires early { IsEarly world.old.world }
+        requires caller { self.old.running.self ≤ count world.old.world }
         requires hooks { AreServing (map (λ h. h.known) hooks.now.all.items) }
-        requires well { GoesWell (step (host (scripts_of scripts.now) (engine_view table.now (map (λ h. h.known) hooks.now.all.items)))
-            (state self.old (world.old.world))) }
+        requires well { GoesWell (step (host (scripts_of scripts.now)
+            (engine_view table.now (map (λ h. h.known) hooks.now.all.items)))
+            (state self.old world.old.world)) }
         ensures room { world.old.room ≤ world.new.room }
-        ensures stays { IfOk result (λ next. Stays next (world.old.world) (world.new.world)) }
+        ensures stays { IfOk result (λ next. Stays next world.old.world world.new.world) }
         ensures next { IfOk result (λ next.
-            step (host (scripts_of scripts.now) (engine_view table.now (map (λ h. h.known) hooks.now.all.items)))
-            (state self.old (world.old.world))
-            ≡ Some (next_of next (state self.new (world.new.world)))) }
+            step (host (scripts_of scripts.now)
+            (engine_view table.now (map (λ h. h.known) hooks.now.all.items)))
+            (state self.old world.old.world)
+            ≡ Some (next_of next (state self.new world.new.world))) }
     {
         place_laws();
         match scripts.get(self.script() as usize) {

@@ -10,3 +10,8 @@ pub mod Following
 pub mod Adding
 pub mod Calling
 pub mod CallSteps
+pub mod ReturnSteps
+pub mod Visits
+pub mod Storing
+pub mod Passing
+pub mod Ending

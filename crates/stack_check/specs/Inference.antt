@@ -1,17 +1,18 @@
 -- What an inference keeps true: what it has found is there in every table that meets the rules, perhaps with fewer slots beneath.
-use Rattle.std.specs.Prelude.{◌≡◌, ◌≤◌, ◌<◌, ℕ, List, [], ◌++◌, ◌∷◌, length, Option, None, Some, IfSome, slice_get, ◌⊎◌}
+use Rattle.std.specs.Prelude.{◌≡◌, ◌≤◌, ◌<◌, ℕ, ℤ, List, [], ◌++◌, ◌∷◌, length, Option, None, Some, IfSome, slice_get, ◌⊎◌}
 use Rattle.nwq_value.specs.Engine.{EngineTable}
 use Rattle.ncs_code.specs.Plain.{PlainOp}
 use Rattle.ncs_code.specs.Plain as ops
-use Rattle.ncs_code.specs.File.{jump_place, op_at}
+use Rattle.ncs_code.specs.File.{jump_place, op_at, resume_place}
 use Rattle.stack_shape.specs.declared.shape.Slot.{Slot}
 use Rattle.stack_shape.specs.declared.shape.Entry.{Entry}
 use Rattle.stack_shape.specs.declared.shape.Entry.TheVariants.{Start, Called, Stored}
-use Rattle.stack_shape.specs.Stored.{TopShape}
+use Rattle.stack_shape.specs.declared.store.StoredTypes.{StoredTypes}
+use Rattle.stack_shape.specs.Stored.{TopShape, stored_types}
 use Rattle.stack_shape.specs.Laws.{deeper}
 use Rattle.shape_tables.specs.Tables.{Callee, ShapeTable}
 use Rattle.stack_shape.specs.Rule.{IsOneStep, rule}
-use Rattle.shape_tables.specs.Rules.{IsSound, MeetsRules, WellStacked}
+use Rattle.shape_tables.specs.Rules.{AsksFurther, IsSound, MeetsRules, WellStacked}
 use Rattle.stack_check.specs.declared.held.Held.{Held}
 use Rattle.stack_check.specs.declared.held.Heap.{Heap}
 use Rattle.stack_check.specs.declared.facts.Trial.{Trial}
@@ -20,6 +21,8 @@ use Rattle.stack_check.specs.declared.seen.Seen.{Seen}
 use Rattle.stack_check.specs.declared.seen.Seen.TheVariants.{Quiet, Changed, Bad}
 use Rattle.stack_check.specs.declared.leads.Lead.{Lead}
 use Rattle.stack_check.specs.declared.leads.Lead.TheVariants.{One, Two}
+use Rattle.stack_check.specs.declared.leads.Kind.{Kind}
+use Rattle.stack_check.specs.declared.leads.Kind.TheVariants.{Call, Return, Store, Step}
 use Rattle.stack_check.specs.Shared.{read}
 use Rattle.stack_check.specs.Held.{HeapGrows, IsIn, shape_of}
 use Rattle.stack_check.specs.Rows.{RowAdded, row_in}
@@ -207,6 +210,12 @@ pub record CurrentSet (before after : Facts) (entry : Entry) (number : ℕ) : Ty
 
 -- ---- calls
 
+-- a JSR that leads to this place
+pub record IsCall (code : List PlainOp) (place target : ℕ) : Type 0 where
+  pub offset : ℤ
+  pub stands : op_at code place ≡ Some (ops.Jsr offset)
+  pub leads : jump_place place offset ≡ target
+
 -- the trial that counts for the routine that begins at a place
 pub record Calls (facts : Facts) (target : ℕ) (callee : Trial) : Type 0 where
   pub number : ℕ
@@ -218,3 +227,79 @@ pub record Strips (heap : Heap) (held : Held) (callee : Trial) (rest beneath : �
   pub rest_in : rest ≤ length heap.slots
   pub cells : read heap.slots held.cells ≡ read heap.slots callee.taken ++ read heap.slots rest
   pub under : read heap.slots held.under ≡ read heap.slots callee.under ++ read heap.slots beneath
+
+-- an instruction that stores no state
+abbrev pub IsPlain : PlainOp → Type 0
+IsPlain (ops.StoreState globals locals) = ⊥
+IsPlain op = Unit {0}
+
+-- What the visit of an instruction with a rule of one shape leaves, but for what it stores.
+pub record SeesStep (header : EngineTable) (code : List PlainOp) (heap heap' : Heap) (facts facts' : Facts) (number place : ℕ) (held : Held) (op : PlainOp) (seen : Seen) : Type 0 where
+  pub grows : HeapGrows heap heap'
+  pub keeps : Visited header code heap' facts' seen
+  pub quiet : WhereQuiet seen ((facts' ≡ facts)
+      × (AsksFurther (table_of heap facts) place op (shape_of heap held) → Sound header code heap facts number place held))
+
+-- ---- stored states
+
+-- every table has this shape where a state resumes that is stored at this place
+pub record Resumes (header : EngineTable) (code : List PlainOp) (site : ℕ) (shape : TopShape) : Type 0 where
+  pub by : (table : ShapeTable) → MeetsRules header code table → table.at (Stored site) (resume_place site) ≡ Some shape
+
+-- the trial that counts for what is stored there has it
+pub record IsStored (heap : Heap) (facts : Facts) (site : ℕ) (shape : TopShape) : Type 0 where
+  pub number : ℕ
+  pub counts : current facts (Stored site) ≡ Some number
+  pub row : RowIs heap facts number (resume_place site) shape
+
+-- the instruction stores a state of these types
+abbrev pub Stores : PlainOp → TopShape → StoredTypes → Type 0
+Stores (ops.StoreState globals locals) shape types = stored_types globals locals shape.under shape.cells ≡ Some types
+Stores op shape types = ⊥
+
+-- ---- kinds of instructions
+
+unfoldable pub kind_of : ℕ → PlainOp → Kind
+kind_of place (ops.Jsr offset) = Call (jump_place place offset)
+kind_of place ops.Retn = Return
+kind_of place (ops.StoreState globals locals) = Store globals locals
+kind_of place op = Step
+
+-- ---- all places
+
+pub record CountsNot (facts : Facts) (number : ℕ) : Type 0 where
+  pub by : (entry : Entry) → current facts entry ≡ Some number → ⊥
+
+-- Whatever shape the trial has there obeys the rules.
+pub record RowSound (header : EngineTable) (code : List PlainOp) (heap : Heap) (facts : Facts) (number place : ℕ) : Type 0 where
+  pub by : (held : Held) → row_in facts.rows number place ≡ Some held → Sound header code heap facts number place held
+
+pub record SeesRow (header : EngineTable) (code : List PlainOp) (heap heap' : Heap) (facts facts' : Facts) (number place : ℕ) (seen : Seen) : Type 0 where
+  pub grows : HeapGrows heap heap'
+  pub keeps : Visited header code heap' facts' seen
+  pub quiet : WhereQuiet seen ((facts' ≡ facts) × RowSound header code heap facts number place)
+
+-- the same for all trials at a place
+pub record PlaceSound (header : EngineTable) (code : List PlainOp) (heap : Heap) (facts : Facts) (place : ℕ) : Type 0 where
+  pub by : (number : ℕ) → RowSound header code heap facts number place
+
+pub record SeesPlace (header : EngineTable) (code : List PlainOp) (heap heap' : Heap) (facts facts' : Facts) (place : ℕ) (seen : Seen) : Type 0 where
+  pub grows : HeapGrows heap heap'
+  pub keeps : Visited header code heap' facts' seen
+  pub quiet : WhereQuiet seen ((facts' ≡ facts) × PlaceSound header code heap facts place)
+
+-- and at all places
+pub record SeesAll (header : EngineTable) (code : List PlainOp) (heap heap' : Heap) (facts facts' : Facts) (seen : Seen) : Type 0 where
+  pub grows : HeapGrows heap heap'
+  pub keeps : Visited header code heap' facts' seen
+  pub quiet : WhereQuiet seen ((facts' ≡ facts) × MeetsRules header code (table_of heap facts))
+
+-- what one turn of the inference leaves
+pub record SeesTurn (header : EngineTable) (code : List PlainOp) (heap : Heap) (facts : Facts) (seen : Seen) : Type 0 where
+  pub keeps : Visited header code heap facts seen
+  pub quiet : WhereQuiet seen (MeetsRules header code (table_of heap facts))
+
+-- A table was found, and compares with every other.
+pub record IsFound (header : EngineTable) (code : List PlainOp) (heap : Heap) (facts : Facts) : Type 0 where
+  pub keeps : Keeps header code heap facts
+  pub meets : MeetsRules header code (table_of heap facts)

@@ -1,4 +1,4 @@
-ghost use Rattle.std.specs.Prelude.{◌≡◌, ◌<◌, ◌≤◌, ◌^◌, None, Some, IfOk, IfSome, slice_get, ◌++◌, length};
+ghost use Rattle.std.specs.Prelude.{◌+◌, ◌≡◌, ◌<◌, ◌≤◌, ◌^◌, None, Some, IfOk, IfSome, slice_get, ◌++◌, length};
 ghost use Rattle.ncs_code.specs.Plain.{Jsr, Retn};
 ghost use Rattle.ncs_code.specs.File.{jump_place, op_at};
 ghost use Rattle.machine_step.specs.Act.{next_place};
@@ -7,7 +7,7 @@ ghost use Rattle.stack_check.specs.Shared.{read};
 ghost use Rattle.stack_check.specs.Facts.{current};
 ghost use Rattle.stack_check.specs.Rows.{row_in};
 ghost use Rattle.stack_check.specs.Held.{HeapGrows, Holds, IsIn, shape_of};
-ghost use Rattle.stack_check.specs.Inference.{Calls, Keeps, Sees, Strips, Visited, WhereQuiet, Sound};
+ghost use Rattle.stack_check.specs.Inference.{Calls, IsCall, Keeps, Sees, Strips, Visited, WhereQuiet, Sound};
 
 use crate::facts::{Facts, Trial, begin, give};
 use crate::held::{Heap, Held};
@@ -55,16 +55,13 @@ fn call_first(
     facts: &mut Facts,
     todo: &mut Todo,
     from: Found,
-    offset: i32,
     target: u32,
 ) -> Result<(), NoMemory>
     requires keeps { Keeps table.now code.now heap.now facts.old }
     requires row { row_in facts.old.rows from.trial from.place ≡ Some from.held }
-    requires op { op_at code.now from.place ≡ Some (Jsr offset) }
-    requires target { target ≡ jump_place from.place offset }
+    requires op { IsCall code.now from.place target }
     ensures keeps { IfOk result (λ _. Keeps table.now code.now heap.now facts.new) }
 {
-    let _ = offset;
     let trial = Trial {
         entry: Entry::Called(target),
         taken: from.held.cells,
@@ -84,19 +81,16 @@ fn call_shorter(
     facts: &mut Facts,
     todo: &mut Todo,
     from: Found,
-    offset: i32,
     target: u32,
     callee: Trial,
 ) -> Result<(), NoMemory>
     requires keeps { Keeps table.now code.now heap.old facts.old }
     requires row { row_in facts.old.rows from.trial from.place ≡ Some from.held }
-    requires op { op_at code.now from.place ≡ Some (Jsr offset) }
-    requires target { target ≡ jump_place from.place offset }
-    requires calls { Calls facts.old (jump_place from.place offset) callee }
+    requires op { IsCall code.now from.place target }
+    requires calls { Calls facts.old target callee }
     ensures grows { IfOk result (λ _. HeapGrows heap.old heap.new) }
     ensures keeps { IfOk result (λ _. Keeps table.now code.now heap.new facts.new) }
 {
-    let _ = offset;
     let taken = common(alloc, &mut heap.slots, from.held.cells, callee.taken)?;
     let under = common(alloc, &mut heap.slots, from.held.under, callee.under)?;
     let trial = Trial {
@@ -118,7 +112,7 @@ fn call_known(
     facts: &mut Facts,
     todo: &mut Todo,
     from: Found,
-    offset: i32,
+    target: u32,
     next: u32,
     callee: Trial,
     rest: u32,
@@ -126,9 +120,9 @@ fn call_known(
 ) -> Result<Seen, NoMemory>
     requires keeps { Keeps table.now code.now heap.old facts.old }
     requires row { row_in facts.old.rows from.trial from.place ≡ Some from.held }
-    requires op { op_at code.now from.place ≡ Some (Jsr offset) }
-    requires next { next ≡ next_place from.place (Jsr offset) }
-    requires calls { Calls facts.old (jump_place from.place offset) callee }
+    requires op { IsCall code.now from.place target }
+    requires next { next ≡ from.place + 6 }
+    requires calls { Calls facts.old target callee }
     requires strips { Strips heap.old from.held callee rest beneath }
     ensures sees { IfOk result (λ seen. Sees table.now code.now heap.old heap.new facts.old facts.new
         from.trial from.place from.held seen) }
@@ -158,17 +152,15 @@ fn call_again(
     facts: &mut Facts,
     todo: &mut Todo,
     from: Found,
-    offset: i32,
     target: u32,
     next: u32,
     callee: Trial,
 ) -> Result<Seen, NoMemory>
     requires keeps { Keeps table.now code.now heap.old facts.old }
     requires row { row_in facts.old.rows from.trial from.place ≡ Some from.held }
-    requires op { op_at code.now from.place ≡ Some (Jsr offset) }
-    requires target { target ≡ jump_place from.place offset }
-    requires next { next ≡ next_place from.place (Jsr offset) }
-    requires calls { Calls facts.old (jump_place from.place offset) callee }
+    requires op { IsCall code.now from.place target }
+    requires next { next ≡ from.place + 6 }
+    requires calls { Calls facts.old target callee }
     ensures sees { IfOk result (λ seen. Sees table.now code.now heap.old heap.new facts.old facts.new
         from.trial from.place from.held seen) }
 {
@@ -178,12 +170,10 @@ fn call_again(
         strip(&heap.slots, held.under, callee.under),
     ) {
         (Some(rest), Some(beneath)) => call_known(
-            alloc, code, table, heap, facts, todo, from, offset, next, callee, rest, beneath,
+            alloc, code, table, heap, facts, todo, from, target, next, callee, rest, beneath,
         ),
         _ => {
-            call_shorter(
-                alloc, code, table, heap, facts, todo, from, offset, target, callee,
-            )?;
+            call_shorter(alloc, code, table, heap, facts, todo, from, target, callee)?;
             Ok(Seen::Changed)
         }
     }
@@ -198,18 +188,16 @@ pub fn call(
     facts: &mut Facts,
     todo: &mut Todo,
     from: Found,
-    offset: i32,
+    target: u32,
     next: u32,
 ) -> Result<Seen, NoMemory>
     requires keeps { Keeps table.now code.now heap.old facts.old }
     requires row { row_in facts.old.rows from.trial from.place ≡ Some from.held }
-    requires op { op_at code.now from.place ≡ Some (Jsr offset) }
-    requires next { next ≡ next_place from.place (Jsr offset) }
-    requires bound { from.place < 2 ^ 31 }
+    requires op { IsCall code.now from.place target }
+    requires next { next ≡ from.place + 6 }
     ensures sees { IfOk result (λ seen. Sees table.now code.now heap.old heap.new facts.old facts.new
         from.trial from.place from.held seen) }
 {
-    let target = jump_place(from.place, offset);
     let spot = Spot {
         trial: from.trial,
         place: from.place,
@@ -217,11 +205,11 @@ pub fn call(
     todo.add_call(target, spot)?;
     match counting(facts, target) {
         None => {
-            call_first(code, table, heap, facts, todo, from, offset, target)?;
+            call_first(code, table, heap, facts, todo, from, target)?;
             Ok(Seen::Changed)
         }
         Some(callee) => call_again(
-            alloc, code, table, heap, facts, todo, from, offset, target, next, callee,
+            alloc, code, table, heap, facts, todo, from, target, next, callee,
         ),
     }
 }

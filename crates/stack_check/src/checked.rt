@@ -8,6 +8,7 @@ ghost use Rattle.stack_check.specs.declared.fault.CheckFault.TheVariants.{Unstac
 use crate::facts::Facts;
 use crate::fault::CheckFault;
 use crate::held::Heap;
+use crate::infer::{Kept, infer};
 use ncs_file::Code;
 use nwq_value::Table;
 use saved_state::Saved;
@@ -32,6 +33,7 @@ impl Model for Checked {
 
 /// The code with a table of shapes that meets the rules under this header, or `Unstacked` exactly
 /// where there is none. The code is dropped on a refusal.
+#[tactic(auto, using(crate::proofs::Ending::checking))]
 pub fn check(alloc: Global, code: Code, table: &Table) -> Result<Checked, CheckFault>
     // What was handed in is kept.
     ensures code { IfOk result (λ c. c.code ≡ code) }
@@ -43,10 +45,13 @@ pub fn check(alloc: Global, code: Code, table: &Table) -> Result<Checked, CheckF
     // Where no table is found there is none.
     ensures unstacked { result ≡ Err Unstacked → WellStacked table.now code → ⊥ }
 {
-    let _ = alloc;
-    let _ = table;
-    drop(code);
-    Err(CheckFault::NoMemory)
+    match infer(alloc, &code, table)? {
+        None => Err(CheckFault::Unstacked),
+        Some(kept) => {
+            let Kept { heap, facts } = kept;
+            Ok(Checked { code, heap, facts })
+        }
+    }
 }
 
 impl Checked {

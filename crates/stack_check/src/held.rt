@@ -144,7 +144,7 @@ fn one_more(pending: u32) -> Result<u32, NoMemory>
 }
 
 /// A list of slots, seen from its top.
-fn top(heap: &Heap, number: u32) -> Top<'_>
+pub fn top(heap: &Heap, number: u32) -> Top<'_>
     ensures lists { result.lists.now ≡ heap.now.slots }
     ensures number { result.number ≡ number }
 {

@@ -1,6 +1,6 @@
 ghost use Rattle.std.specs.Prelude.{◌≡◌, ◌<◌, ◌^◌};
 ghost use Rattle.ncs_code.specs.Plain.{plain};
-ghost use Rattle.stack_check.specs.Inference.{leads_of};
+ghost use Rattle.stack_check.specs.Inference.{kind_of, leads_of};
 
 use ncs_code::{Op, jump_place};
 
@@ -21,5 +21,31 @@ pub fn leads_of(op: &Op<'_>, place: u32, next: u32) -> Lead
         Op::Jmp { offset } => Lead::One(jump_place(place, *offset)),
         Op::Jz { offset } | Op::Jnz { offset } => Lead::Two(jump_place(place, *offset), next),
         _ => Lead::One(next),
+    }
+}
+
+/// What is asked of an instruction.
+#[derive(Clone, Copy)]
+pub enum Kind {
+    /// It calls the routine that begins there.
+    Call(u32),
+    Return,
+    /// So many bytes of globals and of locals are stored.
+    Store(u32, u32),
+    /// It has a rule of one shape, and stores no state.
+    Step,
+}
+
+/// What is asked of an instruction at a place.
+#[tactic(auto, unfolding(crate::specs::Inference::kind_of))]
+pub fn kind_of(op: &Op<'_>, place: u32) -> Kind
+    requires { place < 2 ^ 31 }
+    ensures { result ≡ kind_of place (plain op.now) }
+{
+    match op {
+        Op::Jsr { offset } => Kind::Call(jump_place(place, *offset)),
+        Op::Retn => Kind::Return,
+        Op::StoreState { globals, locals } => Kind::Store(*globals, *locals),
+        _ => Kind::Step,
     }
 }

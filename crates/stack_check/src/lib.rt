@@ -15,15 +15,18 @@ mod checked;
 mod facts;
 mod fault;
 mod held;
+mod infer;
 mod laws;
 mod leads;
 mod lists;
 mod places;
 mod reach;
+mod returns;
 mod rows;
 mod seen;
 mod slots;
 mod todo;
+mod visit;
 
 pub use checked::{Checked, check};
 pub use fault::CheckFault;

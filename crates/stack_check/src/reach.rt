@@ -122,7 +122,7 @@ pub struct Found {
     pub held: Held,
 }
 
-fn after_change(seen: Seen) -> Seen
+pub fn after_change(seen: Seen) -> Seen
     ensures { result ≡ after_change seen }
 {
     match seen {
@@ -180,6 +180,7 @@ pub fn lead(
         (plain op.now) after }
     requires lead { lead ≡ leads_of from.place (next_place from.place (plain op.now)) (plain op.now) }
     ensures keeps { IfOk result (λ seen. Visited table.now code.now heap.now facts.new seen) }
+    ensures kept { IfOk result (λ _. RowsKept facts.old facts.new) }
     ensures quiet { IfOk result (λ seen. WhereQuiet seen ((facts.new ≡ facts.old)
         × AllLed heap.now facts.old from.trial lead (shape_of heap.now after))) }
 {

@@ -1,12 +1,12 @@
 //! A world of three objects, and calls on it that test their conditions when they run.
-ghost use Rattle.std.specs.Prelude.{◌≡◌, ◌≢◌, ◌≤◌, ℕ, true, false, slice_get, Some, IfOk};
+ghost use Rattle.std.specs.Prelude.{◌≡◌, ◌≢◌, ◌≤◌, ℕ, true, false, map, slice_get, Some, IfOk};
 ghost use Rattle.std.specs.List.{AllByRecursion};
-ghost use Rattle.delay_agenda.specs.declared.entry.Kind.TheVariants as kind;
+ghost use Rattle.delay_agenda.specs.declared.entry.Kind.TheVariants as variant;
 ghost use Rattle.nwq_value.specs.declared.engine.Role.TheVariants.{Pure};
 ghost use Rattle.nwq_value.specs.declared.engine.Routine.{Routine};
 ghost use Rattle.engine_rows.specs.Kept.{IsActing, IsPlaced};
 ghost use Rattle.engine_rows.specs.World.{count};
-ghost use Rattle.world_core.specs.Calls.{IsEarly};
+ghost use Rattle.world_core.specs.Calls.{planned, IsEarly};
 
 use area_tree::Area;
 use delay_agenda::{Entry, Kind};
@@ -60,7 +60,8 @@ fn area(alloc: Global) -> Option<Area> {
 }
 
 fn events(alloc: Global) -> Result<Events, NoMemory>
-    ensures objects { IfOk result (λ events. AllByRecursion (λ s. s.object ≡ 0) events) }
+    ensures objects { IfOk result (λ events. (most : ℕ)
+        → AllByRecursion (λ p. p.object ≤ most) (map planned events)) }
 {
     let script = Text::of(alloc, b"boot")?;
     let mut events = Events::new(alloc);
@@ -250,7 +251,7 @@ pub enum Is {
 /// Runs what needs no script; a Turn's action is done at once.
 fn run(world: &mut World<u32>, number: u64, kind: Kind<u32>) -> Option<Is>
     requires placed { IsPlaced (count world.old.world) kind }
-    requires acting { (o : ℕ) → kind ≡ kind.Turn o → IsActing o world.old.world }
+    requires acting { (o : ℕ) → kind ≡ variant.Turn o → IsActing o world.old.world }
     requires early { IsEarly world.old.world }
 {
     match kind {

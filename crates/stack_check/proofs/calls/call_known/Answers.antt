@@ -1,4 +1,5 @@
-use Rattle.std.specs.Prelude.{IfOk, Ok, Err, Result}
+use Rattle.std.proofs.Common.{subst, sym}
+use Rattle.stack_check.specs.Inference.{Calls}
 use Rattle.stack_check.proofs.Keeping.{keeps_grows}
 use Rattle.stack_check.proofs.CallSteps.{given_in, given_owed, given_sees, sees_none}
 use Rattle.stack_check.proofs.calls.call_known.Goals as goal
@@ -16,19 +17,19 @@ follow-requires-clause-keeps c =
 
 pub follow-requires-clause-owed : goal.follow-requires-clause-owed
 follow-requires-clause-owed c =
-    given_owed c.args.table.now c.args.code.now c.args.heap.now _ c.args.facts.now c.args.from.trial c.args.from.place c.args.offset c.args.from.held _ c.args.callee
-    c.in-Some.given c.args.rest c.args.beneath c.args.next c.requires.keeps c.requires.row c.requires.op c.requires.calls c.requires.strips c.in-Some.is
+    given_owed c.args.table.now c.args.code.now c.args.heap.now _ c.args.facts.now c.args.from.trial c.args.from.place c.requires.op.offset c.args.from.held _ c.args.callee
+    c.in-Some.given c.args.rest c.args.beneath c.args.next c.requires.keeps c.requires.row c.requires.op.stands (subst (λ t. Calls c.args.facts.now t c.args.callee) (sym c.requires.op.leads) c.requires.calls) c.requires.strips c.in-Some.is
     c.requires.next c.in_ok-now-in-Some.ensures
 
 pub returns-in-None : goal.returns-in-None
 returns-in-None c = record {
-  sees = sees_none c.args.table.now c.args.code.now c.args.heap.now c.args.facts.now c.args.from.trial c.args.from.place c.args.offset c.args.from.held
-      c.args.callee c.args.rest c.args.beneath c.requires.keeps c.requires.op c.requires.calls c.requires.strips c.in-None.is;
+  sees = sees_none c.args.table.now c.args.code.now c.args.heap.now c.args.facts.now c.args.from.trial c.args.from.place c.requires.op.offset c.args.from.held
+      c.args.callee c.args.rest c.args.beneath c.requires.keeps c.requires.op.stands (subst (λ t. Calls c.args.facts.now t c.args.callee) (sym c.requires.op.leads) c.requires.calls) c.requires.strips c.in-None.is;
 }
 
 pub returns-in_ok-seen-in-Some : goal.returns-in_ok-seen-in-Some
 returns-in_ok-seen-in-Some c = record {
-  sees = given_sees c.args.table.now c.args.code.now c.args.heap.now _ c.args.facts.now _ c.args.from.trial c.args.from.place c.args.offset c.args.from.held _
-      c.args.callee c.in-Some.given c.args.rest c.args.beneath c.args.next _ c.requires.keeps c.requires.op c.requires.calls c.requires.strips c.in-Some.is
+  sees = given_sees c.args.table.now c.args.code.now c.args.heap.now _ c.args.facts.now _ c.args.from.trial c.args.from.place c.requires.op.offset c.args.from.held _
+      c.args.callee c.in-Some.given c.args.rest c.args.beneath c.args.next _ c.requires.keeps c.requires.op.stands (subst (λ t. Calls c.args.facts.now t c.args.callee) (sym c.requires.op.leads) c.requires.calls) c.requires.strips c.in-Some.is
       c.requires.next c.in_ok-now-in-Some.ensures c.in_ok-seen-in-Some.ensures.keeps c.in_ok-seen-in-Some.ensures.quiet;
 }

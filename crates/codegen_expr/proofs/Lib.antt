@@ -1,0 +1,4 @@
+pub mod Dropping
+pub mod Rows
+pub mod Nodes
+pub mod Ready

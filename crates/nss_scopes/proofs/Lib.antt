@@ -1,0 +1,4 @@
+pub mod PlaceLemmas
+pub mod NameLemmas
+pub mod EntryLemmas
+pub mod CaseLemmas

@@ -1,0 +1,9 @@
+use Rattle.std.proofs.Common.{◌∙◌, ap, is_some}
+use Rattle.nss_scopes.proofs.EntryLemmas.{body_there}
+use Rattle.nss_scopes.proofs.heads.Heads.has_body.Goals as goal
+
+pub returns : goal.returns
+returns c = record {
+  has = c.is_some.ensures ∙ (ap is_some c.first.ensures.first
+      ∙ body_there c.args.name.now c.self.inside.all.items c.self.inside.places c.self.inside.bodies c.args.self.now c.self.invariant c.self.view_is);
+}

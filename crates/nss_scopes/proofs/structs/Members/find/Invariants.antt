@@ -1,0 +1,8 @@
+use Rattle.std.proofs.Common.{◌≡◌, drop, map}
+use Rattle.nss_typing.specs.Sight.{find_member}
+use Rattle.nss_scopes.specs.Entries.{member_of}
+use Rattle.nss_scopes.proofs.structs.Members.find.Given as goal
+
+abbrev pub invariant-loop-member : goal.invariant-loop-member
+invariant-loop-member l =
+    find_member l.name (map member_of (drop l.member-index l.member-items)) ≡ find_member l.name (map member_of l.self.fields)

@@ -1,0 +1,5 @@
+pub mod Places
+pub mod Slots
+pub mod Entries
+pub mod Cases
+pub mod Views

@@ -1,0 +1,48 @@
+-- A script that is compiled: its file of bytecode, and the command that writes it.
+use Rattle.std.specs.Prelude.{ℕ, Bool, true, false, nat_lt, List, length, ◌++◌, codes}
+use Rattle.nwq_value.specs.Limits.{file_limit}
+use Rattle.nwq_value.specs.Engine.{EngineTable}
+use Rattle.nss_typing.specs.Typed.{TypedUnit}
+use Rattle.code_emission.specs.Units.{unit_file}
+use Rattle.nwq_work.specs.declared.cause.Cause.TheVariants as cause
+use Rattle.nwq_work.specs.Work.{Work, Gives, Refused, then, Finished}
+use Rattle.nwq_sources.specs.Headers.{table_of}
+use Rattle.nwq_sources.specs.Units.{PlainScript, at_token, unit_of}
+use Rattle.nwq_files.specs.Commands.{writes_and_puts}
+use Rattle.nwq_files.specs.Texts.{done_line}
+use Rattle.nwq_scripts.specs.Typings.{typed_in}
+
+-- a unit whose file would be too large is refused at the end of the script's own file
+abbrev pub file_by : PlainScript → Bool → List ℕ → Work (List ℕ)
+file_by script true file = Refused (at_token script (length script.tokens) cause.Large)
+file_by script false file = Gives file
+
+-- the file of a script's typed unit
+unfoldable pub file_in : PlainScript → TypedUnit → Work (List ℕ)
+file_in script unit = file_by script (nat_lt file_limit (length (unit_file unit))) (unit_file unit)
+
+-- the file of a script under a header
+unfoldable pub compiled_in : EngineTable → PlainScript → Work (List ℕ)
+compiled_in header script = then (typed_in header script) (file_in script)
+
+unfoldable pub compiled_named : EngineTable → List ℕ → Work (List ℕ)
+compiled_named header name = then (unit_of name) (compiled_in header)
+
+-- ---- the command
+
+-- the name of a script's file of bytecode
+abbrev pub code_name : List ℕ → List ℕ
+code_name script = script ++ codes ".ncs"
+
+abbrev pub compiled_line : List ℕ → ℕ → List ℕ
+compiled_line name size = done_line (codes "compiled ") name size
+
+abbrev pub writes_code : List ℕ → List ℕ → Work Finished
+writes_code script file = writes_and_puts (code_name script) file (compiled_line (code_name script) (length file))
+
+unfoldable pub compiles_under : List ℕ → EngineTable → Work Finished
+compiles_under script header = then (compiled_named header script) (writes_code script)
+
+-- a header is read, a script compiled under it, and its file written
+unfoldable pub compiles : List ℕ → List ℕ → Work Finished
+compiles header script = then (table_of header) (compiles_under script)
