@@ -4,5 +4,3 @@ pub mod Entering
 pub mod Turning
 pub mod Playing
 pub mod Whole
-pub mod EndLemmas
-mod Worked

@@ -3,4 +3,3 @@ pub mod Scenes
 pub mod Entries
 pub mod Turns
 pub mod Answers
-pub mod EndTexts

@@ -6,7 +6,6 @@
 //! docs/PLAYS.md tells plays in words.
 #![tactic(auto)]
 
-mod closing;
 mod entry;
 mod names;
 mod played;
@@ -15,6 +14,5 @@ mod scripts;
 mod setting;
 mod turn;
 
-pub use closing::end_text;
 pub use played::{How, Played};
 pub use plays::{play, play_on};
