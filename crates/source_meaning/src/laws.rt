@@ -4,6 +4,7 @@ ghost use Rattle.source_meaning.specs.EngineHost.{EngineIsRun};
 ghost use Rattle.source_meaning.specs.FunctionsRun.{FunctionsRun};
 ghost use Rattle.source_meaning.specs.Laws.{ExpressionsRun, StatementsRun};
 ghost use Rattle.source_meaning.specs.Placing.{FunctionsStand};
+ghost use Rattle.source_meaning.specs.Starts.{StartsRun};
 
 use code_emission::laws::code_stands;
 use machine_step::equality_is_tested;
@@ -60,3 +61,12 @@ pub fn functions_stand()
 pub fn engine_is_run()
     ensures run { EngineIsRun }
 {}
+
+/// The code of a script does what its start means, where the script has no globals and begins with
+/// `void main()`.
+pub fn starts_run()
+    ensures runs { StartsRun }
+{
+    equality_is_tested();
+    code_stands();
+}
