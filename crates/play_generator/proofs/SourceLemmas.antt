@@ -1,5 +1,5 @@
 -- The source as the pieces that are appended.
-use Rattle.std.proofs.Common.{◌≡◌, ℕ, List, [], ◌∷◌, ◌++◌, codes, refl, sym, ap, ◌∙◌, append_assoc}
+use Rattle.std.proofs.Common.{◌≡◌, ℕ, List, [], ◌∷◌, ◌++◌, codes, sym, ap, ◌∙◌, append_assoc}
 use Rattle.std.specs.Fmt.{decimal}
 use Rattle.play_generator.specs.Made.{source_text}
 
@@ -11,9 +11,8 @@ middle = codes ";\nint F(int k) { if (k < 2) return k; return F(k - 1) + F(k - 2
 behind : (digits rest below : List ℕ) → ((digits ++ rest) ++ 10 ∷ []) ++ below ≡ digits ++ ((rest ++ 10 ∷ []) ++ below)
 behind digits rest below = ap (λ l. l ++ below) (append_assoc digits rest (10 ∷ [])) ∙ append_assoc digits (rest ++ 10 ∷ []) below
 
-unfolding source_text
-
 pub in_pieces : (n creatures : ℕ) → source_text n creatures ≡ codes "int g = " ++ (decimal n ++ (middle ++ (decimal creatures ++ codes ")), Tell(n));\n}\n")))
+unfolding source_text
 in_pieces n creatures =
     ap (λ l. codes "int g = " ++ l) (behind (decimal n) (codes ";") _ ∙ ap (λ l. decimal n ++ (middle ++ l)) (behind (decimal creatures) (codes ")), Tell(n));") (codes "}\n")))
 
@@ -27,8 +26,11 @@ whole_source n creatures out =
     ∙ ap (λ l. out ++ l) (sym (in_pieces n creatures))
 
 -- what each of five calls appended
-pub grown : (n creatures : ℕ) (out first second third fourth now : List ℕ) → first ≡ out ++ codes "int g = " → second ≡ first ++ decimal n
-    → third ≡ second ++ middle → fourth ≡ third ++ decimal creatures → now ≡ fourth ++ codes ")), Tell(n));\n}\n" → now ≡ out ++ source_text n creatures
-grown n creatures out first second third fourth now a b d e f =
-    f ∙ ap (λ l. l ++ codes ")), Tell(n));\n}\n") (e ∙ ap (λ l. l ++ decimal creatures) (d ∙ ap (λ l. l ++ middle) (b ∙ ap (λ l. l ++ decimal n) a)))
+pub grown : (n creatures number count : ℕ) (out first second third fourth now : List ℕ) → number ≡ n → count ≡ creatures
+    → first ≡ out ++ codes "int g = " → second ≡ first ++ decimal number → third ≡ second ++ middle → fourth ≡ third ++ decimal count
+    → now ≡ fourth ++ codes ")), Tell(n));\n}\n" → now ≡ out ++ source_text n creatures
+grown n creatures number count out first second third fourth now same_number same_count a b d e f =
+    f ∙ ap (λ l. l ++ codes ")), Tell(n));\n}\n")
+    (e ∙ ap (λ m. third ++ decimal m) same_count
+    ∙ ap (λ l. l ++ decimal creatures) (d ∙ ap (λ l. l ++ middle) (b ∙ ap (λ m. first ++ decimal m) same_number ∙ ap (λ l. l ++ decimal n) a)))
     ∙ whole_source n creatures out

@@ -2,7 +2,7 @@
 use Rattle.std.specs.Prelude.{ℕ, ◌+◌, ◌*◌, ◌/◌, ◌%◌, List, [], ◌∷◌, ◌++◌, map, codes}
 use Rattle.std.specs.List.{flat_map, range_with_len}
 use Rattle.std.specs.Fmt.{decimal}
-use Rattle.gff_tree.specs.Tree.{PlainNode, PlainField, Holds, Str, Res}
+use Rattle.gff_tree.specs.Tree.{PlainNode, Holds, Str, Res}
 use Rattle.gff_tree.specs.Fields.{node_from, list_from}
 use Rattle.gff_tree.specs.Whole.{PlainGff}
 

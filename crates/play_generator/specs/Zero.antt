@@ -1,8 +1,8 @@
 -- The play of the number 0, written out.
-use Rattle.std.specs.Prelude.{◌≡◌, List, [], ◌∷◌, ◌++◌, ℕ, codes}
+use Rattle.std.specs.Prelude.{◌≡◌, List, ℕ, codes}
 use Rattle.gff_tree.specs.Tree.{Struct, MoreFields, NoField, MoreNodes, NoNode, Children, Holds, Str, Res}
 use Rattle.gff_tree.specs.Whole.{PlainGff}
-use Rattle.play_generator.specs.Made.{Play, play_of, area_tree}
+use Rattle.play_generator.specs.Made.{play_of, area_tree}
 
 abbrev pub source_of_zero : List ℕ
 source_of_zero = codes "int g = 0;\nint F(int k) { if (k < 2) return k; return F(k - 1) + F(k - 2); }\nvoid Tell(int k) { PrintInteger(g + k); }\nvoid main() {\nint n = GetLocalInt(OBJECT_SELF, \"n\") + 1;\nSetLocalInt(OBJECT_SELF, \"n\", n);\ng = g + n;\nActionWait(50);\nActionDoCommand(Tell(F(n % 8)));\nDelayCommand(n * 100, Tell(0 - n));\nAssignCommand(GetObjectByTag(\"c\" + IntToString(g % 1)), Tell(n));\n}\n"

@@ -11,7 +11,6 @@ use nwq_value::NoMemory;
 const ROUND: u32 = 1000;
 
 /// Appends the line of a creature's event in a round.
-#[tactic(auto, using(crate::proofs::PlanLemmas::whole_event))]
 fn put_event(out: &mut Vec<u8>, round: u32, creature: u32) -> Result<(), NoMemory>
     requires few { round < 60 }
     ensures event { OnOk result (out.new.items ≡ out.old.items ++ ended (event_line round creature)) }
@@ -49,7 +48,6 @@ fn put_rounds(out: &mut Vec<u8>, rounds: u32, creatures: u32) -> Result<(), NoMe
 }
 
 /// Appends the plan of so many rounds and creatures.
-#[tactic(auto, using(crate::proofs::PlanLemmas::whole_plan))]
 pub fn put_plan(out: &mut Vec<u8>, rounds: u32, creatures: u32) -> Result<(), NoMemory>
     requires few { rounds ≤ 60 }
     ensures plan { OnOk result (out.new.items ≡ out.old.items ++ plan_text rounds creatures) }

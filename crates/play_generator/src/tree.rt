@@ -97,22 +97,31 @@ fn all_creatures(alloc: Global, count: u32) -> Result<Vec<Node>, NoMemory>
     }
 }
 
+/// The struct that has the list of so many creatures.
+#[tactic(auto, unfolding(crate::specs::Made::area_tree))]
+fn top_of(alloc: Global, creatures: u32) -> Result<Node, NoMemory>
+    ensures { IfOk result (λ top. plain_node top ≡ (area_tree creatures).top) }
+{
+    let list = Leaf::of_list(all_creatures(alloc, creatures)?);
+    let mut top = Node::new(u32::MAX, Vec::new(alloc));
+    match top.append(label(b"Creature List".as_slice()), list) {
+        Ok(()) => Ok(top),
+        Err(e) => {
+            drop(top);
+            Err(e)
+        }
+    }
+}
+
 /// The tree of the area with so many creatures.
 #[tactic(auto, unfolding(crate::specs::Made::area_tree))]
 pub fn area(alloc: Global, creatures: u32) -> Result<Gff, NoMemory>
     ensures tree { IfOk result (λ gff. plain_gff gff ≡ area_tree creatures) }
 {
     fields_tell();
-    let list = Leaf::of_list(all_creatures(alloc, creatures)?);
-    let mut top = Node::new(u32::MAX, Vec::new(alloc));
-    match top.append(label(b"Creature List".as_slice()), list) {
-        Ok(()) => Ok(Gff {
-            file_type: *b"GIT ",
-            top,
-        }),
-        Err(e) => {
-            drop(top);
-            Err(e)
-        }
-    }
+    let top = top_of(alloc, creatures)?;
+    Ok(Gff {
+        file_type: *b"GIT ",
+        top,
+    })
 }
