@@ -1,0 +1,4 @@
+mod SourceLemmas
+mod PlanLemmas
+mod AreaLemmas
+mod ZeroLaws
