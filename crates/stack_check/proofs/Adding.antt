@@ -1,20 +1,19 @@
 -- A trial is added, and what a routine gives is kept.
-use Rattle.std.proofs.Common.{arith, rules, ◌≡◌, ◌≢◌, ◌≤◌, ◌<◌, ◌+◌, ℕ, zero, suc, List, [], ◌∷◌, ◌++◌, length, Option, None, Some, slice_get, slice_set, inl, inr, ◌⊎◌, sym, subst, ◌∙◌, ap, refl}
-use Rattle.std.specs.Prelude.{get_or, OnOk, OnErr, Result, Ok, Err}
+use Rattle.std.proofs.Common.{arith, ◌≡◌, ◌≤◌, ℕ, zero, suc, List, [], ◌∷◌, ◌++◌, length, Option, None, Some, slice_get, slice_set, inl, inr, ◌⊎◌, sym, subst, ◌∙◌, ap, refl}
+use Rattle.std.specs.Prelude.{get_or, OnOk, Result, Ok, Err}
 use Rattle.std.proofs.lemmas.Bool.{cases_eq}
 use Rattle.nwq_value.specs.declared.memory.NoMemory.{NoMemory}
 use Rattle.nwq_value.specs.Engine.{EngineTable}
 use Rattle.ncs_code.specs.Plain.{PlainOp}
 use Rattle.stack_shape.specs.declared.shape.Entry.{Entry}
 use Rattle.stack_shape.specs.declared.shape.Entry.TheVariants.{Start, Called, Stored}
-use Rattle.stack_check.specs.declared.held.Held.{Held}
 use Rattle.stack_check.specs.declared.held.Heap.{Heap}
 use Rattle.stack_check.specs.declared.facts.Trial.{Trial}
 use Rattle.stack_check.specs.declared.facts.Facts.{Facts}
-use Rattle.stack_check.specs.Rows.{PutAt, RowLists, RowAdded, row_in, SameNumbers}
+use Rattle.stack_check.specs.Rows.{PutAt, RowLists, RowAdded, row_in}
 use Rattle.stack_check.specs.Facts.{current, number_in, first_place, first_held}
 use Rattle.stack_check.specs.Inference.{Formed, TrialAdded, CurrentSet, Keeps, GivenOwed}
-use Rattle.stack_check.proofs.Keeping.{with_given, keeps_given}
+use Rattle.stack_check.proofs.Keeping.{keeps_given}
 
 some_is : {A : Type 0} (a b : A) → Some a ≡ Some b → a ≡ b
 some_is a b h = cc

@@ -1,12 +1,12 @@
 -- What the functions on calls and returns owe.
-use Rattle.std.proofs.Common.{arith, rules, ◌≡◌, ◌≤◌, ◌<◌, ℕ, zero, suc, ℤ, List, [], ◌++◌, length, map, Option, None, Some, slice_get, sym, subst, ◌∙◌, ap, refl}
+use Rattle.std.proofs.Common.{◌≡◌, ◌≤◌, ℕ, zero, suc, ℤ, List, ◌++◌, length, None, Some, slice_get, sym, subst, ◌∙◌, ap, refl}
 use Rattle.std.specs.Prelude.{IfSome, get_or}
 use Rattle.nwq_value.specs.Engine.{EngineTable}
 use Rattle.ncs_code.specs.Plain.{PlainOp}
 use Rattle.ncs_code.specs.Plain as ops
 use Rattle.ncs_code.specs.File.{jump_place, op_at}
 use Rattle.stack_shape.specs.declared.shape.Slot.{Slot}
-use Rattle.stack_shape.specs.declared.shape.Entry.TheVariants.{Start, Called}
+use Rattle.stack_shape.specs.declared.shape.Entry.TheVariants.{Called}
 use Rattle.stack_shape.specs.Stored.{TopShape}
 use Rattle.machine_step.specs.Act.{next_place}
 use Rattle.stack_check.specs.declared.held.Held.{Held}
@@ -16,12 +16,12 @@ use Rattle.stack_check.specs.declared.facts.Facts.{Facts}
 use Rattle.stack_check.specs.declared.seen.Seen.{Seen}
 use Rattle.stack_check.specs.declared.seen.Seen.TheVariants.{Quiet, Changed, Bad}
 use Rattle.stack_check.specs.Shared.{read, Grows, HoldsCommon}
-use Rattle.stack_check.specs.Held.{HeapGrows, Holds, IsIn, shape_of}
+use Rattle.stack_check.specs.Held.{HeapGrows, Holds, shape_of}
 use Rattle.stack_check.specs.Rows.{row_in}
 use Rattle.stack_check.specs.Facts.{current}
 use Rattle.stack_check.specs.Inference.{Formed, TrialIn, RowIs, Keeps, Visited, WhereQuiet, Owed, Begins, Sound, Sees, Calls, Strips}
 use Rattle.stack_check.proofs.Walks.{grows_none, grows_then}
-use Rattle.stack_check.proofs.Heaps.{heap_same, still_shape, cells_changed}
+use Rattle.stack_check.proofs.Heaps.{heap_same, still_shape}
 use Rattle.stack_check.proofs.Keeping.{keeps_grows}
 use Rattle.stack_check.proofs.Calling.{call_begins, call_shortens, call_owed, call_sound, call_sound_none}
 

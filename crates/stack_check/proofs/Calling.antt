@@ -8,24 +8,24 @@ use Rattle.ncs_code.specs.Plain as ops
 use Rattle.ncs_code.specs.File.{jump_place, op_at}
 use Rattle.stack_shape.specs.declared.shape.Slot.{Slot}
 use Rattle.stack_shape.specs.declared.shape.Entry.{Entry}
-use Rattle.stack_shape.specs.declared.shape.Entry.TheVariants.{Start, Called, Stored}
+use Rattle.stack_shape.specs.declared.shape.Entry.TheVariants.{Called}
 use Rattle.stack_shape.specs.Stored.{TopShape}
 use Rattle.stack_shape.specs.Laws.{deeper, deeper_saved, beneath_under}
 use Rattle.machine_step.specs.Act.{next_place}
 use Rattle.shape_tables.specs.Tables.{Callee, ShapeTable, first_shape}
-use Rattle.shape_tables.specs.Rules.{GoesOn, MayCall, MayReturn, Returns, Obeys, IsSound, MeetsRules, WellStacked}
+use Rattle.shape_tables.specs.Rules.{GoesOn, MayCall, MayReturn, Returns, Obeys, MeetsRules, WellStacked}
 use Rattle.stack_check.specs.declared.held.Held.{Held}
 use Rattle.stack_check.specs.declared.held.Heap.{Heap}
 use Rattle.stack_check.specs.declared.facts.Trial.{Trial}
 use Rattle.stack_check.specs.declared.facts.Facts.{Facts}
-use Rattle.stack_check.specs.Shared.{read, Grows, HoldsCommon}
-use Rattle.stack_check.specs.Held.{HeapGrows, IsIn, shape_of}
+use Rattle.stack_check.specs.Shared.{read, HoldsCommon}
+use Rattle.stack_check.specs.Held.{HeapGrows, shape_of}
 use Rattle.stack_check.specs.Rows.{row_in}
-use Rattle.stack_check.specs.Facts.{current, callee_of, callee_at, first_place, first_held, table_of}
+use Rattle.stack_check.specs.Facts.{current, callee_of, callee_at, table_of}
 use Rattle.stack_check.specs.Inference.{Formed, GivenFits, IsLonger, Beyond, RowFits, TrialFits, Keeps, Owed, RowIs, FirstFits, Begins, GivenOwed, Sound}
-use Rattle.stack_check.proofs.Heaps.{same_shape, still_in, still_shape}
+use Rattle.stack_check.proofs.Heaps.{same_shape}
 use Rattle.stack_check.proofs.Walks.{read_empty}
-use Rattle.stack_check.proofs.Steps.{row_trial, at_of, led_at}
+use Rattle.stack_check.proofs.Steps.{row_trial, led_at}
 
 some_is : {A : Type 0} (a b : A) → Some a ≡ Some b → a ≡ b
 some_is a b h = cc

@@ -1,14 +1,12 @@
 -- The start and the end of the inference.
-use Rattle.std.proofs.Common.{arith, rules, ◌≡◌, ◌≤◌, ◌<◌, ◌+◌, ℕ, zero, suc, List, [], ◌∷◌, ◌++◌, length, map, Option, None, Some, slice_get, inl, inr, ◌⊎◌, sym, subst, ◌∙◌, ap, refl}
+use Rattle.std.proofs.Common.{arith, ◌≡◌, ℕ, zero, suc, List, [], ◌∷◌, ◌++◌, length, map, Option, None, Some, slice_get, inl, inr, sym, subst, ◌∙◌, ap, refl}
 use Rattle.std.specs.Prelude.{get_or}
 use Rattle.nwq_value.specs.Engine.{EngineTable}
 use Rattle.ncs_code.specs.Plain.{PlainOp}
-use Rattle.stack_shape.specs.declared.shape.Slot.{Slot}
 use Rattle.stack_shape.specs.declared.shape.Entry.{Entry}
 use Rattle.stack_shape.specs.declared.shape.Entry.TheVariants.{Start, Called, Stored}
-use Rattle.stack_shape.specs.Stored.{TopShape}
 use Rattle.stack_shape.specs.Laws.{deeper}
-use Rattle.shape_tables.specs.Tables.{Callee, ShapeTable, empty_shape}
+use Rattle.shape_tables.specs.Tables.{ShapeTable, empty_shape}
 use Rattle.shape_tables.specs.Rules.{MeetsRules, WellStacked}
 use Rattle.stack_check.specs.declared.held.Held.{Held}
 use Rattle.stack_check.specs.declared.held.Heap.{Heap}
@@ -19,14 +17,12 @@ use Rattle.stack_check.specs.declared.facts.Facts.{Facts}
 use Rattle.stack_check.specs.declared.seen.Seen.{Seen}
 use Rattle.stack_check.specs.declared.seen.Seen.TheVariants.{Quiet, Changed, Bad}
 use Rattle.stack_check.specs.Shared.{read}
-use Rattle.stack_check.specs.Held.{AllAtMost, HeapGrows, IsIn, shape_of}
-use Rattle.stack_check.specs.Rows.{RowLists, RowAdded, row_in, find_row, rows_of}
+use Rattle.stack_check.specs.Held.{AllAtMost, IsIn, shape_of}
+use Rattle.stack_check.specs.Rows.{RowLists, RowAdded, row_in, find_row}
 use Rattle.stack_check.specs.Facts.{current, number_in, first_place, first_held, callee_of, table_of}
 use Rattle.stack_check.specs.Checked.{CheckedCode, StoredStand, kept_table}
-use Rattle.stack_check.specs.Inference.{Formed, IsTrialOf, TrialIn, AllIn, Beyond, RowFits, TrialFits, Compares, Keeps, Visited, WhereQuiet, SeesRow, SeesAll, SeesTurn, IsFound, after_change}
+use Rattle.stack_check.specs.Inference.{IsTrialOf, TrialIn, Beyond, RowFits, TrialFits, Keeps, Visited, WhereQuiet, SeesRow, SeesAll, SeesTurn, IsFound, after_change}
 use Rattle.stack_check.proofs.Heaps.{same_shape}
-use Rattle.stack_check.proofs.Keeping.{keeps_grows}
-use Rattle.stack_check.proofs.Calling.{entry_is}
 use Rattle.stack_check.proofs.Storing.{deeper_none}
 use Rattle.stack_check.proofs.Walks.{read_empty}
 use Rattle.stack_check.proofs.Passing.{shape_there, table_same}

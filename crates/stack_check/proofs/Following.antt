@@ -1,19 +1,17 @@
 -- What is kept where a shape is reached that every table has.
-use Rattle.std.proofs.Common.{◌≡◌, ℕ, List, Option, None, Some, inl, inr, ◌⊎◌, sym, subst, ◌∙◌, ap, refl}
+use Rattle.std.proofs.Common.{◌≡◌, ℕ, List, inl, inr, ◌⊎◌, sym, subst, ◌∙◌, ap}
 use Rattle.nwq_value.specs.Engine.{EngineTable}
 use Rattle.ncs_code.specs.Plain.{PlainOp}
 use Rattle.stack_shape.specs.Stored.{TopShape}
-use Rattle.shape_tables.specs.Rules.{WellStacked}
 use Rattle.stack_check.specs.declared.held.Held.{Held}
 use Rattle.stack_check.specs.declared.held.Heap.{Heap}
 use Rattle.stack_check.specs.declared.facts.Facts.{Facts}
 use Rattle.stack_check.specs.declared.seen.Seen.{Seen}
 use Rattle.stack_check.specs.declared.seen.Seen.TheVariants.{Quiet, Changed, Bad}
-use Rattle.stack_check.specs.declared.leads.Lead.{Lead}
 use Rattle.stack_check.specs.declared.leads.Lead.TheVariants.{One, Two}
 use Rattle.stack_check.specs.Held.{IsIn, shape_of}
 use Rattle.stack_check.specs.Rows.{row_in}
-use Rattle.stack_check.specs.Inference.{Keeps, Visited, WhereQuiet, Owed, RowIs, Reached, RowsKept, AllLed, IsLed, after_change}
+use Rattle.stack_check.specs.Inference.{Keeps, Visited, WhereQuiet, Owed, RowIs, Reached, RowsKept, AllLed, after_change}
 use Rattle.stack_check.proofs.Steps.{step_kept}
 use Rattle.stack_check.proofs.Keeping.{keeps_row, never_other}
 

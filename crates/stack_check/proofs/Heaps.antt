@@ -1,5 +1,5 @@
 -- Shapes that are held, and steps on them.
-use Rattle.std.proofs.Common.{arith, rules, ◌≡◌, ◌≤◌, ◌<◌, ◌+◌, ℕ, zero, suc, List, [], ◌∷◌, ◌++◌, length, map, drop, Option, None, Some, sym, subst, ◌∙◌, ap, refl}
+use Rattle.std.proofs.Common.{arith, ◌≡◌, ◌≤◌, ◌+◌, ℕ, List, [], ◌∷◌, ◌++◌, length, map, drop, Option, None, Some, sym, subst, ◌∙◌, ap, refl}
 use Rattle.std.specs.Option.{option_map}
 use Rattle.stack_shape.specs.declared.shape.Slot.{Slot}
 use Rattle.stack_shape.specs.declared.shape.Slot.TheVariants.{Of, Base}

@@ -1,8 +1,8 @@
 -- What an inference keeps stays true when the heap grows, a row or a trial is added, and what a routine gives is found.
-use Rattle.std.proofs.Common.{arith, rules, ◌≡◌, ◌≢◌, ◌≤◌, ◌<◌, ◌+◌, ℕ, zero, suc, List, [], ◌∷◌, ◌++◌, length, map, Option, None, Some, slice_get, slice_set, inl, inr, ◌⊎◌, sym, subst, ◌∙◌, ap, refl}
+use Rattle.std.proofs.Common.{arith, ◌≡◌, ◌≢◌, ◌≤◌, ◌<◌, ◌+◌, ℕ, zero, suc, List, [], ◌∷◌, ◌++◌, length, Option, None, Some, slice_get, slice_set, inl, inr, ◌⊎◌, sym, subst, ◌∙◌, ap, refl}
 use Rattle.std.specs.Prelude.{IfSome, get_or}
 use Rattle.std.specs.Option.{option_map}
-use Rattle.std.proofs.lemmas.Bool.{cases_eq, cases_lt}
+use Rattle.std.proofs.lemmas.Bool.{cases_eq}
 use Rattle.std.proofs.lemmas.Option.{slice_get_within}
 use Rattle.std.proofs.lemmas.List.{length-append}
 use Rattle.nwq_value.specs.Engine.{EngineTable}
@@ -22,7 +22,7 @@ use Rattle.stack_check.specs.Shared.{read}
 use Rattle.stack_check.specs.Held.{IsIn, HeapGrows, shape_of}
 use Rattle.stack_check.specs.Rows.{RowAdded, row_in}
 use Rattle.stack_check.specs.Facts.{current, first_place, first_held, callee_of}
-use Rattle.stack_check.specs.Inference.{IsTrialOf, Formed, TrialIn, AllIn, GivenFits, IsLonger, Beyond, RowFits, TrialFits, Compares, Keeps, Owed, RowIs, TrialAdded, FirstFits, Begins, GivenOwed}
+use Rattle.stack_check.specs.Inference.{IsTrialOf, Formed, TrialIn, AllIn, Beyond, RowFits, TrialFits, Compares, Keeps, Owed, RowIs, TrialAdded, FirstFits, Begins, GivenOwed}
 use Rattle.stack_check.proofs.Heaps.{still_in, still_shape}
 use Rattle.stack_check.proofs.Walks.{read_empty}
 

@@ -1,5 +1,5 @@
 -- Numbers by place.
-use Rattle.std.proofs.Common.{arith, rules, ◌≡◌, ◌≢◌, ◌≤◌, ◌<◌, ◌+◌, ◌-◌, ℕ, zero, suc, List, [], ◌∷◌, ◌++◌, length, get_or, slice_set, sym, subst, ◌∙◌, ap, refl, Option, None, Some, slice_get}
+use Rattle.std.proofs.Common.{arith, ◌≡◌, ◌≢◌, ◌<◌, ℕ, zero, suc, List, [], ◌∷◌, ◌++◌, length, get_or, slice_set, ◌∙◌, ap, refl, None, Some, slice_get}
 use Rattle.stack_check.specs.Rows.{PutAt, SameNumbers}
 
 pub same_begin : (a : List ℕ) → SameNumbers a a

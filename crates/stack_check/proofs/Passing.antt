@@ -1,17 +1,16 @@
 -- A pass over all places: where it finds nothing to do, the table that was found meets the rules.
-use Rattle.std.proofs.Common.{arith, rules, ◌≡◌, ◌≤◌, ◌<◌, ◌+◌, ℕ, zero, suc, List, [], ◌∷◌, length, map, Option, None, Some, Bool, true, false, slice_get, inl, inr, ◌⊎◌, sym, subst, ◌∙◌, ap, refl}
-use Rattle.std.specs.Prelude.{get_or, ◌==◌, if◌then◌else◌}
+use Rattle.std.proofs.Common.{arith, ◌≡◌, ◌≤◌, ◌<◌, ◌+◌, ℕ, zero, suc, List, [], ◌∷◌, length, map, Option, None, Some, slice_get, inl, inr, ◌⊎◌, sym, subst, ◌∙◌, ap, refl}
+use Rattle.std.specs.Prelude.{get_or, if◌then◌else◌}
 use Rattle.std.specs.Option.{option_map, option_and_then}
 use Rattle.std.proofs.Math.Path.{fun_ext}
 use Rattle.std.proofs.lemmas.Bool.{cases_eq, ne_eqb}
 use Rattle.nwq_value.specs.Engine.{EngineTable}
 use Rattle.ncs_code.specs.Plain.{PlainOp}
-use Rattle.ncs_code.specs.File.{header_size}
 use Rattle.stack_shape.specs.declared.shape.Entry.{Entry}
 use Rattle.stack_shape.specs.declared.shape.Entry.TheVariants.{Start, Called, Stored}
 use Rattle.stack_shape.specs.Stored.{TopShape}
-use Rattle.shape_tables.specs.Tables.{Callee, ShapeTable, empty_shape, first_shape}
-use Rattle.shape_tables.specs.Rules.{IsSound, MeetsRules, WellStacked}
+use Rattle.shape_tables.specs.Tables.{Callee, ShapeTable, first_shape}
+use Rattle.shape_tables.specs.Rules.{IsSound, MeetsRules}
 use Rattle.stack_check.specs.declared.held.Held.{Held}
 use Rattle.stack_check.specs.declared.held.Heap.{Heap}
 use Rattle.stack_check.specs.declared.rows.Row.{Row}
@@ -23,9 +22,9 @@ use Rattle.stack_check.specs.Shared.{read}
 use Rattle.stack_check.specs.Held.{HeapGrows, shape_of}
 use Rattle.stack_check.specs.Rows.{row_in, find_row, rows_of, RowLists}
 use Rattle.stack_check.specs.Facts.{current, number_in, first_place, first_held, callee_of, callee_at, shape_at, table_of}
-use Rattle.stack_check.specs.Inference.{Formed, IsTrialOf, Keeps, Visited, WhereQuiet, Sound, Sees, CountsNot, RowSound, SeesRow, PlaceSound, SeesPlace, SeesAll}
+use Rattle.stack_check.specs.Inference.{Formed, Keeps, Visited, WhereQuiet, Sound, Sees, CountsNot, RowSound, SeesRow, PlaceSound, SeesPlace, SeesAll}
 use Rattle.stack_check.proofs.Heaps.{heap_same, heap_then, still_shape, same_shape}
-use Rattle.stack_check.proofs.Keeping.{keeps_grows, callee_still}
+use Rattle.stack_check.proofs.Keeping.{callee_still}
 use Rattle.stack_check.proofs.Calling.{entry_is}
 use Rattle.stack_check.proofs.Walks.{read_empty}
 

@@ -1,7 +1,5 @@
 -- Shapes that are reached.
-use Rattle.std.proofs.Common.{arith, rules, ◌≡◌, ◌≢◌, ℕ, List, [], ◌∷◌, map, Option, None, Some, Bool, true, false, sym, subst, ◌∙◌, ap, refl}
-use Rattle.std.specs.Prelude.{◌↔◌, IsTrue}
-use Rattle.stack_shape.specs.declared.shape.Slot.{Slot}
+use Rattle.std.proofs.Common.{◌≡◌, ℕ, map, Some, sym, ◌∙◌, ap}
 use Rattle.stack_shape.specs.Stored.{TopShape}
 use Rattle.stack_check.specs.declared.held.Held.{Held}
 use Rattle.stack_check.specs.declared.held.Heap.{Heap}

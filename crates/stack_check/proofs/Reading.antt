@@ -1,5 +1,5 @@
 -- Lists that share their lower parts.
-use Rattle.std.proofs.Common.{arith, rules, ◌≡◌, ◌≤◌, ◌<◌, ◌+◌, ◌-◌, ℕ, zero, suc, List, [], ◌∷◌, ◌++◌, length, Option, None, Some, slice_get, sym, subst, inl, inr, ◌∙◌, ap, refl}
+use Rattle.std.proofs.Common.{arith, ◌≡◌, ◌≤◌, ◌<◌, ◌+◌, ◌-◌, ℕ, zero, suc, List, [], ◌∷◌, ◌++◌, length, Option, None, Some, slice_get, sym, subst, inl, inr, ◌∙◌, ap, refl}
 use Rattle.std.proofs.lemmas.Bool.{cases_lt}
 use Rattle.stack_check.specs.declared.lists.Node.{Node}
 use Rattle.stack_check.specs.Shared.{with_node, read_within, read, AreOlder, Grows}

@@ -1,9 +1,9 @@
 -- An instruction with a rule of one shape, in what was found and in every table.
-use Rattle.std.proofs.Common.{arith, rules, ◌≡◌, ◌≢◌, ◌≤◌, ◌<◌, ◌+◌, ℕ, zero, suc, List, [], ◌∷◌, ◌++◌, length, Option, None, Some, slice_get, inl, inr, ◌⊎◌, sym, subst, ◌∙◌, ap, refl}
+use Rattle.std.proofs.Common.{arith, ◌≡◌, ◌<◌, ℕ, zero, suc, List, [], ◌∷◌, length, None, Some, slice_get, inl, inr, ◌⊎◌, sym, subst, ◌∙◌, ap, refl}
 use Rattle.nwq_value.specs.Engine.{EngineTable}
 use Rattle.ncs_code.specs.Plain.{PlainOp}
 use Rattle.ncs_code.specs.Plain as ops
-use Rattle.ncs_code.specs.File.{jump_place, op_at}
+use Rattle.ncs_code.specs.File.{op_at}
 use Rattle.stack_shape.specs.declared.shape.Slot.{Slot}
 use Rattle.stack_shape.specs.declared.shape.Entry.{Entry}
 use Rattle.stack_shape.specs.Stored.{TopShape}
@@ -11,18 +11,17 @@ use Rattle.stack_shape.specs.Laws.{deeper, RuleLooksFromTop}
 use Rattle.stack_shape.specs.Rule.{IsOneStep, rule}
 use Rattle.machine_step.specs.Act.{next_place}
 use Rattle.shape_tables.specs.Tables.{ShapeTable}
-use Rattle.shape_tables.specs.Rules.{Leads, AsksFurther, Follows, Obeys, IsSound, MeetsRules, WellStacked}
+use Rattle.shape_tables.specs.Rules.{Leads, AsksFurther, Follows, Obeys, MeetsRules, WellStacked}
 use Rattle.stack_check.specs.declared.held.Held.{Held}
 use Rattle.stack_check.specs.declared.held.Heap.{Heap}
 use Rattle.stack_check.specs.declared.facts.Trial.{Trial}
 use Rattle.stack_check.specs.declared.facts.Facts.{Facts}
 use Rattle.stack_check.specs.declared.leads.Lead.{Lead}
-use Rattle.stack_check.specs.declared.leads.Lead.TheVariants.{One, Two}
 use Rattle.stack_check.specs.Held.{HeapGrows, IsIn, shape_of}
 use Rattle.stack_check.specs.Rows.{row_in}
 use Rattle.stack_check.specs.Facts.{current, table_of}
-use Rattle.stack_check.specs.Inference.{RowFits, TrialFits, Keeps, Owed, RowIs, IsLed, AllLed, RowsKept, IsStep, Sound, leads_of}
-use Rattle.stack_check.proofs.Heaps.{still_in, still_shape}
+use Rattle.stack_check.specs.Inference.{RowFits, Keeps, Owed, RowIs, IsLed, AllLed, RowsKept, IsStep, Sound, leads_of}
+use Rattle.stack_check.proofs.Heaps.{still_shape}
 
 some_is : {A : Type 0} (a b : A) → Some a ≡ Some b → a ≡ b
 some_is a b h = cc

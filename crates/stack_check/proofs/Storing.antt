@@ -1,22 +1,20 @@
 -- Stored states.
-use Rattle.std.proofs.Common.{arith, rules, ◌≡◌, ◌≤◌, ◌+◌, ℕ, ℤ, zero, suc, List, [], ◌∷◌, ◌++◌, length, map, Option, None, Some, slice_get, sym, subst, ◌∙◌, ap, refl}
-use Rattle.std.specs.Prelude.{get_or, IfSome}
+use Rattle.std.proofs.Common.{arith, ◌≡◌, ◌≤◌, ◌+◌, ℕ, ℤ, zero, suc, List, [], ◌∷◌, ◌++◌, length, map, Option, None, Some, slice_get, sym, subst, ◌∙◌, ap, refl}
+use Rattle.std.specs.Prelude.{get_or}
 use Rattle.std.proofs.lemmas.List.{append-nil}
-use Rattle.nwq_value.specs.declared.value.Ty.{Ty}
 use Rattle.nwq_value.specs.Engine.{EngineTable}
 use Rattle.ncs_code.specs.Plain.{PlainOp}
 use Rattle.ncs_code.specs.Plain as ops
 use Rattle.ncs_code.specs.File.{jump_place, op_at, resume_place}
 use Rattle.stack_shape.specs.declared.shape.Slot.{Slot}
 use Rattle.stack_shape.specs.declared.shape.Slot.TheVariants.{Of, Base}
-use Rattle.stack_shape.specs.declared.shape.Entry.{Entry}
-use Rattle.stack_shape.specs.declared.shape.Entry.TheVariants.{Start, Stored}
+use Rattle.stack_shape.specs.declared.shape.Entry.TheVariants.{Stored}
 use Rattle.stack_shape.specs.declared.store.StoredTypes.{StoredTypes}
 use Rattle.stack_shape.specs.Stored.{TopShape, stored_shape, stored_types}
 use Rattle.stack_shape.specs.Laws.{deeper, deeper_saved, beneath_under, RuleLooksFromTop, StoresLookFromTop}
 use Rattle.stack_shape.specs.Rule.{IsOneStep, rule}
-use Rattle.shape_tables.specs.Tables.{Callee, ShapeTable}
-use Rattle.shape_tables.specs.Rules.{AsksFurther, MayStore, Follows, Obeys, MeetsRules, WellStacked}
+use Rattle.shape_tables.specs.Tables.{ShapeTable}
+use Rattle.shape_tables.specs.Rules.{AsksFurther}
 use Rattle.stack_check.specs.declared.held.Held.{Held}
 use Rattle.stack_check.specs.declared.held.Heap.{Heap}
 use Rattle.stack_check.specs.declared.lists.Node.{Node}
@@ -31,13 +29,12 @@ use Rattle.machine_step.specs.Act.{next_place}
 use Rattle.stack_check.specs.Shared.{read, Grows}
 use Rattle.stack_check.specs.Held.{AllAtMost, HeapGrows, Holds, IsIn, shape_of}
 use Rattle.stack_check.specs.Rows.{row_in}
-use Rattle.stack_check.specs.Facts.{current, number_in, table_of, first_place, first_held, callee_of}
-use Rattle.stack_check.specs.Inference.{Formed, TrialIn, Beyond, RowFits, TrialFits, RowIs, Keeps, Visited, WhereQuiet, Owed, FirstFits, Begins, Sound, Sees, SeesStep, RowsKept, Resumes, IsStored, Stores, IsPlain, IsCall, after_change, kind_of}
-use Rattle.stack_check.proofs.Heaps.{heap_then, heap_same, still_shape, same_shape}
+use Rattle.stack_check.specs.Facts.{current, number_in, table_of, first_held, callee_of}
+use Rattle.stack_check.specs.Inference.{TrialIn, Beyond, RowIs, Keeps, Visited, WhereQuiet, Owed, Begins, Sound, Sees, SeesStep, Resumes, IsStored, Stores, IsPlain, IsCall, after_change, kind_of}
+use Rattle.stack_check.proofs.Heaps.{heap_then, heap_same, same_shape}
 use Rattle.stack_check.proofs.Walks.{read_empty, grows_then, grows_none}
 use Rattle.stack_check.proofs.Keeping.{keeps_grows}
 use Rattle.stack_check.proofs.Steps.{row_trial, led_at, table_follows, no_rule, no_op}
-use Rattle.stack_check.proofs.Visits.{rows_same}
 
 some_is : {A : Type 0} (a b : A) → Some a ≡ Some b → a ≡ b
 some_is a b h = cc

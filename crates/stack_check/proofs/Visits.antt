@@ -1,35 +1,27 @@
 -- What the visit of an instruction with a rule of one shape owes.
-use Rattle.std.proofs.Common.{arith, rules, ◌≡◌, ◌≤◌, ℕ, List, [], ◌∷◌, ◌++◌, length, map, Option, None, Some, slice_get, sym, subst, ◌∙◌, ap, refl}
+use Rattle.std.proofs.Common.{◌≡◌, ℕ, List, Option, None, Some}
 use Rattle.nwq_value.specs.Engine.{EngineTable}
 use Rattle.ncs_code.specs.Plain.{PlainOp}
 use Rattle.ncs_code.specs.Plain as ops
-use Rattle.ncs_code.specs.File.{op_at, resume_place}
-use Rattle.stack_shape.specs.declared.shape.Slot.{Slot}
-use Rattle.stack_shape.specs.declared.shape.Slot.TheVariants.{Of, Base}
-use Rattle.stack_shape.specs.declared.shape.Entry.{Entry}
-use Rattle.stack_shape.specs.declared.shape.Entry.TheVariants.{Stored}
-use Rattle.stack_shape.specs.declared.store.StoredTypes.{StoredTypes}
-use Rattle.stack_shape.specs.Stored.{TopShape, stored_shape, stored_types}
-use Rattle.stack_shape.specs.Laws.{deeper, beneath_under, RuleLooksFromTop, StoresLookFromTop}
+use Rattle.ncs_code.specs.File.{op_at}
+use Rattle.stack_shape.specs.Stored.{TopShape}
+use Rattle.stack_shape.specs.Laws.{RuleLooksFromTop}
 use Rattle.stack_shape.specs.Rule.{IsOneStep, rule}
 use Rattle.machine_step.specs.Act.{next_place}
 use Rattle.shape_tables.specs.Tables.{ShapeTable}
-use Rattle.shape_tables.specs.Rules.{AsksFurther, MayStore, Follows, MeetsRules, WellStacked}
+use Rattle.shape_tables.specs.Rules.{AsksFurther}
 use Rattle.stack_check.specs.declared.held.Held.{Held}
 use Rattle.stack_check.specs.declared.held.Heap.{Heap}
-use Rattle.stack_check.specs.declared.facts.Trial.{Trial}
 use Rattle.stack_check.specs.declared.facts.Facts.{Facts}
 use Rattle.stack_check.specs.declared.seen.Seen.{Seen}
 use Rattle.stack_check.specs.declared.seen.Seen.TheVariants.{Quiet, Changed, Bad}
 use Rattle.stack_check.specs.declared.leads.Lead.{Lead}
-use Rattle.stack_check.specs.Shared.{read, Grows}
-use Rattle.stack_check.specs.Held.{HeapGrows, AfterStep, Holds, IsIn, shape_of}
+use Rattle.stack_check.specs.Held.{AfterStep, shape_of}
 use Rattle.stack_check.specs.Rows.{row_in}
-use Rattle.stack_check.specs.Facts.{current, table_of, first_place, first_held, callee_of}
-use Rattle.stack_check.specs.Inference.{Formed, TrialIn, RowFits, TrialFits, RowIs, AllLed, Keeps, Visited, WhereQuiet, Owed, FirstFits, Begins, IsStep, Sound, Sees, SeesStep, RowsKept, IsPlain, leads_of}
-use Rattle.stack_check.proofs.Heaps.{heap_same, still_shape, same_shape}
+use Rattle.stack_check.specs.Facts.{table_of}
+use Rattle.stack_check.specs.Inference.{AllLed, Keeps, Visited, WhereQuiet, IsStep, Sound, Sees, SeesStep, RowsKept, IsPlain, leads_of}
 use Rattle.stack_check.proofs.Keeping.{keeps_grows}
-use Rattle.stack_check.proofs.Steps.{no_rule, step_made, step_sound, step_fits, row_trial}
+use Rattle.stack_check.proofs.Steps.{no_rule, step_made, step_sound}
 
 further_plain : (table : ShapeTable) (site : ℕ) (op : PlainOp) (shape : TopShape) → IsPlain op → AsksFurther table site op shape
 further_plain table site (ops.StoreState globals locals) shape h = absurd h

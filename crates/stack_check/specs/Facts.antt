@@ -1,5 +1,5 @@
 -- What an inference has found, and the table of shapes that it stands for.
-use Rattle.std.specs.Prelude.{◌≡◌, ℕ, zero, suc, List, [], ◌∷◌, Option, None, Some, ◌==◌, if◌then◌else◌, slice_get, get_or}
+use Rattle.std.specs.Prelude.{ℕ, zero, suc, Option, None, Some, slice_get, get_or}
 use Rattle.std.specs.Option.{option_map, option_and_then}
 use Rattle.ncs_code.specs.File.{header_size, resume_place}
 use Rattle.stack_shape.specs.declared.shape.Entry.{Entry}

@@ -1,21 +1,17 @@
-ghost use Rattle.std.specs.Prelude.{◌+◌, ◌≡◌, ◌<◌, ◌≤◌, ◌^◌, None, Some, IfOk, IfSome, slice_get, ◌++◌, length};
-ghost use Rattle.ncs_code.specs.Plain.{Jsr, Retn};
-ghost use Rattle.ncs_code.specs.File.{jump_place, op_at};
-ghost use Rattle.machine_step.specs.Act.{next_place};
+ghost use Rattle.std.specs.Prelude.{◌+◌, ◌≡◌, ◌<◌, ◌≤◌, None, Some, IfOk, IfSome};
+ghost use Rattle.std.specs.Prelude.{◌++◌, length};
 ghost use Rattle.stack_shape.specs.declared.shape.Entry.TheVariants.{Called};
 ghost use Rattle.stack_check.specs.Shared.{read};
-ghost use Rattle.stack_check.specs.Facts.{current};
 ghost use Rattle.stack_check.specs.Rows.{row_in};
 ghost use Rattle.stack_check.specs.Held.{HeapGrows, Holds, IsIn, shape_of};
-ghost use Rattle.stack_check.specs.Inference.{Calls, IsCall, Keeps, Sees, Strips, Visited, WhereQuiet, Sound};
+ghost use Rattle.stack_check.specs.Inference.{Calls, IsCall, Keeps, Sees, Strips};
 
-use crate::facts::{Facts, Trial, begin, give};
+use crate::facts::{Facts, Trial, begin};
 use crate::held::{Heap, Held};
 use crate::reach::{Found, follow};
 use crate::seen::Seen;
-use crate::slots::{common, join, same, strip};
+use crate::slots::{common, join, strip};
 use crate::todo::{Spot, Todo};
-use ncs_code::jump_place;
 use ncs_file::Code;
 use nwq_value::{NoMemory, Table};
 use stack_shape::Entry;
@@ -124,7 +120,8 @@ fn call_known(
     requires next { next ≡ from.place + 6 }
     requires calls { Calls facts.old target callee }
     requires strips { Strips heap.old from.held callee rest beneath }
-    ensures sees { IfOk result (λ seen. Sees table.now code.now heap.old heap.new facts.old facts.new
+    ensures sees { IfOk result (λ seen. Sees table.now code.now heap.old heap.new facts.old
+        facts.new
         from.trial from.place from.held seen) }
 {
     let _ = beneath;
@@ -161,7 +158,8 @@ fn call_again(
     requires op { IsCall code.now from.place target }
     requires next { next ≡ from.place + 6 }
     requires calls { Calls facts.old target callee }
-    ensures sees { IfOk result (λ seen. Sees table.now code.now heap.old heap.new facts.old facts.new
+    ensures sees { IfOk result (λ seen. Sees table.now code.now heap.old heap.new facts.old
+        facts.new
         from.trial from.place from.held seen) }
 {
     let held = from.held;
@@ -195,7 +193,8 @@ pub fn call(
     requires row { row_in facts.old.rows from.trial from.place ≡ Some from.held }
     requires op { IsCall code.now from.place target }
     requires next { next ≡ from.place + 6 }
-    ensures sees { IfOk result (λ seen. Sees table.now code.now heap.old heap.new facts.old facts.new
+    ensures sees { IfOk result (λ seen. Sees table.now code.now heap.old heap.new facts.old
+        facts.new
         from.trial from.place from.held seen) }
 {
     let spot = Spot {

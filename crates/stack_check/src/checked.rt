@@ -1,7 +1,6 @@
-ghost use Rattle.std.specs.Prelude.{◌≡◌, ◌↔◌, IfOk, IsTrue, Err};
+ghost use Rattle.std.specs.Prelude.{◌≡◌, IfOk, Err};
 ghost use Rattle.shape_tables.specs.Tables.{ShapeTable};
 ghost use Rattle.shape_tables.specs.Rules.{MeetsRules, WellStacked};
-ghost use Rattle.shape_tables.specs.Fits.{Fits};
 ghost use Rattle.stack_check.specs.Checked.{StoredStand, kept_table};
 ghost use Rattle.stack_check.specs.declared.fault.CheckFault.TheVariants.{Unstacked};
 
@@ -11,7 +10,6 @@ use crate::held::Heap;
 use crate::infer::{Kept, infer};
 use ncs_file::Code;
 use nwq_value::Table;
-use saved_state::Saved;
 use std::alloc::Global;
 use std::marker::Model;
 

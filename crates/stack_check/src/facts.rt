@@ -1,8 +1,8 @@
-ghost use Rattle.std.specs.Prelude.{◌≡◌, ◌≢◌, ◌<◌, ◌≤◌, ◌^◌, [], Some, IfOk, OnOk, length, slice_get};
-ghost use Rattle.ncs_code.specs.Plain.{plain};
+ghost use Rattle.std.specs.Prelude.{◌≡◌, ◌≢◌, ◌<◌, ◌≤◌, ◌^◌, Some, IfOk, OnOk, length};
 ghost use Rattle.stack_shape.specs.declared.shape.Entry.TheVariants.{Start};
 ghost use Rattle.stack_check.specs.Facts.{first_place, first_held};
-ghost use Rattle.stack_check.specs.Inference.{Begins, Formed, GivenOwed, Keeps, TrialAdded, TrialIn};
+ghost use Rattle.stack_check.specs.Inference.{Begins, Formed, GivenOwed, Keeps, TrialAdded};
+ghost use Rattle.stack_check.specs.Inference.{TrialIn};
 ghost use Rattle.stack_check.specs.Inference.{CurrentSet};
 
 use crate::held::{Heap, Held};

@@ -1,4 +1,4 @@
-ghost use Rattle.std.specs.Prelude.{slice_get, ◌+◌, ◌≡◌, ◌≤◌, ◌∷◌, length, [], IfOk, IsTrue, ◌↔◌};
+ghost use Rattle.std.specs.Prelude.{slice_get, ◌+◌, ◌≡◌, IfOk};
 ghost use Rattle.stack_shape.specs.Rule.{affected, based, called_with, restored, rule, stored};
 ghost use Rattle.stack_shape.specs.Rule.{IsOneStep, called};
 ghost use Rattle.stack_shape.specs.StackEffects.{after_effect, stack_effect};
@@ -7,7 +7,7 @@ ghost use Rattle.stack_check.specs.Shared.{read};
 ghost use Rattle.stack_check.specs.Held.{AfterStep, Holds, IsIn, shape_of};
 
 use crate::lists::Lists;
-use crate::slots::{Top, lower, put_types, same};
+use crate::slots::{Top, lower, put_types};
 use ncs_code::Op;
 use nwq_value::{NoMemory, Routine, Table};
 use stack_shape::{Slot, StackEffect, action_count, call_effect, stack_effect, stored_types};
@@ -75,7 +75,8 @@ fn affected(
 #[tactic(auto, using(crate::proofs::Heaps::basing))]
 fn based(heap: &mut Heap, held: Held) -> Result<Held, NoMemory>
     requires inside { IsIn heap.old held }
-    ensures { IfOk result (λ after. Holds heap.old heap.new after (based (shape_of heap.old held))) }
+    ensures { IfOk result (λ after. Holds heap.old heap.new after (based (shape_of heap.old
+        held))) }
 {
     let cells = heap.slots.push(held.cells, Slot::Base)?;
     let saved = heap.saved.push(held.saved, held.under)?;
@@ -202,7 +203,8 @@ fn changed(
 ) -> Result<Option<Held>, NoMemory>
     requires inside { IsIn heap.old held }
     ensures { IfOk result (λ after. AfterStep heap.old heap.new after
-        (let s = shape_of heap.old held in affected (stack_effect (plain op.now) s.under s.cells) s)) }
+        (let s = shape_of heap.old held in affected (stack_effect (plain op.now) s.under
+        s.cells) s)) }
 {
     let effect = stack_effect(alloc, op, &top(heap, held.under), &top(heap, held.cells))?;
     affected(heap, effect, held, held.pending)

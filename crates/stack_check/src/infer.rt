@@ -1,9 +1,7 @@
-ghost use Rattle.std.specs.Prelude.{◌≡◌, [], false, true, Some, IfOk, MatchOption};
-ghost use Rattle.shape_tables.specs.Rules.{MeetsRules, WellStacked};
-ghost use Rattle.stack_check.specs.Facts.{table_of};
-ghost use Rattle.stack_check.specs.Held.{HeapGrows};
-ghost use Rattle.stack_check.specs.Rows.{row_in};
-ghost use Rattle.stack_check.specs.Inference.{CountsNot, Formed, IsFound, Keeps, SeesAll, SeesPlace};
+ghost use Rattle.std.specs.Prelude.{◌≡◌, false, true, Some, IfOk, MatchOption};
+ghost use Rattle.shape_tables.specs.Rules.{WellStacked};
+ghost use Rattle.stack_check.specs.Inference.{CountsNot, Formed, IsFound, Keeps, SeesAll};
+ghost use Rattle.stack_check.specs.Inference.{SeesPlace};
 ghost use Rattle.stack_check.specs.Inference.{SeesRow, SeesTurn};
 
 use crate::facts::{Facts, Trial};
@@ -49,7 +47,8 @@ fn look(
     place: u32,
 ) -> Result<Seen, NoMemory>
     requires keeps { Keeps table.now code.now heap.old facts.old }
-    ensures sees { IfOk result (λ seen. SeesRow table.now code.now heap.old heap.new facts.old facts.new
+    ensures sees { IfOk result (λ seen. SeesRow table.now code.now heap.old heap.new facts.old
+        facts.new
         trial place seen) }
 {
     if !counts(facts, trial) {
@@ -200,7 +199,8 @@ fn settle(
     facts: &mut Facts,
 ) -> Result<bool, NoMemory>
     requires keeps { Keeps table.now code.now heap.old facts.old }
-    ensures found { IfOk result (λ found. found ≡ true → IsFound table.now code.now heap.new facts.new) }
+    ensures found { IfOk result (λ found. found ≡ true → IsFound table.now code.now heap.new
+        facts.new) }
     ensures none { IfOk result (λ found. found ≡ false → WellStacked table.now code.now → ⊥) }
 {
     let mut todo = Todo::new(alloc);

@@ -1,13 +1,13 @@
 //! The stack checker: whether a file of NCS code is well stacked.
 //!
 //! [`check`] finds a table of shapes that meets the rules of `shape_tables`, or tells that there is
-//! none. [`Checked`] keeps the code and the table; contracts see it as `specs/Checked.antt` says,
-//! and [`Checked::fits`] tells whether a captured state is one that the table expects. What the
-//! table says of stored states is the same in every table that meets the rules, so whether a state
-//! fits depends on the header, the code and the state alone.
+//! none. [`Checked`] keeps the code and the table; contracts see it as `specs/Checked.antt` says.
+//! What the table says of stored states stands in every table that meets the rules, so a captured
+//! state that fits it fits them all ([`fits_too`]).
 //!
-//! The shapes' lists share their lower parts (`lists`), so that a large file needs no more memory
-//! than it has instructions. The page is docs/SHAPES.md.
+//! The shapes' lists share their lower parts (`lists`): a push is one node, whatever lies beneath.
+//! What the inference keeps true of every table is in `specs/Inference.antt`. The page is
+//! docs/SHAPES.md.
 #![tactic(auto)]
 
 mod calls;

@@ -1,4 +1,5 @@
-ghost use Rattle.std.specs.Prelude.{◌≡◌, ◌≤◌, ◌<◌, [], ◌∷◌, length, IfOk, OnErr, IfSome, MatchOption, ◌++◌, slice_get, Some};
+ghost use Rattle.std.specs.Prelude.{◌≡◌, ◌≤◌, ◌<◌, [], ◌∷◌, length, IfOk, OnErr, IfSome};
+ghost use Rattle.std.specs.Prelude.{MatchOption, ◌++◌, slice_get, Some};
 ghost use Rattle.stack_check.specs.Shared.{Grows, read};
 
 use nwq_value::{Items, NoMemory};

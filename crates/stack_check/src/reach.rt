@@ -2,7 +2,8 @@ ghost use Rattle.std.specs.Prelude.{◌≡◌, IfOk, ◌↔◌, IsTrue, map};
 ghost use Rattle.ncs_code.specs.Plain.{plain};
 ghost use Rattle.stack_check.specs.Shared.{read};
 ghost use Rattle.stack_check.specs.Held.{IsIn, shape_of};
-ghost use Rattle.stack_check.specs.Inference.{AllLed, IsLed, IsStep, Keeps, Owed, Reached, RowIs, RowsKept};
+ghost use Rattle.stack_check.specs.Inference.{AllLed, IsLed, IsStep, Keeps, Owed, Reached};
+ghost use Rattle.stack_check.specs.Inference.{RowIs, RowsKept};
 ghost use Rattle.stack_check.specs.Inference.{Visited, WhereQuiet, after_change, leads_of};
 ghost use Rattle.machine_step.specs.Act.{next_place};
 
@@ -148,7 +149,8 @@ fn lead_to(
     requires keeps { Keeps table.now code.now heap.now facts.old }
     requires step { IsStep table.now code.now heap.now facts.old from.trial from.place from.held
         (plain op.now) after }
-    requires lead { lead ≡ leads_of from.place (next_place from.place (plain op.now)) (plain op.now) }
+    requires lead { lead ≡ leads_of from.place (next_place from.place (plain op.now)) (plain
+        op.now) }
     requires led { IsLed lead place }
     ensures keeps { IfOk result (λ seen. Visited table.now code.now heap.now facts.new seen) }
     ensures kept { IfOk result (λ _. RowsKept facts.old facts.new) }
@@ -178,7 +180,8 @@ pub fn lead(
     requires keeps { Keeps table.now code.now heap.now facts.old }
     requires step { IsStep table.now code.now heap.now facts.old from.trial from.place from.held
         (plain op.now) after }
-    requires lead { lead ≡ leads_of from.place (next_place from.place (plain op.now)) (plain op.now) }
+    requires lead { lead ≡ leads_of from.place (next_place from.place (plain op.now)) (plain
+        op.now) }
     ensures keeps { IfOk result (λ seen. Visited table.now code.now heap.now facts.new seen) }
     ensures kept { IfOk result (λ _. RowsKept facts.old facts.new) }
     ensures quiet { IfOk result (λ seen. WhereQuiet seen ((facts.new ≡ facts.old)

@@ -35,7 +35,8 @@ fn return_cells(
     requires entry { trial.entry ≡ Called target }
     requires saved { read heap.now.saved from.held.saved ≡ [] }
     requires pending { from.held.pending ≡ 0 }
-    ensures sees { IfOk result (λ seen. Sees table.now code.now heap.now heap.now facts.old facts.new
+    ensures sees { IfOk result (λ seen. Sees table.now code.now heap.now heap.now facts.old
+        facts.new
         from.trial from.place from.held seen) }
 {
     match trial.given {
@@ -71,7 +72,8 @@ fn return_called(
     requires op { op_at code.now from.place ≡ Some Retn }
     requires trial { slice_get facts.old.trials from.trial ≡ Some trial }
     requires entry { trial.entry ≡ Called target }
-    ensures sees { IfOk result (λ seen. Sees table.now code.now heap.now heap.now facts.old facts.new
+    ensures sees { IfOk result (λ seen. Sees table.now code.now heap.now heap.now facts.old
+        facts.new
         from.trial from.place from.held seen) }
 {
     if from.held.pending != 0 {
@@ -98,7 +100,8 @@ pub fn returned(
     requires row { row_in facts.old.rows from.trial from.place ≡ Some from.held }
     requires op { op_at code.now from.place ≡ Some Retn }
     requires trial { slice_get facts.old.trials from.trial ≡ Some trial }
-    ensures sees { IfOk result (λ seen. Sees table.now code.now heap.now heap.now facts.old facts.new
+    ensures sees { IfOk result (λ seen. Sees table.now code.now heap.now heap.now facts.old
+        facts.new
         from.trial from.place from.held seen) }
 {
     match trial.entry {

@@ -1,4 +1,4 @@
-ghost use Rattle.std.specs.Prelude.{◌≡◌, ◌∷◌, ◌<◌, [], None, OnOk, MatchOption, IfSome, length, get_or};
+ghost use Rattle.std.specs.Prelude.{◌≡◌, ◌∷◌, ◌<◌, [], None, OnOk, MatchOption, IfSome, length};
 ghost use Rattle.stack_check.specs.Shared.{read};
 ghost use Rattle.stack_check.specs.Rows.{RowAdded, find_row, row_in, rows_of};
 

@@ -1,6 +1,5 @@
 ghost use Rattle.std.specs.Prelude.{◌≡◌, ◌≤◌, ◌↔◌, ◌++◌, length, map, drop, IfOk, IfSome, IsTrue};
 ghost use Rattle.stack_shape.specs.TopFirst.{types_on};
-ghost use Rattle.stack_shape.specs.declared.shape.Slot.{Slot as SlotType};
 ghost use Rattle.stack_shape.specs.declared.shape.Slot.TheVariants.{Of};
 ghost use Rattle.stack_check.specs.Shared.{Grows, HoldsCommon, read};
 
@@ -108,7 +107,8 @@ pub fn same(lists: &Lists<Slot>, a: u32, b: u32) -> bool
 #[tactic(auto, using(crate::proofs::Walks::stripping))]
 pub fn strip(lists: &Lists<Slot>, a: u32, b: u32) -> Option<u32>
     requires inside { a ≤ length lists.now }
-    ensures rest { IfSome result (λ rest. read lists.now a ≡ read lists.now b ++ read lists.now rest) }
+    ensures rest { IfSome result (λ rest. read lists.now a ≡ read lists.now b ++ read lists.now
+        rest) }
     ensures inside { IfSome result (λ rest. rest ≤ length lists.now) }
 {
     let mut x = a;
@@ -150,7 +150,8 @@ fn put_slots(lists: &mut Lists<Slot>, number: u32, slots: &[Slot]) -> Result<u32
 #[tactic(auto, using(crate::proofs::Walks::putting))]
 pub fn put_types(lists: &mut Lists<Slot>, number: u32, types: &[Ty]) -> Result<u32, NoMemory>
     requires inside { number ≤ length lists.old }
-    ensures reads { IfOk result (λ on. read lists.new on ≡ map Of types.now ++ read lists.old number) }
+    ensures reads { IfOk result (λ on. read lists.new on ≡ map Of types.now ++ read lists.old
+        number) }
     ensures inside { IfOk result (λ on. on ≤ length lists.new) }
     ensures grows { IfOk result (λ _. Grows lists.old lists.new) }
 {

@@ -1,5 +1,5 @@
-ghost use Rattle.std.specs.Prelude.{◌≡◌, ◌≤◌, ◌+◌, ◌<◌, ◌^◌, [], ◌∷◌, ◌++◌, Some, None, IfOk, IfSome, length, map};
-ghost use Rattle.std.specs.Prelude.{slice_get, MatchOption};
+ghost use Rattle.std.specs.Prelude.{◌≡◌, ◌+◌, ◌<◌, ◌^◌, Some, None, IfOk};
+ghost use Rattle.std.specs.Prelude.{IfSome};
 ghost use Rattle.ncs_code.specs.Plain.{plain, Retn, StoreState};
 ghost use Rattle.ncs_code.specs.File.{op_at};
 ghost use Rattle.ncs_code.specs.Spelling.{op_size};
@@ -7,8 +7,7 @@ ghost use Rattle.machine_step.specs.Act.{next_place};
 ghost use Rattle.stack_shape.specs.Rule.{IsOneStep};
 ghost use Rattle.stack_shape.specs.Stored.{stored_shape, stored_types};
 ghost use Rattle.stack_shape.specs.declared.shape.Entry.TheVariants.{Stored};
-ghost use Rattle.stack_shape.specs.declared.shape.Slot.TheVariants.{Of, Base};
-ghost use Rattle.stack_check.specs.Shared.{read, Grows};
+ghost use Rattle.stack_shape.specs.declared.shape.Slot.TheVariants.{Base};
 ghost use Rattle.stack_check.specs.Held.{HeapGrows, Holds, IsIn, shape_of};
 ghost use Rattle.stack_check.specs.Rows.{row_in};
 ghost use Rattle.stack_check.specs.Facts.{current};
@@ -175,7 +174,8 @@ fn visit_store(
     requires stores { Stores (plain op.now) (shape_of heap.old from.held) types.now }
     requires next { next ≡ next_place from.place (plain op.now) }
     requires bound { from.place < 2 ^ 31 }
-    ensures sees { IfOk result (λ seen. Sees table.now code.now heap.old heap.new facts.old facts.new
+    ensures sees { IfOk result (λ seen. Sees table.now code.now heap.old heap.new facts.old
+        facts.new
         from.trial from.place from.held seen) }
 {
     rules_look_from_the_top();
@@ -213,7 +213,8 @@ fn visit_plain(
     requires plain { IsPlain (plain op.now) }
     requires next { next ≡ next_place from.place (plain op.now) }
     requires bound { from.place < 2 ^ 31 }
-    ensures sees { IfOk result (λ seen. Sees table.now code.now heap.old heap.new facts.old facts.new
+    ensures sees { IfOk result (λ seen. Sees table.now code.now heap.old heap.new facts.old
+        facts.new
         from.trial from.place from.held seen) }
 {
     let seen = visit_step(alloc, code, table, heap, facts, todo, from, op, next)?;
@@ -241,7 +242,8 @@ fn visit_stored(
     requires store { plain op.now ≡ StoreState globals locals }
     requires next { next ≡ next_place from.place (plain op.now) }
     requires bound { from.place < 2 ^ 31 }
-    ensures sees { IfOk result (λ seen. Sees table.now code.now heap.old heap.new facts.old facts.new
+    ensures sees { IfOk result (λ seen. Sees table.now code.now heap.old heap.new facts.old
+        facts.new
         from.trial from.place from.held seen) }
 {
     rules_look_from_the_top();
@@ -284,7 +286,8 @@ fn visit_return(
     requires keeps { Keeps table.now code.now heap.now facts.old }
     requires row { row_in facts.old.rows from.trial from.place ≡ Some from.held }
     requires op { op_at code.now from.place ≡ Some Retn }
-    ensures sees { IfOk result (λ seen. Sees table.now code.now heap.now heap.now facts.old facts.new
+    ensures sees { IfOk result (λ seen. Sees table.now code.now heap.now heap.now facts.old
+        facts.new
         from.trial from.place from.held seen) }
 {
     match facts.trials.get(from.trial as usize) {
@@ -313,7 +316,8 @@ fn visit_op(
     requires row { row_in facts.old.rows from.trial from.place ≡ Some from.held }
     requires op { op_at code.now from.place ≡ Some (plain op.now) }
     requires size { size ≡ op_size (plain op.now) }
-    ensures sees { IfOk result (λ seen. Sees table.now code.now heap.old heap.new facts.old facts.new
+    ensures sees { IfOk result (λ seen. Sees table.now code.now heap.old heap.new facts.old
+        facts.new
         from.trial from.place from.held seen) }
 {
     let next = end_of(code, op, from.place, size);
@@ -341,7 +345,8 @@ pub fn visit(
 ) -> Result<Seen, NoMemory>
     requires keeps { Keeps table.now code.now heap.old facts.old }
     requires row { row_in facts.old.rows from.trial from.place ≡ Some from.held }
-    ensures sees { IfOk result (λ seen. Sees table.now code.now heap.old heap.new facts.old facts.new
+    ensures sees { IfOk result (λ seen. Sees table.now code.now heap.old heap.new facts.old
+        facts.new
         from.trial from.place from.held seen) }
 {
     match code.op_at(from.place) {

@@ -1,4 +1,4 @@
-use Rattle.std.proofs.Common.{None, refl, subst, sym}
+use Rattle.std.proofs.Common.{None, subst, sym}
 use Rattle.stack_shape.specs.declared.shape.Entry.TheVariants.{Called}
 use Rattle.stack_check.specs.Inference.{Begins, Calls}
 use Rattle.stack_check.proofs.Keeping.{keeps_grows}

@@ -1,4 +1,4 @@
-use Rattle.std.proofs.Common.{arith, rules, refl}
+use Rattle.std.proofs.Common.{rules}
 use Rattle.std.proofs.lemmas.Bool.{iff_false}
 use Rattle.stack_check.proofs.Walks.{common_heads}
 use Rattle.stack_check.proofs.slots.common_slots.Goals as goal

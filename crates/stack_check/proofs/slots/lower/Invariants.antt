@@ -1,7 +1,5 @@
-use Rattle.std.proofs.Common.{◌≡◌, ◌≤◌, ◌++◌, drop, map, length}
-use Rattle.stack_shape.specs.declared.shape.Slot.TheVariants.{Of}
+use Rattle.std.proofs.Common.{◌≡◌, ◌≤◌, drop}
 use Rattle.stack_check.specs.Shared.{read}
-use Rattle.stack_check.proofs.Walks.{TypesSoFar, SameSoFar, StripSoFar, PutSoFar, CommonSoFar}
 use Rattle.stack_check.proofs.slots.lower.Given as goal
 
 abbrev pub invariant-loop-left : goal.invariant-loop-left

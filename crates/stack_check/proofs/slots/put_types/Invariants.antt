@@ -1,7 +1,6 @@
-use Rattle.std.proofs.Common.{◌≡◌, ◌≤◌, ◌++◌, drop, map, length}
+use Rattle.std.proofs.Common.{map}
 use Rattle.stack_shape.specs.declared.shape.Slot.TheVariants.{Of}
-use Rattle.stack_check.specs.Shared.{read}
-use Rattle.stack_check.proofs.Walks.{TypesSoFar, SameSoFar, StripSoFar, PutSoFar, CommonSoFar}
+use Rattle.stack_check.proofs.Walks.{PutSoFar}
 use Rattle.stack_check.proofs.slots.put_types.Given as goal
 
 abbrev pub invariant-loop-i : goal.invariant-loop-i

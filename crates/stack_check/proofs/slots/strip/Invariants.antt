@@ -1,7 +1,6 @@
-use Rattle.std.proofs.Common.{◌≡◌, ◌≤◌, ◌++◌, drop, map, length}
-use Rattle.stack_shape.specs.declared.shape.Slot.TheVariants.{Of}
+use Rattle.std.proofs.Common.{◌≤◌, length}
 use Rattle.stack_check.specs.Shared.{read}
-use Rattle.stack_check.proofs.Walks.{TypesSoFar, SameSoFar, StripSoFar, PutSoFar, CommonSoFar}
+use Rattle.stack_check.proofs.Walks.{StripSoFar}
 use Rattle.stack_check.proofs.slots.strip.Given as goal
 
 abbrev pub invariant-loop-x : goal.invariant-loop-x

@@ -1,4 +1,4 @@
-use Rattle.std.proofs.Common.{arith, rules, ◌∷◌, ◌∙◌, ap, refl}
+use Rattle.std.proofs.Common.{arith, ◌∷◌, ◌∙◌, ap, refl}
 use Rattle.stack_check.specs.Shared.{read}
 use Rattle.stack_check.proofs.Walks.{types_step}
 use Rattle.stack_check.proofs.slots.types_on.Goals as goal

@@ -1,7 +1,5 @@
-use Rattle.std.proofs.Common.{◌≡◌, ◌≤◌, ◌++◌, drop, map, length}
-use Rattle.stack_shape.specs.declared.shape.Slot.TheVariants.{Of}
 use Rattle.stack_check.specs.Shared.{read}
-use Rattle.stack_check.proofs.Walks.{TypesSoFar, SameSoFar, StripSoFar, PutSoFar, CommonSoFar}
+use Rattle.stack_check.proofs.Walks.{TypesSoFar}
 use Rattle.stack_check.proofs.slots.types_on.Given as goal
 
 abbrev pub invariant-loop-left : goal.invariant-loop-left

@@ -1,4 +1,4 @@
-use Rattle.std.proofs.Common.{None, Some, ap, subst, ◌∙◌}
+use Rattle.std.proofs.Common.{ap, subst, ◌∙◌}
 use Rattle.ncs_code.specs.Plain.{plain}
 use Rattle.stack_shape.specs.Rule.{rule}
 use Rattle.stack_check.specs.Held.{AfterStep, shape_of}
