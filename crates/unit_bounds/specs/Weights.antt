@@ -1,5 +1,5 @@
 -- What keeps the bounds, with how much it weighs. An expression weighs more than its code has labels.
-use Rattle.std.specs.Prelude.{◌≡◌, ◌≤◌, ◌+◌, ℕ, Bool, List, Option, None, Some, if◌then◌else◌}
+use Rattle.std.specs.Prelude.{◌≡◌, ◌≤◌, ◌+◌, ℕ, Bool, List, Option, Some, if◌then◌else◌}
 use Rattle.nss_typing.specs.Typed.{TypedExpr, TypedExprs, TypedItem, TypedName, TypedStmt, TypedStmts}
 use Rattle.code_emission.specs.Layout.{Layout}
 use Rattle.code_emission.specs.Statements.{is_label, count_labels, stmt_labels, all_stmt_labels}
