@@ -1,6 +1,7 @@
 //! Items, and a whole unit.
 
-ghost use Rattle.std.specs.Prelude.{◌≡◌, ◌+◌, ◌≤◌, ◌<◌, ◌^◌, ◌∷◌, IfSome, IsTrue, List, Some, ℕ, false};
+ghost use Rattle.std.specs.Prelude.{◌≡◌, ◌+◌, ◌≤◌, ◌<◌, ◌^◌, ◌∷◌, List, Some, ℕ, false};
+ghost use Rattle.std.specs.Prelude.{IfSome, IsTrue};
 ghost use Rattle.nss_typing.specs.Typed as typed;
 ghost use Rattle.nss_typing.specs.UnitReading.{typed_item, typed_items, typed_stmts, typed_unit};
 ghost use Rattle.code_emission.specs.Bounds.{
