@@ -470,11 +470,11 @@ const CONSTANTS: [Row; 21] = [
     ),
     (
         b"const object O = OBJECT_SELF; void main() {  }",
-        Some((FaultKind::Mismatch, 0)),
+        Some((FaultKind::Mismatch, 1)),
     ),
     (
         b"const float F = 1.0; void main() {  }",
-        Some((FaultKind::RefusedType, 0)),
+        Some((FaultKind::RefusedType, 1)),
     ),
     (
         b"const int A = B; void main() {  }",
@@ -491,7 +491,7 @@ const CONSTANTS: [Row; 21] = [
     ),
     (
         b"const struct P A = 1; void main() {  }",
-        Some((FaultKind::Unknown, 0)),
+        Some((FaultKind::Unknown, 1)),
     ),
     (
         b"const int C = 1; void F(int C, int D = C) {} void main() {  }",
