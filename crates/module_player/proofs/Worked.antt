@@ -1,5 +1,5 @@
 -- A play of code, computed.
-use Rattle.std.proofs.Common.{◌≡◌, ℕ, List, [], ◌∷◌, Option, Some, None, refl}
+use Rattle.std.proofs.Common.{◌≡◌, ℕ, List, [], ◌∷◌, refl}
 use Rattle.std.specs.Prelude.{ℤ, pos, codes, ◌*◌, neg_ℤ}
 use Rattle.std.specs.Fmt.{digits}
 use Rattle.area_tree.specs.Area.{PlainArea}
@@ -20,7 +20,7 @@ use Rattle.machine_step.specs.Act.{cells_after, act}
 use Rattle.machine_step.specs.Machine.{Script, Host, step}
 use Rattle.engine_rows.specs.Engine.{engine}
 use Rattle.engine_rows.specs.Trace.{line_text, trace_text}
-use Rattle.engine_rows.specs.Turns.{Planned, new_world}
+use Rattle.engine_rows.specs.Turns.{new_world}
 use Rattle.engine_rows.specs.World.{World}
 use Rattle.play_steps.specs.EndText.{end_text, world_text}
 use Rattle.play_steps.specs.Plays.{Played}
