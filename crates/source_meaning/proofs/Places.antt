@@ -1,5 +1,5 @@
 -- Reads and writes of variables, in a frame and among the globals.
-use Rattle.std.proofs.Common.{arith, ◌≡◌, ◌≤◌, ◌<◌, ◌+◌, ◌-◌, ℕ, zero, suc, List, [], ◌∷◌, ◌++◌, length, take, drop, Option, Some, None, Bool, true, false, sym, subst, ◌∙◌, ap, refl, append_assoc}
+use Rattle.std.proofs.Common.{arith, ◌≡◌, ◌≤◌, ◌<◌, ◌+◌, ◌-◌, ℕ, List, [], ◌∷◌, ◌++◌, length, take, drop, Option, Some, None, Bool, true, false, sym, subst, ◌∙◌, ap, refl, append_assoc}
 use Rattle.std.specs.Prelude.{ℤ, pos, if◌then◌else◌}
 use Rattle.std.proofs.lemmas.Bool.Decides.{Decides-eqb}
 use Rattle.std.specs.Option.{option_map}
@@ -7,11 +7,10 @@ use Rattle.std.proofs.lemmas.List.{length-append, length-map, length-take-le, ta
 use Rattle.nwq_value.specs.declared.value.Ty.{Ty}
 use Rattle.nwq_value.specs.declared.value.Ty.TheVariants.{Int as IntTy}
 use Rattle.nwq_value.specs.declared.value.Value.{Value}
-use Rattle.nwq_value.specs.declared.value.Value.TheVariants.{Int, Text, Object, Effect, Event}
+use Rattle.nwq_value.specs.declared.value.Value.TheVariants.{Int}
 use Rattle.nwq_value.specs.Values.{type_of as type_of_value}
 use Rattle.ncs_code.specs.Plain.{PlainOp}
 use Rattle.ncs_code.specs.File.{op_at}
-use Rattle.nss_typing.specs.declared.places.Place.{Place}
 use Rattle.nss_typing.specs.declared.places.Place.TheVariants.{Local, Global, Const as IsConst}
 use Rattle.nss_typing.specs.Typed.{TypedExpr, literal, name, call, member, prefix, postfix, binary, assign, type_of, is_place}
 use Rattle.ncs_emit.specs.Labelled.{Line, Instruction}
@@ -29,8 +28,6 @@ use Rattle.source_meaning.specs.Evaluation.{Variables, with_variable, Deferred, 
 use Rattle.source_meaning.specs.Spots.{Spot, OfLocal, OfGlobal, further, spot, read_at, written_at}
 use Rattle.source_meaning.specs.Ledger.{Machine, MachineHost}
 use Rattle.source_meaning.specs.Kept.{pushed, AreHeld, Stands, Site, IsListed, at, In, part_types, Vars, Kept, spot_at}
-use Rattle.source_meaning.specs.Fine.{AreParts}
-use Rattle.source_meaning.specs.Scripts.{Function}
 use Rattle.source_meaning.proofs.Cells.{held_put, pushed_over, pushed_length, part_stands, part_is, part_at, stands_length, types_count}
 use Rattle.source_meaning.proofs.Steps.{frame_copied, frame_written, base_copied, base_written, frame_increased, frame_decreased, base_increased, base_decreased}
 use Rattle.source_meaning.proofs.Variables.{part_types_are, vars_put, size_of, home_of, IsSpot}
@@ -101,7 +98,7 @@ module _ (host : MachineHost) (R : Saved → Deferred → Type 0) (x : Site) (li
       → step host (spot_at R x place temps between calls pending K) ≡ Some (Goes (spot_at R x next (pushed v temps) between calls pending K))
   base_reads place next depth from count temps between calls pending K v s begins goes long some full =
       let whole : temps ++ (K.frame ++ (between ++ K.under)) ≡ ((temps ++ (K.frame ++ between)) ++ s.above) ++ pushed v s.below =
-          ap (λ t. temps ++ (K.frame ++ (between ++ t))) s.is ∙ split_under temps K.frame between s.above s.below v in
+      ap (λ t. temps ++ (K.frame ++ (between ++ t))) s.is ∙ split_under temps K.frame between s.above s.below v in
       let m = stands_length K.under from v s in
       let u = K.under_size in
       base_copied host x listed place next x.layout.globals from (length s.above) count (temps ++ (K.frame ++ (between ++ K.under))) ((temps ++ (K.frame ++ between)) ++ s.above) v s.below calls pending K.machine
@@ -168,7 +165,7 @@ module _ (host : MachineHost) (R : Saved → Deferred → Type 0) (x : Site) (li
       let is = part_is K.frame (position x.layout n) (locals n) b (length new) s in
       let at_is = part_at K.frame (position x.layout n) (locals n) b (omega (arith, h)) s in
       let whole : pushed new temps ++ (K.frame ++ rest) ≡ (pushed new temps ++ above) ++ pushed old (below ++ rest) =
-          ap (λ t. pushed new temps ++ (t ++ rest)) is ∙ split_in (pushed new temps) above below rest old in
+      ap (λ t. pushed new temps ++ (t ++ rest)) is ∙ split_in (pushed new temps) above below rest old in
       let a = ap length is in
       let c = length-append above (pushed old below) in
       let d = pushed_length old below in
@@ -196,7 +193,7 @@ module _ (host : MachineHost) (R : Saved → Deferred → Type 0) (x : Site) (li
       let at_is = part_at K.under (position x.layout n) (globals n) b (omega (arith, h)) s in
       let upper = pushed new temps ++ (K.frame ++ between) in
       let whole : pushed new temps ++ (K.frame ++ (between ++ K.under)) ≡ (upper ++ above) ++ pushed old below =
-          ap (λ t. pushed new temps ++ (K.frame ++ (between ++ t))) is ∙ split_under (pushed new temps) K.frame between above below old in
+      ap (λ t. pushed new temps ++ (K.frame ++ (between ++ t))) is ∙ split_under (pushed new temps) K.frame between above below old in
       let a = ap length is in
       let c = length-append above (pushed old below) in
       let d = pushed_length old below in
@@ -307,7 +304,7 @@ module _ (host : MachineHost) (R : Saved → Deferred → Type 0) (x : Site) (li
       → (p : Progress) (place next depth : ℕ) (temps between : List Cell) (calls : List ℕ) (pending : List Saved) (K : Kept R x scope size p.globals p.locals p.world)
       → op_at x.code place ≡ Some (op depth (home_of x scope s)) → place + 6 ≡ next → length temps + size ≡ depth
       → Put scope size (written_at s (one_int f (read_at s 1 p)) p).globals (written_at s (one_int f (read_at s 1 p)) p).locals (written_at s (one_int f (read_at s 1 p)) p).world
-          (spot_at R x place temps between calls pending K) next temps between calls pending
+      (spot_at R x place temps between calls pending K) next temps between calls pending
   spot_counts f op in_frame in_globals scope size (OfLocal n b) fine p place next depth temps between calls pending K begins goes deep =
       let v = p.locals n in
       let typed = part_types_are (part_types x n) b (IntTy ∷ []) v fine.1 (K.local_values.typed n fine.0) in
@@ -326,7 +323,7 @@ module _ (host : MachineHost) (R : Saved → Deferred → Type 0) (x : Site) (li
       let is = part_is K.frame (position x.layout n) v b (length new) s in
       let at_is = part_at K.frame (position x.layout n) v b (omega (arith, all, inside)) s in
       let whole : temps ++ (K.frame ++ rest) ≡ (temps ++ above) ++ Holds (Int m.0) ∷ (below ++ rest) =
-          ap (λ t. temps ++ (t ++ rest)) is ∙ split_in temps above below rest (parts_of b (length new) v) ∙ ap (λ u. (temps ++ above) ++ pushed u (below ++ rest)) old_is in
+      ap (λ t. temps ++ (t ++ rest)) is ∙ split_in temps above below rest (parts_of b (length new) v) ∙ ap (λ u. (temps ++ above) ++ pushed u (below ++ rest)) old_is in
       let a = ap length is in
       let c = length-append above (pushed (parts_of b (length new) v) below) in
       let d = pushed_length (parts_of b (length new) v) below in
@@ -358,7 +355,7 @@ module _ (host : MachineHost) (R : Saved → Deferred → Type 0) (x : Site) (li
       let at_is = part_at K.under (position x.layout n) v b (omega (arith, all, inside)) s in
       let upper = temps ++ (K.frame ++ between) in
       let whole : temps ++ (K.frame ++ (between ++ K.under)) ≡ (upper ++ above) ++ Holds (Int m.0) ∷ below =
-          ap (λ t. temps ++ (K.frame ++ (between ++ t))) is ∙ split_under temps K.frame between above below (parts_of b (length new) v) ∙ ap (λ u. (upper ++ above) ++ pushed u below) old_is in
+      ap (λ t. temps ++ (K.frame ++ (between ++ t))) is ∙ split_under temps K.frame between above below (parts_of b (length new) v) ∙ ap (λ u. (upper ++ above) ++ pushed u below) old_is in
       let a = ap length is in
       let c = length-append above (pushed (parts_of b (length new) v) below) in
       let d = pushed_length (parts_of b (length new) v) below in

@@ -1,0 +1,33 @@
+//! The stack checker: whether a file of NCS code is well stacked.
+//!
+//! [`check`] finds a table of shapes that meets the rules of `shape_tables`, or tells that there is
+//! none. [`Checked`] keeps the code and the table; contracts see it as `specs/Checked.antt` says.
+//! What the table says of stored states stands in every table that meets the rules, so a captured
+//! state that fits it fits them all ([`fits_too`]).
+//!
+//! The shapes' lists share their lower parts (`lists`): a push is one node, whatever lies beneath.
+//! What the inference keeps true of every table is in `specs/Inference.antt`. The page is
+//! docs/SHAPES.md.
+#![tactic(auto)]
+
+mod calls;
+mod checked;
+mod facts;
+mod fault;
+mod held;
+mod infer;
+mod laws;
+mod leads;
+mod lists;
+mod places;
+mod reach;
+mod returns;
+mod rows;
+mod seen;
+mod slots;
+mod todo;
+mod visit;
+
+pub use checked::{Checked, check};
+pub use fault::CheckFault;
+pub use laws::fits_too;
