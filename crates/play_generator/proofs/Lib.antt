@@ -2,3 +2,5 @@ mod SourceLemmas
 mod PlanLemmas
 mod AreaLemmas
 mod ZeroLaws
+mod DigitLemmas
+mod ReadLemmas
