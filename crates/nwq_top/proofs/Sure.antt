@@ -1,6 +1,7 @@
 -- The work of each form of words has one outcome.
 use Rattle.std.proofs.Common.{◌++◌, ℕ, List}
 use Rattle.nwq_value.specs.Engine.{EngineTable}
+use Rattle.engine_rows.specs.Pure.{CellLookup}
 use Rattle.nwq_work.specs.Outcomes.{IsSure, agree, prefixes, sure_then, sure_puts}
 use Rattle.nwq_checks.specs.Laws.{SureChecks}
 use Rattle.nwq_files.specs.Laws.{SureCommands}
@@ -42,16 +43,16 @@ module _ (tables : SureTables) (units : SureUnits) (built : OneBuilding) (run : 
   unfolding runs
   sure_runs header script = sure_then (table_of header) (runs_under script) (tables header) (sure_under script)
 
-  sure_work : (form : Form) → IsSure (work_of form)
-  sure_work (Run header script) = sure_runs header script
-  sure_work (Tree file) = files.tree file
-  sure_work (Check header file) = checks header file
-  sure_work (Disassemble file to) = files.disassembled file to
-  sure_work (Assemble file to) = files.assembled file to
-  sure_work NoForm = tt
+  sure_work : (cell : CellLookup) (form : Form) → IsSure (work_of cell form)
+  sure_work cell (Run header script) = sure_runs header script
+  sure_work cell (Tree file) = files.tree file
+  sure_work cell (Check header file) = checks header file
+  sure_work cell (Disassemble file to) = files.disassembled file to
+  sure_work cell (Assemble file to) = files.assembled file to
+  sure_work cell NoForm = tt
 
   pub one_outcome : OneOutcome
-  one_outcome form r s c d e t u v = agree (work_of form) (sure_work form) r s c d e t u v
+  one_outcome cell form r s c d e t u v = agree (work_of cell form) (sure_work cell form) r s c d e t u v
 
   pub all_prefixes : Prefixes
-  all_prefixes form r s c d e t u v = prefixes (work_of form) (sure_work form) r s c d e t u v
+  all_prefixes cell form r s c d e t u v = prefixes (work_of cell form) (sure_work cell form) r s c d e t u v

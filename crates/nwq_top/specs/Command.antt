@@ -2,6 +2,7 @@
 use Rattle.std.specs.Prelude.{◌≡◌, ℕ, List, ◌++◌}
 use Rattle.nwq_outside.specs.Outside.{Contents}
 use Rattle.nwq_value.specs.Engine.{EngineTable}
+use Rattle.engine_rows.specs.Pure.{CellLookup}
 use Rattle.nwq_work.specs.declared.cause.Cause.TheVariants.{NotBuilt as not_built}
 use Rattle.nwq_work.specs.Refusal as refusal
 use Rattle.nwq_work.specs.Work.{Work, Refused, Finds, then, Finished, puts}
@@ -39,14 +40,14 @@ runs_under script table = then (unit_of script) (play_of table)
 unfoldable pub runs : List ℕ → List ℕ → Work Finished
 runs header script = then (table_of header) (runs_under script)
 
--- the work of each form of words
-abbrev pub work_of : Form → Work Finished
-work_of (Run header script) = runs header script
-work_of (Tree file) = shows_tree file
-work_of (Check header file) = checks header file
-work_of (Disassemble file to) = disassembles file to
-work_of (Assemble file to) = assembles file to
-work_of NoForm = Refused refusal.NoForm
+-- the work of each form of words, where cells of tables are looked up so
+abbrev pub work_of : CellLookup → Form → Work Finished
+work_of cell (Run header script) = runs header script
+work_of cell (Tree file) = shows_tree file
+work_of cell (Check header file) = checks header file
+work_of cell (Disassemble file to) = disassembles file to
+work_of cell (Assemble file to) = assembles file to
+work_of cell NoForm = Refused refusal.NoForm
 
 -- which names a command may write
 abbrev pub MayWrite : Form → List ℕ → Type 0

@@ -1,5 +1,6 @@
 -- Statements about the work of commands. Each stands on the contract of a function of `laws`.
 use Rattle.std.specs.Prelude.{ℕ, List, Result}
+use Rattle.engine_rows.specs.Pure.{CellLookup}
 use Rattle.nwq_outside.specs.Outside.{Contents}
 use Rattle.nwq_work.specs.declared.status.Status.{Status}
 use Rattle.nwq_work.specs.Work.{IsCut, Does, Finished}
@@ -9,10 +10,10 @@ use Rattle.nwq_top.specs.Command.{work_of}
 
 -- What a command does by the files and the bytes taken, where it isn't cut, is one thing: its answer, what it leaves, what it puts.
 abbrev pub OneOutcome : Type 0
-OneOutcome = (form : Form) (r s : Result Finished Status) (c d e : Contents) (t u v : List ℕ) → (IsCut r → ⊥) → (IsCut s → ⊥)
-    → Does (work_of form) c t r d u → Does (work_of form) c t s e v → Agrees r s d e u v
+OneOutcome = (cell : CellLookup) (form : Form) (r s : Result Finished Status) (c d e : Contents) (t u v : List ℕ) → (IsCut r → ⊥) → (IsCut s → ⊥)
+    → Does (work_of cell form) c t r d u → Does (work_of cell form) c t s e v → Agrees r s d e u v
 
 -- What a command puts, cut or not, is a prefix of what it puts where it isn't cut.
 abbrev pub Prefixes : Type 0
-Prefixes = (form : Form) (r s : Result Finished Status) (c d e : Contents) (t u v : List ℕ) → (IsCut s → ⊥)
-    → Does (work_of form) c t r d u → Does (work_of form) c t s e v → IsPrefix u v
+Prefixes = (cell : CellLookup) (form : Form) (r s : Result Finished Status) (c d e : Contents) (t u v : List ℕ) → (IsCut s → ⊥)
+    → Does (work_of cell form) c t r d u → Does (work_of cell form) c t s e v → IsPrefix u v

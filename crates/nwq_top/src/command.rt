@@ -1,4 +1,5 @@
 ghost use Rattle.std.specs.Prelude.{◌≡◌, map, string_bytes, IsTrue};
+ghost use Rattle.world_core.specs.Calls.{cells_of, AreServing};
 ghost use Rattle.nwq_work.specs.Work.{Does};
 ghost use Rattle.nwq_work.specs.Counts.{Counted, Tallies, KeepsBut};
 ghost use Rattle.nwq_top.specs.Words.{form_of};
@@ -7,6 +8,7 @@ ghost use Rattle.nwq_top.specs.Endings.{ComesOfResult};
 
 use crate::run::run;
 use crate::words::{Command, command_of};
+use hook_table::Hooks;
 use nwq_checks::check_file;
 use nwq_files::{assemble_file, disassemble_file, show_tree};
 use nwq_outside::{Files, Sink};
@@ -20,9 +22,12 @@ pub fn command<F: Files, S: Sink>(
     words: &[String],
     files: &mut F,
     out: &mut S,
+    _hooks: &Hooks,
 ) -> Result<(), Status>
+    requires hooks { AreServing (map (λ h. h.known) _hooks.now.all.items) }
     ensures does { IsTrue F.tells → IsTrue S.tells →
-        Does (work_of (form_of (map string_bytes words.now)))
+        Does (work_of (cells_of (map (λ h. h.known) _hooks.now.all.items))
+        (form_of (map string_bytes words.now)))
         (F.contents files.old) (S.taken out.old)
         result (F.contents files.new) (S.taken out.new) }
     ensures counts { Tallies result

@@ -15,6 +15,7 @@ mod texts;
 mod words;
 
 ghost use Rattle.std.specs.Prelude.{◌≡◌, map, string_bytes, IsTrue};
+ghost use Rattle.world_core.specs.Calls.{cells_of, AreServing};
 ghost use Rattle.nwq_work.specs.Work.{Does, ending};
 ghost use Rattle.nwq_work.specs.Counts.{Counted, Tallies, KeepsBut};
 ghost use Rattle.nwq_top.specs.Words.{form_of};
@@ -22,22 +23,27 @@ ghost use Rattle.nwq_top.specs.Command.{work_of, MayWrite};
 ghost use Rattle.nwq_top.specs.Endings.{ComesOf};
 
 use crate::command::command;
+use hook_table::Hooks;
 use nwq_outside::{Files, Sink};
 pub use nwq_work::Status;
 pub use program::nwq_program;
 use std::alloc::Global;
 
-/// Does what the words say.
+/// Does what the words say. Scripts that it plays call the hooks.
 #[tactic(auto, using(crate::proofs::EndingLemmas::stops_come))]
 pub fn nwq_main<F: Files, S: Sink>(
     alloc: Global,
     words: &[String],
     files: &mut F,
     out: &mut S,
+    hooks: &Hooks,
 ) -> Status
+    // The hooks are one for each of the functions of strings, numbers and tables.
+    requires hooks { AreServing (map (λ h. h.known) hooks.now.all.items) }
     // Where files and sink tell what they hold: the call did the work of the words, in order.
     ensures does { IsTrue F.tells → IsTrue S.tells →
-        Does (work_of (form_of (map string_bytes words.now)))
+        Does (work_of (cells_of (map (λ h. h.known) hooks.now.all.items))
+        (form_of (map string_bytes words.now)))
         (F.contents files.old) (S.taken out.old)
         (ending result) (F.contents files.new) (S.taken out.new) }
     // A read, write or put that was refused is the last one, and the status says which.
@@ -50,7 +56,7 @@ pub fn nwq_main<F: Files, S: Sink>(
         (F.contents files.old) (F.contents files.new) }
     ensures only { ComesOf (form_of (map string_bytes words.now)) result }
 {
-    match command(alloc, words, files, out) {
+    match command(alloc, words, files, out, hooks) {
         Ok(()) => Status::Done,
         Err(status) => status,
     }

@@ -1,4 +1,5 @@
-ghost use Rattle.std.specs.Prelude.{◌≡◌, drop, IsTrue};
+ghost use Rattle.std.specs.Prelude.{◌≡◌, drop, map, IsTrue};
+ghost use Rattle.world_core.specs.Calls.{cells_of, AreServing};
 ghost use Rattle.nwq_work.specs.Work.{Does, ending};
 ghost use Rattle.nwq_work.specs.Counts.{Counted, Tallies, KeepsBut};
 ghost use Rattle.nwq_top.specs.Words.{form_of};
@@ -8,6 +9,7 @@ ghost use Rattle.nwq_top.specs.Program.{status_number, status_numbered, words_of
 ghost use Rattle.nwq_top.specs.Program.{TellsUsage};
 
 use crate::nwq_main;
+use hook_table::Hooks;
 use nwq_outside::{Files, Sink};
 use nwq_work::Status;
 use std::alloc::Global;
@@ -47,20 +49,23 @@ fn tell_usage<E: Sink>(status: Status, err: &mut E)
     }
 }
 
-/// The whole program, given all its words, the files, standard output and standard error: the
-/// number with which it ends.
+/// The whole program, given all its words, the files, standard output, standard error and the hooks
+/// that scripts call: the number with which it ends.
 pub fn nwq_program<F: Files, S: Sink, E: Sink>(
     alloc: Global,
     all: &[String],
     files: &mut F,
     out: &mut S,
     err: &mut E,
+    hooks: &Hooks,
 ) -> u8
+    requires hooks { AreServing (map (λ h. h.known) hooks.now.all.items) }
     // It is the number of a status, and the top call did what it promises for the words with this
     // status.
     ensures number { status_number (status_numbered result) ≡ result }
     ensures does { IsTrue F.tells → IsTrue S.tells →
-        Does (work_of (form_of (words_of all.now))) (F.contents files.old) (S.taken out.old)
+        Does (work_of (cells_of (map (λ h. h.known) hooks.now.all.items))
+        (form_of (words_of all.now))) (F.contents files.old) (S.taken out.old)
         (ending (status_numbered result)) (F.contents files.new) (S.taken out.new) }
     ensures counts { Tallies (ending (status_numbered result))
         (Counted (F.faults files.old) (F.absences files.old) (F.longs files.old) (S.faults out.old))
@@ -72,7 +77,7 @@ pub fn nwq_program<F: Files, S: Sink, E: Sink>(
     ensures usage { IsTrue E.tells →
         TellsUsage (status_numbered result) (E.taken err.old) (E.taken err.new) }
 {
-    let status = nwq_main(alloc, after_name(all), files, out);
+    let status = nwq_main(alloc, after_name(all), files, out, hooks);
     tell_usage(status, err);
     number_of(status)
 }
