@@ -1,5 +1,5 @@
 -- A script that is compiled: its file of bytecode, and the command that writes it.
-use Rattle.std.specs.Prelude.{ℕ, Bool, true, false, nat_lt, List, length, ◌++◌, codes}
+use Rattle.std.specs.Prelude.{ℕ, Bool, true, false, nat_lt, List, length, ◌++◌, None, codes}
 use Rattle.nwq_value.specs.Limits.{file_limit}
 use Rattle.nwq_value.specs.Engine.{EngineTable}
 use Rattle.nss_typing.specs.Typed.{TypedUnit}
@@ -7,14 +7,14 @@ use Rattle.code_emission.specs.Units.{unit_file}
 use Rattle.nwq_work.specs.declared.cause.Cause.TheVariants as cause
 use Rattle.nwq_work.specs.Work.{Work, Gives, Refused, then, Finished}
 use Rattle.nwq_sources.specs.Headers.{table_of}
-use Rattle.nwq_sources.specs.Units.{PlainScript, at_token, unit_of}
+use Rattle.nwq_sources.specs.Units.{PlainScript, at_spot, spot_of, unit_of}
 use Rattle.nwq_files.specs.Commands.{writes_and_puts}
 use Rattle.nwq_files.specs.Texts.{done_line}
 use Rattle.nwq_scripts.specs.Typings.{typed_in}
 
 -- a unit whose file would be too large is refused at the end of the script's own file
 abbrev pub file_by : PlainScript → Bool → List ℕ → Work (List ℕ)
-file_by script true file = Refused (at_token script (length script.tokens) cause.Large)
+file_by script true file = Refused (at_spot cause.Large (spot_of script.files None))
 file_by script false file = Gives file
 
 -- the file of a script's typed unit

@@ -1,8 +1,9 @@
-ghost use Rattle.std.specs.Prelude.{◌≡◌, ◌<◌, ℕ, List, length, map, slice_get, IsTrue, IfErr, IfOk};
+ghost use Rattle.std.specs.Prelude.{◌≡◌, ◌<◌, ◌≤◌, ℕ, List, length, map, slice_get, IsTrue, IfErr, IfOk};
 ghost use Rattle.std.specs.Prelude.{Err, Some, None};
 ghost use Rattle.std.specs.FinMap as fin_map;
 ghost use Rattle.nwq_outside.specs.Outside.{Contents};
 ghost use Rattle.nss_include.specs.Units.{IsUnit};
+ghost use Rattle.nwq_value.specs.Limits.{token_limit};
 ghost use Rattle.nss_tree.specs.Reading.{plain_tree};
 ghost use Rattle.nss_include.specs.Gather.{Gathers, CountsGathered};
 ghost use Rattle.nwq_work.specs.Work.{Does};
@@ -112,6 +113,7 @@ fn refuse_gather<S: Sink>(alloc: Global, fault: GatherFault, out: &mut S) -> Sta
 #[tactic(auto, using(crate::proofs::PlaceLemmas::seen_same))]
 fn tree_of(alloc: Global, unit: &Unit) -> Result<Tree, ParseFault>
     ensures tree { IfOk result (λ tree. HasTree unit.now (plain_tree tree)) }
+    ensures few { IfOk result (λ tree. (plain_tree tree).count ≤ token_limit) }
     ensures refused { IfErr result (HasFault unit.now) }
 {
     let tokens = unit.tokens(alloc)?;
