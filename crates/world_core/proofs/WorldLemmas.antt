@@ -1,6 +1,8 @@
 -- What worlds keep through calls.
-use Rattle.std.proofs.Common.{◌≡◌, ◌≤◌, ℕ, Result, Ok, Err, Option, Some, slice_get, sym, ap, subst}
+use Rattle.std.proofs.Common.{◌≡◌, ◌≤◌, ℕ, Result, Ok, Err, Option, None, Some, slice_get, sym, ap, subst}
+use Rattle.std.specs.Option.{IfSome}
 use Rattle.std.specs.Result.{IfOk, OnErr}
+use Rattle.delay_agenda.specs.declared.entry.Entry.{Entry}
 use Rattle.nwq_value.specs.Engine.{EngineTable}
 use Rattle.nwq_value.specs.declared.engine.Routine.{Routine}
 use Rattle.nwq_value.specs.declared.memory.NoMemory.{NoMemory}
@@ -9,7 +11,8 @@ use Rattle.engine_rows.specs.Pure.{CellLookup}
 use Rattle.engine_rows.specs.World.{World, count}
 use Rattle.engine_rows.specs.Rows.{Answered, Call}
 use Rattle.engine_rows.specs.Engine.{by_role, by_routine, engine}
-use Rattle.engine_rows.specs.Kept.{IsWorld, EngineKeeps}
+use Rattle.engine_rows.specs.Kept.{IsWorld, IsBegun, BeginKeeps, EngineKeeps}
+use Rattle.world_rows.specs.Begun.{IsBegunAs}
 
 answered : {X : Type 0} → (r : Result (Option Value) NoMemory) (a : Answered X) (w v : World X) → IfOk r (λ value. record { value = value; world = v } ≡ a) → OnErr r (v ≡ w) →
     IsWorld w → IsWorld a.world → IsWorld v
@@ -23,3 +26,9 @@ unfolding engine
 engine_kept {X = X} keeps table cell n r c w v result there ok err world caller =
     answered result (by_role cell n r r.role c w) w v ok err world
     (subst (λ (o : Option Routine). IsWorld (by_routine cell n o c w).world) (sym there) (keeps table cell n c w world caller).world)
+
+-- an entry that is begun
+pub begun_kept : {X : Type 0} → BeginKeeps X → (until : ℕ) (w v : World X) (entry : Option (Entry X)) → IsWorld w → IsBegunAs until w entry v →
+    IfSome entry (λ e. IsBegun until w (record { entry = e; world = v }))
+begun_kept keeps until w v None world is = tt
+begun_kept keeps until w v (Some e) world is = subst (λ o. IfSome o (IsBegun until w)) is (keeps until w world)

@@ -4,6 +4,7 @@ use Rattle.hook_table.specs.declared.hook.Known.{Known}
 use Rattle.hook_table.specs.Served.{AreStandard}
 use Rattle.hook_table.specs.Standard.{cell_function, types_of}
 use Rattle.nwq_value.specs.Engine.{EngineTable}
+use Rattle.nwq_value.specs.declared.engine.Role.TheVariants.{Pure}
 use Rattle.nwq_value.specs.declared.engine.Routine.{Routine}
 use Rattle.nwq_value.specs.declared.value.Value.{Value}
 use Rattle.stack_shape.specs.Calls.{argument_types}
@@ -36,9 +37,16 @@ cells_of hooks = cell_of (tables_of hooks)
 abbrev pub AreServing : List Known → Type 0
 AreServing hooks = AreStandard hooks (tables_of hooks)
 
+-- ---- what is asked of a call: something only where a hook answers, so of functions of strings and numbers
+
+-- the hooks serve the routine
+abbrev pub ServeRoutine : EngineTable → ℕ → List Known → Type 0
+ServeRoutine table n hooks = (r : Routine) (k : ℕ) → slice_get table.routines n ≡ Some r → r.role ≡ Pure k → AreServing hooks
+
 -- the arguments of a call that are values have the types of the routine's parameters, first to last
 abbrev pub FitArguments : EngineTable → ℕ → List Value → Type 0
-FitArguments table n values = (r : Routine) → slice_get table.routines n ≡ Some r → types_of values ≡ argument_types r.params
+FitArguments table n values =
+    (r : Routine) (k : ℕ) → slice_get table.routines n ≡ Some r → r.role ≡ Pure k → types_of values ≡ argument_types r.params
 
 -- ---- times and numbers
 

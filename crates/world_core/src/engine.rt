@@ -1,5 +1,5 @@
 //! What a call of a header's routine does, by the routine's role.
-ghost use Rattle.std.specs.Prelude.{◌≡◌, ◌<◌, ◌≤◌, ◌+◌, ◌^◌, ◌++◌, ◌∷◌, [], drop, map, slice_get, Some};
+ghost use Rattle.std.specs.Prelude.{◌≡◌, ◌<◌, ◌≤◌, ◌+◌, ◌^◌, ◌++◌, ◌∷◌, [], drop, map, slice_get, ℕ, Some};
 ghost use Rattle.std.specs.Prelude.{IfOk, OnOk, OnErr};
 ghost use Rattle.nwq_value.specs.Engine.{IsRoutine};
 ghost use Rattle.nwq_value.specs.declared.engine.Role.TheVariants as role;
@@ -214,9 +214,11 @@ pub(crate) fn by_role<X: Drop>(
     requires caller { caller ≤ count parts.old.world }
     requires room { room ≤ parts.old.posts }
     requires small { room ≤ 1 }
-    requires hooks { AreServing (map (λ h. h.known) hooks.now.all.items) }
+    requires hooks { (k : ℕ) → routine.now.role ≡ role.Pure k
+        → AreServing (map (λ h. h.known) hooks.now.all.items) }
     requires routine { IsRoutine routine.now }
-    requires types { types_of args ≡ argument_types routine.now.params }
+    requires types { (k : ℕ) → routine.now.role ≡ role.Pure k
+        → types_of args ≡ argument_types routine.now.params }
     ensures ok { IfOk result (λ value. record { value = value; world = parts.new.world }
         ≡ by_role (cells_of (map (λ h. h.known) hooks.now.all.items)) number routine.now
         routine.now.role (call caller args action) parts.old.world) }

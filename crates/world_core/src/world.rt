@@ -6,12 +6,12 @@ ghost use Rattle.std.specs.Option.{option_copied, option_map};
 ghost use Rattle.delay_agenda.specs.Order.{first_due};
 ghost use Rattle.engine_rows.specs.AlikeLaws.{call};
 ghost use Rattle.engine_rows.specs.Engine.{engine, may_run, no_script, too_deep};
-ghost use Rattle.engine_rows.specs.Kept.{IsActing, IsWorld};
+ghost use Rattle.engine_rows.specs.Kept.{IsActing, IsBegun, IsWorld};
 ghost use Rattle.engine_rows.specs.Trace.{trace_text};
 ghost use Rattle.engine_rows.specs.Turns.{new_world, turn, turn_done, unapply, fault, drained};
 ghost use Rattle.engine_rows.specs.Turns.{with_entries};
 ghost use Rattle.engine_rows.specs.World.{count, effects_of, queue_of};
-ghost use Rattle.world_core.specs.Calls.{planned, cells_of, AreServing, FitArguments, IsEarly};
+ghost use Rattle.world_core.specs.Calls.{planned, cells_of, FitArguments, IsEarly, ServeRoutine};
 ghost use Rattle.world_rows.specs.Begun.{IsBegunAs};
 ghost use Rattle.world_rows.specs.Saved.{put_together};
 
@@ -112,7 +112,8 @@ impl<X: Drop> World<X> {
     ) -> Result<Option<Value>, NoMemory>
         requires early { IsEarly self.old.world }
         requires caller { caller ≤ count self.old.world }
-        requires hooks { AreServing (map (λ h. h.known) hooks.now.all.items) }
+        requires hooks { ServeRoutine table.now routine
+            (map (λ h. h.known) hooks.now.all.items) }
         requires types { FitArguments table.now routine args }
         ensures ok { IfOk result (λ value. record { value = value; world = self.new.world }
             ≡ engine table.now (cells_of (map (λ h. h.known) hooks.now.all.items)) routine
@@ -143,10 +144,13 @@ impl<X: Drop> World<X> {
         }
     }
 
+    #[tactic(auto, using(crate::proofs::WorldLemmas::begun_kept))]
     /// Takes the next entry that is due by a time, sets the clock to when it is due, and makes room
     /// for a post.
     pub fn begin(&mut self, until: u64) -> Result<Option<Entry<X>>, NoMemory>
         ensures ok { IfOk result (λ entry. IsBegunAs until self.old.world entry self.new.world) }
+        ensures begun { IfOk result (λ entry. IfSome entry (λ e. IsBegun until self.old.world
+            (record { entry = e; world = self.new.world }))) }
         ensures ready { IfOk result (λ entry. IfSome entry (λ _. 1 ≤ self.new.room)) }
         ensures err { OnErr result (self.new.world ≡ self.old.world) }
         ensures room { self.old.room ≤ self.new.room }
@@ -275,6 +279,13 @@ impl<X: Drop> World<X> {
         ensures due { result ≡ first_due self.now.world.agenda.entries }
     {
         self.parts.next_due()
+    }
+
+    /// The number of the next post.
+    pub fn next_number(&self) -> u64
+        ensures next { result ≡ self.now.world.agenda.next }
+    {
+        self.parts.next_number()
     }
 
     /// How many objects there are.

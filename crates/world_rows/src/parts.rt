@@ -306,7 +306,7 @@ impl<X: Drop> Parts<X> {
     }
 
     /// The number of the next post.
-    pub(crate) fn next_number(&self) -> u64
+    pub fn next_number(&self) -> u64
         ensures next { result ≡ self.now.world.agenda.next }
     {
         self.agenda.next_number()

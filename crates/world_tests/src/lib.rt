@@ -4,4 +4,8 @@
 #[cfg(test)]
 mod hooks;
 #[cfg(test)]
+mod play;
+#[cfg(test)]
 mod tables;
+#[cfg(test)]
+mod world;

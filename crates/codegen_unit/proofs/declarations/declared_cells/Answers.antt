@@ -1,0 +1,25 @@
+use Rattle.std.proofs.Common.{refl}
+use Rattle.nss_tree.specs.Readings.{tree_block, tree_do_loop, tree_for_loop, tree_if_else, tree_if_only, tree_switch, tree_while_loop}
+use Rattle.codegen_unit.proofs.Known.{known_cells}
+use Rattle.codegen_unit.proofs.declarations.declared_cells.Goals as goal
+
+pub returns-in-Block : goal.returns-in-Block
+returns-in-Block c = known_cells c.args.layout.now.structs _ _ _ (tree_block _ _ _ c.in-Block.is) refl
+
+pub returns-in-If : goal.returns-in-If
+returns-in-If c = known_cells c.args.layout.now.structs _ _ _ (tree_if_only _ _ _ _ c.in-If.is) refl
+
+pub returns-in-IfElse : goal.returns-in-IfElse
+returns-in-IfElse c = known_cells c.args.layout.now.structs _ _ _ (tree_if_else _ _ _ _ _ c.in-IfElse.is) refl
+
+pub returns-in-While : goal.returns-in-While
+returns-in-While c = known_cells c.args.layout.now.structs _ _ _ (tree_while_loop _ _ _ _ c.in-While.is) refl
+
+pub returns-in-Do : goal.returns-in-Do
+returns-in-Do c = known_cells c.args.layout.now.structs _ _ _ (tree_do_loop _ _ _ _ c.in-Do.is) refl
+
+pub returns-in-For : goal.returns-in-For
+returns-in-For c = known_cells c.args.layout.now.structs _ _ _ (tree_for_loop _ _ _ _ _ _ c.in-For.is) refl
+
+pub returns-in-Switch : goal.returns-in-Switch
+returns-in-Switch c = known_cells c.args.layout.now.structs _ _ _ (tree_switch _ _ _ _ c.in-Switch.is) refl

@@ -1,0 +1,52 @@
+use Rattle.std.proofs.Common.{refl}
+use Rattle.nss_tree.specs.Readings.{tree_case_label, tree_block, tree_break_off, tree_continue_on, tree_declaration, tree_default_label, tree_do_loop, tree_empty, tree_expression, tree_for_loop, tree_if_else, tree_if_only, tree_return_from, tree_switch, tree_while_loop}
+use Rattle.codegen_unit.proofs.Known.{case_made, known_no_test, known_test}
+use Rattle.codegen_unit.proofs.switches.emit_test.Goals as goal
+
+pub emit_case-requires : goal.emit_case-requires
+emit_case-requires c = record { made = case_made _ _ _ _ _ (tree_case_label _ _ _ c.in-Case.is) c.requires.made }
+
+pub returns-in-Case : goal.returns-in-Case
+returns-in-Case c = known_test _ _ _ c.args.at _ _ _ (tree_case_label _ _ _ c.in-Case.is) c.emit_case.ensures
+
+pub returns-in-Block : goal.returns-in-Block
+returns-in-Block c = known_no_test c.args.out.now c.args.at _ _ (tree_block _ _ _ c.in-Block.is) refl
+
+pub returns-in-If : goal.returns-in-If
+returns-in-If c = known_no_test c.args.out.now c.args.at _ _ (tree_if_only _ _ _ _ c.in-If.is) refl
+
+pub returns-in-IfElse : goal.returns-in-IfElse
+returns-in-IfElse c = known_no_test c.args.out.now c.args.at _ _ (tree_if_else _ _ _ _ _ c.in-IfElse.is) refl
+
+pub returns-in-While : goal.returns-in-While
+returns-in-While c = known_no_test c.args.out.now c.args.at _ _ (tree_while_loop _ _ _ _ c.in-While.is) refl
+
+pub returns-in-Do : goal.returns-in-Do
+returns-in-Do c = known_no_test c.args.out.now c.args.at _ _ (tree_do_loop _ _ _ _ c.in-Do.is) refl
+
+pub returns-in-For : goal.returns-in-For
+returns-in-For c = known_no_test c.args.out.now c.args.at _ _ (tree_for_loop _ _ _ _ _ _ c.in-For.is) refl
+
+pub returns-in-Switch : goal.returns-in-Switch
+returns-in-Switch c = known_no_test c.args.out.now c.args.at _ _ (tree_switch _ _ _ _ c.in-Switch.is) refl
+
+pub returns-in-Default : goal.returns-in-Default
+returns-in-Default c = known_no_test c.args.out.now c.args.at _ _ (tree_default_label _ _ c.in-Default.is) refl
+
+pub returns-in-Empty : goal.returns-in-Empty
+returns-in-Empty c = known_no_test c.args.out.now c.args.at _ _ (tree_empty _ _ c.in-Empty.is) refl
+
+pub returns-in-Expression : goal.returns-in-Expression
+returns-in-Expression c = known_no_test c.args.out.now c.args.at _ _ (tree_expression _ _ _ c.in-Expression.is) refl
+
+pub returns-in-Break : goal.returns-in-Break
+returns-in-Break c = known_no_test c.args.out.now c.args.at _ _ (tree_break_off _ _ c.in-Break.is) refl
+
+pub returns-in-Continue : goal.returns-in-Continue
+returns-in-Continue c = known_no_test c.args.out.now c.args.at _ _ (tree_continue_on _ _ c.in-Continue.is) refl
+
+pub returns-in-Return : goal.returns-in-Return
+returns-in-Return c = known_no_test c.args.out.now c.args.at _ _ (tree_return_from _ _ _ c.in-Return.is) refl
+
+pub returns-in-Declaration : goal.returns-in-Declaration
+returns-in-Declaration c = known_no_test c.args.out.now c.args.at _ _ (tree_declaration _ _ _ _ c.in-Declaration.is) refl
