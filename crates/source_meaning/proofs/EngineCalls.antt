@@ -3,13 +3,14 @@ use Rattle.std.proofs.Common.{arith, ◌≡◌, ◌≤◌, ◌<◌, ◌+◌, ◌
 use Rattle.std.specs.Prelude.{◌&&◌, ◌==◌, nat_le, slice_get, if◌then◌else◌}
 use Rattle.std.specs.Option.{option_map, option_and_then}
 use Rattle.std.proofs.lemmas.Bool.Decides.{nat_tests, Decides-eqb}
-use Rattle.std.proofs.lemmas.List.{length-append, length-map, drop_at, append-nil}
+use Rattle.std.proofs.lemmas.List.{length-append, length-map, map-append, drop_at, append-nil}
 use Rattle.nwq_value.specs.declared.value.Ty.{Ty}
-use Rattle.nwq_value.specs.declared.value.Ty.TheVariants.{Void}
+use Rattle.nwq_value.specs.declared.value.Ty.TheVariants.{Void, Text as TextTy, Object as ObjectTy}
 use Rattle.nwq_value.specs.declared.value.Value.{Value}
 use Rattle.nwq_value.specs.declared.value.Value.TheVariants.{Text, Object}
 use Rattle.nwq_value.specs.declared.engine.Const.{Const}
 use Rattle.nwq_value.specs.declared.engine.Const.TheVariants as const
+use Rattle.nwq_value.specs.declared.engine.Param.{Param}
 use Rattle.nwq_value.specs.declared.engine.Routine.{Routine}
 use Rattle.nwq_value.specs.Engine.{const_type}
 use Rattle.nwq_value.specs.Values.{type_of as type_of_value}
@@ -40,7 +41,7 @@ use Rattle.engine_rows.specs.World.{World}
 use Rattle.machine_step.specs.Cells.{value_types, values_on}
 use Rattle.machine_step.specs.Calls.{Taken, taken, arguments, is_execute_script}
 use Rattle.machine_step.specs.Frames.{Frame}
-use Rattle.machine_step.specs.Act.{Act, Moves, Asks, Executes, act, stored, stored_cells, next_place, engine_called as machine_called, asked as machine_asked, behind_call}
+use Rattle.machine_step.specs.Act.{Act, Moves, Asks, Executes, act, stored, stored_cells, next_place, engine_called as machine_called, asked as machine_asked, executed as executed_act}
 use Rattle.machine_step.specs.Machine.{Goes, step, followed, with_answer, answered as machine_answered, executed as machine_executed}
 use Rattle.machine_step.specs.Laws.{EqualityIsTested}
 use Rattle.source_meaning.specs.Values.{constant_value}
@@ -53,7 +54,7 @@ use Rattle.source_meaning.specs.Fine.{argument_types, IsArgument, CallsRoutine, 
 use Rattle.source_meaning.specs.Simulation.{Executor, running_at, HoldsValue, value_place, value_credits, ExprRuns}
 use Rattle.source_meaning.specs.Calling.{pushed_all, all_types, with_types, types_before, constant_types, one_if, actions_in, EngineRuns, CapturesCarry, ExecutesRun}
 use Rattle.source_meaning.proofs.Cells.{pushed_over, pushed_length, count_of, held_over, held_pushed, held_values}
-use Rattle.source_meaning.proofs.Ledger.{took_none, took_cost, took_then, took_less, sim_after, sim_bind, sim_paid, sim_chosen}
+use Rattle.source_meaning.proofs.Ledger.{took_none, took_cost, took_then, took_less, sim_after, sim_bind, sim_paid, sim_chosen, sim_map}
 use Rattle.source_meaning.proofs.Places.{above_globals}
 use Rattle.source_meaning.proofs.Steps.{both_stand, sizes, acted, constant_goes, jump_goes}
 use Rattle.source_meaning.proofs.Calls.{single_types, ValuesAreValues, taken_values, taken_one, arguments_fit, actions_fit, count_fits, all_over, held_all}
@@ -291,3 +292,252 @@ module _ (host : MachineHost) (R : Saved → Deferred → Type 0) (tested : Equa
         };
       },
       took_cost host m (15 + c) c s1 s2 (omega arith) second)))
+
+  -- ---- all arguments
+
+  abbrev pub EachRuns : TypedExprs → Type 0
+  EachRuns no_typed = Unit {0}
+  EachRuns (more_typed e es) = (is_captured e ≡ false → Runs e) × EachRuns es
+
+  argument_case : (t : Bool) (e : TypedExpr) (es : TypedExprs) (a b : Arguments) (pending : List Saved) (scope : List ℕ) (size first second depth place next c : ℕ) (q : Progress) (h : HasArguments scope size es a pending b q)
+      (base between : List Cell) (calls : List ℕ) → CapturesCarry host R x tables execute functions → (is_captured e ≡ false → Runs e) → is_captured e ≡ t → IsFine host.table functions x scope e → IsArgument x e
+      → LinesStand x.code x.places place (argument_code x.layout first depth t (emit x.layout (second + argument_labels t) depth e))
+      → place + lines_size (argument_code x.layout first depth t (emit x.layout (second + argument_labels t) depth e)) ≡ next
+      → length (pushed_all b.values base) + size ≡ depth → q.left ≤ most → AreHeld base → actions_in (more_typed e es) ≤ 1
+      → Sim host R (HasArguments scope size (more_typed e es) a pending) (arguments_place scope size (more_typed e es) a next base between calls pending)
+      q.left c (spot_at R x place (pushed_all b.values base) between calls h.now h.kept) (λ d. c) (argument here t e (λ r. eval here caller e r) b q)
+  argument_case true e es a b pending scope size first second depth place next c q h base between calls captures re is fine fits stands goes deep le held few =
+      action_case e es a b pending scope size (second + argument_labels true) first depth place next c q h base between calls captures is fine (fits.made is) stands goes deep held few
+  argument_case false e es a b pending scope size first second depth place next c q h base between calls captures re is fine fits stands goes deep le held few =
+      value_case e es a b pending scope size (second + argument_labels false) depth place next c q h base between calls (re is) is fine stands goes deep le held
+
+  fewer_actions : (t : Bool) (n : ℕ) → one_if t + n ≤ 1 → n ≤ 1
+  fewer_actions true n h = omega arith
+  fewer_actions false n h = omega arith
+
+  more_run : (e : TypedExpr) (es : TypedExprs) → CapturesCarry host R x tables execute functions → (is_captured e ≡ false → Runs e) → ArgumentsRun es → ArgumentsRun (more_typed e es)
+  more_run e es captures re res scope size n depth place c a p K base between calls pending fine stands deep le held few =
+      let l = x.layout in
+      let first = emit_all l n depth es in
+      let within = depth + arguments_cells l es in
+      let code = argument_code l (n + all_labels es) within (is_captured e) (emit l (n + all_labels es + argument_labels (is_captured e)) within e) in
+      let b = both_stand x.code x.places place first code stands in
+      let middle = place + lines_size first in
+      let next = place + lines_size (first ++ code) in
+      let goes : middle + lines_size code ≡ next = let h = sizes first code in omega (arith, h) in
+      sim_bind host R (HasArguments scope size es a pending) (arguments_place scope size es a middle base between calls pending)
+      (HasArguments scope size (more_typed e es) a pending) (arguments_place scope size (more_typed e es) a next base between calls pending)
+      p.left c (spot_at R x place (pushed_all a.values base) between calls pending K) (λ d. c) (λ d. c) (evals here caller es a p) (λ d q. argument here (is_captured e) e (λ r. eval here caller e r) d q)
+      (res scope size n depth place c a p K base between calls pending fine.2 b.0 deep le held (fewer_actions (is_captured e) (actions_in es) few))
+      (λ d q h less.
+      let before = all_length a.values base in
+      let after = all_length d.values base in
+      let types = ap total h.types in
+      let counted = total_before x es (all_types a.values) in
+      argument_case (is_captured e) e es a d pending scope size (n + all_labels es) (n + all_labels es) within middle next c q h base between calls captures re refl fine.0 fine.1 b.1 goes
+      (omega (arith, before, after, types, counted, deep)) (omega (arith, less, le)) held few)
+
+  pub arguments_run : (es : TypedExprs) → CapturesCarry host R x tables execute functions → EachRuns es → ArgumentsRun es
+  arguments_run no_typed captures each = none_run
+  arguments_run (more_typed e es) captures each = more_run e es captures each.0 (arguments_run es captures each.1)
+
+  -- ---- a call's arguments, with its defaults
+
+  pub record HasCall (scope : List ℕ) (size : ℕ) (es : TypedExprs) (ks : List Const) (pending : List Saved) (b : Arguments) (q : Progress) : Type 0 where
+    pub types : all_types b.values ≡ types_before x.layout.structs es (constant_types ks)
+    pub kept : Kept R x scope size q.globals q.locals q.world
+    pub now : List Saved
+    pub none : actions_in es ≡ 0 → (b.action ≡ None) × (now ≡ pending)
+    pub one : actions_in es ≡ 1 → Captured pending now b.action
+
+  abbrev pub call_place : (scope : List ℕ) (size : ℕ) (es : TypedExprs) (ks : List Const) → ℕ → List Cell → List Cell → List ℕ → (pending : List Saved) → (b : Arguments) (q : Progress) → HasCall scope size es ks pending b q → Machine
+  call_place scope size es ks next base between calls pending b q h = spot_at R x next (pushed_all b.values base) between calls h.now h.kept
+
+  abbrev pub arguments_of : TypedExprs → List Const → Progress → Outcome Arguments
+  arguments_of es ks p = bind (defaults x.self ks p) (λ values q. evals here caller es (record { values = values; action = None }) q)
+
+  constants_total : (ks : List Const) → total (constant_types ks) ≡ length ks
+  unfolding total
+  constants_total [] = refl
+  constants_total (k ∷ ks) = let h = constants_total ks in omega (arith, h)
+
+  pub call_arguments_run : (es : TypedExprs) (ks : List Const) → CapturesCarry host R x tables execute functions → EachRuns es
+      → (scope : List ℕ) (size n depth place c : ℕ) (p : Progress) (K : Kept R x scope size p.globals p.locals p.world) (base between : List Cell) (calls : List ℕ) (pending : List Saved)
+      → AreFine host.table functions x scope es → LinesStand x.code x.places place (constants ks ++ emit_all x.layout n depth es) → length base + length ks + size ≡ depth → p.left ≤ most → AreHeld base → actions_in es ≤ 1
+      → Sim host R (HasCall scope size es ks pending) (call_place scope size es ks (place + lines_size (constants ks ++ emit_all x.layout n depth es)) base between calls pending)
+      p.left c (spot_at R x place base between calls pending K) (λ b. c) (arguments_of es ks p)
+  call_arguments_run es ks captures each scope size n depth place c p K base between calls pending fine stands deep le held few =
+      let first = constants ks in
+      let second = emit_all x.layout n depth es in
+      let b = both_stand x.code x.places place first second stands in
+      let middle = place + lines_size first in
+      let next = place + lines_size (first ++ second) in
+      let goes : middle + lines_size second ≡ next = let h = sizes first second in omega (arith, h) in
+      sim_bind host R (HasDefaults scope size ks) (defaults_place scope size ks middle base between calls pending)
+      (HasCall scope size es ks pending) (call_place scope size es ks next base between calls pending)
+      p.left c (spot_at R x place base between calls pending K) (λ vs. c) (λ d. c) (defaults x.self ks p) (λ vs q. evals here caller es (record { values = vs; action = None }) q)
+      (defaults_run ks scope size place c p K base between calls pending b.0)
+      (λ vs q h less.
+      let a : Arguments = record { values = vs; action = None } in
+      let count = all_length vs base in
+      let types = ap total h.0 in
+      let defaults_size = constants_total ks in
+      sim_map host R (HasArguments scope size es a pending) (arguments_place scope size es a (middle + lines_size second) base between calls pending)
+      (HasCall scope size es ks pending) (call_place scope size es ks next base between calls pending) q.left c (spot_at R x middle (pushed_all vs base) between calls pending h.1) (λ d. c) (λ d. c) (evals here caller es a q)
+      (arguments_run es captures each scope size n depth middle c a q h.1 base between calls pending fine b.1 (omega (arith, count, types, defaults_size, deep)) (omega (arith, less, le)) held few)
+      (λ d r g.
+      (record { types = g.types ∙ ap (types_before x.layout.structs es) h.0; kept = g.kept; now = g.now; none = g.none; one = g.one },
+      subst (λ j. Took host r.left c (spot_at R x (middle + lines_size second) (pushed_all d.values base) between calls g.now g.kept) r.left c (spot_at R x j (pushed_all d.values base) between calls g.now g.kept)) goes
+      (took_none host r.left c (spot_at R x (middle + lines_size second) (pushed_all d.values base) between calls g.now g.kept)))))
+
+  -- ---- engine calls
+
+  record TakenIs (params : List Param) (a : Arguments) (cells : List Cell) (pending now : List Saved) : Type 0 where
+    action : Option Saved
+    is : taken params (pushed_all a.values cells) now ≡ Some (record { values = all_parts a.values; action = action; cells = cells; pending = pending })
+    alike : OptionAlike R action a.action
+
+  taken_is : (params : List Param) (es : TypedExprs) (a : Arguments) (cells : List Cell) (pending now : List Saved) (n : ℕ) → actions_in es ≡ n → action_count params ≡ n → n ≤ 1
+      → all_types a.values ≡ single_types (parameter_types params) → (actions_in es ≡ 0 → (a.action ≡ None) × (now ≡ pending)) → (actions_in es ≡ 1 → Captured pending now a.action) → TakenIs params a cells pending now
+  taken_is params es a cells pending now zero is count few types none one =
+      let h = none is in
+      record {
+        action = None;
+        is = ap (taken params (pushed_all a.values cells)) h.1 ∙ taken_values params a.values cells pending count types;
+        alike = subst (OptionAlike R None) (sym h.0) tt;
+      }
+  taken_is params es a cells pending now (suc zero) is count few types none one =
+      let h = one is in
+      record {
+        action = Some h.saved;
+        is = ap (taken params (pushed_all a.values cells)) h.stored ∙ taken_one params a.values cells h.saved pending count types;
+        alike = subst (OptionAlike R (Some h.saved)) (sym h.is) h.carries;
+      }
+  taken_is params es a cells pending now (suc (suc n)) is count few types none one = absurd (omega arith)
+
+  flat_types : (vs : List (List Value)) (ts : List Ty) → all_types vs ≡ single_types ts → value_types (all_parts vs) ≡ ts
+  flat_types [] [] h = refl
+  flat_types [] (t ∷ ts) h = absurd cc
+  flat_types (v ∷ vs) [] h = absurd cc
+  flat_types (v ∷ vs) (t ∷ ts) h =
+      let first : value_types v ≡ t ∷ [] = cc in
+      let rest : all_types vs ≡ single_types ts = cc in
+      map-append type_of_value v (all_parts vs) ∙ ap (λ us. us ++ value_types (all_parts vs)) first ∙ ap (λ us. t ∷ us) (flat_types vs ts rest)
+
+  -- the frame behind the call, with what the engine answers on top
+  answer_is : (o : Option Value) (place next : ℕ) (before cells : List Cell) (calls : List ℕ) (now pending : List Saved) (world after : World Saved)
+      → machine_answered (record { value = o; world = after }) (at x next cells calls pending world).running (at x place before calls now world) ≡ at x next (pushed (parts_in o) cells) calls pending after
+  answer_is None place next before cells calls now pending world after = refl
+  answer_is (Some v) place next before cells calls now pending world after = refl
+
+  name_and_target : (vs : List Value) → value_types vs ≡ TextTy ∷ ObjectTy ∷ [] → (name : List ℕ) × (target : ℕ) × (vs ≡ Text name ∷ Object target ∷ [])
+  name_and_target (Text name ∷ Object target ∷ []) h = (name, target, refl)
+  name_and_target vs h = absurd cc
+
+  -- ACTION takes the arguments
+  called_is : (routine count place : ℕ) (r : Routine) (a : Arguments) (temps rest : List Cell) (calls : List ℕ) (pending now : List Saved) (world : World Saved) → slice_get host.table.routines routine ≡ Some r
+      → is_callable r ≡ true → count ≡ length r.params → (t : TakenIs r.params a (temps ++ rest) pending now)
+      → machine_called host.table routine count (at x place (pushed_all a.values temps ++ rest) calls now world).running
+      ≡ machine_asked routine count r (at x place (pushed_all a.values temps ++ rest) calls now world).running (record { values = all_parts a.values; action = t.action; cells = temps ++ rest; pending = pending })
+  called_is routine count place r a temps rest calls pending now world is callable same t =
+      let f = (at x place (pushed_all a.values temps ++ rest) calls now world).running in
+      let test : (is_callable r && (count == length r.params)) ≡ true = ap (λ (b : Bool). b && (count == length r.params)) callable ∙ (Decides-eqb count (length r.params)).1 same in
+      let took : arguments r count (pushed_all a.values temps ++ rest) now ≡ Some (record { values = all_parts a.values; action = t.action; cells = temps ++ rest; pending = pending }) =
+          ap (λ (b : Bool). if b then taken r.params (pushed_all a.values temps ++ rest) now else None) test
+          ∙ ap (λ cells. taken r.params cells now) (all_over a.values temps rest) ∙ t.is in
+      ap (option_and_then (λ q. option_and_then (machine_asked routine count q f) (arguments q count (pushed_all a.values temps ++ rest) now))) is
+      ∙ ap (option_and_then (machine_asked routine count r f)) took
+
+  -- the instruction of a call, and what the call means
+  action_runs : (t : Ty) (routine : ℕ) (es : TypedExprs) (ks : List Const) → EngineRuns host R tables → ExecutesRun host R x execute most → (call_fine : CallsRoutine host.table x.layout.structs t routine es ks) → ValuesAreValues es
+      → (scope : List ℕ) (size place next c : ℕ) (a : Arguments) (q : Progress) (temps between : List Cell) (calls : List ℕ) (pending : List Saved) (h : HasCall scope size es ks pending a q)
+      → op_at x.code place ≡ Some (ops.Action routine (count_arguments es + length ks)) → place + 5 ≡ next → q.left ≤ most → AreHeld temps
+      → Sim host R (HoldsValue R x scope size t) (value_place R x scope size t next temps between calls pending) q.left c (spot_at R x place (pushed_all a.values temps) between calls h.now h.kept) (value_credits c) (engine_called here routine a q)
+  unfolding act
+  action_runs t routine es ks engine_runs executes fine values scope size place next c a q temps between calls pending h begins goes le held =
+      let r = fine.routine in
+      let count = count_arguments es + length ks in
+      let L = h.kept in
+      let rest = L.frame ++ (between ++ L.under) in
+      let same = count_fits es ks r.params fine.arguments in
+      let actions = actions_fit es ks r.params fine.arguments values in
+      let types = h.types ∙ arguments_fit x.layout.structs es ks r.params fine.arguments fine.single values in
+      let t_is = taken_is r.params es a (temps ++ rest) pending h.now (actions_in es) refl (sym actions) (let few = fine.actions in omega (arith, actions, few)) types h.none h.one in
+      let s = spot_at R x place (pushed_all a.values temps) between calls h.now L in
+      let after : Taken = record { values = all_parts a.values; action = t_is.action; cells = temps ++ rest; pending = pending } in
+      let asks = called_is routine count place r a temps rest calls pending h.now L.machine fine.is fine.callable same t_is in
+      let all = flat_types a.values (parameter_types r.params) types in
+      let B = HoldsValue R x scope size t in
+      let there = value_place R x scope size t next temps between calls pending in
+      let runs_is : runs_script host.table routine ≡ is_execute_script r.role = ap runs_script_in fine.is in
+      sim_chosen host R B there q.left c s (value_credits c) (runs_script host.table routine) (λ u. executed here (all_parts a.values) u) (λ u. asked here routine a u) q
+      (λ yes.
+      let runs = engine_runs.runs routine r fine.is (sym runs_is ∙ yes) in
+      let parts = name_and_target (all_parts a.values) (all ∙ runs.0) in
+      let frame = (spot_at R x (place + 5) temps between calls pending L).running in
+      let asked_is : machine_asked routine count r s.running after ≡ Some (Executes parts.0 parts.1 frame) =
+          ap (λ (b : Bool). if b then executed_act (all_parts a.values) frame else Some (Asks routine (all_parts a.values) t_is.action frame)) (sym runs_is ∙ yes)
+          ∙ ap (λ vs. executed_act vs frame) parts.2 in
+      let takes = acted host x listed place (ops.Action routine count) (pushed_all a.values temps ++ rest) calls h.now L.machine (Executes parts.0 parts.1 frame) begins (asks ∙ asked_is) in
+      let nothing : cell_types x.layout.structs t ≡ [] = fine.result ∙ runs.1 in
+      subst (λ vs. Sim host R B there q.left c s (value_credits c) (executed here vs q)) (sym parts.2)
+      (sim_map host R (HoldsValue R x scope size Void) (value_place R x scope size Void next temps between calls pending) B there q.left c s (value_credits c) (value_credits c) (execute parts.0 parts.1 q)
+      (executes parts.0 parts.1 scope size next c q L temps between calls pending s le refl refl held
+      (takes ∙ ap (λ k. Some (Goes (machine_executed host parts.0 parts.1 (spot_at R x k temps between calls pending L).running s))) goes))
+      (λ v u g. ((g.0 ∙ sym nothing, g.1), took_none host u.left (8 + c) (spot_at R x next (pushed v temps) between calls pending g.1)))))
+      (λ no.
+      let frame = (spot_at R x (place + 5) temps between calls pending L).running in
+      let asked_is : machine_asked routine count r s.running after ≡ Some (Asks routine (all_parts a.values) t_is.action frame) =
+          ap (λ (b : Bool). if b then executed_act (all_parts a.values) frame else Some (Asks routine (all_parts a.values) t_is.action frame)) (sym runs_is ∙ no) in
+      let gives = host.engine routine x.self (all_parts a.values) t_is.action L.machine in
+      let means = engine host.table tables routine (source_call x.self (all_parts a.values) a.action) q.world in
+      let value_is = engine_runs.value routine x.self (all_parts a.values) t_is.action a.action L.machine q.world t_is.alike L.alike in
+      let world_is = engine_runs.world routine x.self (all_parts a.values) t_is.action a.action L.machine q.world t_is.alike L.alike in
+      let K : Kept R x scope size q.globals q.locals means.world = record {
+        under = L.under;
+        frame = L.frame;
+        machine = gives.world;
+        under_size = L.under_size;
+        frame_size = L.frame_size;
+        under_held = L.under_held;
+        frame_held = L.frame_held;
+        global_values = L.global_values;
+        local_values = L.local_values;
+        alike = world_is;
+      } in
+      let takes = acted host x listed place (ops.Action routine count) (pushed_all a.values temps ++ rest) calls h.now L.machine (Asks routine (all_parts a.values) t_is.action frame) begins (asks ∙ asked_is)
+          ∙ ap (λ u. Some (Goes u)) (answer_is gives.value place (place + 5) (pushed_all a.values temps ++ rest) (temps ++ rest) calls h.now pending L.machine gives.world)
+          ∙ ap (λ o. Some (Goes (at x (place + 5) (pushed (parts_in o) (temps ++ rest)) calls pending gives.world))) value_is
+          ∙ ap (λ k. Some (Goes (at x k (pushed (parts_in means.value) (temps ++ rest)) calls pending gives.world))) goes
+          ∙ ap (λ cells. Some (Goes (at x next cells calls pending gives.world))) (sym (pushed_over (parts_in means.value) temps rest)) in
+      let typed = engine_runs.typed routine r x.self (all_parts a.values) a.action q.world fine.is all ∙ sym fine.result in
+      sim_paid host R B there c s (value_credits c) q
+      (λ u. answered (engine host.table tables routine (record { caller = x.self; values = all_parts a.values; action = a.action }) u.world) u) L.alike
+      (λ m left. (spot_at R x next (pushed (parts_in means.value) temps) between calls pending K, takes,
+      ((typed, K), took_less host (8 + c) (omega arith) (took_none host m (15 + c) (spot_at R x next (pushed (parts_in means.value) temps) between calls pending K))))))
+
+  values_are : (es : TypedExprs) (scope : List ℕ) → AreFine host.table functions x scope es → ValuesAreValues es
+  values_are no_typed scope h = tt
+  values_are (more_typed e es) scope h = (h.1.value, values_are es scope h.2)
+
+  pub engine_call_runs : (t : Ty) (routine : ℕ) (es : TypedExprs) (ks : List Const) → EngineRuns host R tables → CapturesCarry host R x tables execute functions → ExecutesRun host R x execute most → EachRuns es
+      → Runs (call t (Engine routine) es ks)
+  engine_call_runs t routine es ks engine_runs captures executes each scope size n depth place c p K temps between calls pending fine stands deep le held =
+      let within = depth + 0 + length ks in
+      let first = constants ks ++ emit_all x.layout n within es in
+      let last = Instruction (ops.Action routine (count_arguments es + length ks)) ∷ [] in
+      let regroup : constants ks ++ (emit_all x.layout n within es ++ last) ≡ first ++ last = sym (append_assoc (constants ks) (emit_all x.layout n within es) last) in
+      let lines = subst (LinesStand x.code x.places place) regroup stands in
+      let b = both_stand x.code x.places place first last lines in
+      let middle = place + lines_size first in
+      let next = place + lines_size (constants ks ++ (emit_all x.layout n within es ++ last)) in
+      let goes : middle + 5 ≡ next = let h = sizes first last in let k = ap lines_size regroup in omega (arith, h, k) in
+      let call_fine = fine.0 in
+      let values = values_are es scope fine.1 in
+      let actions = actions_fit es ks call_fine.routine.params call_fine.arguments values in
+      let few = call_fine.actions in
+      sim_bind host R (HasCall scope size es ks pending) (call_place scope size es ks middle temps between calls pending)
+      (HoldsValue R x scope size t) (value_place R x scope size t next temps between calls pending)
+      p.left c (spot_at R x place temps between calls pending K) (λ b. c) (value_credits c) (arguments_of es ks p) (λ a q. engine_called here routine a q)
+      (call_arguments_run es ks captures each scope size n within place c p K temps between calls pending fine.1 b.0 (omega (arith, deep)) le held (omega (arith, actions, few)))
+      (λ a q h less. action_runs t routine es ks engine_runs executes call_fine values scope size middle next c a q temps between calls pending h b.1.0 goes (omega (arith, less, le)) held)

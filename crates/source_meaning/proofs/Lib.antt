@@ -7,6 +7,9 @@ mod Operators
 mod Variables
 mod Places
 mod Expressions
-mod Induction
 mod Calls
 mod EngineCalls
+mod Induction
+mod Captures
+mod Statements
+mod AllStatements

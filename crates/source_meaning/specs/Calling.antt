@@ -1,7 +1,7 @@
 -- What is asked of the engine, of captured states and of scripts that are run, so that the code of calls does what the calls mean.
 use Rattle.std.specs.Prelude.{◌≡◌, ◌≤◌, ℕ, ◌+◌, Bool, true, false, List, [], ◌∷◌, ◌++◌, map, length, Option, None, Some, slice_get}
 use Rattle.nwq_value.specs.declared.value.Ty.{Ty}
-use Rattle.nwq_value.specs.declared.value.Ty.TheVariants.{Void}
+use Rattle.nwq_value.specs.declared.value.Ty.TheVariants.{Void, Text, Object}
 use Rattle.nwq_value.specs.declared.value.Value.{Value}
 use Rattle.nwq_value.specs.declared.engine.Const.{Const}
 use Rattle.nwq_value.specs.declared.engine.Routine.{Routine}
@@ -23,6 +23,7 @@ use Rattle.engine_rows.specs.Engine.{engine}
 use Rattle.engine_rows.specs.Alike.{Alike, OptionAlike}
 use Rattle.engine_rows.specs.AlikeLaws.{call}
 use Rattle.machine_step.specs.Cells.{value_types}
+use Rattle.machine_step.specs.Calls.{is_execute_script}
 use Rattle.machine_step.specs.Machine.{Goes, step, executed}
 use Rattle.source_meaning.specs.Evaluation.{Deferred, Progress}
 use Rattle.source_meaning.specs.Expressions.{parts_in, deferred}
@@ -74,6 +75,9 @@ pub record EngineRuns (host : MachineHost) (R : Saved → Deferred → Type 0) (
       → Alike R (host.engine n caller values a w).world (engine host.table tables n (call caller values d) v).world
   pub typed : (n : ℕ) (r : Routine) (caller : ℕ) (values : List Value) (d : Option Deferred) (v : World Deferred) → slice_get host.table.routines n ≡ Some r
       → value_types values ≡ argument_types r.params → value_types (parts_in (engine host.table tables n (call caller values d) v).value) ≡ result_types r.result
+  -- the routine that runs another script takes a name and a target, and gives nothing
+  pub runs : (n : ℕ) (r : Routine) → slice_get host.table.routines n ≡ Some r → is_execute_script r.role ≡ true
+      → (argument_types r.params ≡ Text ∷ Object ∷ []) × (result_types r.result ≡ [])
 
 -- A state that is captured before the code of a call carries the call, with the variables as they are.
 abbrev pub CapturesCarry : MachineHost → (Saved → Deferred → Type 0) → Site → CellLookup → Executor → List Function → Type 0

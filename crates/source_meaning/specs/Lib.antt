@@ -12,3 +12,5 @@ pub mod Simulation
 pub mod Carries
 pub mod Calling
 pub mod Laws
+pub mod FineStatements
+pub mod StatementsRun

@@ -1,5 +1,6 @@
 //! Laws about the definitions, each the contract of a function that does nothing.
-ghost use Rattle.source_meaning.specs.Laws.{ExpressionsRun};
+ghost use Rattle.source_meaning.specs.Laws.{CapturesAreCarried, EngineCallsRun, EngineStatementsRun};
+ghost use Rattle.source_meaning.specs.Laws.{ExpressionsRun, StatementsRun};
 
 use machine_step::equality_is_tested;
 
@@ -8,6 +9,29 @@ use machine_step::equality_is_tested;
 /// each step has an instruction of its own, and at most 16 instructions stand for a step.
 pub fn expressions_run()
     ensures runs { ExpressionsRun }
+{
+    equality_is_tested();
+}
+
+/// The code of an expression that calls the engine does what the expression means: its arguments
+/// from the last one to the first, with the defaults, and an action that is captured on the way.
+pub fn engine_calls_run()
+    ensures runs { EngineCallsRun }
+{
+    equality_is_tested();
+}
+
+/// A state that is captured in a listed script carries the deferred call, with the values that the
+/// globals and the variables in sight have then.
+pub fn captures_are_carried()
+    ensures carried { CapturesAreCarried }
+{}
+
+/// The code of a statement without `switch` does what the statement means: declarations, loops with
+/// `break` and `continue`, and `return`.
+pub fn statements_run()
+    ensures quiet { StatementsRun }
+    ensures engine { EngineStatementsRun }
 {
     equality_is_tested();
 }

@@ -1,13 +1,20 @@
-//! What scripts mean, and that their code does it.
+//! What scripts mean, and that the code of their expressions and statements does it.
 //!
 //! There is no code here that runs. The meaning is told by cases on the typed tree of `nss_typing`:
 //! `specs/Values.antt` says what values and operators are, `specs/Evaluation.antt` how an
 //! evaluation takes its steps, `specs/Expressions.antt`, `specs/Statements.antt` and
 //! `specs/Scripts.antt` what each node of a typed unit comes to, in the world of `engine_rows`. It
-//! knows variables and values, and neither stack nor place nor jump. The page on it is
-//! docs/MEANING.md.
+//! knows variables and values, and neither stack nor place nor jump. `specs/Plays.antt` has the play
+//! of source texts, which is the play of `play_steps`.
+//!
+//! That code does what is meant is said by `specs/Ledger.antt` (what the machine has done where an
+//! evaluation has come to some point), `specs/Kept.antt` (where values stand), `specs/Carries.antt`
+//! (which captured states carry which commands), and for expressions, calls and statements by
+//! `specs/Simulation.antt`, `specs/Calling.antt` and `specs/StatementsRun.antt`. The functions of
+//! this crate do nothing: each is a law, whose contract is proved of the definitions. The page on
+//! all of this is docs/MEANING.md, which also says what isn't proved yet.
 #![tactic(auto)]
 
 mod laws;
 
-pub use laws::expressions_run;
+pub use laws::{captures_are_carried, engine_calls_run, expressions_run, statements_run};
