@@ -11,7 +11,7 @@ ghost use Rattle.nwq_work.specs.Parts.{Refuses};
 ghost use Rattle.nwq_work.specs.Counts.{Counted, Tallies, TalliesEnd, Refusing, StopsSource};
 ghost use Rattle.nwq_sources.specs.Reading.{HasFault, HasTree, IsCounted};
 ghost use Rattle.nwq_sources.specs.Scripts.{plain_script, plain_answer};
-ghost use Rattle.nwq_sources.specs.Units.{spot_at, at_spot, at_token, unit_of};
+ghost use Rattle.nwq_sources.specs.Units.{spot_at, spot_of, at_spot, at_token, unit_of};
 
 use crate::script::Script;
 use nss_include::{GatherFault, Spot, Unit, gather};
@@ -69,7 +69,13 @@ fn refuse_spot<S: Sink>(alloc: Global, cause: Cause, spot: &Spot, out: &mut S) -
 
 /// Refuses a unit at token `i`, or, where there is none, at the end of the script's file.
 #[tactic(auto, using(crate::proofs::UnitLemmas::cut_refuses))]
-fn refuse_token<S: Sink>(alloc: Global, unit: &Unit, i: usize, cause: Cause, out: &mut S) -> Status
+pub fn refuse_token<S: Sink>(
+    alloc: Global,
+    unit: &Unit,
+    i: usize,
+    cause: Cause,
+    out: &mut S,
+) -> Status
     requires { 0 < length unit.now.files }
     ensures does { IsTrue S.tells →
         Refuses (at_spot cause (spot_at unit.now.files unit.now.tokens i))
@@ -80,6 +86,23 @@ fn refuse_token<S: Sink>(alloc: Global, unit: &Unit, i: usize, cause: Cause, out
     ensures only { Refusing Status.Script result }
 {
     match spot_of(alloc, unit, i) {
+        Err(NoMemory) => Status::Memory,
+        Ok(spot) => refuse_spot(alloc, cause, &spot, out),
+    }
+}
+
+/// Refuses a unit at the end of the script's own file.
+#[tactic(auto, using(crate::proofs::UnitLemmas::cut_refuses))]
+pub fn refuse_end<S: Sink>(alloc: Global, unit: &Unit, cause: Cause, out: &mut S) -> Status
+    requires { 0 < length unit.now.files }
+    ensures does { IsTrue S.tells → Refuses (at_spot cause (spot_of unit.now.files None))
+        (S.taken out.old) result (S.taken out.new) }
+    ensures counts { (faults absences longs : ℕ) → TalliesEnd result
+        (Counted faults absences longs (S.faults out.old))
+        (Counted faults absences longs (S.faults out.new)) }
+    ensures only { Refusing Status.Script result }
+{
+    match unit.spot(alloc, 0, unit.file_bytes(0).len() as u32) {
         Err(NoMemory) => Status::Memory,
         Ok(spot) => refuse_spot(alloc, cause, &spot, out),
     }
