@@ -3,6 +3,7 @@ use Rattle.std.specs.Prelude.{ℕ, Bool, true, false, nat_lt, List, length, ◌+
 use Rattle.nwq_value.specs.Limits.{file_limit}
 use Rattle.nwq_value.specs.Engine.{EngineTable}
 use Rattle.nss_typing.specs.Typed.{TypedUnit}
+use Rattle.nss_include.specs.declared.file.Source.{Source}
 use Rattle.code_emission.specs.Units.{unit_file}
 use Rattle.nwq_work.specs.declared.cause.Cause.TheVariants as cause
 use Rattle.nwq_work.specs.Work.{Work, Gives, Refused, then, Finished}
@@ -13,17 +14,17 @@ use Rattle.nwq_files.specs.Texts.{done_line}
 use Rattle.nwq_scripts.specs.Typings.{typed_in}
 
 -- a unit whose file would be too large is refused at the end of the script's own file
-abbrev pub file_by : PlainScript → Bool → List ℕ → Work (List ℕ)
-file_by script true file = Refused (at_spot cause.Large (spot_of script.files None))
-file_by script false file = Gives file
+abbrev pub file_by : List Source → Bool → List ℕ → Work (List ℕ)
+file_by files true file = Refused (at_spot cause.Large (spot_of files None))
+file_by files false file = Gives file
 
--- the file of a script's typed unit
-unfoldable pub file_in : PlainScript → TypedUnit → Work (List ℕ)
-file_in script unit = file_by script (nat_lt file_limit (length (unit_file unit))) (unit_file unit)
+-- the file of a typed unit, whose tokens stand in these files
+unfoldable pub file_in : List Source → TypedUnit → Work (List ℕ)
+file_in files unit = file_by files (nat_lt file_limit (length (unit_file unit))) (unit_file unit)
 
 -- the file of a script under a header
 unfoldable pub compiled_in : EngineTable → PlainScript → Work (List ℕ)
-compiled_in header script = then (typed_in header script) (file_in script)
+compiled_in header script = then (typed_in header script) (file_in script.files)
 
 unfoldable pub compiled_named : EngineTable → List ℕ → Work (List ℕ)
 compiled_named header name = then (unit_of name) (compiled_in header)
