@@ -1,6 +1,6 @@
 -- Acts of frames.
-use Rattle.std.proofs.Common.{arith, ◌≡◌, ◌≢◌, ◌<◌, ◌≤◌, ◌+◌, ◌-◌, ℕ, zero, suc, List, [], ◌∷◌, ◌++◌, length, take, drop, reverse, Option, Some, None, Bool, true, false, sym, ap, ◌∙◌, refl, subst}
-use Rattle.std.specs.Prelude.{ℤ, slice_get, ◌&&◌, nat_le, if◌then◌else◌}
+use Rattle.std.proofs.Common.{arith, ◌≡◌, ◌≢◌, ◌<◌, ◌≤◌, ◌-◌, ℕ, List, [], ◌∷◌, ◌++◌, length, drop, reverse, Option, Some, None, Bool, true, false, sym, ap, ◌∙◌, refl, subst}
+use Rattle.std.specs.Prelude.{slice_get, ◌&&◌, nat_le, if◌then◌else◌}
 use Rattle.std.specs.Option.{option_map, option_and_then}
 use Rattle.std.proofs.lemmas.List.{reverse-append, length-drop}
 use Rattle.std.proofs.lemmas.Bool.Decides.{nat_tests}
@@ -8,13 +8,13 @@ use Rattle.nwq_value.specs.declared.value.Value.{Value}
 use Rattle.saved_state.specs.declared.cell.Cell.{Cell}
 use Rattle.saved_state.specs.declared.cell.Cell.TheVariants.{Value as Holds, Base}
 use Rattle.saved_state.specs.declared.saved.Saved.{Saved}
-use Rattle.saved_state.specs.Cells.{StackView, cells_beneath, captured}
+use Rattle.saved_state.specs.Cells.{cells_beneath, captured}
 use Rattle.ncs_code.specs.Plain.{PlainOp, RestoreBp, StoreState}
 use Rattle.ncs_code.specs.File.{resume_place}
 use Rattle.stack_shape.specs.Ranges.{cell_count}
 use Rattle.machine_step.specs.Frames.{Frame}
 use Rattle.machine_step.specs.Cells.{values_on, zero_on_top}
-use Rattle.machine_step.specs.Act.{Act, Moves, Divides, Returns, cells_after, is_division, moved, next_place, place_after, restored, returned, stored, stored_cells}
+use Rattle.machine_step.specs.Act.{Moves, Divides, cells_after, is_division, moved, next_place, place_after, restored, stored, stored_cells}
 use Rattle.machine_frames.specs.Tops.{bp_on_top}
 use Rattle.machine_frames.proofs.RunLemmas.{length_is}
 

@@ -1,25 +1,23 @@
 -- Ranges of cells, as instructions read and write them.
-use Rattle.std.proofs.Common.{arith, ◌≡◌, ◌≢◌, ◌<◌, ◌≤◌, ◌+◌, ◌-◌, ℕ, zero, suc, List, [], ◌∷◌, ◌++◌, length, map, take, drop, Option, Some, None, Bool, true, false, sym, ap, ◌∙◌, refl, subst, length-append}
-use Rattle.std.specs.Prelude.{ℤ, slice_get, slice_set, IfSome, IsTrue, ◌↔◌, not, ◌&&◌, nat_le, nat_lt, if◌then◌else◌}
+use Rattle.std.proofs.Common.{arith, ◌≡◌, ◌≢◌, ◌<◌, ◌≤◌, ◌+◌, ◌-◌, ℕ, zero, suc, List, [], ◌∷◌, ◌++◌, length, take, drop, Option, Some, None, Bool, true, false, sym, ap, ◌∙◌, refl, subst, length-append}
+use Rattle.std.specs.Prelude.{ℤ, slice_get, slice_set, IfSome, IsTrue, ◌↔◌, ◌&&◌, nat_le, nat_lt, if◌then◌else◌}
 use Rattle.std.specs.Option.{option_map, option_and_then}
 use Rattle.std.proofs.lemmas.Option.{slice_get_within}
-use Rattle.std.proofs.lemmas.List.{take-append-drop, length-take-le, length-drop, drop-drop, drop_at, set_split}
+use Rattle.std.proofs.lemmas.List.{length-take-le, length-drop, drop_at, set_split}
 use Rattle.std.proofs.lemmas.Bool.Decides.{nat_tests}
 use Rattle.nwq_value.specs.declared.value.Ty.{Ty}
 use Rattle.nwq_value.specs.declared.value.Value.{Value}
 use Rattle.nwq_value.specs.declared.value.Value.TheVariants.{Int, Text, Object, Effect, Event}
-use Rattle.nwq_value.specs.Values.{type_of}
 use Rattle.nwq_value.specs.Roles.{tys_eq}
 use Rattle.saved_state.specs.declared.cell.Cell.{Cell}
 use Rattle.saved_state.specs.declared.cell.Cell.TheVariants.{Value as Holds, Base}
 use Rattle.saved_state.specs.Cells.{StackView}
 use Rattle.stack_shape.specs.declared.range.CellRange.{CellRange}
 use Rattle.stack_shape.specs.Ranges.{cell_count, depth_of, range_of, range_at}
-use Rattle.stack_shape.specs.StackEffects.{type_of_both}
 use Rattle.machine_step.specs.Operators.{as_int}
 use Rattle.machine_step.specs.Values.{value_eq, values_eq}
-use Rattle.machine_step.specs.Cells.{values_on, values_at, value_types, with_values, overwritten, from_bp, range_pushed, values_written, range_written, int_written, int_changed, values_dropped, values_kept, range_kept, runs_eq, runs_compared, pair_eq, pair_compared}
-use Rattle.machine_step.specs.Act.{bp_range, compared}
+use Rattle.machine_step.specs.Cells.{values_on, values_at, value_types, with_values, overwritten, from_bp, range_pushed, values_written, range_written, int_written, int_changed, values_dropped, values_kept, runs_eq, runs_compared, pair_eq, pair_compared}
+use Rattle.machine_step.specs.Act.{bp_range}
 use Rattle.machine_step.specs.Laws.{EqualityIsTested}
 use Rattle.machine_frames.specs.Tops.{HasValue, HasInt, AreValues, answer_of, int_at, reached}
 use Rattle.machine_frames.proofs.Popped.{on_int_has, on_int_is}

@@ -1,13 +1,10 @@
 -- Tests of the top cell, and where jumps lead.
-use Rattle.std.proofs.Common.{arith, ◌≡◌, ◌≢◌, ◌<◌, ◌≤◌, ◌+◌, ◌-◌, ℕ, zero, suc, List, [], ◌∷◌, length, Option, Some, None, Bool, true, false, sym, ap, ◌∙◌, refl}
-use Rattle.std.specs.Prelude.{ℤ, pos, negsuc, slice_get, int_lt, unsigned_abs}
-use Rattle.nwq_value.specs.declared.value.Value.{Value}
+use Rattle.std.proofs.Common.{arith, ◌≡◌, List, [], ◌∷◌, length, Some, false, ap, refl}
+use Rattle.std.specs.Prelude.{slice_get}
 use Rattle.nwq_value.specs.declared.value.Value.TheVariants.{Int, Text, Object, Effect, Event}
 use Rattle.saved_state.specs.declared.cell.Cell.{Cell}
 use Rattle.saved_state.specs.declared.cell.Cell.TheVariants.{Value as Holds, Base}
-use Rattle.ncs_code.specs.File.{jump_place}
 use Rattle.machine_step.specs.Cells.{zero_on_top}
-use Rattle.machine_step.specs.Operators.{is_zero}
 
 -- the top cell decides
 pub top_tells : (cells : List Cell) (c : Cell) → slice_get cells 0 ≡ Some c → zero_on_top cells ≡ zero_on_top (c ∷ [])

@@ -1,5 +1,5 @@
 -- The operations of one and of two ints by name.
-use Rattle.std.specs.Prelude.{ℕ, ℤ, Bool, true, false}
+use Rattle.std.specs.Prelude.{ℤ, Bool, true, false}
 use Rattle.machine_step.specs.Operators.{both, either, negation, bits_and, bits_or, bits_xor, complement, shift_left, shift_right, shift_right_unsigned, sum, difference, product, quotient, remainder, opposite, less, less_or_equal, greater, greater_or_equal}
 use Rattle.machine_step.specs.Act.{one_less, one_more}
 use Rattle.machine_frames.specs.declared.operation.Binary.{Binary}

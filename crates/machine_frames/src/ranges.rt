@@ -1,5 +1,6 @@
 //! Instructions that name cells by offsets and sizes.
-ghost use Rattle.std.specs.Prelude.{◌≡◌, ◌≢◌, ◌+◌, ◌≤◌, ◌<◌, ◌^◌, None, Some, OnOk, IfSome, drop, length};
+ghost use Rattle.std.specs.Prelude.{◌≡◌, ◌≢◌, ◌+◌, ◌≤◌, ◌<◌, ◌^◌, None, Some, OnOk, IfSome, drop};
+ghost use Rattle.std.specs.Prelude.{length};
 ghost use Rattle.machine_step.specs.Act.{bp_range, compared};
 ghost use Rattle.machine_step.specs.Cells.{int_changed, pair_compared, range_kept, range_pushed};
 ghost use Rattle.machine_step.specs.Cells.{range_written, runs_compared, values_dropped};

@@ -1,7 +1,9 @@
-ghost use Rattle.std.specs.Prelude.{◌≡◌, ◌≤◌, ℕ, length, IsTrue, IfErr, None};
+ghost use Rattle.std.specs.Prelude.{◌≡◌, ◌≤◌, ◌<◌, ℕ, length, IsTrue, IfOk, IfErr, None};
 ghost use Rattle.nwq_value.specs.Limits.{file_limit};
 ghost use Rattle.nwq_outside.specs.Outside.{Contents};
 ghost use Rattle.gff_bytes.specs.File.{open_fault};
+ghost use Rattle.gff_tree.specs.Whole.{plain_gff};
+ghost use Rattle.gff_tree.specs.Count.{node_count};
 ghost use Rattle.nwq_work.specs.Work.{Does};
 ghost use Rattle.nwq_work.specs.Counts.{Counted, Tallies, Refusing, StopsArea};
 ghost use Rattle.nwq_files.specs.Trees.{open_flaw, tree_flaw, tree_in, tree_named, plain_answer};
@@ -52,6 +54,8 @@ fn tree_of_view<S: Sink>(
     ensures counts { (faults absences longs : ℕ) → Tallies result
         (Counted faults absences longs (S.faults out.old))
         (Counted faults absences longs (S.faults out.new)) }
+    // The structs of a tree can be numbered by 32 bits.
+    ensures few { IfOk result (λ tree. node_count (plain_gff tree).top < 4294967296) }
     ensures only { IfErr result (Refusing Status.Area) }
 {
     match read(alloc, view) {
@@ -78,6 +82,8 @@ fn tree_of_bytes<S: Sink>(
     ensures counts { (faults absences longs : ℕ) → Tallies result
         (Counted faults absences longs (S.faults out.old))
         (Counted faults absences longs (S.faults out.new)) }
+    // The structs of a tree can be numbered by 32 bits.
+    ensures few { IfOk result (λ tree. node_count (plain_gff tree).top < 4294967296) }
     ensures only { IfErr result (Refusing Status.Area) }
 {
     match View::open(bytes) {
@@ -102,6 +108,8 @@ pub fn read_tree<F: Files, S: Sink>(
         (Counted (F.faults files.new) (F.absences files.new)
         (F.longs files.new) (S.faults out.new)) }
     ensures same { F.contents files.new ≡ F.contents files.old }
+    // The structs of the tree can be numbered by 32 bits.
+    ensures few { IfOk result (λ tree. node_count (plain_gff tree).top < 4294967296) }
     ensures only { IfErr result StopsArea }
 {
     match read_file(alloc, name, files, out) {

@@ -2,8 +2,9 @@
 use Rattle.nwq_work.specs.declared.status.Status.{Status}
 use Rattle.nwq_work.specs.declared.status.Status.TheVariants.{Done, Words, Script, Code, Area, Limit, Missing, Fault, Memory, Long}
 use Rattle.nwq_work.specs.Counts.{StopsSource, StopsCode, StopsArea}
-use Rattle.nwq_top.specs.Words.{Form, Run, Tree, Disassemble, Assemble, NoForm}
-use Rattle.nwq_top.specs.Endings.{EndsRun, EndsTree, EndsCode, ComesOf, StopsCommand}
+use Rattle.nwq_checks.specs.Checks.{StopsCheck}
+use Rattle.nwq_top.specs.Words.{Form, Run, Tree, Check, Disassemble, Assemble, NoForm}
+use Rattle.nwq_top.specs.Endings.{EndsRun, EndsTree, EndsCheck, EndsCode, ComesOf, StopsCommand}
 
 source_ends : (status : Status) → StopsSource status → EndsRun status
 source_ends Done h = tt
@@ -41,9 +42,22 @@ code_ends Fault h = h
 code_ends Memory h = h
 code_ends Long h = h
 
+check_ends : (status : Status) → StopsCheck status → EndsCheck status
+check_ends Done h = tt
+check_ends Words h = h
+check_ends Script h = h
+check_ends Code h = h
+check_ends Area h = h
+check_ends Limit h = h
+check_ends Missing h = h
+check_ends Fault h = h
+check_ends Memory h = h
+check_ends Long h = h
+
 pub stops_come : (form : Form) (status : Status) → StopsCommand form status → ComesOf form status
 stops_come (Run header script) status h = source_ends status h
 stops_come (Tree file) status h = area_ends status h
+stops_come (Check header file) status h = check_ends status h
 stops_come (Disassemble file to) status h = code_ends status h
 stops_come (Assemble file to) status h = code_ends status h
 stops_come NoForm status h = h

@@ -2,6 +2,7 @@
 use Rattle.std.proofs.Common.{◌++◌, ℕ, List}
 use Rattle.nwq_value.specs.Engine.{EngineTable}
 use Rattle.nwq_work.specs.Outcomes.{IsSure, agree, prefixes, sure_then, sure_puts}
+use Rattle.nwq_checks.specs.Laws.{SureChecks}
 use Rattle.nwq_files.specs.Laws.{SureCommands}
 use Rattle.nwq_sources.specs.Headers.{table_of}
 use Rattle.nwq_sources.specs.Units.{PlainScript, unit_of}
@@ -13,11 +14,11 @@ use Rattle.nwq_sums.specs.Meaning.{prints_of}
 use Rattle.nwq_sums.specs.Emission.{code_of}
 use Rattle.nwq_sums.specs.Laws.{OneBuilding, OneRun}
 use Rattle.nwq_top.specs.Texts.{trace_text, end_text}
-use Rattle.nwq_top.specs.Words.{Form, Run, Tree, Disassemble, Assemble, NoForm}
+use Rattle.nwq_top.specs.Words.{Form, Run, Tree, Check, Disassemble, Assemble, NoForm}
 use Rattle.nwq_top.specs.Command.{plays, play_by, play_of, runs_under, runs, work_of}
 use Rattle.nwq_top.specs.Laws.{OneOutcome, Prefixes}
 
-module _ (tables : SureTables) (units : SureUnits) (built : OneBuilding) (run : OneRun) (files : SureCommands) where
+module _ (tables : SureTables) (units : SureUnits) (built : OneBuilding) (run : OneRun) (files : SureCommands) (checks : SureChecks) where
   sure_plays : (printer : ℕ) (sums : List (List ℕ)) → IsSure (plays printer sums)
   unfolding plays
   sure_plays printer sums = (
@@ -44,6 +45,7 @@ module _ (tables : SureTables) (units : SureUnits) (built : OneBuilding) (run : 
   sure_work : (form : Form) → IsSure (work_of form)
   sure_work (Run header script) = sure_runs header script
   sure_work (Tree file) = files.tree file
+  sure_work (Check header file) = checks header file
   sure_work (Disassemble file to) = files.disassembled file to
   sure_work (Assemble file to) = files.assembled file to
   sure_work NoForm = tt

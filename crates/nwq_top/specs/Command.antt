@@ -14,9 +14,10 @@ use Rattle.nwq_sums.specs.Printing.{Builds}
 use Rattle.nwq_sums.specs.Meaning.{prints_of}
 use Rattle.nwq_sums.specs.Emission.{code_of}
 use Rattle.nwq_sums.specs.Machine.{RunsTo}
+use Rattle.nwq_checks.specs.Checks.{checks}
 use Rattle.nwq_files.specs.Commands.{shows_tree, disassembles, assembles}
 use Rattle.nwq_top.specs.Texts.{trace_text, end_text}
-use Rattle.nwq_top.specs.Words.{Form, Run, Tree, Disassemble, Assemble, NoForm}
+use Rattle.nwq_top.specs.Words.{Form, Run, Tree, Check, Disassemble, Assemble, NoForm}
 
 -- The play of sums: the text is what they mean, with the number of instructions that the machine executes on their code.
 unfoldable pub plays : ℕ → List (List ℕ) → Work Finished
@@ -42,6 +43,7 @@ runs header script = then (table_of header) (runs_under script)
 abbrev pub work_of : Form → Work Finished
 work_of (Run header script) = runs header script
 work_of (Tree file) = shows_tree file
+work_of (Check header file) = checks header file
 work_of (Disassemble file to) = disassembles file to
 work_of (Assemble file to) = assembles file to
 work_of NoForm = Refused refusal.NoForm
@@ -50,6 +52,7 @@ work_of NoForm = Refused refusal.NoForm
 abbrev pub MayWrite : Form → List ℕ → Type 0
 MayWrite (Run header script) name = ⊥
 MayWrite (Tree file) name = ⊥
+MayWrite (Check header file) name = ⊥
 MayWrite (Disassemble file to) name = name ≡ to
 MayWrite (Assemble file to) name = name ≡ to
 MayWrite NoForm name = ⊥

@@ -4,7 +4,8 @@ use Rattle.nwq_work.specs.declared.status.Status.{Status}
 use Rattle.nwq_work.specs.declared.status.Status.TheVariants.{Done, Words, Fault, Memory}
 use Rattle.nwq_work.specs.Work.{Finished}
 use Rattle.nwq_work.specs.Counts.{StopsSource, StopsCode, StopsArea}
-use Rattle.nwq_top.specs.Words.{Form, Run, Tree, Disassemble, Assemble, NoForm}
+use Rattle.nwq_checks.specs.Checks.{StopsCheck}
+use Rattle.nwq_top.specs.Words.{Form, Run, Tree, Check, Disassemble, Assemble, NoForm}
 
 abbrev pub EndsWords : Status → Type 0
 EndsWords Words = Unit {0}
@@ -20,6 +21,10 @@ abbrev pub EndsTree : Status → Type 0
 EndsTree Done = Unit {0}
 EndsTree status = StopsArea status
 
+abbrev pub EndsCheck : Status → Type 0
+EndsCheck Done = Unit {0}
+EndsCheck status = StopsCheck status
+
 abbrev pub EndsCode : Status → Type 0
 EndsCode Done = Unit {0}
 EndsCode status = StopsCode status
@@ -28,6 +33,7 @@ EndsCode status = StopsCode status
 abbrev pub ComesOf : Form → Status → Type 0
 ComesOf (Run header script) status = EndsRun status
 ComesOf (Tree file) status = EndsTree status
+ComesOf (Check header file) status = EndsCheck status
 ComesOf (Disassemble file to) status = EndsCode status
 ComesOf (Assemble file to) status = EndsCode status
 ComesOf NoForm status = EndsWords status
@@ -36,6 +42,7 @@ ComesOf NoForm status = EndsWords status
 abbrev pub StopsCommand : Form → Status → Type 0
 StopsCommand (Run header script) status = StopsSource status
 StopsCommand (Tree file) status = StopsArea status
+StopsCommand (Check header file) status = StopsCheck status
 StopsCommand (Disassemble file to) status = StopsCode status
 StopsCommand (Assemble file to) status = StopsCode status
 StopsCommand NoForm status = EndsWords status

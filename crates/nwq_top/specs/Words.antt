@@ -7,6 +7,7 @@ use Rattle.nwq_top.specs.declared.words.Command.TheVariants as command
 pub data Form : Type 0 where
   Run : (header script : List ℕ) → Form  -- the header is a file's name, or `-` for the built-in one
   Tree : (file : List ℕ) → Form
+  Check : (header file : List ℕ) → Form  -- the header as for `Run`
   Disassemble : (file to : List ℕ) → Form
   Assemble : (file to : List ℕ) → Form
   NoForm : Form
@@ -39,8 +40,9 @@ one_word_form command file = cond (bytes_eq command (codes "tree")) (Tree file) 
 abbrev pub two_word_form : List ℕ → List ℕ → List ℕ → Form
 two_word_form command first second =
     cond (bytes_eq command (codes "run")) (run_form first second)
+    (cond (bytes_eq command (codes "check")) (Check first second)
     (cond (bytes_eq command (codes "dis")) (Disassemble first second)
-    (cond (bytes_eq command (codes "asm")) (Assemble first second) NoForm))
+    (cond (bytes_eq command (codes "asm")) (Assemble first second) NoForm)))
 
 -- which command these words are, by the first of them
 abbrev pub command_form : List (List ℕ) → Form
@@ -57,5 +59,6 @@ abbrev pub IsCommand : Command → Form → Type 0
 IsCommand command.NoForm form = form ≡ NoForm
 IsCommand (command.Run header script) form = form ≡ Run header.now script.now
 IsCommand (command.Tree file) form = form ≡ Tree file.now
+IsCommand (command.Check header file) form = form ≡ Check header.now file.now
 IsCommand (command.Disassemble file to) form = form ≡ Disassemble file.now to.now
 IsCommand (command.Assemble file to) form = form ≡ Assemble file.now to.now

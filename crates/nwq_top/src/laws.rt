@@ -2,6 +2,7 @@
 
 ghost use Rattle.nwq_top.specs.Laws.{OneOutcome, Prefixes};
 
+use nwq_checks::laws::one_check;
 use nwq_files::laws::one_file;
 use nwq_sources::laws::one_source;
 use nwq_sums::laws::{one_building, one_run};
@@ -14,6 +15,7 @@ pub fn one_outcome()
 {
     one_source();
     one_file();
+    one_check();
     one_building();
     one_run();
 }

@@ -14,6 +14,8 @@ pub enum Command<'a> {
     Run(&'a str, &'a str),
     /// Shows the tree of a GFF file.
     Tree(&'a str),
+    /// Checks the second, a file of bytecode, under the header that the first names.
+    Check(&'a str, &'a str),
     /// Writes the text of the first, a file of bytecode, under the second name.
     Disassemble(&'a str, &'a str),
     /// Writes the file of the first, an assembler text, under the second name.
@@ -90,6 +92,8 @@ fn two_words<'a>(command: &str, first: &'a str, second: &'a str) -> Command<'a>
 {
     if is_word(command, "run") {
         run_words(first, second)
+    } else if is_word(command, "check") {
+        Command::Check(first, second)
     } else if is_word(command, "dis") {
         Command::Disassemble(first, second)
     } else if is_word(command, "asm") {

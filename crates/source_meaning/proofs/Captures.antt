@@ -59,7 +59,7 @@ captures_are_carried s host tables execute script self waiting l same is scope s
     let both = length-append temps K.frame in
     let size_is : length (temps ++ K.frame) ≡ depth = omega (arith, both, frame, deep) in
     let top : take depth cells ≡ temps ++ K.frame =
-        ap (take depth) (sym (append_assoc temps K.frame (between ++ K.under))) ∙ take_at (temps ++ K.frame) (between ++ K.under) depth size_is in
+    ap (take depth) (sym (append_assoc temps K.frame (between ++ K.under))) ∙ take_at (temps ++ K.frame) (between ++ K.under) depth size_is in
     let locals_are : reverse (reverse (take depth cells)) ≡ temps ++ K.frame = reverse-reverse (take depth cells) ∙ top in
     let whole = above_globals temps K.frame between K.under in
     let long = ap length whole in

@@ -106,7 +106,6 @@ constant_alone const.InvalidObject self = refl
 
 module _ (host : MachineHost) (R : Saved → Deferred → Type 0) (tested : EqualityIsTested) (x : Site) (listed : IsListed host x)
     (tables : CellLookup) (execute : Executor) (functions : List Function) (caller : Caller) (most : ℕ) where
-
   abbrev here : Running
   here = running_at host tables execute x
 
@@ -142,8 +141,11 @@ module _ (host : MachineHost) (R : Saved → Deferred → Type 0) (tested : Equa
       let s = spot_at R x middle (pushed_all vs base) between calls pending L in
       let t = spot_at R x next (Holds (constant_value x.self k) ∷ pushed_all vs base) between calls pending L in
       sim_paid host R (HasDefaults scope size (k ∷ ks)) (defaults_place scope size (k ∷ ks) next base between calls pending) c s (λ vs. c) q (λ r. Gives ((constant_value x.self k ∷ []) ∷ vs) r) L.alike
-      (λ m left. (t, constant_goes host x listed middle next k (pushed_all vs base ++ (L.frame ++ (between ++ L.under))) calls pending L.machine b.1.0 goes,
-      ((ap (λ ts. ts ∷ all_types vs) (constant_alone k x.self) ∙ ap (λ ts. (const_type k ∷ []) ∷ ts) h.0, L), took_less host c (omega arith) (took_none host m (15 + c) t)))))
+      (λ m left. (
+        t,
+        constant_goes host x listed middle next k (pushed_all vs base ++ (L.frame ++ (between ++ L.under))) calls pending L.machine b.1.0 goes,
+        ((ap (λ ts. ts ∷ all_types vs) (constant_alone k x.self) ∙ ap (λ ts. (const_type k ∷ []) ∷ ts) h.0, L), took_less host c (omega arith) (took_none host m (15 + c) t)),
+      )))
 
   -- ---- states that are captured
 
@@ -175,14 +177,14 @@ module _ (host : MachineHost) (R : Saved → Deferred → Type 0) (tested : Equa
       let size_is : depth ≡ length (temps ++ K.frame) = omega (arith, deep, frame, count) in
       let locals_there : values_on depth cells ≡ Some top.0 = ap (values_on depth) (sym (append_assoc temps K.frame (between ++ K.under))) ∙ ap (λ k. values_on k ((temps ++ K.frame) ++ (between ++ K.under))) size_is ∙ top.1 in
       let kept : stored_cells x.layout.globals depth f ≡ Some saved =
-          ap (λ (b : Bool). if b then option_and_then (λ _. option_map (λ _. saved) (values_on depth cells)) (values_on x.layout.globals (cells_beneath x.bp cells)) else None) reached
-          ∙ ap (option_and_then (λ _. option_map (λ _. saved) (values_on depth cells))) globals_there
-          ∙ ap (option_map (λ _. saved)) locals_there in
+      ap (λ (b : Bool). if b then option_and_then (λ _. option_map (λ _. saved) (values_on depth cells)) (values_on x.layout.globals (cells_beneath x.bp cells)) else None) reached
+      ∙ ap (option_and_then (λ _. option_map (λ _. saved) (values_on depth cells))) globals_there
+      ∙ ap (option_map (λ _. saved)) locals_there in
       let next = at x (place + 10) cells calls (saved ∷ pending) K.machine in
       let act_is : stored (bytes_of x.layout.globals) (bytes_of depth) f ≡ Some (Moves next.running) =
-          ap (option_and_then (λ g. option_and_then (λ l. option_map (λ s. Moves (record f { place = place + 10; pending = s ∷ pending })) (stored_cells g l f)) (cell_count (bytes_of depth)))) (count_of x.layout.globals)
-          ∙ ap (option_and_then (λ l. option_map (λ s. Moves (record f { place = place + 10; pending = s ∷ pending })) (stored_cells x.layout.globals l f))) (count_of depth)
-          ∙ ap (option_map (λ s. Moves (record f { place = place + 10; pending = s ∷ pending }))) kept in
+      ap (option_and_then (λ g. option_and_then (λ l. option_map (λ s. Moves (record f { place = place + 10; pending = s ∷ pending })) (stored_cells g l f)) (cell_count (bytes_of depth)))) (count_of x.layout.globals)
+      ∙ ap (option_and_then (λ l. option_map (λ s. Moves (record f { place = place + 10; pending = s ∷ pending })) (stored_cells x.layout.globals l f))) (count_of depth)
+      ∙ ap (option_map (λ s. Moves (record f { place = place + 10; pending = s ∷ pending }))) kept in
       acted host x listed place (ops.StoreState (bytes_of x.layout.globals) (bytes_of depth)) cells calls pending K.machine (Moves next.running) begins act_is
 
   -- ---- arguments
@@ -215,9 +217,10 @@ module _ (host : MachineHost) (R : Saved → Deferred → Type 0) (tested : Equa
   none_run : ArgumentsRun no_typed
   none_run scope size n depth place c a p K base between calls pending fine stands deep le held few =
       let same : place ≡ place + 0 = omega arith in
-      let s = spot_at R x place (pushed_all a.values base) between calls pending K in
-      (record { types = refl; kept = K; now = pending; none = λ h. (refl, refl); one = λ h. absurd (omega (arith, h)) },
-      subst (λ k. Took host p.left c s p.left c (spot_at R x k (pushed_all a.values base) between calls pending K)) same (took_none host p.left c s))
+      let s = spot_at R x place (pushed_all a.values base) between calls pending K in (
+        record { types = refl; kept = K; now = pending; none = λ h. (refl, refl); one = λ h. absurd (omega (arith, h)) },
+        subst (λ k. Took host p.left c s p.left c (spot_at R x k (pushed_all a.values base) between calls pending K)) same (took_none host p.left c s),
+      )
 
   -- one argument more, behind the others
   value_case : (e : TypedExpr) (es : TypedExprs) (a b : Arguments) (pending : List Saved) (scope : List ℕ) (size label depth place next c : ℕ) (q : Progress) (h : HasArguments scope size es a pending b q)
@@ -232,17 +235,18 @@ module _ (host : MachineHost) (R : Saved → Deferred → Type 0) (tested : Equa
       q.left c (spot_at R x place (pushed_all b.values base) between calls h.now h.kept) (value_credits c) (λ d. c) (eval here caller e q) (λ parts r. Gives (with_argument parts b) r)
       (re scope size label depth place c q h.kept (pushed_all b.values base) between calls h.now fine stands deep le (held_all b.values base held))
       (λ v r k less.
-      let counts : (m : ℕ) → actions_in (more_typed e es) ≡ m → actions_in es ≡ m = λ m is. no_more (actions_in es) ∙ ap (λ (t : Bool). one_if t + actions_in es) (sym plain) ∙ is in
-      (record {
-        types = ap (λ ts. ts ∷ all_types b.values) k.0 ∙ ap (λ ts. cell_types x.layout.structs (type_of e) ∷ ts) h.types
-            ∙ ap (λ (t : Bool). with_types t (cell_types x.layout.structs (type_of e)) (types_before x.layout.structs es (all_types a.values))) (sym plain);
-        kept = k.1;
-        now = h.now;
-        none = λ is. h.none (counts 0 is);
-        one = λ is. h.one (counts 1 is);
-      },
-      subst (λ j. Took host r.left (8 + c) (spot_at R x (place + lines_size (emit x.layout label depth e)) (pushed v (pushed_all b.values base)) between calls h.now k.1) r.left c (spot_at R x j (pushed v (pushed_all b.values base)) between calls h.now k.1)) goes
-      (took_less host c (omega arith) (took_none host r.left (8 + c) (spot_at R x (place + lines_size (emit x.layout label depth e)) (pushed v (pushed_all b.values base)) between calls h.now k.1)))))
+      let counts : (m : ℕ) → actions_in (more_typed e es) ≡ m → actions_in es ≡ m = λ m is. no_more (actions_in es) ∙ ap (λ (t : Bool). one_if t + actions_in es) (sym plain) ∙ is in (
+        record {
+          types = ap (λ ts. ts ∷ all_types b.values) k.0 ∙ ap (λ ts. cell_types x.layout.structs (type_of e) ∷ ts) h.types
+              ∙ ap (λ (t : Bool). with_types t (cell_types x.layout.structs (type_of e)) (types_before x.layout.structs es (all_types a.values))) (sym plain);
+          kept = k.1;
+          now = h.now;
+          none = λ is. h.none (counts 0 is);
+          one = λ is. h.one (counts 1 is);
+        },
+        subst (λ j. Took host r.left (8 + c) (spot_at R x (place + lines_size (emit x.layout label depth e)) (pushed v (pushed_all b.values base)) between calls h.now k.1) r.left c (spot_at R x j (pushed v (pushed_all b.values base)) between calls h.now k.1)) goes
+            (took_less host c (omega arith) (took_none host r.left (8 + c) (spot_at R x (place + lines_size (emit x.layout label depth e)) (pushed v (pushed_all b.values base)) between calls h.now k.1))),
+      ))
     where
       no_more : (n : ℕ) → n ≡ 0 + n
       no_more n = omega arith
@@ -276,22 +280,26 @@ module _ (host : MachineHost) (R : Saved → Deferred → Type 0) (tested : Equa
       sim_paid host R (HasArguments scope size (more_typed e es) a pending) (arguments_place scope size (more_typed e es) a next base between calls pending) c s0 (λ d. c) q
       (λ r. Gives (record b { action = Some (deferred here e r) }) r) K.alike
       (λ m left.
-      let r = record q { left = m } in
-      (s1, first,
-      (record {
-        types = h.types ∙ ap (λ (t : Bool). with_types t (cell_types x.layout.structs (type_of e)) (types_before x.layout.structs es (all_types a.values))) (sym action);
-        kept = K;
-        now = saved ∷ h.now;
-        none = λ is. absurd (let all = ap (λ (t : Bool). one_if t + actions_in es) action in omega (arith, all, is));
-        one = λ is. record {
-          saved = saved;
-          deferred = deferred here e r;
-          is = refl;
-          stored = ap (λ ps. saved ∷ ps) before.1;
-          carries = captures scope size label depth place e r K temps between fine with_retn deep temps_held full;
-        };
-      },
-      took_cost host m (15 + c) c s1 s2 (omega arith) second)))
+      let r = record q { left = m } in (
+        s1,
+        first,
+        (
+          record {
+            types = h.types ∙ ap (λ (t : Bool). with_types t (cell_types x.layout.structs (type_of e)) (types_before x.layout.structs es (all_types a.values))) (sym action);
+            kept = K;
+            now = saved ∷ h.now;
+            none = λ is. absurd (let all = ap (λ (t : Bool). one_if t + actions_in es) action in omega (arith, all, is));
+            one = λ is. record {
+              saved = saved;
+              deferred = deferred here e r;
+              is = refl;
+              stored = ap (λ ps. saved ∷ ps) before.1;
+              carries = captures scope size label depth place e r K temps between fine with_retn deep temps_held full;
+            };
+          },
+          took_cost host m (15 + c) c s1 s2 (omega arith) second,
+        ),
+      ))
 
   -- ---- all arguments
 
@@ -385,10 +393,11 @@ module _ (host : MachineHost) (R : Saved → Deferred → Type 0) (tested : Equa
       sim_map host R (HasArguments scope size es a pending) (arguments_place scope size es a (middle + lines_size second) base between calls pending)
       (HasCall scope size es ks pending) (call_place scope size es ks next base between calls pending) q.left c (spot_at R x middle (pushed_all vs base) between calls pending h.1) (λ d. c) (λ d. c) (evals here caller es a q)
       (arguments_run es captures each scope size n depth middle c a q h.1 base between calls pending fine b.1 (omega (arith, count, types, defaults_size, deep)) (omega (arith, less, le)) held few)
-      (λ d r g.
-      (record { types = g.types ∙ ap (types_before x.layout.structs es) h.0; kept = g.kept; now = g.now; none = g.none; one = g.one },
-      subst (λ j. Took host r.left c (spot_at R x (middle + lines_size second) (pushed_all d.values base) between calls g.now g.kept) r.left c (spot_at R x j (pushed_all d.values base) between calls g.now g.kept)) goes
-      (took_none host r.left c (spot_at R x (middle + lines_size second) (pushed_all d.values base) between calls g.now g.kept)))))
+      (λ d r g. (
+        record { types = g.types ∙ ap (types_before x.layout.structs es) h.0; kept = g.kept; now = g.now; none = g.none; one = g.one },
+        subst (λ j. Took host r.left c (spot_at R x (middle + lines_size second) (pushed_all d.values base) between calls g.now g.kept) r.left c (spot_at R x j (pushed_all d.values base) between calls g.now g.kept)) goes
+            (took_none host r.left c (spot_at R x (middle + lines_size second) (pushed_all d.values base) between calls g.now g.kept)),
+      )))
 
   -- ---- engine calls
 
@@ -443,8 +452,8 @@ module _ (host : MachineHost) (R : Saved → Deferred → Type 0) (tested : Equa
       let f = (at x place (pushed_all a.values temps ++ rest) calls now world).running in
       let test : (is_callable r && (count == length r.params)) ≡ true = ap (λ (b : Bool). b && (count == length r.params)) callable ∙ (Decides-eqb count (length r.params)).1 same in
       let took : arguments r count (pushed_all a.values temps ++ rest) now ≡ Some (record { values = all_parts a.values; action = t.action; cells = temps ++ rest; pending = pending }) =
-          ap (λ (b : Bool). if b then taken r.params (pushed_all a.values temps ++ rest) now else None) test
-          ∙ ap (λ cells. taken r.params cells now) (all_over a.values temps rest) ∙ t.is in
+      ap (λ (b : Bool). if b then taken r.params (pushed_all a.values temps ++ rest) now else None) test
+      ∙ ap (λ cells. taken r.params cells now) (all_over a.values temps rest) ∙ t.is in
       ap (option_and_then (λ q. option_and_then (machine_asked routine count q f) (arguments q count (pushed_all a.values temps ++ rest) now))) is
       ∙ ap (option_and_then (machine_asked routine count r f)) took
 
@@ -476,8 +485,8 @@ module _ (host : MachineHost) (R : Saved → Deferred → Type 0) (tested : Equa
       let parts = name_and_target (all_parts a.values) (all ∙ runs.0) in
       let frame = (spot_at R x (place + 5) temps between calls pending L).running in
       let asked_is : machine_asked routine count r s.running after ≡ Some (Executes parts.0 parts.1 frame) =
-          ap (λ (b : Bool). if b then executed_act (all_parts a.values) frame else Some (Asks routine (all_parts a.values) t_is.action frame)) (sym runs_is ∙ yes)
-          ∙ ap (λ vs. executed_act vs frame) parts.2 in
+      ap (λ (b : Bool). if b then executed_act (all_parts a.values) frame else Some (Asks routine (all_parts a.values) t_is.action frame)) (sym runs_is ∙ yes)
+      ∙ ap (λ vs. executed_act vs frame) parts.2 in
       let takes = acted host x listed place (ops.Action routine count) (pushed_all a.values temps ++ rest) calls h.now L.machine (Executes parts.0 parts.1 frame) begins (asks ∙ asked_is) in
       let nothing : cell_types x.layout.structs t ≡ [] = fine.result ∙ runs.1 in
       subst (λ vs. Sim host R B there q.left c s (value_credits c) (executed here vs q)) (sym parts.2)
@@ -488,7 +497,7 @@ module _ (host : MachineHost) (R : Saved → Deferred → Type 0) (tested : Equa
       (λ no.
       let frame = (spot_at R x (place + 5) temps between calls pending L).running in
       let asked_is : machine_asked routine count r s.running after ≡ Some (Asks routine (all_parts a.values) t_is.action frame) =
-          ap (λ (b : Bool). if b then executed_act (all_parts a.values) frame else Some (Asks routine (all_parts a.values) t_is.action frame)) (sym runs_is ∙ no) in
+      ap (λ (b : Bool). if b then executed_act (all_parts a.values) frame else Some (Asks routine (all_parts a.values) t_is.action frame)) (sym runs_is ∙ no) in
       let gives = host.engine routine x.self (all_parts a.values) t_is.action L.machine in
       let means = engine host.table tables routine (source_call x.self (all_parts a.values) a.action) q.world in
       let value_is = engine_runs.value routine x.self (all_parts a.values) t_is.action a.action L.machine q.world t_is.alike L.alike in
@@ -506,15 +515,18 @@ module _ (host : MachineHost) (R : Saved → Deferred → Type 0) (tested : Equa
         alike = world_is;
       } in
       let takes = acted host x listed place (ops.Action routine count) (pushed_all a.values temps ++ rest) calls h.now L.machine (Asks routine (all_parts a.values) t_is.action frame) begins (asks ∙ asked_is)
-          ∙ ap (λ u. Some (Goes u)) (answer_is gives.value place (place + 5) (pushed_all a.values temps ++ rest) (temps ++ rest) calls h.now pending L.machine gives.world)
-          ∙ ap (λ o. Some (Goes (at x (place + 5) (pushed (parts_in o) (temps ++ rest)) calls pending gives.world))) value_is
-          ∙ ap (λ k. Some (Goes (at x k (pushed (parts_in means.value) (temps ++ rest)) calls pending gives.world))) goes
-          ∙ ap (λ cells. Some (Goes (at x next cells calls pending gives.world))) (sym (pushed_over (parts_in means.value) temps rest)) in
+      ∙ ap (λ u. Some (Goes u)) (answer_is gives.value place (place + 5) (pushed_all a.values temps ++ rest) (temps ++ rest) calls h.now pending L.machine gives.world)
+      ∙ ap (λ o. Some (Goes (at x (place + 5) (pushed (parts_in o) (temps ++ rest)) calls pending gives.world))) value_is
+      ∙ ap (λ k. Some (Goes (at x k (pushed (parts_in means.value) (temps ++ rest)) calls pending gives.world))) goes
+      ∙ ap (λ cells. Some (Goes (at x next cells calls pending gives.world))) (sym (pushed_over (parts_in means.value) temps rest)) in
       let typed = engine_runs.typed routine r x.self (all_parts a.values) a.action q.world fine.is all ∙ sym fine.result in
       sim_paid host R B there c s (value_credits c) q
       (λ u. answered (engine host.table tables routine (record { caller = x.self; values = all_parts a.values; action = a.action }) u.world) u) L.alike
-      (λ m left. (spot_at R x next (pushed (parts_in means.value) temps) between calls pending K, takes,
-      ((typed, K), took_less host (8 + c) (omega arith) (took_none host m (15 + c) (spot_at R x next (pushed (parts_in means.value) temps) between calls pending K))))))
+      (λ m left. (
+        spot_at R x next (pushed (parts_in means.value) temps) between calls pending K,
+        takes,
+        ((typed, K), took_less host (8 + c) (omega arith) (took_none host m (15 + c) (spot_at R x next (pushed (parts_in means.value) temps) between calls pending K))),
+      )))
 
   values_are : (es : TypedExprs) (scope : List ℕ) → AreFine host.table functions x scope es → ValuesAreValues es
   values_are no_typed scope h = tt

@@ -87,7 +87,6 @@ ends a b c = omega arith
 
 module _ (host : MachineHost) (R : Saved → Deferred → Type 0) (tested : EqualityIsTested) (x : Site) (listed : IsListed host x)
     (tables : CellLookup) (execute : Executor) (functions : List Function) (caller : Caller) (most : ℕ) where
-
   abbrev Runs : TypedExpr → Type 0
   Runs e = ExprRuns host R x tables execute functions caller most e
 
@@ -108,9 +107,11 @@ module _ (host : MachineHost) (R : Saved → Deferred → Type 0) (tested : Equa
       let next = place + lines_size (constant k ∷ []) in
       sim_paid host R (HoldsValue R x scope size (const_type k)) (value_place R x scope size (const_type k) next temps between calls pending)
       c (spot_at R x place temps between calls pending K) (value_credits c) p (λ q. Gives (constant_value x.self k ∷ []) q) K.alike
-      (λ m e. (spot_at R x next (Holds (constant_value x.self k) ∷ temps) between calls pending K,
-      constant_goes host x listed place next k (temps ++ (K.frame ++ (between ++ K.under))) calls pending K.machine stands.0 (omega arith),
-      ((constant_typed x.layout.structs x.self k, K), took_less host (8 + c) (omega arith) (took_none host m (15 + c) (spot_at R x next (Holds (constant_value x.self k) ∷ temps) between calls pending K)))))
+      (λ m e. (
+        spot_at R x next (Holds (constant_value x.self k) ∷ temps) between calls pending K,
+        constant_goes host x listed place next k (temps ++ (K.frame ++ (between ++ K.under))) calls pending K.machine stands.0 (omega arith),
+        ((constant_typed x.layout.structs x.self k, K), took_less host (8 + c) (omega arith) (took_none host m (15 + c) (spot_at R x next (Holds (constant_value x.self k) ∷ temps) between calls pending K))),
+      ))
 
   pub local_runs : (t : Ty) (i : ℕ) → Runs (name t (Local i))
   local_runs t i scope size n depth place c p K temps between calls pending fine stands deep le held =
@@ -119,10 +120,12 @@ module _ (host : MachineHost) (R : Saved → Deferred → Type 0) (tested : Equa
       let typed : value_types v ≡ cell_types x.layout.structs t = K.local_values.typed i fine.0 ∙ ap (cell_types x.layout.structs) fine.1 in
       sim_paid host R (HoldsValue R x scope size t) (value_place R x scope size t next temps between calls pending)
       c (spot_at R x place temps between calls pending K) (value_credits c) p (λ q. Gives (q.locals i) q) K.alike
-      (λ m e. (spot_at R x next (pushed v temps) between calls pending K,
-      frame_reads host R x listed place next depth (position x.layout i) (length (cell_types x.layout.structs t)) temps between calls pending K v (K.local_values.value i fine.0) stands.0 (omega arith)
-      (typed_length v (cell_types x.layout.structs t) typed) fine.2 deep,
-      ((typed, K), took_less host (8 + c) (omega arith) (took_none host m (15 + c) (spot_at R x next (pushed v temps) between calls pending K)))))
+      (λ m e. (
+        spot_at R x next (pushed v temps) between calls pending K,
+        frame_reads host R x listed place next depth (position x.layout i) (length (cell_types x.layout.structs t)) temps between calls pending K v (K.local_values.value i fine.0) stands.0 (omega arith)
+            (typed_length v (cell_types x.layout.structs t) typed) fine.2 deep,
+        ((typed, K), took_less host (8 + c) (omega arith) (took_none host m (15 + c) (spot_at R x next (pushed v temps) between calls pending K))),
+      ))
 
   pub global_runs : (t : Ty) (i : ℕ) → Runs (name t (Global i))
   global_runs t i scope size n depth place c p K temps between calls pending fine stands deep le held =
@@ -131,20 +134,26 @@ module _ (host : MachineHost) (R : Saved → Deferred → Type 0) (tested : Equa
       let typed : value_types v ≡ cell_types x.layout.structs t = K.global_values.typed i fine.0 ∙ ap (cell_types x.layout.structs) fine.1 in
       sim_paid host R (HoldsValue R x scope size t) (value_place R x scope size t next temps between calls pending)
       c (spot_at R x place temps between calls pending K) (value_credits c) p (λ q. Gives (q.globals i) q) K.alike
-      (λ m e. (spot_at R x next (pushed v temps) between calls pending K,
-      base_reads host R x listed place next depth (position x.layout i) (length (cell_types x.layout.structs t)) temps between calls pending K v (K.global_values.value i fine.0) stands.0 (omega arith)
-      (typed_length v (cell_types x.layout.structs t) typed) fine.2 fine.3,
-      ((typed, K), took_less host (8 + c) (omega arith) (took_none host m (15 + c) (spot_at R x next (pushed v temps) between calls pending K)))))
+      (λ m e. (
+        spot_at R x next (pushed v temps) between calls pending K,
+        base_reads host R x listed place next depth (position x.layout i) (length (cell_types x.layout.structs t)) temps between calls pending K v (K.global_values.value i fine.0) stands.0 (omega arith)
+            (typed_length v (cell_types x.layout.structs t) typed) fine.2 fine.3,
+        ((typed, K), took_less host (8 + c) (omega arith) (took_none host m (15 + c) (spot_at R x next (pushed v temps) between calls pending K))),
+      ))
 
   pub constant_runs : (t : Ty) (k : Const) → Runs (name t (IsConst k))
   constant_runs t k scope size n depth place c p K temps between calls pending fine stands deep le held =
       let next = place + lines_size (constant k ∷ []) in
       sim_paid host R (HoldsValue R x scope size t) (value_place R x scope size t next temps between calls pending)
       c (spot_at R x place temps between calls pending K) (value_credits c) p (λ q. Gives (constant_value x.self k ∷ []) q) K.alike
-      (λ m e. (spot_at R x next (Holds (constant_value x.self k) ∷ temps) between calls pending K,
-      constant_goes host x listed place next k (temps ++ (K.frame ++ (between ++ K.under))) calls pending K.machine stands.0 (omega arith),
-      ((constant_typed x.layout.structs x.self k ∙ ap (cell_types x.layout.structs) fine, K),
-      took_less host (8 + c) (omega arith) (took_none host m (15 + c) (spot_at R x next (Holds (constant_value x.self k) ∷ temps) between calls pending K)))))
+      (λ m e. (
+        spot_at R x next (Holds (constant_value x.self k) ∷ temps) between calls pending K,
+        constant_goes host x listed place next k (temps ++ (K.frame ++ (between ++ K.under))) calls pending K.machine stands.0 (omega arith),
+        (
+          (constant_typed x.layout.structs x.self k ∙ ap (cell_types x.layout.structs) fine, K),
+          took_less host (8 + c) (omega arith) (took_none host m (15 + c) (spot_at R x next (Holds (constant_value x.self k) ∷ temps) between calls pending K)),
+        ),
+      ))
 
   -- ---- code that is equal
 
@@ -193,9 +202,11 @@ module _ (host : MachineHost) (R : Saved → Deferred → Type 0) (tested : Equa
       c (spot_at R x place temps between calls pending K) (value_credits c) p (λ q. Gives (read_at whole.where_is count q) q) K.alike
       (λ m left.
       let q = record p { left = m } in
-      let got = spot_reads host R x listed scope size t whole.where_is whole.fine q place (place + lines_size line) depth temps between calls pending K lines.0 (goes_on place depth count (home_of x scope whole.where_is)) deep in
-      (spot_at R x (place + lines_size line) (pushed (read_at whole.where_is count q) temps) between calls pending K, got.goes,
-      ((got.typed, K), took_less host (8 + c) (omega arith) (took_none host m (15 + c) (spot_at R x (place + lines_size line) (pushed (read_at whole.where_is count q) temps) between calls pending K))))))
+      let got = spot_reads host R x listed scope size t whole.where_is whole.fine q place (place + lines_size line) depth temps between calls pending K lines.0 (goes_on place depth count (home_of x scope whole.where_is)) deep in (
+        spot_at R x (place + lines_size line) (pushed (read_at whole.where_is count q) temps) between calls pending K,
+        got.goes,
+        ((got.typed, K), took_less host (8 + c) (omega arith) (took_none host m (15 + c) (spot_at R x (place + lines_size line) (pushed (read_at whole.where_is count q) temps) between calls pending K))),
+      )))
       stands))
 
   member_out : (t : Ty) (e : TypedExpr) (before : ℕ) → is_place e ≡ false → Runs e → Runs (member t e before)
@@ -222,13 +233,16 @@ module _ (host : MachineHost) (R : Saved → Deferred → Type 0) (tested : Equa
       (λ v q h less.
       sim_paid host R (HoldsValue R x scope size t) (value_place R x scope size t next temps between calls pending) (8 + c) (spot_at R x middle (pushed v temps) between calls pending h.1) (value_credits c)
       q (λ r. Gives (parts_of before count v) r) h.1.alike
-      (λ m left.
-      (spot_at R x next (pushed (parts_of before count v) temps) between calls pending h.1,
-      over_frame middle next v (parts_of before count v) temps (h.1.frame ++ (between ++ h.1.under)) calls pending h.1.machine
-      (cut_goes host x listed middle next total before count v (temps ++ (h.1.frame ++ (between ++ h.1.under))) calls pending h.1.machine b.1.0 goes
-      (typed_length v (cell_types x.layout.structs (type_of e)) h.0) fine.1.inside),
-      ((part_types_are (cell_types x.layout.structs (type_of e)) before (cell_types x.layout.structs t) v fine.1 h.0, h.1),
-      took_less host (8 + c) (omega arith) (took_none host m (15 + (8 + c)) (spot_at R x next (pushed (parts_of before count v) temps) between calls pending h.1)))))))
+      (λ m left. (
+        spot_at R x next (pushed (parts_of before count v) temps) between calls pending h.1,
+        over_frame middle next v (parts_of before count v) temps (h.1.frame ++ (between ++ h.1.under)) calls pending h.1.machine
+            (cut_goes host x listed middle next total before count v (temps ++ (h.1.frame ++ (between ++ h.1.under))) calls pending h.1.machine b.1.0 goes
+            (typed_length v (cell_types x.layout.structs (type_of e)) h.0) fine.1.inside),
+        (
+          (part_types_are (cell_types x.layout.structs (type_of e)) before (cell_types x.layout.structs t) v fine.1 h.0, h.1),
+          took_less host (8 + c) (omega arith) (took_none host m (15 + (8 + c)) (spot_at R x next (pushed (parts_of before count v) temps) between calls pending h.1)),
+        ),
+      ))))
       stands)
 
   member_case : (t : Ty) (e : TypedExpr) (before : ℕ) (b : Bool) → is_place e ≡ b → Runs e → Runs (member t e before)
@@ -262,13 +276,16 @@ module _ (host : MachineHost) (R : Saved → Deferred → Type 0) (tested : Equa
       let rest = h.1.frame ++ (between ++ h.1.under) in
       sim_paid host R (HoldsValue R x scope size t) (value_place R x scope size t next temps between calls pending) (8 + c) (spot_at R x middle (pushed v temps) between calls pending h.1) (value_credits c)
       q (λ r. Gives (one_int (prefixed o) v) r) h.1.alike
-      (λ m left.
-      (spot_at R x next (pushed (one_int (prefixed o) v) temps) between calls pending h.1,
-      over_frame middle next v (one_int (prefixed o) v) temps rest calls pending h.1.machine
-      (one_goes host x listed middle next op (prefixed o) v (temps ++ rest) calls pending h.1.machine b.1.0 (acts (at x middle (pushed v (temps ++ rest)) calls pending h.1.machine).running)
-      (after (pushed v (temps ++ rest))) (ap (λ d. d && zero_on_top (pushed v (temps ++ rest))) undivided) (passes middle (pushed v (temps ++ rest)) ∙ goes) ints),
-      ((one_typed (prefixed o) v ints ∙ ap (cell_types x.layout.structs) (sym is_int), h.1),
-      took_less host (8 + c) (omega arith) (took_none host m (15 + (8 + c)) (spot_at R x next (pushed (one_int (prefixed o) v) temps) between calls pending h.1))))))
+      (λ m left. (
+        spot_at R x next (pushed (one_int (prefixed o) v) temps) between calls pending h.1,
+        over_frame middle next v (one_int (prefixed o) v) temps rest calls pending h.1.machine
+            (one_goes host x listed middle next op (prefixed o) v (temps ++ rest) calls pending h.1.machine b.1.0 (acts (at x middle (pushed v (temps ++ rest)) calls pending h.1.machine).running)
+            (after (pushed v (temps ++ rest))) (ap (λ d. d && zero_on_top (pushed v (temps ++ rest))) undivided) (passes middle (pushed v (temps ++ rest)) ∙ goes) ints),
+        (
+          (one_typed (prefixed o) v ints ∙ ap (cell_types x.layout.structs) (sym is_int), h.1),
+          took_less host (8 + c) (omega arith) (took_none host m (15 + (8 + c)) (spot_at R x next (pushed (one_int (prefixed o) v) temps) between calls pending h.1)),
+        ),
+      )))
 
   minus_runs : (t : Ty) (e : TypedExpr) → Runs e → Runs (prefix t pre.Minus e)
   unfolding act cells_after
@@ -308,7 +325,7 @@ module _ (host : MachineHost) (R : Saved → Deferred → Type 0) (tested : Equa
       let of_int = subst (λ (u : Ty). IsSpot x scope u s) int found.fine in
       let code = Instruction (op depth h) ∷ Instruction (read x.layout depth 1 h) ∷ [] in
       let is = ap (λ o. at_home (op depth) o ++ emit x.layout n depth e) found.home_is
-          ∙ ap (λ ls. Instruction (op depth h) ∷ ls) (place_code x.layout n depth e h there found.home_is ∙ ap (λ (u : Ty). Instruction (read x.layout depth (length (cell_types x.layout.structs u)) h) ∷ []) int) in
+      ∙ ap (λ ls. Instruction (op depth h) ∷ ls) (place_code x.layout n depth e h there found.home_is ∙ ap (λ (u : Ty). Instruction (read x.layout depth (length (cell_types x.layout.structs u)) h) ∷ []) int) in
       let middle = place + op_size (op depth h) in
       let next = place + lines_size code in
       let first : place + 6 ≡ middle = ap (λ k. place + k) (sym (six depth h)) in
@@ -326,11 +343,15 @@ module _ (host : MachineHost) (R : Saved → Deferred → Type 0) (tested : Equa
       let put = spot_counts host R x listed f op in_frame in_globals scope size s of_int q place middle depth temps between calls pending K lines.0 first deep in
       let got = spot_reads host R x listed scope size IntTy s of_int (written_at s new q) middle next depth temps between calls pending put.kept lines.1.0 second deep in
       let same = read_written x scope IntTy s K.under K.frame q new 1 of_int K.global_values K.local_values (typed_length new (IntTy ∷ []) new_typed) in
-      let goes = got.goes ∙ ap (λ v. Some (Goes (spot_at R x next (pushed v temps) between calls pending put.kept))) same in
-      (spot_at R x middle temps between calls pending put.kept, put.goes,
-      ((new_typed ∙ ap (cell_types x.layout.structs) (sym is_int), put.kept),
-      subst (λ k. Took host m (15 + c) (spot_at R x middle temps between calls pending put.kept) k (8 + c) (spot_at R x next (pushed new temps) between calls pending put.kept)) (sym (written_left s new q))
-      (took_cost host m (15 + c) (8 + c) (spot_at R x middle temps between calls pending put.kept) (spot_at R x next (pushed new temps) between calls pending put.kept) (omega arith) goes))))))
+      let goes = got.goes ∙ ap (λ v. Some (Goes (spot_at R x next (pushed v temps) between calls pending put.kept))) same in (
+        spot_at R x middle temps between calls pending put.kept,
+        put.goes,
+        (
+          (new_typed ∙ ap (cell_types x.layout.structs) (sym is_int), put.kept),
+          subst (λ k. Took host m (15 + c) (spot_at R x middle temps between calls pending put.kept) k (8 + c) (spot_at R x next (pushed new temps) between calls pending put.kept)) (sym (written_left s new q))
+              (took_cost host m (15 + c) (8 + c) (spot_at R x middle temps between calls pending put.kept) (spot_at R x next (pushed new temps) between calls pending put.kept) (omega arith) goes),
+        ),
+      ))))
 
   -- the old int is given
   count_after : (f : ℤ → ℤ) (op : ℕ → Home → PlainOp) → InFrameCounts host R x listed f op → InGlobalsCounts host R x listed f op → SixBytes op
@@ -345,7 +366,7 @@ module _ (host : MachineHost) (R : Saved → Deferred → Type 0) (tested : Equa
       let of_int = subst (λ (u : Ty). IsSpot x scope u s) int found.fine in
       let code = Instruction (read x.layout depth 1 h) ∷ Instruction (op (depth + 1) h) ∷ [] in
       let is = ap (λ o. emit x.layout n depth e ++ at_home (op (depth + 1)) o) found.home_is
-          ∙ ap (λ ls. ls ++ Instruction (op (depth + 1) h) ∷ []) (place_code x.layout n depth e h there found.home_is ∙ ap (λ (u : Ty). Instruction (read x.layout depth (length (cell_types x.layout.structs u)) h) ∷ []) int) in
+      ∙ ap (λ ls. ls ++ Instruction (op (depth + 1) h) ∷ []) (place_code x.layout n depth e h there found.home_is ∙ ap (λ (u : Ty). Instruction (read x.layout depth (length (cell_types x.layout.structs u)) h) ∷ []) int) in
       let middle = place + op_size (read x.layout depth 1 h) in
       let next = place + lines_size code in
       let first : place + 8 ≡ middle = goes_on place depth 1 h ∙ alone place (op_size (read x.layout depth 1 h)) in
@@ -362,11 +383,15 @@ module _ (host : MachineHost) (R : Saved → Deferred → Type 0) (tested : Equa
       let got = spot_reads host R x listed scope size IntTy s of_int q place middle depth temps between calls pending K lines.0 first deep in
       let size_is = pushed_length old temps in
       let one = typed_length old (IntTy ∷ []) got.typed in
-      let put = spot_counts host R x listed f op in_frame in_globals scope size s of_int q middle next (depth + 1) (pushed old temps) between calls pending K lines.1.0 second (omega (arith, size_is, one, deep)) in
-      (spot_at R x middle (pushed old temps) between calls pending K, got.goes,
-      ((got.typed ∙ ap (cell_types x.layout.structs) (sym is_int), put.kept),
-      subst (λ k. Took host m (15 + c) (spot_at R x middle (pushed old temps) between calls pending K) k (8 + c) (spot_at R x next (pushed old temps) between calls pending put.kept)) (sym (written_left s new q))
-      (took_cost host m (15 + c) (8 + c) (spot_at R x middle (pushed old temps) between calls pending K) (spot_at R x next (pushed old temps) between calls pending put.kept) (omega arith) put.goes))))))
+      let put = spot_counts host R x listed f op in_frame in_globals scope size s of_int q middle next (depth + 1) (pushed old temps) between calls pending K lines.1.0 second (omega (arith, size_is, one, deep)) in (
+        spot_at R x middle (pushed old temps) between calls pending K,
+        got.goes,
+        (
+          (got.typed ∙ ap (cell_types x.layout.structs) (sym is_int), put.kept),
+          subst (λ k. Took host m (15 + c) (spot_at R x middle (pushed old temps) between calls pending K) k (8 + c) (spot_at R x next (pushed old temps) between calls pending put.kept)) (sym (written_left s new q))
+              (took_cost host m (15 + c) (8 + c) (spot_at R x middle (pushed old temps) between calls pending K) (spot_at R x next (pushed old temps) between calls pending put.kept) (omega arith) put.goes),
+        ),
+      ))))
 
   increment_six : SixBytes (increment x.layout)
   increment_six depth (InFrame from) = refl
@@ -417,18 +442,26 @@ module _ (host : MachineHost) (R : Saved → Deferred → Type 0) (tested : Equa
       let rest = K.frame ++ (between ++ K.under) in
       sim_chosen host R (HoldsValue R x scope size r) (value_place R x scope size r next temps between calls pending) p.left c (spot_at R x place (pushed w (pushed v temps)) between calls pending K) (value_credits d)
       (divides_by_zero o w) (λ q. Divides x.self q) (λ q. spend q (λ u. Gives (operate o v w) (unwritten (operate o v w) u))) p
-      (λ zero_is. (spot_at R x place (pushed w (pushed v temps)) between calls pending K, took_less host 1 some (took_none host p.left c (spot_at R x place (pushed w (pushed v temps)) between calls pending K)),
-      ap (λ t. step host (at x place t calls pending K.machine)) (both_over v w temps rest)
-      ∙ operator_divides host x listed tested place x.layout.structs o s t r v w (temps ++ rest) calls pending K.machine begins typed tv tw zero_is,
-      refl, K.alike))
+      (λ zero_is. (
+        spot_at R x place (pushed w (pushed v temps)) between calls pending K,
+        took_less host 1 some (took_none host p.left c (spot_at R x place (pushed w (pushed v temps)) between calls pending K)),
+        ap (λ t. step host (at x place t calls pending K.machine)) (both_over v w temps rest)
+            ∙ operator_divides host x listed tested place x.layout.structs o s t r v w (temps ++ rest) calls pending K.machine begins typed tv tw zero_is,
+        refl,
+        K.alike,
+      ))
       (λ other_is. sim_paid host R (HoldsValue R x scope size r) (value_place R x scope size r next temps between calls pending) c (spot_at R x place (pushed w (pushed v temps)) between calls pending K) (value_credits d)
       p (λ u. Gives (operate o v w) (unwritten (operate o v w) u)) K.alike
-      (λ m left. (spot_at R x next (pushed (operate o v w) temps) between calls pending K,
-      ap (λ t. step host (at x place t calls pending K.machine)) (both_over v w temps rest)
-      ∙ operator_goes host x listed tested place next x.layout.structs o s t r v w (temps ++ rest) calls pending K.machine begins goes typed tv tw other_is
-      ∙ ap (λ t. Some (Goes (at x next t calls pending K.machine))) (sym (pushed_over (operate o v w) temps rest)),
-      ((operated_type o s t r v w typed tv tw, K),
-      took_less host (8 + d) (omega (arith, enough)) (took_none host m (15 + c) (spot_at R x next (pushed (operate o v w) temps) between calls pending K))))))
+      (λ m left. (
+        spot_at R x next (pushed (operate o v w) temps) between calls pending K,
+        ap (λ t. step host (at x place t calls pending K.machine)) (both_over v w temps rest)
+            ∙ operator_goes host x listed tested place next x.layout.structs o s t r v w (temps ++ rest) calls pending K.machine begins goes typed tv tw other_is
+            ∙ ap (λ t. Some (Goes (at x next t calls pending K.machine))) (sym (pushed_over (operate o v w) temps rest)),
+        (
+          (operated_type o s t r v w typed tv tw, K),
+          took_less host (8 + d) (omega (arith, enough)) (took_none host m (15 + c) (spot_at R x next (pushed (operate o v w) temps) between calls pending K)),
+        ),
+      )))
 
   -- an operator that evaluates both operands
   both_run : (t : Ty) (o : BinaryOperator) (d e : TypedExpr) → Runs d → Runs e
@@ -527,9 +560,14 @@ module _ (host : MachineHost) (R : Saved → Deferred → Type 0) (tested : Equa
       let same : Int number ≡ Int (pos 0) = ap Int (is_nothing number nothing) in
       sim_after host R B there (value_credits c) (spend q (λ s. Gives (test_value false) s)) (took_cost host q.left (8 + c) (7 + c) s0 s1 (omega arith) first)
       (sim_paid host R B there (7 + c) s1 (value_credits c) q (λ s. Gives (test_value false) s) L.alike
-      (λ m gone. (s2, second,
-      ((ap (cell_types structs) (sym ints.result), L),
-      subst (λ u. Took host m (15 + (7 + c)) s2 m (8 + c) (spot_at R x next (Holds u ∷ temps) between calls pending L)) same (took_less host (8 + c) (omega arith) (took_none host m (15 + (7 + c)) s2)))))))))
+      (λ m gone. (
+        s2,
+        second,
+        (
+          (ap (cell_types structs) (sym ints.result), L),
+          subst (λ u. Took host m (15 + (7 + c)) s2 m (8 + c) (spot_at R x next (Holds u ∷ temps) between calls pending L)) same (took_less host (8 + c) (omega arith) (took_none host m (15 + (7 + c)) s2)),
+        ),
+      ))))))
 
   or_runs : (t : Ty) (d e : TypedExpr) → Runs d → Runs e → Runs (binary t bin.Or d e)
   or_runs t d e rd re scope size n depth place c p K temps between calls pending fine stands deep le held =
@@ -577,17 +615,22 @@ module _ (host : MachineHost) (R : Saved → Deferred → Type 0) (tested : Equa
       let second : step host s1 ≡ Some (Goes s2) = other_passes host x listed (one + 8) (one + 8 + 6) _ number (Holds (Int number) ∷ (temps ++ rest)) calls pending L.machine a.1.1.0.begins nonzero refl in
       let third : step host s2 ≡ Some (Goes s3) = int_goes host x listed (one + 8 + 6) (one + 8 + 6 + 6) (pos 1) (Holds (Int number) ∷ (temps ++ rest)) calls pending L.machine a.1.1.1.0 refl in
       let fourth : step host s3 ≡ Some (Goes s4) =
-          operator_goes host x listed tested (one + 8 + 6 + 6) (one + 8 + 6 + 6 + 2) structs bin.Or (type_of d) (type_of e) t (Int number ∷ []) (Int (pos 1) ∷ []) (temps ++ rest) calls pending L.machine a.1.1.1.1.0 refl fine.2 typed one_typed_as refl in
+      operator_goes host x listed tested (one + 8 + 6 + 6) (one + 8 + 6 + 6 + 2) structs bin.Or (type_of d) (type_of e) t (Int number ∷ []) (Int (pos 1) ∷ []) (temps ++ rest) calls pending L.machine a.1.1.1.1.0 refl fine.2 typed one_typed_as refl in
       let label : x.places (n + 1) ≡ next = b.1.1.0 ∙ ending in
       let fifth : step host s4 ≡ Some (Goes s5) = jump_goes host x listed (one + 8 + 6 + 6 + 2) next _ (Holds (Int (either number (pos 1))) ∷ (temps ++ rest)) calls pending L.machine a.1.1.1.1.1.0.begins (a.1.1.1.1.1.0.leads ∙ label) in
       let same : Int (either number (pos 1)) ≡ Int (pos 1) = ap (λ (z : Bool). Int (as_int (not z || true))) nonzero in
       sim_paid host R B there (8 + c) s0 (value_credits c) q (λ s. Gives (test_value true) s) L.alike
-      (λ m gone. (s1, first,
-      ((ap (cell_types structs) (sym ints.result), L),
-      subst (λ u. Took host m (15 + (8 + c)) s1 m (8 + c) (spot_at R x next (Holds u ∷ temps) between calls pending L)) same
-      (took_then host (took_cost host m (15 + (8 + c)) (20 + c) s1 s2 (omega arith) second)
-      (took_then host (took_cost host m (20 + c) (19 + c) s2 s3 (omega arith) third)
-      (took_then host (took_cost host m (19 + c) (18 + c) s3 s4 (omega arith) fourth) (took_cost host m (18 + c) (8 + c) s4 s5 (omega arith) fifth))))))))
+      (λ m gone. (
+        s1,
+        first,
+        (
+          (ap (cell_types structs) (sym ints.result), L),
+          subst (λ u. Took host m (15 + (8 + c)) s1 m (8 + c) (spot_at R x next (Holds u ∷ temps) between calls pending L)) same
+              (took_then host (took_cost host m (15 + (8 + c)) (20 + c) s1 s2 (omega arith) second)
+              (took_then host (took_cost host m (20 + c) (19 + c) s2 s3 (omega arith) third)
+              (took_then host (took_cost host m (19 + c) (18 + c) s3 s4 (omega arith) fourth) (took_cost host m (18 + c) (8 + c) s4 s5 (omega arith) fifth)))),
+        ),
+      )))
       (λ fails.
       let nothing = not_false (is_zero number) fails in
       let s2 = spot_at R x start (Holds (Int number) ∷ temps) between calls pending L in
@@ -650,11 +693,15 @@ module _ (host : MachineHost) (R : Saved → Deferred → Type 0) (tested : Equa
       q (λ r. Gives v (written_at s v r)) there.1.alike
       (λ m left.
       let r = record q { left = m } in
-      let put = spot_writes host R x listed scope size t s spot_fine r v typed middle next depth temps between calls pending there.1 b.1.0 goes deep in
-      (spot_at R x next (pushed v temps) between calls pending put.kept, put.goes,
-      ((typed, put.kept),
-      subst (λ k. Took host m (15 + (8 + c)) (spot_at R x next (pushed v temps) between calls pending put.kept) k (8 + c) (spot_at R x next (pushed v temps) between calls pending put.kept)) (sym (written_left s v r))
-      (took_less host (8 + c) (omega arith) (took_none host m (15 + (8 + c)) (spot_at R x next (pushed v temps) between calls pending put.kept)))))))))
+      let put = spot_writes host R x listed scope size t s spot_fine r v typed middle next depth temps between calls pending there.1 b.1.0 goes deep in (
+        spot_at R x next (pushed v temps) between calls pending put.kept,
+        put.goes,
+        (
+          (typed, put.kept),
+          subst (λ k. Took host m (15 + (8 + c)) (spot_at R x next (pushed v temps) between calls pending put.kept) k (8 + c) (spot_at R x next (pushed v temps) between calls pending put.kept)) (sym (written_left s v r))
+              (took_less host (8 + c) (omega arith) (took_none host m (15 + (8 + c)) (spot_at R x next (pushed v temps) between calls pending put.kept))),
+        ),
+      )))))
       stands
 
   -- `o=` for an operator: the place is read, the value follows, the operator is applied, and the place is written
@@ -687,7 +734,7 @@ module _ (host : MachineHost) (R : Saved → Deferred → Type 0) (tested : Equa
       let three = two + op_size op in
       let next = place + lines_size (Instruction load ∷ (right ++ last)) in
       let third : three + 8 ≡ next =
-          let h1 = sizes right last in let h2 = written_on three (depth + wide) wide h in omega (arith, h1, h2) in
+      let h1 = sizes right last in let h2 = written_on three (depth + wide) wide h in omega (arith, h1, h2) in
       let B = HoldsValue R x scope size t in
       let there = value_place R x scope size t next temps between calls pending in
       sim_paid host R B there c (spot_at R x place temps between calls pending K) (value_credits c) p
@@ -698,35 +745,44 @@ module _ (host : MachineHost) (R : Saved → Deferred → Type 0) (tested : Equa
       let got = spot_reads host R x listed scope size t s spot_fine q place one depth temps between calls pending K lines.0 first deep in
       let size_is = pushed_length old temps in
       let long = typed_length old (cell_types structs t) got.typed in
-      let s1 = spot_at R x one (pushed old temps) between calls pending K in
-      (s1, got.goes,
-      sim_bind host R (HoldsValue R x scope size (type_of e)) (value_place R x scope size (type_of e) two (pushed old temps) between calls pending) B there
-      m (15 + c) s1 (value_credits (15 + c)) (value_credits c) (value_of e q) (λ w r. operated x.self b old w (written_at s) r)
-      (re scope size n (depth + wide) one (15 + c) q K (pushed old temps) between calls pending fine a.0 (omega (arith, size_is, long, deep)) (omega (arith, left, le)) (held_pushed old temps held))
-      (λ w r result less.
-      let L = result.1 in
-      let rest = L.frame ++ (between ++ L.under) in
-      let s2 = spot_at R x two (pushed w (pushed old temps)) between calls pending L in
-      sim_chosen host R B there r.left (8 + (15 + c)) s2 (value_credits c) (divides_by_zero b w) (λ u. Divides x.self u) (λ u. spend u (λ z. Gives (operate b old w) (written_at s (operate b old w) z))) r
-      (λ zero_is. (s2, took_less host 1 (omega arith) (took_none host r.left (8 + (15 + c)) s2),
-      ap (λ t. step host (at x two t calls pending L.machine)) (both_over old w temps rest)
-      ∙ operator_divides host x listed tested two structs b t (type_of e) t old w (temps ++ rest) calls pending L.machine a.1.0 typed got.typed result.0 zero_is,
-      refl, L.alike))
-      (λ other_is. sim_paid host R B there (8 + (15 + c)) s2 (value_credits c) r (λ z. Gives (operate b old w) (written_at s (operate b old w) z)) L.alike
-      (λ k gone.
-      let z = record r { left = k } in
-      let new = operate b old w in
-      let new_typed = operated_type b t (type_of e) t old w typed got.typed result.0 in
-      let s3 = spot_at R x three (pushed new temps) between calls pending L in
-      let put = spot_writes host R x listed scope size t s spot_fine z new new_typed three next depth temps between calls pending L a.1.1.0 third deep in
-      let s4 = spot_at R x next (pushed new temps) between calls pending put.kept in
-      (s3,
-      ap (λ t. step host (at x two t calls pending L.machine)) (both_over old w temps rest)
-      ∙ operator_goes host x listed tested two three structs b t (type_of e) t old w (temps ++ rest) calls pending L.machine a.1.0 refl typed got.typed result.0 other_is
-      ∙ ap (λ t. Some (Goes (at x three t calls pending L.machine))) (sym (pushed_over new temps rest)),
-      ((new_typed, put.kept),
-      subst (λ j. Took host k (15 + (8 + (15 + c))) s3 j (8 + c) s4) (sym (written_left s new z))
-      (took_cost host k (15 + (8 + (15 + c))) (8 + c) s3 s4 (omega arith) put.goes)))))))) 
+      let s1 = spot_at R x one (pushed old temps) between calls pending K in (
+        s1,
+        got.goes,
+        sim_bind host R (HoldsValue R x scope size (type_of e)) (value_place R x scope size (type_of e) two (pushed old temps) between calls pending) B there
+            m (15 + c) s1 (value_credits (15 + c)) (value_credits c) (value_of e q) (λ w r. operated x.self b old w (written_at s) r)
+            (re scope size n (depth + wide) one (15 + c) q K (pushed old temps) between calls pending fine a.0 (omega (arith, size_is, long, deep)) (omega (arith, left, le)) (held_pushed old temps held))
+            (λ w r result less.
+            let L = result.1 in
+            let rest = L.frame ++ (between ++ L.under) in
+            let s2 = spot_at R x two (pushed w (pushed old temps)) between calls pending L in
+            sim_chosen host R B there r.left (8 + (15 + c)) s2 (value_credits c) (divides_by_zero b w) (λ u. Divides x.self u) (λ u. spend u (λ z. Gives (operate b old w) (written_at s (operate b old w) z))) r
+            (λ zero_is. (
+              s2,
+              took_less host 1 (omega arith) (took_none host r.left (8 + (15 + c)) s2),
+              ap (λ t. step host (at x two t calls pending L.machine)) (both_over old w temps rest)
+                  ∙ operator_divides host x listed tested two structs b t (type_of e) t old w (temps ++ rest) calls pending L.machine a.1.0 typed got.typed result.0 zero_is,
+              refl,
+              L.alike,
+            ))
+            (λ other_is. sim_paid host R B there (8 + (15 + c)) s2 (value_credits c) r (λ z. Gives (operate b old w) (written_at s (operate b old w) z)) L.alike
+            (λ k gone.
+            let z = record r { left = k } in
+            let new = operate b old w in
+            let new_typed = operated_type b t (type_of e) t old w typed got.typed result.0 in
+            let s3 = spot_at R x three (pushed new temps) between calls pending L in
+            let put = spot_writes host R x listed scope size t s spot_fine z new new_typed three next depth temps between calls pending L a.1.1.0 third deep in
+            let s4 = spot_at R x next (pushed new temps) between calls pending put.kept in (
+              s3,
+              ap (λ t. step host (at x two t calls pending L.machine)) (both_over old w temps rest)
+                  ∙ operator_goes host x listed tested two three structs b t (type_of e) t old w (temps ++ rest) calls pending L.machine a.1.0 refl typed got.typed result.0 other_is
+                  ∙ ap (λ t. Some (Goes (at x three t calls pending L.machine))) (sym (pushed_over new temps rest)),
+              (
+                (new_typed, put.kept),
+                subst (λ j. Took host k (15 + (8 + (15 + c))) s3 j (8 + c) s4) (sym (written_left s new z))
+                    (took_cost host k (15 + (8 + (15 + c))) (8 + c) s3 s4 (omega arith) put.goes),
+              ),
+            )))),
+      ))
 
   -- an assignment whose operator is known
   applied_runs : (t : Ty) (o : AssignOperator) (b : BinaryOperator) (d e : TypedExpr) → applied o ≡ Some b → Runs e

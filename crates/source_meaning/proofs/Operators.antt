@@ -182,8 +182,8 @@ module _ (tested : EqualityIsTested) where
   reversed_equal : (v w : List Value) → values_eq (reverse w) (reverse v) ≡ values_eq v w
   reversed_equal v w = both_ways (values_eq (reverse w) (reverse v)) (values_eq v w)
       (λ h. let e = equal_values (reverse w) (reverse v) h in
-          let f : w ≡ v = sym (reverse-reverse w) ∙ ap reverse e ∙ reverse-reverse v in
-          subst (λ u. values_eq v u ≡ true) (sym f) (value_itself v))
+      let f : w ≡ v = sym (reverse-reverse w) ∙ ap reverse e ∙ reverse-reverse v in
+      subst (λ u. values_eq v u ≡ true) (sym f) (value_itself v))
       (λ h. let e = equal_values v w h in subst (λ u. values_eq (reverse u) (reverse v) ≡ true) e (value_itself (reverse v)))
 
   runs_tested : (answer : Bool → Bool) (v w : List Value) (cells : List Cell) → value_types v ≡ value_types w
@@ -197,7 +197,7 @@ module _ (tested : EqualityIsTested) where
       → pair_compared answer (Some t) (pushed w (pushed v cells)) ≡ Some (pushed (test_value (answer (values_eq v w))) cells)
   pair_tested answer t (a ∷ []) (b ∷ []) cells h k =
       let same : tys_eq (value_types (b ∷ a ∷ [])) (t ∷ t ∷ []) ≡ true =
-          ap (λ us. tys_eq us (t ∷ t ∷ [])) (ap (λ us. us ++ value_types (a ∷ [])) k ∙ ap (λ us. t ∷ us) h) ∙ tys_same (t ∷ t ∷ []) in
+      ap (λ us. tys_eq us (t ∷ t ∷ [])) (ap (λ us. us ++ value_types (a ∷ [])) k ∙ ap (λ us. t ∷ us) h) ∙ tys_same (t ∷ t ∷ []) in
       ap (λ (c : Bool). if c then runs_eq answer (b ∷ []) (a ∷ []) cells else None) same
       ∙ runs_tested answer (a ∷ []) (b ∷ []) cells (h ∙ sym k)
   pair_tested answer t (a ∷ []) [] cells h k = absurd cc

@@ -101,7 +101,7 @@ module _ (host : MachineHost) (R : Saved → Deferred → Type 0) (x : Site) (li
       → step host (spot_at R x place temps between calls pending K) ≡ Some (Goes (spot_at R x next (pushed v temps) between calls pending K))
   base_reads place next depth from count temps between calls pending K v s begins goes long some full =
       let whole : temps ++ (K.frame ++ (between ++ K.under)) ≡ ((temps ++ (K.frame ++ between)) ++ s.above) ++ pushed v s.below =
-          ap (λ t. temps ++ (K.frame ++ (between ++ t))) s.is ∙ split_under temps K.frame between s.above s.below v in
+      ap (λ t. temps ++ (K.frame ++ (between ++ t))) s.is ∙ split_under temps K.frame between s.above s.below v in
       let m = stands_length K.under from v s in
       let u = K.under_size in
       base_copied host x listed place next x.layout.globals from (length s.above) count (temps ++ (K.frame ++ (between ++ K.under))) ((temps ++ (K.frame ++ between)) ++ s.above) v s.below calls pending K.machine
@@ -168,7 +168,7 @@ module _ (host : MachineHost) (R : Saved → Deferred → Type 0) (x : Site) (li
       let is = part_is K.frame (position x.layout n) (locals n) b (length new) s in
       let at_is = part_at K.frame (position x.layout n) (locals n) b (omega (arith, h)) s in
       let whole : pushed new temps ++ (K.frame ++ rest) ≡ (pushed new temps ++ above) ++ pushed old (below ++ rest) =
-          ap (λ t. pushed new temps ++ (t ++ rest)) is ∙ split_in (pushed new temps) above below rest old in
+      ap (λ t. pushed new temps ++ (t ++ rest)) is ∙ split_in (pushed new temps) above below rest old in
       let a = ap length is in
       let c = length-append above (pushed old below) in
       let d = pushed_length old below in
@@ -196,7 +196,7 @@ module _ (host : MachineHost) (R : Saved → Deferred → Type 0) (x : Site) (li
       let at_is = part_at K.under (position x.layout n) (globals n) b (omega (arith, h)) s in
       let upper = pushed new temps ++ (K.frame ++ between) in
       let whole : pushed new temps ++ (K.frame ++ (between ++ K.under)) ≡ (upper ++ above) ++ pushed old below =
-          ap (λ t. pushed new temps ++ (K.frame ++ (between ++ t))) is ∙ split_under (pushed new temps) K.frame between above below old in
+      ap (λ t. pushed new temps ++ (K.frame ++ (between ++ t))) is ∙ split_under (pushed new temps) K.frame between above below old in
       let a = ap length is in
       let c = length-append above (pushed old below) in
       let d = pushed_length old below in
@@ -307,7 +307,7 @@ module _ (host : MachineHost) (R : Saved → Deferred → Type 0) (x : Site) (li
       → (p : Progress) (place next depth : ℕ) (temps between : List Cell) (calls : List ℕ) (pending : List Saved) (K : Kept R x scope size p.globals p.locals p.world)
       → op_at x.code place ≡ Some (op depth (home_of x scope s)) → place + 6 ≡ next → length temps + size ≡ depth
       → Put scope size (written_at s (one_int f (read_at s 1 p)) p).globals (written_at s (one_int f (read_at s 1 p)) p).locals (written_at s (one_int f (read_at s 1 p)) p).world
-          (spot_at R x place temps between calls pending K) next temps between calls pending
+      (spot_at R x place temps between calls pending K) next temps between calls pending
   spot_counts f op in_frame in_globals scope size (OfLocal n b) fine p place next depth temps between calls pending K begins goes deep =
       let v = p.locals n in
       let typed = part_types_are (part_types x n) b (IntTy ∷ []) v fine.1 (K.local_values.typed n fine.0) in
@@ -326,7 +326,7 @@ module _ (host : MachineHost) (R : Saved → Deferred → Type 0) (x : Site) (li
       let is = part_is K.frame (position x.layout n) v b (length new) s in
       let at_is = part_at K.frame (position x.layout n) v b (omega (arith, all, inside)) s in
       let whole : temps ++ (K.frame ++ rest) ≡ (temps ++ above) ++ Holds (Int m.0) ∷ (below ++ rest) =
-          ap (λ t. temps ++ (t ++ rest)) is ∙ split_in temps above below rest (parts_of b (length new) v) ∙ ap (λ u. (temps ++ above) ++ pushed u (below ++ rest)) old_is in
+      ap (λ t. temps ++ (t ++ rest)) is ∙ split_in temps above below rest (parts_of b (length new) v) ∙ ap (λ u. (temps ++ above) ++ pushed u (below ++ rest)) old_is in
       let a = ap length is in
       let c = length-append above (pushed (parts_of b (length new) v) below) in
       let d = pushed_length (parts_of b (length new) v) below in
@@ -358,7 +358,7 @@ module _ (host : MachineHost) (R : Saved → Deferred → Type 0) (x : Site) (li
       let at_is = part_at K.under (position x.layout n) v b (omega (arith, all, inside)) s in
       let upper = temps ++ (K.frame ++ between) in
       let whole : temps ++ (K.frame ++ (between ++ K.under)) ≡ (upper ++ above) ++ Holds (Int m.0) ∷ below =
-          ap (λ t. temps ++ (K.frame ++ (between ++ t))) is ∙ split_under temps K.frame between above below (parts_of b (length new) v) ∙ ap (λ u. (upper ++ above) ++ pushed u below) old_is in
+      ap (λ t. temps ++ (K.frame ++ (between ++ t))) is ∙ split_under temps K.frame between above below (parts_of b (length new) v) ∙ ap (λ u. (upper ++ above) ++ pushed u below) old_is in
       let a = ap length is in
       let c = length-append above (pushed (parts_of b (length new) v) below) in
       let d = pushed_length (parts_of b (length new) v) below in

@@ -145,7 +145,6 @@ sum_of a b = pays (a + b) a b refl
 
 module _ (host : MachineHost) (R : Saved → Deferred → Type 0) (x : Site) (listed : IsListed host x)
     (tables : CellLookup) (execute : Executor) (functions : List Function) (caller : Caller) (most : ℕ) (result : Ty) where
-
   abbrev here : Running
   here = running_at host tables execute x
 
@@ -205,13 +204,13 @@ module _ (host : MachineHost) (R : Saved → Deferred → Type 0) (x : Site) (li
       let parts = held_parts upper lower (subst AreHeld (sym (take-append-drop (size - depth) K.frame)) K.frame_held) in
       let v = parts_in_cells upper parts.0 in
       let whole : K.frame ++ rest ≡ pushed (reverse v.0) (lower ++ rest) =
-          ap (λ t. t ++ rest) (sym (take-append-drop (size - depth) K.frame)) ∙ append_assoc upper lower rest ∙ as_pushed upper parts.0 (lower ++ rest) in
+      ap (λ t. t ++ rest) (sym (take-append-drop (size - depth) K.frame)) ∙ append_assoc upper lower rest ∙ as_pushed upper parts.0 (lower ++ rest) in
       let f = K.frame_size in
       let count : length upper ≡ suc gone = length-take-le (size - depth) K.frame (omega (arith, f)) ∙ is in
       let long : length (reverse v.0) ≡ suc gone = length-reverse v.0 ∙ sym (length-map v.0 Holds) ∙ sym (ap length v.1) ∙ count in
       let next = place + lines_size (dropped (suc gone)) in
       let goes = ap (λ t. step host (at x place t calls pending K.machine)) whole
-          ∙ dropped_goes host x listed place next (suc gone) (reverse v.0) (lower ++ rest) calls pending K.machine lines.0 (omega arith) long in
+      ∙ dropped_goes host x listed place next (suc gone) (reverse v.0) (lower ++ rest) calls pending K.machine lines.0 (omega arith) long in
       took_cost host n (c + 1) c (spot_at R x place [] between calls pending K) (at x next (lower ++ rest) calls pending K.machine) (omega arith) goes
 
   -- ---- parts of statements
@@ -343,11 +342,12 @@ module _ (host : MachineHost) (R : Saved → Deferred → Type 0) (x : Site) (li
       p.left c (spot_at R x place [] between (back ∷ calls) pending K) (value_credits c) (flow_credits c 0) (eval here caller e p) (λ parts q. Gives Next q)
       (r scope size n size place c p K [] between (back ∷ calls) pending fine b.0 (omega arith) le tt)
       (λ v q h less.
-      let long : length v ≡ count = sym (length-map v type_of_value) ∙ ap length h.0 in
-      (and_none h.1,
-      subst (λ k. Took host q.left (8 + c) (spot_at R x middle (pushed v []) between (back ∷ calls) pending h.1) q.left (c + 0) (spot_at R x k [] between (back ∷ calls) pending h.1)) goes
-      (took_then host (took_less host ((c + 0) + 1) (omega arith) (took_none host q.left (8 + c) (spot_at R x middle (pushed v []) between (back ∷ calls) pending h.1)))
-      (value_dropped h.1 q.left (c + 0) middle count v between (back ∷ calls) pending long b.1))))
+      let long : length v ≡ count = sym (length-map v type_of_value) ∙ ap length h.0 in (
+        and_none h.1,
+        subst (λ k. Took host q.left (8 + c) (spot_at R x middle (pushed v []) between (back ∷ calls) pending h.1) q.left (c + 0) (spot_at R x k [] between (back ∷ calls) pending h.1)) goes
+            (took_then host (took_less host ((c + 0) + 1) (omega arith) (took_none host q.left (8 + c) (spot_at R x middle (pushed v []) between (back ∷ calls) pending h.1)))
+            (value_dropped h.1 q.left (c + 0) middle count v between (back ∷ calls) pending long b.1)),
+      ))
 
   empty_does : (m : ℕ) → Does (empty m)
   empty_does m out breaks continues scope size n place c p K room lower back calls pending fine stands exits ends starts typed le =
@@ -505,10 +505,11 @@ module _ (host : MachineHost) (R : Saved → Deferred → Type 0) (x : Site) (li
   regrouped : (breaks continues : Exit) (scope : List ℕ) (size d e first next c : ℕ) (room : List Value) (lower : List Cell) (back : ℕ) (calls : List ℕ) (pending : List Saved) → first ≡ next → size + d + e ≡ size + (d + e) → one_of (d + e) ≤ one_of d + one_of e
       → (f : Flow) (r : Progress) (g : Holds' breaks continues scope (size + d + e) f r) → (y : Holds' breaks continues scope (size + (d + e)) f r)
       × Took host r.left (flow_credits (c + one_of d) e f) (place_of_flow breaks continues scope (size + d + e) first room lower back calls pending f r g) r.left (flow_credits c (d + e) f) (place_of_flow breaks continues scope (size + (d + e)) next room lower back calls pending f r y)
-  regrouped breaks continues scope size d e first next c room lower back calls pending same whole enough Next r g =
-      (sized (size + (d + e)) whole g,
-      subst (λ k. Took host r.left (c + one_of d + one_of e) (spot_at R x first [] (pushed room lower) (back ∷ calls) pending g) r.left (c + one_of (d + e)) (spot_at R x k [] (pushed room lower) (back ∷ calls) pending g)) same
-      (took_less host (c + one_of (d + e)) (omega (arith, enough)) (took_none host r.left (c + one_of d + one_of e) (spot_at R x first [] (pushed room lower) (back ∷ calls) pending g))))
+  regrouped breaks continues scope size d e first next c room lower back calls pending same whole enough Next r g = (
+    sized (size + (d + e)) whole g,
+    subst (λ k. Took host r.left (c + one_of d + one_of e) (spot_at R x first [] (pushed room lower) (back ∷ calls) pending g) r.left (c + one_of (d + e)) (spot_at R x k [] (pushed room lower) (back ∷ calls) pending g)) same
+        (took_less host (c + one_of (d + e)) (omega (arith, enough)) (took_none host r.left (c + one_of d + one_of e) (spot_at R x first [] (pushed room lower) (back ∷ calls) pending g))),
+  )
   regrouped breaks continues scope size d e first next c room lower back calls pending same whole enough Broke r g =
       (g, took_less host c (omega arith) (took_none host r.left (c + one_of d) (spot_at R x (x.places breaks.label) [] (pushed room lower) (back ∷ calls) pending g.1)))
   regrouped breaks continues scope size d e first next c room lower back calls pending same whole enough Continued r g =
@@ -584,6 +585,7 @@ module _ (host : MachineHost) (R : Saved → Deferred → Type 0) (x : Site) (li
     where
       fits : (a b c : ℕ) → a ≤ b → b ≡ c → a ≤ c
       fits a b c h k = omega arith
+
       on_end : (breaks continues : Exit) (ss : TypedStmts) (scope : List ℕ) (size many middle next c : ℕ) (room : List Value) (lower : List Cell) (back : ℕ) (calls : List ℕ) (pending : List Saved)
           → LinesStand x.code x.places middle (dropped many) → middle + lines_size (dropped many) ≡ next → ((i : ℕ) → In i scope → position x.layout i + length (part_types x i) ≤ size)
           → (f : Flow) (q : Progress) (g : Holds' breaks continues (after_stmts ss scope) (size + many) f q) → (y : Holds' breaks continues scope (size + 0) f q)
@@ -592,11 +594,12 @@ module _ (host : MachineHost) (R : Saved → Deferred → Type 0) (x : Site) (li
           let less : size ≤ size + many = omega arith in
           let gone : size + many - size ≡ many = omega arith in
           let none : c ≡ c + 0 = omega arith in
-          let K = lower_kept g scope size less (seen_stmts ss scope) beneath_it in
-          (and_none K,
-          subst (λ k. Took host q.left (c + one_of many) (spot_at R x middle [] (pushed room lower) (back ∷ calls) pending g) q.left (c + 0) (spot_at R x k [] (pushed room lower) (back ∷ calls) pending K)) ending
-          (subst (λ d. Took host q.left (c + one_of many) (spot_at R x middle [] (pushed room lower) (back ∷ calls) pending g) q.left d (spot_at R x (middle + lines_size (dropped many)) [] (pushed room lower) (back ∷ calls) pending K)) none
-          (lower_goes g scope size less (seen_stmts ss scope) beneath_it q.left c middle (pushed room lower) (back ∷ calls) pending many gone lines)))
+          let K = lower_kept g scope size less (seen_stmts ss scope) beneath_it in (
+            and_none K,
+            subst (λ k. Took host q.left (c + one_of many) (spot_at R x middle [] (pushed room lower) (back ∷ calls) pending g) q.left (c + 0) (spot_at R x k [] (pushed room lower) (back ∷ calls) pending K)) ending
+                (subst (λ d. Took host q.left (c + one_of many) (spot_at R x middle [] (pushed room lower) (back ∷ calls) pending g) q.left d (spot_at R x (middle + lines_size (dropped many)) [] (pushed room lower) (back ∷ calls) pending K)) none
+                (lower_goes g scope size less (seen_stmts ss scope) beneath_it q.left c middle (pushed room lower) (back ∷ calls) pending many gone lines)),
+          )
       on_end breaks continues ss scope size many middle next c room lower back calls pending lines ending beneath_it Broke q g = (g, took_none host q.left c (spot_at R x (x.places breaks.label) [] (pushed room lower) (back ∷ calls) pending g.1))
       on_end breaks continues ss scope size many middle next c room lower back calls pending lines ending beneath_it Continued q g = (g, took_none host q.left c (spot_at R x (x.places continues.label) [] (pushed room lower) (back ∷ calls) pending g.1))
       on_end breaks continues ss scope size many middle next c room lower back calls pending lines ending beneath_it (Returned v) q g = (g, took_none host q.left c (spot_at R x back [] (pushed v lower) calls pending g.1))
@@ -614,7 +617,7 @@ module _ (host : MachineHost) (R : Saved → Deferred → Type 0) (x : Site) (li
       let parts = held_parts upper lower (subst AreHeld (sym (take-append-drop (size - depth) K.frame)) K.frame_held) in
       let v = parts_in_cells upper parts.0 in
       let whole : K.frame ++ rest ≡ pushed (reverse v.0) (lower ++ rest) =
-          ap (λ t. t ++ rest) (sym (take-append-drop (size - depth) K.frame)) ∙ append_assoc upper lower rest ∙ as_pushed upper parts.0 (lower ++ rest) in
+      ap (λ t. t ++ rest) (sym (take-append-drop (size - depth) K.frame)) ∙ append_assoc upper lower rest ∙ as_pushed upper parts.0 (lower ++ rest) in
       let f = K.frame_size in
       let count : length upper ≡ suc gone = length-take-le (size - depth) K.frame (omega (arith, f)) ∙ is in
       let long : length (reverse v.0) ≡ suc gone = length-reverse v.0 ∙ sym (length-map v.0 Holds) ∙ sym (ap length v.1) ∙ count in
@@ -636,7 +639,7 @@ module _ (host : MachineHost) (R : Saved → Deferred → Type 0) (x : Site) (li
       let rest = between ++ K.under in
       let whole : K.frame ≡ drop (size - e.depth) K.frame = ap (λ k. drop k K.frame) (sym is) in
       let goes = jump_goes host x listed place (x.places e.label) _ (K.frame ++ rest) calls pending K.machine lines.0.begins (lines.0.leads ∙ ap x.places same)
-          ∙ ap (λ t. Some (Goes (at x (x.places e.label) (t ++ rest) calls pending K.machine))) whole in
+      ∙ ap (λ t. Some (Goes (at x (x.places e.label) (t ++ rest) calls pending K.machine))) whole in
       record {
         first = spot_at R x (x.places e.label) [] between calls pending L;
         goes = goes;
@@ -738,8 +741,14 @@ module _ (host : MachineHost) (R : Saved → Deferred → Type 0) (x : Site) (li
       let last = spot_at R x back [] (pushed v lower) calls pending (empty_kept L) in
       let ending : rest ≡ pushed v lower ++ L.under = sym (pushed_over v lower L.under) in
       sim_paid host R B there (8 + c) (spot_at R x middle (pushed v []) between (back ∷ calls) pending L) (flow_credits c 0) q (λ w. Gives (Returned v) w) L.alike
-      (λ k left. (s1, first, ((of_result, empty_kept L),
-      drops_and_returns k c (size + count) (middle + 8) over (reverse u.0) rest back calls pending L.machine as_one count_over d.0 d.1.0 (pushed v lower ++ L.under) ending (omega (arith, some)))))) 
+      (λ k left. (
+        s1,
+        first,
+        (
+          (of_result, empty_kept L),
+          drops_and_returns k c (size + count) (middle + 8) over (reverse u.0) rest back calls pending L.machine as_one count_over d.0 d.1.0 (pushed v lower ++ L.under) ending (omega (arith, some)),
+        ),
+      )))
     where
       drops_and_returns : (k c count place : ℕ) (over : List Cell) (v : List Value) (rest : List Cell) (back : ℕ) (calls : List ℕ) (pending : List Saved) (world : World Saved) → over ++ rest ≡ pushed v rest → length v ≡ count
           → LinesStand x.code x.places place (dropped count) → op_at x.code (place + lines_size (dropped count)) ≡ Some ops.Retn → (final : List Cell) → rest ≡ final → 1 ≤ count
@@ -750,7 +759,7 @@ module _ (host : MachineHost) (R : Saved → Deferred → Type 0) (x : Site) (li
           let s2 = at x (place + lines_size (dropped (suc count))) rest (back ∷ calls) pending world in
           let s3 = at x back rest calls pending world in
           let first = ap (λ t. step host (at x place t (back ∷ calls) pending world)) as_one
-              ∙ dropped_goes host x listed place (place + lines_size (dropped (suc count))) (suc count) v rest (back ∷ calls) pending world drops.0 (omega arith) long in
+          ∙ dropped_goes host x listed place (place + lines_size (dropped (suc count))) (suc count) v rest (back ∷ calls) pending world drops.0 (omega arith) long in
           let second = goes_back (place + lines_size (dropped (suc count))) back rest calls pending world returns in
           subst (λ t. Took host k (15 + (8 + c)) s1 k c (at x back t calls pending world)) same
           (took_then host (took_cost host k (15 + (8 + c)) (9 + c) s1 s2 (omega arith) first) (took_cost host k (9 + c) c s2 s3 (omega arith) second))
@@ -808,18 +817,21 @@ module _ (host : MachineHost) (R : Saved → Deferred → Type 0) (x : Site) (li
       sim_paid host R (HasParts scope size (t ∷ ts)) (parts_place scope size (t ∷ ts) next base between calls pending) c s (λ v. c + one_of (length (t ∷ ts))) p
       (λ q. bind (made ts q) (λ parts r. Gives (start_part t ∷ parts) r)) K.alike
       (λ m left.
-      let q = record p { left = m } in
-      (s1, start_goes place t (base ++ (K.frame ++ (between ++ K.under))) calls pending K.machine cells.0 lines.0,
-      sim_bind host R (HasParts scope size ts) (parts_place scope size ts (place + 2 + lines_size (started ts)) (Holds (start_part t) ∷ base) between calls pending)
-      (HasParts scope size (t ∷ ts)) (parts_place scope size (t ∷ ts) next base between calls pending) m (15 + c) s1 (λ v. 15 + c + one_of (length ts)) (λ v. c + one_of (length (t ∷ ts))) (made ts q) (λ parts r. Gives (start_part t ∷ parts) r)
-      (made_runs ts cells.1 scope size (place + 2) (15 + c) q K (Holds (start_part t) ∷ base) between calls pending lines.1)
-      (λ v r h less.
-      let whole : pushed v (Holds (start_part t) ∷ base) ≡ pushed (start_part t ∷ v) base = sym (pushed_append (start_part t ∷ []) v base) in
-      let s2 = spot_at R x (place + 2 + lines_size (started ts)) (pushed v (Holds (start_part t) ∷ base)) between calls pending h.1 in
-      ((ap (λ u. u ∷ value_types v) (start_typed t cells.0) ∙ ap (λ us. t ∷ us) h.0, h.1),
-      subst (λ k. Took host r.left (15 + c + one_of (length ts)) s2 r.left (c + 1) (spot_at R x k (pushed (start_part t ∷ v) base) between calls pending h.1)) ending
-      (subst (λ (b : List Cell). Took host r.left (15 + c + one_of (length ts)) s2 r.left (c + 1) (spot_at R x (place + 2 + lines_size (started ts)) b between calls pending h.1)) whole
-      (took_less host (c + 1) (omega arith) (took_none host r.left (15 + c + one_of (length ts)) s2)))))))
+      let q = record p { left = m } in (
+        s1,
+        start_goes place t (base ++ (K.frame ++ (between ++ K.under))) calls pending K.machine cells.0 lines.0,
+        sim_bind host R (HasParts scope size ts) (parts_place scope size ts (place + 2 + lines_size (started ts)) (Holds (start_part t) ∷ base) between calls pending)
+            (HasParts scope size (t ∷ ts)) (parts_place scope size (t ∷ ts) next base between calls pending) m (15 + c) s1 (λ v. 15 + c + one_of (length ts)) (λ v. c + one_of (length (t ∷ ts))) (made ts q) (λ parts r. Gives (start_part t ∷ parts) r)
+            (made_runs ts cells.1 scope size (place + 2) (15 + c) q K (Holds (start_part t) ∷ base) between calls pending lines.1)
+            (λ v r h less.
+            let whole : pushed v (Holds (start_part t) ∷ base) ≡ pushed (start_part t ∷ v) base = sym (pushed_append (start_part t ∷ []) v base) in
+            let s2 = spot_at R x (place + 2 + lines_size (started ts)) (pushed v (Holds (start_part t) ∷ base)) between calls pending h.1 in (
+              (ap (λ u. u ∷ value_types v) (start_typed t cells.0) ∙ ap (λ us. t ∷ us) h.0, h.1),
+              subst (λ k. Took host r.left (15 + c + one_of (length ts)) s2 r.left (c + 1) (spot_at R x k (pushed (start_part t ∷ v) base) between calls pending h.1)) ending
+                  (subst (λ (b : List Cell). Took host r.left (15 + c + one_of (length ts)) s2 r.left (c + 1) (spot_at R x (place + 2 + lines_size (started ts)) b between calls pending h.1)) whole
+                  (took_less host (c + 1) (omega arith) (took_none host r.left (15 + c + one_of (length ts)) s2))),
+            )),
+      ))
 
   -- ---- values of declarations
 
@@ -904,7 +916,7 @@ module _ (host : MachineHost) (R : Saved → Deferred → Type 0) (x : Site) (li
       let M = declared_kept L d.name.number wide v fine.0 typed long in
       let r = record q { locals = with_variable q.locals d.name.number v } in
       let cells_are : pushed v [] ++ (L.frame ++ (between ++ L.under)) ≡ pushed v L.frame ++ (between ++ L.under) =
-          sym (append_assoc (pushed v []) L.frame (between ++ L.under)) ∙ ap (λ z. z ++ (between ++ L.under)) (sym (pushed_alone v L.frame)) in
+      sym (append_assoc (pushed v []) L.frame (between ++ L.under)) ∙ ap (λ z. z ++ (between ++ L.under)) (sym (pushed_alone v L.frame)) in
       subst (λ (z : List Cell). Sim host R (Holds' breaks continues scope' (size + (wide + many))) (place_of_flow breaks continues scope' (size + (wide + many)) next room lower back calls pending)
       q.left (c + one_of wide) (at x middle z (back ∷ calls) pending L.machine) (flow_credits c (wide + many)) (declared here caller ds r)) (sym cells_are)
       (sim_map host R (Holds' breaks continues scope' (size + wide + many)) (place_of_flow breaks continues scope' (size + wide + many) (middle + lines_size rest) room lower back calls pending)
@@ -1002,9 +1014,11 @@ module _ (host : MachineHost) (R : Saved → Deferred → Type 0) (x : Site) (li
             let M = no_more g in
             sim_after host R Outer outer_place (flow_credits c 0) (bind (third t) (λ w y. turns k test body third y))
             (took_then host (took_less host (8 + c) (omega arith) (took_none host t.left (8 + c + 0) (there body_end [] M))) (l.to_third t M t.left)) (go_on l k t M few le again)
-        after l k Broke t g few le again =
-            (and_none g.1, subst (λ z. Took host t.left (8 + c) (there (x.places break_label) [] g.1) t.left (c + 0) (there z [] g.1)) l.break_is
-            (took_less host (c + 0) (omega arith) (took_none host t.left (8 + c) (there (x.places break_label) [] g.1))))
+        after l k Broke t g few le again = (
+          and_none g.1,
+          subst (λ z. Took host t.left (8 + c) (there (x.places break_label) [] g.1) t.left (c + 0) (there z [] g.1)) l.break_is
+              (took_less host (c + 0) (omega arith) (took_none host t.left (8 + c) (there (x.places break_label) [] g.1))),
+        )
         after l k Continued t g few le again =
             sim_after host R Outer outer_place (flow_credits c 0) (bind (third t) (λ w y. turns k test body third y))
             (subst (λ z. Took host t.left (8 + c) (there (x.places continue_label) [] g.1) t.left (7 + c) (there z [] g.1)) l.continue_is
@@ -1018,24 +1032,29 @@ module _ (host : MachineHost) (R : Saved → Deferred → Type 0) (x : Site) (li
         decided l k q L few le j true is again =
             sim_paid host R Outer outer_place (8 + c) (there decides (Holds (Int j) ∷ []) L) (flow_credits c 0) q
             (λ r. chosen (is_true (Int j ∷ [])) (λ s. bind (body s) (λ f t. on_body f (λ u. bind (third u) (λ w y. turns k test body third y)) t)) (λ s. Gives Next s) r) L.alike
-            (λ m left. (there ending [] L, l.ends q L j is,
-            subst (λ (b : Bool). Sim host R Outer outer_place m (15 + (8 + c)) (there ending [] L) (flow_credits c 0)
-            (chosen b (λ s. bind (body s) (λ f t. on_body f (λ u. bind (third u) (λ w y. turns k test body third y)) t)) (λ s. Gives Next s) (record q { left = m }))) (sym (ap not is))
-            (and_none L, took_less host (c + 0) (omega arith) (took_none host m (15 + (8 + c)) (there ending [] L)))))
+            (λ m left. (
+              there ending [] L,
+              l.ends q L j is,
+              subst (λ (b : Bool). Sim host R Outer outer_place m (15 + (8 + c)) (there ending [] L) (flow_credits c 0)
+                  (chosen b (λ s. bind (body s) (λ f t. on_body f (λ u. bind (third u) (λ w y. turns k test body third y)) t)) (λ s. Gives Next s) (record q { left = m }))) (sym (ap not is))
+                  (and_none L, took_less host (c + 0) (omega arith) (took_none host m (15 + (8 + c)) (there ending [] L))),
+            ))
         decided l k q L few le j false is again =
             sim_paid host R Outer outer_place (8 + c) (there decides (Holds (Int j) ∷ []) L) (flow_credits c 0) q
             (λ r. chosen (is_true (Int j ∷ [])) (λ s. bind (body s) (λ f t. on_body f (λ u. bind (third u) (λ w y. turns k test body third y)) t)) (λ s. Gives Next s) r) L.alike
             (λ m left.
-            let r = record q { left = m } in
-            (there start [] L, l.enters q L j is,
-            subst (λ (b : Bool). Sim host R Outer outer_place m (15 + (8 + c)) (there start [] L) (flow_credits c 0)
-            (chosen b (λ s. bind (body s) (λ f t. on_body f (λ u. bind (third u) (λ w y. turns k test body third y)) t)) (λ s. Gives Next s) r)) (sym (ap not is))
-            (sim_after host R Outer outer_place (flow_credits c 0) (bind (body r) (λ f t. on_body f (λ u. bind (third u) (λ w y. turns k test body third y)) t))
-            (took_less host (8 + c) (omega arith) (took_none host m (15 + (8 + c)) (there start [] L)))
-            (sim_bind host R (Holds' inner_break inner_continue scope (size + 0)) (place_of_flow inner_break inner_continue scope (size + 0) body_end room lower back calls pending) Outer outer_place
-            m (8 + c) (there start [] L) (flow_credits (8 + c) 0) (flow_credits c 0) (body r) (λ f t. on_body f (λ u. bind (third u) (λ w y. turns k test body third y)) t)
-            (l.body_runs r L (omega (arith, left, le)))
-            (λ f t g fewer. after l k f t g (omega (arith, left, fewer, few)) (omega (arith, left, fewer, le)) again)))))
+            let r = record q { left = m } in (
+              there start [] L,
+              l.enters q L j is,
+              subst (λ (b : Bool). Sim host R Outer outer_place m (15 + (8 + c)) (there start [] L) (flow_credits c 0)
+                  (chosen b (λ s. bind (body s) (λ f t. on_body f (λ u. bind (third u) (λ w y. turns k test body third y)) t)) (λ s. Gives Next s) r)) (sym (ap not is))
+                  (sim_after host R Outer outer_place (flow_credits c 0) (bind (body r) (λ f t. on_body f (λ u. bind (third u) (λ w y. turns k test body third y)) t))
+                  (took_less host (8 + c) (omega arith) (took_none host m (15 + (8 + c)) (there start [] L)))
+                  (sim_bind host R (Holds' inner_break inner_continue scope (size + 0)) (place_of_flow inner_break inner_continue scope (size + 0) body_end room lower back calls pending) Outer outer_place
+                  m (8 + c) (there start [] L) (flow_credits (8 + c) 0) (flow_credits c 0) (body r) (λ f t. on_body f (λ u. bind (third u) (λ w y. turns k test body third y)) t)
+                  (l.body_runs r L (omega (arith, left, le)))
+                  (λ f t g fewer. after l k f t g (omega (arith, left, fewer, few)) (omega (arith, left, fewer, le)) again))),
+            ))
 
     looped_run : LoopRuns → (p : Progress) (K : Kept R x scope size p.globals p.locals p.world) → p.left ≤ most → Sim host R Outer outer_place p.left c (there head [] K) (flow_credits c 0) (looped test body third p)
     looped_run l p K le = turns_run l (suc p.left) p K (omega arith) le
@@ -1104,9 +1123,11 @@ module _ (host : MachineHost) (R : Saved → Deferred → Type 0) (x : Site) (li
       (λ w q. Kept R x scope size q.globals q.locals q.world) (λ w q L. spot_at R x next [] between calls pending L) p.left c (spot_at R x place [] between calls pending K) (value_credits c) (λ w. c) (eval here caller e p)
       (r scope size n size place c p K [] between calls pending fine b.0 (omega arith) le tt)
       (λ v q h.
-      let long : length v ≡ count = sym (length-map v type_of_value) ∙ ap length h.0 in
-      (h.1, subst (λ k. Took host q.left (8 + c) (spot_at R x middle (pushed v []) between calls pending h.1) q.left c (spot_at R x k [] between calls pending h.1)) goes
-      (took_then host (took_less host (c + 1) (omega arith) (took_none host q.left (8 + c) (spot_at R x middle (pushed v []) between calls pending h.1))) (value_dropped h.1 q.left c middle count v between calls pending long b.1))))
+      let long : length v ≡ count = sym (length-map v type_of_value) ∙ ap length h.0 in (
+        h.1,
+        subst (λ k. Took host q.left (8 + c) (spot_at R x middle (pushed v []) between calls pending h.1) q.left c (spot_at R x k [] between calls pending h.1)) goes
+            (took_then host (took_less host (c + 1) (omega arith) (took_none host q.left (8 + c) (spot_at R x middle (pushed v []) between calls pending h.1))) (value_dropped h.1 q.left c middle count v between calls pending long b.1)),
+      ))
 
   tested_runs : (o : Option TypedExpr) → MaybeRuns o → (scope : List ℕ) (size n place c : ℕ) (p : Progress) (K : Kept R x scope size p.globals p.locals p.world) (between : List Cell) (calls : List ℕ) (pending : List Saved)
       → IsFineTest host.table functions x result scope o → LinesStand x.code x.places place (tested x.layout n size o) → p.left ≤ most
@@ -1143,7 +1164,7 @@ module _ (host : MachineHost) (R : Saved → Deferred → Type 0) (x : Site) (li
       let third_end = third_at + lines_size third in
       let next = place + lines_size (first ++ behind) in
       let ending : third_end + 6 ≡ next =
-          let h1 = sizes first behind in let h2 = sizes test after_test in let h3 = sizes body (Label (n + 1) ∷ (third ++ last)) in let h4 = sizes third last in omega (arith, h1, h2, h3, h4) in
+      let h1 = sizes first behind in let h2 = sizes test after_test in let h3 = sizes body (Label (n + 1) ∷ (third ++ last)) in let h4 = sizes third last in omega (arith, h1, h2, h3, h4) in
       let between = pushed room lower in
       let broken : x.places (n + 2) ≡ next = g.1.1.0 ∙ ending in
       let same_head : loop_at ≡ head = omega arith in
@@ -1172,8 +1193,11 @@ module _ (host : MachineHost) (R : Saved → Deferred → Type 0) (x : Site) (li
         third_runs = λ u L few. sim_map host R (λ w q. Kept R x scope size q.globals q.locals q.world) (λ w q N. spot_at R x third_end [] between (back ∷ calls) pending N)
             (λ w q. Kept R x scope size q.globals q.locals q.world) (λ w q N. spot_at R x head [] between (back ∷ calls) pending N) u.left (7 + c) (spot_at R x third_at [] between (back ∷ calls) pending L) (λ w. 7 + c) (λ w. c) (maybe here caller z u)
             (evaluated_runs z rz scope size (n + 3 + some_labels e + some_labels y + stmt_labels a) third_at (7 + c) u L between (back ∷ calls) pending fine.2 g.0 few)
-            (λ w q N. (N, took_cost host q.left (7 + c) c (spot_at R x third_end [] between (back ∷ calls) pending N) (spot_at R x head [] between (back ∷ calls) pending N) (omega arith)
-            (jump_goes host x listed third_end head _ (N.frame ++ (between ++ N.under)) (back ∷ calls) pending N.machine g.1.0.begins (g.1.0.leads ∙ again))));
+            (λ w q N. (
+              N,
+              took_cost host q.left (7 + c) c (spot_at R x third_end [] between (back ∷ calls) pending N) (spot_at R x head [] between (back ∷ calls) pending N) (omega arith)
+                  (jump_goes host x listed third_end head _ (N.frame ++ (between ++ N.under)) (back ∷ calls) pending N.machine g.1.0.begins (g.1.0.leads ∙ again)),
+            ));
       }) q M (omega (arith, less, le))))
 
   -- ---- `do`
@@ -1250,9 +1274,11 @@ module _ (host : MachineHost) (R : Saved → Deferred → Type 0) (x : Site) (li
           sim_after host R (Holds' breaks continues scope (size + 0)) (place_of_flow breaks continues scope (size + 0) next room lower back calls pending) (flow_credits c 0) (loop q)
           (subst (λ t. Took host q.left (c + 0) (spot_at R x body_end [] (pushed room lower) (back ∷ calls) pending M) q.left c (spot_at R x t [] (pushed room lower) (back ∷ calls) pending M)) same
           (took_less host c (omega arith) (took_none host q.left (c + 0) (spot_at R x body_end [] (pushed room lower) (back ∷ calls) pending M)))) (run q M le)
-      first_body breaks continues scope size room lower back calls pending head next body_end break_label continue_label c loop broken continued same run Broke q g le =
-          (and_none g.1, subst (λ z. Took host q.left c (spot_at R x (x.places break_label) [] (pushed room lower) (back ∷ calls) pending g.1) q.left (c + 0) (spot_at R x z [] (pushed room lower) (back ∷ calls) pending g.1)) broken
-          (took_less host (c + 0) (omega arith) (took_none host q.left c (spot_at R x (x.places break_label) [] (pushed room lower) (back ∷ calls) pending g.1))))
+      first_body breaks continues scope size room lower back calls pending head next body_end break_label continue_label c loop broken continued same run Broke q g le = (
+        and_none g.1,
+        subst (λ z. Took host q.left c (spot_at R x (x.places break_label) [] (pushed room lower) (back ∷ calls) pending g.1) q.left (c + 0) (spot_at R x z [] (pushed room lower) (back ∷ calls) pending g.1)) broken
+            (took_less host (c + 0) (omega arith) (took_none host q.left c (spot_at R x (x.places break_label) [] (pushed room lower) (back ∷ calls) pending g.1))),
+      )
       first_body breaks continues scope size room lower back calls pending head next body_end break_label continue_label c loop broken continued same run Continued q g le =
           sim_after host R (Holds' breaks continues scope (size + 0)) (place_of_flow breaks continues scope (size + 0) next room lower back calls pending) (flow_credits c 0) (loop q)
           (subst (λ z. Took host q.left c (spot_at R x (x.places continue_label) [] (pushed room lower) (back ∷ calls) pending g.1) q.left c (spot_at R x z [] (pushed room lower) (back ∷ calls) pending g.1)) continued

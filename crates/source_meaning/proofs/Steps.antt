@@ -254,7 +254,7 @@ module _ (host : MachineHost) (x : Site) (listed : IsListed host x) where
       let c = drop n (drop o v) in
       let whole : v ≡ a ++ (b ++ c) = sym (take-append-drop o v) ∙ ap (λ t. take o v ++ t) (sym (take-append-drop n (drop o v))) in
       let turned : reverse v ≡ reverse c ++ (reverse b ++ reverse a) =
-          ap reverse whole ∙ reverse-append a (b ++ c) ∙ ap (λ t. t ++ reverse a) (reverse-append b c) ∙ append_assoc (reverse c) (reverse b) (reverse a) in
+      ap reverse whole ∙ reverse-append a (b ++ c) ∙ ap (λ t. t ++ reverse a) (reverse-append b c) ∙ append_assoc (reverse c) (reverse b) (reverse a) in
       let rest_size : length c ≡ length v - (o + n) = length-drop n (drop o v) ∙ ap (λ k. k - n) (length-drop o v) ∙ omega arith in
       let back_size : length (reverse c) ≡ length v - (o + n) = length-reverse c ∙ rest_size in
       let left : length (drop o v) ≡ length v - o = length-drop o v in
@@ -273,12 +273,12 @@ module _ (host : MachineHost) (x : Site) (listed : IsListed host x) where
       let rest : drop total stack ≡ cells = ap (λ k. drop k stack) (sym size) ∙ dropped_pushed v cells in
       let fits : nat_le (offset + count) total ≡ true = grind (arith, nat_tests, inside) in
       let part : take count (drop (total - (offset + count)) (reverse v)) ≡ reverse (parts_of offset count v) =
-          ap (λ k. take count (drop (k - (offset + count)) (reverse v))) (sym size) ∙ reversed_part offset count v (omega (arith, size, inside)) in
+      ap (λ k. take count (drop (k - (offset + count)) (reverse v))) (sym size) ∙ reversed_part offset count v (omega (arith, size, inside)) in
       let kept : values_kept total offset count stack ≡ Some (pushed (parts_of offset count v) cells) =
-          ap (λ (b : Bool). if b then option_map (λ vs. with_values (take count (drop (total - (offset + count)) vs)) (drop total stack)) (values_on total stack) else None) fits
-          ∙ ap (option_map (λ vs. with_values (take count (drop (total - (offset + count)) vs)) (drop total stack))) there
-          ∙ ap (λ vs. Some (with_values vs (drop total stack))) part
-          ∙ ap (λ t. Some (with_values (reverse (parts_of offset count v)) t)) rest in
+      ap (λ (b : Bool). if b then option_map (λ vs. with_values (take count (drop (total - (offset + count)) vs)) (drop total stack)) (values_on total stack) else None) fits
+      ∙ ap (option_map (λ vs. with_values (take count (drop (total - (offset + count)) vs)) (drop total stack))) there
+      ∙ ap (λ vs. Some (with_values vs (drop total stack))) part
+      ∙ ap (λ t. Some (with_values (reverse (parts_of offset count v)) t)) rest in
       moves place next (ops.Destruct (bytes_of total) (bytes_of offset) (bytes_of count)) stack (pushed (parts_of offset count v) cells) calls pending world begins refl
       (ap (λ t. option_and_then (λ k. option_and_then (λ o. option_and_then (λ n. values_kept k o n stack) (cell_count (bytes_of count))) (cell_count (bytes_of offset))) t) (count_of total)
       ∙ ap (λ t. option_and_then (λ o. option_and_then (λ n. values_kept total o n stack) (cell_count (bytes_of count))) t) (count_of offset)
@@ -319,6 +319,6 @@ module _ (host : MachineHost) (x : Site) (listed : IsListed host x) where
       let stack = pushed w (pushed v cells) in
       let f = (at x place stack calls pending world).running in
       let is : moved op f ≡ Some Act.Divides =
-          ap (option_map (λ (t : List Cell). if is_division op && zero_on_top stack then Act.Divides else Moves (at x (place_after op place stack) t calls pending world).running)) does.after
-          ∙ ap (λ (b : Bool). Some (if b then Act.Divides else Moves (at x (place_after op place stack) (pushed (operate o v w) cells) calls pending world).running)) (does.undivided ∙ divides) in
+      ap (option_map (λ (t : List Cell). if is_division op && zero_on_top stack then Act.Divides else Moves (at x (place_after op place stack) t calls pending world).running)) does.after
+      ∙ ap (λ (b : Bool). Some (if b then Act.Divides else Moves (at x (place_after op place stack) (pushed (operate o v w) cells) calls pending world).running)) (does.undivided ∙ divides) in
       acted place op stack calls pending world Act.Divides begins (operation_acts host.table f o s (length (cell_types structs s)) ∙ is)

@@ -198,8 +198,11 @@ module _ (table : EngineTable) (functions : List Function) (x : Site) (scope : L
       record {
         where_is = OfLocal n 0;
         is = refl;
-        fine = (f.0, subst (λ s. AreParts (part_types x n) 0 (cell_types x.layout.structs s)) f.1
-        (all_parts (part_types x n) (subst (λ s. 0 < length (cell_types x.layout.structs s)) (sym f.1) f.2)));
+        fine = (
+          f.0,
+          subst (λ s. AreParts (part_types x n) 0 (cell_types x.layout.structs s)) f.1
+              (all_parts (part_types x n) (subst (λ s. 0 < length (cell_types x.layout.structs s)) (sym f.1) f.2)),
+        );
         home_is = ap (λ k. Some (InFrame k)) sum;
       }
   spot_of (name t (Global n)) h f =
@@ -207,8 +210,12 @@ module _ (table : EngineTable) (functions : List Function) (x : Site) (scope : L
       record {
         where_is = OfGlobal n 0;
         is = refl;
-        fine = (f.0, f.3, subst (λ s. AreParts (part_types x n) 0 (cell_types x.layout.structs s)) f.1
-        (all_parts (part_types x n) (subst (λ s. 0 < length (cell_types x.layout.structs s)) (sym f.1) f.2)));
+        fine = (
+          f.0,
+          f.3,
+          subst (λ s. AreParts (part_types x n) 0 (cell_types x.layout.structs s)) f.1
+              (all_parts (part_types x n) (subst (λ s. 0 < length (cell_types x.layout.structs s)) (sym f.1) f.2)),
+        );
         home_is = ap (λ k. Some (InGlobals k)) sum;
       }
   spot_of (name t (IsConst k)) h f = absurd cc

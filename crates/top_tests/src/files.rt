@@ -197,6 +197,40 @@ fn broken_code(rt: HostRuntime) -> Result<(), Fail> {
 }
 
 #[test]
+fn checks(rt: HostRuntime) -> Result<(), Fail> {
+    let rows = [
+        (CODE, Status::Done, "passed 3\n"),
+        (
+            b"NCS V1.0B\x00\x00\x00\x11\x20\x00\x14\x21",
+            Status::Done,
+            "passed 2\n",
+        ),
+        (
+            b"NCS V1.0B\x00\x00\x00\x11\x14\x21\x20\x00",
+            Status::Code,
+            "refused in unstacked\n",
+        ),
+        (
+            b"NCS V1.0B\x00\x00\x00\x0d",
+            Status::Code,
+            "refused in unstacked\n",
+        ),
+        (
+            b"NCS V1.0B\x00\x00\x00\x0e",
+            Status::Code,
+            "refused in length\n",
+        ),
+    ];
+    for (bytes, status, text) in rows {
+        assert!(rt;
+            answers(rt.alloc(), "check - in", bytes, status, text)?,
+            "{text}"
+        );
+    }
+    Ok(())
+}
+
+#[test]
 fn broken_listings(rt: HostRuntime) -> Result<(), Fail> {
     let rows = [
         ("JMP 00 @14\nRETN 00\n", "refused in target 1\n"),

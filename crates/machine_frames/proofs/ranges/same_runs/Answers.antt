@@ -1,4 +1,4 @@
-use Rattle.std.proofs.Common.{arith, ◌≡◌, ◌<◌, ◌+◌, ℕ, sym, ◌∙◌}
+use Rattle.std.proofs.Common.{arith, ◌∙◌}
 use Rattle.machine_frames.proofs.RangeLemmas.{upper_has, lower_has, lower_lies, same_is, same_goes_on, same_ends}
 use Rattle.machine_frames.proofs.ranges.same_runs.Goals as goal
 

@@ -1,4 +1,4 @@
-use Rattle.std.proofs.Common.{arith, ◌≡◌, ◌<◌, ◌+◌, ◌-◌, ℕ, suc}
+use Rattle.std.proofs.Common.{arith, ◌≡◌, ◌<◌, ◌-◌, ℕ, suc}
 use Rattle.machine_frames.proofs.RunLemmas.{copy_begins, from_fits, onto_fits, reads, writes, copied}
 use Rattle.machine_frames.proofs.runs.copy_down.Goals as goal
 

@@ -1,4 +1,4 @@
-use Rattle.std.proofs.Common.{arith, ◌≡◌, ◌<◌, ◌+◌, ◌-◌, ℕ, suc}
+use Rattle.std.proofs.Common.{arith, ◌≡◌, ◌<◌, ◌-◌, ℕ, suc}
 use Rattle.machine_frames.proofs.RunLemmas.{push_begins, push_fits, next_has, next_pushed}
 use Rattle.machine_frames.proofs.runs.push_copies.Goals as goal
 

@@ -1,0 +1,9 @@
+//! Tests of the stack checker, over small files in the assembler's text.
+#![tactic(auto)]
+
+#[cfg(test)]
+mod files;
+#[cfg(test)]
+mod passed;
+#[cfg(test)]
+mod unstacked;

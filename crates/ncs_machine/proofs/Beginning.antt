@@ -1,0 +1,44 @@
+-- How an entry begins.
+use Rattle.std.proofs.Common.{arith, ◌≡◌, ◌<◌, ℕ, zero, suc, List, [], ◌∷◌, length, Some, refl, ap, ◌∙◌, subst}
+use Rattle.std.specs.Prelude.{slice_get}
+use Rattle.std.specs.Option.{option_map}
+use Rattle.std.proofs.lemmas.Option.{slice_get-map}
+use Rattle.nwq_value.specs.Engine.{EngineTable}
+use Rattle.saved_state.specs.declared.saved.Saved.{Saved}
+use Rattle.machine_step.specs.Frames.{started, continued}
+use Rattle.shape_tables.specs.Fits.{Tables, FitsOne, IsListed}
+use Rattle.shape_tables.specs.Safe.{IsSafeFrame}
+use Rattle.shape_tables.specs.Laws.{AllMeet, StartsSafely, ContinuesSafely}
+use Rattle.ncs_machine.specs.declared.scripts.Loaded.{Loaded}
+use Rattle.ncs_machine.specs.declared.scripts.Begin.{Begin}
+use Rattle.ncs_machine.specs.declared.scripts.Begin.TheVariants.{Start, Stored}
+use Rattle.ncs_machine.specs.Endings.{FitsBegin}
+use Rattle.ncs_machine.specs.Host.{script_of, scripts_of}
+
+some_in : {A : Type 0} (xs : List A) (i : ℕ) → i < length xs → (x : A) × (slice_get xs i ≡ Some x)
+some_in [] i less = absurd (omega arith)
+some_in (x ∷ xs) zero less = (x, refl)
+some_in (x ∷ xs) (suc i) less = some_in xs i (omega arith)
+
+is_listed : (scripts : List Loaded) (i : ℕ) → i < length scripts → IsListed (scripts_of scripts) i
+is_listed scripts i less = let l = some_in scripts i less in (script_of l.0, slice_get-map script_of scripts i ∙ ap (option_map script_of) l.1)
+
+pub start_safe : (scripts : List Loaded) (tables : Tables) (header : EngineTable) (script self : ℕ) → StartsSafely → script < length scripts → AllMeet header (scripts_of scripts) tables
+    → IsSafeFrame (scripts_of scripts) tables (started script self)
+start_safe scripts tables header script self law less meets = law header (scripts_of scripts) tables script self meets (is_listed scripts script less)
+
+fits_stored : (scripts : List Loaded) (tables : Tables) (begin : Begin) (saved : Saved) → begin ≡ Stored saved → FitsBegin (scripts_of scripts) tables begin → FitsOne (scripts_of scripts) tables saved
+fits_stored scripts tables (Start) saved e f = absurd cc
+fits_stored scripts tables (Stored s) saved e f = on (same e) f
+  where
+    same : Stored s ≡ Stored saved → s ≡ saved
+    same e = cc
+
+    on : s ≡ saved → FitsOne (scripts_of scripts) tables s → FitsOne (scripts_of scripts) tables saved
+    on e f = subst (FitsOne (scripts_of scripts) tables) e f
+
+pub stored_safe : (scripts : List Loaded) (tables : Tables) (begin : Begin) (saved : Saved) (self : ℕ) → ContinuesSafely → begin ≡ Stored saved → FitsBegin (scripts_of scripts) tables begin
+    → IsSafeFrame (scripts_of scripts) tables (continued saved self)
+stored_safe scripts tables begin saved self law e f = law (scripts_of scripts) tables saved self (fits_stored scripts tables begin saved e f)
+
+pub ruleset begin_lemmas = (start_safe, stored_safe)

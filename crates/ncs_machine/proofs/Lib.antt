@@ -1,0 +1,10 @@
+pub mod Names
+pub mod Frames
+pub mod Tame
+pub mod Answers
+pub mod Fitting
+pub mod Kept
+pub mod Running
+pub mod Calls
+pub mod Stepping
+pub mod Beginning

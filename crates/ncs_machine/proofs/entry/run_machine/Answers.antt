@@ -1,0 +1,50 @@
+use Rattle.std.proofs.Common.{arith, Some, subst, ap, ◌∙◌}
+use Rattle.ncs_machine.specs.Host.{scripts_of, tables_of}
+use Rattle.ncs_machine.specs.Steps.{Stays, next_of, state}
+use Rattle.ncs_machine.proofs.Answers.{answers_typed}
+use Rattle.ncs_machine.proofs.Running.{divided_run, ended_run, goes_on, run_begins, steps_well, stopped_run}
+use Rattle.ncs_machine.proofs.entry.run_machine.Goals as goal
+
+pub loop-done-init : goal.loop-done-init
+loop-done-init g c = record {
+  running = run_begins (scripts_of c.args.scripts.now) _ (tables_of c.args.scripts.now) c.args.limit c.args.machine.now c.args.world.now.world
+      c.steps_are_safe.ensures.steps c.calls_keep_worlds.ensures.engine c.calls_keep_worlds.ensures.no_script c.calls_keep_worlds.ensures.too_deep
+      c.tables_type_execute_script.ensures.typed c.keeps-2.ensures.table c.keeps.ensures.kept c.requires.meets
+      (answers_typed _ c.answers_have_types.ensures.typed c.keeps-2.ensures.table)
+      c.requires.safe c.requires.alone c.requires.caller;
+  room = omega arith;
+}
+
+pub step-requires-clause-well : goal.step-requires-clause-well
+step-requires-clause-well g c =
+    steps_well (scripts_of c.args.scripts.now) _ (tables_of c.args.scripts.now) c.args.limit
+    (state c.args.machine.now c.args.world.now.world) c.loop-done.done (state c.loop-done.machine c.loop-done.world.world) c.loop-done.invariant.running
+
+pub returns-in-Ends-clause-run : goal.returns-in-Ends-clause-run
+returns-in-Ends-clause-run g c =
+    ended_run (scripts_of c.args.scripts.now) _ (tables_of c.args.scripts.now) c.args.limit c.loop-done.machine c.args.machine.now c.args.world.now.world c.loop-done.world.world c.step.new.world.world
+    c.loop-done.done c.own-own.result c.loop-done.invariant.running c.loop-done-test.true
+    (c.in-Ok.ensures.next ∙ ap (λ n. Some (next_of n (state c.step.new.self c.step.new.world.world))) c.in-Ends.is)
+    c.own-own.ensures.own
+    (subst (λ n. Stays n c.loop-done.world.world c.step.new.world.world) c.in-Ends.is c.in-Ok.ensures.stays)
+
+pub returns-in-Divides-clause-run : goal.returns-in-Divides-clause-run
+returns-in-Divides-clause-run g c =
+    divided_run (scripts_of c.args.scripts.now) _ (tables_of c.args.scripts.now) c.args.limit c.loop-done.machine c.args.machine.now c.args.world.now.world c.loop-done.world.world c.step.new.world.world
+    c.loop-done.done c.own-own.result c.loop-done.invariant.running c.loop-done-test.true
+    (c.in-Ok.ensures.next ∙ ap (λ n. Some (next_of n (state c.step.new.self c.step.new.world.world))) c.in-Divides.is)
+    c.own-own.ensures.own
+    (subst (λ n. Stays n c.loop-done.world.world c.step.new.world.world) c.in-Divides.is c.in-Ok.ensures.stays)
+
+pub loop-done-preserved : goal.loop-done-preserved
+loop-done-preserved g c = record {
+  running = goes_on (scripts_of c.args.scripts.now) _ (tables_of c.args.scripts.now) c.args.limit (state c.args.machine.now c.args.world.now.world)
+      c.loop-done.done (state c.loop-done.machine c.loop-done.world.world) (state c.step.new.self c.step.new.world.world) c.loop-done.invariant.running c.loop-done-test.true
+      (c.in-Ok.ensures.next ∙ ap (λ n. Some (next_of n (state c.step.new.self c.step.new.world.world))) c.in-Goes.is);
+  room = omega (arith, c.loop-done.invariant.room, c.step.ensures.room);
+}
+
+pub returns-clause-run : goal.returns-clause-run
+returns-clause-run g c =
+    stopped_run (scripts_of c.args.scripts.now) _ (tables_of c.args.scripts.now) c.args.limit c.loop-done.machine c.args.machine.now c.args.world.now.world c.loop-done.world.world
+    c.loop-done.done c.own.result c.loop-done.invariant.running (omega (arith, c.loop-done-test.false, c.loop-done.auto)) c.own.ensures.own

@@ -1,0 +1,23 @@
+use Rattle.std.proofs.Common.{[], sym, ◌∙◌}
+use Rattle.ncs_machine.specs.Host.{scripts_of}
+use Rattle.ncs_machine.proofs.Calls.{asks_follow, call_typed, executes_follow}
+use Rattle.ncs_machine.proofs.machine.Machine.call_engine.Goals as goal
+
+pub returns-in_ok-execute_named-in-Some-clause-called : goal.returns-in_ok-execute_named-in-Some-clause-called
+returns-in_ok-execute_named-in-Some-clause-called g c =
+    executes_follow (scripts_of c.args.scripts.now) _ c.args.number c.args.count c.in-Some.routine.now
+    c.args.self.now c.take.new.self c.execute_named.new.self c.in_ok-args-in-Some.args c.args.world.now.world c.execute_named.new.world.world
+    (sym c.in-Some.ensures.entry) (sym c.executes-other_script.ensures.test ∙ c.if-other_script.true) c.requires.case c.in_ok-args-in-Some.ensures.call c.take.ensures.others
+    (λ f name target are. c.in_ok-execute_named-in-Some.ensures.executed f name target are)
+
+pub returns-in_ok-ask-in-Some-clause-called : goal.returns-in_ok-ask-in-Some-clause-called
+returns-in_ok-ask-in-Some-clause-called g c =
+    asks_follow (scripts_of c.args.scripts.now) _ c.args.number c.args.count c.in-Some.routine.now
+    c.args.self.now c.take.new.self c.ask.new.self c.in_ok-args-in-Some.args c.args.world.now.world c.ask.new.world.world
+    (sym c.in-Some.ensures.entry) (sym c.executes-other_script.ensures.test ∙ c.if-other_script.false) c.in_ok-args-in-Some.ensures.call c.take.ensures.others
+    c.in_ok-ask-in-Some.ensures.answered
+
+pub ask-requires-clause-types : goal.ask-requires-clause-types
+ask-requires-clause-types g c =
+    call_typed (record { table = c.args.table.now; cell = λ name column row. [] }) c.args.number c.args.count c.in-Some.routine.now c.args.self.now.running c.take.new.self.running c.in_ok-args-in-Some.args
+    (sym c.in-Some.ensures.entry) c.in_ok-args-in-Some.ensures.call

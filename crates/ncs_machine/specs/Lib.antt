@@ -1,0 +1,5 @@
+pub mod Host
+pub mod Stored
+pub mod Endings
+pub mod Steps
+pub mod Names

@@ -1,0 +1,135 @@
+//! An entry from its begin to its end.
+ghost use Rattle.std.specs.Prelude.{◌≡◌, ◌≤◌, ◌<◌, ◌^◌, [], length, map};
+ghost use Rattle.nwq_value.specs.Limits.{instruction_limit};
+ghost use Rattle.machine_step.specs.Runs.{run as run_of};
+ghost use Rattle.shape_tables.specs.Laws.{AllMeet};
+ghost use Rattle.shape_tables.specs.Safe.{IsSafeFrame};
+ghost use Rattle.engine_rows.specs.World.{count};
+ghost use Rattle.ncs_machine.specs.Endings.{FitsBegin, IsRunOf};
+ghost use Rattle.ncs_machine.specs.Host.{engine_view, host, run_from, scripts_of, tables_of};
+ghost use Rattle.ncs_machine.specs.Steps.{state};
+ghost use Rattle.world_core.specs.Calls.{AreServing};
+
+use crate::machine::{Machine, Next};
+use crate::scene::Scene;
+use crate::scripts::{Begin, Scripts};
+use engine_rows::calls_keep_worlds;
+use hook_table::Hooks;
+use machine_frames::Frame;
+use nwq_value::Table;
+use saved_state::Saved;
+use shape_tables::{entries_begin_safely, steps_are_safe, tables_type_execute_script};
+use std::alloc::Global;
+use world_core::{World, answers_have_types};
+
+/// How a run ends.
+#[derive(Clone, Copy)]
+pub enum Ran {
+    /// The entry's last script is over.
+    Ended,
+    /// A divisor is 0, which ends the whole entry.
+    Divide,
+    /// The next instruction would be one more than the limit allows.
+    Limit,
+    NoMemory,
+}
+
+/// The run of frames of which only one runs yet: how it ends, how many instructions it takes, and
+/// the object on which the last script ran.
+#[tactic(auto, using(crate::proofs::Running::run_lemmas))]
+fn run_machine(
+    alloc: Global,
+    scripts: &Scripts,
+    machine: &mut Machine,
+    world: &mut World<Saved>,
+    hooks: &Hooks,
+    table: &Table,
+    limit: u64,
+) -> (Ran, u64, u32)
+    requires few { length scripts.now < 2 ^ 32 }
+    requires limit { limit ≤ instruction_limit }
+    requires clock { world.old.world.clock < 2 ^ 62 }
+    requires next { world.old.world.agenda.next < 2 ^ 62 }
+    requires caller { machine.old.running.self ≤ count world.old.world }
+    requires meets { AllMeet table.now (scripts_of scripts.now)
+        (tables_of scripts.now) }
+    requires hooks { AreServing (map (λ h. h.known) hooks.now.all.items) }
+    requires safe { IsSafeFrame (scripts_of scripts.now) (tables_of scripts.now)
+        machine.old.running }
+    requires alone { machine.old.waiting ≡ [] }
+    ensures room { world.old.room ≤ world.new.room }
+    ensures run { IsRunOf result.0 result.1 result.2
+        (run_of (host (scripts_of scripts.now)
+        (engine_view table.now (map (λ h. h.known) hooks.now.all.items))) limit
+        (state machine.old world.old.world))
+        (scripts_of scripts.now) (tables_of scripts.now)
+        world.old.world world.new.world }
+{
+    steps_are_safe::<Scene>();
+    calls_keep_worlds::<Saved>();
+    tables_type_execute_script();
+    world.keeps();
+    table.keeps();
+    answers_have_types::<Saved>();
+    for done in 0..limit {
+        let own = machine.own();
+        match machine.step(alloc, scripts, world, hooks, table) {
+            Err(_) => return (Ran::NoMemory, done, own),
+            Ok(next) => match next {
+                Next::Goes => {}
+                Next::Ends => return (Ran::Ended, done + 1, own),
+                Next::Divides => return (Ran::Divide, done + 1, own),
+            },
+        }
+    }
+    (Ran::Limit, limit, machine.own())
+}
+
+/// The run of an entry that begins so, with `caller` as self: how it ends, how many instructions it
+/// takes in all its scripts, and the object on which the last one ran.
+#[tactic(auto, using(crate::proofs::Beginning::begin_lemmas))]
+pub fn run(
+    alloc: Global,
+    scripts: &Scripts,
+    script: u32,
+    begin: Begin,
+    world: &mut World<Saved>,
+    hooks: &Hooks,
+    table: &Table,
+    caller: u32,
+    limit: u64,
+) -> (Ran, u64, u32)
+    requires few { length scripts.now < 2 ^ 32 }
+    requires listed { script < length scripts.now }
+    requires stored { FitsBegin (scripts_of scripts.now) (tables_of scripts.now) begin }
+    requires limit { limit ≤ instruction_limit }
+    requires clock { world.old.world.clock < 2 ^ 62 }
+    requires next { world.old.world.agenda.next < 2 ^ 62 }
+    requires caller { caller ≤ count world.old.world }
+    requires meets { AllMeet table.now (scripts_of scripts.now)
+        (tables_of scripts.now) }
+    requires hooks { AreServing (map (λ h. h.known) hooks.now.all.items) }
+    ensures room { world.old.room ≤ world.new.room }
+    ensures run { IsRunOf result.0 result.1 result.2
+        (run_from (host (scripts_of scripts.now)
+        (engine_view table.now (map (λ h. h.known) hooks.now.all.items)))
+        limit script begin caller
+        world.old.world)
+        (scripts_of scripts.now) (tables_of scripts.now)
+        world.old.world world.new.world }
+{
+    entries_begin_safely();
+    match begin {
+        Begin::Start => {
+            let mut machine = Machine::of(alloc, Frame::started(alloc, script, caller));
+            run_machine(alloc, scripts, &mut machine, world, hooks, table, limit)
+        }
+        Begin::Stored(saved) => match Frame::continued(alloc, saved, caller) {
+            Err(_) => (Ran::NoMemory, 0, caller),
+            Ok(frame) => {
+                let mut machine = Machine::of(alloc, frame);
+                run_machine(alloc, scripts, &mut machine, world, hooks, table, limit)
+            }
+        },
+    }
+}

@@ -1,0 +1,6 @@
+mod AreaLemmas
+mod PlanLemmas
+mod FinalLemmas
+mod OneArea
+mod OnePlan
+mod Steps

@@ -1,0 +1,4 @@
+pub mod Areas
+pub mod Plans
+pub mod Finals
+pub mod Laws

@@ -1,0 +1,8 @@
+use Rattle.nwq_checks.proofs.OneCheck.{sure_checked, sure_checks}
+use Rattle.nwq_checks.proofs.laws.one_check.Goals as goal
+
+pub returns-clause-checked : goal.returns-clause-checked
+returns-clause-checked c = sure_checked c.one_file.ensures.codes
+
+pub returns-clause-command : goal.returns-clause-command
+returns-clause-command c = sure_checks c.one_source.ensures.tables c.one_file.ensures.codes

@@ -1,0 +1,12 @@
+-- Statements about checks. Each stands on the contract of a function of `laws`.
+use Rattle.std.specs.Prelude.{ℕ, List}
+use Rattle.nwq_value.specs.Engine.{EngineTable}
+use Rattle.nwq_work.specs.Outcomes.{IsSure}
+use Rattle.nwq_checks.specs.Checks.{checked_named, checks}
+
+-- what the files hold decides what comes of a check under a header
+abbrev pub SureChecked : Type 0
+SureChecked = (header : EngineTable) (name : List ℕ) → IsSure (checked_named header name)
+
+abbrev pub SureChecks : Type 0
+SureChecks = (header name : List ℕ) → IsSure (checks header name)

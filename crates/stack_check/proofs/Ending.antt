@@ -1,0 +1,205 @@
+-- The start and the end of the inference.
+use Rattle.std.proofs.Common.{arith, ◌≡◌, ℕ, zero, suc, List, [], ◌∷◌, ◌++◌, length, map, Option, None, Some, slice_get, inl, inr, sym, subst, ◌∙◌, ap, refl}
+use Rattle.std.specs.Prelude.{get_or}
+use Rattle.nwq_value.specs.Engine.{EngineTable}
+use Rattle.ncs_code.specs.Plain.{PlainOp}
+use Rattle.stack_shape.specs.declared.shape.Entry.{Entry}
+use Rattle.stack_shape.specs.declared.shape.Entry.TheVariants.{Start, Called, Stored}
+use Rattle.stack_shape.specs.Laws.{deeper}
+use Rattle.shape_tables.specs.Tables.{ShapeTable, empty_shape}
+use Rattle.shape_tables.specs.Rules.{MeetsRules, WellStacked}
+use Rattle.stack_check.specs.declared.held.Held.{Held}
+use Rattle.stack_check.specs.declared.held.Heap.{Heap}
+use Rattle.stack_check.specs.declared.lists.Node.{Node}
+use Rattle.stack_check.specs.declared.rows.Row.{Row}
+use Rattle.stack_check.specs.declared.facts.Trial.{Trial}
+use Rattle.stack_check.specs.declared.facts.Facts.{Facts}
+use Rattle.stack_check.specs.declared.seen.Seen.{Seen}
+use Rattle.stack_check.specs.declared.seen.Seen.TheVariants.{Quiet, Changed, Bad}
+use Rattle.stack_check.specs.Shared.{read}
+use Rattle.stack_check.specs.Held.{AllAtMost, IsIn, shape_of}
+use Rattle.stack_check.specs.Rows.{RowLists, RowAdded, row_in, find_row}
+use Rattle.stack_check.specs.Facts.{current, number_in, first_place, first_held, callee_of, table_of}
+use Rattle.stack_check.specs.Checked.{CheckedCode, StoredStand, kept_table}
+use Rattle.stack_check.specs.Inference.{IsTrialOf, TrialIn, Beyond, RowFits, TrialFits, Keeps, Visited, WhereQuiet, SeesRow, SeesAll, SeesTurn, IsFound, after_change}
+use Rattle.stack_check.proofs.Heaps.{same_shape}
+use Rattle.stack_check.proofs.Storing.{deeper_none}
+use Rattle.stack_check.proofs.Walks.{read_empty}
+use Rattle.stack_check.proofs.Passing.{shape_there, table_same}
+
+some_is : {A : Type 0} (a b : A) → Some a ≡ Some b → a ≡ b
+some_is a b h = cc
+
+none_some : {A : Type 0} (P : Type 0) (a : A) → None ≡ Some a → P
+none_some P a h = absurd cc
+
+-- ---- one turn
+
+pub look_turn : (header : EngineTable) (code : List PlainOp) (heap heap' : Heap) (facts facts' : Facts) (n p : ℕ) (seen now : Seen)
+    → SeesRow header code heap heap' facts facts' n p seen → now ≡ after_change seen → SeesTurn header code heap' facts' now
+look_turn header code heap heap' facts facts' n p seen now s e = subst (λ s. SeesTurn header code heap' facts' s) (sym e) (turn seen s.keeps)
+  where
+    turn : (seen : Seen) → Visited header code heap' facts' seen → SeesTurn header code heap' facts' (after_change seen)
+    turn Quiet v = record { keeps = v; quiet = tt }
+    turn Changed v = record { keeps = v; quiet = tt }
+    turn Bad v = record { keeps = v; quiet = tt }
+
+pub pass_turn : (header : EngineTable) (code : List PlainOp) (heap heap' : Heap) (facts facts' : Facts) (seen : Seen) → Keeps header code heap facts
+    → SeesAll header code heap heap' facts facts' seen → SeesTurn header code heap' facts' seen
+pass_turn header code heap heap' facts facts' seen k s = record { keeps = s.keeps; quiet = quiet seen s.quiet }
+  where
+    quiet : (seen : Seen) → WhereQuiet seen ((facts' ≡ facts) × MeetsRules header code (table_of heap facts)) → WhereQuiet seen (MeetsRules header code (table_of heap' facts'))
+    quiet Quiet q =
+        subst (λ f. MeetsRules header code (table_of heap' f)) (sym q.0)
+        (subst (λ t. MeetsRules header code t) (sym (table_same header code heap heap' facts k s.grows)) q.1)
+    quiet Changed q = tt
+    quiet Bad q = tt
+
+pub ruleset turning = (look_turn, pass_turn)
+
+-- ---- the start
+
+abbrev first_trial : Trial
+first_trial = record { entry = Start; taken = 0; under = 0; given = None }
+
+abbrev nothing_held : Held
+nothing_held = record { cells = 0; under = 0; saved = 0; pending = 0 }
+
+none_there : (k : ℕ) → get_or (let xs : List ℕ = [] in xs) k 0 ≡ 0
+none_there zero = refl
+none_there (suc k) = refl
+
+no_row : (t p : ℕ) (h : Held) → row_in (record { nodes = []; at = [] }) t p ≡ Some h → ⊥
+unfolding row_in
+no_row t p h r = none_some ⊥ h (sym (ap (find_row t) (ap (read (let xs : List (Node Row) = [] in xs)) (none_there p) ∙ read_empty [])) ∙ r)
+
+one_trial : (n : ℕ) (trial : Trial) → slice_get (first_trial ∷ []) n ≡ Some trial → (n ≡ 0) × (trial ≡ first_trial)
+one_trial zero trial h = (refl, sym (some_is first_trial trial h))
+one_trial (suc n) trial h = none_some ((suc n ≡ 0) × (trial ≡ first_trial)) trial h
+
+first_shape_is : (heap : Heap) → shape_of heap nothing_held ≡ empty_shape
+first_shape_is heap = same_shape _ _ _ _ _ _ _ _ (read_empty heap.slots) (read_empty heap.slots) (ap (map (read heap.slots)) (read_empty heap.saved)) refl
+
+first_row : (rows : RowLists) (t p : ℕ) (h : Held) → RowAdded (record { nodes = []; at = [] }) rows 0 13 nothing_held → row_in rows t p ≡ Some h
+    → (t ≡ 0) × (p ≡ 13) × (h ≡ nothing_held)
+first_row rows t p h a r = elim (a.only t p h r) [
+  | inl old ↦ absurd (no_row t p h old)
+  | inr is ↦ is
+]
+
+start_in : (heap : Heap) → IsIn heap nothing_held
+start_in heap = record {
+  cells = omega arith;
+  under = omega arith;
+  saved = omega arith;
+  each = subst (λ ns. AllAtMost (length heap.slots) ns) (sym (read_empty heap.saved)) tt;
+}
+
+start_current : (rows : RowLists) (e : Entry) (n : ℕ) → current (record { trials = first_trial ∷ []; called = []; stored = []; rows = rows }) e ≡ Some n
+    → IsTrialOf (record { trials = first_trial ∷ []; called = []; stored = []; rows = rows }) n e
+start_current rows Start n c = subst (λ n. IsTrialOf (record { trials = first_trial ∷ []; called = []; stored = []; rows = rows }) n Start) (some_is 0 n c)
+    (record { trial = first_trial; has = refl; of = refl })
+start_current rows (Called t) n c =
+    none_some (IsTrialOf (record { trials = first_trial ∷ []; called = []; stored = []; rows = rows }) n (Called t)) n (ap number_in (sym (none_there t)) ∙ c)
+start_current rows (Stored t) n c =
+    none_some (IsTrialOf (record { trials = first_trial ∷ []; called = []; stored = []; rows = rows }) n (Stored t)) n (ap number_in (sym (none_there t)) ∙ c)
+
+start_fits : (header : EngineTable) (code : List PlainOp) (heap : Heap) (rows : RowLists) (table : ShapeTable) → RowAdded (record { nodes = []; at = [] }) rows 0 13 nothing_held
+    → MeetsRules header code table → TrialFits table heap (record { trials = first_trial ∷ []; called = []; stored = []; rows = rows }) 0 first_trial
+start_fits header code heap rows table a meets = record {
+  x = [];
+  y = [];
+  beyond = (refl, refl);
+  rows = λ p held r.
+      let is = first_row rows 0 p held a r in
+      subst (λ h. RowFits table Start p (shape_of heap h) [] []) (sym is.2)
+      (subst (λ p. RowFits table Start p (shape_of heap nothing_held) [] []) (sym is.1)
+      (record { own = empty_shape; known = meets.start; is = first_shape_is heap }));
+}
+
+start_keeps : (header : EngineTable) (code : List PlainOp) (heap : Heap) (rows : RowLists) → RowAdded (record { nodes = []; at = [] }) rows 0 13 nothing_held
+    → Keeps header code heap (record { trials = first_trial ∷ []; called = []; stored = []; rows = rows })
+start_keeps header code heap rows a = record {
+  formed = record {
+    currents = λ e n c. start_current rows e n c;
+    firsts = λ n trial h.
+        let is = one_trial n trial h in
+        subst (λ (t : Trial). row_in rows n (first_place t.entry) ≡ Some (first_held t)) (sym is.1)
+        (subst (λ n. row_in rows n 13 ≡ Some nothing_held) (sym is.0) a.here);
+    owned = λ n p h r. let is = first_row rows n p h a r in omega (arith, is.0);
+    start = λ n trial h e. let is = one_trial n trial h in (ap (λ (t : Trial). t.taken) is.1, ap (λ (t : Trial). t.under) is.1);
+  };
+  inside = record {
+    rows = λ n p h r. let is = first_row rows n p h a r in subst (λ h. IsIn heap h) (sym is.2) (start_in heap);
+    trials = λ n trial h. let is = one_trial n trial h in
+        subst (λ t. TrialIn heap t) (sym is.1) (record { taken = omega arith; under = omega arith; given = tt });
+  };
+  compares = λ table meets. record {
+    by = λ n trial h.
+        let is = one_trial n trial h in
+        subst (λ t. TrialFits table heap (record { trials = first_trial ∷ []; called = []; stored = []; rows = rows }) n t) (sym is.1)
+        (subst (λ n. TrialFits table heap (record { trials = first_trial ∷ []; called = []; stored = []; rows = rows }) n first_trial) (sym is.0)
+        (start_fits header code heap rows table a meets));
+  };
+}
+
+pub starts : (header : EngineTable) (code : List PlainOp) (heap : Heap) (empty rows : RowLists) (trials : List Trial) (called stored : List ℕ)
+    → empty ≡ record { nodes = []; at = [] } → RowAdded empty rows 0 13 nothing_held → trials ≡ [] ++ first_trial ∷ [] → called ≡ [] → stored ≡ []
+    → Keeps header code heap (record { trials = trials; called = called; stored = stored; rows = rows })
+starts header code heap empty rows trials called stored e a t c s =
+    subst (λ ts. Keeps header code heap (record { trials = ts; called = called; stored = stored; rows = rows })) (sym t)
+    (subst (λ ns. Keeps header code heap (record { trials = first_trial ∷ []; called = ns; stored = stored; rows = rows })) (sym c)
+    (subst (λ ns. Keeps header code heap (record { trials = first_trial ∷ []; called = []; stored = ns; rows = rows })) (sym s)
+    (start_keeps header code heap rows (subst (λ r. RowAdded r rows 0 13 nothing_held) e a))))
+
+pub ruleset starting = (starts)
+
+-- ---- the end
+
+pub ends_found : (header : EngineTable) (code : List PlainOp) (heap : Heap) (facts : Facts) (seen : Seen) → SeesTurn header code heap facts seen → seen ≡ Quiet
+    → IsFound header code heap facts
+ends_found header code heap facts seen s e =
+    record { keeps = subst (λ s. Visited header code heap facts s) e s.keeps; meets = subst (λ s. WhereQuiet s (MeetsRules header code (table_of heap facts))) e s.quiet }
+
+pub ends_none : (header : EngineTable) (code : List PlainOp) (heap : Heap) (facts : Facts) (seen : Seen) → SeesTurn header code heap facts seen → seen ≡ Bad
+    → WellStacked header code → ⊥
+ends_none header code heap facts seen s e = subst (λ s. Visited header code heap facts s) e s.keeps
+
+pub goes_on : (header : EngineTable) (code : List PlainOp) (heap : Heap) (facts : Facts) (seen : Seen) → SeesTurn header code heap facts seen → seen ≡ Changed
+    → Keeps header code heap facts
+goes_on header code heap facts seen s e = subst (λ s. Visited header code heap facts s) e s.keeps
+
+pub ruleset ending = (ends_found, ends_none, goes_on)
+
+-- ---- what is kept
+
+stored_stands : (header : EngineTable) (code : List PlainOp) (heap : Heap) (facts : Facts) (other : ShapeTable) → Keeps header code heap facts
+    → MeetsRules header code other → StoredStand (table_of heap facts) other
+stored_stands header code heap facts other k meets = record {
+  by = λ site place shape h.
+      let r = shape_there heap facts (current facts (Stored site)) place shape h in
+      let t = k.formed.currents (Stored site) r.0 r.2 in
+      let f = (k.compares other meets).by r.0 t.trial t.has in
+      let a = f.rows place r.1 r.3 in
+      let none : (f.x ≡ []) × (f.y ≡ []) = subst (λ e. Beyond other e (callee_of heap t.trial) f.x f.y) t.of f.beyond in
+      ap (λ e. other.at e place) (sym t.of) ∙ a.known
+      ∙ ap Some (sym (sym r.4 ∙ a.is ∙ ap (λ x. deeper x f.y a.own) none.0 ∙ ap (λ y. deeper [] y a.own) none.1 ∙ deeper_none a.own));
+}
+
+pub kept_stands : (header : EngineTable) (code : List PlainOp) (c : CheckedCode) (other : ShapeTable) → IsFound header code c.heap c.facts
+    → MeetsRules header code other → StoredStand (kept_table c) other
+unfolding kept_table
+kept_stands header code c other f meets = stored_stands header code c.heap c.facts other f.keeps meets
+
+pub kept_meets : (header : EngineTable) (code : List PlainOp) (c : CheckedCode) → IsFound header code c.heap c.facts → MeetsRules header code (kept_table c)
+unfolding kept_table
+kept_meets header code c f = f.meets
+
+pub ruleset checking = (kept_stands, kept_meets)
+
+pub empty_row : (rows : RowLists) (t p : ℕ) → rows ≡ record { nodes = []; at = [] } → row_in rows t p ≡ None
+empty_row rows t p e = none_or (row_in rows t p) (λ h r. no_row t p h (ap (λ rs. row_in rs t p) (sym e) ∙ r))
+  where
+    none_or : (o : Option Held) → ((h : Held) → o ≡ Some h → ⊥) → o ≡ None
+    none_or None h = refl
+    none_or (Some a) h = absurd (h a refl)

@@ -1,0 +1,81 @@
+-- What is kept where a shape is reached that every table has.
+use Rattle.std.proofs.Common.{◌≡◌, ℕ, List, inl, inr, ◌⊎◌, sym, subst, ◌∙◌, ap}
+use Rattle.nwq_value.specs.Engine.{EngineTable}
+use Rattle.ncs_code.specs.Plain.{PlainOp}
+use Rattle.stack_shape.specs.Stored.{TopShape}
+use Rattle.stack_check.specs.declared.held.Held.{Held}
+use Rattle.stack_check.specs.declared.held.Heap.{Heap}
+use Rattle.stack_check.specs.declared.facts.Facts.{Facts}
+use Rattle.stack_check.specs.declared.seen.Seen.{Seen}
+use Rattle.stack_check.specs.declared.seen.Seen.TheVariants.{Quiet, Changed, Bad}
+use Rattle.stack_check.specs.declared.leads.Lead.TheVariants.{One, Two}
+use Rattle.stack_check.specs.Held.{IsIn, shape_of}
+use Rattle.stack_check.specs.Rows.{row_in}
+use Rattle.stack_check.specs.Inference.{Keeps, Visited, WhereQuiet, Owed, RowIs, Reached, RowsKept, AllLed, after_change}
+use Rattle.stack_check.proofs.Steps.{step_kept}
+use Rattle.stack_check.proofs.Keeping.{keeps_row, never_other}
+
+pub reached_keeps : (header : EngineTable) (code : List PlainOp) (heap : Heap) (before after : Facts) (n p : ℕ) (held : Held) (seen : Seen)
+    → Keeps header code heap before → Owed header code heap before n p held → IsIn heap held → Reached heap before after n p held seen
+    → Visited header code heap after seen
+reached_keeps header code heap before after n p held Quiet k o i r = subst (λ facts. Keeps header code heap facts) (sym r.0) k
+reached_keeps header code heap before after n p held Changed k o i r = keeps_row header code heap before after n p held k r.0 r.1 i o
+reached_keeps header code heap before after n p held Bad k o i r = λ w. never_other header code heap before n p held r.1.0 w.0 w.1 k r.1.1 o r.0
+
+-- (a bad shape changes nothing either)
+pub reached_kept : (heap : Heap) (before after : Facts) (n p : ℕ) (held : Held) (seen : Seen) → Reached heap before after n p held seen → RowsKept before after
+reached_kept heap before after n p held Quiet r = record { by = λ t q h e. ap (λ (f : Facts). row_in f.rows t q) r.0 ∙ e }
+reached_kept heap before after n p held Changed r = record { by = λ t q h e. r.0.kept t q h e }
+reached_kept heap before after n p held Bad r = record { by = λ t q h e. ap (λ (f : Facts). row_in f.rows t q) r.2 ∙ e }
+
+pub reached_quiet : (heap : Heap) (before after : Facts) (n p : ℕ) (held : Held) (seen : Seen) → Reached heap before after n p held seen
+    → WhereQuiet seen ((after ≡ before) × RowIs heap before n p (shape_of heap held))
+reached_quiet heap before after n p held Quiet r = r
+reached_quiet heap before after n p held Changed r = tt
+reached_quiet heap before after n p held Bad r = tt
+
+pub ruleset following = (reached_keeps, reached_kept, reached_quiet)
+
+-- ---- one place or two
+
+pub one_led : (heap : Heap) (before after : Facts) (n t : ℕ) (shape : TopShape) (seen : Seen) → WhereQuiet seen ((after ≡ before) × RowIs heap before n t shape)
+    → WhereQuiet seen ((after ≡ before) × AllLed heap before n (One t) shape)
+one_led heap before after n t shape Quiet q = (q.0, record { by = λ p e. subst (λ p. RowIs heap before n p shape) (sym e) q.1 })
+one_led heap before after n t shape Changed q = tt
+one_led heap before after n t shape Bad q = tt
+
+pub two_led : (heap : Heap) (before mid after : Facts) (n t u : ℕ) (shape : TopShape) → (mid ≡ before) × RowIs heap before n t shape
+    → (after ≡ mid) × RowIs heap mid n u shape → (after ≡ before) × AllLed heap before n (Two t u) shape
+two_led heap before mid after n t u shape q r = (r.0 ∙ q.0, record { by = λ p e. led p e })
+  where
+    led : (p : ℕ) → (p ≡ t) ⊎ (p ≡ u) → RowIs heap before n p shape
+    led p (inl e) = subst (λ p. RowIs heap before n p shape) (sym e) q.1
+    led p (inr e) = subst (λ p. RowIs heap before n p shape) (sym e) (subst (λ f. RowIs heap f n u shape) q.0 r.1)
+
+pub kept_then : (a b c : Facts) → RowsKept a b → RowsKept b c → RowsKept a c
+kept_then a b c g h = record { by = λ t p x e. h.by t p x (g.by t p x e) }
+
+pub changed_keeps : (header : EngineTable) (code : List PlainOp) (heap : Heap) (after : Facts) (seen now : Seen) → now ≡ after_change seen
+    → Visited header code heap after seen → Visited header code heap after now
+changed_keeps header code heap after seen now e v = subst (λ s. Visited header code heap after s) (sym e) (kept seen v)
+  where
+    kept : (seen : Seen) → Visited header code heap after seen → Visited header code heap after (after_change seen)
+    kept Quiet v = v
+    kept Changed v = v
+    kept Bad v = v
+
+pub changed_quiet : (seen now : Seen) (P : Type 0) → now ≡ after_change seen → WhereQuiet now P
+changed_quiet seen now P e = subst (λ s. WhereQuiet s P) (sym e) (quiet seen)
+  where
+    quiet : (seen : Seen) → WhereQuiet (after_change seen) P
+    quiet Quiet = tt
+    quiet Changed = tt
+    quiet Bad = tt
+
+pub two_quiet : (heap : Heap) (before mid after : Facts) (n t u : ℕ) (shape : TopShape) (seen : Seen) → (mid ≡ before) × RowIs heap before n t shape
+    → WhereQuiet seen ((after ≡ mid) × RowIs heap mid n u shape) → WhereQuiet seen ((after ≡ before) × AllLed heap before n (Two t u) shape)
+two_quiet heap before mid after n t u shape Quiet q r = two_led heap before mid after n t u shape q r
+two_quiet heap before mid after n t u shape Changed q r = tt
+two_quiet heap before mid after n t u shape Bad q r = tt
+
+pub ruleset leading = (kept_then, one_led, two_quiet, changed_keeps, changed_quiet, step_kept)

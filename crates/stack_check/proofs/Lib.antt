@@ -1,0 +1,17 @@
+pub mod Reading
+pub mod Walks
+pub mod Heaps
+pub mod Numbers
+pub mod RowLemmas
+pub mod Keeping
+pub mod Reaching
+pub mod Steps
+pub mod Following
+pub mod Adding
+pub mod Calling
+pub mod CallSteps
+pub mod ReturnSteps
+pub mod Visits
+pub mod Storing
+pub mod Passing
+pub mod Ending

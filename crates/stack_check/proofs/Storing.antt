@@ -1,0 +1,330 @@
+-- Stored states.
+use Rattle.std.proofs.Common.{arith, ◌≡◌, ◌≤◌, ◌+◌, ℕ, ℤ, zero, suc, List, [], ◌∷◌, ◌++◌, length, map, Option, None, Some, slice_get, sym, subst, ◌∙◌, ap, refl}
+use Rattle.std.specs.Prelude.{get_or}
+use Rattle.std.proofs.lemmas.List.{append-nil}
+use Rattle.nwq_value.specs.Engine.{EngineTable}
+use Rattle.ncs_code.specs.Plain.{PlainOp}
+use Rattle.ncs_code.specs.Plain as ops
+use Rattle.ncs_code.specs.File.{jump_place, op_at, resume_place}
+use Rattle.stack_shape.specs.declared.shape.Slot.{Slot}
+use Rattle.stack_shape.specs.declared.shape.Slot.TheVariants.{Of, Base}
+use Rattle.stack_shape.specs.declared.shape.Entry.TheVariants.{Stored}
+use Rattle.stack_shape.specs.declared.store.StoredTypes.{StoredTypes}
+use Rattle.stack_shape.specs.Stored.{TopShape, stored_shape, stored_types}
+use Rattle.stack_shape.specs.Laws.{deeper, deeper_saved, beneath_under, RuleLooksFromTop, StoresLookFromTop}
+use Rattle.stack_shape.specs.Rule.{IsOneStep, rule}
+use Rattle.shape_tables.specs.Tables.{ShapeTable}
+use Rattle.shape_tables.specs.Rules.{AsksFurther}
+use Rattle.stack_check.specs.declared.held.Held.{Held}
+use Rattle.stack_check.specs.declared.held.Heap.{Heap}
+use Rattle.stack_check.specs.declared.lists.Node.{Node}
+use Rattle.stack_check.specs.declared.facts.Trial.{Trial}
+use Rattle.stack_check.specs.declared.facts.Facts.{Facts}
+use Rattle.stack_check.specs.declared.seen.Seen.{Seen}
+use Rattle.stack_check.specs.declared.seen.Seen.TheVariants.{Quiet, Changed, Bad}
+use Rattle.stack_check.specs.declared.leads.Kind.{Kind}
+use Rattle.stack_check.specs.declared.leads.Kind.TheVariants.{Call, Return, Store, Step}
+use Rattle.std.specs.Option.{option_map}
+use Rattle.machine_step.specs.Act.{next_place}
+use Rattle.stack_check.specs.Shared.{read, Grows}
+use Rattle.stack_check.specs.Held.{AllAtMost, HeapGrows, Holds, IsIn, shape_of}
+use Rattle.stack_check.specs.Rows.{row_in}
+use Rattle.stack_check.specs.Facts.{current, number_in, table_of, first_held, callee_of}
+use Rattle.stack_check.specs.Inference.{TrialIn, Beyond, RowIs, Keeps, Visited, WhereQuiet, Owed, Begins, Sound, Sees, SeesStep, Resumes, IsStored, Stores, IsPlain, IsCall, after_change, kind_of}
+use Rattle.stack_check.proofs.Heaps.{heap_then, heap_same, same_shape}
+use Rattle.stack_check.proofs.Walks.{read_empty, grows_then, grows_none}
+use Rattle.stack_check.proofs.Keeping.{keeps_grows}
+use Rattle.stack_check.proofs.Steps.{row_trial, led_at, table_follows, no_rule, no_op}
+
+some_is : {A : Type 0} (a b : A) → Some a ≡ Some b → a ≡ b
+some_is a b h = cc
+
+-- ---- nothing beneath
+
+saved_none : (saved : List (List Slot)) → deeper_saved [] [] saved ≡ saved
+saved_none [] = refl
+saved_none (u ∷ us) =
+    ap (λ z. z ∷ deeper_saved [] [] us) (ap (λ z. u ++ z) (none us) ∙ append-nil u) ∙ ap (λ rest. u ∷ rest) (saved_none us)
+  where
+    none : (us : List (List Slot)) → beneath_under [] [] us ≡ []
+    none [] = refl
+    none (u ∷ us) = refl
+
+under_none : (us : List (List Slot)) → beneath_under [] [] us ≡ []
+under_none [] = refl
+under_none (u ∷ us) = refl
+
+pub deeper_none : (s : TopShape) → deeper [] [] s ≡ s
+deeper_none s = same_shape _ _ _ _ _ _ _ _ (append-nil s.cells) (ap (λ z. s.under ++ z) (under_none s.saved) ∙ append-nil s.under) (saved_none s.saved) refl
+
+deeper_empty : (x y : List Slot) (s : TopShape) → x ≡ [] → y ≡ [] → deeper x y s ≡ s
+deeper_empty x y s e f = ap (λ x. deeper x y s) e ∙ ap (λ y. deeper [] y s) f ∙ deeper_none s
+
+-- ---- the shape
+
+pub shape_held : (a : Heap) (b c d : List (Node Slot)) (globals base cells : ℕ) (types : StoredTypes) (held : Held) → Grows a.slots b → Grows b c → Grows c d
+    → globals ≤ length b → base ≤ length c → cells ≤ length d → read b globals ≡ map Of types.globals ++ read a.slots 0 → read c base ≡ Base ∷ read b globals
+    → read d cells ≡ map Of types.locals ++ read c base → held ≡ record { cells = cells; under = globals; saved = 0; pending = 0 }
+    → Holds a (record { slots = d; saved = a.saved }) held (stored_shape types)
+shape_held a b c d globals base cells types held g h i gi bi ci gr br cr e =
+    subst (λ held. Holds a (record { slots = d; saved = a.saved }) held (stored_shape types)) (sym e) (record {
+      grows = record { slots = grows_then a.slots b d g (grows_then b c d h i); saved = grows_none a.saved };
+      inside = record {
+        cells = ci;
+        under = let l = h.longer in let m = i.longer in omega (arith, gi, l, m);
+        saved = omega arith;
+        each = subst (λ ns. AllAtMost (length d) ns) (sym (read_empty a.saved)) tt;
+      };
+      is = same_shape _ _ _ _ _ _ _ _
+          (cr ∙ ap (λ z. map Of types.locals ++ z) (br ∙ ap (λ z. Base ∷ z) under_is))
+          ((grows_then b c d h i).same globals gi ∙ under_is) (ap (map (read d)) (read_empty a.saved)) refl;
+    })
+  where
+    under_is : read b globals ≡ map Of types.globals
+    under_is = gr ∙ ap (λ z. map Of types.globals ++ z) (read_empty a.slots) ∙ append-nil (map Of types.globals)
+
+pub ruleset shaping = (shape_held)
+
+-- ---- the trial
+
+pub counts_of : (facts : Facts) (site number : ℕ) → number ≡ get_or facts.stored site 0 → (number ≡ 0 → ⊥) → current facts (Stored site) ≡ Some number
+counts_of facts site zero e ne = absurd (ne refl)
+counts_of facts site (suc n) e ne = ap number_in (sym e)
+
+pub ruleset counting = (counts_of)
+
+first_is : (heap : Heap) (held : Held) (site : ℕ) → (held.saved ≡ 0) × (held.pending ≡ 0)
+    → shape_of heap (first_held (record { entry = Stored site; taken = held.cells; under = held.under; given = None })) ≡ shape_of heap held
+first_is heap held site z = same_shape _ _ _ _ _ _ _ _ refl refl (ap (λ n. map (read heap.slots) (read heap.saved n)) (sym z.0)) (sym z.1)
+
+pub stored_begins : (header : EngineTable) (code : List PlainOp) (heap : Heap) (site : ℕ) (held : Held) → Resumes header code site (shape_of heap held)
+    → (held.saved ≡ 0) × (held.pending ≡ 0)
+    → Begins header code heap (record { entry = Stored site; taken = held.cells; under = held.under; given = None })
+stored_begins header code heap site held r z = record {
+  by = λ table meets. record {
+    x = [];
+    y = [];
+    beyond = (refl, refl);
+    first = record {
+      own = shape_of heap held;
+      known = r.by table meets;
+      is = first_is heap held site z ∙ sym (deeper_none (shape_of heap held));
+    };
+  };
+}
+
+pub stored_in : (heap : Heap) (held : Held) (site : ℕ) → IsIn heap held
+    → TrialIn heap (record { entry = Stored site; taken = held.cells; under = held.under; given = None })
+stored_in heap held site i = record { taken = i.cells; under = i.under; given = tt }
+
+pub stored_owed : (header : EngineTable) (code : List PlainOp) (heap : Heap) (facts : Facts) (site number : ℕ) (held : Held) → Keeps header code heap facts
+    → Resumes header code site (shape_of heap held) → current facts (Stored site) ≡ Some number → Owed header code heap facts number (resume_place site) held
+stored_owed header code heap facts site number held k r c =
+    let t = k.formed.currents (Stored site) number c in
+    record {
+      trial = t.trial;
+      has = t.has;
+      by = λ table meets f.
+          let none : (f.x ≡ []) × (f.y ≡ []) = subst (λ e. Beyond table e (callee_of heap t.trial) f.x f.y) t.of f.beyond in
+          record {
+            own = shape_of heap held;
+            known = ap (λ e. table.at e (resume_place site)) t.of ∙ r.by table meets;
+            is = sym (deeper_empty f.x f.y (shape_of heap held) none.0 none.1);
+          };
+    }
+
+pub stored_quiet : (heap : Heap) (facts after : Facts) (site number : ℕ) (shape : TopShape) (seen : Seen) → current facts (Stored site) ≡ Some number
+    → WhereQuiet seen ((after ≡ facts) × RowIs heap facts number (resume_place site) shape)
+    → WhereQuiet seen ((after ≡ facts) × IsStored heap facts site shape)
+stored_quiet heap facts after site number shape Quiet c q = (q.0, record { number = number; counts = c; row = q.1 })
+stored_quiet heap facts after site number shape Changed c q = tt
+stored_quiet heap facts after site number shape Bad c q = tt
+
+pub ruleset resuming = (stored_begins, stored_in, stored_owed, stored_quiet)
+
+-- ---- a state of some types
+
+pub resumes_is : (header : EngineTable) (code : List PlainOp) (site : ℕ) (a b : TopShape) → b ≡ a → Resumes header code site a → Resumes header code site b
+resumes_is header code site a b e r = record { by = λ table meets. r.by table meets ∙ ap Some (sym e) }
+
+pub stored_is : (heap : Heap) (facts after : Facts) (site : ℕ) (a b : TopShape) (seen : Seen) → b ≡ a → WhereQuiet seen ((after ≡ facts) × IsStored heap facts site b)
+    → WhereQuiet seen ((after ≡ facts) × IsStored heap facts site a)
+stored_is heap facts after site a b seen e q = subst (λ s. WhereQuiet seen ((after ≡ facts) × IsStored heap facts site s)) e q
+
+pub ruleset resumed = (resumes_is, stored_is, keeps_grows)
+
+-- ---- STORE_STATE
+
+stores_fit : (op : PlainOp) (shape own : TopShape) (types : StoredTypes) (table : ShapeTable) (site : ℕ) (x y : List Slot) → StoresLookFromTop → shape ≡ deeper x y own
+    → Stores op shape types → AsksFurther table site op own → table.at (Stored site) (resume_place site) ≡ Some (stored_shape types)
+stores_fit (ops.StoreState globals locals) shape own types table site x y law e s m =
+    let found = law globals locals own.under own.cells x (beneath_under x y own.saved) m.types m.found in
+    m.resumes ∙ ap (λ t. Some (stored_shape t)) (some_is m.types types
+    (sym found ∙ ap (λ (s : TopShape). stored_types globals locals s.under s.cells) (sym e) ∙ s))
+stores_fit op shape own types table site x y law e s m = absurd s
+
+stores_one : (op : PlainOp) (shape : TopShape) (types : StoredTypes) → Stores op shape types → IsOneStep op
+stores_one (ops.StoreState globals locals) shape types s = tt
+stores_one op shape types s = absurd s
+
+pub stored_resumes : StoresLookFromTop → (header : EngineTable) (code : List PlainOp) (heap : Heap) (facts : Facts) (n p : ℕ) (held : Held) (op : PlainOp)
+    (types : StoredTypes) → Keeps header code heap facts → row_in facts.rows n p ≡ Some held → op_at code p ≡ Some op → Stores op (shape_of heap held) types
+    → Resumes header code p (stored_shape types)
+stored_resumes law header code heap facts n p held op types k r stands s = record {
+  by = λ table meets.
+      let i = row_trial header code heap facts n p held k r in
+      let f = (k.compares table meets).by n i.0 i.1 in
+      let a = f.rows p held r in
+      let t = table_follows header code table i.0.entry p op a.own meets stands (stores_one op (shape_of heap held) types s) a.known in
+      stores_fit op (shape_of heap held) a.own types table p f.x f.y law a.is s t.further;
+}
+
+-- what it asks for besides is there
+further_stored : (op : PlainOp) (shape : TopShape) (types : StoredTypes) (table : ShapeTable) (site : ℕ) → Stores op shape types
+    → table.at (Stored site) (resume_place site) ≡ Some (stored_shape types) → AsksFurther table site op shape
+further_stored (ops.StoreState globals locals) shape types table site s e = record { types = types; found = s; resumes = e }
+further_stored op shape types table site s e = absurd s
+
+pub store_bad : (header : EngineTable) (code : List PlainOp) (a b : Heap) (facts facts' : Facts) (n p : ℕ) (held : Held) (op : PlainOp)
+    → SeesStep header code a b facts facts' n p held op Bad → Sees header code a b facts facts' n p held Bad
+store_bad header code a b facts facts' n p held op s = record { grows = s.grows; keeps = s.keeps; quiet = tt }
+
+pub store_quiet : (header : EngineTable) (code : List PlainOp) (a b c : Heap) (facts mid facts' : Facts) (n p : ℕ) (held : Held) (op : PlainOp) (types : StoredTypes)
+    (seen : Seen) → Keeps header code a facts → Stores op (shape_of a held) types → SeesStep header code a b facts mid n p held op Quiet → HeapGrows b c
+    → Visited header code c facts' seen → WhereQuiet seen ((facts' ≡ mid) × IsStored c mid p (stored_shape types))
+    → Sees header code a c facts facts' n p held seen
+store_quiet header code a b c facts mid facts' n p held op types seen k s first g v q =
+    record { grows = heap_then a b c first.grows g; keeps = v; quiet = quiet seen q }
+  where
+    quiet : (seen : Seen) → WhereQuiet seen ((facts' ≡ mid) × IsStored c mid p (stored_shape types)) → WhereQuiet seen ((facts' ≡ facts) × Sound header code a facts n p held)
+    quiet Quiet q =
+        let i : IsStored c facts p (stored_shape types) = subst (λ f. IsStored c f p (stored_shape types)) first.quiet.0 q.1 in (
+          q.0 ∙ first.quiet.0,
+          first.quiet.1 (further_stored op (shape_of a held) types (table_of a facts) p s
+              (led_at header code a c facts (Stored p) i.number (resume_place p) (stored_shape types) k (heap_then a b c first.grows g) i.counts i.row)),
+        )
+    quiet Changed q = tt
+    quiet Bad q = tt
+
+pub store_changed : (header : EngineTable) (code : List PlainOp) (a b c : Heap) (facts mid facts' : Facts) (n p : ℕ) (held : Held) (op : PlainOp)
+    (seen now : Seen) → SeesStep header code a b facts mid n p held op Changed → HeapGrows b c → Visited header code c facts' seen → now ≡ after_change seen
+    → Sees header code a c facts facts' n p held now
+store_changed header code a b c facts mid facts' n p held op seen now first g v e =
+    subst (λ s. Sees header code a c facts facts' n p held s) (sym e) (at seen v)
+  where
+    at : (seen : Seen) → Visited header code c facts' seen → Sees header code a c facts facts' n p held (after_change seen)
+    at Quiet v = record { grows = heap_then a b c first.grows g; keeps = v; quiet = tt }
+    at Changed v = record { grows = heap_then a b c first.grows g; keeps = v; quiet = tt }
+    at Bad v = record { grows = heap_then a b c first.grows g; keeps = v; quiet = tt }
+
+pub ruleset storing = (stored_resumes, store_bad, store_quiet, store_changed)
+
+stored_none : (header : EngineTable) (op : PlainOp) (globals locals : ℕ) (s : TopShape) → op ≡ ops.StoreState globals locals
+    → None ≡ stored_types globals locals s.under s.cells → rule header op s ≡ None
+unfolding rule
+stored_none header op globals locals s e h = ap (λ o. rule header o s) e ∙ ap (option_map (λ t. record s { pending = s.pending + 1 })) (sym h)
+
+pub stores_none : RuleLooksFromTop → (header : EngineTable) (code : List PlainOp) (heap : Heap) (facts : Facts) (n p : ℕ) (held : Held) (op : PlainOp)
+    (globals locals : ℕ) → Keeps header code heap facts → row_in facts.rows n p ≡ Some held → op_at code p ≡ Some op → op ≡ ops.StoreState globals locals
+    → None ≡ stored_types globals locals (read heap.slots held.under) (read heap.slots held.cells) → Sees header code heap heap facts facts n p held Bad
+stores_none law header code heap facts n p held op globals locals k r stands e h = record {
+  grows = heap_same heap;
+  keeps = no_rule law header code heap facts n p held op k r stands (subst (λ o. IsOneStep o) (sym e) tt) (stored_none header op globals locals (shape_of heap held) e h);
+  quiet = tt;
+}
+
+pub stores_some : (heap : Heap) (held : Held) (op : PlainOp) (globals locals : ℕ) (types : StoredTypes) → op ≡ ops.StoreState globals locals
+    → Some types ≡ stored_types globals locals (read heap.slots held.under) (read heap.slots held.cells) → Stores op (shape_of heap held) types
+stores_some heap held op globals locals types e h = subst (λ o. Stores o (shape_of heap held) types) (sym e) (sym h)
+
+pub ruleset stores_bad = (stores_none, stores_some)
+
+pub trial_none : (header : EngineTable) (code : List PlainOp) (heap : Heap) (facts : Facts) (n p : ℕ) (held : Held) → Keeps header code heap facts
+    → row_in facts.rows n p ≡ Some held → None ≡ slice_get facts.trials n → ⊥
+trial_none header code heap facts n p held k r none = let t = row_trial header code heap facts n p held k r in nothing t.0 (none ∙ t.1)
+  where
+    nothing : (t : Trial) → None ≡ Some t → ⊥
+    nothing t h = absurd cc
+
+-- ---- kinds
+
+call_op : (place : ℕ) (op : PlainOp) (target : ℕ) → kind_of place op ≡ Call target → (offset : ℤ) × (op ≡ ops.Jsr offset) × (jump_place place offset ≡ target)
+unfolding kind_of
+call_op place (ops.Jsr o) target h = (o, refl, same (jump_place place o) target h)
+  where
+    same : (a b : ℕ) → Call a ≡ Call b → a ≡ b
+    same a b h = cc
+call_op place ops.Retn target h = absurd cc
+call_op place (ops.StoreState g l) target h = absurd cc
+call_op place op target h = absurd cc
+
+pub call_stands : (code : List PlainOp) (place : ℕ) (op : PlainOp) (target : ℕ) (kind : Kind) → kind ≡ kind_of place op → kind ≡ Call target
+    → op_at code place ≡ Some op → IsCall code place target
+call_stands code place op target kind e c h =
+    let o = call_op place op target (sym e ∙ c) in record { offset = o.0; stands = h ∙ ap Some o.1; leads = o.2 }
+
+pub call_next : (place next : ℕ) (op : PlainOp) (target : ℕ) (kind : Kind) → kind ≡ kind_of place op → kind ≡ Call target → next ≡ next_place place op
+    → next ≡ place + 6
+call_next place next op target kind e c h = let o = call_op place op target (sym e ∙ c) in h ∙ ap (next_place place) o.1
+
+return_op : (place : ℕ) (op : PlainOp) → kind_of place op ≡ Return → op ≡ ops.Retn
+unfolding kind_of
+return_op place (ops.Jsr o) h = absurd cc
+return_op place ops.Retn h = refl
+return_op place (ops.StoreState g l) h = absurd cc
+return_op place op h = absurd cc
+
+pub return_stands : (code : List PlainOp) (place : ℕ) (op : PlainOp) (kind : Kind) → kind ≡ kind_of place op → kind ≡ Return → op_at code place ≡ Some op
+    → op_at code place ≡ Some ops.Retn
+return_stands code place op kind e c h = h ∙ ap Some (return_op place op (sym e ∙ c))
+
+pub store_op : (place : ℕ) (op : PlainOp) (globals locals : ℕ) (kind : Kind) → kind ≡ kind_of place op → kind ≡ Store globals locals → op ≡ ops.StoreState globals locals
+unfolding kind_of
+store_op place (ops.Jsr o) globals locals kind e h = absurd (no_call (jump_place place o) globals locals (sym e ∙ h))
+  where
+    no_call : (o g l : ℕ) → Call o ≡ Store g l → ⊥
+    no_call o g l h = absurd cc
+store_op place ops.Retn globals locals kind e h = absurd (no_return globals locals (sym e ∙ h))
+  where
+    no_return : (g l : ℕ) → Return ≡ Store g l → ⊥
+    no_return g l h = absurd cc
+store_op place (ops.StoreState g l) globals locals kind e h = same g l globals locals (sym e ∙ h)
+  where
+    same : (g l a b : ℕ) → Store g l ≡ Store a b → ops.StoreState g l ≡ ops.StoreState a b
+    same g l a b h = ap (λ x. ops.StoreState x l) (first g l a b h) ∙ ap (ops.StoreState a) (second g l a b h)
+      where
+        first : (g l a b : ℕ) → Store g l ≡ Store a b → g ≡ a
+        first g l a b h = cc
+
+        second : (g l a b : ℕ) → Store g l ≡ Store a b → l ≡ b
+        second g l a b h = cc
+store_op place op globals locals kind e h = absurd (no_step globals locals (sym e ∙ h))
+  where
+    no_step : (g l : ℕ) → Step ≡ Store g l → ⊥
+    no_step g l h = absurd cc
+
+step_op : (place : ℕ) (op : PlainOp) → kind_of place op ≡ Step → IsOneStep op × IsPlain op
+unfolding kind_of
+step_op place (ops.Jsr o) h = absurd cc
+step_op place ops.Retn h = absurd cc
+step_op place (ops.StoreState g l) h = absurd cc
+step_op place op h = (tt, tt)
+
+pub step_one : (place : ℕ) (op : PlainOp) (kind : Kind) → kind ≡ kind_of place op → kind ≡ Step → IsOneStep op
+step_one place op kind e h = (step_op place op (sym e ∙ h)).0
+
+pub step_plain : (place : ℕ) (op : PlainOp) (kind : Kind) → kind ≡ kind_of place op → kind ≡ Step → IsPlain op
+step_plain place op kind e h = (step_op place op (sym e ∙ h)).1
+
+pub ruleset kinds = (call_stands, call_next, return_stands, store_op, step_one, step_plain)
+
+pub no_op_bad : (header : EngineTable) (code : List PlainOp) (heap : Heap) (facts : Facts) (n p : ℕ) (held : Held) → Keeps header code heap facts
+    → row_in facts.rows n p ≡ Some held → op_at code p ≡ None → Sees header code heap heap facts facts n p held Bad
+no_op_bad header code heap facts n p held k r none =
+    record { grows = heap_same heap; keeps = no_op header code heap facts n p held k r none; quiet = tt }
+
+pub types_on_tops : (o : Option StoredTypes) (globals locals : ℕ) (l m n : List (Node Slot)) (u v a b : ℕ) → o ≡ stored_types globals locals (read l u) (read m v)
+    → l ≡ n → u ≡ a → m ≡ n → v ≡ b → o ≡ stored_types globals locals (read n a) (read n b)
+types_on_tops o globals locals l m n u v a b h e f i j =
+    h ∙ ap (λ l. stored_types globals locals (read l u) (read m v)) e ∙ ap (λ u. stored_types globals locals (read n u) (read m v)) f
+    ∙ ap (λ m. stored_types globals locals (read n a) (read m v)) i ∙ ap (λ v. stored_types globals locals (read n a) (read n v)) j

@@ -1,0 +1,7 @@
+use Rattle.std.proofs.Common.{refl}
+use Rattle.stack_check.proofs.Heaps.{cells_changed}
+use Rattle.stack_check.proofs.calls.with_given.Goals as goal
+
+pub returns : goal.returns
+returns c =
+    cells_changed _ _ _ _ _ _ c.requires.inside c.in_ok-cells.ensures.grows refl refl refl refl c.in_ok-cells.ensures.inside c.in_ok-cells.ensures.reads

@@ -1,0 +1,18 @@
+use Rattle.std.proofs.Common.{subst}
+use Rattle.std.specs.Prelude.{MatchOption}
+use Rattle.shape_tables.specs.Rules.{WellStacked}
+use Rattle.stack_check.specs.Inference.{IsFound}
+use Rattle.stack_check.proofs.Ending.{kept_meets, kept_stands}
+use Rattle.stack_check.proofs.checked.check.Goals as goal
+
+pub returns-in-Some-clause-meets : goal.returns-in-Some-clause-meets
+returns-in-Some-clause-meets c =
+    kept_meets c.args.table.now c.args.code (record { code = c.args.code; heap = c.in-Some.kept.heap; facts = c.in-Some.kept.facts })
+    (subst (λ o. MatchOption o (WellStacked c.args.table.now c.args.code → ⊥) (λ k. IsFound c.args.table.now c.args.code k.heap k.facts)) c.in-Some.is
+    c.in_ok-infer.ensures.found)
+
+pub returns-in-Some-clause-stored : goal.returns-in-Some-clause-stored
+returns-in-Some-clause-stored c other meets =
+    kept_stands c.args.table.now c.args.code (record { code = c.args.code; heap = c.in-Some.kept.heap; facts = c.in-Some.kept.facts }) other
+    (subst (λ o. MatchOption o (WellStacked c.args.table.now c.args.code → ⊥) (λ k. IsFound c.args.table.now c.args.code k.heap k.facts)) c.in-Some.is
+    c.in_ok-infer.ensures.found) meets

@@ -1,0 +1,8 @@
+use Rattle.stack_check.proofs.Keeping.{keeps_trial}
+use Rattle.stack_check.proofs.facts.begin.Goals as goal
+
+pub returns : goal.returns
+returns c = record {
+  keeps = keeps_trial _ _ _ c.args.facts.now _ c.args.trial c.requires.keeps c.in_ok-number.ensures.added c.requires.inside (λ e. absurd (c.requires.entry e))
+      c.requires.begins;
+}

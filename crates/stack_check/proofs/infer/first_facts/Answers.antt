@@ -1,0 +1,15 @@
+use Rattle.std.proofs.Common.{[], ◌∷◌, ◌++◌, ◌∙◌, None, ap}
+use Rattle.stack_shape.specs.declared.shape.Entry.TheVariants.{Start}
+use Rattle.stack_check.proofs.Ending.{empty_row, starts}
+use Rattle.stack_check.proofs.infer.first_facts.Goals as goal
+
+pub add-requires : goal.add-requires
+add-requires c = record { new = empty_row c.new-rows.result 0 13 c.new-rows.ensures.empty }
+
+pub returns : goal.returns
+returns c = record {
+  keeps = starts c.args.table.now c.args.code.now c.args.heap.now c.new-rows.result c.add.new.self c.push.new.self c.new.result c.new-2.result
+      c.new-rows.ensures.empty c.in_ok-add.ensures.added
+      (c.in_ok-push.ensures.ok ∙ ap (λ trials. trials ++ record { entry = Start; taken = 0; under = 0; given = None } ∷ []) c.new-trials.ensures.empty)
+      c.new.ensures.empty c.new-2.ensures.empty;
+}

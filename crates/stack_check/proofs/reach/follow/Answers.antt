@@ -1,0 +1,6 @@
+use Rattle.stack_check.proofs.Following.{reached_keeps}
+use Rattle.stack_check.proofs.reach.follow.Goals as goal
+
+pub returns-clause-keeps : goal.returns-clause-keeps
+returns-clause-keeps c =
+    reached_keeps _ _ _ c.args.facts.now _ _ _ c.args.held c.in_ok-seen.seen c.requires.keeps c.requires.owed c.requires.inside c.in_ok-seen.ensures

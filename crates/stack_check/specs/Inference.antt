@@ -1,0 +1,305 @@
+-- What an inference keeps true: what it has found is there in every table that meets the rules, perhaps with fewer slots beneath.
+use Rattle.std.specs.Prelude.{◌≡◌, ◌≤◌, ◌<◌, ℕ, ℤ, List, [], ◌++◌, ◌∷◌, length, Option, None, Some, IfSome, slice_get, ◌⊎◌}
+use Rattle.nwq_value.specs.Engine.{EngineTable}
+use Rattle.ncs_code.specs.Plain.{PlainOp}
+use Rattle.ncs_code.specs.Plain as ops
+use Rattle.ncs_code.specs.File.{jump_place, op_at, resume_place}
+use Rattle.stack_shape.specs.declared.shape.Slot.{Slot}
+use Rattle.stack_shape.specs.declared.shape.Entry.{Entry}
+use Rattle.stack_shape.specs.declared.shape.Entry.TheVariants.{Start, Called, Stored}
+use Rattle.stack_shape.specs.declared.store.StoredTypes.{StoredTypes}
+use Rattle.stack_shape.specs.Stored.{TopShape, stored_types}
+use Rattle.stack_shape.specs.Laws.{deeper}
+use Rattle.shape_tables.specs.Tables.{Callee, ShapeTable}
+use Rattle.stack_shape.specs.Rule.{IsOneStep, rule}
+use Rattle.shape_tables.specs.Rules.{AsksFurther, IsSound, MeetsRules, WellStacked}
+use Rattle.stack_check.specs.declared.held.Held.{Held}
+use Rattle.stack_check.specs.declared.held.Heap.{Heap}
+use Rattle.stack_check.specs.declared.facts.Trial.{Trial}
+use Rattle.stack_check.specs.declared.facts.Facts.{Facts}
+use Rattle.stack_check.specs.declared.seen.Seen.{Seen}
+use Rattle.stack_check.specs.declared.seen.Seen.TheVariants.{Quiet, Changed, Bad}
+use Rattle.stack_check.specs.declared.leads.Lead.{Lead}
+use Rattle.stack_check.specs.declared.leads.Lead.TheVariants.{One, Two}
+use Rattle.stack_check.specs.declared.leads.Kind.{Kind}
+use Rattle.stack_check.specs.declared.leads.Kind.TheVariants.{Call, Return, Store, Step}
+use Rattle.stack_check.specs.Shared.{read}
+use Rattle.stack_check.specs.Held.{HeapGrows, IsIn, shape_of}
+use Rattle.stack_check.specs.Rows.{RowAdded, row_in}
+use Rattle.stack_check.specs.Facts.{current, first_place, first_held, callee_of, table_of}
+
+-- ---- the facts hang together
+
+pub record IsTrialOf (facts : Facts) (number : ℕ) (entry : Entry) : Type 0 where
+  pub trial : Trial
+  pub has : slice_get facts.trials number ≡ Some trial
+  pub of : trial.entry ≡ entry
+
+pub record Formed (facts : Facts) : Type 0 where
+  -- what counts for an entry is a trial of it
+  pub currents : (entry : Entry) (number : ℕ) → current facts entry ≡ Some number → IsTrialOf facts number entry
+  -- each trial has its first shape
+  pub firsts : (number : ℕ) (trial : Trial) → slice_get facts.trials number ≡ Some trial
+      → row_in facts.rows number (first_place trial.entry) ≡ Some (first_held trial)
+  -- each row is of a trial
+  pub owned : (number place : ℕ) (held : Held) → row_in facts.rows number place ≡ Some held → number < length facts.trials
+  -- a script starts with nothing
+  pub start : (number : ℕ) (trial : Trial) → slice_get facts.trials number ≡ Some trial → trial.entry ≡ Start → (trial.taken ≡ 0) × (trial.under ≡ 0)
+
+-- a trial's lists are there
+pub record TrialIn (heap : Heap) (trial : Trial) : Type 0 where
+  pub taken : trial.taken ≤ length heap.slots
+  pub under : trial.under ≤ length heap.slots
+  pub given : IfSome trial.given (λ given. given ≤ length heap.slots)
+
+pub record AllIn (heap : Heap) (facts : Facts) : Type 0 where
+  pub rows : (number place : ℕ) (held : Held) → row_in facts.rows number place ≡ Some held → IsIn heap held
+  pub trials : (number : ℕ) (trial : Trial) → slice_get facts.trials number ≡ Some trial → TrialIn heap trial
+
+-- ---- comparison with a table
+
+-- What a routine was found to give is what the table says, with the same slots beneath.
+abbrev pub GivenFits : Option (List Slot) → Option (List Slot) → List Slot → Type 0
+GivenFits None own x = Unit {0}
+GivenFits (Some given) None x = ⊥
+GivenFits (Some given) (Some own) x = given ≡ own ++ x
+
+-- The table knows the routine, which takes no more than what is assumed.
+pub record IsLonger (table : ShapeTable) (target : ℕ) (callee : Callee) (x y : List Slot) : Type 0 where
+  pub own : Callee
+  pub known : table.called target ≡ Some own
+  pub taken : callee.taken ≡ own.taken ++ x
+  pub under : callee.under ≡ own.under ++ y
+  pub given : GivenFits callee.given own.given x
+
+-- What lies beneath the table's slots in all shapes of a trial: something for a called routine alone.
+abbrev pub Beyond : ShapeTable → Entry → Callee → List Slot → List Slot → Type 0
+Beyond table Start callee x y = (x ≡ []) × (y ≡ [])
+Beyond table (Called target) callee x y = IsLonger table target callee x y
+Beyond table (Stored site) callee x y = (x ≡ []) × (y ≡ [])
+
+pub record RowFits (table : ShapeTable) (entry : Entry) (place : ℕ) (shape : TopShape) (x y : List Slot) : Type 0 where
+  pub own : TopShape
+  pub known : table.at entry place ≡ Some own
+  pub is : shape ≡ deeper x y own
+
+pub record TrialFits (table : ShapeTable) (heap : Heap) (facts : Facts) (number : ℕ) (trial : Trial) : Type 0 where
+  pub x : List Slot
+  pub y : List Slot
+  pub beyond : Beyond table trial.entry (callee_of heap trial) x y
+  pub rows : (place : ℕ) (held : Held) → row_in facts.rows number place ≡ Some held → RowFits table trial.entry place (shape_of heap held) x y
+
+pub record Compares (table : ShapeTable) (heap : Heap) (facts : Facts) : Type 0 where
+  pub by : (number : ℕ) (trial : Trial) → slice_get facts.trials number ≡ Some trial → TrialFits table heap facts number trial
+
+-- ---- what is kept
+
+pub record Keeps (header : EngineTable) (code : List PlainOp) (heap : Heap) (facts : Facts) : Type 0 where
+  pub formed : Formed facts
+  pub inside : AllIn heap facts
+  pub compares : (table : ShapeTable) → MeetsRules header code table → Compares table heap facts
+
+abbrev pub Visited : EngineTable → List PlainOp → Heap → Facts → Seen → Type 0
+Visited header code heap facts Quiet = Keeps header code heap facts
+Visited header code heap facts Changed = Keeps header code heap facts
+Visited header code heap facts Bad = WellStacked header code → ⊥
+
+abbrev pub WhereQuiet : Seen → Type 0 → Type 0
+WhereQuiet Quiet P = P
+WhereQuiet Changed P = Unit {0}
+WhereQuiet Bad P = Unit {0}
+
+-- ---- one shape
+
+-- Every table has the shape there, in the trial.
+pub record Owed (header : EngineTable) (code : List PlainOp) (heap : Heap) (facts : Facts) (number place : ℕ) (held : Held) : Type 0 where
+  pub trial : Trial
+  pub has : slice_get facts.trials number ≡ Some trial
+  pub by : (table : ShapeTable) → MeetsRules header code table → (fits : TrialFits table heap facts number trial)
+      → RowFits table trial.entry place (shape_of heap held) fits.x fits.y
+
+-- the trial has this shape there
+pub record RowIs (heap : Heap) (facts : Facts) (number place : ℕ) (shape : TopShape) : Type 0 where
+  pub held : Held
+  pub row : row_in facts.rows number place ≡ Some held
+  pub is : shape_of heap held ≡ shape
+
+abbrev pub Reached : Heap → Facts → Facts → ℕ → ℕ → Held → Seen → Type 0
+Reached heap before after number place held Quiet = (after ≡ before) × RowIs heap before number place (shape_of heap held)
+Reached heap before after number place held Changed =
+    RowAdded before.rows after.rows number place held × (after ≡ record before { rows = after.rows })
+Reached heap before after number place held Bad =
+    (RowIs heap before number place (shape_of heap held) → ⊥) × ((h : Held) × (row_in before.rows number place ≡ Some h)) × (after ≡ before)
+
+-- ---- a new trial
+
+pub record TrialAdded (before after : Facts) (trial : Trial) : Type 0 where
+  pub trials : after.trials ≡ before.trials ++ trial ∷ []
+  pub kept : (t p : ℕ) (h : Held) → row_in before.rows t p ≡ Some h → row_in after.rows t p ≡ Some h
+  pub here : row_in after.rows (length before.trials) (first_place trial.entry) ≡ Some (first_held trial)
+  pub only : (t p : ℕ) (h : Held) → row_in after.rows t p ≡ Some h
+      → (row_in before.rows t p ≡ Some h) ⊎ ((t ≡ length before.trials) × (p ≡ first_place trial.entry) × (h ≡ first_held trial))
+  pub currents : (entry : Entry) (n : ℕ) → current after entry ≡ Some n → (current before entry ≡ Some n) ⊎ ((entry ≡ trial.entry) × (n ≡ length before.trials))
+
+-- how a trial that begins compares with a table
+pub record FirstFits (table : ShapeTable) (heap : Heap) (trial : Trial) : Type 0 where
+  pub x : List Slot
+  pub y : List Slot
+  pub beyond : Beyond table trial.entry (callee_of heap trial) x y
+  pub first : RowFits table trial.entry (first_place trial.entry) (shape_of heap (first_held trial)) x y
+
+pub record Begins (header : EngineTable) (code : List PlainOp) (heap : Heap) (trial : Trial) : Type 0 where
+  pub by : (table : ShapeTable) → MeetsRules header code table → FirstFits table heap trial
+
+-- ---- where an instruction leads
+
+unfoldable pub leads_of : ℕ → ℕ → PlainOp → Lead
+leads_of place next (ops.Jmp offset) = One (jump_place place offset)
+leads_of place next (ops.Jz offset) = Two (jump_place place offset) next
+leads_of place next (ops.Jnz offset) = Two (jump_place place offset) next
+leads_of place next op = One next
+
+abbrev pub IsLed : Lead → ℕ → Type 0
+IsLed (One target) place = place ≡ target
+IsLed (Two first second) place = (place ≡ first) ⊎ (place ≡ second)
+
+-- The trial has the shape wherever the instruction leads.
+pub record AllLed (heap : Heap) (facts : Facts) (number : ℕ) (lead : Lead) (shape : TopShape) : Type 0 where
+  pub by : (place : ℕ) → IsLed lead place → RowIs heap facts number place shape
+
+-- rows are only added
+pub record RowsKept (before after : Facts) : Type 0 where
+  pub by : (t p : ℕ) (h : Held) → row_in before.rows t p ≡ Some h → row_in after.rows t p ≡ Some h
+
+-- The shape at a place of a trial, on which the instruction there has a rule, and the shape after it.
+pub record IsStep (header : EngineTable) (code : List PlainOp) (heap : Heap) (facts : Facts) (number place : ℕ) (held : Held) (op : PlainOp) (after : Held) : Type 0 where
+  pub row : row_in facts.rows number place ≡ Some held
+  pub stands : op_at code place ≡ Some op
+  pub one : IsOneStep op
+  pub has_rule : rule header op (shape_of heap held) ≡ Some (shape_of heap after)
+  pub inside : IsIn heap after
+
+-- If the trial counts for an entry, the instruction at the place obeys the rules there.
+pub record Sound (header : EngineTable) (code : List PlainOp) (heap : Heap) (facts : Facts) (number place : ℕ) (held : Held) : Type 0 where
+  pub by : (entry : Entry) → current facts entry ≡ Some number → IsSound header code (table_of heap facts) entry place (shape_of heap held)
+
+-- What a visit of a place leaves.
+pub record Sees (header : EngineTable) (code : List PlainOp) (heap heap' : Heap) (facts facts' : Facts) (number place : ℕ) (held : Held) (seen : Seen) : Type 0 where
+  pub grows : HeapGrows heap heap'
+  pub keeps : Visited header code heap' facts' seen
+  pub quiet : WhereQuiet seen ((facts' ≡ facts) × Sound header code heap facts number place held)
+
+-- every table says that the routine gives this, with fewer slots beneath
+pub record GivenOwed (header : EngineTable) (code : List PlainOp) (heap : Heap) (facts : Facts) (number given : ℕ) : Type 0 where
+  pub trial : Trial
+  pub has : slice_get facts.trials number ≡ Some trial
+  pub by : (table : ShapeTable) → MeetsRules header code table → (fits : TrialFits table heap facts number trial)
+      → Beyond table trial.entry (callee_of heap (record trial { given = Some given })) fits.x fits.y
+
+-- what a visit comes to that has changed something before
+abbrev pub after_change : Seen → Seen
+after_change Bad = Bad
+after_change Changed = Changed
+after_change Quiet = Changed
+
+-- The trial of this number counts for the entry, and for the others the same as before.
+pub record CurrentSet (before after : Facts) (entry : Entry) (number : ℕ) : Type 0 where
+  pub trials : after.trials ≡ before.trials
+  pub rows : after.rows ≡ before.rows
+  pub only : (e : Entry) (n : ℕ) → current after e ≡ Some n → (current before e ≡ Some n) ⊎ ((e ≡ entry) × (n ≡ number))
+
+-- ---- calls
+
+-- a JSR that leads to this place
+pub record IsCall (code : List PlainOp) (place target : ℕ) : Type 0 where
+  pub offset : ℤ
+  pub stands : op_at code place ≡ Some (ops.Jsr offset)
+  pub leads : jump_place place offset ≡ target
+
+-- the trial that counts for the routine that begins at a place
+pub record Calls (facts : Facts) (target : ℕ) (callee : Trial) : Type 0 where
+  pub number : ℕ
+  pub counts : current facts (Called target) ≡ Some number
+  pub has : slice_get facts.trials number ≡ Some callee
+
+-- A shape begins with what a trial takes, and these lie beneath.
+pub record Strips (heap : Heap) (held : Held) (callee : Trial) (rest beneath : ℕ) : Type 0 where
+  pub rest_in : rest ≤ length heap.slots
+  pub cells : read heap.slots held.cells ≡ read heap.slots callee.taken ++ read heap.slots rest
+  pub under : read heap.slots held.under ≡ read heap.slots callee.under ++ read heap.slots beneath
+
+-- an instruction that stores no state
+abbrev pub IsPlain : PlainOp → Type 0
+IsPlain (ops.StoreState globals locals) = ⊥
+IsPlain op = Unit {0}
+
+-- What the visit of an instruction with a rule of one shape leaves, but for what it stores.
+pub record SeesStep (header : EngineTable) (code : List PlainOp) (heap heap' : Heap) (facts facts' : Facts) (number place : ℕ) (held : Held) (op : PlainOp) (seen : Seen) : Type 0 where
+  pub grows : HeapGrows heap heap'
+  pub keeps : Visited header code heap' facts' seen
+  pub quiet : WhereQuiet seen ((facts' ≡ facts)
+      × (AsksFurther (table_of heap facts) place op (shape_of heap held) → Sound header code heap facts number place held))
+
+-- ---- stored states
+
+-- every table has this shape where a state resumes that is stored at this place
+pub record Resumes (header : EngineTable) (code : List PlainOp) (site : ℕ) (shape : TopShape) : Type 0 where
+  pub by : (table : ShapeTable) → MeetsRules header code table → table.at (Stored site) (resume_place site) ≡ Some shape
+
+-- the trial that counts for what is stored there has it
+pub record IsStored (heap : Heap) (facts : Facts) (site : ℕ) (shape : TopShape) : Type 0 where
+  pub number : ℕ
+  pub counts : current facts (Stored site) ≡ Some number
+  pub row : RowIs heap facts number (resume_place site) shape
+
+-- the instruction stores a state of these types
+abbrev pub Stores : PlainOp → TopShape → StoredTypes → Type 0
+Stores (ops.StoreState globals locals) shape types = stored_types globals locals shape.under shape.cells ≡ Some types
+Stores op shape types = ⊥
+
+-- ---- kinds of instructions
+
+unfoldable pub kind_of : ℕ → PlainOp → Kind
+kind_of place (ops.Jsr offset) = Call (jump_place place offset)
+kind_of place ops.Retn = Return
+kind_of place (ops.StoreState globals locals) = Store globals locals
+kind_of place op = Step
+
+-- ---- all places
+
+pub record CountsNot (facts : Facts) (number : ℕ) : Type 0 where
+  pub by : (entry : Entry) → current facts entry ≡ Some number → ⊥
+
+-- Whatever shape the trial has there obeys the rules.
+pub record RowSound (header : EngineTable) (code : List PlainOp) (heap : Heap) (facts : Facts) (number place : ℕ) : Type 0 where
+  pub by : (held : Held) → row_in facts.rows number place ≡ Some held → Sound header code heap facts number place held
+
+pub record SeesRow (header : EngineTable) (code : List PlainOp) (heap heap' : Heap) (facts facts' : Facts) (number place : ℕ) (seen : Seen) : Type 0 where
+  pub grows : HeapGrows heap heap'
+  pub keeps : Visited header code heap' facts' seen
+  pub quiet : WhereQuiet seen ((facts' ≡ facts) × RowSound header code heap facts number place)
+
+-- the same for all trials at a place
+pub record PlaceSound (header : EngineTable) (code : List PlainOp) (heap : Heap) (facts : Facts) (place : ℕ) : Type 0 where
+  pub by : (number : ℕ) → RowSound header code heap facts number place
+
+pub record SeesPlace (header : EngineTable) (code : List PlainOp) (heap heap' : Heap) (facts facts' : Facts) (place : ℕ) (seen : Seen) : Type 0 where
+  pub grows : HeapGrows heap heap'
+  pub keeps : Visited header code heap' facts' seen
+  pub quiet : WhereQuiet seen ((facts' ≡ facts) × PlaceSound header code heap facts place)
+
+-- and at all places
+pub record SeesAll (header : EngineTable) (code : List PlainOp) (heap heap' : Heap) (facts facts' : Facts) (seen : Seen) : Type 0 where
+  pub grows : HeapGrows heap heap'
+  pub keeps : Visited header code heap' facts' seen
+  pub quiet : WhereQuiet seen ((facts' ≡ facts) × MeetsRules header code (table_of heap facts))
+
+-- what one turn of the inference leaves
+pub record SeesTurn (header : EngineTable) (code : List PlainOp) (heap : Heap) (facts : Facts) (seen : Seen) : Type 0 where
+  pub keeps : Visited header code heap facts seen
+  pub quiet : WhereQuiet seen (MeetsRules header code (table_of heap facts))
+
+-- A table was found, and compares with every other.
+pub record IsFound (header : EngineTable) (code : List PlainOp) (heap : Heap) (facts : Facts) : Type 0 where
+  pub keeps : Keeps header code heap facts
+  pub meets : MeetsRules header code (table_of heap facts)

@@ -1,0 +1,6 @@
+pub mod Shared
+pub mod Held
+pub mod Rows
+pub mod Facts
+pub mod Checked
+pub mod Inference

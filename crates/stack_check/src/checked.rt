@@ -1,0 +1,64 @@
+ghost use Rattle.std.specs.Prelude.{◌≡◌, ◌↔◌, IfOk, IsTrue, Err};
+ghost use Rattle.shape_tables.specs.Tables.{ShapeTable};
+ghost use Rattle.shape_tables.specs.Rules.{MeetsRules, WellStacked};
+ghost use Rattle.shape_tables.specs.Fits.{Fits};
+ghost use Rattle.stack_check.specs.Checked.{StoredStand, kept_table};
+ghost use Rattle.stack_check.specs.declared.fault.CheckFault.TheVariants.{Unstacked};
+
+use crate::facts::Facts;
+use crate::fault::CheckFault;
+use crate::held::Heap;
+use crate::infer::{Kept, infer};
+use ncs_file::Code;
+use nwq_value::Table;
+use saved_state::Saved;
+use std::alloc::Global;
+use std::marker::Model;
+
+/// Code that is well stacked under a header, with a table of shapes that meets the rules.
+#[derive(Drop)]
+pub struct Checked {
+    code: Code,
+    heap: Heap,
+    facts: Facts,
+}
+
+impl Model for Checked {
+    ghost use Rattle.stack_check.specs.Checked.{CheckedCode};
+
+    ghost Value = { CheckedCode };
+
+    ghost view = { λ c. record { code = c.code; heap = c.heap; facts = c.facts } };
+}
+
+/// The code with a table of shapes that meets the rules under this header, or `Unstacked` exactly
+/// where there is none. The code is dropped on a refusal.
+#[tactic(auto, using(crate::proofs::Ending::checking))]
+pub fn check(alloc: Global, code: Code, table: &Table) -> Result<Checked, CheckFault>
+    // What was handed in is kept.
+    ensures code { IfOk result (λ c. c.code ≡ code) }
+    // The kept table meets the rules, so the code is well stacked.
+    ensures meets { IfOk result (λ c. MeetsRules table.now code (kept_table c)) }
+    // What it says of stored states stands in every table that meets the rules.
+    ensures stored { IfOk result (λ c. (other : ShapeTable) → MeetsRules table.now code other
+        → StoredStand (kept_table c) other) }
+    // Where no table is found there is none.
+    ensures unstacked { result ≡ Err Unstacked → WellStacked table.now code → ⊥ }
+{
+    match infer(alloc, &code, table)? {
+        None => Err(CheckFault::Unstacked),
+        Some(kept) => {
+            let Kept { heap, facts } = kept;
+            Ok(Checked { code, heap, facts })
+        }
+    }
+}
+
+impl Checked {
+    /// The code, as it was handed in.
+    pub fn code(&self) -> &Code
+        ensures code { result.now ≡ self.now.code }
+    {
+        &self.code
+    }
+}

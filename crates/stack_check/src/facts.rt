@@ -1,0 +1,154 @@
+ghost use Rattle.std.specs.Prelude.{◌≡◌, ◌≢◌, ◌<◌, ◌≤◌, ◌^◌, [], Some, IfOk, OnOk, length, slice_get};
+ghost use Rattle.ncs_code.specs.Plain.{plain};
+ghost use Rattle.stack_shape.specs.declared.shape.Entry.TheVariants.{Start};
+ghost use Rattle.stack_check.specs.Facts.{first_place, first_held};
+ghost use Rattle.stack_check.specs.Inference.{Begins, Formed, GivenOwed, Keeps, TrialAdded, TrialIn};
+ghost use Rattle.stack_check.specs.Inference.{CurrentSet};
+
+use crate::held::{Heap, Held};
+use crate::places::Places;
+use crate::rows::Rows;
+use crate::todo::{Spot, Todo};
+use ncs_file::Code;
+use nwq_value::{Items, NoMemory, Table};
+use stack_shape::Entry;
+
+/// An entry, with what its routine is assumed to take: the lists of slots that it may reach.
+#[derive(Clone, Copy)]
+pub struct Trial {
+    pub entry: Entry,
+    pub taken: u32,
+    pub under: u32,
+    /// What the routine gives in the place of `taken`, once a RETN was found.
+    pub given: Option<u32>,
+}
+
+/// What was found so far.
+#[derive(Drop)]
+pub struct Facts {
+    /// All trials. The first is the script's start.
+    pub trials: Items<Trial>,
+    /// By the place at which a called routine begins: the number of its newest trial.
+    pub called: Places,
+    /// By the place of a STORE_STATE: the number of the trial of what it stores.
+    pub stored: Places,
+    /// The shapes that were found.
+    pub rows: Rows,
+}
+
+/// The place at which an entry begins.
+fn first_place(entry: Entry) -> u32
+    requires { first_place entry < 2 ^ 32 }
+    ensures { result ≡ first_place entry }
+{
+    match entry {
+        Entry::Start => 13,
+        Entry::Called(target) => target,
+        Entry::Stored(site) => site + 16,
+    }
+}
+
+/// The shape with which a trial begins.
+fn first_held(trial: Trial) -> Held
+    ensures { result ≡ first_held trial }
+{
+    Held {
+        cells: trial.taken,
+        under: trial.under,
+        saved: 0,
+        pending: 0,
+    }
+}
+
+/// Has a trial count for its entry from now on.
+#[tactic(auto, using(crate::proofs::Adding::setting))]
+fn set_current(facts: &mut Facts, entry: Entry, number: u32) -> Result<(), NoMemory>
+    ensures set { OnOk result (CurrentSet facts.old facts.new entry number) }
+{
+    match entry {
+        Entry::Start => Ok(()),
+        Entry::Called(target) => facts.called.put(target, number),
+        Entry::Stored(site) => facts.stored.put(site, number),
+    }
+}
+
+/// Adds a trial, which counts for its entry from now on.
+#[tactic(auto, using(crate::proofs::Adding::adding))]
+fn add_trial(facts: &mut Facts, trial: Trial) -> Result<u32, NoMemory>
+    requires formed { Formed facts.old }
+    requires entry { trial.entry ≢ Start }
+    requires place { first_place trial.entry < 2 ^ 32 }
+    ensures added { IfOk result (λ _. TrialAdded facts.old facts.new trial) }
+{
+    let number = facts.trials.len();
+    if number >= u32::MAX as usize {
+        return Err(NoMemory);
+    }
+    let number = number as u32;
+    facts.trials.push(trial)?;
+    facts
+        .rows
+        .add(number, first_place(trial.entry), first_held(trial))?;
+    set_current(facts, trial.entry, number)?;
+    Ok(number)
+}
+
+/// Begins a trial that compares with every table.
+pub fn begin(
+    code: &Code,
+    table: &Table,
+    heap: &Heap,
+    facts: &mut Facts,
+    todo: &mut Todo,
+    trial: Trial,
+) -> Result<(), NoMemory>
+    requires keeps { Keeps table.now code.now heap.now facts.old }
+    requires entry { trial.entry ≢ Start }
+    requires place { first_place trial.entry < 2 ^ 32 }
+    requires begins { Begins table.now code.now heap.now trial }
+    requires inside { TrialIn heap.now trial }
+    ensures keeps { IfOk result (λ _. Keeps table.now code.now heap.now facts.new) }
+{
+    let _ = code;
+    let _ = table;
+    let _ = heap;
+    let number = add_trial(facts, trial)?;
+    let place = first_place(trial.entry);
+    todo.add(Spot {
+        trial: number,
+        place,
+    })?;
+    Ok(())
+}
+
+/// Keeps what a routine gives.
+pub fn give(
+    code: &Code,
+    table: &Table,
+    heap: &Heap,
+    facts: &mut Facts,
+    number: u32,
+    given: u32,
+) -> Result<(), NoMemory>
+    requires keeps { Keeps table.now code.now heap.now facts.old }
+    requires owed { GivenOwed table.now code.now heap.now facts.old number given }
+    requires inside { given ≤ length heap.now.slots }
+    ensures keeps { IfOk result (λ _. Keeps table.now code.now heap.now facts.new) }
+{
+    let _ = code;
+    let _ = table;
+    let _ = heap;
+    match facts.trials.get(number as usize) {
+        None => Err(NoMemory),
+        Some(trial) => {
+            let trial = Trial {
+                entry: trial.entry,
+                taken: trial.taken,
+                under: trial.under,
+                given: Some(given),
+            };
+            facts.trials.set(number as usize, trial);
+            Ok(())
+        }
+    }
+}

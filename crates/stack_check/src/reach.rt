@@ -1,0 +1,205 @@
+ghost use Rattle.std.specs.Prelude.{◌≡◌, IfOk, ◌↔◌, IsTrue, map};
+ghost use Rattle.ncs_code.specs.Plain.{plain};
+ghost use Rattle.stack_check.specs.Shared.{read};
+ghost use Rattle.stack_check.specs.Held.{IsIn, shape_of};
+ghost use Rattle.stack_check.specs.Inference.{AllLed, IsLed, IsStep, Keeps, Owed, Reached, RowIs, RowsKept};
+ghost use Rattle.stack_check.specs.Inference.{Visited, WhereQuiet, after_change, leads_of};
+ghost use Rattle.machine_step.specs.Act.{next_place};
+
+use crate::facts::Facts;
+use crate::held::{Heap, Held};
+use crate::leads::Lead;
+use crate::seen::Seen;
+use crate::slots::same;
+use crate::todo::{Spot, Todo};
+use ncs_code::Op;
+use ncs_file::Code;
+use nwq_value::{NoMemory, Table};
+use stack_shape::rules_look_from_the_top;
+
+/// Whether both saved lists have the same lists of slots.
+#[tactic(auto, using(crate::proofs::Walks::comparing))]
+fn same_saved(heap: &Heap, a: u32, b: u32) -> bool
+    ensures { IsTrue result ↔ (map (read heap.now.slots) (read heap.now.saved a)
+        ≡ map (read heap.now.slots) (read heap.now.saved b)) }
+{
+    let mut x = a;
+    let mut y = b;
+    while x != y {
+        match (heap.saved.pop(x), heap.saved.pop(y)) {
+            (None, None) => return true,
+            (None, Some(_)) => return false,
+            (Some(_), None) => return false,
+            (Some((s, rest)), Some((t, other))) => {
+                if !same(&heap.slots, s, t) {
+                    return false;
+                }
+                x = rest;
+                y = other;
+            }
+        }
+    }
+    true
+}
+
+/// Whether both are the same shape.
+#[tactic(auto, using(crate::proofs::Reaching::same_parts))]
+pub fn same_shape(heap: &Heap, a: Held, b: Held) -> bool
+    ensures { IsTrue result ↔ (shape_of heap.now a ≡ shape_of heap.now b) }
+{
+    a.pending == b.pending
+        && same(&heap.slots, a.cells, b.cells)
+        && same(&heap.slots, a.under, b.under)
+        && same_saved(heap, a.saved, b.saved)
+}
+
+/// Looks whether the trial has this shape at the place, and adds it where it has none there.
+#[tactic(auto, using(crate::proofs::Reaching::reaching))]
+fn reach(
+    heap: &Heap,
+    facts: &mut Facts,
+    trial: u32,
+    place: u32,
+    held: Held,
+) -> Result<Seen, NoMemory>
+    ensures { IfOk result (λ seen. Reached heap.now facts.old facts.new trial place held seen) }
+{
+    match facts.rows.find(trial, place) {
+        None => {
+            facts.rows.add(trial, place, held)?;
+            Ok(Seen::Changed)
+        }
+        Some(found) => {
+            if same_shape(heap, found, held) {
+                Ok(Seen::Quiet)
+            } else {
+                Ok(Seen::Bad)
+            }
+        }
+    }
+}
+
+/// Has a place looked at where its shape is new.
+fn note(todo: &mut Todo, seen: Seen, spot: Spot) -> Result<(), NoMemory> {
+    match seen {
+        Seen::Changed => todo.add(spot),
+        Seen::Quiet => Ok(()),
+        Seen::Bad => Ok(()),
+    }
+}
+
+/// Reaches a shape that every table has at the place.
+#[tactic(auto, using(crate::proofs::Following::following))]
+pub fn follow(
+    code: &Code,
+    table: &Table,
+    heap: &Heap,
+    facts: &mut Facts,
+    todo: &mut Todo,
+    spot: Spot,
+    held: Held,
+) -> Result<Seen, NoMemory>
+    requires keeps { Keeps table.now code.now heap.now facts.old }
+    requires owed { Owed table.now code.now heap.now facts.old spot.trial spot.place held }
+    requires inside { IsIn heap.now held }
+    ensures keeps { IfOk result (λ seen. Visited table.now code.now heap.now facts.new seen) }
+    ensures kept { IfOk result (λ _. RowsKept facts.old facts.new) }
+    ensures quiet { IfOk result (λ seen. WhereQuiet seen ((facts.new ≡ facts.old)
+        × RowIs heap.now facts.old spot.trial spot.place (shape_of heap.now held))) }
+{
+    let _ = code;
+    let _ = table;
+    let seen = reach(heap, facts, spot.trial, spot.place, held)?;
+    note(todo, seen, spot)?;
+    Ok(seen)
+}
+
+/// A shape that was found at a place of a trial.
+#[derive(Clone, Copy)]
+pub struct Found {
+    pub trial: u32,
+    pub place: u32,
+    pub held: Held,
+}
+
+pub fn after_change(seen: Seen) -> Seen
+    ensures { result ≡ after_change seen }
+{
+    match seen {
+        Seen::Bad => Seen::Bad,
+        Seen::Changed => Seen::Changed,
+        Seen::Quiet => Seen::Changed,
+    }
+}
+
+/// Reaches the shape after an instruction at one of the places to which it leads.
+fn lead_to(
+    code: &Code,
+    table: &Table,
+    heap: &Heap,
+    facts: &mut Facts,
+    todo: &mut Todo,
+    from: Found,
+    op: &Op<'_>,
+    after: Held,
+    lead: Lead,
+    place: u32,
+) -> Result<Seen, NoMemory>
+    requires keeps { Keeps table.now code.now heap.now facts.old }
+    requires step { IsStep table.now code.now heap.now facts.old from.trial from.place from.held
+        (plain op.now) after }
+    requires lead { lead ≡ leads_of from.place (next_place from.place (plain op.now)) (plain op.now) }
+    requires led { IsLed lead place }
+    ensures keeps { IfOk result (λ seen. Visited table.now code.now heap.now facts.new seen) }
+    ensures kept { IfOk result (λ _. RowsKept facts.old facts.new) }
+    ensures quiet { IfOk result (λ seen. WhereQuiet seen ((facts.new ≡ facts.old)
+        × RowIs heap.now facts.old from.trial place (shape_of heap.now after))) }
+{
+    rules_look_from_the_top();
+    let _ = op;
+    let _ = lead;
+    let trial = from.trial;
+    follow(code, table, heap, facts, todo, Spot { trial, place }, after)
+}
+
+/// Reaches the shape after an instruction wherever it leads.
+#[tactic(auto, using(crate::proofs::Following::leading))]
+pub fn lead(
+    code: &Code,
+    table: &Table,
+    heap: &Heap,
+    facts: &mut Facts,
+    todo: &mut Todo,
+    from: Found,
+    op: &Op<'_>,
+    after: Held,
+    lead: Lead,
+) -> Result<Seen, NoMemory>
+    requires keeps { Keeps table.now code.now heap.now facts.old }
+    requires step { IsStep table.now code.now heap.now facts.old from.trial from.place from.held
+        (plain op.now) after }
+    requires lead { lead ≡ leads_of from.place (next_place from.place (plain op.now)) (plain op.now) }
+    ensures keeps { IfOk result (λ seen. Visited table.now code.now heap.now facts.new seen) }
+    ensures kept { IfOk result (λ _. RowsKept facts.old facts.new) }
+    ensures quiet { IfOk result (λ seen. WhereQuiet seen ((facts.new ≡ facts.old)
+        × AllLed heap.now facts.old from.trial lead (shape_of heap.now after))) }
+{
+    match lead {
+        Lead::One(place) => lead_to(code, table, heap, facts, todo, from, op, after, lead, place),
+        Lead::Two(first, second) => {
+            let seen = lead_to(code, table, heap, facts, todo, from, op, after, lead, first)?;
+            match seen {
+                Seen::Bad => Ok(Seen::Bad),
+                Seen::Quiet => lead_to(
+                    code, table, heap, facts, todo, from, op, after, lead, second,
+                ),
+                Seen::Changed => {
+                    let seen = lead_to(
+                        code, table, heap, facts, todo, from, op, after, lead, second,
+                    )?;
+                    Ok(after_change(seen))
+                }
+            }
+        }
+    }
+}

@@ -1,0 +1,109 @@
+ghost use Rattle.std.specs.Prelude.{◌≡◌, [], Some, IfOk, slice_get};
+ghost use Rattle.stack_check.specs.Shared.{read};
+ghost use Rattle.ncs_code.specs.Plain.{Retn};
+ghost use Rattle.ncs_code.specs.File.{op_at};
+ghost use Rattle.stack_shape.specs.declared.shape.Entry.TheVariants.{Called};
+ghost use Rattle.stack_check.specs.Rows.{row_in};
+ghost use Rattle.stack_check.specs.Inference.{Keeps, Sees};
+
+use crate::facts::{Facts, Trial, give};
+use crate::held::Heap;
+use crate::reach::Found;
+use crate::seen::Seen;
+use crate::slots::same;
+use crate::todo::Todo;
+use ncs_file::Code;
+use nwq_value::{NoMemory, Table};
+use stack_shape::Entry;
+
+/// RETN of a called routine, with nothing saved or pending.
+#[tactic(auto, using(crate::proofs::ReturnSteps::giving))]
+fn return_cells(
+    code: &Code,
+    table: &Table,
+    heap: &Heap,
+    facts: &mut Facts,
+    todo: &mut Todo,
+    from: Found,
+    trial: Trial,
+    target: u32,
+) -> Result<Seen, NoMemory>
+    requires keeps { Keeps table.now code.now heap.now facts.old }
+    requires row { row_in facts.old.rows from.trial from.place ≡ Some from.held }
+    requires op { op_at code.now from.place ≡ Some Retn }
+    requires trial { slice_get facts.old.trials from.trial ≡ Some trial }
+    requires entry { trial.entry ≡ Called target }
+    requires saved { read heap.now.saved from.held.saved ≡ [] }
+    requires pending { from.held.pending ≡ 0 }
+    ensures sees { IfOk result (λ seen. Sees table.now code.now heap.now heap.now facts.old facts.new
+        from.trial from.place from.held seen) }
+{
+    match trial.given {
+        None => {
+            give(code, table, heap, facts, from.trial, from.held.cells)?;
+            todo.add_callers(target)?;
+            Ok(Seen::Changed)
+        }
+        Some(given) => {
+            if same(&heap.slots, given, from.held.cells) {
+                Ok(Seen::Quiet)
+            } else {
+                Ok(Seen::Bad)
+            }
+        }
+    }
+}
+
+/// RETN of a called routine.
+#[tactic(auto, using(crate::proofs::ReturnSteps::leaving))]
+fn return_called(
+    code: &Code,
+    table: &Table,
+    heap: &Heap,
+    facts: &mut Facts,
+    todo: &mut Todo,
+    from: Found,
+    trial: Trial,
+    target: u32,
+) -> Result<Seen, NoMemory>
+    requires keeps { Keeps table.now code.now heap.now facts.old }
+    requires row { row_in facts.old.rows from.trial from.place ≡ Some from.held }
+    requires op { op_at code.now from.place ≡ Some Retn }
+    requires trial { slice_get facts.old.trials from.trial ≡ Some trial }
+    requires entry { trial.entry ≡ Called target }
+    ensures sees { IfOk result (λ seen. Sees table.now code.now heap.now heap.now facts.old facts.new
+        from.trial from.place from.held seen) }
+{
+    if from.held.pending != 0 {
+        return Ok(Seen::Bad);
+    }
+    match heap.saved.pop(from.held.saved) {
+        Some((_top, _rest)) => Ok(Seen::Bad),
+        None => return_cells(code, table, heap, facts, todo, from, trial, target),
+    }
+}
+
+/// RETN.
+#[tactic(auto, using(crate::proofs::ReturnSteps::ending))]
+pub fn returned(
+    code: &Code,
+    table: &Table,
+    heap: &Heap,
+    facts: &mut Facts,
+    todo: &mut Todo,
+    from: Found,
+    trial: Trial,
+) -> Result<Seen, NoMemory>
+    requires keeps { Keeps table.now code.now heap.now facts.old }
+    requires row { row_in facts.old.rows from.trial from.place ≡ Some from.held }
+    requires op { op_at code.now from.place ≡ Some Retn }
+    requires trial { slice_get facts.old.trials from.trial ≡ Some trial }
+    ensures sees { IfOk result (λ seen. Sees table.now code.now heap.now heap.now facts.old facts.new
+        from.trial from.place from.held seen) }
+{
+    match trial.entry {
+        Entry::Start => Ok(Seen::Quiet),
+        Entry::Stored(_site) => Ok(Seen::Quiet),
+        Entry::Called(target) => return_called(code, table, heap, facts, todo, from, trial, target),
+    }
+}

@@ -1,0 +1,351 @@
+ghost use Rattle.std.specs.Prelude.{◌≡◌, ◌≤◌, ◌+◌, ◌<◌, ◌^◌, [], ◌∷◌, ◌++◌, Some, None, IfOk, IfSome, length, map};
+ghost use Rattle.std.specs.Prelude.{slice_get, MatchOption};
+ghost use Rattle.ncs_code.specs.Plain.{plain, Retn, StoreState};
+ghost use Rattle.ncs_code.specs.File.{op_at};
+ghost use Rattle.ncs_code.specs.Spelling.{op_size};
+ghost use Rattle.machine_step.specs.Act.{next_place};
+ghost use Rattle.stack_shape.specs.Rule.{IsOneStep};
+ghost use Rattle.stack_shape.specs.Stored.{stored_shape, stored_types};
+ghost use Rattle.stack_shape.specs.declared.shape.Entry.TheVariants.{Stored};
+ghost use Rattle.stack_shape.specs.declared.shape.Slot.TheVariants.{Of, Base};
+ghost use Rattle.stack_check.specs.Shared.{read, Grows};
+ghost use Rattle.stack_check.specs.Held.{HeapGrows, Holds, IsIn, shape_of};
+ghost use Rattle.stack_check.specs.Rows.{row_in};
+ghost use Rattle.stack_check.specs.Facts.{current};
+ghost use Rattle.stack_check.specs.Inference.{IsPlain, IsStored, Keeps, Resumes, Sees};
+ghost use Rattle.stack_check.specs.Inference.{SeesStep, Stores, Visited, WhereQuiet, leads_of};
+
+use crate::calls::call;
+use crate::facts::{Facts, Trial, begin};
+use crate::held::{Heap, Held, step, top};
+use crate::leads::{Kind, kind_of, leads_of};
+use crate::reach::{Found, after_change, follow, lead};
+use crate::returns::returned;
+use crate::seen::Seen;
+use crate::slots::put_types;
+use crate::todo::{Spot, Todo};
+use ncs_code::{Op, place_laws};
+use ncs_file::Code;
+use nwq_value::{NoMemory, Table};
+use stack_shape::{Entry, Slot, StoredTypes, rules_look_from_the_top, stored_types};
+use std::alloc::Global;
+
+/// An instruction with a rule of one shape, but for what it stores.
+#[tactic(auto, using(crate::proofs::Visits::steps))]
+fn visit_step(
+    alloc: Global,
+    code: &Code,
+    table: &Table,
+    heap: &mut Heap,
+    facts: &mut Facts,
+    todo: &mut Todo,
+    from: Found,
+    op: &Op<'_>,
+    next: u32,
+) -> Result<Seen, NoMemory>
+    requires keeps { Keeps table.now code.now heap.old facts.old }
+    requires row { row_in facts.old.rows from.trial from.place ≡ Some from.held }
+    requires op { op_at code.now from.place ≡ Some (plain op.now) }
+    requires one { IsOneStep (plain op.now) }
+    requires next { next ≡ next_place from.place (plain op.now) }
+    requires bound { from.place < 2 ^ 31 }
+    ensures sees { IfOk result (λ seen. SeesStep table.now code.now heap.old heap.new facts.old
+        facts.new from.trial from.place from.held (plain op.now) seen) }
+{
+    rules_look_from_the_top();
+    match step(alloc, op, table, heap, from.held)? {
+        None => Ok(Seen::Bad),
+        Some(after) => {
+            let leads = leads_of(op, from.place, next);
+            let seen = lead(code, table, heap, facts, todo, from, op, after, leads)?;
+            Ok(seen)
+        }
+    }
+}
+
+/// The shape with which a stored state resumes.
+#[tactic(auto, using(crate::proofs::Storing::shaping))]
+fn hold_stored(heap: &mut Heap, types: &StoredTypes) -> Result<Held, NoMemory>
+    ensures held { IfOk result (λ held. Holds heap.old heap.new held (stored_shape types.now)) }
+    ensures first { IfOk result (λ held. (held.saved ≡ 0) × (held.pending ≡ 0)) }
+{
+    let globals = put_types(&mut heap.slots, 0, types.globals.as_slice())?;
+    let base = heap.slots.push(globals, Slot::Base)?;
+    let cells = put_types(&mut heap.slots, base, types.locals.as_slice())?;
+    Ok(Held {
+        cells,
+        under: globals,
+        saved: 0,
+        pending: 0,
+    })
+}
+
+/// The trial that counts for what is stored at a place.
+#[tactic(auto, using(crate::proofs::Storing::counting))]
+fn stored_trial(facts: &Facts, site: u32) -> Option<u32>
+    ensures { IfSome result (λ number. current facts.now (Stored site) ≡ Some number) }
+{
+    let number = facts.stored.get(site);
+    if number == 0 { None } else { Some(number) }
+}
+
+/// Reaches the shape with which the state resumes that is stored at a place.
+#[tactic(auto, using(crate::proofs::Storing::resuming))]
+fn resume(
+    code: &Code,
+    table: &Table,
+    heap: &Heap,
+    facts: &mut Facts,
+    todo: &mut Todo,
+    site: u32,
+    held: Held,
+) -> Result<Seen, NoMemory>
+    requires keeps { Keeps table.now code.now heap.now facts.old }
+    requires owed { Resumes table.now code.now site (shape_of heap.now held) }
+    requires inside { IsIn heap.now held }
+    requires first { (held.saved ≡ 0) × (held.pending ≡ 0) }
+    requires bound { site < 2 ^ 31 }
+    ensures keeps { IfOk result (λ seen. Visited table.now code.now heap.now facts.new seen) }
+    ensures quiet { IfOk result (λ seen. WhereQuiet seen ((facts.new ≡ facts.old)
+        × IsStored heap.now facts.old site (shape_of heap.now held))) }
+{
+    match stored_trial(facts, site) {
+        None => {
+            let trial = Trial {
+                entry: Entry::Stored(site),
+                taken: held.cells,
+                under: held.under,
+                given: None,
+            };
+            begin(code, table, heap, facts, todo, trial)?;
+            Ok(Seen::Changed)
+        }
+        Some(trial) => {
+            let spot = Spot {
+                trial,
+                place: site + 16,
+            };
+            let seen = follow(code, table, heap, facts, todo, spot, held)?;
+            Ok(seen)
+        }
+    }
+}
+
+/// Stores a state of these types at a place.
+#[tactic(auto, using(crate::proofs::Storing::resumed))]
+fn store(
+    code: &Code,
+    table: &Table,
+    heap: &mut Heap,
+    facts: &mut Facts,
+    todo: &mut Todo,
+    site: u32,
+    types: &StoredTypes,
+) -> Result<Seen, NoMemory>
+    requires keeps { Keeps table.now code.now heap.old facts.old }
+    requires owed { Resumes table.now code.now site (stored_shape types.now) }
+    requires bound { site < 2 ^ 31 }
+    ensures grows { IfOk result (λ _. HeapGrows heap.old heap.new) }
+    ensures keeps { IfOk result (λ seen. Visited table.now code.now heap.new facts.new seen) }
+    ensures quiet { IfOk result (λ seen. WhereQuiet seen ((facts.new ≡ facts.old)
+        × IsStored heap.new facts.old site (stored_shape types.now))) }
+{
+    let held = hold_stored(heap, types)?;
+    let seen = resume(code, table, heap, facts, todo, site, held)?;
+    Ok(seen)
+}
+
+/// STORE_STATE, of a state of these types.
+#[tactic(auto, using(crate::proofs::Storing::storing))]
+fn visit_store(
+    alloc: Global,
+    code: &Code,
+    table: &Table,
+    heap: &mut Heap,
+    facts: &mut Facts,
+    todo: &mut Todo,
+    from: Found,
+    op: &Op<'_>,
+    types: &StoredTypes,
+    next: u32,
+) -> Result<Seen, NoMemory>
+    requires keeps { Keeps table.now code.now heap.old facts.old }
+    requires row { row_in facts.old.rows from.trial from.place ≡ Some from.held }
+    requires op { op_at code.now from.place ≡ Some (plain op.now) }
+    requires stores { Stores (plain op.now) (shape_of heap.old from.held) types.now }
+    requires next { next ≡ next_place from.place (plain op.now) }
+    requires bound { from.place < 2 ^ 31 }
+    ensures sees { IfOk result (λ seen. Sees table.now code.now heap.old heap.new facts.old facts.new
+        from.trial from.place from.held seen) }
+{
+    rules_look_from_the_top();
+    let first = visit_step(alloc, code, table, heap, facts, todo, from, op, next)?;
+    match first {
+        Seen::Bad => Ok(Seen::Bad),
+        Seen::Quiet => {
+            let seen = store(code, table, heap, facts, todo, from.place, types)?;
+            Ok(seen)
+        }
+        Seen::Changed => {
+            let seen = store(code, table, heap, facts, todo, from.place, types)?;
+            Ok(after_change(seen))
+        }
+    }
+}
+
+/// An instruction with a rule of one shape that stores no state.
+#[tactic(auto, using(crate::proofs::Visits::plain_sees))]
+fn visit_plain(
+    alloc: Global,
+    code: &Code,
+    table: &Table,
+    heap: &mut Heap,
+    facts: &mut Facts,
+    todo: &mut Todo,
+    from: Found,
+    op: &Op<'_>,
+    next: u32,
+) -> Result<Seen, NoMemory>
+    requires keeps { Keeps table.now code.now heap.old facts.old }
+    requires row { row_in facts.old.rows from.trial from.place ≡ Some from.held }
+    requires op { op_at code.now from.place ≡ Some (plain op.now) }
+    requires one { IsOneStep (plain op.now) }
+    requires plain { IsPlain (plain op.now) }
+    requires next { next ≡ next_place from.place (plain op.now) }
+    requires bound { from.place < 2 ^ 31 }
+    ensures sees { IfOk result (λ seen. Sees table.now code.now heap.old heap.new facts.old facts.new
+        from.trial from.place from.held seen) }
+{
+    let seen = visit_step(alloc, code, table, heap, facts, todo, from, op, next)?;
+    Ok(seen)
+}
+
+/// STORE_STATE, of so many bytes of globals and of locals.
+#[tactic(auto, using(crate::proofs::Storing::stores_bad))]
+fn visit_stored(
+    alloc: Global,
+    code: &Code,
+    table: &Table,
+    heap: &mut Heap,
+    facts: &mut Facts,
+    todo: &mut Todo,
+    from: Found,
+    op: &Op<'_>,
+    globals: u32,
+    locals: u32,
+    next: u32,
+) -> Result<Seen, NoMemory>
+    requires keeps { Keeps table.now code.now heap.old facts.old }
+    requires row { row_in facts.old.rows from.trial from.place ≡ Some from.held }
+    requires op { op_at code.now from.place ≡ Some (plain op.now) }
+    requires store { plain op.now ≡ StoreState globals locals }
+    requires next { next ≡ next_place from.place (plain op.now) }
+    requires bound { from.place < 2 ^ 31 }
+    ensures sees { IfOk result (λ seen. Sees table.now code.now heap.old heap.new facts.old facts.new
+        from.trial from.place from.held seen) }
+{
+    rules_look_from_the_top();
+    let types = {
+        let under = top(heap, from.held.under);
+        let cells = top(heap, from.held.cells);
+        stored_types(alloc, globals, locals, &under, &cells)?
+    };
+    match types {
+        None => Ok(Seen::Bad),
+        Some(types) => visit_store(
+            alloc, code, table, heap, facts, todo, from, op, &types, next,
+        ),
+    }
+}
+
+/// The place behind an instruction.
+fn end_of(code: &Code, op: &Op<'_>, place: u32, size: u32) -> u32
+    requires op { op_at code.now place ≡ Some (plain op.now) }
+    requires size { size ≡ op_size (plain op.now) }
+    ensures next { result ≡ next_place place (plain op.now) }
+    ensures bound { place < 2 ^ 31 }
+{
+    place_laws();
+    code.sound();
+    let _ = op;
+    place + size
+}
+
+/// RETN.
+#[tactic(auto, using(crate::proofs::Storing::trial_none))]
+fn visit_return(
+    code: &Code,
+    table: &Table,
+    heap: &Heap,
+    facts: &mut Facts,
+    todo: &mut Todo,
+    from: Found,
+) -> Result<Seen, NoMemory>
+    requires keeps { Keeps table.now code.now heap.now facts.old }
+    requires row { row_in facts.old.rows from.trial from.place ≡ Some from.held }
+    requires op { op_at code.now from.place ≡ Some Retn }
+    ensures sees { IfOk result (λ seen. Sees table.now code.now heap.now heap.now facts.old facts.new
+        from.trial from.place from.held seen) }
+{
+    match facts.trials.get(from.trial as usize) {
+        None => unreachable!(),
+        Some(trial) => {
+            let trial = *trial;
+            returned(code, table, heap, facts, todo, from, trial)
+        }
+    }
+}
+
+/// The instruction at a place, which takes so many bytes.
+#[tactic(auto, using(crate::proofs::Storing::kinds))]
+fn visit_op(
+    alloc: Global,
+    code: &Code,
+    table: &Table,
+    heap: &mut Heap,
+    facts: &mut Facts,
+    todo: &mut Todo,
+    from: Found,
+    op: &Op<'_>,
+    size: u32,
+) -> Result<Seen, NoMemory>
+    requires keeps { Keeps table.now code.now heap.old facts.old }
+    requires row { row_in facts.old.rows from.trial from.place ≡ Some from.held }
+    requires op { op_at code.now from.place ≡ Some (plain op.now) }
+    requires size { size ≡ op_size (plain op.now) }
+    ensures sees { IfOk result (λ seen. Sees table.now code.now heap.old heap.new facts.old facts.new
+        from.trial from.place from.held seen) }
+{
+    let next = end_of(code, op, from.place, size);
+    match kind_of(op, from.place) {
+        Kind::Call(target) => call(alloc, code, table, heap, facts, todo, from, target, next),
+        Kind::Return => visit_return(code, table, heap, facts, todo, from),
+        Kind::Store(globals, locals) => visit_stored(
+            alloc, code, table, heap, facts, todo, from, op, globals, locals, next,
+        ),
+        Kind::Step => visit_plain(alloc, code, table, heap, facts, todo, from, op, next),
+    }
+}
+
+/// Looks at a shape: whether all that the instruction there asks for was found. What is missing is
+/// added.
+#[tactic(auto, using(crate::proofs::Storing::no_op_bad))]
+pub fn visit(
+    alloc: Global,
+    code: &Code,
+    table: &Table,
+    heap: &mut Heap,
+    facts: &mut Facts,
+    todo: &mut Todo,
+    from: Found,
+) -> Result<Seen, NoMemory>
+    requires keeps { Keeps table.now code.now heap.old facts.old }
+    requires row { row_in facts.old.rows from.trial from.place ≡ Some from.held }
+    ensures sees { IfOk result (λ seen. Sees table.now code.now heap.old heap.new facts.old facts.new
+        from.trial from.place from.held seen) }
+{
+    match code.op_at(from.place) {
+        None => Ok(Seen::Bad),
+        Some((op, size)) => visit_op(alloc, code, table, heap, facts, todo, from, &op, size),
+    }
+}
