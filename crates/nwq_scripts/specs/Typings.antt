@@ -3,6 +3,7 @@ use Rattle.std.specs.Prelude.{◌≡◌, ℕ, None, Some, Result, Ok, Err}
 use Rattle.nwq_value.specs.Engine.{EngineTable}
 use Rattle.nwq_outside.specs.Outside.{Contents}
 use Rattle.nss_tree.specs.Source.{SourceTree}
+use Rattle.nss_include.specs.View.{Gathered}
 use Rattle.nss_typing.specs.declared.fault.Fault.{Fault}
 use Rattle.nss_typing.specs.declared.fault.FaultKind.{FaultKind}
 use Rattle.nss_typing.specs.declared.fault.FaultKind.TheVariants as kind
@@ -16,7 +17,11 @@ use Rattle.nwq_work.specs.declared.cause.Cause.TheVariants as cause
 use Rattle.nwq_work.specs.declared.status.Status.{Status}
 use Rattle.nwq_work.specs.Work.{Work, Gives, Refused, Finds}
 use Rattle.nwq_sources.specs.Units.{PlainScript, at_token}
-use Rattle.nwq_scripts.specs.declared.typing.TypedScript.{TypedScript}
+use Rattle.nwq_scripts.specs.declared.script.TypedScript.{TypedScript}
+
+-- the script of a unit whose tree is this
+abbrev pub script_of : Gathered → SourceTree → PlainScript
+script_of unit tree = record { tokens = unit.tokens; files = unit.files; tree = tree }
 
 abbrev pub cause_of : FaultKind → Cause
 cause_of kind.RefusedType = cause.RefusedType

@@ -8,3 +8,8 @@
 #![tactic(auto)]
 
 pub mod laws;
+mod script;
+mod typing;
+
+pub use script::TypedScript;
+pub use typing::type_script;

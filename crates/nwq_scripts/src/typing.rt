@@ -1,27 +1,18 @@
-ghost use Rattle.std.specs.Prelude.{◌≡◌, ◌<◌, ℕ, length, IsTrue, IfErr, IfOk};
+ghost use Rattle.std.specs.Prelude.{◌≡◌, ℕ, IsTrue, IfErr, IfOk};
 ghost use Rattle.nwq_outside.specs.Outside.{Contents};
 ghost use Rattle.nwq_work.specs.Work.{Does};
 ghost use Rattle.nwq_work.specs.Counts.{Counted, Tallies, Refusing};
 ghost use Rattle.nwq_sources.specs.Scripts.{plain_script};
 ghost use Rattle.nwq_scripts.specs.Typings.{cause_of, plain_answer, typed_in};
 
-use nss_include::Unit;
+use crate::script::TypedScript;
 use nss_types::{TypeFault, type_unit};
-use nss_typing::{FaultKind, Typed};
+use nss_typing::FaultKind;
 use nwq_outside::Sink;
 use nwq_sources::{Script, refuse_token};
 use nwq_value::Table;
 use nwq_work::{Cause, Status};
 use std::alloc::Global;
-
-/// A script's unit, and what it is typed as.
-#[derive(Drop)]
-pub struct TypedScript {
-    pub unit: Unit,
-    pub typed: Typed,
-    // The script's own file is among the unit's.
-    ghost some: { 0 < length unit.files },
-}
 
 fn cause_of(kind: FaultKind) -> Cause
     ensures { result ≡ cause_of kind }
@@ -52,7 +43,7 @@ pub fn type_script<S: Sink>(
     ensures does { IsTrue S.tells → (c : Contents) →
         Does (typed_in table.now (plain_script script)) c
         (S.taken out.old) (plain_answer result) c (S.taken out.new) }
-    ensures files { IfOk result (λ typed. typed.unit.files ≡ script.unit.files) }
+    ensures same { IfOk result (λ typed. typed.unit ≡ script.unit) }
     ensures counts { (faults absences longs : ℕ) → Tallies result
         (Counted faults absences longs (S.faults out.old))
         (Counted faults absences longs (S.faults out.new)) }
