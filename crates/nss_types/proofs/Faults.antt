@@ -1,0 +1,8 @@
+-- The least of faults in a row.
+use Rattle.std.proofs.Common.{◌≡◌, List, [], ◌∷◌, ◌++◌, Option, refl}
+use Rattle.nss_typing.specs.declared.fault.Fault.{Fault}
+use Rattle.nss_typing.specs.Nodes.{kept, earlier}
+
+pub kept_append : (o : Option Fault) (xs ys : List Fault) → kept o (xs ++ ys) ≡ kept (kept o xs) ys
+kept_append o [] ys = refl
+kept_append o (x ∷ xs) ys = kept_append (earlier o x) xs ys

@@ -1,0 +1,31 @@
+-- Items in a row.
+use Rattle.std.proofs.Common.{ℕ, List, Option, map, refl}
+use Rattle.std.specs.Option.{option_map}
+use Rattle.nss_tree.specs.declared.constants.Constant.{Constant}
+use Rattle.nss_tree.specs.declared.constants.TypeName.{TypeName}
+use Rattle.nss_tree.specs.declared.expressions.Expr.{Expr}
+use Rattle.nss_tree.specs.declared.units.Item.{Item}
+use Rattle.nss_tree.specs.Reading.{plain_item}
+use Rattle.nss_typing.specs.Sight.{Head, Sight}
+use Rattle.nss_typing.specs.UnitReading.{typed_item, typed_items}
+use Rattle.nss_typing.specs.Verdicts.{after_item, after_items, item_faults, item_fine, items_faults, items_fine, one_more}
+use Rattle.nss_types.specs.Rows.{with_rest}
+use Rattle.nss_types.proofs.RowLemmas.{RowLaws, list_begin, list_step, list_end}
+
+pub item_laws : (hs : List Head) → RowLaws (option_map typed_items) (option_map typed_item) one_more with_rest
+    (λ (c : Sight) (x : Item Expr Constant TypeName (List ℕ)). after_item c (plain_item x))
+    (λ c x. item_fine hs c (plain_item x))
+    (λ c x. item_faults hs c (plain_item x))
+    (λ c xs. items_fine hs c (map plain_item xs))
+    (λ c xs. items_faults hs c (map plain_item xs))
+    (λ c xs. after_items c (map plain_item xs))
+item_laws hs = record {
+  begin = list_begin typed_item;
+  step = list_step typed_item;
+  end = λ all c. list_end typed_item all;
+  fine_more = λ c x xs. refl;
+  faults_more = λ c x xs. refl;
+  faults_none = λ c. refl;
+  after_more = λ c x xs. refl;
+  after_none = λ c. refl;
+}

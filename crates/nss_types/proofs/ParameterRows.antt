@@ -1,0 +1,64 @@
+-- Parameters in a row.
+use Rattle.std.proofs.Common.{◌≡◌, ℕ, ◌+◌, ◌<◌, Bool, List, [], ◌∷◌, ◌++◌, length, drop, get_or, Option, None, Some, refl, sym, ap, ◌∙◌}
+use Rattle.std.proofs.lemmas.List.{at_drop_more}
+use Rattle.nss_tree.specs.Source.{SourceParameter}
+use Rattle.nss_typing.specs.Nodes.{at, faults_there, fine}
+use Rattle.nss_typing.specs.Sight.{Sight}
+use Rattle.nss_typing.specs.Typed.{TypedParameter}
+use Rattle.nss_typing.specs.Verdicts.{after_params, constant_faults, late_after, one_more, parameter_declared, parameter_verdict, params_faults, params_fine}
+use Rattle.nss_types.specs.Rows.{and_one, with_rest}
+use Rattle.nss_types.proofs.RowLemmas.{RowLaws}
+
+module _ {A : Type 0} where
+  append_one : (xs : List A) (x : A) (ys : List A) → (xs ++ x ∷ []) ++ ys ≡ xs ++ x ∷ ys
+  append_one [] x ys = refl
+  append_one (z ∷ xs) x ys = ap (λ l. z ∷ l) (append_one xs x ys)
+
+  append_none : (xs : List A) → xs ++ [] ≡ xs
+  append_none [] = refl
+  append_none (x ∷ xs) = ap (λ l. x ∷ l) (append_none xs)
+
+  pub plain_begin : (rest : Option (List A)) → with_rest (Some []) rest ≡ rest
+  plain_begin None = refl
+  plain_begin (Some ys) = refl
+
+  pub plain_step : (all : Option (List A)) (x : Option A) (rest : Option (List A)) → with_rest (and_one all x) rest ≡ with_rest all (one_more x rest)
+  plain_step None x rest = refl
+  plain_step (Some xs) None rest = refl
+  plain_step (Some xs) (Some x) None = refl
+  plain_step (Some xs) (Some x) (Some ys) = ap Some (append_one xs x ys)
+
+  pub plain_end : (all : Option (List A)) → with_rest all (Some []) ≡ all
+  plain_end None = refl
+  plain_end (Some xs) = ap Some (append_none xs)
+
+abbrev late_all : Bool → List SourceParameter → Bool
+late_all late [] = late
+late_all late (p ∷ ps) = late_all (late_after late p) ps
+
+pub param_laws : RowLaws (λ (o : Option (List TypedParameter)). o) (λ (o : Option TypedParameter). o) one_more with_rest
+    (λ (c : Sight × Bool) (p : SourceParameter). (parameter_declared c.0 p, late_after c.1 p))
+    (λ c p. fine (parameter_verdict c.0 c.1 p))
+    (λ c p. faults_there (constant_faults c.0) p.default ++ at p.token (parameter_verdict c.0 c.1 p))
+    (λ c ps. params_fine c.0 c.1 ps)
+    (λ c ps. params_faults c.0 c.1 ps)
+    (λ c ps. (after_params c.0 ps, late_all c.1 ps))
+param_laws = record {
+  begin = plain_begin;
+  step = plain_step;
+  end = λ all c. plain_end all;
+  fine_more = λ c p ps. refl;
+  faults_more = λ c p ps. refl;
+  faults_none = λ c. refl;
+  after_more = λ c p ps. refl;
+  after_none = λ c. refl;
+}
+
+pub pair_is : {A B : Type 0} (a c : A) (b d : B) → a ≡ c → b ≡ d → ◌≡◌ {A = A × B} (a, b) (c, d)
+pair_is a c b d first second = ap (λ x. (x, b)) first ∙ ap (λ y. (c, y)) second
+
+pub params_sight : (ps : List SourceParameter) (i : ℕ) (d p : SourceParameter) → i < length ps → p ≡ get_or ps i d → (c c' : Sight) → c' ≡ parameter_declared c p
+    → (whole : Sight) → after_params c (drop i ps) ≡ whole → after_params c' (drop (i + 1) ps) ≡ whole
+params_sight ps i d p lt is c c' next whole so_far =
+    ap (λ k. after_params k (drop (i + 1) ps)) next
+    ∙ (ap (λ y. after_params c (y ∷ drop (i + 1) ps)) is ∙ (sym (at_drop_more (after_params c) ps i d lt) ∙ so_far))

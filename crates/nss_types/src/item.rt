@@ -1,0 +1,354 @@
+//! Items of a unit, and what stands in sight behind each.
+
+ghost use Rattle.std.specs.Prelude.{◌≡◌, ◌&&◌, not, IfOk, OnOk, map};
+ghost use Rattle.std.specs.Option.{option_map};
+ghost use Rattle.nss_tree.specs.Reading.{plain_item, plain_names};
+ghost use Rattle.nss_tree.specs.Units as unit;
+ghost use Rattle.nss_typing.specs.declared.fault.FaultKind.TheVariants as kind;
+ghost use Rattle.nss_typing.specs.Nodes.{asked, at, fine, first_kind, kept, only, row, two};
+ghost use Rattle.nss_typing.specs.Rules.{constant_name_rows, constant_name_rule, struct_rows};
+ghost use Rattle.nss_typing.specs.Rules.{no_fields, struct_rule};
+ghost use Rattle.nss_typing.specs.UnitReading.{typed_item, typed_items, typed_names};
+ghost use Rattle.nss_typing.specs.Verdicts.{after_item, after_items, constant_item};
+ghost use Rattle.nss_typing.specs.Verdicts.{constant_meaning, global_item, item_faults, item_fine};
+ghost use Rattle.nss_typing.specs.Verdicts.{items_faults, items_fine, lines_faults, lines_fine, struct_members};
+ghost use Rattle.nss_scopes.specs.Entries.{members_of};
+ghost use Rattle.nss_scopes.specs.Slots.{meaning_of};
+ghost use Rattle.nss_scopes.specs.Views.{in_sight};
+ghost use Rattle.nss_types.specs.Faults.{fault_unless};
+ghost use Rattle.nss_types.specs.Views.{heads_in, sight_in};
+
+use crate::constant::constant;
+use crate::declared::names;
+use crate::field::{Fields, lines, struct_members};
+use crate::function::function;
+use crate::given::Given;
+use crate::line::{constant_line_type, line_type};
+use crate::note::note;
+use crate::row::and_last;
+use nss_scopes::{Meaning, Members, Places, Sight, Structs};
+use nss_tree::{Constant, DeclaredName, FieldLine, Identifier, Item, TypeName};
+use nss_typing::rules::same_type;
+use nss_typing::{Fault, FaultKind, TypedItem, TypedLine, TypedName};
+use nwq_value::{Const, Items, NoMemory, Table, Text, Ty};
+use std::alloc::Global;
+
+/// A struct of these lines.
+fn judge_struct(
+    least: &mut Option<Fault>,
+    token: u32,
+    structs: &Structs,
+    name: &Text,
+    lines: Option<Items<TypedLine>>,
+) -> Option<Items<TypedLine>>
+    ensures value { result
+        ≡ fine (asked struct_rows (struct_rule structs.now name.now) lines) }
+    ensures least { least.new ≡ kept least.old
+        (at token (asked struct_rows (struct_rule structs.now name.now) lines)) }
+{
+    match lines {
+        None => None,
+        Some(lines) => {
+            if !structs.has(name.bytes()) {
+                return Some(lines);
+            }
+            drop(lines);
+            note(least, FaultKind::Redeclared, token);
+            None
+        }
+    }
+}
+
+/// The members of a struct, if it is typed.
+fn members_if(
+    alloc: Global,
+    structs: &Structs,
+    lines: &Option<Items<TypedLine>>,
+) -> Result<Option<Members>, NoMemory>
+    ensures { IfOk result (λ r. option_map members_of r
+        ≡ option_map (struct_members structs.now) lines.now) }
+{
+    match lines {
+        None => Ok(None),
+        Some(lines) => Ok(Some(struct_members(alloc, structs, lines.as_slice())?)),
+    }
+}
+
+fn made_struct(token: u32, name: Text, lines: Option<Items<TypedLine>>) -> Option<TypedItem>
+    ensures { option_map typed_item result ≡ option_map (unit.structure token name) lines }
+{
+    match lines {
+        None => {
+            drop(name);
+            None
+        }
+        Some(lines) => Some(Item::structure(token, name, lines)),
+    }
+}
+
+/// The lines of a struct, which have fields of their own.
+fn struct_lines(
+    alloc: Global,
+    least: &mut Option<Fault>,
+    structs: &Structs,
+    ls: &[FieldLine],
+) -> Result<Option<Items<TypedLine>>, NoMemory>
+    ensures value { IfOk result (λ r. r ≡ lines_fine structs.now no_fields ls.now) }
+    ensures least { OnOk result
+        (least.new ≡ kept least.old (lines_faults structs.now no_fields ls.now)) }
+{
+    let mut fields = Fields {
+        names: Places::new(alloc),
+        count: 0,
+    };
+    let typed = lines(alloc, least, structs, &mut fields, ls);
+    drop(fields);
+    typed
+}
+
+/// A struct; it is declared behind it.
+fn structure(
+    given: &Given<'_>,
+    c: &mut Sight,
+    least: &mut Option<Fault>,
+    token: u32,
+    name: &Text,
+    ls: &[FieldLine],
+) -> Result<Option<TypedItem>, NoMemory>
+    ensures value { IfOk result (λ r. option_map typed_item r
+        ≡ item_fine (heads_in given.now) (sight_in given.now c.old)
+        (unit.structure token name.now ls.now)) }
+    ensures least { OnOk result (least.new ≡ kept least.old
+        (item_faults (heads_in given.now) (sight_in given.now c.old)
+        (unit.structure token name.now ls.now))) }
+    ensures sight { OnOk result (sight_in given.now c.new
+        ≡ after_item (sight_in given.now c.old) (unit.structure token name.now ls.now)) }
+{
+    let alloc = given.alloc;
+    let called = name.copy(alloc)?;
+    let own = name.copy(alloc)?;
+    let typed = struct_lines(alloc, least, &c.structs, ls)?;
+    let typed = judge_struct(least, token, &c.structs, name, typed);
+    let members = members_if(alloc, &c.structs, &typed)?;
+    c.structs.push(alloc, called, members)?;
+    Ok(made_struct(token, own, typed))
+}
+
+/// The fault of a constant's name, if it has one.
+fn constant_fault(is_taken: bool, fits: bool) -> Option<FaultKind>
+    ensures { result ≡ fault_unless (not is_taken && fits)
+        (first_kind (row kind.Redeclared is_taken (only kind.Mismatch))) }
+{
+    if is_taken {
+        Some(FaultKind::Redeclared)
+    } else if !fits {
+        Some(FaultKind::Mismatch)
+    } else {
+        None
+    }
+}
+
+/// A constant's name with this type and this value.
+fn judge_constant(
+    table: &Table,
+    c: &Sight,
+    least: &mut Option<Fault>,
+    name: &Identifier,
+    ty: Option<Ty>,
+    value: Option<Const>,
+) -> Option<(Ty, Const)>
+    ensures value { result
+        ≡ fine (asked (constant_name_rows (in_sight table.now c.now) name.now.name)
+        (constant_name_rule (in_sight table.now c.now) name.now.name) (two ty value)) }
+    ensures least { least.new ≡ kept least.old (at name.now.token
+        (asked (constant_name_rows (in_sight table.now c.now) name.now.name)
+        (constant_name_rule (in_sight table.now c.now) name.now.name) (two ty value))) }
+{
+    match ty {
+        None => {
+            drop(value);
+            None
+        }
+        Some(ty) => match value {
+            None => None,
+            Some(value) => {
+                let is_taken = c.is_taken(table, name.name.bytes());
+                let fits = same_type(ty, value.ty());
+                match constant_fault(is_taken, fits) {
+                    None => Some((ty, value)),
+                    Some(kind) => {
+                        drop(value);
+                        note(least, kind, name.token);
+                        None
+                    }
+                }
+            }
+        },
+    }
+}
+
+fn constant_means(alloc: Global, typed: &Option<(Ty, Const)>) -> Result<Option<Meaning>, NoMemory>
+    ensures { IfOk result (λ r. option_map meaning_of r
+        ≡ option_map constant_meaning typed.now) }
+{
+    match typed {
+        None => Ok(None),
+        Some((_, value)) => Ok(Some(Meaning::Constant(value.copy(alloc)?))),
+    }
+}
+
+fn made_constant(token: u32, name: Identifier, typed: Option<(Ty, Const)>) -> Option<TypedItem>
+    ensures { option_map typed_item result ≡ option_map (constant_item token name) typed }
+{
+    match typed {
+        None => {
+            drop(name);
+            None
+        }
+        Some((ty, value)) => Some(Item::constant(token, ty, name, value)),
+    }
+}
+
+/// A const line; its name is in sight behind it.
+fn const_line(
+    given: &Given<'_>,
+    c: &mut Sight,
+    least: &mut Option<Fault>,
+    token: u32,
+    ty: &TypeName,
+    name: &Identifier,
+    value: &Constant,
+) -> Result<Option<TypedItem>, NoMemory>
+    ensures value { IfOk result (λ r. option_map typed_item r
+        ≡ item_fine (heads_in given.now) (sight_in given.now c.old)
+        (unit.constant token ty.now name.now value.now)) }
+    ensures least { OnOk result (least.new ≡ kept least.old
+        (item_faults (heads_in given.now) (sight_in given.now c.old)
+        (unit.constant token ty.now name.now value.now))) }
+    ensures sight { OnOk result (sight_in given.now c.new ≡ after_item (sight_in given.now c.old)
+        (unit.constant token ty.now name.now value.now)) }
+{
+    let alloc = given.alloc;
+    let called = name.name.copy(alloc)?;
+    let own = name.name.copy(alloc)?;
+    let ty = constant_line_type(least, token, &c.structs, ty);
+    let value = constant(alloc, given.table, c, least, value)?;
+    let typed = judge_constant(given.table, c, least, name, ty, value);
+    let means = constant_means(alloc, &typed)?;
+    c.names.declare(alloc, called, means)?;
+    let own = Identifier {
+        token: name.token,
+        name: own,
+    };
+    Ok(made_constant(token, own, typed))
+}
+
+fn made_global(token: u32, ty: Option<Ty>, names: Option<Items<TypedName>>) -> Option<TypedItem>
+    ensures { option_map typed_item result
+        ≡ option_map (global_item token) (two ty (option_map typed_names names)) }
+{
+    match ty {
+        Some(ty) => match names {
+            Some(names) => Some(Item::global(token, ty, names)),
+            None => None,
+        },
+        None => {
+            drop(names);
+            None
+        }
+    }
+}
+
+/// A line of global variables; they are in sight behind it.
+fn globals(
+    given: &Given<'_>,
+    c: &mut Sight,
+    least: &mut Option<Fault>,
+    token: u32,
+    ty: &TypeName,
+    ds: &[DeclaredName],
+) -> Result<Option<TypedItem>, NoMemory>
+    ensures value { IfOk result (λ r. option_map typed_item r
+        ≡ item_fine (heads_in given.now) (sight_in given.now c.old)
+        (unit.global token ty.now (plain_names ds.now))) }
+    ensures least { OnOk result (least.new ≡ kept least.old
+        (item_faults (heads_in given.now) (sight_in given.now c.old)
+        (unit.global token ty.now (plain_names ds.now)))) }
+    ensures sight { OnOk result (sight_in given.now c.new ≡ after_item (sight_in given.now c.old)
+        (unit.global token ty.now (plain_names ds.now))) }
+{
+    let ty = line_type(least, token, &c.structs, ty);
+    let xs = names(given, c, least, ty, ds)?;
+    Ok(made_global(token, ty, xs))
+}
+
+/// An item; what it declares is in sight behind it.
+fn item(
+    given: &Given<'_>,
+    c: &mut Sight,
+    least: &mut Option<Fault>,
+    x: &Item,
+) -> Result<Option<TypedItem>, NoMemory>
+    ensures value { IfOk result (λ r. option_map typed_item r
+        ≡ item_fine (heads_in given.now) (sight_in given.now c.old) (plain_item x.now)) }
+    ensures least { OnOk result (least.new ≡ kept least.old
+        (item_faults (heads_in given.now) (sight_in given.now c.old) (plain_item x.now))) }
+    ensures sight { OnOk result (sight_in given.now c.new
+        ≡ after_item (sight_in given.now c.old) (plain_item x.now)) }
+{
+    match x {
+        Item::Struct {
+            token,
+            name,
+            fields,
+        } => structure(given, c, least, *token, name, fields.as_slice()),
+        Item::Const {
+            token,
+            ty,
+            name,
+            value,
+        } => const_line(given, c, least, *token, ty, name, value),
+        Item::Global { token, ty, names } => {
+            globals(given, c, least, *token, ty, names.as_slice())
+        }
+        Item::Function {
+            token,
+            result,
+            name,
+            parameters,
+            body,
+        } => function(
+            given,
+            c,
+            least,
+            *token,
+            result,
+            name,
+            parameters.as_slice(),
+            body,
+        ),
+    }
+}
+
+/// The items of a unit.
+pub fn items(
+    given: &Given<'_>,
+    c: &mut Sight,
+    least: &mut Option<Fault>,
+    xs: &[Item],
+) -> Result<Option<Items<TypedItem>>, NoMemory>
+    ensures value { IfOk result (λ r. option_map typed_items r
+        ≡ items_fine (heads_in given.now) (sight_in given.now c.old) (map plain_item xs.now)) }
+    ensures least { OnOk result (least.new ≡ kept least.old
+        (items_faults (heads_in given.now) (sight_in given.now c.old)
+        (map plain_item xs.now))) }
+    ensures sight { OnOk result (sight_in given.now c.new
+        ≡ after_items (sight_in given.now c.old) (map plain_item xs.now)) }
+{
+    let mut all = Some(Items::new(given.alloc));
+    for x in xs {
+        let one = item(given, c, least, x)?;
+        all = and_last(all, one)?;
+    }
+    Ok(all)
+}

@@ -1,0 +1,139 @@
+//! Whole units.
+
+ghost use Rattle.std.specs.Prelude.{◌≡◌, ◌++◌, IfErr, IfOk, IsSome, None, OnOk, Some, map};
+ghost use Rattle.std.specs.Option.{option_map};
+ghost use Rattle.nss_tree.specs.Reading.{plain_item, plain_tree};
+ghost use Rattle.nss_typing.specs.Meaning.{TypesUnit};
+ghost use Rattle.nss_typing.specs.Nodes.{kept, two};
+ghost use Rattle.nss_typing.specs.Sight.{start};
+ghost use Rattle.nss_typing.specs.UnitReading.{typed_items, typed_unit};
+ghost use Rattle.nss_typing.specs.Verdicts.{heads, items_faults, items_fine, unit_of};
+ghost use Rattle.nss_types.specs.Answers.{IsFaultOf, IsKeptFault};
+
+use crate::entry::judge_entry;
+use crate::given::Given;
+use crate::item::items;
+use nss_scopes::{Heads, Sight};
+use nss_tree::{Item, Tree};
+use nss_typing::laws::verdicts_are_right;
+use nss_typing::{EntryPoint, Fault, Typed, TypedItem};
+use nwq_value::{Items, NoMemory, Table};
+use std::alloc::Global;
+
+/// Why a unit isn't typed.
+#[derive(Clone, Copy, Debug, PartialEq, Eq)]
+pub enum TypeFault {
+    /// The node at fault of least token
+    Fault(Fault),
+    NoMemory,
+}
+
+/// The declarations of a unit's functions. The walk over its items finds them, whatever it knows of
+/// them before.
+fn declarations(alloc: Global, table: &Table, xs: &[Item]) -> Result<Heads, NoMemory>
+    ensures { IfOk result (λ h. h ≡ heads table.now (map plain_item xs.now)) }
+{
+    let none = Heads::new(alloc);
+    let given = Given {
+        alloc,
+        table,
+        heads: &none,
+    };
+    let mut c = Sight::start(alloc);
+    let mut ignored = None;
+    match items(&given, &mut c, &mut ignored, xs) {
+        Ok(typed) => {
+            drop(typed);
+            Ok(seen(c))
+        }
+        Err(error) => {
+            drop(c);
+            Err(error)
+        }
+    }
+}
+
+fn seen(c: Sight) -> Heads
+    ensures { result ≡ c.seen }
+{
+    c.seen
+}
+
+/// The typed items of a unit whose functions are declared so.
+fn typed_items_of(
+    alloc: Global,
+    table: &Table,
+    heads: &Heads,
+    least: &mut Option<Fault>,
+    xs: &[Item],
+) -> Result<Option<Items<TypedItem>>, NoMemory>
+    ensures value { IfOk result (λ r. option_map typed_items r
+        ≡ items_fine heads.now (start table.now) (map plain_item xs.now)) }
+    ensures least { OnOk result (least.new ≡ kept least.old
+        (items_faults heads.now (start table.now) (map plain_item xs.now))) }
+{
+    let given = Given {
+        alloc,
+        table,
+        heads,
+    };
+    let mut c = Sight::start(alloc);
+    let typed = items(&given, &mut c, least, xs);
+    drop(c);
+    typed
+}
+
+/// The typed unit, or the fault that is kept.
+fn made(
+    least: Option<Fault>,
+    items: Option<Items<TypedItem>>,
+    entry: Option<EntryPoint>,
+) -> Result<Typed, Fault>
+    requires typed { least ≡ None → IsSome (two (option_map typed_items items) entry) }
+    ensures typed { IfOk result (λ t. option_map unit_of (two (option_map typed_items items) entry)
+        ≡ Some (typed_unit t)) }
+    ensures fault { IfErr result (λ f. least ≡ Some f) }
+{
+    match least {
+        Some(fault) => {
+            drop(items);
+            Err(fault)
+        }
+        None => match items {
+            Some(items) => match entry {
+                Some(entry) => Ok(Typed::new(items, entry)),
+                None => unreachable!(),
+            },
+            None => unreachable!(),
+        },
+    }
+}
+
+fn answer(alloc: Global, table: &Table, tree: &Tree) -> Result<Result<Typed, Fault>, NoMemory>
+    ensures typed { IfOk result (λ r. IfOk r
+        (λ t. TypesUnit table.now (plain_tree tree.now) (typed_unit t))) }
+    ensures fault { IfOk result (λ r. IfErr r (IsKeptFault table.now (plain_tree tree.now))) }
+{
+    verdicts_are_right();
+    let xs = tree.items.as_slice();
+    let heads = declarations(alloc, table, xs)?;
+    let mut least = None;
+    let items = typed_items_of(alloc, table, &heads, &mut least, xs)?;
+    let entry = judge_entry(&mut least, tree.count, &heads);
+    Ok(made(least, items, entry))
+}
+
+/// The typed tree of a unit, which the rules give it, or its least fault. The tree is dropped.
+pub fn type_unit(alloc: Global, tree: Tree, table: &Table) -> Result<Typed, TypeFault>
+    ensures typed { IfOk result (λ t. TypesUnit table.now (plain_tree tree) (typed_unit t)) }
+    ensures fault { IfErr result (IsFaultOf table.now (plain_tree tree)) }
+{
+    verdicts_are_right();
+    let answered = answer(alloc, table, &tree);
+    drop(tree);
+    match answered {
+        Ok(Ok(typed)) => Ok(typed),
+        Ok(Err(fault)) => Err(TypeFault::Fault(fault)),
+        Err(NoMemory) => Err(TypeFault::NoMemory),
+    }
+}
