@@ -1,10 +1,12 @@
 -- A script that is compiled: its file of bytecode, and the command that writes it.
-use Rattle.std.specs.Prelude.{ℕ, Bool, true, false, nat_lt, List, length, ◌++◌, None, codes}
+use Rattle.std.specs.Prelude.{◌<◌, ℕ, Bool, true, false, nat_lt, List, length, ◌++◌, None, codes}
 use Rattle.nwq_value.specs.Limits.{file_limit}
 use Rattle.nwq_value.specs.Engine.{EngineTable}
 use Rattle.nss_typing.specs.Typed.{TypedUnit}
 use Rattle.nss_include.specs.declared.file.Source.{Source}
 use Rattle.code_emission.specs.Units.{unit_file}
+use Rattle.ncs_emit.specs.declared.fault.EmitFault.{EmitFault}
+use Rattle.ncs_emit.specs.declared.fault.EmitFault.TheVariants.{Large, NoMemory}
 use Rattle.nwq_work.specs.declared.cause.Cause.TheVariants as cause
 use Rattle.nwq_work.specs.Work.{Work, Gives, Refused, then, Finished}
 use Rattle.nwq_sources.specs.Headers.{table_of}
@@ -12,6 +14,11 @@ use Rattle.nwq_sources.specs.Units.{PlainScript, at_spot, spot_of, unit_of}
 use Rattle.nwq_files.specs.Commands.{writes_and_puts}
 use Rattle.nwq_files.specs.Texts.{done_line}
 use Rattle.nwq_scripts.specs.Typings.{typed_in}
+
+-- why a file isn't made: it would be larger than a file may be, or memory was wanted
+abbrev pub IsTooLarge : List ℕ → EmitFault → Type 0
+IsTooLarge file (Large size) = file_limit < length file
+IsTooLarge file NoMemory = Unit {0}
 
 -- a unit whose file would be too large is refused at the end of the script's own file
 abbrev pub file_by : List Source → Bool → List ℕ → Work (List ℕ)
