@@ -67,12 +67,7 @@ fn build(alloc: Global, table: &Table, unit: &Unit) -> Result<Sums, NoMemory>
 
 /// Plays the script of a unit under a header. Its tree isn't looked at.
 #[tactic(auto, using(nwq_work::specs::Parts::cut_here))]
-fn play_unit<S: Sink>(
-    alloc: Global,
-    table: &Table,
-    unit: &Unit,
-    out: &mut S,
-) -> Result<(), Status>
+fn play_unit<S: Sink>(alloc: Global, table: &Table, unit: &Unit, out: &mut S) -> Result<(), Status>
     requires { 0 < length unit.now.files }
     ensures does { IsTrue S.tells → (c : Contents) (tree : SourceTree) →
         Does (play_of table.now (script_of unit.now tree)) c
