@@ -104,9 +104,9 @@ fn sums(rt: HostRuntime) -> Result<(), Fail> {
 #[test]
 fn refusals(rt: HostRuntime) -> Result<(), Fail> {
     let rows = [
-        ("", "refused p.nss 1 0 notbuilt\n"),
-        ("#include \"none\"\n", "refused p.nss 2 16 notbuilt\n"),
-        ("int a;", "refused p.nss 1 0 notbuilt\n"),
+        ("", "refused p.nss 1 0 entry\n"),
+        ("#include \"none\"\n", "refused p.nss 2 16 entry\n"),
+        ("int a;", "refused p.nss 1 6 entry\n"),
         (
             "void main() { PrintInteger(1-2); }",
             "refused p.nss 1 28 notbuilt\n",
@@ -262,7 +262,7 @@ fn headers(rt: HostRuntime) -> Result<(), Fail> {
             Status::Script,
             "refused p.nss 1 14 notbuilt\n",
         ),
-        ("", Status::Script, "refused p.nss 1 14 notbuilt\n"),
+        ("", Status::Script, "refused p.nss 1 14 unknown\n"),
     ];
     for (header, status, text) in rows {
         let files = [
@@ -307,7 +307,8 @@ fn words(rt: HostRuntime) -> Result<(), Fail> {
         "run -h p",
         "run h.nss -",
         "run - seventeen_letters",
-        "compile - p",
+        "compile -",
+        "compile - P",
     ];
     for line in rows {
         assert!(rt; refuses_words(rt.alloc(), line)?, "{line}");

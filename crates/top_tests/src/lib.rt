@@ -12,3 +12,5 @@ mod files;
 mod parts;
 #[cfg(test)]
 mod programs;
+#[cfg(test)]
+mod scripts;
