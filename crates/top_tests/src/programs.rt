@@ -51,7 +51,7 @@ fn usage(rt: &HostRuntime, hooks: &Hooks) -> Result<(), Fail>
     requires hooks { AreServing (map (λ h. h.known) hooks.now.all.items) }
 {
     let told =
-        b"usage: nwq run HEADER SCRIPT | tree FILE | check HEADER FILE | dis FILE TO | asm FILE TO (HEADER: a header file, or - for the built-in one)\n";
+        b"usage: nwq run HEADER SCRIPT | compile HEADER SCRIPT | tree FILE | check HEADER FILE | dis FILE TO | asm FILE TO (HEADER: a header file, or - for the built-in one)\n";
     for line in ["", "nwq", "nwq run"] {
         let (found, out, err) = ends(rt.alloc(), line, hooks)?;
         assert_eq!(rt; found, 1);
