@@ -1,5 +1,9 @@
 //! Scripts that are typed and compiled: `compile`, and the typing faults that `run` tells.
 
+ghost use Rattle.std.specs.Prelude.{map};
+ghost use Rattle.world_core.specs.Calls.{AreServing};
+
+use hook_table::Hooks;
 use nwq_outside::{MemFiles, MemSink};
 use nwq_top::{Status, nwq_main};
 use nwq_value::NoMemory;
@@ -13,7 +17,10 @@ fn outcome(
     line: &str,
     source: &str,
     fails: Option<u64>,
-) -> Result<(Status, MemFiles, MemSink), NoMemory> {
+    hooks: &Hooks,
+) -> Result<(Status, MemFiles, MemSink), NoMemory>
+    requires hooks { AreServing (map (λ h. h.known) hooks.now.all.items) }
+{
     let mut words: Vec<String> = Vec::new(alloc);
     for word in line.split_whitespace() {
         words.push(String::from_str(alloc, word)?)?;
@@ -24,27 +31,38 @@ fn outcome(
         files.fail_at(call)?;
     }
     let mut out = MemSink::new(alloc);
-    let status = nwq_main(alloc, words.as_slice(), &mut files, &mut out);
+    let status = nwq_main(alloc, words.as_slice(), &mut files, &mut out, hooks);
     Ok((status, files, out))
 }
 
 /// Whether the script is compiled to these bytes, with this text.
-fn compiles(alloc: Global, source: &str, bytes: &[u8], text: &str) -> Result<bool, NoMemory> {
-    let (found, files, out) = outcome(alloc, "compile - p", source, None)?;
+fn compiles(
+    alloc: Global,
+    source: &str,
+    bytes: &[u8],
+    text: &str,
+    hooks: &Hooks,
+) -> Result<bool, NoMemory>
+    requires hooks { AreServing (map (λ h. h.known) hooks.now.all.items) }
+{
+    let (found, files, out) = outcome(alloc, "compile - p", source, None, hooks)?;
     Ok(found == Status::Done && out.bytes() == text.as_bytes() && files.get("p.ncs") == Some(bytes))
 }
 
 /// Whether both commands refuse the script with this text, and write nothing.
-fn refuses(alloc: Global, source: &str, text: &str) -> Result<bool, NoMemory> {
-    let (ran, _, told) = outcome(alloc, "run - p", source, None)?;
-    let (found, files, out) = outcome(alloc, "compile - p", source, None)?;
+fn refuses(alloc: Global, source: &str, text: &str, hooks: &Hooks) -> Result<bool, NoMemory>
+    requires hooks { AreServing (map (λ h. h.known) hooks.now.all.items) }
+{
+    let (ran, _, told) = outcome(alloc, "run - p", source, None, hooks)?;
+    let (found, files, out) = outcome(alloc, "compile - p", source, None, hooks)?;
     let both = ran == Status::Script && found == Status::Script;
     let same = told.bytes() == text.as_bytes() && out.bytes() == text.as_bytes();
     Ok(both && same && files.get("p.ncs").is_none())
 }
 
-#[test]
-fn compiled(rt: HostRuntime) -> Result<(), Fail> {
+fn compiled(rt: &HostRuntime, hooks: &Hooks) -> Result<(), Fail>
+    requires hooks { AreServing (map (λ h. h.known) hooks.now.all.items) }
+{
     let rows = [
         (
             "void main() {}",
@@ -58,13 +76,17 @@ fn compiled(rt: HostRuntime) -> Result<(), Fail> {
         ),
     ];
     for (source, bytes, text) in rows {
-        assert!(rt; compiles(rt.alloc(), source, bytes, text)?, "{source}");
+        assert!(rt;
+            compiles(rt.alloc(), source, bytes, text, hooks)?,
+            "{source}"
+        );
     }
     Ok(())
 }
 
-#[test]
-fn typing_faults(rt: HostRuntime) -> Result<(), Fail> {
+fn typing_faults(rt: &HostRuntime, hooks: &Hooks) -> Result<(), Fail>
+    requires hooks { AreServing (map (λ h. h.known) hooks.now.all.items) }
+{
     let rows = [
         ("", "refused p.nss 1 0 entry\n"),
         (
@@ -91,16 +113,32 @@ fn typing_faults(rt: HostRuntime) -> Result<(), Fail> {
         ),
     ];
     for (source, text) in rows {
-        assert!(rt; refuses(rt.alloc(), source, text)?, "{source}");
+        assert!(rt; refuses(rt.alloc(), source, text, hooks)?, "{source}");
     }
     Ok(())
 }
 
-#[test]
-fn failed_write(rt: HostRuntime) -> Result<(), Fail> {
-    let (status, files, out) = outcome(rt.alloc(), "compile - p", "void main() {}", Some(1))?;
+fn failed_write(rt: &HostRuntime, hooks: &Hooks) -> Result<(), Fail>
+    requires hooks { AreServing (map (λ h. h.known) hooks.now.all.items) }
+{
+    let (status, files, out) = outcome(
+        rt.alloc(),
+        "compile - p",
+        "void main() {}",
+        Some(1),
+        hooks,
+    )?;
     assert_eq!(rt; status, Status::Fault);
     assert_eq!(rt; out.bytes(), b"".as_slice());
     assert!(rt; files.get("p.ncs").is_none());
     Ok(())
+}
+
+/// All of them.
+pub fn all(rt: &HostRuntime, hooks: &Hooks) -> Result<(), Fail>
+    requires hooks { AreServing (map (λ h. h.known) hooks.now.all.items) }
+{
+    compiled(rt, hooks)?;
+    typing_faults(rt, hooks)?;
+    failed_write(rt, hooks)
 }
