@@ -1,0 +1,6 @@
+pub mod NamedScripts
+pub mod Runs
+pub mod Entering
+pub mod Turning
+pub mod Playing
+pub mod Whole

@@ -1,0 +1,34 @@
+use Rattle.module_player.proofs.Playing.{play_begins, play_fails, play_is_last, play_pauses, play_rests, play_runs_out, play_stops, plays_go_on}
+use Rattle.module_player.proofs.plays.play_from.Goals as goal
+
+pub loop-number-init : goal.loop-number-init
+loop-number-init g c = play_begins _ _ _ _ _ _ _ _ _ c.requires.fit c.requires.quiet c.requires.within c.requires.next c.requires.done
+
+pub loop-number-preserved : goal.loop-number-preserved
+loop-number-preserved g c =
+    plays_go_on _ _ _ _ _ _ _ _ _ _ _ _ c.loop-number.invariant _ _ _ _ c.loop-number-test.true c.if-number-entries.false c.requires.limit c.in-Goes.ensures.turns c.in-Goes.ensures.taken c.in-Goes.ensures.counts
+
+pub returns-in-Stops : goal.returns-in-Stops
+returns-in-Stops g c = record {
+  played = play_stops _ _ _ _ _ _ _ _ _ _ _ _ c.loop-number.invariant _ _ _ _ c.loop-number-test.true c.if-number-entries.false c.requires.limit c.requires.entries c.in-Stops.ensures.turns c.in-Stops.ensures.taken c.in-Stops.ensures.counts;
+}
+
+pub returns-in-Rests : goal.returns-in-Rests
+returns-in-Rests g c = record {
+  played = play_rests _ _ _ _ _ _ _ _ _ _ _ _ c.loop-number.invariant _ _ _ c.loop-number-test.true c.if-number-entries.false c.requires.entries c.in-Rests.ensures.turns c.in-Rests.ensures.taken c.in-Rests.ensures.counts;
+}
+
+pub returns-in-Fault : goal.returns-in-Fault
+returns-in-Fault g c = record {
+  played = play_fails _ _ _ _ _ _ _ _ _ _ _ _ c.loop-number.invariant _ _ _ _ _ c.loop-number-test.true c.if-number-entries.false c.in-Fault.ensures.taken c.in-Fault.ensures.counts;
+}
+
+pub returns-in-NoMemory : goal.returns-in-NoMemory
+returns-in-NoMemory g c = record {
+  played = play_runs_out _ _ _ _ _ _ _ _ _ _ _ _ c.loop-number.invariant _ _ _ _ _ c.loop-number-test.true c.if-number-entries.false c.in-NoMemory.ensures.taken c.in-NoMemory.ensures.counts;
+}
+
+pub returns-then-number-entries : goal.returns-then-number-entries
+returns-then-number-entries g c = record {
+  played = play_is_last _ _ _ _ _ _ _ _ _ _ _ _ c.loop-number.invariant _ c.loop-number-test.true c.if-number-entries.true c.requires.entries c.last_end.ensures.ending;
+}

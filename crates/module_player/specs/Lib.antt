@@ -1,0 +1,5 @@
+pub mod CodePlays
+pub mod Scenes
+pub mod Entries
+pub mod Turns
+pub mod Answers

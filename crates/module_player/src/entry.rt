@@ -1,0 +1,306 @@
+//! One agenda entry.
+ghost use Rattle.std.specs.Prelude.{◌≡◌, ◌≤◌, ◌<◌, ◌+◌, ◌^◌, ℕ, IfOk, OnOk, false, length, map};
+ghost use Rattle.delay_agenda.specs.declared.entry.Kind.TheVariants as kind;
+ghost use Rattle.nwq_value.specs.Limits.{instruction_limit};
+ghost use Rattle.shape_tables.specs.Fits.{FitsOne};
+ghost use Rattle.engine_rows.specs.Kept.{IsActing, IsPlaced};
+ghost use Rattle.engine_rows.specs.Turns.{turn_done, unapply};
+ghost use Rattle.engine_rows.specs.World.{count as object_count};
+ghost use Rattle.machine_step.specs.Runs.{run_stored};
+ghost use Rattle.play_steps.specs.Plays.{entered_as, event_entry, finished, turn_entry};
+ghost use Rattle.ncs_machine.specs.Endings.{FitsBegin};
+ghost use Rattle.ncs_machine.specs.Host.{run_from};
+ghost use Rattle.ncs_machine.specs.Stored.{KindFits};
+ghost use Rattle.module_player.specs.CodePlays.{run_of};
+ghost use Rattle.module_player.specs.Entries.{HasActed, HasEntered, IsReady, KeepsFits, run, turn_taken};
+ghost use Rattle.module_player.specs.Scenes.{FitIn, IsSet, host_in, runner_in};
+ghost use Rattle.module_player.specs.Scenes.{scene, scripts_in, tables_in};
+
+use crate::names::script_named;
+use crate::scripts::{Ended, run_scripts};
+use crate::setting::Setting;
+use delay_agenda::{Entry, Kind};
+use engine_rows::entries_keep_worlds;
+use ncs_machine::{Begin, entries_keep_fits};
+use nwq_value::{NoMemory, Text};
+use saved_state::Saved;
+use std::alloc::Global;
+use world_core::World;
+
+/// What came of an entry: whether it was stopped, and how many instructions its scripts took.
+#[derive(Clone, Copy)]
+pub struct Entered {
+    pub stopped: bool,
+    pub count: u64,
+}
+
+/// An entry that runs no script.
+const QUIET: Entered = Entered {
+    stopped: false,
+    count: 0,
+};
+
+/// What is left of an entry once its scripts are over, where that is nothing but the line of a
+/// division. Whether the entry was stopped.
+fn finish(world: &mut World<Saved>, ended: Ended) -> Result<bool, NoMemory>
+    ensures finished { IfOk result (λ stopped. (n : ℕ) → finished (λ v. v) (run ended n
+        world.old.world) ≡ record { stopped = stopped; count = n; world = world.new.world }) }
+    ensures agenda { OnOk result (world.new.world.agenda ≡ world.old.world.agenda) }
+    ensures things { OnOk result (world.new.world.things ≡ world.old.world.things) }
+{
+    match ended {
+        Ended::Over => Ok(false),
+        Ended::Divided(object) => {
+            world.fault(object)?;
+            Ok(false)
+        }
+        Ended::Stopped => Ok(true),
+    }
+}
+
+/// The same of a Turn, which is done then, unless it was stopped.
+#[tactic(auto, using(crate::proofs::Entering::turn_lemmas))]
+fn finish_turn(world: &mut World<Saved>, object: u32, ended: Ended) -> Result<bool, NoMemory>
+    requires clock { world.old.world.clock < 2 ^ 62 }
+    requires next { world.old.world.agenda.next < 2 ^ 63 }
+    requires first { 1 ≤ object }
+    requires within { object ≤ object_count world.old.world }
+    requires acting { IsActing object world.old.world }
+    requires room { 1 ≤ world.old.room }
+    ensures finished { IfOk result (λ stopped. (n : ℕ) → finished (turn_done object) (run ended n
+        world.old.world) ≡ record { stopped = stopped; count = n; world = world.new.world }) }
+    ensures few { OnOk result (world.new.world.agenda.next ≤ world.old.world.agenda.next + 1) }
+    ensures fit { OnOk result (KeepsFits world.old.world world.new.world) }
+{
+    entries_keep_worlds::<Saved>();
+    entries_keep_fits();
+    world.keeps();
+    match ended {
+        Ended::Over => {
+            world.turn_done(object);
+            Ok(false)
+        }
+        Ended::Divided(own) => {
+            world.fault(own)?;
+            world.turn_done(object);
+            Ok(false)
+        }
+        Ended::Stopped => Ok(true),
+    }
+}
+
+/// An entry that runs scripts and is over with them.
+#[tactic(auto, using(crate::proofs::Entering::script_entered))]
+fn script_entry(
+    alloc: Global,
+    setting: &Setting<'_>,
+    world: &mut World<Saved>,
+    script: u32,
+    begin: Begin,
+    object: u32,
+    limit: u64,
+) -> Result<Entered, NoMemory>
+    requires set { IsSet (scene setting.now.scripts.now setting.now.table.now (map (λ h. h.known)
+        setting.now.hooks.now.all.items)) }
+    requires listed { script < length setting.now.scripts.now }
+    requires stored { FitsBegin (scripts_in (scene setting.now.scripts.now setting.now.table.now
+        (map (λ h. h.known) setting.now.hooks.now.all.items))) (tables_in (scene
+        setting.now.scripts.now setting.now.table.now (map (λ h. h.known)
+        setting.now.hooks.now.all.items))) begin }
+    requires limit { limit ≤ instruction_limit }
+    requires ready { IsReady world.old.world }
+    requires fit { FitIn (scene setting.now.scripts.now setting.now.table.now (map (λ h. h.known)
+        setting.now.hooks.now.all.items)) world.old.world }
+    requires object { object ≤ object_count world.old.world }
+    requires room { 1 ≤ world.old.room }
+    ensures entered { IfOk result (λ e. HasEntered (scene setting.now.scripts.now
+        setting.now.table.now (map (λ h. h.known) setting.now.hooks.now.all.items)) limit e
+        (finished (λ v. v) (run_of (run_from (host_in (scene setting.now.scripts.now
+        setting.now.table.now (map (λ h. h.known) setting.now.hooks.now.all.items))) limit script
+        begin object world.old.world))) world.old.world world.new.world) }
+{
+    let (ended, count) = run_scripts(alloc, setting, world, script, begin, object, limit)?;
+    let stopped = finish(world, ended)?;
+    Ok(Entered { stopped, count })
+}
+
+/// An event of an object, with the script of this name.
+#[tactic(auto, using(crate::proofs::Entering::event_lemmas))]
+fn event_entry(
+    alloc: Global,
+    setting: &Setting<'_>,
+    world: &mut World<Saved>,
+    object: u32,
+    name: &Text,
+    limit: u64,
+) -> Result<Entered, NoMemory>
+    requires set { IsSet (scene setting.now.scripts.now setting.now.table.now (map (λ h. h.known)
+        setting.now.hooks.now.all.items)) }
+    requires limit { limit ≤ instruction_limit }
+    requires ready { IsReady world.old.world }
+    requires fit { FitIn (scene setting.now.scripts.now setting.now.table.now (map (λ h. h.known)
+        setting.now.hooks.now.all.items)) world.old.world }
+    requires object { object ≤ object_count world.old.world }
+    requires room { 1 ≤ world.old.room }
+    ensures entered { IfOk result (λ e. HasEntered (scene setting.now.scripts.now
+        setting.now.table.now (map (λ h. h.known) setting.now.hooks.now.all.items)) limit e
+        (event_entry (runner_in (scene setting.now.scripts.now setting.now.table.now (map (λ h.
+        h.known) setting.now.hooks.now.all.items)) limit) object name.now world.old.world)
+        world.old.world world.new.world) }
+{
+    if name.bytes().is_empty() {
+        return Ok(QUIET);
+    }
+    match script_named(setting.scripts, name) {
+        None => {
+            world.no_script(object, name)?;
+            Ok(QUIET)
+        }
+        Some(script) => script_entry(
+            alloc,
+            setting,
+            world,
+            script as u32,
+            Begin::Start,
+            object,
+            limit,
+        ),
+    }
+}
+
+/// A Turn that came to a stored action.
+#[tactic(auto, using(crate::proofs::Entering::action_lemmas))]
+fn action_entry(
+    alloc: Global,
+    setting: &Setting<'_>,
+    world: &mut World<Saved>,
+    object: u32,
+    saved: Saved,
+    limit: u64,
+) -> Result<Entered, NoMemory>
+    requires set { IsSet (scene setting.now.scripts.now setting.now.table.now (map (λ h. h.known)
+        setting.now.hooks.now.all.items)) }
+    requires stored { FitsOne (scripts_in (scene setting.now.scripts.now setting.now.table.now
+        (map (λ h. h.known) setting.now.hooks.now.all.items))) (tables_in (scene
+        setting.now.scripts.now setting.now.table.now (map (λ h. h.known)
+        setting.now.hooks.now.all.items))) saved }
+    requires limit { limit ≤ instruction_limit }
+    requires clock { world.old.world.clock < 2 ^ 62 }
+    requires next { world.old.world.agenda.next < 2 ^ 62 }
+    requires fit { FitIn (scene setting.now.scripts.now setting.now.table.now (map (λ h. h.known)
+        setting.now.hooks.now.all.items)) world.old.world }
+    requires first { 1 ≤ object }
+    requires within { object ≤ object_count world.old.world }
+    requires acting { IsActing object world.old.world }
+    requires room { 1 ≤ world.old.room }
+    ensures entered { IfOk result (λ e. HasActed (scene setting.now.scripts.now
+        setting.now.table.now (map (λ h. h.known) setting.now.hooks.now.all.items)) limit e
+        (finished (turn_done object) (run_of (run_stored (host_in (scene setting.now.scripts.now
+        setting.now.table.now (map (λ h. h.known) setting.now.hooks.now.all.items))) limit saved
+        object world.old.world))) world.old.world world.new.world) }
+{
+    let script = saved.script;
+    let begin = Begin::Stored(saved);
+    let (ended, count) = run_scripts(alloc, setting, world, script, begin, object, limit)?;
+    let stopped = finish_turn(world, object, ended)?;
+    Ok(Entered { stopped, count })
+}
+
+/// A Turn of an object.
+#[tactic(auto, using(crate::proofs::Entering::turn_entry_lemmas))]
+fn turn_entry(
+    alloc: Global,
+    setting: &Setting<'_>,
+    world: &mut World<Saved>,
+    object: u32,
+    limit: u64,
+) -> Result<Entered, NoMemory>
+    requires set { IsSet (scene setting.now.scripts.now setting.now.table.now (map (λ h. h.known)
+        setting.now.hooks.now.all.items)) }
+    requires limit { limit ≤ instruction_limit }
+    requires ready { IsReady world.old.world }
+    requires fit { FitIn (scene setting.now.scripts.now setting.now.table.now (map (λ h. h.known)
+        setting.now.hooks.now.all.items)) world.old.world }
+    requires first { 1 ≤ object }
+    requires within { object ≤ object_count world.old.world }
+    requires acting { IsActing object world.old.world }
+    requires room { 1 ≤ world.old.room }
+    ensures entered { IfOk result (λ e. HasEntered (scene setting.now.scripts.now
+        setting.now.table.now (map (λ h. h.known) setting.now.hooks.now.all.items)) limit e
+        (turn_taken (runner_in (scene setting.now.scripts.now setting.now.table.now (map (λ h.
+        h.known) setting.now.hooks.now.all.items)) limit) object world.old.world) world.old.world
+        world.new.world) }
+{
+    entries_keep_worlds::<Saved>();
+    entries_keep_fits();
+    world.keeps();
+    match world.turn(object)? {
+        None => Ok(QUIET),
+        Some(saved) => action_entry(alloc, setting, world, object, saved, limit),
+    }
+}
+
+/// The end of an effect.
+fn unapply_entry(world: &mut World<Saved>, object: u32, number: u64) -> Result<Entered, NoMemory>
+    requires first { 1 ≤ object }
+    requires within { object ≤ object_count world.old.world }
+    ensures quiet { IfOk result (λ e. e ≡ record { stopped = false; count = 0 }) }
+    ensures world { OnOk result (world.new.world ≡ unapply object number world.old.world) }
+    ensures few { OnOk result (world.new.world.agenda.next ≤ world.old.world.agenda.next + 1) }
+    ensures fit { OnOk result (KeepsFits world.old.world world.new.world) }
+{
+    entries_keep_worlds::<Saved>();
+    entries_keep_fits();
+    world.keeps();
+    world.unapply(object, number)?;
+    Ok(QUIET)
+}
+
+/// An entry that is begun.
+#[tactic(auto, using(crate::proofs::Entering::entry_lemmas))]
+pub(crate) fn enter(
+    alloc: Global,
+    setting: &Setting<'_>,
+    world: &mut World<Saved>,
+    entry: Entry<Saved>,
+    limit: u64,
+) -> Result<Entered, NoMemory>
+    requires set { IsSet (scene setting.now.scripts.now setting.now.table.now (map (λ h. h.known)
+        setting.now.hooks.now.all.items)) }
+    requires limit { limit ≤ instruction_limit }
+    requires ready { IsReady world.old.world }
+    requires fit { FitIn (scene setting.now.scripts.now setting.now.table.now (map (λ h. h.known)
+        setting.now.hooks.now.all.items)) world.old.world }
+    requires placed { IsPlaced (object_count world.old.world) entry.kind }
+    requires acting { (o : ℕ) → entry.kind ≡ kind.Turn o → IsActing o world.old.world }
+    requires stored { KindFits (scripts_in (scene setting.now.scripts.now setting.now.table.now
+        (map (λ h. h.known) setting.now.hooks.now.all.items))) (tables_in (scene
+        setting.now.scripts.now setting.now.table.now (map (λ h. h.known)
+        setting.now.hooks.now.all.items))) entry.kind }
+    requires room { 1 ≤ world.old.room }
+    ensures entered { IfOk result (λ e. HasEntered (scene setting.now.scripts.now
+        setting.now.table.now (map (λ h. h.known) setting.now.hooks.now.all.items)) limit e
+        (entered_as (runner_in (scene setting.now.scripts.now setting.now.table.now (map (λ h.
+        h.known) setting.now.hooks.now.all.items)) limit) entry.kind entry.number world.old.world)
+        world.old.world world.new.world) }
+{
+    let Entry {
+        due: _,
+        number,
+        kind,
+    } = entry;
+    match kind {
+        Kind::Event {
+            object,
+            script,
+            user: _,
+        } => event_entry(alloc, setting, world, object, &script, limit),
+        Kind::Stored { object, action } => {
+            let script = action.script;
+            let begin = Begin::Stored(action);
+            script_entry(alloc, setting, world, script, begin, object, limit)
+        }
+        Kind::Turn { object } => turn_entry(alloc, setting, world, object, limit),
+        Kind::Unapply { object } => unapply_entry(world, object, number),
+    }
+}

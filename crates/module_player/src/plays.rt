@@ -1,0 +1,250 @@
+//! Plays: entry after entry.
+ghost use Rattle.std.specs.Prelude.{◌≡◌, ◌≢◌, ◌≤◌, ◌<◌, ◌+◌, ◌^◌, [], IsTrue, length, map};
+ghost use Rattle.nwq_value.specs.Limits.{entry_limit, instruction_limit, time_limit};
+ghost use Rattle.shape_tables.specs.Laws.{AllMeet};
+ghost use Rattle.engine_rows.specs.Trace.{trace_text};
+ghost use Rattle.engine_rows.specs.Turns.{begin};
+ghost use Rattle.play_steps.specs.Plays.{full, play_on};
+ghost use Rattle.world_core.specs.Calls.{AreServing};
+ghost use Rattle.ncs_machine.specs.Host.{scripts_of, tables_of};
+ghost use Rattle.ncs_machine.specs.Stored.{StatesFit};
+ghost use Rattle.module_player.specs.Answers.{CountsPlay, EndsAs, HasPlayed, IsLastEnd};
+ghost use Rattle.module_player.specs.Answers.{TakesTrace, WherePlayed};
+ghost use Rattle.module_player.specs.CodePlays.{code_play, code_play_on, host_of, played_before};
+ghost use Rattle.module_player.specs.Scenes.{FitIn, IsSet, runner_in, scene};
+ghost use Rattle.module_player.specs.declared.played.How.TheVariants as answer;
+
+use crate::played::{How, Played};
+use crate::setting::Setting;
+use crate::turn::{Next, turn};
+use hook_table::Hooks;
+use ncs_machine::Scripts;
+use nwq_outside::Sink;
+use nwq_value::Table;
+use saved_state::Saved;
+use std::alloc::Global;
+use world_core::World;
+
+/// How a play ends that has taken as many entries as it may: by whether a further one is due.
+#[tactic(auto, using(crate::proofs::Playing::due_lemmas))]
+fn last_end(world: &World<Saved>, until: u64) -> How
+    ensures ending { IsLastEnd result (full (begin until world.now.world)) }
+{
+    match world.next_due() {
+        None => How::Done,
+        Some(due) => {
+            if due <= until {
+                How::EntryStop
+            } else {
+                How::Done
+            }
+        }
+    }
+}
+
+/// The play that goes on after `taken` entries and `done` instructions.
+#[tactic(auto, using(crate::proofs::Playing::play_lemmas))]
+fn play_from<S: Sink>(
+    alloc: Global,
+    setting: &Setting<'_>,
+    world: &mut World<Saved>,
+    limit: u64,
+    entries: u64,
+    until: u64,
+    stop: u64,
+    taken: u64,
+    done: u64,
+    out: &mut S,
+) -> Played
+    requires set { IsSet (scene setting.now.scripts.now setting.now.table.now (map (λ h. h.known)
+        setting.now.hooks.now.all.items)) }
+    requires fit { FitIn (scene setting.now.scripts.now setting.now.table.now (map (λ h. h.known)
+        setting.now.hooks.now.all.items)) world.old.world }
+    requires quiet { world.old.world.trace ≡ [] }
+    requires next { world.old.world.agenda.next < 2 ^ 61 }
+    requires limit { limit ≤ instruction_limit }
+    requires entries { entries ≤ entry_limit }
+    requires until { until ≤ time_limit }
+    requires taken { taken < stop }
+    requires within { taken ≤ entries }
+    requires done { done < 2 ^ 61 }
+    ensures played { HasPlayed (scene setting.now.scripts.now setting.now.table.now (map (λ h. h.known)
+        setting.now.hooks.now.all.items)) result (play_on (runner_in (scene setting.now.scripts.now setting.now.table.now (map (λ h. h.known)
+        setting.now.hooks.now.all.items)) limit)
+        (record { entries = entries; until = until; stop = stop })
+        (played_before taken done world.old.world)) S.tells (S.taken out.old) (S.taken out.new)
+        (S.faults out.old) (S.faults out.new) world.new.world }
+{
+    let mut count = done;
+    for number in taken..stop {
+        if number == entries {
+            return Played {
+                how: last_end(world, until),
+                entries: number,
+                instructions: count,
+            };
+        }
+        match turn(alloc, setting, world, limit, until, out) {
+            Next::Goes(n) => count += n,
+            Next::Stops(n) => {
+                return Played {
+                    how: How::InstrStop,
+                    entries: number + 1,
+                    instructions: count + n,
+                };
+            }
+            Next::Rests => {
+                return Played {
+                    how: How::Done,
+                    entries: number,
+                    instructions: count,
+                };
+            }
+            Next::Fault => {
+                return Played {
+                    how: How::Fault,
+                    entries: number,
+                    instructions: count,
+                };
+            }
+            Next::NoMemory => {
+                return Played {
+                    how: How::NoMemory,
+                    entries: number,
+                    instructions: count,
+                };
+            }
+        }
+    }
+    Played {
+        how: How::Pause,
+        entries: stop,
+        instructions: count,
+    }
+}
+
+/// Plays on: `taken` entries were taken before and `done` instructions executed, and the call ends
+/// once `stop` entries were taken in all. Each entry's lines are put in one piece when it is over,
+/// and an entry without lines puts nothing. The first put that fails ends the call.
+pub fn play_on<S: Sink>(
+    alloc: Global,
+    scripts: &Scripts,
+    world: &mut World<Saved>,
+    hooks: &Hooks,
+    table: &Table,
+    limit: u64,
+    entries: u64,
+    until: u64,
+    stop: u64,
+    taken: u64,
+    done: u64,
+    out: &mut S,
+) -> Played
+    requires few { length scripts.now < 2 ^ 32 }
+    requires meets { AllMeet table.now (scripts_of scripts.now) (tables_of scripts.now) }
+    requires hooks { AreServing (map (λ h. h.known) hooks.now.all.items) }
+    requires fit { StatesFit (scripts_of scripts.now) (tables_of scripts.now) world.old.world }
+    requires quiet { world.old.world.trace ≡ [] }
+    requires next { world.old.world.agenda.next < 2 ^ 61 }
+    requires limit { limit ≤ instruction_limit }
+    requires entries { entries ≤ entry_limit }
+    requires until { until ≤ time_limit }
+    requires taken { taken < stop }
+    requires within { taken ≤ entries }
+    requires done { done < 2 ^ 61 }
+    // How the play ends, after how many entries and instructions, and in which world.
+    ensures ending { EndsAs result.how (code_play_on (host_of scripts.now table.now
+        (map (λ h. h.known) hooks.now.all.items)) limit entries until stop taken done
+        world.old.world).ending }
+    ensures entries { WherePlayed result.how (result.entries ≡ (code_play_on (host_of scripts.now table.now
+        (map (λ h. h.known) hooks.now.all.items)) limit entries until stop taken done
+        world.old.world).last.entries) }
+    ensures instructions { WherePlayed result.how (result.instructions
+        ≡ (code_play_on (host_of scripts.now table.now
+        (map (λ h. h.known) hooks.now.all.items)) limit entries until stop taken done
+        world.old.world).last.count) }
+    ensures world { WherePlayed result.how (world.new.world ≡ (code_play_on (host_of scripts.now table.now
+        (map (λ h. h.known) hooks.now.all.items)) limit entries until stop taken done
+        world.old.world).last.world) }
+    // The sink took the play's lines, or a prefix of them where the play was cut short.
+    ensures trace { IsTrue S.tells → TakesTrace result.how (trace_text (code_play_on (host_of scripts.now table.now
+        (map (λ h. h.known) hooks.now.all.items)) limit entries until stop taken done
+        world.old.world).last.trace)
+        (S.taken out.old) (S.taken out.new) }
+    ensures faults { CountsPlay result.how (S.faults out.old) (S.faults out.new) }
+    // What the world keeps, so that its text can be put, and the play can go on.
+    ensures fit { WherePlayed result.how (StatesFit (scripts_of scripts.now)
+        (tables_of scripts.now) world.new.world) }
+    ensures quiet { WherePlayed result.how (world.new.world.trace ≡ []) }
+    ensures next { WherePlayed result.how (world.new.world.agenda.next < 2 ^ 62) }
+{
+    let setting = Setting {
+        scripts,
+        table,
+        hooks,
+    };
+    play_from(
+        alloc, &setting, world, limit, entries, until, stop, taken, done, out,
+    )
+}
+
+/// Plays until no entry is due, or as many were taken as may be.
+#[tactic(auto, using(crate::proofs::Whole::never_pauses))]
+pub fn play<S: Sink>(
+    alloc: Global,
+    scripts: &Scripts,
+    world: &mut World<Saved>,
+    hooks: &Hooks,
+    table: &Table,
+    limit: u64,
+    entries: u64,
+    until: u64,
+    out: &mut S,
+) -> Played
+    requires few { length scripts.now < 2 ^ 32 }
+    requires meets { AllMeet table.now (scripts_of scripts.now) (tables_of scripts.now) }
+    requires hooks { AreServing (map (λ h. h.known) hooks.now.all.items) }
+    requires fit { StatesFit (scripts_of scripts.now) (tables_of scripts.now) world.old.world }
+    requires quiet { world.old.world.trace ≡ [] }
+    requires next { world.old.world.agenda.next < 2 ^ 61 }
+    requires limit { limit ≤ instruction_limit }
+    requires entries { entries ≤ entry_limit }
+    requires until { until ≤ time_limit }
+    // How the play ends, after how many entries and instructions, and in which world.
+    ensures ending { EndsAs result.how (code_play (host_of scripts.now table.now
+        (map (λ h. h.known) hooks.now.all.items)) limit entries until world.old.world).ending }
+    ensures entries { WherePlayed result.how (result.entries ≡ (code_play (host_of scripts.now table.now
+        (map (λ h. h.known) hooks.now.all.items)) limit entries until world.old.world).last.entries) }
+    ensures instructions { WherePlayed result.how (result.instructions
+        ≡ (code_play (host_of scripts.now table.now
+        (map (λ h. h.known) hooks.now.all.items)) limit entries until world.old.world).last.count) }
+    ensures world { WherePlayed result.how (world.new.world ≡ (code_play (host_of scripts.now table.now
+        (map (λ h. h.known) hooks.now.all.items)) limit entries until world.old.world).last.world) }
+    // The sink took the play's lines, or a prefix of them where the play was cut short.
+    ensures trace { IsTrue S.tells → TakesTrace result.how (trace_text (code_play (host_of scripts.now table.now
+        (map (λ h. h.known) hooks.now.all.items)) limit entries until world.old.world).last.trace)
+        (S.taken out.old) (S.taken out.new) }
+    ensures faults { CountsPlay result.how (S.faults out.old) (S.faults out.new) }
+    // What the world keeps, so that its text can be put, and the play can go on.
+    ensures fit { WherePlayed result.how (StatesFit (scripts_of scripts.now)
+        (tables_of scripts.now) world.new.world) }
+    ensures quiet { WherePlayed result.how (world.new.world.trace ≡ []) }
+    ensures next { WherePlayed result.how (world.new.world.agenda.next < 2 ^ 62) }
+    // It isn't broken off.
+    ensures whole { result.how ≢ answer.Pause }
+{
+    play_on(
+        alloc,
+        scripts,
+        world,
+        hooks,
+        table,
+        limit,
+        entries,
+        until,
+        entries + 1,
+        0,
+        0,
+        out,
+    )
+}

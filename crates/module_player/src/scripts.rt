@@ -1,0 +1,77 @@
+//! The scripts of an entry.
+ghost use Rattle.std.specs.Prelude.{◌≤◌, ◌<◌, ◌^◌, IfOk, length, map};
+ghost use Rattle.nwq_value.specs.Limits.{instruction_limit};
+ghost use Rattle.engine_rows.specs.World.{count as object_count};
+ghost use Rattle.ncs_machine.specs.Endings.{FitsBegin};
+ghost use Rattle.ncs_machine.specs.Host.{run_from};
+ghost use Rattle.module_player.specs.CodePlays.{run_of};
+ghost use Rattle.module_player.specs.Entries.{HasRun};
+ghost use Rattle.module_player.specs.Scenes.{FitIn, IsSet, host_in, scene, scripts_in, tables_in};
+
+use crate::setting::Setting;
+use ncs_machine::{Begin, Ran, run};
+use nwq_value::NoMemory;
+use saved_state::Saved;
+use std::alloc::Global;
+use world_core::World;
+
+/// How an entry's scripts end.
+#[derive(Clone, Copy)]
+pub enum Ended {
+    Over,
+    /// A script of this object divided by zero.
+    Divided(u32),
+    /// They would take more instructions than they may.
+    Stopped,
+}
+
+/// Runs an entry's scripts: how they end, and how many instructions they take.
+#[tactic(auto, using(crate::proofs::Runs::run_lemmas))]
+pub(crate) fn run_scripts(
+    alloc: Global,
+    setting: &Setting<'_>,
+    world: &mut World<Saved>,
+    script: u32,
+    begin: Begin,
+    object: u32,
+    limit: u64,
+) -> Result<(Ended, u64), NoMemory>
+    requires set { IsSet (scene setting.now.scripts.now setting.now.table.now (map (λ h. h.known)
+        setting.now.hooks.now.all.items)) }
+    requires listed { script < length setting.now.scripts.now }
+    requires stored { FitsBegin (scripts_in (scene setting.now.scripts.now setting.now.table.now
+        (map (λ h. h.known) setting.now.hooks.now.all.items))) (tables_in (scene
+        setting.now.scripts.now setting.now.table.now (map (λ h. h.known)
+        setting.now.hooks.now.all.items))) begin }
+    requires limit { limit ≤ instruction_limit }
+    requires clock { world.old.world.clock < 2 ^ 62 }
+    requires next { world.old.world.agenda.next < 2 ^ 62 }
+    requires fit { FitIn (scene setting.now.scripts.now setting.now.table.now (map (λ h. h.known)
+        setting.now.hooks.now.all.items)) world.old.world }
+    requires object { object ≤ object_count world.old.world }
+    requires room { 1 ≤ world.old.room }
+    ensures run { IfOk result (λ r. HasRun (scene setting.now.scripts.now setting.now.table.now
+        (map (λ h. h.known) setting.now.hooks.now.all.items)) limit r.0 r.1 (run_of (run_from
+        (host_in (scene setting.now.scripts.now setting.now.table.now (map (λ h. h.known)
+        setting.now.hooks.now.all.items))) limit script begin object world.old.world))
+        world.old.world world.new.world) }
+    ensures room { 1 ≤ world.new.room }
+{
+    let (ran, count, last) = run(
+        alloc,
+        setting.scripts,
+        script,
+        begin,
+        world,
+        setting.hooks,
+        setting.table,
+        object,
+        limit,
+    );
+    match ran {
+        Ran::Ended => Ok((Ended::Over, count)),
+        Ran::Divide => Ok((Ended::Divided(last), count)),
+        Ran::Limit => Ok((Ended::Stopped, count)),
+        Ran::NoMemory => Err(NoMemory),
+    }
+}

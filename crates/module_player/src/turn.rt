@@ -1,0 +1,147 @@
+//! One turn of a play: the next entry, where one is due, and its lines.
+ghost use Rattle.std.specs.Prelude.{◌≡◌, ◌≤◌, ◌<◌, ◌+◌, ◌^◌, ℕ, IsTrue, map};
+ghost use Rattle.delay_agenda.specs.declared.entry.Kind.TheVariants as kind;
+ghost use Rattle.nwq_outside.specs.Outside.{CountsDone, Takes as TakesPiece};
+ghost use Rattle.nwq_outside.specs.declared.answer.Done.TheVariants as done;
+ghost use Rattle.nwq_value.specs.Limits.{instruction_limit, time_limit};
+ghost use Rattle.engine_rows.specs.Kept.{IsActing, IsPlaced};
+ghost use Rattle.engine_rows.specs.Trace.{trace_text};
+ghost use Rattle.engine_rows.specs.Turns.{begin, drained};
+ghost use Rattle.engine_rows.specs.World.{count as object_count};
+ghost use Rattle.play_steps.specs.Plays.{entered_as};
+ghost use Rattle.ncs_machine.specs.Stored.{KindFits};
+ghost use Rattle.module_player.specs.Entries.{IsReady};
+ghost use Rattle.module_player.specs.Scenes.{FitIn, IsSet, runner_in, scene, scripts_in};
+ghost use Rattle.module_player.specs.Scenes.{tables_in};
+ghost use Rattle.module_player.specs.Turns.{CountsNext, Takes, TakesText, Turns, lines_of};
+ghost use Rattle.module_player.specs.Turns.{lines_text};
+
+use crate::entry::enter;
+use crate::setting::Setting;
+use delay_agenda::Entry;
+use engine_rows::entries_keep_worlds;
+use ncs_machine::entries_keep_fits;
+use nwq_outside::{Done, Sink};
+use saved_state::Saved;
+use std::alloc::Global;
+use world_core::World;
+
+/// What comes of a turn.
+#[derive(Clone, Copy)]
+pub enum Next {
+    /// An entry is over, after so many instructions.
+    Goes(u64),
+    /// An entry was stopped, after so many.
+    Stops(u64),
+    /// No entry is due.
+    Rests,
+    /// The sink failed.
+    Fault,
+    NoMemory,
+}
+
+/// Puts the lines that the world keeps in one piece, where there are any. It keeps none then.
+#[tactic(auto, using(crate::proofs::Turning::put_lemmas))]
+fn put_lines<S: Sink>(alloc: Global, world: &mut World<Saved>, out: &mut S) -> Done
+    ensures drained { result ≡ done.Ok → world.new.world ≡ drained world.old.world }
+    ensures taken { IsTrue S.tells → TakesPiece (trace_text world.old.world.trace) (S.taken
+        out.old) (S.taken out.new) result }
+    ensures counts { CountsDone result (S.faults out.old) (S.faults out.new) }
+{
+    let mut text = Vec::new(alloc);
+    match world.drain(&mut text) {
+        Err(_) => Done::NoMemory,
+        Ok(()) => {
+            if text.is_empty() {
+                Done::Ok
+            } else {
+                out.put(text.as_slice())
+            }
+        }
+    }
+}
+
+/// An entry that is begun, and its lines.
+#[tactic(auto, using(crate::proofs::Turning::take_lemmas))]
+fn take<S: Sink>(
+    alloc: Global,
+    setting: &Setting<'_>,
+    world: &mut World<Saved>,
+    entry: Entry<Saved>,
+    limit: u64,
+    out: &mut S,
+) -> Next
+    requires set { IsSet (scene setting.now.scripts.now setting.now.table.now (map (λ h. h.known)
+        setting.now.hooks.now.all.items)) }
+    requires limit { limit ≤ instruction_limit }
+    requires ready { IsReady world.old.world }
+    requires fit { FitIn (scene setting.now.scripts.now setting.now.table.now (map (λ h. h.known)
+        setting.now.hooks.now.all.items)) world.old.world }
+    requires placed { IsPlaced (object_count world.old.world) entry.kind }
+    requires acting { (o : ℕ) → entry.kind ≡ kind.Turn o → IsActing o world.old.world }
+    requires stored { KindFits (scripts_in (scene setting.now.scripts.now setting.now.table.now
+        (map (λ h. h.known) setting.now.hooks.now.all.items))) (tables_in (scene
+        setting.now.scripts.now setting.now.table.now (map (λ h. h.known)
+        setting.now.hooks.now.all.items))) entry.kind }
+    requires room { 1 ≤ world.old.room }
+    ensures takes { Takes result (scene setting.now.scripts.now setting.now.table.now (map (λ h.
+        h.known) setting.now.hooks.now.all.items)) limit (entered_as (runner_in (scene
+        setting.now.scripts.now setting.now.table.now (map (λ h. h.known)
+        setting.now.hooks.now.all.items)) limit) entry.kind entry.number world.old.world)
+        world.old.world world.new.world }
+    ensures taken { IsTrue S.tells → TakesText result (lines_text
+        (entered_as (runner_in (scene setting.now.scripts.now setting.now.table.now
+        (map (λ h. h.known) setting.now.hooks.now.all.items)) limit) entry.kind entry.number
+        world.old.world)) (S.taken out.old) (S.taken out.new) }
+    ensures counts { CountsNext result (S.faults out.old) (S.faults out.new) }
+{
+    match enter(alloc, setting, world, entry, limit) {
+        Err(_) => Next::NoMemory,
+        Ok(entered) => match put_lines(alloc, world, out) {
+            Done::Ok => {
+                if entered.stopped {
+                    Next::Stops(entered.count)
+                } else {
+                    Next::Goes(entered.count)
+                }
+            }
+            Done::Failed => Next::Fault,
+            Done::NoMemory => Next::NoMemory,
+        },
+    }
+}
+
+/// The next entry that is due by a time, and its lines.
+#[tactic(auto, using(crate::proofs::Turning::turn_lemmas))]
+pub(crate) fn turn<S: Sink>(
+    alloc: Global,
+    setting: &Setting<'_>,
+    world: &mut World<Saved>,
+    limit: u64,
+    until: u64,
+    out: &mut S,
+) -> Next
+    requires set { IsSet (scene setting.now.scripts.now setting.now.table.now (map (λ h. h.known)
+        setting.now.hooks.now.all.items)) }
+    requires limit { limit ≤ instruction_limit }
+    requires until { until ≤ time_limit }
+    requires next { world.old.world.agenda.next + 1 < 2 ^ 62 }
+    requires fit { FitIn (scene setting.now.scripts.now setting.now.table.now (map (λ h. h.known)
+        setting.now.hooks.now.all.items)) world.old.world }
+    ensures turns { Turns result (scene setting.now.scripts.now setting.now.table.now (map (λ h.
+        h.known) setting.now.hooks.now.all.items)) limit (runner_in (scene setting.now.scripts.now
+        setting.now.table.now (map (λ h. h.known) setting.now.hooks.now.all.items)) limit) (begin
+        until world.old.world) world.old.world world.new.world }
+    ensures taken { IsTrue S.tells → TakesText result (trace_text (lines_of (runner_in (scene
+        setting.now.scripts.now setting.now.table.now (map (λ h. h.known)
+        setting.now.hooks.now.all.items)) limit) (begin until world.old.world))) (S.taken out.old)
+        (S.taken out.new) }
+    ensures counts { CountsNext result (S.faults out.old) (S.faults out.new) }
+{
+    entries_keep_fits();
+    match world.begin(until) {
+        Err(_) => Next::NoMemory,
+        Ok(None) => Next::Rests,
+        Ok(Some(entry)) => take(alloc, setting, world, entry, limit, out),
+    }
+}
