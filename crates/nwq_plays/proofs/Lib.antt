@@ -1,0 +1,6 @@
+mod LoadLemmas
+mod OneRun
+mod PlayLemmas
+mod Steps
+mod TellLemmas
+mod WorldLemmas

@@ -1,0 +1,122 @@
+//! The command that compiles one script and plays it.
+ghost use Rattle.std.specs.Prelude.{◌≡◌, ◌≤◌, ℕ, map, length, string_bytes, IsTrue, IfErr, IfOk};
+ghost use Rattle.nwq_outside.specs.Outside.{Contents};
+ghost use Rattle.world_core.specs.Calls.{AreServing, cells_of};
+ghost use Rattle.nwq_work.specs.Work.{Does};
+ghost use Rattle.nwq_work.specs.Counts.{Counted, Tallies};
+ghost use Rattle.nwq_scripts.specs.Files.{code_name};
+ghost use Rattle.nwq_plays.specs.Plays.{plays_file};
+ghost use Rattle.nwq_plays.specs.Runs.{runs, runs_under, StopsRun};
+ghost use Rattle.nwq_plays.specs.Tellings.{StopsPlay};
+
+use crate::play::play_file;
+use hook_table::Hooks;
+use nwq_outside::{Files, Sink};
+use nwq_scripts::read_compiled;
+use nwq_sources::read_table;
+use nwq_value::{Items, NoMemory, Table};
+use nwq_work::Status;
+use std::alloc::Global;
+
+/// The name of a script's file of bytecode.
+fn code_name(alloc: Global, script: &str) -> Result<String, NoMemory>
+    ensures { IfOk result (λ name. string_bytes name ≡ code_name script.now) }
+{
+    let mut name = String::new(alloc);
+    name.push_str(script)?;
+    name.push_str(".ncs")?;
+    Ok(name)
+}
+
+/// Plays the file of a compiled script.
+#[tactic(auto, using(crate::proofs::RunLemmas::file_cut))]
+fn play_compiled<S: Sink>(
+    alloc: Global,
+    table: &Table,
+    script: &str,
+    bytes: Items<u8>,
+    hooks: &Hooks,
+    out: &mut S,
+) -> Result<(), Status>
+    requires small { length bytes ≤ file_limit }
+    requires hooks { AreServing (map (λ h. h.known) hooks.now.all.items) }
+    ensures does { IsTrue S.tells → (c : Contents) →
+        Does (plays_file (cells_of (map (λ h. h.known) hooks.now.all.items)) table.now
+        script.now (code_name script.now) bytes) c (S.taken out.old) result c (S.taken out.new) }
+    ensures counts { (faults absences longs : ℕ) → Tallies result
+        (Counted faults absences longs (S.faults out.old))
+        (Counted faults absences longs (S.faults out.new)) }
+    ensures only { IfErr result StopsPlay }
+{
+    match code_name(alloc, script) {
+        Err(NoMemory) => {
+            drop(bytes);
+            Err(Status::Memory)
+        }
+        Ok(file) => play_file(
+            alloc,
+            table,
+            script.as_bytes(),
+            file.as_bytes(),
+            bytes.into_vec(),
+            hooks,
+            out,
+        ),
+    }
+}
+
+/// Compiles the script of this name under a header, and plays it.
+#[tactic(auto, using(crate::proofs::Steps::steps, crate::proofs::RunLemmas::stops), unfolding(crate::specs::Runs::runs_under))]
+fn run_under<F: Files, S: Sink>(
+    alloc: Global,
+    table: &Table,
+    script: &str,
+    files: &mut F,
+    hooks: &Hooks,
+    out: &mut S,
+) -> Result<(), Status>
+    requires hooks { AreServing (map (λ h. h.known) hooks.now.all.items) }
+    ensures does { IsTrue F.tells → IsTrue S.tells →
+        Does (runs_under (cells_of (map (λ h. h.known) hooks.now.all.items)) script.now table.now)
+        (F.contents files.old) (S.taken out.old) result
+        (F.contents files.new) (S.taken out.new) }
+    ensures counts { Tallies result
+        (Counted (F.faults files.old) (F.absences files.old) (F.longs files.old) (S.faults out.old))
+        (Counted (F.faults files.new) (F.absences files.new)
+        (F.longs files.new) (S.faults out.new)) }
+    ensures same { F.contents files.new ≡ F.contents files.old }
+    ensures only { IfErr result StopsRun }
+{
+    match read_compiled(alloc, table, script, files, out) {
+        Err(status) => Err(status),
+        Ok(bytes) => play_compiled(alloc, table, script, bytes, hooks, out),
+    }
+}
+
+/// Compiles the script of this name, under the header that a word names, and plays it.
+#[tactic(auto, using(crate::proofs::Steps::steps, crate::proofs::RunLemmas::stops), unfolding(crate::specs::Runs::runs))]
+pub fn run_script<F: Files, S: Sink>(
+    alloc: Global,
+    header: &str,
+    script: &str,
+    files: &mut F,
+    hooks: &Hooks,
+    out: &mut S,
+) -> Result<(), Status>
+    requires hooks { AreServing (map (λ h. h.known) hooks.now.all.items) }
+    ensures does { IsTrue F.tells → IsTrue S.tells →
+        Does (runs (cells_of (map (λ h. h.known) hooks.now.all.items)) header.now script.now)
+        (F.contents files.old) (S.taken out.old) result
+        (F.contents files.new) (S.taken out.new) }
+    ensures counts { Tallies result
+        (Counted (F.faults files.old) (F.absences files.old) (F.longs files.old) (S.faults out.old))
+        (Counted (F.faults files.new) (F.absences files.new)
+        (F.longs files.new) (S.faults out.new)) }
+    ensures same { F.contents files.new ≡ F.contents files.old }
+    ensures only { IfErr result StopsRun }
+{
+    match read_table(alloc, header, files, out) {
+        Err(status) => Err(status),
+        Ok(table) => run_under(alloc, &table, script, files, hooks, out),
+    }
+}
