@@ -1,20 +1,19 @@
 -- What entries come to.
-use Rattle.std.proofs.Common.{arith, ◌≡◌, ◌≢◌, ◌≤◌, ◌<◌, ◌+◌, ℕ, Bool, true, false, List, [], ◌∷◌, Option, None, Some, sym, subst, ap, ◌∙◌, refl}
+use Rattle.std.proofs.Common.{arith, ◌≡◌, ◌≤◌, ◌+◌, ℕ, Bool, false, List, [], ◌∷◌, Option, None, Some, sym, subst, ap, ◌∙◌, refl}
 use Rattle.nwq_value.specs.declared.memory.NoMemory.{NoMemory}
-use Rattle.std.specs.Prelude.{Result, Ok, Err, IfOk, OnOk, ◌^◌, ◌==◌, ◌&&◌, nat_le, IsTrue, length, slice_get}
+use Rattle.std.specs.Prelude.{Result, Ok, Err, IfOk, OnOk, ◌==◌, ◌&&◌, nat_le, IsTrue, length}
 use Rattle.std.proofs.lemmas.Bool.{le-leb}
 use Rattle.saved_state.specs.declared.saved.Saved.{Saved}
-use Rattle.machine_step.specs.Machine.{Script, script_named}
+use Rattle.machine_step.specs.Machine.{script_named}
 use Rattle.machine_step.specs.Runs.{run_stored}
-use Rattle.shape_tables.specs.Fits.{Tables, FitsOne, FitsAction}
+use Rattle.shape_tables.specs.Fits.{FitsOne}
 use Rattle.engine_rows.specs.Engine.{no_script}
-use Rattle.engine_rows.specs.Kept.{IsWorld, IsActing, IsStep, IsTurned, IsDone, FaultKeeps, TurnKeeps, TurnDoneKeeps, UnapplyKeeps}
+use Rattle.engine_rows.specs.Kept.{IsWorld, IsActing, IsTurned, FaultKeeps, TurnKeeps}
 use Rattle.engine_rows.specs.Turns.{Turned, fault, turn, turn_done, unapply}
 use Rattle.engine_rows.specs.World.{World, count as object_count, is_valid}
-use Rattle.play_steps.specs.Plays as plays
-use Rattle.play_steps.specs.Plays.{Run, Runner, event_entry, named_entry, finished, turn_entry, entered_as}
+use Rattle.play_steps.specs.Plays.{Run, event_entry, named_entry, finished, turn_entry, entered_as}
 use Rattle.delay_agenda.specs.declared.entry.Kind.{Kind}
-use Rattle.delay_agenda.specs.declared.entry.Kind.TheVariants.{Event, Stored, Turn, Unapply}
+use Rattle.delay_agenda.specs.declared.entry.Kind.TheVariants.{Stored, Unapply}
 use Rattle.ncs_machine.specs.Endings.{IsLeft}
 use Rattle.ncs_machine.specs.Host.{host, run_from}
 use Rattle.ncs_machine.specs.Stored.{StatesFit, TurnedFits, TurnKeepsFits, TurnDoneKeepsFits, UnapplyKeepsFits}
@@ -22,7 +21,7 @@ use Rattle.ncs_machine.specs.declared.scripts.Begin.TheVariants as begins
 use Rattle.module_player.specs.declared.scripts.Ended.{Ended}
 use Rattle.module_player.specs.declared.entry.Entered.{Entered}
 use Rattle.module_player.specs.CodePlays.{code_runner, run_of}
-use Rattle.module_player.specs.Entries.{Comes, HasActed, HasEntered, HasRun, KeepsFits, entered, run, turn_taken}
+use Rattle.module_player.specs.Entries.{HasActed, HasEntered, HasRun, KeepsFits, entered, run, turn_taken}
 use Rattle.module_player.specs.Scenes.{Scene, FitIn, host_in, runner_in, scripts_in, tables_in}
 
 -- ---- states that fit

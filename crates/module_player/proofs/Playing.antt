@@ -1,7 +1,6 @@
 -- A play, turn by turn.
 use Rattle.std.proofs.Common.{arith, ◌≡◌, ◌≢◌, ◌≤◌, ◌<◌, ◌+◌, ◌-◌, ◌*◌, ℕ, zero, suc, Bool, true, false, List, [], ◌∷◌, ◌++◌, Option, None, Some, ⊎_elim, sym, subst, ap, ◌∙◌, refl, append_assoc}
 use Rattle.std.specs.Prelude.{◌^◌, ◌==◌, IsTrue, if◌then◌else◌}
-use Rattle.std.specs.List.{flat_map}
 use Rattle.std.proofs.lemmas.Grind.{flat_map-append}
 use Rattle.std.proofs.Math.Dec.{leb}
 use Rattle.std.proofs.lemmas.Bool.{eq-eqb, le-leb}
@@ -17,15 +16,14 @@ use Rattle.engine_rows.specs.Turns.{Begun, begin, begun, drained, user_number, w
 use Rattle.engine_rows.specs.World.{World}
 use Rattle.play_steps.specs.Plays as plays
 use Rattle.play_steps.specs.Plays.{Runner, Bounds, Progress, Played, Entered, after_entry, entered, full, further, next_entry, play_on, plays as plays_from}
-use Rattle.module_player.specs.declared.turn.Next.{Next}
-use Rattle.module_player.specs.declared.turn.Next.TheVariants.{Goes, Stops, Rests, Fault, NoMemory}
+use Rattle.module_player.specs.declared.turn.Next.TheVariants.{Goes, Stops, Rests}
 use Rattle.module_player.specs.declared.played.How.{How}
 use Rattle.module_player.specs.declared.played.How.TheVariants as how
 use Rattle.module_player.specs.declared.played.Played.{Played as Answer}
 use Rattle.module_player.specs.Answers.{HasPlayed, IsLastEnd}
 use Rattle.module_player.specs.CodePlays.{played_before}
 use Rattle.module_player.specs.Scenes.{Scene, FitIn, runner_in}
-use Rattle.module_player.specs.Turns.{IsInside, IsTaken, Takes, TakesText, Turns, lines_of}
+use Rattle.module_player.specs.Turns.{IsInside, IsTaken, Turns, lines_of}
 
 -- ---- texts of traces
 

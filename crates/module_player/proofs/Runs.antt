@@ -1,5 +1,5 @@
 -- Runs of an entry's scripts.
-use Rattle.std.proofs.Common.{arith, ◌≡◌, ◌≤◌, ◌<◌, ◌+◌, ℕ, zero, suc, Option, None, Some, sym, subst, ap, ◌∙◌, refl}
+use Rattle.std.proofs.Common.{arith, ◌≡◌, ◌≤◌, ℕ, zero, suc, Option, None, Some, sym, subst, ap}
 use Rattle.saved_state.specs.declared.saved.Saved.{Saved}
 use Rattle.machine_step.specs.Machine.{Host, State, Next, Goes, Ends, Divided, step}
 use Rattle.machine_step.specs.Runs as runs
@@ -12,7 +12,7 @@ use Rattle.ncs_machine.specs.declared.entry.Ran.{Ran}
 use Rattle.ncs_machine.specs.declared.entry.Ran.TheVariants as ran
 use Rattle.module_player.specs.declared.scripts.Ended.TheVariants.{Over, Divided, Stopped}
 use Rattle.module_player.specs.CodePlays.{ending_of, run_of}
-use Rattle.module_player.specs.Entries.{HasRun, run}
+use Rattle.module_player.specs.Entries.{HasRun}
 use Rattle.module_player.specs.Scenes.{Scene, FitIn, host_in, scripts_in, tables_in}
 
 -- ---- a run takes no more instructions than it may

@@ -1,22 +1,19 @@
 -- What turns of a play come to.
-use Rattle.std.proofs.Common.{arith, ◌≡◌, ◌≢◌, ◌≤◌, ◌<◌, ◌+◌, ℕ, Bool, true, false, List, [], ◌∷◌, ◌++◌, Option, None, Some, sym, subst, ap, ◌∙◌, refl}
+use Rattle.std.proofs.Common.{arith, ◌≡◌, ◌≤◌, ◌<◌, ◌+◌, ℕ, Bool, true, false, List, [], ◌∷◌, ◌++◌, Option, None, Some, sym, subst, ap, ◌∙◌, refl}
 use Rattle.std.specs.Prelude.{◌^◌}
-use Rattle.std.specs.List.{flat_map}
 use Rattle.delay_agenda.specs.declared.entry.Entry.{Entry}
-use Rattle.delay_agenda.specs.declared.entry.Kind.{Kind}
 use Rattle.delay_agenda.specs.declared.entry.Kind.TheVariants.{Turn}
 use Rattle.nwq_outside.specs.Outside.{Takes as TakesPiece, TookPrefix}
 use Rattle.nwq_outside.specs.declared.answer.Done.TheVariants as done
 use Rattle.nwq_value.specs.Limits.{time_limit}
 use Rattle.saved_state.specs.declared.saved.Saved.{Saved}
-use Rattle.engine_rows.specs.declared.data.Line.{Line}
 use Rattle.engine_rows.specs.Kept.{IsActing, IsBegun, IsPlaced}
-use Rattle.engine_rows.specs.Trace.{line_text, trace_text}
+use Rattle.engine_rows.specs.Trace.{trace_text}
 use Rattle.engine_rows.specs.Turns.{Begun, begin, drained}
 use Rattle.engine_rows.specs.World.{World, count as object_count}
 use Rattle.play_steps.specs.Plays as plays
 use Rattle.play_steps.specs.Plays.{Runner, entered_as}
-use Rattle.ncs_machine.specs.Stored.{BeginKeepsFits, BegunFits, KindFits, StatesFit}
+use Rattle.ncs_machine.specs.Stored.{BeginKeepsFits, BegunFits, KindFits}
 use Rattle.module_player.specs.declared.entry.Entered.{Entered}
 use Rattle.module_player.specs.declared.turn.Next.{Next}
 use Rattle.module_player.specs.declared.turn.Next.TheVariants.{Goes, Stops, Rests, Fault, NoMemory}

@@ -6,7 +6,7 @@ use Rattle.hook_table.specs.declared.hook.Known.{Known}
 use Rattle.machine_step.specs.Machine.{Host, Script, script_named}
 use Rattle.machine_step.specs.Runs as runs
 use Rattle.engine_rows.specs.World.{World}
-use Rattle.play_steps.specs.Plays.{Ending, Over, Divided, Stopped, Run, Runner, Bounds, Progress, Played, play, play_on}
+use Rattle.play_steps.specs.Plays.{Ending, Over, Divided, Stopped, Run, Runner, Progress, Played, play, play_on}
 use Rattle.play_steps.specs.EndText.{end_text}
 use Rattle.ncs_machine.specs.declared.scripts.Loaded.{Loaded}
 use Rattle.ncs_machine.specs.Host.{engine_view, host, scripts_of}

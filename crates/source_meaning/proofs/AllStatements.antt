@@ -46,7 +46,7 @@ module _ (host : MachineHost) (R : Saved → Deferred → Type 0) (x : Site) (li
     each_of (case_label m k) h = tt
     each_of (default_label m) h = tt
 
-    all_of : (ss : TypedStmts) → OfAll P ss → EachOfAll host R x listed tables execute functions caller most result ss
+    pub all_of : (ss : TypedStmts) → OfAll P ss → EachOfAll host R x listed tables execute functions caller most result ss
     all_of no_stmt h = tt
     all_of (more_stmts s ss) h = (each_of s h.0, all_of ss h.1)
 

@@ -1,36 +1,31 @@
 -- The code of arguments and of calls does what they mean.
-use Rattle.std.proofs.Common.{arith, ◌≡◌, ◌≤◌, ◌<◌, ◌+◌, ◌-◌, ℕ, zero, suc, List, [], ◌∷◌, ◌++◌, length, map, take, drop, reverse, Option, Some, None, Bool, true, false, sym, subst, ◌∙◌, ap, refl, append_assoc}
-use Rattle.std.specs.Prelude.{ℤ, pos, ◌&&◌, ◌==◌, nat_le, slice_get, if◌then◌else◌}
-use Rattle.std.specs.Option.{option_map, option_and_then}
-use Rattle.std.specs.List.{flat_map}
-use Rattle.std.proofs.lemmas.Bool.Decides.{nat_tests, Decides-eqb}
-use Rattle.std.proofs.lemmas.List.{length-append, length-map, drop_at}
+use Rattle.std.proofs.Common.{arith, ◌≡◌, ◌+◌, ℕ, List, [], ◌∷◌, ◌++◌, length, map, reverse, Option, Some, None, Bool, true, false, sym, subst, ◌∙◌, ap, refl, append_assoc}
+use Rattle.std.specs.Prelude.{if◌then◌else◌}
+use Rattle.std.specs.Option.{option_map}
+use Rattle.std.proofs.lemmas.List.{length-map}
 use Rattle.nwq_value.specs.declared.value.Ty.{Ty}
-use Rattle.nwq_value.specs.declared.value.Ty.TheVariants.{Void, Int as IntTy, Text as TextTy, Object as ObjectTy, Effect as EffectTy, Event as EventTy, Action, Struct, Refused}
+use Rattle.nwq_value.specs.declared.value.Ty.TheVariants.{Action}
 use Rattle.nwq_value.specs.declared.value.Value.{Value}
-use Rattle.nwq_value.specs.declared.value.Value.TheVariants.{Text, Object}
 use Rattle.nwq_value.specs.declared.engine.Const.{Const}
 use Rattle.nwq_value.specs.declared.engine.Const.TheVariants as const
 use Rattle.nwq_value.specs.declared.engine.Param.{Param}
-use Rattle.nwq_value.specs.declared.engine.Routine.{Routine}
 use Rattle.nwq_value.specs.Engine.{const_type}
 use Rattle.nwq_value.specs.Values.{type_of as type_of_value}
 use Rattle.nwq_value.specs.Roles.{ty_eq}
-use Rattle.nss_typing.specs.Types.{is_void}
 use Rattle.nss_typing.specs.Typed.{TypedExpr, TypedExprs, no_typed, more_typed, type_of}
 use Rattle.saved_state.specs.declared.cell.Cell.{Cell}
-use Rattle.saved_state.specs.declared.cell.Cell.TheVariants.{Value as Holds, Base}
+use Rattle.saved_state.specs.declared.cell.Cell.TheVariants.{Value as Holds}
 use Rattle.saved_state.specs.declared.saved.Saved.{Saved}
-use Rattle.stack_shape.specs.Calls.{is_action, is_callable, action_count, argument_types as parameter_types}
+use Rattle.stack_shape.specs.Calls.{is_action, action_count, argument_types as parameter_types}
 use Rattle.code_emission.specs.Layout.{Structs, cell_types}
 use Rattle.code_emission.specs.Expressions.{is_captured, count_arguments}
-use Rattle.machine_step.specs.Cells.{value_types, values_on}
-use Rattle.machine_step.specs.Calls.{Taken, with_value, with_action, value_taken, action_taken, taken, arguments}
+use Rattle.machine_step.specs.Cells.{value_types}
+use Rattle.machine_step.specs.Calls.{Taken, with_value, with_action, value_taken, action_taken, taken}
 use Rattle.source_meaning.specs.Expressions.{all_parts}
 use Rattle.source_meaning.specs.Kept.{pushed, AreHeld}
 use Rattle.source_meaning.specs.Fine.{argument_type, argument_types, AreSingle, IsSingle}
 use Rattle.source_meaning.specs.Calling.{pushed_all, all_types, with_types, types_before, constant_types, one_if, actions_in}
-use Rattle.source_meaning.proofs.Cells.{ty_same, held_pushed, pushed_length}
+use Rattle.source_meaning.proofs.Cells.{ty_same, held_pushed}
 
 -- ---- what the machine takes
 

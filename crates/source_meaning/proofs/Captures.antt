@@ -1,28 +1,22 @@
 -- A state that is captured in a listed script carries the call.
-use Rattle.std.proofs.Common.{arith, ◌≡◌, ◌≤◌, ◌+◌, ◌-◌, ℕ, List, [], ◌∷◌, ◌++◌, length, take, drop, reverse, Some, true, false, sym, subst, ◌∙◌, ap, refl, append_assoc}
-use Rattle.std.specs.Prelude.{slice_get}
-use Rattle.std.proofs.lemmas.List.{length-append, length-reverse, length-take-le, reverse-reverse, take_at, take_all, drop_at}
+use Rattle.std.proofs.Common.{arith, ◌≡◌, ◌-◌, ℕ, List, [], ◌∷◌, ◌++◌, length, take, drop, reverse, sym, subst, ◌∙◌, ap, refl, append_assoc}
+use Rattle.std.proofs.lemmas.List.{length-append, length-reverse, reverse-reverse, take_at, take_all, drop_at}
 use Rattle.nwq_value.specs.Engine.{EngineTable}
 use Rattle.ncs_code.specs.Plain as ops
 use Rattle.ncs_code.specs.File.{resume_place}
 use Rattle.ncs_emit.specs.Labelled.{Instruction}
 use Rattle.ncs_emit.specs.Standing.{LinesStand}
 use Rattle.nss_typing.specs.declared.places.Place.TheVariants.{Local, Global, Const as IsConst}
-use Rattle.nss_typing.specs.Numbers.{number_of}
 use Rattle.nss_typing.specs.Typed.{TypedExpr, TypedExprs, TypedUnit, literal, name, call, member, prefix, postfix, binary, assign, no_typed, more_typed}
 use Rattle.saved_state.specs.declared.cell.Cell.{Cell}
 use Rattle.saved_state.specs.Cells.{cells_beneath}
 use Rattle.code_emission.specs.Expressions.{emit}
-use Rattle.engine_rows.specs.Pure.{CellLookup}
 use Rattle.machine_step.specs.Frames.{Frame}
-use Rattle.source_meaning.specs.Evaluation.{Variables, Progress}
-use Rattle.source_meaning.specs.Scripts.{Function, Listed, Setting, functions}
-use Rattle.source_meaning.specs.Ledger.{MachineHost}
-use Rattle.source_meaning.specs.Kept.{Vars, Kept, AreHeld}
-use Rattle.source_meaning.specs.Fine.{IsArgument, IsFine, AreFine}
-use Rattle.source_meaning.specs.Carries.{Carries, unit_site}
-use Rattle.source_meaning.specs.Simulation.{Executor}
-use Rattle.source_meaning.specs.Calling.{CapturesCarry}
+use Rattle.source_meaning.specs.Evaluation.{Variables}
+use Rattle.source_meaning.specs.Scripts.{Function, functions}
+use Rattle.source_meaning.specs.Kept.{Vars}
+use Rattle.source_meaning.specs.Fine.{IsFine, AreFine}
+use Rattle.source_meaning.specs.Carries.{unit_site}
 use Rattle.source_meaning.specs.Laws.{CapturesAreCarried}
 use Rattle.source_meaning.proofs.Cells.{stands_over}
 use Rattle.source_meaning.proofs.Places.{above_globals}

@@ -1,5 +1,5 @@
 -- The code of defaults, of arguments and of engine calls does what they mean.
-use Rattle.std.proofs.Common.{arith, ◌≡◌, ◌≤◌, ◌<◌, ◌+◌, ◌-◌, ℕ, zero, suc, List, [], ◌∷◌, ◌++◌, length, map, take, drop, Option, Some, None, Bool, true, false, sym, subst, ◌∙◌, ap, refl, append_assoc}
+use Rattle.std.proofs.Common.{arith, ◌≡◌, ◌≤◌, ◌+◌, ◌-◌, ℕ, zero, suc, List, [], ◌∷◌, ◌++◌, length, drop, Option, Some, None, Bool, true, false, sym, subst, ◌∙◌, ap, refl, append_assoc}
 use Rattle.std.specs.Prelude.{◌&&◌, ◌==◌, nat_le, slice_get, if◌then◌else◌}
 use Rattle.std.specs.Option.{option_map, option_and_then}
 use Rattle.std.proofs.lemmas.Bool.Decides.{nat_tests, Decides-eqb}
@@ -17,44 +17,42 @@ use Rattle.nwq_value.specs.Values.{type_of as type_of_value}
 use Rattle.ncs_code.specs.Plain.{PlainOp}
 use Rattle.ncs_code.specs.Plain as ops
 use Rattle.ncs_code.specs.Spelling.{op_size}
-use Rattle.ncs_code.specs.File.{op_at, jump_place, resume_place}
-use Rattle.ncs_emit.specs.declared.jump.Jump.TheVariants.{Jmp}
-use Rattle.ncs_emit.specs.Labelled.{Line, Instruction, JumpTo, Label, line_size, lines_size}
+use Rattle.ncs_code.specs.File.{op_at, resume_place}
+use Rattle.ncs_emit.specs.Labelled.{Line, Instruction, Label, line_size, lines_size}
 use Rattle.ncs_emit.specs.Standing.{LinesStand}
-use Rattle.nss_typing.specs.declared.places.Callee.TheVariants.{Unit as InUnit, Engine}
+use Rattle.nss_typing.specs.declared.places.Callee.TheVariants.{Engine}
 use Rattle.nss_typing.specs.Types.{is_void}
 use Rattle.nss_typing.specs.Typed.{TypedExpr, TypedExprs, call, no_typed, more_typed, type_of}
 use Rattle.saved_state.specs.declared.cell.Cell.{Cell}
-use Rattle.saved_state.specs.declared.cell.Cell.TheVariants.{Value as Holds, Base}
+use Rattle.saved_state.specs.declared.cell.Cell.TheVariants.{Value as Holds}
 use Rattle.saved_state.specs.declared.saved.Saved.{Saved}
 use Rattle.saved_state.specs.Cells.{StackView, cells_beneath, captured}
 use Rattle.stack_shape.specs.Ranges.{cell_count}
-use Rattle.stack_shape.specs.Calls.{is_callable, action_count, argument_types as parameter_types, result_types}
+use Rattle.stack_shape.specs.Calls.{is_callable, action_count, argument_types as parameter_types}
 use Rattle.code_emission.specs.Layout.{Structs, cell_types}
-use Rattle.code_emission.specs.Operations.{bytes_of, literal_of, constant, started}
+use Rattle.code_emission.specs.Operations.{bytes_of, literal_of, constant}
 use Rattle.code_emission.specs.Expressions.{constants, is_captured, argument_labels, argument_code, count_arguments, arguments_cells, emit, emit_all, all_labels}
-use Rattle.engine_rows.specs.Alike.{Alike, OptionAlike}
+use Rattle.engine_rows.specs.Alike.{OptionAlike}
 use Rattle.engine_rows.specs.AlikeLaws.{call as source_call}
 use Rattle.engine_rows.specs.Engine.{engine}
 use Rattle.engine_rows.specs.Pure.{CellLookup}
 use Rattle.engine_rows.specs.World.{World}
 use Rattle.machine_step.specs.Cells.{value_types, values_on}
 use Rattle.machine_step.specs.Calls.{Taken, taken, arguments, is_execute_script}
-use Rattle.machine_step.specs.Frames.{Frame}
-use Rattle.machine_step.specs.Act.{Act, Moves, Asks, Executes, act, stored, stored_cells, next_place, engine_called as machine_called, asked as machine_asked, executed as executed_act}
-use Rattle.machine_step.specs.Machine.{Goes, step, followed, with_answer, answered as machine_answered, executed as machine_executed}
+use Rattle.machine_step.specs.Act.{Moves, Asks, Executes, act, stored, stored_cells, engine_called as machine_called, asked as machine_asked, executed as executed_act}
+use Rattle.machine_step.specs.Machine.{Goes, step, answered as machine_answered, executed as machine_executed}
 use Rattle.machine_step.specs.Laws.{EqualityIsTested}
 use Rattle.source_meaning.specs.Values.{constant_value}
-use Rattle.source_meaning.specs.Evaluation.{Variables, Deferred, Progress, Outcome, Gives, bind, spend, chosen}
-use Rattle.source_meaning.specs.Expressions.{Running, Caller, Arguments, with_argument, parts_in, all_parts, answered, runs_script, runs_script_in, executed, asked, engine_called, defaults, called, deferred, argument, eval, evals}
+use Rattle.source_meaning.specs.Evaluation.{Variables, Deferred, Progress, Outcome, Gives, bind, spend}
+use Rattle.source_meaning.specs.Expressions.{Running, Caller, Arguments, with_argument, parts_in, all_parts, answered, runs_script, runs_script_in, executed, asked, engine_called, defaults, deferred, argument, eval, evals}
 use Rattle.source_meaning.specs.Scripts.{Function}
 use Rattle.source_meaning.specs.Ledger.{Machine, MachineHost, Took, Sim}
 use Rattle.source_meaning.specs.Kept.{pushed, AreHeld, Site, IsListed, at, Kept, spot_at}
-use Rattle.source_meaning.specs.Fine.{argument_types, IsArgument, CallsRoutine, IsFine, AreFine}
+use Rattle.source_meaning.specs.Fine.{IsArgument, CallsRoutine, IsFine, AreFine}
 use Rattle.source_meaning.specs.Simulation.{Executor, running_at, HoldsValue, value_place, value_credits, ExprRuns}
 use Rattle.source_meaning.specs.Calling.{pushed_all, all_types, with_types, types_before, constant_types, one_if, actions_in, EngineRuns, CapturesCarry, ExecutesRun}
-use Rattle.source_meaning.proofs.Cells.{pushed_over, pushed_length, count_of, held_over, held_pushed, held_values}
-use Rattle.source_meaning.proofs.Ledger.{took_none, took_cost, took_then, took_less, sim_after, sim_bind, sim_paid, sim_chosen, sim_map}
+use Rattle.source_meaning.proofs.Cells.{pushed_over, pushed_length, count_of, held_over, held_values}
+use Rattle.source_meaning.proofs.Ledger.{took_none, took_cost, took_less, sim_bind, sim_paid, sim_chosen, sim_map}
 use Rattle.source_meaning.proofs.Places.{above_globals}
 use Rattle.source_meaning.proofs.Steps.{both_stand, sizes, acted, constant_goes, jump_goes}
 use Rattle.source_meaning.proofs.Calls.{single_types, ValuesAreValues, taken_values, taken_one, arguments_fit, actions_fit, count_fits, all_over, held_all}

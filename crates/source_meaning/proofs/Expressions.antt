@@ -1,9 +1,9 @@
 -- The code of expressions does what they mean, node by node.
-use Rattle.std.proofs.Common.{arith, ◌≡◌, ◌≤◌, ◌<◌, ◌+◌, ◌-◌, ℕ, zero, suc, List, [], ◌∷◌, ◌++◌, length, Option, Some, None, Bool, true, false, sym, subst, ◌∙◌, ap, refl, append_assoc}
+use Rattle.std.proofs.Common.{arith, ◌≡◌, ◌≤◌, ◌+◌, ℕ, List, [], ◌∷◌, ◌++◌, length, Some, None, Bool, true, false, sym, subst, ◌∙◌, ap, refl}
 use Rattle.std.specs.Prelude.{ℤ, pos, not, ◌&&◌, ◌||◌}
 use Rattle.std.specs.Option.{option_map}
 use Rattle.std.proofs.lemmas.Bool.Decides.{Decides-int_eq}
-use Rattle.std.proofs.lemmas.List.{length-append, length-map}
+use Rattle.std.proofs.lemmas.List.{length-map}
 use Rattle.nss_tree.specs.declared.operators.PrefixOperator.{PrefixOperator}
 use Rattle.nss_tree.specs.declared.operators.PrefixOperator.TheVariants as pre
 use Rattle.nss_tree.specs.declared.operators.PostfixOperator.{PostfixOperator}
@@ -29,14 +29,13 @@ use Rattle.ncs_emit.specs.Labelled.{Line, Instruction, JumpTo, Label, lines_size
 use Rattle.ncs_emit.specs.Standing.{LinesStand}
 use Rattle.nss_typing.specs.declared.places.Place.TheVariants.{Local, Global, Const as IsConst}
 use Rattle.nss_typing.specs.Types.{same_type, binary_type}
-use Rattle.nss_typing.specs.Typed.{TypedExpr, literal, name, call, member, prefix, postfix, binary, assign, type_of, is_place}
+use Rattle.nss_typing.specs.Typed.{TypedExpr, literal, name, member, prefix, postfix, binary, assign, type_of, is_place}
 use Rattle.saved_state.specs.declared.cell.Cell.{Cell}
 use Rattle.saved_state.specs.declared.cell.Cell.TheVariants.{Value as Holds}
 use Rattle.saved_state.specs.declared.saved.Saved.{Saved}
-use Rattle.code_emission.specs.Layout.{Structs, cell_types, cells, position}
-use Rattle.code_emission.specs.Operations.{beneath, bytes_of, constant, int_constant, top_again, operation, combination}
-use Rattle.code_emission.specs.Expressions.{Home, InFrame, InGlobals, home, at_home, read, write, increment, decrement, member_code, prefix_code, postfix_code, Shortcut, WhereTrue, WhereFalse, Never, shortcut, shortcut_labels, binary_code, is_set, read_first, cells_first, emit, labels}
-use Rattle.engine_rows.specs.Alike.{Alike}
+use Rattle.code_emission.specs.Layout.{Structs, cell_types, position}
+use Rattle.code_emission.specs.Operations.{bytes_of, constant, int_constant, top_again, operation, combination}
+use Rattle.code_emission.specs.Expressions.{Home, InFrame, InGlobals, home, at_home, read, write, increment, decrement, member_code, Shortcut, Never, shortcut, shortcut_labels, binary_code, is_set, read_first, cells_first, emit, labels}
 use Rattle.engine_rows.specs.Pure.{CellLookup}
 use Rattle.engine_rows.specs.World.{World}
 use Rattle.machine_step.specs.Operators.{as_int, is_zero, either}
@@ -45,21 +44,21 @@ use Rattle.machine_step.specs.Frames.{Frame}
 use Rattle.machine_step.specs.Act.{act, moved, cells_after, place_after, is_division}
 use Rattle.machine_step.specs.Machine.{Goes, step}
 use Rattle.machine_step.specs.Laws.{EqualityIsTested}
-use Rattle.source_meaning.specs.Values.{constant_value, parts_of, one_int, test_value, is_true, int_part, operate, divides_by_zero, applied, prefixed, postfixed}
-use Rattle.source_meaning.specs.Evaluation.{Deferred, Progress, Outcome, Gives, Divides, OutOfSteps, bind, spend, chosen}
+use Rattle.source_meaning.specs.Values.{constant_value, parts_of, one_int, test_value, is_true, operate, divides_by_zero, applied, prefixed, postfixed}
+use Rattle.source_meaning.specs.Evaluation.{Deferred, Progress, Outcome, Gives, Divides, bind, spend, chosen}
 use Rattle.source_meaning.specs.Spots.{Spot, OfLocal, OfGlobal, further, spot, read_at, written_at}
-use Rattle.source_meaning.specs.Expressions.{Caller, eval, member_of, stepped, before_operand, operated, unwritten, combined, assigned, write_there, read_there, is_step}
+use Rattle.source_meaning.specs.Expressions.{Caller, eval, member_of, stepped, operated, unwritten, combined, assigned}
 use Rattle.source_meaning.specs.Scripts.{Function}
 use Rattle.source_meaning.specs.Ledger.{Machine, MachineHost, Took, Sim}
 use Rattle.source_meaning.specs.Kept.{pushed, AreHeld, Site, IsListed, at, part_types, Kept, spot_at}
-use Rattle.source_meaning.specs.Fine.{AreParts, IsFine}
+use Rattle.source_meaning.specs.Fine.{IsFine}
 use Rattle.source_meaning.specs.Simulation.{Executor, running_at, HoldsValue, value_place, value_credits, ExprRuns}
 use Rattle.source_meaning.proofs.Cells.{held_pushed, pushed_over, pushed_length}
-use Rattle.source_meaning.proofs.Ledger.{took_none, took_cost, took_free, took_then, took_less, sim_after, sim_bind, sim_spend, sim_paid, sim_chosen}
+use Rattle.source_meaning.proofs.Ledger.{took_none, took_cost, took_then, took_less, sim_after, sim_bind, sim_paid, sim_chosen}
 use Rattle.source_meaning.proofs.Operators.{one_typed, are_ints, if_some, compound_type, operator_does, same_types, applied_type, combination_is, applied_reads, int_types}
 use Rattle.source_meaning.proofs.Places.{InFrameCounts, InGlobalsCounts, frame_reads, base_reads, spot_reads, spot_writes, spot_counts, increases_frame, decreases_frame, increases_globals, decreases_globals, place_code, read_written, written_left, no_spot}
-use Rattle.source_meaning.proofs.Steps.{both_stand, sizes, moves, constant_goes, int_goes, jump_goes, zero_jumps, other_passes, one_goes, cut_goes, top_copied, operator_goes, operator_divides}
-use Rattle.source_meaning.proofs.Variables.{part_types_are, home_of, IsSpot, SpotOf, spot_of}
+use Rattle.source_meaning.proofs.Steps.{both_stand, sizes, constant_goes, int_goes, jump_goes, zero_jumps, other_passes, one_goes, cut_goes, top_copied, operator_goes, operator_divides}
+use Rattle.source_meaning.proofs.Variables.{part_types_are, home_of, IsSpot, spot_of}
 
 constant_typed : (structs : Structs) (self : ℕ) (k : Const) → value_types (constant_value self k ∷ []) ≡ cell_types structs (const_type k)
 constant_typed structs self (const.Int n) = refl

@@ -1,5 +1,5 @@
 -- Every expression in which nothing is called.
-use Rattle.std.proofs.Common.{ℕ, List, ◌≡◌, false}
+use Rattle.std.proofs.Common.{ℕ, List}
 use Rattle.nss_typing.specs.declared.places.Place.TheVariants.{Local, Global, Const as IsConst}
 use Rattle.nss_typing.specs.declared.places.Callee.TheVariants.{Unit as InUnit, Engine}
 use Rattle.nss_typing.specs.Typed.{TypedExpr, TypedExprs, literal, name, call, member, prefix, postfix, binary, assign, no_typed, more_typed}

@@ -2,8 +2,8 @@ mod Trees
 mod Examples
 mod Ledger
 mod Cells
-mod Steps
 mod Operators
+mod Steps
 mod Variables
 mod Places
 mod Expressions
@@ -13,3 +13,9 @@ mod Induction
 mod Captures
 mod Statements
 mod AllStatements
+mod UnitCalls
+mod Functions
+mod Placing
+mod WorldMaps
+mod RowMaps
+mod EngineAlike

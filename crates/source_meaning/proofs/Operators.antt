@@ -1,6 +1,6 @@
 -- The instruction of each operator gives what the operator gives.
-use Rattle.std.proofs.Common.{◌≡◌, ◌+◌, ℕ, List, [], ◌∷◌, ◌++◌, length, drop, reverse, Option, Some, None, Bool, true, false, sym, subst, ◌∙◌, ap, refl}
-use Rattle.std.specs.Prelude.{ℤ, pos, not, ◌&&◌, if◌then◌else◌}
+use Rattle.std.proofs.Common.{◌≡◌, ◌+◌, ℕ, List, [], ◌∷◌, ◌++◌, length, drop, reverse, Some, None, Bool, true, false, sym, subst, ◌∙◌, ap, refl}
+use Rattle.std.specs.Prelude.{ℤ, not, ◌&&◌, if◌then◌else◌}
 use Rattle.std.specs.Option.{option_and_then}
 use Rattle.std.proofs.lemmas.Bool.Decides.{Decides-eqb}
 use Rattle.std.proofs.lemmas.List.{reverse-reverse, length-map, drop-drop}

@@ -1,5 +1,5 @@
 -- Reads and writes of variables, in a frame and among the globals.
-use Rattle.std.proofs.Common.{arith, ◌≡◌, ◌≤◌, ◌<◌, ◌+◌, ◌-◌, ℕ, zero, suc, List, [], ◌∷◌, ◌++◌, length, take, drop, Option, Some, None, Bool, true, false, sym, subst, ◌∙◌, ap, refl, append_assoc}
+use Rattle.std.proofs.Common.{arith, ◌≡◌, ◌≤◌, ◌<◌, ◌+◌, ◌-◌, ℕ, List, [], ◌∷◌, ◌++◌, length, take, drop, Option, Some, None, Bool, true, false, sym, subst, ◌∙◌, ap, refl, append_assoc}
 use Rattle.std.specs.Prelude.{ℤ, pos, if◌then◌else◌}
 use Rattle.std.proofs.lemmas.Bool.Decides.{Decides-eqb}
 use Rattle.std.specs.Option.{option_map}
@@ -7,11 +7,10 @@ use Rattle.std.proofs.lemmas.List.{length-append, length-map, length-take-le, ta
 use Rattle.nwq_value.specs.declared.value.Ty.{Ty}
 use Rattle.nwq_value.specs.declared.value.Ty.TheVariants.{Int as IntTy}
 use Rattle.nwq_value.specs.declared.value.Value.{Value}
-use Rattle.nwq_value.specs.declared.value.Value.TheVariants.{Int, Text, Object, Effect, Event}
+use Rattle.nwq_value.specs.declared.value.Value.TheVariants.{Int}
 use Rattle.nwq_value.specs.Values.{type_of as type_of_value}
 use Rattle.ncs_code.specs.Plain.{PlainOp}
 use Rattle.ncs_code.specs.File.{op_at}
-use Rattle.nss_typing.specs.declared.places.Place.{Place}
 use Rattle.nss_typing.specs.declared.places.Place.TheVariants.{Local, Global, Const as IsConst}
 use Rattle.nss_typing.specs.Typed.{TypedExpr, literal, name, call, member, prefix, postfix, binary, assign, type_of, is_place}
 use Rattle.ncs_emit.specs.Labelled.{Line, Instruction}
@@ -29,8 +28,6 @@ use Rattle.source_meaning.specs.Evaluation.{Variables, with_variable, Deferred, 
 use Rattle.source_meaning.specs.Spots.{Spot, OfLocal, OfGlobal, further, spot, read_at, written_at}
 use Rattle.source_meaning.specs.Ledger.{Machine, MachineHost}
 use Rattle.source_meaning.specs.Kept.{pushed, AreHeld, Stands, Site, IsListed, at, In, part_types, Vars, Kept, spot_at}
-use Rattle.source_meaning.specs.Fine.{AreParts}
-use Rattle.source_meaning.specs.Scripts.{Function}
 use Rattle.source_meaning.proofs.Cells.{held_put, pushed_over, pushed_length, part_stands, part_is, part_at, stands_length, types_count}
 use Rattle.source_meaning.proofs.Steps.{frame_copied, frame_written, base_copied, base_written, frame_increased, frame_decreased, base_increased, base_decreased}
 use Rattle.source_meaning.proofs.Variables.{part_types_are, vars_put, size_of, home_of, IsSpot}

@@ -10,12 +10,11 @@ use Rattle.nwq_value.specs.declared.value.Ty.TheVariants.{Void, Int as IntTy, Te
 use Rattle.nwq_value.specs.declared.value.Value.{Value}
 use Rattle.nwq_value.specs.declared.value.Value.TheVariants.{Int}
 use Rattle.nwq_value.specs.declared.engine.Const.{Const}
-use Rattle.nwq_value.specs.Values.{type_of as type_of_value, start_value}
+use Rattle.nwq_value.specs.Values.{type_of as type_of_value}
 use Rattle.ncs_code.specs.Plain as ops
-use Rattle.ncs_code.specs.Spelling.{op_size}
 use Rattle.ncs_code.specs.File.{op_at, jump_place}
 use Rattle.ncs_emit.specs.declared.jump.Jump.TheVariants.{Jmp, Jz, Jnz}
-use Rattle.ncs_emit.specs.Labelled.{Line, Instruction, JumpTo, Label, lines_size}
+use Rattle.ncs_emit.specs.Labelled.{Instruction, JumpTo, Label, lines_size}
 use Rattle.ncs_emit.specs.Standing.{LinesStand}
 use Rattle.nss_typing.specs.Typed.{TypedExpr, TypedName, TypedStmt, TypedStmts, type_of}
 use Rattle.saved_state.specs.declared.cell.Cell.{Cell}
@@ -23,27 +22,26 @@ use Rattle.saved_state.specs.declared.cell.Cell.TheVariants.{Value as Holds, Bas
 use Rattle.saved_state.specs.declared.saved.Saved.{Saved}
 use Rattle.stack_shape.specs.StackEffects.{type_of_one}
 use Rattle.code_emission.specs.Bounds.{IsCell}
-use Rattle.code_emission.specs.Layout.{Structs, cell_types, cells, position, names_cells, declared_cells, all_declared_cells}
+use Rattle.code_emission.specs.Layout.{cell_types, cells, position, names_cells, declared_cells, all_declared_cells}
 use Rattle.code_emission.specs.Operations.{beneath, bytes_of, dropped, int_constant, started, cell_kind}
 use Rattle.code_emission.specs.Expressions.{emit, labels}
-use Rattle.code_emission.specs.Statements.{Exits, in_loop, some_labels, evaluated, tested, stored, returned, initial, names_labels, emit_names, placed, placed_on, stmt_labels, all_stmt_labels, emit_stmt, emit_stmts}
+use Rattle.code_emission.specs.Statements.{Exits, in_loop, some_labels, evaluated, tested, stored, initial, emit_names, stmt_labels, emit_stmt, emit_stmts}
 use Rattle.engine_rows.specs.Pure.{CellLookup}
 use Rattle.engine_rows.specs.World.{World}
 use Rattle.machine_step.specs.Operators.{is_zero}
 use Rattle.machine_step.specs.Values.{starting_value}
 use Rattle.machine_step.specs.Cells.{value_types, value_pushed}
-use Rattle.machine_step.specs.Act.{act, cells_after, returned as machine_returned, Moves}
+use Rattle.machine_step.specs.Act.{act, cells_after, Moves}
 use Rattle.machine_step.specs.Machine.{Goes, step}
-use Rattle.source_meaning.specs.Values.{start_part, is_true}
-use Rattle.source_meaning.specs.Evaluation.{Variables, with_variable, Deferred, Progress, Outcome, Gives, OutOfSteps, bind, spend, chosen}
+use Rattle.source_meaning.specs.Values.{start_part, start_parts, is_true}
+use Rattle.source_meaning.specs.Evaluation.{Variables, with_variable, Deferred, Progress, Outcome, Gives, bind, spend, chosen}
 use Rattle.source_meaning.specs.Expressions.{Running, Caller, made, eval}
 use Rattle.source_meaning.specs.Statements.{Flow, Next, Broke, Continued, Returned, on_next, on_body, turns, looped, maybe, tested as tested_value, initial as initial_value, declared, exec, execs}
 use Rattle.source_meaning.specs.Scripts.{Function}
 use Rattle.source_meaning.specs.Ledger.{Machine, MachineHost, Took, Sim}
 use Rattle.source_meaning.specs.Kept.{pushed, Stands, AreHeld, Site, IsListed, at, In, part_types, Vars, Kept, spot_at}
 use Rattle.source_meaning.specs.Simulation.{Executor, running_at, HoldsValue, value_place, value_credits, ExprRuns}
-use Rattle.source_meaning.specs.Fine.{IsFine}
-use Rattle.source_meaning.specs.FineStatements.{after_names, after_stmt, after_stmts, DeclaresNothing, IsFineValue, IsFineTest, IsFineMaybe, AreFineNames, IsFineReturn, IsFineStmt, AreFineStmts}
+use Rattle.source_meaning.specs.FineStatements.{after_names, after_stmt, after_stmts, DeclaresNothing, IsFineValue, IsFineTest, IsFineMaybe, AreFineNames, IsFineStmt, AreFineStmts}
 use Rattle.source_meaning.specs.StatementsRun.{Exit, IsExit, AreExits, FlowHolds, flow_place, one_of, flow_credits, StmtRuns}
 use Rattle.source_meaning.proofs.Cells.{parted, held_over, pushed_alone, held_parts, held_pushed, pushed_over, pushed_length, pushed_append, stands_over, stands_length}
 use Rattle.source_meaning.proofs.Ledger.{took_none, took_cost, took_then, took_less, sim_after, sim_bind, sim_paid, sim_chosen, sim_map}
@@ -156,7 +154,7 @@ module _ (host : MachineHost) (R : Saved → Deferred → Type 0) (x : Site) (li
 
   -- ---- the frame with fewer cells
 
-  abbrev lower_kept : {scope : List ℕ} {size : ℕ} {globals locals : Variables} {world : World Deferred} (K : Kept R x scope size globals locals world) (fewer : List ℕ) (depth : ℕ) → depth ≤ size
+  abbrev pub lower_kept : {scope : List ℕ} {size : ℕ} {globals locals : Variables} {world : World Deferred} (K : Kept R x scope size globals locals world) (fewer : List ℕ) (depth : ℕ) → depth ≤ size
       → ((n : ℕ) → In n fewer → In n scope) → ((n : ℕ) → In n fewer → position x.layout n + length (part_types x n) ≤ depth) → Kept R x fewer depth globals locals world
   lower_kept {scope = scope} {size = size} {locals = locals} K fewer depth less seen beneath = record {
     under = K.under;
@@ -215,10 +213,10 @@ module _ (host : MachineHost) (R : Saved → Deferred → Type 0) (x : Site) (li
 
   -- ---- parts of statements
 
-  abbrev Holds' : Exit → Exit → List ℕ → ℕ → Flow → Progress → Type 0
+  abbrev pub Holds' : Exit → Exit → List ℕ → ℕ → Flow → Progress → Type 0
   Holds' breaks continues scope size f p = FlowHolds R x result breaks continues scope size f p
 
-  abbrev place_of_flow : (breaks continues : Exit) (scope : List ℕ) (size : ℕ) → ℕ → List Value → List Cell → ℕ → List ℕ → List Saved → (f : Flow) (p : Progress) → Holds' breaks continues scope size f p → Machine
+  abbrev pub place_of_flow : (breaks continues : Exit) (scope : List ℕ) (size : ℕ) → ℕ → List Value → List Cell → ℕ → List ℕ → List Saved → (f : Flow) (p : Progress) → Holds' breaks continues scope size f p → Machine
   place_of_flow breaks continues scope size next room lower back calls pending f p h = flow_place R x result breaks continues scope size next room lower back calls pending f p h
 
   -- a frame of so many cells and no more
@@ -479,7 +477,7 @@ module _ (host : MachineHost) (R : Saved → Deferred → Type 0) (x : Site) (li
     alike = K.alike;
   }
 
-  abbrev DoAll : TypedStmts → Type 0
+  abbrev pub DoAll : TypedStmts → Type 0
   DoAll ss =
       (out : Exits) (breaks continues : Exit) (scope : List ℕ) (size n place c : ℕ) (p : Progress) (K : Kept R x scope size p.globals p.locals p.world)
       (room : List Value) (lower : List Cell) (back : ℕ) (calls : List ℕ) (pending : List Saved)
@@ -693,7 +691,7 @@ module _ (host : MachineHost) (R : Saved → Deferred → Type 0) (x : Site) (li
     alike = K.alike;
   }
 
-  goes_back : (place back : ℕ) (cells : List Cell) (calls : List ℕ) (pending : List Saved) (world : World Saved) → op_at x.code place ≡ Some ops.Retn
+  pub goes_back : (place back : ℕ) (cells : List Cell) (calls : List ℕ) (pending : List Saved) (world : World Saved) → op_at x.code place ≡ Some ops.Retn
       → step host (at x place cells (back ∷ calls) pending world) ≡ Some (Goes (at x back cells calls pending world))
   unfolding act
   goes_back place back cells calls pending world begins = acted host x listed place ops.Retn cells (back ∷ calls) pending world (Moves (at x back cells calls pending world).running) begins refl
@@ -795,11 +793,11 @@ module _ (host : MachineHost) (R : Saved → Deferred → Type 0) (x : Site) (li
   start_goes place t cells calls pending world cell begins =
       moves host x listed place (place + 2) (ops.RsAdd (cell_kind t)) cells (Holds (start_part t) ∷ cells) calls pending world begins refl (ap (λ v. value_pushed v cells) (start_is t cell)) refl refl
 
-  abbrev HasParts : List ℕ → ℕ → List Ty → List Value → Progress → Type 0
-  HasParts scope size ts v p = (value_types v ≡ ts) × Kept R x scope size p.globals p.locals p.world
+  abbrev pub HasParts : List ℕ → ℕ → List Ty → List Value → Progress → Type 0
+  HasParts scope size ts v p = (v ≡ start_parts ts) × (value_types v ≡ ts) × Kept R x scope size p.globals p.locals p.world
 
-  abbrev parts_place : (scope : List ℕ) (size : ℕ) (ts : List Ty) → ℕ → List Cell → List Cell → List ℕ → List Saved → (v : List Value) (p : Progress) → HasParts scope size ts v p → Machine
-  parts_place scope size ts next base between calls pending v p h = spot_at R x next (pushed v base) between calls pending h.1
+  abbrev pub parts_place : (scope : List ℕ) (size : ℕ) (ts : List Ty) → ℕ → List Cell → List Cell → List ℕ → List Saved → (v : List Value) (p : Progress) → HasParts scope size ts v p → Machine
+  parts_place scope size ts next base between calls pending v p h = spot_at R x next (pushed v base) between calls pending h.2
 
   pub made_runs : (ts : List Ty) → AllByRecursion IsCell ts → (scope : List ℕ) (size place c : ℕ) (p : Progress) (K : Kept R x scope size p.globals p.locals p.world) (base between : List Cell) (calls : List ℕ) (pending : List Saved)
       → LinesStand x.code x.places place (started ts)
@@ -807,7 +805,7 @@ module _ (host : MachineHost) (R : Saved → Deferred → Type 0) (x : Site) (li
   made_runs [] cells scope size place c p K base between calls pending lines =
       let same : place ≡ place + 0 = omega arith in
       let s = spot_at R x place base between calls pending K in
-      ((refl, K), subst (λ k. Took host p.left c s p.left (c + 0) (spot_at R x k base between calls pending K)) same (took_less host (c + 0) (omega arith) (took_none host p.left c s)))
+      ((refl, refl, K), subst (λ k. Took host p.left c s p.left (c + 0) (spot_at R x k base between calls pending K)) same (took_less host (c + 0) (omega arith) (took_none host p.left c s)))
   made_runs (t ∷ ts) cells scope size place c p K base between calls pending lines =
       let next = place + lines_size (started (t ∷ ts)) in
       let ending : place + 2 + lines_size (started ts) ≡ next = omega arith in
@@ -825,10 +823,10 @@ module _ (host : MachineHost) (R : Saved → Deferred → Type 0) (x : Site) (li
             (made_runs ts cells.1 scope size (place + 2) (15 + c) q K (Holds (start_part t) ∷ base) between calls pending lines.1)
             (λ v r h less.
             let whole : pushed v (Holds (start_part t) ∷ base) ≡ pushed (start_part t ∷ v) base = sym (pushed_append (start_part t ∷ []) v base) in
-            let s2 = spot_at R x (place + 2 + lines_size (started ts)) (pushed v (Holds (start_part t) ∷ base)) between calls pending h.1 in (
-              (ap (λ u. u ∷ value_types v) (start_typed t cells.0) ∙ ap (λ us. t ∷ us) h.0, h.1),
-              subst (λ k. Took host r.left (15 + c + one_of (length ts)) s2 r.left (c + 1) (spot_at R x k (pushed (start_part t ∷ v) base) between calls pending h.1)) ending
-                  (subst (λ (b : List Cell). Took host r.left (15 + c + one_of (length ts)) s2 r.left (c + 1) (spot_at R x (place + 2 + lines_size (started ts)) b between calls pending h.1)) whole
+            let s2 = spot_at R x (place + 2 + lines_size (started ts)) (pushed v (Holds (start_part t) ∷ base)) between calls pending h.2 in (
+              (ap (λ u. start_part t ∷ u) h.0, ap (λ u. u ∷ value_types v) (start_typed t cells.0) ∙ ap (λ us. t ∷ us) h.1, h.2),
+              subst (λ k. Took host r.left (15 + c + one_of (length ts)) s2 r.left (c + 1) (spot_at R x k (pushed (start_part t ∷ v) base) between calls pending h.2)) ending
+                  (subst (λ (b : List Cell). Took host r.left (15 + c + one_of (length ts)) s2 r.left (c + 1) (spot_at R x (place + 2 + lines_size (started ts)) b between calls pending h.2)) whole
                   (took_less host (c + 1) (omega arith) (took_none host r.left (15 + c + one_of (length ts)) s2))),
             )),
       ))
@@ -847,7 +845,13 @@ module _ (host : MachineHost) (R : Saved → Deferred → Type 0) (x : Site) (li
       → IsFineValue host.table functions x result scope t o → LinesStand x.code x.places place (initial x.layout n size t o) → p.left ≤ most
       → Sim host R (HoldsValue R x scope size t) (value_place R x scope size t (place + lines_size (initial x.layout n size t o)) [] between calls pending) p.left c (spot_at R x place [] between calls pending K)
       (λ v. c + one_of (length (cell_types x.layout.structs t))) (initial_value here caller t o p)
-  initial_runs t None r scope size n place c p K between calls pending fine lines le = made_runs (cell_types x.layout.structs t) fine scope size place c p K [] between calls pending lines
+  initial_runs t None r scope size n place c p K between calls pending fine lines le =
+      let ts = cell_types x.layout.structs t in
+      let next = place + lines_size (started ts) in
+      sim_map host R (HasParts scope size ts) (parts_place scope size ts next [] between calls pending)
+      (HoldsValue R x scope size t) (value_place R x scope size t next [] between calls pending) p.left c (spot_at R x place [] between calls pending K) (λ v. c + one_of (length ts)) (λ v. c + one_of (length ts)) (made ts p)
+      (made_runs ts fine scope size place c p K [] between calls pending lines)
+      (λ v q h. ((h.1, h.2), took_none host q.left (c + one_of (length ts)) (spot_at R x next (pushed v []) between calls pending h.2)))
   initial_runs t (Some e) r scope size n place c p K between calls pending fine lines le =
       let next = place + lines_size (emit x.layout n size e) in
       let few = few_ones (length (cell_types x.layout.structs t)) in
@@ -1385,6 +1389,6 @@ module _ (host : MachineHost) (R : Saved → Deferred → Type 0) (x : Site) (li
     stmt_does (case_label m k) h = case_does m k
     stmt_does (default_label m) h = default_does m
 
-    stmts_do : (ss : TypedStmts) → EachOfAll ss → DoAll ss
+    pub stmts_do : (ss : TypedStmts) → EachOfAll ss → DoAll ss
     stmts_do no_stmt h = none_do
     stmts_do (more_stmts s ss) h = more_do s ss (stmt_does s h.0) (stmts_do ss h.1)

@@ -1,5 +1,5 @@
 -- Single instructions of a running script.
-use Rattle.std.proofs.Common.{arith, ◌≡◌, ◌≤◌, ◌<◌, ◌+◌, ◌-◌, ℕ, List, [], ◌∷◌, ◌++◌, length, take, drop, reverse, Option, Some, None, Bool, true, false, sym, subst, ◌∙◌, ap, refl, zero-add, append_assoc}
+use Rattle.std.proofs.Common.{arith, ◌≡◌, ◌≤◌, ◌<◌, ◌+◌, ◌-◌, ℕ, List, [], ◌∷◌, ◌++◌, length, take, drop, reverse, Some, None, Bool, true, false, sym, subst, ◌∙◌, ap, refl, zero-add, append_assoc}
 use Rattle.std.specs.Prelude.{ℤ, pos, ◌&&◌, nat_le, if◌then◌else◌}
 use Rattle.std.specs.Option.{option_map, option_and_then}
 use Rattle.std.proofs.lemmas.Bool.Decides.{nat_tests}
@@ -34,7 +34,7 @@ use Rattle.machine_step.specs.Laws.{EqualityIsTested}
 use Rattle.source_meaning.specs.Values.{constant_value, parts_of, one_int, operate, divides_by_zero}
 use Rattle.source_meaning.specs.Ledger.{MachineHost}
 use Rattle.source_meaning.specs.Kept.{pushed, Site, IsListed, at}
-use Rattle.source_meaning.proofs.Cells.{pushed_over, values_pushed, dropped_pushed, count_of, depth_beneath, range_there, values_in, copied, written, put_there}
+use Rattle.source_meaning.proofs.Cells.{values_pushed, dropped_pushed, count_of, depth_beneath, range_there, values_in, copied, written, put_there}
 use Rattle.source_meaning.proofs.Operators.{of_one, operator_does, operation_acts, operation_passes}
 
 -- ---- lines that stand one after another

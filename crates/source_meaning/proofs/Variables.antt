@@ -1,14 +1,13 @@
 -- Variables that stand on cells, and what a write makes of them.
-use Rattle.std.proofs.Common.{arith, ◌≡◌, ◌≤◌, ◌<◌, ◌+◌, ◌-◌, ◌⊎◌, inl, inr, ℕ, zero, suc, List, [], ◌∷◌, ◌++◌, length, map, take, drop, Option, Some, None, Bool, true, false, sym, subst, ◌∙◌, ap, refl, append_assoc}
+use Rattle.std.proofs.Common.{arith, ◌≡◌, ◌≤◌, ◌<◌, ◌+◌, ◌-◌, ◌⊎◌, inl, inr, ℕ, zero, suc, List, [], ◌∷◌, ◌++◌, length, map, take, drop, Some, Bool, true, false, sym, subst, ◌∙◌, ap, refl, append_assoc}
 use Rattle.std.specs.Prelude.{◌==◌, if◌then◌else◌}
 use Rattle.std.specs.Option.{option_map}
-use Rattle.std.proofs.lemmas.Bool.Decides.{nat_tests, Decides-eqb}
-use Rattle.std.proofs.lemmas.List.{length-append, length-map, length-take-le, length-drop, take-append-drop, take-take, take_all, drop-take, drop-drop, map-append}
+use Rattle.std.proofs.lemmas.Bool.Decides.{Decides-eqb}
+use Rattle.std.proofs.lemmas.List.{length-map, length-take-le, length-drop, take-append-drop, take-take, take_all, drop-take, drop-drop, map-append}
 use Rattle.nwq_value.specs.declared.value.Ty.{Ty}
 use Rattle.nwq_value.specs.declared.value.Value.{Value}
 use Rattle.nwq_value.specs.Values.{type_of as type_of_value}
 use Rattle.nwq_value.specs.Engine.{EngineTable}
-use Rattle.nss_typing.specs.declared.places.Place.{Place}
 use Rattle.nss_typing.specs.declared.places.Place.TheVariants.{Local, Global, Const as IsConst}
 use Rattle.nss_typing.specs.Typed.{TypedExpr, literal, name, call, member, prefix, postfix, binary, assign, type_of, is_place}
 use Rattle.saved_state.specs.declared.cell.Cell.{Cell}
@@ -17,11 +16,11 @@ use Rattle.code_emission.specs.Expressions.{Home, InFrame, InGlobals, moved, hom
 use Rattle.machine_step.specs.Cells.{value_types}
 use Rattle.source_meaning.specs.Values.{parts_of, with_parts}
 use Rattle.source_meaning.specs.Evaluation.{Variables, with_variable}
-use Rattle.source_meaning.specs.Spots.{Spot, OfLocal, OfGlobal, further, spot, spot_of_name}
+use Rattle.source_meaning.specs.Spots.{Spot, OfLocal, OfGlobal, further, spot}
 use Rattle.source_meaning.specs.Scripts.{Function}
-use Rattle.source_meaning.specs.Kept.{pushed, Stands, Site, In, part_types, Apart, Vars}
+use Rattle.source_meaning.specs.Kept.{pushed, Stands, Site, In, part_types, Vars}
 use Rattle.source_meaning.specs.Fine.{AreParts, IsFine}
-use Rattle.source_meaning.proofs.Cells.{pushed_append, pushed_alone, pushed_over, part_stands, part_is, part_at, others_stand, types_count}
+use Rattle.source_meaning.proofs.Cells.{pushed_append, pushed_alone, part_stands, part_is, part_at, others_stand}
 
 -- ---- parts of parts
 

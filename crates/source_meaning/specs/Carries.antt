@@ -4,7 +4,6 @@ use Rattle.nss_tree.specs.Statements.{block, empty, expression, if_only, if_else
 use Rattle.nss_tree.specs.Units.{structure, constant, global, function}
 use Rattle.nwq_value.specs.declared.value.Ty.{Ty}
 use Rattle.nwq_value.specs.declared.value.Ty.TheVariants.{Void}
-use Rattle.nwq_value.specs.Engine.{EngineTable}
 use Rattle.nss_typing.specs.Typed.{TypedName, TypedStmt, TypedStmts, TypedParameter, TypedItem, TypedUnit}
 use Rattle.nss_typing.specs.Numbers.{number_of}
 use Rattle.ncs_code.specs.Plain as ops

@@ -14,3 +14,6 @@ pub mod Calling
 pub mod Laws
 pub mod FineStatements
 pub mod StatementsRun
+pub mod FunctionsRun
+pub mod Placing
+pub mod EngineHost

@@ -1,5 +1,5 @@
 -- That the code of an expression does what the expression means.
-use Rattle.std.specs.Prelude.{◌≡◌, ◌≤◌, ℕ, ◌+◌, List, ◌++◌, length}
+use Rattle.std.specs.Prelude.{◌≡◌, ◌≤◌, ℕ, ◌+◌, List, length}
 use Rattle.nwq_value.specs.declared.value.Ty.{Ty}
 use Rattle.nwq_value.specs.declared.value.Value.{Value}
 use Rattle.nss_typing.specs.Typed.{TypedExpr, type_of}

@@ -2,7 +2,7 @@
 use Rattle.std.specs.Prelude.{◌≡◌, ◌≤◌, ℕ, zero, suc, ◌+◌, Bool, true, List, [], ◌∷◌, length}
 use Rattle.nwq_value.specs.declared.value.Ty.{Ty}
 use Rattle.nwq_value.specs.declared.value.Value.{Value}
-use Rattle.nss_typing.specs.Typed.{TypedStmt, TypedStmts}
+use Rattle.nss_typing.specs.Typed.{TypedStmt}
 use Rattle.ncs_emit.specs.Labelled.{lines_size}
 use Rattle.ncs_emit.specs.Standing.{LinesStand}
 use Rattle.saved_state.specs.declared.cell.Cell.{Cell}
@@ -16,7 +16,7 @@ use Rattle.source_meaning.specs.Expressions.{Caller}
 use Rattle.source_meaning.specs.Statements.{Flow, Next, Broke, Continued, Returned, exec}
 use Rattle.source_meaning.specs.Scripts.{Function}
 use Rattle.source_meaning.specs.Ledger.{Machine, MachineHost, Sim}
-use Rattle.source_meaning.specs.Kept.{pushed, Site, at, In, part_types, Kept, spot_at}
+use Rattle.source_meaning.specs.Kept.{pushed, Site, In, part_types, Kept, spot_at}
 use Rattle.source_meaning.specs.Simulation.{Executor, running_at}
 use Rattle.source_meaning.specs.FineStatements.{after_stmt, IsFineStmt}
 

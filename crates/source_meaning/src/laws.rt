@@ -1,7 +1,11 @@
 //! Laws about the definitions, each the contract of a function that does nothing.
 ghost use Rattle.source_meaning.specs.Laws.{CapturesAreCarried, EngineCallsRun, EngineStatementsRun};
+ghost use Rattle.source_meaning.specs.EngineHost.{EngineIsRun};
+ghost use Rattle.source_meaning.specs.FunctionsRun.{FunctionsRun};
 ghost use Rattle.source_meaning.specs.Laws.{ExpressionsRun, StatementsRun};
+ghost use Rattle.source_meaning.specs.Placing.{FunctionsStand};
 
+use code_emission::laws::code_stands;
 use machine_step::equality_is_tested;
 
 /// The code of an expression in which nothing is called does what the expression means. It ends
@@ -35,3 +39,24 @@ pub fn statements_run()
 {
     equality_is_tested();
 }
+
+/// The functions of a script do what their calls mean, recursion among them, and so do all its
+/// expressions.
+pub fn functions_run()
+    ensures runs { FunctionsRun }
+{
+    equality_is_tested();
+}
+
+/// Each function of a unit stands in the unit's code, at the label of its number.
+pub fn functions_stand()
+    ensures stand { FunctionsStand }
+{
+    code_stands();
+}
+
+/// A machine that runs in the world's own engine has the answers of the meaning, in worlds that stay
+/// alike, where the answers have the routines' types.
+pub fn engine_is_run()
+    ensures run { EngineIsRun }
+{}

@@ -17,4 +17,7 @@
 
 mod laws;
 
-pub use laws::{captures_are_carried, engine_calls_run, expressions_run, statements_run};
+pub use laws::{
+    captures_are_carried, engine_calls_run, engine_is_run, expressions_run, functions_run,
+    functions_stand, statements_run,
+};

@@ -1,4 +1,4 @@
-use Rattle.module_player.proofs.Playing.{play_begins, play_fails, play_is_last, play_pauses, play_rests, play_runs_out, play_stops, plays_go_on}
+use Rattle.module_player.proofs.Playing.{play_begins, play_fails, play_is_last, play_rests, play_runs_out, play_stops, plays_go_on}
 use Rattle.module_player.proofs.plays.play_from.Goals as goal
 
 pub loop-number-init : goal.loop-number-init

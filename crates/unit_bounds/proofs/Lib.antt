@@ -1,0 +1,4 @@
+pub mod Walks
+pub mod ListLaws
+pub mod NodeLaws
+pub mod StatementLaws
