@@ -1,5 +1,5 @@
 mod LoadLemmas
-mod OneRun
+mod OneCode
 mod PlayLemmas
 mod Steps
 mod TellLemmas

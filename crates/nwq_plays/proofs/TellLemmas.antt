@@ -1,11 +1,10 @@
 -- A play that is told does the work of its text.
-use Rattle.std.proofs.Common.{◌≡◌, ◌≢◌, ℕ, inl, inr, List, [], ◌++◌, Option, None, Some, Result, Ok, Err, refl, subst, sym, ap, ◌∙◌}
-use Rattle.nwq_outside.specs.Outside.{Contents, Rises, TookPrefix}
+use Rattle.std.proofs.Common.{◌≡◌, ◌≢◌, IfErr, ℕ, inl, inr, List, ◌++◌, None, Some, Result, Ok, Err, refl, subst, sym}
+use Rattle.nwq_outside.specs.Outside.{Contents, TookPrefix}
 use Rattle.saved_state.specs.declared.saved.Saved.{Saved}
 use Rattle.engine_rows.specs.Trace.{trace_text}
 use Rattle.engine_rows.specs.World.{World}
 use Rattle.machine_step.specs.Machine.{Script}
-use Rattle.play_steps.specs.Plays as plays
 use Rattle.play_steps.specs.Plays.{PlayEnd, Played}
 use Rattle.module_player.specs.Answers.{EndsAs, WherePlayed, TakesTrace, CountsPlay}
 use Rattle.module_player.specs.CodePlays.{code_end_text}
@@ -16,42 +15,23 @@ use Rattle.module_player.specs.declared.played.Played.{Played as Answer}
 use Rattle.nwq_work.specs.declared.status.Status.{Status}
 use Rattle.nwq_work.specs.declared.status.Status.TheVariants as status
 use Rattle.nwq_work.specs.Work.{Does, CutsShort, Finished}
-use Rattle.nwq_work.specs.Counts.{Counted, Tallies, TalliesEnd, Refusing}
-use Rattle.nwq_work.specs.Parts.{PutsWhole}
+use Rattle.nwq_work.specs.Counts.{Counts, Counted, Tallies, TalliesEnd, Refusing}
 use Rattle.nwq_plays.specs.Plays.{ends_by, tells_end, tells}
 use Rattle.nwq_plays.specs.Tellings.{cut_of}
 
+same_status : {x y : Status} → Some x ≡ Some y → x ≡ y
+same_status e = cc
+
 -- ---- the end
-
-abbrev Stands : PlayEnd → Result Finished Status → Type 0
-Stands ending r = (c : Contents) (t : List ℕ) → Does (ends_by ending) c t r c t
-
-done_stands : Stands plays.Done (Ok tt)
-done_stands c t = (inl refl, (refl, refl))
-
-limit_stands : (c : Contents) (t : List ℕ) (ending : PlayEnd) → (ending ≡ plays.OutOfEntries) → Does (ends_by ending) c t (Err status.Limit) c t
-limit_stands c t ending is = subst (λ e. Does (ends_by e) c t (Err status.Limit) c t) (sym is) (inl refl, (refl, refl))
-
-stopped_stands : (c : Contents) (t : List ℕ) (ending : PlayEnd) → (ending ≡ plays.StoppedInside) → Does (ends_by ending) c t (Err status.Limit) c t
-stopped_stands c t ending is = subst (λ e. Does (ends_by e) c t (Err status.Limit) c t) (sym is) (inl refl, (refl, refl))
-
--- how a command ends whose play ended so
-abbrev EndResult : How → Result Finished Status
-EndResult Done = Ok tt
-EndResult InstrStop = Err status.Limit
-EndResult EntryStop = Err status.Limit
-EndResult Pause = Ok tt
-EndResult Fault = Err status.Fault
-EndResult NoMemory = Err status.Memory
 
 pub ends_done : (ending : PlayEnd) (c : Contents) (t : List ℕ) → EndsAs Done ending → Does (ends_by ending) c t (Ok tt) c t
 ends_done ending c t is = subst (λ e. Does (ends_by e) c t (Ok tt) c t) (sym is) (inl refl, (refl, refl))
 
 pub ends_stopped : (ending : PlayEnd) (c : Contents) (t : List ℕ) → EndsAs InstrStop ending → Does (ends_by ending) c t (Err status.Limit) c t
-ends_stopped ending c t is = stopped_stands c t ending is
+ends_stopped ending c t is = subst (λ e. Does (ends_by e) c t (Err status.Limit) c t) (sym is) (inl refl, (refl, refl))
 
 pub ends_full : (ending : PlayEnd) (c : Contents) (t : List ℕ) → EndsAs EntryStop ending → Does (ends_by ending) c t (Err status.Limit) c t
-ends_full ending c t is = limit_stands c t ending is
+ends_full ending c t is = subst (λ e. Does (ends_by e) c t (Err status.Limit) c t) (sym is) (inl refl, (refl, refl))
 
 pub ruleset endings = (ends_done, ends_stopped, ends_full)
 
@@ -62,7 +42,7 @@ module _ (scripts : List Script) (p : Played Saved) (c : Contents) (t t' : List 
   end_whole r taken does = inr (subst (λ x. Does (ends_by p.ending) c x r c t') taken does)
 
   pub end_cut : (cut : Status) → CutsShort cut × TookPrefix (code_end_text scripts p) t t' → Does (tells_end scripts p) c t (Err cut) c t'
-  end_cut cut h = inl (h.0, (refl, h.1))
+  end_cut cut h = inl (h.0, refl, h.1)
 
 pub limit_refuses : (s : Status) → s ≡ status.Limit → Refusing status.Limit s
 limit_refuses s is = inl is
@@ -70,7 +50,12 @@ limit_refuses s is = inl is
 pub cut_refuses : (s : Status) → CutsShort s → Refusing status.Limit s
 cut_refuses s cut = inr cut
 
-pub ruleset ends = (end_whole, end_cut, limit_refuses, cut_refuses)
+-- the counts stay where the text is put
+pub limit_counts : (r : Result Finished Status) (before now : Counts) → IfErr r (λ s. s ≡ status.Limit) → now ≡ before → Tallies r before now
+limit_counts (Ok done) before now only same = same
+limit_counts (Err s) before now only same = subst (λ x. TalliesEnd x before now) (sym only) same
+
+pub ruleset ends = (limit_counts, end_whole, end_cut, limit_refuses, cut_refuses)
 
 -- ---- the trace, and what follows
 
@@ -79,14 +64,8 @@ cut_by Done s is text t t' took = absurd cc
 cut_by InstrStop s is text t t' took = absurd cc
 cut_by EntryStop s is text t t' took = absurd cc
 cut_by Pause s is text t t' took = absurd cc
-cut_by Fault s is text t t' took = (subst CutsShort (some_status is) tt, took)
-  where
-    some_status : {x y : Status} → Some x ≡ Some y → x ≡ y
-    some_status e = cc
-cut_by NoMemory s is text t t' took = (subst CutsShort (some_status is) tt, took)
-  where
-    some_status : {x y : Status} → Some x ≡ Some y → x ≡ y
-    some_status e = cc
+cut_by Fault s is text t t' took = (subst CutsShort (same_status is) tt, took)
+cut_by NoMemory s is text t t' took = (subst CutsShort (same_status is) tt, took)
 
 whole_by : (how : How) → cut_of how ≡ None → (text t t' : List ℕ) → TakesTrace how text t t' → t' ≡ t ++ text
 whole_by Done is text t t' took = took
@@ -98,7 +77,7 @@ whole_by NoMemory is text t t' took = absurd cc
 
 module _ (scripts : List Script) (p : Played Saved) (c : Contents) (how : How) (t t' : List ℕ) where
   pub trace_cut : (s : Status) → Some s ≡ cut_of how → TakesTrace how (trace_text p.last.trace) t t' → Does (tells scripts p) c t (Err s) c t'
-  trace_cut s is took = let h = cut_by how s (sym is) (trace_text p.last.trace) t t' took in inl (h.0, (refl, h.1))
+  trace_cut s is took = let h = cut_by how s (sym is) (trace_text p.last.trace) t t' took in inl (h.0, refl, h.1)
 
   pub trace_whole : (r : Result Finished Status) (t'' : List ℕ) → None ≡ cut_of how → TakesTrace how (trace_text p.last.trace) t t'
       → Does (tells_end scripts p) c t' r c t'' → Does (tells scripts p) c t r c t''
@@ -144,10 +123,8 @@ module _ (how : How) (puts puts' : ℕ) where
       by_how InstrStop e k = absurd cc
       by_how EntryStop e k = absurd cc
       by_how Pause e k = absurd cc
-      by_how Fault e k = subst (λ x. TalliesEnd x (Counted faults absences longs puts) (Counted faults absences longs puts')) (some_status (sym e)) (inr (refl, k, inl (refl, refl)))
-      by_how NoMemory e k = subst (λ x. TalliesEnd x (Counted faults absences longs puts) (Counted faults absences longs puts')) (some_status (sym e)) (refl, k, inl (refl, refl))
-      some_status : {x y : Status} → Some x ≡ Some y → x ≡ y
-      some_status e = cc
+      by_how Fault e k = subst (λ x. TalliesEnd x (Counted faults absences longs puts) (Counted faults absences longs puts')) (same_status (sym e)) (inr (refl, k, inl (refl, refl)))
+      by_how NoMemory e k = subst (λ x. TalliesEnd x (Counted faults absences longs puts) (Counted faults absences longs puts')) (same_status (sym e)) (refl, k, inl (refl, refl))
 
   pub told_same : None ≡ cut_of how → CountsPlay how puts puts' → puts' ≡ puts
   told_same is counts = by_how how is counts
@@ -170,13 +147,7 @@ cut_stops Done s is = absurd cc
 cut_stops InstrStop s is = absurd cc
 cut_stops EntryStop s is = absurd cc
 cut_stops Pause s is = absurd cc
-cut_stops Fault s is = inr (subst CutsShort (some_status (sym is)) tt)
-  where
-    some_status : {x y : Status} → Some x ≡ Some y → x ≡ y
-    some_status e = cc
-cut_stops NoMemory s is = inr (subst CutsShort (some_status (sym is)) tt)
-  where
-    some_status : {x y : Status} → Some x ≡ Some y → x ≡ y
-    some_status e = cc
+cut_stops Fault s is = inr (subst CutsShort (same_status (sym is)) tt)
+cut_stops NoMemory s is = inr (subst CutsShort (same_status (sym is)) tt)
 
 pub ruleset plays_lemmas = (trace_cut, trace_whole, text_there, ending_is, play_counts, told_counts, cut_stops)

@@ -1,6 +1,6 @@
 -- The world in which one script starts, and the one script that is listed.
-use Rattle.std.proofs.Common.{◌≡◌, ◌<◌, ◌^◌, ℕ, zero, suc, List, [], ◌∷◌, length, map, Some, refl, subst, sym, ap, ◌∙◌}
-use Rattle.std.specs.Prelude.{slice_get, replicate, take}
+use Rattle.std.proofs.Common.{◌≡◌, ℕ, zero, suc, List, [], ◌∷◌, length, Some, subst, sym, ap, ◌∙◌}
+use Rattle.std.specs.Prelude.{replicate, take}
 use Rattle.std.specs.List.{AllByRecursion}
 use Rattle.nwq_value.specs.Engine.{EngineTable}
 use Rattle.nwq_value.specs.Limits.{text_limit}
@@ -14,11 +14,10 @@ use Rattle.stack_check.specs.Checked.{CheckedCode, kept_table}
 use Rattle.machine_step.specs.Machine.{Script}
 use Rattle.engine_rows.specs.World.{World}
 use Rattle.engine_rows.specs.Turns.{Planned, new_world, idle}
-use Rattle.engine_rows.specs.declared.data.Things.{Things}
 use Rattle.ncs_machine.specs.Host.{scripts_of, tables_of}
 use Rattle.ncs_machine.specs.Stored.{StatesFit, ThingsFit}
 use Rattle.ncs_machine.specs.declared.scripts.Loaded.{Loaded}
-use Rattle.nwq_plays.specs.Plays.{IsEmptyArea, first_world, listed, start_of, text_name}
+use Rattle.nwq_plays.specs.Plays.{IsEmptyArea, first_world, listed, start_of}
 use Rattle.nwq_plays.specs.Tellings.{IsFirst}
 
 -- ---- the world

@@ -1,4 +1,3 @@
 pub mod Plays
 pub mod Tellings
-pub mod Runs
 pub mod Laws

@@ -1,5 +1,5 @@
 -- The play of one script: its instructions under a header, in a world that has nothing but a start of it.
-use Rattle.std.specs.Prelude.{◌≡◌, ℕ, List, [], ◌∷◌, take, map}
+use Rattle.std.specs.Prelude.{◌≡◌, ℕ, List, [], ◌∷◌, take}
 use Rattle.nwq_value.specs.Engine.{EngineTable}
 use Rattle.nwq_value.specs.Limits.{text_limit, default_instruction_limit, default_entry_limit, default_until}
 use Rattle.nwq_outside.specs.Outside.{Contents}
