@@ -1,0 +1,6 @@
+mod LoadLemmas
+mod OneCode
+mod PlayLemmas
+mod Steps
+mod TellLemmas
+mod WorldLemmas

@@ -1,0 +1,153 @@
+-- A play that is told does the work of its text.
+use Rattle.std.proofs.Common.{◌≡◌, ◌≢◌, IfErr, ℕ, inl, inr, List, ◌++◌, None, Some, Result, Ok, Err, refl, subst, sym}
+use Rattle.nwq_outside.specs.Outside.{Contents, TookPrefix}
+use Rattle.saved_state.specs.declared.saved.Saved.{Saved}
+use Rattle.engine_rows.specs.Trace.{trace_text}
+use Rattle.engine_rows.specs.World.{World}
+use Rattle.machine_step.specs.Machine.{Script}
+use Rattle.play_steps.specs.Plays.{PlayEnd, Played}
+use Rattle.module_player.specs.Answers.{EndsAs, WherePlayed, TakesTrace, CountsPlay}
+use Rattle.module_player.specs.CodePlays.{code_end_text}
+use Rattle.module_player.specs.EndTexts.{HasText, IsEnding}
+use Rattle.module_player.specs.declared.played.How.{How}
+use Rattle.module_player.specs.declared.played.How.TheVariants.{Done, InstrStop, EntryStop, Pause, Fault, NoMemory}
+use Rattle.module_player.specs.declared.played.Played.{Played as Answer}
+use Rattle.nwq_work.specs.declared.status.Status.{Status}
+use Rattle.nwq_work.specs.declared.status.Status.TheVariants as status
+use Rattle.nwq_work.specs.Work.{Does, CutsShort, Finished}
+use Rattle.nwq_work.specs.Counts.{Counts, Counted, Tallies, TalliesEnd, Refusing}
+use Rattle.nwq_plays.specs.Plays.{ends_by, tells_end, tells}
+use Rattle.nwq_plays.specs.Tellings.{cut_of}
+
+same_status : {x y : Status} → Some x ≡ Some y → x ≡ y
+same_status e = cc
+
+-- ---- the end
+
+pub ends_done : (ending : PlayEnd) (c : Contents) (t : List ℕ) → EndsAs Done ending → Does (ends_by ending) c t (Ok tt) c t
+ends_done ending c t is = subst (λ e. Does (ends_by e) c t (Ok tt) c t) (sym is) (inl refl, (refl, refl))
+
+pub ends_stopped : (ending : PlayEnd) (c : Contents) (t : List ℕ) → EndsAs InstrStop ending → Does (ends_by ending) c t (Err status.Limit) c t
+ends_stopped ending c t is = subst (λ e. Does (ends_by e) c t (Err status.Limit) c t) (sym is) (inl refl, (refl, refl))
+
+pub ends_full : (ending : PlayEnd) (c : Contents) (t : List ℕ) → EndsAs EntryStop ending → Does (ends_by ending) c t (Err status.Limit) c t
+ends_full ending c t is = subst (λ e. Does (ends_by e) c t (Err status.Limit) c t) (sym is) (inl refl, (refl, refl))
+
+pub ruleset endings = (ends_done, ends_stopped, ends_full)
+
+-- ---- the text of the end, and the end
+
+module _ (scripts : List Script) (p : Played Saved) (c : Contents) (t t' : List ℕ) where
+  pub end_whole : (r : Result Finished Status) → t' ≡ t ++ code_end_text scripts p → Does (ends_by p.ending) c t' r c t' → Does (tells_end scripts p) c t r c t'
+  end_whole r taken does = inr (subst (λ x. Does (ends_by p.ending) c x r c t') taken does)
+
+  pub end_cut : (cut : Status) → CutsShort cut × TookPrefix (code_end_text scripts p) t t' → Does (tells_end scripts p) c t (Err cut) c t'
+  end_cut cut h = inl (h.0, refl, h.1)
+
+pub limit_refuses : (s : Status) → s ≡ status.Limit → Refusing status.Limit s
+limit_refuses s is = inl is
+
+pub cut_refuses : (s : Status) → CutsShort s → Refusing status.Limit s
+cut_refuses s cut = inr cut
+
+-- the counts stay where the text is put
+pub limit_counts : (r : Result Finished Status) (before now : Counts) → IfErr r (λ s. s ≡ status.Limit) → now ≡ before → Tallies r before now
+limit_counts (Ok done) before now only same = same
+limit_counts (Err s) before now only same = subst (λ x. TalliesEnd x before now) (sym only) same
+
+pub ruleset ends = (limit_counts, end_whole, end_cut, limit_refuses, cut_refuses)
+
+-- ---- the trace, and what follows
+
+cut_by : (how : How) (s : Status) → cut_of how ≡ Some s → (text t t' : List ℕ) → TakesTrace how text t t' → CutsShort s × TookPrefix text t t'
+cut_by Done s is text t t' took = absurd cc
+cut_by InstrStop s is text t t' took = absurd cc
+cut_by EntryStop s is text t t' took = absurd cc
+cut_by Pause s is text t t' took = absurd cc
+cut_by Fault s is text t t' took = (subst CutsShort (same_status is) tt, took)
+cut_by NoMemory s is text t t' took = (subst CutsShort (same_status is) tt, took)
+
+whole_by : (how : How) → cut_of how ≡ None → (text t t' : List ℕ) → TakesTrace how text t t' → t' ≡ t ++ text
+whole_by Done is text t t' took = took
+whole_by InstrStop is text t t' took = took
+whole_by EntryStop is text t t' took = took
+whole_by Pause is text t t' took = took
+whole_by Fault is text t t' took = absurd cc
+whole_by NoMemory is text t t' took = absurd cc
+
+module _ (scripts : List Script) (p : Played Saved) (c : Contents) (how : How) (t t' : List ℕ) where
+  pub trace_cut : (s : Status) → Some s ≡ cut_of how → TakesTrace how (trace_text p.last.trace) t t' → Does (tells scripts p) c t (Err s) c t'
+  trace_cut s is took = let h = cut_by how s (sym is) (trace_text p.last.trace) t t' took in inl (h.0, refl, h.1)
+
+  pub trace_whole : (r : Result Finished Status) (t'' : List ℕ) → None ≡ cut_of how → TakesTrace how (trace_text p.last.trace) t t'
+      → Does (tells_end scripts p) c t' r c t'' → Does (tells scripts p) c t r c t''
+  trace_whole r t'' is took does =
+      inr (subst (λ x. Does (tells_end scripts p) c x r c t'') (whole_by how (sym is) (trace_text p.last.trace) t t' took) does)
+
+-- the whole play has a text at its end
+pub text_there : (how : How) → None ≡ cut_of how → how ≢ Pause → HasText how
+text_there Done is whole = tt
+text_there InstrStop is whole = tt
+text_there EntryStop is whole = tt
+text_there Pause is whole = absurd (whole refl)
+text_there Fault is whole = absurd cc
+text_there NoMemory is whole = absurd cc
+
+where_told : (how : How) (fact : Type 0) → None ≡ cut_of how → WherePlayed how fact → fact
+where_told Done fact is h = h
+where_told InstrStop fact is h = h
+where_told EntryStop fact is h = h
+where_told Pause fact is h = h
+where_told Fault fact is h = absurd cc
+where_told NoMemory fact is h = absurd cc
+
+pub ending_is : (answer : Answer) (p : Played Saved) (w : World Saved) → None ≡ cut_of answer.how → EndsAs answer.how p.ending
+    → WherePlayed answer.how (answer.entries ≡ p.last.entries) → WherePlayed answer.how (answer.instructions ≡ p.last.count)
+    → WherePlayed answer.how (w ≡ p.last.world) → IsEnding answer p w
+ending_is answer p w told ending entries count world = record {
+  ending = ending;
+  entries = where_told answer.how _ told entries;
+  instructions = where_told answer.how _ told count;
+  world = where_told answer.how _ told world;
+}
+
+-- ---- the counts
+
+module _ (how : How) (puts puts' : ℕ) where
+  pub play_counts : (s : Status) (faults absences longs : ℕ) → Some s ≡ cut_of how → CountsPlay how puts puts'
+      → TalliesEnd s (Counted faults absences longs puts) (Counted faults absences longs puts')
+  play_counts s faults absences longs is counts = by_how how is counts
+    where
+      by_how : (h : How) → Some s ≡ cut_of h → CountsPlay h puts puts' → TalliesEnd s (Counted faults absences longs puts) (Counted faults absences longs puts')
+      by_how Done e k = absurd cc
+      by_how InstrStop e k = absurd cc
+      by_how EntryStop e k = absurd cc
+      by_how Pause e k = absurd cc
+      by_how Fault e k = subst (λ x. TalliesEnd x (Counted faults absences longs puts) (Counted faults absences longs puts')) (same_status (sym e)) (inr (refl, k, inl (refl, refl)))
+      by_how NoMemory e k = subst (λ x. TalliesEnd x (Counted faults absences longs puts) (Counted faults absences longs puts')) (same_status (sym e)) (refl, k, inl (refl, refl))
+
+  pub told_same : None ≡ cut_of how → CountsPlay how puts puts' → puts' ≡ puts
+  told_same is counts = by_how how is counts
+    where
+      by_how : (h : How) → None ≡ cut_of h → CountsPlay h puts puts' → puts' ≡ puts
+      by_how Done e k = k
+      by_how InstrStop e k = k
+      by_how EntryStop e k = k
+      by_how Pause e k = k
+      by_how Fault e k = absurd cc
+      by_how NoMemory e k = absurd cc
+
+pub told_counts : (how : How) (puts puts' puts'' : ℕ) (r : Result Finished Status) (faults absences longs : ℕ) → None ≡ cut_of how → CountsPlay how puts puts'
+    → Tallies r (Counted faults absences longs puts') (Counted faults absences longs puts'') → Tallies r (Counted faults absences longs puts) (Counted faults absences longs puts'')
+told_counts how puts puts' puts'' r faults absences longs is counts tallies =
+    subst (λ x. Tallies r (Counted faults absences longs x) (Counted faults absences longs puts'')) (told_same how puts puts' is counts) tallies
+
+pub cut_stops : (how : How) (s : Status) → Some s ≡ cut_of how → Refusing status.Limit s
+cut_stops Done s is = absurd cc
+cut_stops InstrStop s is = absurd cc
+cut_stops EntryStop s is = absurd cc
+cut_stops Pause s is = absurd cc
+cut_stops Fault s is = inr (subst CutsShort (same_status (sym is)) tt)
+cut_stops NoMemory s is = inr (subst CutsShort (same_status (sym is)) tt)
+
+pub ruleset plays_lemmas = (trace_cut, trace_whole, text_there, ending_is, play_counts, told_counts, cut_stops)

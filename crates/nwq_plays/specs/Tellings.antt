@@ -1,0 +1,33 @@
+-- What is told of a play's answer, and what a script's world is.
+use Rattle.std.specs.Prelude.{◌≡◌, ℕ, List, Option, None, Some}
+use Rattle.area_tree.specs.Area.{PlainArea}
+use Rattle.saved_state.specs.declared.saved.Saved.{Saved}
+use Rattle.engine_rows.specs.World.{World}
+use Rattle.nwq_work.specs.declared.status.Status.{Status}
+use Rattle.nwq_work.specs.declared.status.Status.TheVariants as status
+use Rattle.module_player.specs.declared.played.How.{How}
+use Rattle.module_player.specs.declared.played.How.TheVariants.{Done, InstrStop, EntryStop, Pause, Fault, NoMemory}
+use Rattle.nwq_plays.specs.Plays.{IsEmptyArea, first_world}
+
+-- a world is the first one of a script, over an area without objects
+pub record IsFirst (name : List ℕ) (w : World Saved) : Type 0 where
+  pub area : PlainArea
+  pub empty : IsEmptyArea area
+  pub is : w ≡ first_world name area
+
+-- the status of a play that was cut short
+abbrev pub cut_of : How → Option Status
+cut_of Done = None
+cut_of InstrStop = None
+cut_of EntryStop = None
+cut_of Pause = None
+cut_of Fault = Some status.Fault
+cut_of NoMemory = Some status.Memory
+
+-- what stops a play: the code isn't well stacked or no file, a limit was reached, or the work is cut
+abbrev pub StopsPlay : Status → Type 0
+StopsPlay status.Code = Unit {0}
+StopsPlay status.Limit = Unit {0}
+StopsPlay status.Fault = Unit {0}
+StopsPlay status.Memory = Unit {0}
+StopsPlay _ = ⊥

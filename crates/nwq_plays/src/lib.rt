@@ -1,0 +1,15 @@
+//! Compiled scripts that are played at once.
+//!
+//! `specs/Plays.antt` says what comes of the bytes of a compiled file: its instructions are checked
+//! and played as the one listed script, in a world that has nothing but a start of it. The text is
+//! the play's trace and the text of its end; a play that a limit ended is told whole, and ends with
+//! the status of limits. What a play is docs/PLAYS.md tells.
+#![tactic(auto)]
+
+pub mod laws;
+mod load;
+mod play;
+mod telling;
+mod world;
+
+pub use play::play_file;
