@@ -4,3 +4,5 @@ pub mod Entering
 pub mod Turning
 pub mod Playing
 pub mod Whole
+pub mod EndLemmas
+mod Worked

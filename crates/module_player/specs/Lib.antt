@@ -3,3 +3,4 @@ pub mod Scenes
 pub mod Entries
 pub mod Turns
 pub mod Answers
+pub mod EndTexts

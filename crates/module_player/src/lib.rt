@@ -6,6 +6,7 @@
 //! docs/PLAYS.md tells plays in words.
 #![tactic(auto)]
 
+mod closing;
 mod entry;
 mod names;
 mod played;
@@ -14,5 +15,6 @@ mod scripts;
 mod setting;
 mod turn;
 
+pub use closing::end_text;
 pub use played::{How, Played};
 pub use plays::{play, play_on};

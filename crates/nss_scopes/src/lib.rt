@@ -3,7 +3,8 @@
 //! [`Sight`] is the record that `nss_typing` defines, seen through `specs/Views.antt`: names that
 //! are declared, structs, the declarations of functions, and where the node stands. Contracts see
 //! [`Names`], [`Structs`], [`Heads`] and [`Labels`] as the lists of the definitions, and each call
-//! answers what the definition of the same name gives. A scope is entered and left by a [`Mark`],
+//! answers what the definition of the same name gives; code finds a name, a struct, a declaration
+//! or a case by an index, with no search. A scope is entered and left by a [`Mark`],
 //! which keeps what the scope changes. The page on it is docs/TYPES.md.
 #![tactic(auto)]
 

@@ -1,5 +1,5 @@
 -- The defaults behind arguments, by their number.
-use Rattle.std.proofs.Common.{◌≡◌, ℕ, zero, suc, nat_lt, Bool, true, false, ◌+◌, ◌<◌, ◌≤◌, ◌&&◌, if◌then◌else◌, get_or, List, [], ◌∷◌, ◌++◌, length, drop, Option, None, Some, refl, sym, ap, ◌∙◌, arith}
+use Rattle.std.proofs.Common.{◌≡◌, ℕ, suc, nat_lt, Bool, true, false, ◌+◌, ◌<◌, ◌≤◌, ◌&&◌, if◌then◌else◌, get_or, List, [], ◌∷◌, ◌++◌, length, drop, Option, None, Some, refl, sym, ap, ◌∙◌, arith}
 use Rattle.std.proofs.lemmas.Bool.Decides.{nat_tests}
 use Rattle.std.proofs.lemmas.List.{at_drop_more, at_drop_all}
 use Rattle.nss_tree.specs.declared.expressions.Expr.{Expr}
@@ -9,7 +9,6 @@ use Rattle.nss_typing.specs.declared.fault.Fault.{Fault}
 use Rattle.nss_typing.specs.Nodes.{fine, kept}
 use Rattle.nss_typing.specs.Sight.{Head, Sight}
 use Rattle.nss_types.proofs.Faults.{kept_append}
-use Rattle.nwq_value.specs.declared.engine.Const.{Const}
 use Rattle.nwq_value.specs.declared.engine.Param.{Param}
 use Rattle.nss_typing.specs.declared.expressions.Expression.{Expression}
 use Rattle.nss_typing.specs.Reading.{plain, plain_all}

@@ -1,5 +1,5 @@
 -- Items in a row.
-use Rattle.std.proofs.Common.{ℕ, List, Option, map, refl}
+use Rattle.std.proofs.Common.{ℕ, List, map, refl}
 use Rattle.std.specs.Option.{option_map}
 use Rattle.nss_tree.specs.declared.constants.Constant.{Constant}
 use Rattle.nss_tree.specs.declared.constants.TypeName.{TypeName}

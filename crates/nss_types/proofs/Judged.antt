@@ -10,7 +10,7 @@ use Rattle.nss_typing.specs.declared.fault.FaultKind.TheVariants.{RefusedType, U
 use Rattle.nss_typing.specs.Nodes.{Verdict, Fine, Wrong, asked, ruled, first_kind, no_row, only, row}
 use Rattle.nss_typing.specs.Rules.{default_fits, is_behind, is_missing, is_refused, parameter_mismatch, parameter_of, parameter_rows, parameter_rule, value_fits, variable_rows, variable_rule, when}
 use Rattle.nss_typing.specs.Sight.{Sight, Meant, IsRefused, IsMissing, Is, cells, cells_if, crosses_with, is_taken, value_type}
-use Rattle.nss_typing.specs.Typed.{TypedExpr, TypedName, TypedParameter}
+use Rattle.nss_typing.specs.Typed.{TypedExpr, TypedParameter}
 use Rattle.nss_types.specs.Faults.{fault_unless}
 
 abbrev pub by_fault : {A : Type 0} → Option FaultKind → A → Verdict A

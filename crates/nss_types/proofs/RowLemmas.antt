@@ -3,7 +3,7 @@ use Rattle.std.proofs.Common.{◌≡◌, ℕ, ◌+◌, ◌<◌, ◌≤◌, List,
 use Rattle.std.proofs.lemmas.List.{at_drop_more, at_drop_all}
 use Rattle.std.specs.Option.{option_map}
 use Rattle.nss_typing.specs.declared.fault.Fault.{Fault}
-use Rattle.nss_typing.specs.Nodes.{kept, two}
+use Rattle.nss_typing.specs.Nodes.{kept}
 use Rattle.nss_typing.specs.Verdicts.{one_more}
 use Rattle.nss_types.specs.Rows.{and_one, with_rest}
 use Rattle.nss_types.proofs.Faults.{kept_append}

@@ -1,8 +1,7 @@
 -- The numbers of variables don't matter for how an expression is typed.
-use Rattle.std.proofs.Common.{◌≡◌, ℕ, Bool, false, List, ◌++◌, Option, refl, ap, ◌∙◌}
+use Rattle.std.proofs.Common.{◌≡◌, ℕ, Bool, false, List, ◌++◌, refl, ap, ◌∙◌}
 use Rattle.nwq_value.specs.declared.engine.Param.{Param}
 use Rattle.nss_tree.specs.Expressions.{PlainExpr, PlainExprs, int, float, text, object_self, object_invalid, name, call, member, prefix, postfix, binary, assign, no_expr, more_exprs}
-use Rattle.nss_typing.specs.declared.fault.Fault.{Fault}
 use Rattle.nss_typing.specs.Nodes.{asked, at, fine, two}
 use Rattle.nss_typing.specs.Rules.{call_rows, call_rule, member_rows, member_rule, prefix_rows, prefix_rule, postfix_rows, postfix_rule, binary_rows, binary_rule, assign_rows, assign_rule, takes_action, others}
 use Rattle.nss_typing.specs.Sight.{Head, Sight, callee, wanted}

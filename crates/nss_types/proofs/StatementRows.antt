@@ -1,19 +1,19 @@
 -- Statements in a row, and what is in sight once a scope is left.
-use Rattle.std.proofs.Common.{◌≡◌, ℕ, ◌++◌, List, [], ◌∷◌, length, take, Option, None, Some, refl, sym, ap, ◌∙◌}
+use Rattle.std.proofs.Common.{◌≡◌, ℕ, List, [], ◌∷◌, length, take, Option, None, Some, refl, sym, ap, ◌∙◌}
 use Rattle.std.specs.Option.{option_map}
 use Rattle.nss_tree.specs.declared.constants.Constant.{Constant}
 use Rattle.nss_tree.specs.declared.constants.TypeName.{TypeName}
 use Rattle.nss_tree.specs.declared.expressions.Expr.{Expr}
 use Rattle.nss_tree.specs.declared.statements.Stmt.{Stmt}
 use Rattle.nss_tree.specs.Reading.{plain_expr, plain_stmt, plain_stmts}
-use Rattle.nss_tree.specs.Readings.{stmts_none, stmts_more, map_stmts_none, map_stmts_push}
+use Rattle.nss_tree.specs.Readings.{stmts_more, map_stmts_none, map_stmts_push}
 use Rattle.nss_tree.specs.Statements.{joined_stmts, map_stmts, more_stmts, no_stmt}
 use Rattle.nwq_value.specs.Engine.{EngineTable}
 use Rattle.nwq_value.specs.declared.value.Ty.{Ty}
 use Rattle.nwq_value.specs.declared.engine.Const.{Const}
 use Rattle.nss_typing.specs.declared.expressions.Expression.{Expression}
 use Rattle.nss_typing.specs.declared.places.Variable.{Variable}
-use Rattle.nss_typing.specs.Nodes.{fine, two}
+use Rattle.nss_typing.specs.Nodes.{fine}
 use Rattle.nss_typing.specs.Reading.{plain}
 use Rattle.nss_typing.specs.Scopes.{OnlyAdds, NamesStandFirst}
 use Rattle.nss_typing.specs.Sight.{Head, Sight}

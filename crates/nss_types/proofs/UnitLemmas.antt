@@ -1,5 +1,5 @@
 -- What the walk over a unit's items says of the unit.
-use Rattle.std.proofs.Common.{◌≡◌, ℕ, Bool, true, false, if◌then◌else◌, List, ◌++◌, Option, None, Some, IsSome, Result, Ok, Err, refl, sym, ap, ◌∙◌}
+use Rattle.std.proofs.Common.{◌≡◌, ℕ, Bool, true, false, if◌then◌else◌, List, Option, None, Some, IsSome, Result, Ok, Err, refl, sym, ap, ◌∙◌}
 use Rattle.std.specs.Option.{option_map}
 use Rattle.std.specs.Result.{IfErr, IfOk}
 use Rattle.nwq_value.specs.Engine.{EngineTable}
@@ -13,7 +13,7 @@ use Rattle.nss_typing.specs.Meaning.{TypesUnit}
 use Rattle.nss_typing.specs.Nodes.{at, fine, kept, two}
 use Rattle.nss_typing.specs.Rules.{when}
 use Rattle.nss_typing.specs.Sight.{Head, start}
-use Rattle.nss_typing.specs.Typed.{TypedItem, TypedUnit}
+use Rattle.nss_typing.specs.Typed.{TypedItem}
 use Rattle.nss_typing.specs.UnitReading.{typed_unit}
 use Rattle.nss_typing.specs.Verdicts.{entry_verdict, heads, items_faults, items_fine, unit_faults, unit_of, unit_typed}
 use Rattle.nss_types.specs.Answers.{IsKeptFault}

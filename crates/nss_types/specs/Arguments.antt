@@ -1,5 +1,5 @@
 -- Arguments by their number and their order.
-use Rattle.std.specs.Prelude.{ℕ, Bool, false, nat_lt, length, drop, List, [], ◌∷◌, Option, None, Some, if◌then◌else◌}
+use Rattle.std.specs.Prelude.{ℕ, Bool, false, nat_lt, length, drop, List, [], ◌∷◌, Option, None, if◌then◌else◌}
 use Rattle.nwq_value.specs.declared.engine.Const.{Const}
 use Rattle.nwq_value.specs.declared.engine.Param.{Param}
 use Rattle.std.specs.Option.{option_map}

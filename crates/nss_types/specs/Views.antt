@@ -1,6 +1,5 @@
 -- How what code finds is seen as the definitions' own.
-use Rattle.std.specs.Prelude.{List, map}
-use Rattle.std.specs.Option.{option_map}
+use Rattle.std.specs.Prelude.{List}
 use Rattle.nss_types.specs.declared.known.Known.{Known}
 use Rattle.nss_types.specs.declared.known.Known.TheVariants.{Variable, Constant}
 use Rattle.nss_types.specs.declared.called.Called.{Called}

@@ -19,3 +19,4 @@ mod Placing
 mod WorldMaps
 mod RowMaps
 mod EngineAlike
+mod Starts

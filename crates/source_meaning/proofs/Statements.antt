@@ -787,7 +787,7 @@ module _ (host : MachineHost) (R : Saved → Deferred → Type 0) (x : Site) (li
   start_typed (Struct n) h = absurd h
   start_typed Refused h = absurd h
 
-  start_goes : (place : ℕ) (t : Ty) (cells : List Cell) (calls : List ℕ) (pending : List Saved) (world : World Saved) → IsCell t → op_at x.code place ≡ Some (ops.RsAdd (cell_kind t))
+  pub start_goes : (place : ℕ) (t : Ty) (cells : List Cell) (calls : List ℕ) (pending : List Saved) (world : World Saved) → IsCell t → op_at x.code place ≡ Some (ops.RsAdd (cell_kind t))
       → step host (at x place cells calls pending world) ≡ Some (Goes (at x (place + 2) (Holds (start_part t) ∷ cells) calls pending world))
   unfolding act cells_after
   start_goes place t cells calls pending world cell begins =

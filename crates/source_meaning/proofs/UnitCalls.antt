@@ -88,7 +88,7 @@ module _ (host : MachineHost) (R : Saved → Deferred → Type 0) (tested : Equa
   abbrev Runs : TypedExpr → Type 0
   Runs e = ExprRuns host R x tables execute functions caller most e
 
-  call_goes : (place next : ℕ) (offset : ℤ) (cells : List Cell) (calls : List ℕ) (pending : List Saved) (world : World Saved) → op_at x.code place ≡ Some (ops.Jsr offset) → jump_place place offset ≡ next
+  pub call_goes : (place next : ℕ) (offset : ℤ) (cells : List Cell) (calls : List ℕ) (pending : List Saved) (world : World Saved) → op_at x.code place ≡ Some (ops.Jsr offset) → jump_place place offset ≡ next
       → step host (at x place cells calls pending world) ≡ Some (Goes (at x next cells ((place + 6) ∷ calls) pending world))
   unfolding act
   call_goes place next offset cells calls pending world begins goes =

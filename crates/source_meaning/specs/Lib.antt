@@ -17,3 +17,4 @@ pub mod StatementsRun
 pub mod FunctionsRun
 pub mod Placing
 pub mod EngineHost
+pub mod Starts

@@ -4,6 +4,7 @@ ghost use Rattle.source_meaning.specs.EngineHost.{EngineIsRun};
 ghost use Rattle.source_meaning.specs.FunctionsRun.{FunctionsRun};
 ghost use Rattle.source_meaning.specs.Laws.{ExpressionsRun, StatementsRun};
 ghost use Rattle.source_meaning.specs.Placing.{FunctionsStand};
+ghost use Rattle.source_meaning.specs.Starts.{ConditionsRun, MainsRun};
 
 use code_emission::laws::code_stands;
 use machine_step::equality_is_tested;
@@ -60,3 +61,13 @@ pub fn functions_stand()
 pub fn engine_is_run()
     ensures run { EngineIsRun }
 {}
+
+/// The code of a script without globals does what its start means, from its first instruction on:
+/// whether it begins with `void main()` or with `int StartingConditional()`.
+pub fn starts_run()
+    ensures mains { MainsRun }
+    ensures conditions { ConditionsRun }
+{
+    equality_is_tested();
+    code_stands();
+}

@@ -1,4 +1,4 @@
-//! What scripts mean, and that the code of their expressions and statements does it.
+//! What scripts mean, and that the code of their expressions, statements and functions does it.
 //!
 //! There is no code here that runs. The meaning is told by cases on the typed tree of `nss_typing`:
 //! `specs/Values.antt` says what values and operators are, `specs/Evaluation.antt` how an
@@ -10,14 +10,15 @@
 //! That code does what is meant is said by `specs/Ledger.antt` (what the machine has done where an
 //! evaluation has come to some point), `specs/Kept.antt` (where values stand), `specs/Carries.antt`
 //! (which captured states carry which commands), and for expressions, calls and statements by
-//! `specs/Simulation.antt`, `specs/Calling.antt` and `specs/StatementsRun.antt`. The functions of
-//! this crate do nothing: each is a law, whose contract is proved of the definitions. The page on
-//! all of this is docs/MEANING.md, which also says what isn't proved yet.
+//! `specs/Simulation.antt`, `specs/Calling.antt` and `specs/StatementsRun.antt`, for functions and
+//! scripts by `specs/FunctionsRun.antt` and `specs/Starts.antt`. The functions of this crate do
+//! nothing: each is a law, whose contract is proved of the definitions. The page on all of this is
+//! docs/MEANING.md, which also says what isn't proved yet.
 #![tactic(auto)]
 
 mod laws;
 
 pub use laws::{
     captures_are_carried, engine_calls_run, engine_is_run, expressions_run, functions_run,
-    functions_stand, statements_run,
+    functions_stand, starts_run, statements_run,
 };

@@ -1,4 +1,5 @@
 pub mod Walks
 pub mod ListLaws
+pub mod LabelLaws
 pub mod NodeLaws
 pub mod StatementLaws

@@ -7,10 +7,16 @@ ghost use Rattle.unit_bounds.specs.Weights.{NamesWeigh, StmtWeighs, StmtsWeigh};
 
 use crate::expressions::{expression, part};
 use crate::nodes::{is_constant, is_type};
-use crate::sums::{node, plus, weightless};
+use crate::sums::{if_kept, node, plus};
 use nss_layout::Layout;
 use nss_tree::Stmt;
 use nss_typing::{TypedName, TypedStmt};
+
+/// What a label of a switch weighs.
+const LABEL: u32 = 1;
+
+/// The labels of the code of a `for`, whose parts may all be left out.
+const FOR_LABELS: u32 = 3;
 
 /// The weight of a declared name that keeps the bounds.
 fn name(bodies: u32, layout: &Layout, name: &TypedName) -> Option<u32>
@@ -95,7 +101,10 @@ fn statement(
             ..
         } => plus(
             plus(
-                plus(part(bodies, layout, start), part(bodies, layout, condition)),
+                plus(
+                    plus(Some(FOR_LABELS), part(bodies, layout, start)),
+                    part(bodies, layout, condition),
+                ),
                 part(bodies, layout, step),
             ),
             statement(bodies, layout, true, true, body),
@@ -104,15 +113,15 @@ fn statement(
             plus(Some(1), expression(bodies, layout, value)),
             statements(bodies, layout, true, continues, body.as_slice()),
         ),
-        Stmt::Break { .. } => weightless(breaks),
-        Stmt::Continue { .. } => weightless(continues),
+        Stmt::Break { .. } => if_kept(breaks, 0),
+        Stmt::Continue { .. } => if_kept(continues, 0),
         Stmt::Return { value, .. } => part(bodies, layout, value),
         Stmt::Declaration {
             names: declared,
             ..
         } => names(bodies, layout, declared.as_slice()),
-        Stmt::Case { value, .. } => weightless(is_constant(value)),
-        Stmt::Default { .. } => Some(0),
+        Stmt::Case { value, .. } => if_kept(is_constant(value), LABEL),
+        Stmt::Default { .. } => Some(LABEL),
     }
 }
 

@@ -24,11 +24,11 @@ pub(crate) fn counted(count: usize) -> Option<u32>
     Some(count as u32)
 }
 
-/// What weighs nothing, where it keeps the bounds.
-pub(crate) fn weightless(kept: bool) -> Option<u32>
-    ensures { IfSome result (λ w. IsTrue kept × (w ≡ 0)) }
+/// This weight, where it keeps the bounds.
+pub(crate) fn if_kept(kept: bool, weight: u32) -> Option<u32>
+    ensures { IfSome result (λ w. IsTrue kept × (w ≡ weight)) }
 {
-    if kept { Some(0) } else { None }
+    if kept { Some(weight) } else { None }
 }
 
 /// A node of an expression, where it keeps the bounds beside its parts.

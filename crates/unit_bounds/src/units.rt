@@ -1,17 +1,26 @@
 //! Items, and a whole unit.
 
-ghost use Rattle.std.specs.Prelude.{◌≡◌, ◌+◌, ◌≤◌, ◌∷◌, IfSome, IsSomeAnd, IsTrue, List, ℕ, false};
+ghost use Rattle.std.specs.Prelude.{◌≡◌, ◌+◌, ◌≤◌, ◌<◌, ◌^◌, ◌∷◌, List, Some, ℕ, false};
+ghost use Rattle.std.specs.Prelude.{IfSome, IsTrue};
 ghost use Rattle.nss_typing.specs.Typed as typed;
 ghost use Rattle.nss_typing.specs.UnitReading.{typed_item, typed_items, typed_stmts, typed_unit};
-ghost use Rattle.code_emission.specs.Bounds.{AreStmts, IsBounded, all_stmt_weight, depth_limit};
+ghost use Rattle.code_emission.specs.Bounds.{
+  AreItems,
+  AreStmts,
+  IsBounded,
+  all_stmt_weight,
+  depth_limit,
+  globals_weight,
+};
 ghost use Rattle.code_emission.specs.Layout as laid;
 ghost use Rattle.code_emission.specs.Layout.{layout_of};
+ghost use Rattle.code_emission.specs.Statements.{all_stmt_labels};
 ghost use Rattle.code_emission.specs.Units as code;
 ghost use Rattle.unit_bounds.specs.Weights.{ItemsWeigh};
 
 use crate::nodes::{cells, is_entry};
 use crate::statements::{names, statements};
-use crate::sums::{plus, weightless};
+use crate::sums::plus;
 use nss_layout::Layout;
 use nss_tree::Item;
 use nss_typing::{Typed, TypedItem, TypedParameter, TypedStmt};
@@ -30,36 +39,37 @@ fn parameters_cells(layout: &Layout, parameters: &[TypedParameter]) -> Option<u3
     all
 }
 
-/// Whether a frame may have so many cells.
-fn is_depth(depth: Option<u32>) -> bool
-    ensures { IsTrue result → IsSomeAnd depth (λ n. n ≤ depth_limit) }
+/// The weight, where a frame may have so many cells.
+fn bounded(weight: Option<u32>) -> Option<u32>
+    ensures { IfSome result (λ w. (weight ≡ Some w) × (w ≤ depth_limit)) }
 {
-    match depth {
-        None => false,
-        Some(depth) => depth <= DEPTH,
+    let weight = weight?;
+    if weight > DEPTH {
+        return None;
     }
+    Some(weight)
 }
 
-/// Whether a function keeps the bounds.
-fn is_function(
+/// The weight of a function that keeps the bounds: at least the labels of its code.
+fn function_weight(
     bodies: u32,
     layout: &Layout,
     parameters: &[TypedParameter],
     body: &[TypedStmt],
-) -> bool
-    ensures body { IsTrue result
-        → AreStmts bodies layout.now false false (typed_stmts body.now) }
-    ensures depth { IsTrue result
-        → laid.params_cells layout.now.structs parameters.now
-        + all_stmt_weight (typed_stmts body.now) ≤ depth_limit }
+) -> Option<u32>
+    ensures { IfSome result (λ w. AreStmts bodies layout.now false false (typed_stmts body.now)
+        × (laid.params_cells layout.now.structs parameters.now
+        + all_stmt_weight (typed_stmts body.now) ≤ depth_limit)
+        × (1 + all_stmt_labels (typed_stmts body.now) ≤ w)) }
 {
-    is_depth(plus(
+    let frame = plus(
         parameters_cells(layout, parameters),
         statements(bodies, layout, false, false, body),
-    ))
+    );
+    plus(Some(1), bounded(frame))
 }
 
-/// The weight of the globals of an item that keeps the bounds.
+/// The weight of an item that keeps the bounds.
 fn item_weight(bodies: u32, layout: &Layout, item: &TypedItem) -> Option<u32>
     ensures { IfSome result (λ w. (rest : List typed.TypedItem) (v : ℕ) →
         ItemsWeigh bodies layout.now rest v
@@ -78,17 +88,14 @@ fn item_weight(bodies: u32, layout: &Layout, item: &TypedItem) -> Option<u32>
             ..
         } => match body {
             None => Some(0),
-            Some(body) => weightless(is_function(
-                bodies,
-                layout,
-                parameters.as_slice(),
-                body.as_slice(),
-            )),
+            Some(body) => {
+                function_weight(bodies, layout, parameters.as_slice(), body.as_slice())
+            }
         },
     }
 }
 
-/// The weight of the globals of items that keep the bounds.
+/// The weight of items that keep the bounds.
 fn items_weight(bodies: u32, layout: &Layout, items: &[TypedItem]) -> Option<u32>
     ensures { IfSome result (ItemsWeigh bodies layout.now (typed_items items.now)) }
 {
@@ -97,6 +104,20 @@ fn items_weight(bodies: u32, layout: &Layout, items: &[TypedItem]) -> Option<u32
         weight = plus(weight, item_weight(bodies, layout, item));
     }
     weight
+}
+
+/// Whether items keep the bounds.
+fn are_items(bodies: u32, layout: &Layout, items: &[TypedItem]) -> bool
+    ensures items { IsTrue result → AreItems bodies layout.now (typed_items items.now) }
+    ensures globals { IsTrue result → globals_weight (typed_items items.now) ≤ depth_limit }
+    ensures labels { IsTrue result → code.body_count (typed_items items.now)
+        + code.globals_labels (typed_items items.now)
+        + code.functions_labels (typed_items items.now) ≤ depth_limit }
+{
+    match bounded(items_weight(bodies, layout, items)) {
+        None => false,
+        Some(_) => true,
+    }
 }
 
 /// How many bodies an item has.
@@ -127,15 +148,15 @@ fn body_count(items: &[TypedItem]) -> Option<u32>
 }
 
 /// Whether the unit with this layout keeps the bounds that its code needs.
+#[tactic(auto, using(crate::proofs::LabelLaws::start_few))]
 pub fn keeps_bounds(unit: &Typed, layout: &Layout) -> bool
     requires laid { layout.now ≡ layout_of (typed_unit unit.now) }
     ensures kept { IsTrue result → IsBounded (typed_unit unit.now) }
+    ensures few { IsTrue result → (code.unit_code (typed_unit unit.now)).labels < 2 ^ 32 }
 {
     let items = unit.items.as_slice();
     match body_count(items) {
         None => false,
-        Some(bodies) => {
-            is_entry(bodies, unit.entry) && is_depth(items_weight(bodies, layout, items))
-        }
+        Some(bodies) => is_entry(bodies, unit.entry) && are_items(bodies, layout, items),
     }
 }

@@ -1,4 +1,4 @@
-use Rattle.std.proofs.Common.{rules, arith}
+use Rattle.std.proofs.Common.{rules}
 use Rattle.nss_scopes.proofs.EntryLemmas.{heads_more}
 use Rattle.nss_scopes.proofs.heads.push.Goals as goal
 

@@ -1,4 +1,4 @@
-use Rattle.std.proofs.Common.{◌≡◌, ◌∙◌, ◌++◌, ◌∷◌, [], ap, subst, if◌then◌else◌}
+use Rattle.std.proofs.Common.{◌∙◌, ap, subst, if◌then◌else◌}
 use Rattle.std.specs.Str.{bytes_eq}
 use Rattle.nss_scopes.specs.Places.{under}
 use Rattle.nss_scopes.specs.Slots.{flat, HasLast}

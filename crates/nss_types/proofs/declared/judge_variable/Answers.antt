@@ -1,4 +1,4 @@
-use Rattle.std.proofs.Common.{◌≡◌, ◌∙◌, sym, ap, None, Some, Option, refl}
+use Rattle.std.proofs.Common.{◌∙◌, sym, ap, None, Some}
 use Rattle.std.specs.Option.{option_map}
 use Rattle.nss_tree.specs.Reading.{plain_name}
 use Rattle.nss_typing.specs.Nodes.{at, fine, kept}

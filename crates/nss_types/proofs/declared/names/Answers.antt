@@ -1,8 +1,5 @@
-use Rattle.std.proofs.Common.{◌∙◌, arith, refl}
-use Rattle.std.specs.Option.{option_map}
-use Rattle.nss_typing.specs.UnitReading.{typed_name, typed_names}
 use Rattle.nss_types.specs.Views.{heads_in, sight_in}
-use Rattle.nss_types.proofs.RowLemmas.{row_value, row_least, row_sight, row_end_value, row_end_least, row_end_sight}
+use Rattle.nss_types.proofs.RowLemmas.{row_value, row_least, row_sight}
 use Rattle.nss_types.proofs.NameRows.{name_laws}
 use Rattle.nss_types.proofs.declared.names.Goals as goal
 

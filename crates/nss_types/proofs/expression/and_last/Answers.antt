@@ -1,4 +1,4 @@
-use Rattle.std.proofs.Common.{◌∙◌, ap, Some, refl}
+use Rattle.std.proofs.Common.{◌∙◌, ap, Some}
 use Rattle.nss_typing.specs.Reading.{plain_all}
 use Rattle.nss_types.proofs.ArgumentLemmas.{pushed}
 use Rattle.nss_types.proofs.expression.and_last.Goals as goal

@@ -1,4 +1,4 @@
-use Rattle.std.proofs.Common.{◌≡◌, ◌∙◌, ◌++◌, ◌&&◌, Bool, Option, false, is_some, sym, ap, refl}
+use Rattle.std.proofs.Common.{◌∙◌, ◌++◌, ◌&&◌, Bool, Option, false, is_some, sym, ap, refl}
 use Rattle.std.specs.Option.{option_map}
 use Rattle.nss_tree.specs.Reading.{plain_stmts}
 use Rattle.nss_tree.specs.Units as unit

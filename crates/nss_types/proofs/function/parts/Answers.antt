@@ -1,4 +1,4 @@
-use Rattle.std.proofs.Common.{◌≡◌, ◌∙◌, false, sym, ap}
+use Rattle.std.proofs.Common.{◌∙◌, false, ap}
 use Rattle.std.specs.Option.{option_map}
 use Rattle.nss_tree.specs.Reading.{plain_stmts}
 use Rattle.nss_typing.specs.Nodes.{asked, at, fine, kept, three}

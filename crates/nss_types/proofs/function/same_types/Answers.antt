@@ -1,4 +1,3 @@
-use Rattle.std.proofs.Common.{arith}
 use Rattle.nss_types.proofs.FunctionLemmas.{unequal_types}
 use Rattle.nss_types.proofs.function.same_types.Goals as goal
 

@@ -1,4 +1,3 @@
-use Rattle.std.proofs.Common.{◌∙◌}
 use Rattle.nss_scopes.specs.Views.{in_sight}
 use Rattle.nss_typing.specs.Verdicts.{late_after, parameter_declared}
 use Rattle.nss_types.proofs.ParameterRows.{pair_is, param_laws, params_sight}

@@ -1,6 +1,6 @@
-use Rattle.std.proofs.Common.{◌≡◌, ◌∙◌, true, false, ap, sym, refl, arith, rules}
-use Rattle.nss_tree.specs.Reading.{tree_of_stmt, tree_of_stmts}
-use Rattle.nss_tree.specs.Readings.{tree_block, tree_do_loop, tree_for_loop, tree_if_else, tree_if_only, tree_switch, tree_while_loop}
+use Rattle.std.proofs.Common.{◌≡◌, ◌∙◌, true, false, ap, refl, arith, rules}
+use Rattle.nss_tree.specs.Reading.{tree_of_stmt}
+use Rattle.nss_tree.specs.Readings.{tree_do_loop, tree_for_loop, tree_if_else, tree_switch, tree_while_loop}
 use Rattle.nss_typing.specs.Returns.{has_break, have_break}
 use Rattle.nss_types.proofs.ReturnLemmas.{any_end, any_here, any_next, or_else, or_then}
 use Rattle.nss_types.proofs.returns.+breaks.Goals as goal

@@ -1,7 +1,7 @@
-use Rattle.std.proofs.Common.{◌≡◌, ◌∙◌, true, false, ap, sym, refl, arith, rules, if◌then◌else◌}
+use Rattle.std.proofs.Common.{◌≡◌, ◌∙◌, true, false, ap, refl, arith, rules, if◌then◌else◌}
 use Rattle.nss_tree.specs.Reading.{tree_of_stmt, tree_of_stmts}
-use Rattle.nss_tree.specs.Readings.{tree_block, tree_do_loop, tree_for_loop, tree_if_else, tree_if_only, tree_switch, tree_while_loop}
-use Rattle.nss_typing.specs.Returns.{is_statement, last_returns, returns, some_returns}
+use Rattle.nss_tree.specs.Readings.{tree_for_loop, tree_if_else, tree_if_only, tree_while_loop}
+use Rattle.nss_typing.specs.Returns.{is_statement, returns, some_returns}
 use Rattle.nss_types.proofs.ReturnLemmas.{and_else, and_then, any_end, any_here, any_next, last_begin, last_end, last_next}
 use Rattle.nss_types.proofs.returns.+returns.Goals as goal
 

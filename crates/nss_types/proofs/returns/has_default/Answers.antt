@@ -1,5 +1,4 @@
-use Rattle.std.proofs.Common.{◌≡◌, ◌∙◌, true, false, ap, sym, refl, arith, rules}
-use Rattle.nss_tree.specs.Reading.{tree_of_stmt, tree_of_stmts}
+use Rattle.std.proofs.Common.{◌≡◌, true, false, refl, arith, rules}
 use Rattle.nss_typing.specs.Returns.{has_default, is_default}
 use Rattle.nss_types.proofs.ReturnLemmas.{any_end, any_here, any_next}
 use Rattle.nss_types.proofs.returns.has_default.Goals as goal

@@ -11,7 +11,7 @@ statement-returns-in-Block t c =
     block_arm c.args.bodies c.args.layout.now c.args.breaks c.args.continues c.args.stmt.now c.in-Block.token c.in-Block.items.items c.as_slice.result.now c.statements.result (tree_block _ _ _ c.in-Block.is) c.as_slice.ensures.value c.statements.ensures
 
 pub statement-returns-in-Empty : goal.statement-returns-in-Empty
-statement-returns-in-Empty t c = nothing_arm c.args.bodies c.args.layout.now c.args.breaks c.args.continues c.args.stmt.now (empty c.in-Empty.token) (tree_empty _ _ c.in-Empty.is) tt refl
+statement-returns-in-Empty t c = nothing_arm c.args.bodies c.args.layout.now c.args.breaks c.args.continues c.args.stmt.now (empty c.in-Empty.token) 0 (tree_empty _ _ c.in-Empty.is) tt refl refl
 
 pub statement-returns-in-Expression : goal.statement-returns-in-Expression
 statement-returns-in-Expression t c =
@@ -41,9 +41,10 @@ statement-returns-in-Do t c =
 
 pub statement-returns-in-For : goal.statement-returns-in-For
 statement-returns-in-For t c =
-    for_arm c.args.bodies c.args.layout.now c.args.breaks c.args.continues c.args.stmt.now c.in-For.token c.in-For.start c.in-For.condition c.in-For.step c.in-For.body.value c.deref-in-For.result.now c.part.result c.part-in-For.result c.plus-in-For.result
-    c.part-in-For-2.result c.plus-in-For-2.result c.statement-in-For.result c.plus-in-For-3.result (tree_for_loop _ _ _ _ _ _ c.in-For.is) c.deref-in-For.ensures c.part.ensures c.part-in-For.ensures
-    c.plus-in-For.ensures c.part-in-For-2.ensures c.plus-in-For-2.ensures c.statement-in-For.ensures c.plus-in-For-3.ensures
+    for_arm c.args.bodies c.args.layout.now c.args.breaks c.args.continues c.args.stmt.now c.in-For.token c.in-For.start c.in-For.condition c.in-For.step c.in-For.body.value
+    c.deref-in-For.result.now c.part.result c.plus-in-For.result c.part-in-For.result c.plus-in-For-2.result c.part-in-For-2.result c.plus-in-For-3.result c.statement-in-For.result
+    c.plus-in-For-4.result (tree_for_loop _ _ _ _ _ _ c.in-For.is) c.deref-in-For.ensures c.part.ensures c.plus-in-For.ensures c.part-in-For.ensures c.plus-in-For-2.ensures c.part-in-For-2.ensures
+    c.plus-in-For-3.ensures c.statement-in-For.ensures c.plus-in-For-4.ensures
 
 pub statement-returns-in-Switch : goal.statement-returns-in-Switch
 statement-returns-in-Switch t c =
@@ -53,12 +54,12 @@ statement-returns-in-Switch t c =
 
 pub statement-returns-in-Break : goal.statement-returns-in-Break
 statement-returns-in-Break t c =
-    kept_arm c.args.bodies c.args.layout.now c.args.breaks c.args.continues c.args.breaks c.args.stmt.now (break_off c.in-Break.token) c.weightless.result (tree_break_off _ _ c.in-Break.is) (λ f. f) refl c.weightless.ensures
+    kept_arm c.args.bodies c.args.layout.now c.args.breaks c.args.continues c.args.breaks c.args.stmt.now (break_off c.in-Break.token) 0 c.if_kept.result (tree_break_off _ _ c.in-Break.is) (λ f. f) refl refl c.if_kept.ensures
 
 pub statement-returns-in-Continue : goal.statement-returns-in-Continue
 statement-returns-in-Continue t c =
-    kept_arm c.args.bodies c.args.layout.now c.args.breaks c.args.continues c.args.continues c.args.stmt.now (continue_on c.in-Continue.token) c.weightless-in-Continue.result (tree_continue_on _ _ c.in-Continue.is) (λ f. f) refl
-    c.weightless-in-Continue.ensures
+    kept_arm c.args.bodies c.args.layout.now c.args.breaks c.args.continues c.args.continues c.args.stmt.now (continue_on c.in-Continue.token) 0 c.if_kept-in-Continue.result (tree_continue_on _ _ c.in-Continue.is) (λ f. f) refl refl
+    c.if_kept-in-Continue.ensures
 
 pub statement-returns-in-Return : goal.statement-returns-in-Return
 statement-returns-in-Return t c =
@@ -71,11 +72,11 @@ statement-returns-in-Declaration t c =
 
 pub statement-returns-in-Case : goal.statement-returns-in-Case
 statement-returns-in-Case t c =
-    kept_arm c.args.bodies c.args.layout.now c.args.breaks c.args.continues c.is_constant.result c.args.stmt.now (case_label c.in-Case.token c.in-Case.value) c.weightless-in-Case.result (tree_case_label _ _ _ c.in-Case.is) c.is_constant.ensures refl
-    c.weightless-in-Case.ensures
+    kept_arm c.args.bodies c.args.layout.now c.args.breaks c.args.continues c.is_constant.result c.args.stmt.now (case_label c.in-Case.token c.in-Case.value) 1 c.if_kept-in-Case.result (tree_case_label _ _ _ c.in-Case.is) c.is_constant.ensures refl refl
+    c.if_kept-in-Case.ensures
 
 pub statement-returns-in-Default : goal.statement-returns-in-Default
-statement-returns-in-Default t c = nothing_arm c.args.bodies c.args.layout.now c.args.breaks c.args.continues c.args.stmt.now (default_label c.in-Default.token) (tree_default_label _ _ c.in-Default.is) tt refl
+statement-returns-in-Default t c = nothing_arm c.args.bodies c.args.layout.now c.args.breaks c.args.continues c.args.stmt.now (default_label c.in-Default.token) 1 (tree_default_label _ _ c.in-Default.is) tt refl refl
 
 pub statements-loop-stmt-preserved : goal.statements-loop-stmt-preserved
 statements-loop-stmt-preserved t c =

@@ -1,7 +1,5 @@
-use Rattle.std.proofs.Common.{◌∙◌, ap, None, Some, Option, slice_get, Bor}
-use Rattle.std.specs.Option.{option_map, option_copied}
-use Rattle.nss_typing.specs.Sight as sight
-use Rattle.nss_scopes.specs.declared.heads.Head.{Head}
+use Rattle.std.proofs.Common.{◌∙◌, ap, None, Some, slice_get}
+use Rattle.std.specs.Option.{option_map}
 use Rattle.nss_scopes.specs.Entries.{head_of}
 use Rattle.nss_scopes.proofs.EntryLemmas.{head_is, lent_map}
 use Rattle.nss_scopes.proofs.heads.Heads.find.Goals as goal

@@ -1,4 +1,4 @@
-use Rattle.std.proofs.Common.{◌≡◌, ◌∙◌, sym, ap, None, Some, Option, slice_get, rules}
+use Rattle.std.proofs.Common.{◌≡◌, ◌∙◌, ap, None, Some, Option, slice_get}
 use Rattle.std.specs.Option.{option_map}
 use Rattle.nss_typing.specs.Sight as sight
 use Rattle.nss_scopes.specs.Slots.{entry_in}

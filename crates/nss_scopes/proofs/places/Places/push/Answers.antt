@@ -1,4 +1,4 @@
-use Rattle.std.proofs.Common.{◌∙◌, sym, rules}
+use Rattle.std.proofs.Common.{rules}
 use Rattle.nss_scopes.proofs.PlaceLemmas.{first_old}
 use Rattle.nss_scopes.proofs.places.Places.push.Goals as goal
 

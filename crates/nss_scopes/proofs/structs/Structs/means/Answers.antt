@@ -1,4 +1,4 @@
-use Rattle.std.proofs.Common.{◌∙◌, ap, slice_get, Some}
+use Rattle.std.proofs.Common.{◌∙◌, ap, slice_get}
 use Rattle.nss_scopes.proofs.EntryLemmas.{is_within, means_found, means_missing, nothing_there}
 use Rattle.nss_scopes.proofs.structs.Structs.means.Goals as goal
 

@@ -1,0 +1,6 @@
+mod SourceLemmas
+mod PlanLemmas
+mod AreaLemmas
+mod ZeroLaws
+mod DigitLemmas
+mod ReadLemmas
