@@ -61,7 +61,7 @@ pub fn show_tree<F: Files, S: Sink>(
 
 /// Writes a file, and puts the line that tells what was done to it, with a number.
 #[tactic(auto, using(crate::proofs::Steps::steps), unfolding(crate::specs::Commands::writes_and_puts))]
-fn write_and_put<F: Files, S: Sink>(
+pub fn write_and_put<F: Files, S: Sink>(
     alloc: Global,
     to: &str,
     bytes: &[u8],

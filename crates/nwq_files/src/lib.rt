@@ -16,5 +16,5 @@ mod tree;
 
 pub use assembly::read_assembly;
 pub use code::read_code;
-pub use commands::{assemble_file, disassemble_file, show_tree};
+pub use commands::{assemble_file, disassemble_file, show_tree, write_and_put};
 pub use tree::read_tree;

@@ -1,1 +1,4 @@
 mod OneScript
+mod Steps
+mod TypingLemmas
+mod FileLemmas

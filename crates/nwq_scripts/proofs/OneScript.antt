@@ -10,6 +10,7 @@ use Rattle.nss_typing.specs.Typed.{TypedUnit}
 use Rattle.nss_typing.specs.Meaning.{TypesUnit, FaultInUnit}
 use Rattle.nss_typing.specs.Verdicts.{unit_faults}
 use Rattle.nss_typing.specs.Laws.{OneTyped, TypedIsFaultless, LeastIsKept}
+use Rattle.nss_include.specs.declared.file.Source.{Source}
 use Rattle.code_emission.specs.Units.{unit_file}
 use Rattle.nwq_work.specs.Outcomes.{IsSure, sure_then, sure_puts, sure_writes}
 use Rattle.nwq_sources.specs.Headers.{table_of}
@@ -46,17 +47,17 @@ pub sure_typed : OneTyped → TypedIsFaultless → LeastIsKept → SureTyped
 unfolding typed_in
 sure_typed one faultless least header script = (λ c a b p q. one_fate one faultless least header script.tree p q, sure_by script)
 
-sure_size : (script : PlainScript) (large : Bool) (file : List ℕ) → IsSure (file_by script large file)
-sure_size script true file = tt
-sure_size script false file = tt
+sure_size : (files : List Source) (large : Bool) (file : List ℕ) → IsSure (file_by files large file)
+sure_size files true file = tt
+sure_size files false file = tt
 
-sure_file : (script : PlainScript) (unit : TypedUnit) → IsSure (file_in script unit)
+sure_file : (files : List Source) (unit : TypedUnit) → IsSure (file_in files unit)
 unfolding file_in
-sure_file script unit = sure_size script (nat_lt file_limit (length (unit_file unit))) (unit_file unit)
+sure_file files unit = sure_size files (nat_lt file_limit (length (unit_file unit))) (unit_file unit)
 
 sure_compiled_in : SureTyped → (header : EngineTable) (script : PlainScript) → IsSure (compiled_in header script)
 unfolding compiled_in
-sure_compiled_in typed header script = sure_then (typed_in header script) (file_in script) (typed header script) (sure_file script)
+sure_compiled_in typed header script = sure_then (typed_in header script) (file_in script.files) (typed header script) (sure_file script.files)
 
 pub sure_compiled : SureUnits → SureTyped → SureCompiled
 unfolding compiled_named

@@ -1,29 +1,37 @@
 -- A script that is compiled: its file of bytecode, and the command that writes it.
-use Rattle.std.specs.Prelude.{ℕ, Bool, true, false, nat_lt, List, length, ◌++◌, codes}
+use Rattle.std.specs.Prelude.{◌<◌, ℕ, Bool, true, false, nat_lt, List, length, ◌++◌, None, codes}
 use Rattle.nwq_value.specs.Limits.{file_limit}
 use Rattle.nwq_value.specs.Engine.{EngineTable}
 use Rattle.nss_typing.specs.Typed.{TypedUnit}
+use Rattle.nss_include.specs.declared.file.Source.{Source}
 use Rattle.code_emission.specs.Units.{unit_file}
+use Rattle.ncs_emit.specs.declared.fault.EmitFault.{EmitFault}
+use Rattle.ncs_emit.specs.declared.fault.EmitFault.TheVariants.{Large, NoMemory}
 use Rattle.nwq_work.specs.declared.cause.Cause.TheVariants as cause
 use Rattle.nwq_work.specs.Work.{Work, Gives, Refused, then, Finished}
 use Rattle.nwq_sources.specs.Headers.{table_of}
-use Rattle.nwq_sources.specs.Units.{PlainScript, at_token, unit_of}
+use Rattle.nwq_sources.specs.Units.{PlainScript, at_spot, spot_of, unit_of}
 use Rattle.nwq_files.specs.Commands.{writes_and_puts}
 use Rattle.nwq_files.specs.Texts.{done_line}
 use Rattle.nwq_scripts.specs.Typings.{typed_in}
 
--- a unit whose file would be too large is refused at the end of the script's own file
-abbrev pub file_by : PlainScript → Bool → List ℕ → Work (List ℕ)
-file_by script true file = Refused (at_token script (length script.tokens) cause.Large)
-file_by script false file = Gives file
+-- why a file isn't made: it would be larger than a file may be, or memory was wanted
+abbrev pub IsTooLarge : List ℕ → EmitFault → Type 0
+IsTooLarge file (Large size) = file_limit < length file
+IsTooLarge file NoMemory = Unit {0}
 
--- the file of a script's typed unit
-unfoldable pub file_in : PlainScript → TypedUnit → Work (List ℕ)
-file_in script unit = file_by script (nat_lt file_limit (length (unit_file unit))) (unit_file unit)
+-- a unit whose file would be too large is refused at the end of the script's own file
+abbrev pub file_by : List Source → Bool → List ℕ → Work (List ℕ)
+file_by files true file = Refused (at_spot cause.Large (spot_of files None))
+file_by files false file = Gives file
+
+-- the file of a typed unit, whose tokens stand in these files
+unfoldable pub file_in : List Source → TypedUnit → Work (List ℕ)
+file_in files unit = file_by files (nat_lt file_limit (length (unit_file unit))) (unit_file unit)
 
 -- the file of a script under a header
 unfoldable pub compiled_in : EngineTable → PlainScript → Work (List ℕ)
-compiled_in header script = then (typed_in header script) (file_in script)
+compiled_in header script = then (typed_in header script) (file_in script.files)
 
 unfoldable pub compiled_named : EngineTable → List ℕ → Work (List ℕ)
 compiled_named header name = then (unit_of name) (compiled_in header)

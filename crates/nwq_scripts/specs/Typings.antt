@@ -3,17 +3,25 @@ use Rattle.std.specs.Prelude.{◌≡◌, ℕ, None, Some, Result, Ok, Err}
 use Rattle.nwq_value.specs.Engine.{EngineTable}
 use Rattle.nwq_outside.specs.Outside.{Contents}
 use Rattle.nss_tree.specs.Source.{SourceTree}
+use Rattle.nss_include.specs.View.{Gathered}
 use Rattle.nss_typing.specs.declared.fault.Fault.{Fault}
 use Rattle.nss_typing.specs.declared.fault.FaultKind.{FaultKind}
 use Rattle.nss_typing.specs.declared.fault.FaultKind.TheVariants as kind
 use Rattle.nss_typing.specs.Nodes.{kept}
+use Rattle.nss_typing.specs.UnitReading.{typed_unit}
 use Rattle.nss_typing.specs.Typed.{TypedUnit}
 use Rattle.nss_typing.specs.Meaning.{TypesUnit}
 use Rattle.nss_typing.specs.Verdicts.{unit_faults}
 use Rattle.nwq_work.specs.declared.cause.Cause.{Cause}
 use Rattle.nwq_work.specs.declared.cause.Cause.TheVariants as cause
+use Rattle.nwq_work.specs.declared.status.Status.{Status}
 use Rattle.nwq_work.specs.Work.{Work, Gives, Refused, Finds}
 use Rattle.nwq_sources.specs.Units.{PlainScript, at_token}
+use Rattle.nwq_scripts.specs.declared.script.TypedScript.{TypedScript}
+
+-- the script of a unit whose tree is this
+abbrev pub script_of : Gathered → SourceTree → PlainScript
+script_of unit tree = record { tokens = unit.tokens; files = unit.files; tree = tree }
 
 abbrev pub cause_of : FaultKind → Cause
 cause_of kind.RefusedType = cause.RefusedType
@@ -45,3 +53,8 @@ typing_by script (Faulty fault) = Refused (at_token script fault.token (cause_of
 -- the typed unit of a script under a header
 unfoldable pub typed_in : EngineTable → PlainScript → Work TypedUnit
 typed_in header script = Finds (λ (c : Contents) fate. IsTypingFate header script.tree fate) (typing_by script)
+
+-- an answer, its script seen as the typed unit
+abbrev pub plain_answer : Result TypedScript Status → Result TypedUnit Status
+plain_answer (Ok script) = Ok (typed_unit script.typed)
+plain_answer (Err status) = Err status

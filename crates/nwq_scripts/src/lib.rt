@@ -7,4 +7,11 @@
 //! commands are is docs/COMMANDS.md, what types are docs/TYPES.md, what the code is docs/CODE.md.
 #![tactic(auto)]
 
+mod file;
 pub mod laws;
+mod script;
+mod typing;
+
+pub use file::{compile_file, compile_script, read_compiled};
+pub use script::TypedScript;
+pub use typing::type_script;

@@ -13,4 +13,4 @@ mod unit;
 
 pub use header::read_table;
 pub use script::Script;
-pub use unit::read_unit;
+pub use unit::{read_unit, refuse_end, refuse_token};

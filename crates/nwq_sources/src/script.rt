@@ -1,4 +1,6 @@
-ghost use Rattle.std.specs.Prelude.{◌<◌, length};
+ghost use Rattle.std.specs.Prelude.{◌<◌, ◌≤◌, length};
+ghost use Rattle.nss_tree.specs.Reading.{plain_tree};
+ghost use Rattle.nwq_value.specs.Limits.{token_limit};
 
 use nss_include::Unit;
 use nss_tree::Tree;
@@ -10,4 +12,5 @@ pub struct Script {
     pub tree: Tree,
     // The script's own file is among the unit's.
     ghost some: { 0 < length unit.files },
+    ghost few: { (plain_tree tree).count ≤ token_limit },
 }

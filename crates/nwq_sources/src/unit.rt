@@ -1,8 +1,9 @@
-ghost use Rattle.std.specs.Prelude.{◌≡◌, ◌<◌, ℕ, List, length, map, slice_get, IsTrue, IfErr, IfOk};
+ghost use Rattle.std.specs.Prelude.{◌≡◌, ◌<◌, ◌≤◌, ℕ, List, length, map, slice_get, IsTrue, IfErr, IfOk};
 ghost use Rattle.std.specs.Prelude.{Err, Some, None};
 ghost use Rattle.std.specs.FinMap as fin_map;
 ghost use Rattle.nwq_outside.specs.Outside.{Contents};
 ghost use Rattle.nss_include.specs.Units.{IsUnit};
+ghost use Rattle.nwq_value.specs.Limits.{token_limit};
 ghost use Rattle.nss_tree.specs.Reading.{plain_tree};
 ghost use Rattle.nss_include.specs.Gather.{Gathers, CountsGathered};
 ghost use Rattle.nwq_work.specs.Work.{Does};
@@ -10,7 +11,7 @@ ghost use Rattle.nwq_work.specs.Parts.{Refuses};
 ghost use Rattle.nwq_work.specs.Counts.{Counted, Tallies, TalliesEnd, Refusing, StopsSource};
 ghost use Rattle.nwq_sources.specs.Reading.{HasFault, HasTree, IsCounted};
 ghost use Rattle.nwq_sources.specs.Scripts.{plain_script, plain_answer};
-ghost use Rattle.nwq_sources.specs.Units.{spot_at, at_spot, at_token, unit_of};
+ghost use Rattle.nwq_sources.specs.Units.{spot_at, spot_of, at_spot, at_token, unit_of};
 
 use crate::script::Script;
 use nss_include::{GatherFault, Spot, Unit, gather};
@@ -68,7 +69,13 @@ fn refuse_spot<S: Sink>(alloc: Global, cause: Cause, spot: &Spot, out: &mut S) -
 
 /// Refuses a unit at token `i`, or, where there is none, at the end of the script's file.
 #[tactic(auto, using(crate::proofs::UnitLemmas::cut_refuses))]
-fn refuse_token<S: Sink>(alloc: Global, unit: &Unit, i: usize, cause: Cause, out: &mut S) -> Status
+pub fn refuse_token<S: Sink>(
+    alloc: Global,
+    unit: &Unit,
+    i: usize,
+    cause: Cause,
+    out: &mut S,
+) -> Status
     requires { 0 < length unit.now.files }
     ensures does { IsTrue S.tells →
         Refuses (at_spot cause (spot_at unit.now.files unit.now.tokens i))
@@ -79,6 +86,23 @@ fn refuse_token<S: Sink>(alloc: Global, unit: &Unit, i: usize, cause: Cause, out
     ensures only { Refusing Status.Script result }
 {
     match spot_of(alloc, unit, i) {
+        Err(NoMemory) => Status::Memory,
+        Ok(spot) => refuse_spot(alloc, cause, &spot, out),
+    }
+}
+
+/// Refuses a unit at the end of the script's own file.
+#[tactic(auto, using(crate::proofs::UnitLemmas::cut_refuses))]
+pub fn refuse_end<S: Sink>(alloc: Global, unit: &Unit, cause: Cause, out: &mut S) -> Status
+    requires { 0 < length unit.now.files }
+    ensures does { IsTrue S.tells → Refuses (at_spot cause (spot_of unit.now.files None))
+        (S.taken out.old) result (S.taken out.new) }
+    ensures counts { (faults absences longs : ℕ) → TalliesEnd result
+        (Counted faults absences longs (S.faults out.old))
+        (Counted faults absences longs (S.faults out.new)) }
+    ensures only { Refusing Status.Script result }
+{
+    match unit.spot(alloc, 0, unit.file_bytes(0).len() as u32) {
         Err(NoMemory) => Status::Memory,
         Ok(spot) => refuse_spot(alloc, cause, &spot, out),
     }
@@ -112,6 +136,7 @@ fn refuse_gather<S: Sink>(alloc: Global, fault: GatherFault, out: &mut S) -> Sta
 #[tactic(auto, using(crate::proofs::PlaceLemmas::seen_same))]
 fn tree_of(alloc: Global, unit: &Unit) -> Result<Tree, ParseFault>
     ensures tree { IfOk result (λ tree. HasTree unit.now (plain_tree tree)) }
+    ensures few { IfOk result (λ tree. (plain_tree tree).count ≤ token_limit) }
     ensures refused { IfErr result (HasFault unit.now) }
 {
     let tokens = unit.tokens(alloc)?;

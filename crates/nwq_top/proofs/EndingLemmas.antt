@@ -3,8 +3,8 @@ use Rattle.nwq_work.specs.declared.status.Status.{Status}
 use Rattle.nwq_work.specs.declared.status.Status.TheVariants.{Done, Words, Script, Code, Area, Limit, Missing, Fault, Memory, Long}
 use Rattle.nwq_work.specs.Counts.{StopsSource, StopsCode, StopsArea}
 use Rattle.nwq_checks.specs.Checks.{StopsCheck}
-use Rattle.nwq_top.specs.Words.{Form, Run, Tree, Check, Disassemble, Assemble, NoForm}
-use Rattle.nwq_top.specs.Endings.{EndsRun, EndsTree, EndsCheck, EndsCode, ComesOf, StopsCommand}
+use Rattle.nwq_top.specs.Words.{Form, Run, Compile, Tree, Check, Disassemble, Assemble, NoForm}
+use Rattle.nwq_top.specs.Endings.{EndsRun, EndsCompile, EndsTree, EndsCheck, EndsCode, ComesOf, StopsCommand}
 
 source_ends : (status : Status) → StopsSource status → EndsRun status
 source_ends Done h = tt
@@ -17,6 +17,18 @@ source_ends Missing h = h
 source_ends Fault h = h
 source_ends Memory h = h
 source_ends Long h = h
+
+compile_ends : (status : Status) → StopsSource status → EndsCompile status
+compile_ends Done h = tt
+compile_ends Words h = h
+compile_ends Script h = h
+compile_ends Code h = h
+compile_ends Area h = h
+compile_ends Limit h = h
+compile_ends Missing h = h
+compile_ends Fault h = h
+compile_ends Memory h = h
+compile_ends Long h = h
 
 area_ends : (status : Status) → StopsArea status → EndsTree status
 area_ends Done h = tt
@@ -56,6 +68,7 @@ check_ends Long h = h
 
 pub stops_come : (form : Form) (status : Status) → StopsCommand form status → ComesOf form status
 stops_come (Run header script) status h = source_ends status h
+stops_come (Compile header script) status h = compile_ends status h
 stops_come (Tree file) status h = area_ends status h
 stops_come (Check header file) status h = check_ends status h
 stops_come (Disassemble file to) status h = code_ends status h

@@ -11,7 +11,7 @@ use Rattle.nwq_work.specs.Refusal.{line_of, Absent, TooLong, At, BadCode, BadAre
 use Rattle.nwq_sums.specs.Meaning.{prints_of}
 use Rattle.nwq_files.specs.Texts.{disassembled_line, assembled_line}
 use Rattle.nwq_top.specs.Texts.{trace_text, end_text}
-use Rattle.nwq_top.specs.Words.{form_of, Run, Tree, Disassemble, Assemble, NoForm}
+use Rattle.nwq_top.specs.Words.{form_of, Run, Compile, Tree, Disassemble, Assemble, NoForm}
 
 -- texts
 trace_of_sum : trace_text (prints_of ((2 ∷ 3 ∷ []) ∷ [])) ++ end_text 7 ≡ codes "0 #0 print 5\nend done clock 0 entries 1 instructions 7\n"
@@ -64,6 +64,9 @@ built_in_header = refl
 
 header_file : form_of (codes "run" ∷ codes "h.nss" ∷ codes "p" ∷ []) ≡ Run (codes "h.nss") (codes "p")
 header_file = refl
+
+compile_words : form_of (codes "compile" ∷ codes "-" ∷ codes "p" ∷ []) ≡ Compile (codes "-") (codes "p")
+compile_words = refl
 
 short_words : form_of (codes "run" ∷ codes "-" ∷ []) ≡ NoForm
 short_words = refl

@@ -17,8 +17,10 @@ use Rattle.nwq_sums.specs.Emission.{code_of}
 use Rattle.nwq_sums.specs.Machine.{RunsTo}
 use Rattle.nwq_checks.specs.Checks.{checks}
 use Rattle.nwq_files.specs.Commands.{shows_tree, disassembles, assembles}
+use Rattle.nwq_scripts.specs.Typings.{typed_in}
+use Rattle.nwq_scripts.specs.Files.{code_name, compiles}
 use Rattle.nwq_top.specs.Texts.{trace_text, end_text}
-use Rattle.nwq_top.specs.Words.{Form, Run, Tree, Check, Disassemble, Assemble, NoForm}
+use Rattle.nwq_top.specs.Words.{Form, Run, Compile, Tree, Check, Disassemble, Assemble, NoForm}
 
 -- The play of sums: the text is what they mean, with the number of instructions that the machine executes on their code.
 unfoldable pub plays : ℕ → List (List ℕ) → Work Finished
@@ -33,9 +35,13 @@ play_by script (NotBuilt i) = Refused (at_token script i not_built)
 unfoldable pub play_of : EngineTable → PlainScript → Work Finished
 play_of table script = Finds (λ (c : Contents) built. Builds table (symbols script.tokens) built) (play_by script)
 
+-- a script is typed before it is played
+unfoldable pub typed_play_of : EngineTable → PlainScript → Work Finished
+typed_play_of table script = then (typed_in table script) (λ unit. play_of table script)
+
 -- a script is read and played under a header
 unfoldable pub runs_under : List ℕ → EngineTable → Work Finished
-runs_under script table = then (unit_of script) (play_of table)
+runs_under script table = then (unit_of script) (typed_play_of table)
 
 unfoldable pub runs : List ℕ → List ℕ → Work Finished
 runs header script = then (table_of header) (runs_under script)
@@ -43,6 +49,7 @@ runs header script = then (table_of header) (runs_under script)
 -- the work of each form of words, where cells of tables are looked up so
 abbrev pub work_of : CellLookup → Form → Work Finished
 work_of cell (Run header script) = runs header script
+work_of cell (Compile header script) = compiles header script
 work_of cell (Tree file) = shows_tree file
 work_of cell (Check header file) = checks header file
 work_of cell (Disassemble file to) = disassembles file to
@@ -52,6 +59,7 @@ work_of cell NoForm = Refused refusal.NoForm
 -- which names a command may write
 abbrev pub MayWrite : Form → List ℕ → Type 0
 MayWrite (Run header script) name = ⊥
+MayWrite (Compile header script) name = name ≡ code_name script
 MayWrite (Tree file) name = ⊥
 MayWrite (Check header file) name = ⊥
 MayWrite (Disassemble file to) name = name ≡ to

@@ -5,7 +5,7 @@ use Rattle.nwq_work.specs.declared.status.Status.TheVariants.{Done, Words, Fault
 use Rattle.nwq_work.specs.Work.{Finished}
 use Rattle.nwq_work.specs.Counts.{StopsSource, StopsCode, StopsArea}
 use Rattle.nwq_checks.specs.Checks.{StopsCheck}
-use Rattle.nwq_top.specs.Words.{Form, Run, Tree, Check, Disassemble, Assemble, NoForm}
+use Rattle.nwq_top.specs.Words.{Form, Run, Compile, Tree, Check, Disassemble, Assemble, NoForm}
 
 abbrev pub EndsWords : Status → Type 0
 EndsWords Words = Unit {0}
@@ -16,6 +16,10 @@ EndsWords _ = ⊥
 abbrev pub EndsRun : Status → Type 0
 EndsRun Done = Unit {0}
 EndsRun status = StopsSource status
+
+abbrev pub EndsCompile : Status → Type 0
+EndsCompile Done = Unit {0}
+EndsCompile status = StopsSource status
 
 abbrev pub EndsTree : Status → Type 0
 EndsTree Done = Unit {0}
@@ -32,6 +36,7 @@ EndsCode status = StopsCode status
 -- one table: the status may come of this form
 abbrev pub ComesOf : Form → Status → Type 0
 ComesOf (Run header script) status = EndsRun status
+ComesOf (Compile header script) status = EndsCompile status
 ComesOf (Tree file) status = EndsTree status
 ComesOf (Check header file) status = EndsCheck status
 ComesOf (Disassemble file to) status = EndsCode status
@@ -41,6 +46,7 @@ ComesOf NoForm status = EndsWords status
 -- the same of a command's answer, in which `Done` is no error
 abbrev pub StopsCommand : Form → Status → Type 0
 StopsCommand (Run header script) status = StopsSource status
+StopsCommand (Compile header script) status = StopsSource status
 StopsCommand (Tree file) status = StopsArea status
 StopsCommand (Check header file) status = StopsCheck status
 StopsCommand (Disassemble file to) status = StopsCode status

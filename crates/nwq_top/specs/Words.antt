@@ -6,6 +6,7 @@ use Rattle.nwq_top.specs.declared.words.Command.TheVariants as command
 
 pub data Form : Type 0 where
   Run : (header script : List ℕ) → Form  -- the header is a file's name, or `-` for the built-in one
+  Compile : (header script : List ℕ) → Form  -- the header as for `Run`
   Tree : (file : List ℕ) → Form
   Check : (header file : List ℕ) → Form  -- the header as for `Run`
   Disassemble : (file to : List ℕ) → Form
@@ -32,6 +33,9 @@ is_option (b ∷ more) = b == 45
 abbrev pub run_form : List ℕ → List ℕ → Form
 run_form header script = cond (is_script_name script) (Run header script) NoForm
 
+abbrev pub compile_form : List ℕ → List ℕ → Form
+compile_form header script = cond (is_script_name script) (Compile header script) NoForm
+
 -- a command and one word
 abbrev pub one_word_form : List ℕ → List ℕ → Form
 one_word_form command file = cond (bytes_eq command (codes "tree")) (Tree file) NoForm
@@ -40,9 +44,10 @@ one_word_form command file = cond (bytes_eq command (codes "tree")) (Tree file) 
 abbrev pub two_word_form : List ℕ → List ℕ → List ℕ → Form
 two_word_form command first second =
     cond (bytes_eq command (codes "run")) (run_form first second)
+    (cond (bytes_eq command (codes "compile")) (compile_form first second)
     (cond (bytes_eq command (codes "check")) (Check first second)
     (cond (bytes_eq command (codes "dis")) (Disassemble first second)
-    (cond (bytes_eq command (codes "asm")) (Assemble first second) NoForm)))
+    (cond (bytes_eq command (codes "asm")) (Assemble first second) NoForm))))
 
 -- which command these words are, by the first of them
 abbrev pub command_form : List (List ℕ) → Form
@@ -58,6 +63,7 @@ form_of words = cond (list_any is_option words) NoForm (command_form words)
 abbrev pub IsCommand : Command → Form → Type 0
 IsCommand command.NoForm form = form ≡ NoForm
 IsCommand (command.Run header script) form = form ≡ Run header.now script.now
+IsCommand (command.Compile header script) form = form ≡ Compile header.now script.now
 IsCommand (command.Tree file) form = form ≡ Tree file.now
 IsCommand (command.Check header file) form = form ≡ Check header.now file.now
 IsCommand (command.Disassemble file to) form = form ≡ Disassemble file.now to.now

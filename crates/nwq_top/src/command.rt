@@ -12,6 +12,7 @@ use hook_table::Hooks;
 use nwq_checks::check_file;
 use nwq_files::{assemble_file, disassemble_file, show_tree};
 use nwq_outside::{Files, Sink};
+use nwq_scripts::compile_file;
 use nwq_work::{Status, refuse_form};
 use std::alloc::Global;
 
@@ -41,6 +42,7 @@ pub fn command<F: Files, S: Sink>(
     match command_of(words) {
         Command::NoForm => Err(refuse_form(alloc, out)),
         Command::Run(header, script) => run(alloc, header, script, files, out),
+        Command::Compile(header, script) => compile_file(alloc, header, script, files, out),
         Command::Tree(file) => show_tree(alloc, file, files, out),
         Command::Check(header, file) => check_file(alloc, header, file, files, out),
         Command::Disassemble(file, to) => disassemble_file(alloc, file, to, files, out),

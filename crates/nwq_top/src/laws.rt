@@ -4,6 +4,7 @@ ghost use Rattle.nwq_top.specs.Laws.{OneOutcome, Prefixes};
 
 use nwq_checks::laws::one_check;
 use nwq_files::laws::one_file;
+use nwq_scripts::laws::one_script;
 use nwq_sources::laws::one_source;
 use nwq_sums::laws::{one_building, one_run};
 
@@ -15,6 +16,7 @@ pub fn one_outcome()
 {
     one_source();
     one_file();
+    one_script();
     one_check();
     one_building();
     one_run();

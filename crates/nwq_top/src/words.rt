@@ -1,7 +1,7 @@
 ghost use Rattle.std.specs.Prelude.{◌≡◌, map, string_bytes, bytes_eq};
 ghost use Rattle.std.specs.List.{list_all, list_any};
 ghost use Rattle.nwq_top.specs.Words.{is_script_byte, is_script_name, is_option, command_form};
-ghost use Rattle.nwq_top.specs.Words.{one_word_form, two_word_form, run_form};
+ghost use Rattle.nwq_top.specs.Words.{one_word_form, two_word_form, run_form, compile_form};
 ghost use Rattle.nwq_top.specs.Words.{form_of, IsCommand};
 
 /// How many characters the name of a script has at most.
@@ -12,6 +12,8 @@ const NAME_MOST: usize = 16;
 pub enum Command<'a> {
     /// Plays one start entry of the second, a script, under the header that the first names.
     Run(&'a str, &'a str),
+    /// Writes the file of bytecode of the second, a script, under the header that the first names.
+    Compile(&'a str, &'a str),
     /// Shows the tree of a GFF file.
     Tree(&'a str),
     /// Checks the second, a file of bytecode, under the header that the first names.
@@ -87,11 +89,23 @@ fn run_words<'a>(header: &'a str, script: &'a str) -> Command<'a>
     }
 }
 
+fn compile_words<'a>(header: &'a str, script: &'a str) -> Command<'a>
+    ensures { IsCommand result (compile_form header.now script.now) }
+{
+    if names_script(script) {
+        Command::Compile(header, script)
+    } else {
+        Command::NoForm
+    }
+}
+
 fn two_words<'a>(command: &str, first: &'a str, second: &'a str) -> Command<'a>
     ensures { IsCommand result (two_word_form command.now first.now second.now) }
 {
     if is_word(command, "run") {
         run_words(first, second)
+    } else if is_word(command, "compile") {
+        compile_words(first, second)
     } else if is_word(command, "check") {
         Command::Check(first, second)
     } else if is_word(command, "dis") {

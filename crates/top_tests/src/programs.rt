@@ -43,7 +43,7 @@ fn whole_program(rt: HostRuntime) -> Result<(), Fail> {
 #[test]
 fn usage(rt: HostRuntime) -> Result<(), Fail> {
     let told =
-        b"usage: nwq run HEADER SCRIPT | tree FILE | check HEADER FILE | dis FILE TO | asm FILE TO (HEADER: a header file, or - for the built-in one)\n";
+        b"usage: nwq run HEADER SCRIPT | compile HEADER SCRIPT | tree FILE | check HEADER FILE | dis FILE TO | asm FILE TO (HEADER: a header file, or - for the built-in one)\n";
     for line in ["", "nwq", "nwq run"] {
         let (found, out, err) = ends(rt.alloc(), line)?;
         assert_eq!(rt; found, 1);

@@ -1,18 +1,17 @@
 use Rattle.std.proofs.Common.{subst}
-use Rattle.nwq_work.specs.Work.{Does}
-use Rattle.nwq_sources.specs.Scripts.{plain_script}
-use Rattle.nwq_top.specs.Command.{plays}
-use Rattle.nwq_top.proofs.PlayLemmas.{sums_play, not_built}
+use Rattle.nss_tree.specs.Reading.{plain_tree}
+use Rattle.nss_typing.specs.UnitReading.{typed_unit}
+use Rattle.nwq_work.specs.Counts.{Counted, Tallies}
+use Rattle.nwq_top.proofs.PlayLemmas.{typed_plays}
 use Rattle.nwq_top.proofs.run.play_script.Goals as goal
 
-pub returns-in-Ok-NotBuilt-clause-does : goal.returns-in-Ok-NotBuilt-clause-does
-returns-in-Ok-NotBuilt-clause-does g c = λ told contents.
-    not_built c.args.table.now (plain_script c.args.script.now) contents (g.S.Sink.taken c.args.out.now) (g.S.Sink.taken c.refuse.new.out) c.in-Ok-NotBuilt.i
-    c.refuse.result (rw c.in-Ok-NotBuilt.field-0-is at c.in-Ok-NotBuilt.ensures.builds) (c.refuse.ensures.does told)
+pub returns-in-Ok-clause-does : goal.returns-in-Ok-clause-does
+returns-in-Ok-clause-does g c = λ told contents.
+    typed_plays c.args.table.now c.args.script.unit c.in-Ok.typed.unit (plain_tree c.args.script.tree) (typed_unit c.in-Ok.typed.typed) c.play_unit.result contents
+    (g.S.Sink.taken c.args.out.now) (g.S.Sink.taken c.type_script.new.out) (g.S.Sink.taken c.play_unit.new.out) (c.in-Ok.ensures.does told contents)
+    c.in-Ok.ensures.same (c.play_unit.ensures.does told contents (plain_tree c.args.script.tree))
 
-pub returns-in-Ok-Prints-clause-does : goal.returns-in-Ok-Prints-clause-does
-returns-in-Ok-Prints-clause-does g c = λ told contents.
-    sums_play c.args.table.now (plain_script c.args.script.now) contents (g.S.Sink.taken c.args.out.now) (g.S.Sink.taken c.play_sums.new.out) c.in-Ok-Prints.printer
-    c.in-Ok-Prints.sums c.play_sums.result (rw c.in-Ok-Prints.field-0-is at c.in-Ok-Prints.ensures.builds)
-    (subst (λ sums. Does (plays c.in-Ok-Prints.printer sums) contents (g.S.Sink.taken c.args.out.now) c.play_sums.result contents (g.S.Sink.taken c.play_sums.new.out))
-    c.as_slice.ensures.items (c.play_sums.ensures.does told contents))
+pub returns-in-Ok-clause-counts : goal.returns-in-Ok-clause-counts
+returns-in-Ok-clause-counts g c = λ faults absences longs.
+    subst (λ before. Tallies c.play_unit.result before (Counted faults absences longs (g.S.Sink.faults c.play_unit.new.out)))
+    (c.in-Ok.ensures.counts faults absences longs) (c.play_unit.ensures.counts faults absences longs)
