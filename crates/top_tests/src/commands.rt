@@ -1,3 +1,7 @@
+ghost use Rattle.std.specs.Prelude.{map};
+ghost use Rattle.world_core.specs.Calls.{AreServing};
+
+use hook_table::Hooks;
 use nwq_outside::{MemFiles, MemSink};
 use nwq_top::{Status, nwq_main};
 use nwq_value::NoMemory;
@@ -19,7 +23,10 @@ fn outcome(
     words: &[&str],
     sources: &[(&str, &[u8])],
     failing: Failing,
-) -> Result<(Status, MemSink), NoMemory> {
+    hooks: &Hooks,
+) -> Result<(Status, MemSink), NoMemory>
+    requires hooks { AreServing (map (λ h. h.known) hooks.now.all.items) }
+{
     let mut owned: Vec<String> = Vec::new(alloc);
     for word in words {
         owned.push(String::from_str(alloc, word)?)?;
@@ -34,7 +41,7 @@ fn outcome(
         Failing::Read(number) => files.fail_at(number)?,
         Failing::Put => out.fail_at(0)?,
     }
-    let status = nwq_main(alloc, owned.as_slice(), &mut files, &mut out);
+    let status = nwq_main(alloc, owned.as_slice(), &mut files, &mut out, hooks);
     Ok((status, out))
 }
 
@@ -45,8 +52,11 @@ fn answers(
     sources: &[(&str, &[u8])],
     status: Status,
     text: &str,
-) -> Result<bool, NoMemory> {
-    let (found, out) = outcome(alloc, words, sources, Failing::Nothing)?;
+    hooks: &Hooks,
+) -> Result<bool, NoMemory>
+    requires hooks { AreServing (map (λ h. h.known) hooks.now.all.items) }
+{
+    let (found, out) = outcome(alloc, words, sources, Failing::Nothing, hooks)?;
     Ok(found == status && out.bytes() == text.as_bytes())
 }
 
@@ -56,12 +66,16 @@ fn plays(
     sources: &[(&str, &[u8])],
     status: Status,
     text: &str,
-) -> Result<bool, NoMemory> {
-    answers(alloc, &["run", "-", "p"], sources, status, text)
+    hooks: &Hooks,
+) -> Result<bool, NoMemory>
+    requires hooks { AreServing (map (λ h. h.known) hooks.now.all.items) }
+{
+    answers(alloc, &["run", "-", "p"], sources, status, text, hooks)
 }
 
-#[test]
-fn sums(rt: HostRuntime) -> Result<(), Fail> {
+fn sums(rt: &HostRuntime, hooks: &Hooks) -> Result<(), Fail>
+    requires hooks { AreServing (map (λ h. h.known) hooks.now.all.items) }
+{
     let rows = [
         (
             "void main() {}",
@@ -94,15 +108,16 @@ fn sums(rt: HostRuntime) -> Result<(), Fail> {
             ("head.nss", b"void main()".as_slice()),
         ];
         assert!(rt;
-            plays(rt.alloc(), files.as_slice(), Status::Done, text)?,
+            plays(rt.alloc(), files.as_slice(), Status::Done, text, hooks)?,
             "{source}"
         );
     }
     Ok(())
 }
 
-#[test]
-fn refusals(rt: HostRuntime) -> Result<(), Fail> {
+fn refusals(rt: &HostRuntime, hooks: &Hooks) -> Result<(), Fail>
+    requires hooks { AreServing (map (λ h. h.known) hooks.now.all.items) }
+{
     let rows = [
         ("", "refused p.nss 1 0 notbuilt\n"),
         ("#include \"none\"\n", "refused p.nss 2 16 notbuilt\n"),
@@ -153,7 +168,7 @@ fn refusals(rt: HostRuntime) -> Result<(), Fail> {
             ("head.nss", b"int a;\nint 5;".as_slice()),
         ];
         assert!(rt;
-            plays(rt.alloc(), files.as_slice(), Status::Script, text)?,
+            plays(rt.alloc(), files.as_slice(), Status::Script, text, hooks)?,
             "{source}"
         );
     }
@@ -175,8 +190,9 @@ fn repeated(
     Ok(bytes)
 }
 
-#[test]
-fn limits(rt: HostRuntime) -> Result<(), Fail> {
+fn limits(rt: &HostRuntime, hooks: &Hooks) -> Result<(), Fail>
+    requires hooks { AreServing (map (λ h. h.known) hooks.now.all.items) }
+{
     let main = b"void main() {".as_slice();
     let rows = [
         (
@@ -222,7 +238,8 @@ fn limits(rt: HostRuntime) -> Result<(), Fail> {
                 rt.alloc(),
                 &[("p.nss", source.as_slice())],
                 Status::Script,
-                text
+                text,
+                hooks
             )?,
             "{text}"
         );
@@ -231,8 +248,9 @@ fn limits(rt: HostRuntime) -> Result<(), Fail> {
 }
 
 /// `run h.nss p`, with a script that prints 5.
-#[test]
-fn headers(rt: HostRuntime) -> Result<(), Fail> {
+fn headers(rt: &HostRuntime, hooks: &Hooks) -> Result<(), Fail>
+    requires hooks { AreServing (map (λ h. h.known) hooks.now.all.items) }
+{
     let played = "0 #0 print 5\nend done clock 0 entries 1 instructions 7\n";
     let rows = [
         ("void PrintInteger(int n);", Status::Done, played),
@@ -275,7 +293,8 @@ fn headers(rt: HostRuntime) -> Result<(), Fail> {
                 &["run", "h.nss", "p"],
                 files.as_slice(),
                 status,
-                text
+                text,
+                hooks
             )?,
             "{header}"
         );
@@ -284,7 +303,9 @@ fn headers(rt: HostRuntime) -> Result<(), Fail> {
 }
 
 /// Whether these words, parted by spaces, are refused as words.
-fn refuses_words(alloc: Global, line: &str) -> Result<bool, NoMemory> {
+fn refuses_words(alloc: Global, line: &str, hooks: &Hooks) -> Result<bool, NoMemory>
+    requires hooks { AreServing (map (λ h. h.known) hooks.now.all.items) }
+{
     let mut owned: Vec<String> = Vec::new(alloc);
     for word in line.split_whitespace() {
         owned.push(String::from_str(alloc, word)?)?;
@@ -292,12 +313,13 @@ fn refuses_words(alloc: Global, line: &str) -> Result<bool, NoMemory> {
     let mut files = MemFiles::new(alloc);
     files.add("p.nss", b"void main() {}")?;
     let mut out = MemSink::new(alloc);
-    let status = nwq_main(alloc, owned.as_slice(), &mut files, &mut out);
+    let status = nwq_main(alloc, owned.as_slice(), &mut files, &mut out, hooks);
     Ok(status == Status::Words && out.bytes() == b"refused words\n".as_slice())
 }
 
-#[test]
-fn words(rt: HostRuntime) -> Result<(), Fail> {
+fn words(rt: &HostRuntime, hooks: &Hooks) -> Result<(), Fail>
+    requires hooks { AreServing (map (λ h. h.known) hooks.now.all.items) }
+{
     let rows = [
         "",
         "run -",
@@ -310,13 +332,14 @@ fn words(rt: HostRuntime) -> Result<(), Fail> {
         "compile - p",
     ];
     for line in rows {
-        assert!(rt; refuses_words(rt.alloc(), line)?, "{line}");
+        assert!(rt; refuses_words(rt.alloc(), line, hooks)?, "{line}");
     }
     Ok(())
 }
 
-#[test]
-fn other_statuses(rt: HostRuntime) -> Result<(), Fail> {
+fn other_statuses(rt: &HostRuntime, hooks: &Hooks) -> Result<(), Fail>
+    requires hooks { AreServing (map (λ h. h.known) hooks.now.all.items) }
+{
     let built_in = ["run", "-", "p"].as_slice();
     let header = ["run", "h.nss", "p"].as_slice();
     let rows = [
@@ -348,15 +371,16 @@ fn other_statuses(rt: HostRuntime) -> Result<(), Fail> {
     ];
     for (words, name, failing, status, text) in rows {
         let files = [(name, b"#include \"nope\"".as_slice())];
-        let (found, out) = outcome(rt.alloc(), words, files.as_slice(), failing)?;
+        let (found, out) = outcome(rt.alloc(), words, files.as_slice(), failing, hooks)?;
         assert_eq!(rt; found, status);
         assert_eq!(rt; out.bytes(), text.as_bytes());
     }
     Ok(())
 }
 
-#[test]
-fn long_files(rt: HostRuntime) -> Result<(), Fail> {
+fn long_files(rt: &HostRuntime, hooks: &Hooks) -> Result<(), Fail>
+    requires hooks { AreServing (map (λ h. h.known) hooks.now.all.items) }
+{
     let long = vec![in rt.alloc(); b' '; 16_777_217]?;
     let files = [
         ("p.nss", b"#include \"long\"".as_slice()),
@@ -367,7 +391,8 @@ fn long_files(rt: HostRuntime) -> Result<(), Fail> {
             rt.alloc(),
             files.as_slice(),
             Status::Long,
-            "long long.nss\n"
+            "long long.nss\n",
+            hooks
         )?
     );
     assert!(rt;
@@ -376,8 +401,22 @@ fn long_files(rt: HostRuntime) -> Result<(), Fail> {
             &["run", "long.nss", "p"],
             files.as_slice(),
             Status::Long,
-            "long long.nss\n"
+            "long long.nss\n",
+            hooks
         )?
     );
     Ok(())
+}
+
+/// Every test of `run` and of words.
+pub fn all(rt: &HostRuntime, hooks: &Hooks) -> Result<(), Fail>
+    requires hooks { AreServing (map (λ h. h.known) hooks.now.all.items) }
+{
+    sums(rt, hooks)?;
+    refusals(rt, hooks)?;
+    limits(rt, hooks)?;
+    headers(rt, hooks)?;
+    words(rt, hooks)?;
+    other_statuses(rt, hooks)?;
+    long_files(rt, hooks)
 }

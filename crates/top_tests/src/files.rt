@@ -1,6 +1,10 @@
 //! The commands over files that are no source texts: `tree`, `dis` and `asm`.
 
+ghost use Rattle.std.specs.Prelude.{map};
+ghost use Rattle.world_core.specs.Calls.{AreServing};
+
 use byteorder::{ByteOrder, LittleEndian};
+use hook_table::Hooks;
 use nwq_outside::{MemFiles, MemSink};
 use nwq_top::{Status, nwq_main};
 use nwq_value::NoMemory;
@@ -28,7 +32,10 @@ fn outcome(
     line: &str,
     bytes: &[u8],
     fails: Option<u64>,
-) -> Result<(Status, MemFiles, MemSink), NoMemory> {
+    hooks: &Hooks,
+) -> Result<(Status, MemFiles, MemSink), NoMemory>
+    requires hooks { AreServing (map (λ h. h.known) hooks.now.all.items) }
+{
     let mut words: Vec<String> = Vec::new(alloc);
     for word in line.split_whitespace() {
         words.push(String::from_str(alloc, word)?)?;
@@ -39,7 +46,7 @@ fn outcome(
         files.fail_at(call)?;
     }
     let mut out = MemSink::new(alloc);
-    let status = nwq_main(alloc, words.as_slice(), &mut files, &mut out);
+    let status = nwq_main(alloc, words.as_slice(), &mut files, &mut out, hooks);
     Ok((status, files, out))
 }
 
@@ -50,8 +57,11 @@ fn answers(
     bytes: &[u8],
     status: Status,
     text: &str,
-) -> Result<bool, NoMemory> {
-    let (found, files, out) = outcome(alloc, line, bytes, None)?;
+    hooks: &Hooks,
+) -> Result<bool, NoMemory>
+    requires hooks { AreServing (map (λ h. h.known) hooks.now.all.items) }
+{
+    let (found, files, out) = outcome(alloc, line, bytes, None, hooks)?;
     Ok(found == status && out.bytes() == text.as_bytes() && files.get("out").is_none())
 }
 
@@ -62,8 +72,11 @@ fn writes(
     bytes: &[u8],
     written: &[u8],
     text: &str,
-) -> Result<bool, NoMemory> {
-    let (found, files, out) = outcome(alloc, line, bytes, None)?;
+    hooks: &Hooks,
+) -> Result<bool, NoMemory>
+    requires hooks { AreServing (map (λ h. h.known) hooks.now.all.items) }
+{
+    let (found, files, out) = outcome(alloc, line, bytes, None, hooks)?;
     Ok(found == Status::Done && out.bytes() == text.as_bytes() && files.get("out") == Some(written))
 }
 
@@ -78,28 +91,45 @@ fn changed(alloc: Global, changes: &[(usize, u32)]) -> Result<Vec<u8>, NoMemory>
     Ok(bytes)
 }
 
-#[test]
-fn trees(rt: HostRuntime) -> Result<(), Fail> {
+fn trees(rt: &HostRuntime, hooks: &Hooks) -> Result<(), Fail>
+    requires hooks { AreServing (map (λ h. h.known) hooks.now.all.items) }
+{
     assert!(rt;
         answers(
             rt.alloc(),
             "tree in",
             &TREE,
             Status::Done,
-            "gff \"GIT \"\nstruct 4294967295\n  A byte 7\n"
+            "gff \"GIT \"\nstruct 4294967295\n  A byte 7\n",
+            hooks
         )?
     );
     Ok(())
 }
 
 /// Whether the tree's file so changed is refused with these words.
-fn refuses_tree(alloc: Global, changes: &[(usize, u32)], text: &str) -> Result<bool, NoMemory> {
+fn refuses_tree(
+    alloc: Global,
+    changes: &[(usize, u32)],
+    text: &str,
+    hooks: &Hooks,
+) -> Result<bool, NoMemory>
+    requires hooks { AreServing (map (λ h. h.known) hooks.now.all.items) }
+{
     let bytes = changed(alloc, changes)?;
-    answers(alloc, "tree in", bytes.as_slice(), Status::Area, text)
+    answers(
+        alloc,
+        "tree in",
+        bytes.as_slice(),
+        Status::Area,
+        text,
+        hooks,
+    )
 }
 
-#[test]
-fn broken_trees(rt: HostRuntime) -> Result<(), Fail> {
+fn broken_trees(rt: &HostRuntime, hooks: &Hooks) -> Result<(), Fail>
+    requires hooks { AreServing (map (λ h. h.known) hooks.now.all.items) }
+{
     let rows: [(&[(usize, u32)], &str); 10] = [
         (&[(4, 0x3333_3356)], "refused in version\n"),
         (&[(12, 0)], "refused in range struct 0\n"),
@@ -113,13 +143,14 @@ fn broken_trees(rt: HostRuntime) -> Result<(), Fail> {
         (&[(16, 97)], "refused in section 1\n"),
     ];
     for (changes, text) in rows.as_slice() {
-        assert!(rt; refuses_tree(rt.alloc(), *changes, *text)?, "{text}");
+        assert!(rt; refuses_tree(rt.alloc(), *changes, *text, hooks)?, "{text}");
     }
     Ok(())
 }
 
-#[test]
-fn short_trees(rt: HostRuntime) -> Result<(), Fail> {
+fn short_trees(rt: &HostRuntime, hooks: &Hooks) -> Result<(), Fail>
+    requires hooks { AreServing (map (λ h. h.known) hooks.now.all.items) }
+{
     let rows = [
         (0, "refused in short\n"),
         (55, "refused in short\n"),
@@ -131,7 +162,14 @@ fn short_trees(rt: HostRuntime) -> Result<(), Fail> {
     for (size, text) in rows {
         if size < TREE.len() {
             assert!(rt;
-                answers(rt.alloc(), "tree in", &TREE[..size], Status::Area, text)?,
+                answers(
+                    rt.alloc(),
+                    "tree in",
+                    &TREE[..size],
+                    Status::Area,
+                    text,
+                    hooks
+                )?,
                 "{text}"
             );
         }
@@ -139,15 +177,17 @@ fn short_trees(rt: HostRuntime) -> Result<(), Fail> {
     Ok(())
 }
 
-#[test]
-fn listings(rt: HostRuntime) -> Result<(), Fail> {
+fn listings(rt: &HostRuntime, hooks: &Hooks) -> Result<(), Fail>
+    requires hooks { AreServing (map (λ h. h.known) hooks.now.all.items) }
+{
     assert!(rt;
         writes(
             rt.alloc(),
             "dis in out",
             CODE,
             LISTING,
-            "disassembled out 3\n"
+            "disassembled out 3\n",
+            hooks
         )?
     );
     assert!(rt;
@@ -156,7 +196,8 @@ fn listings(rt: HostRuntime) -> Result<(), Fail> {
             "asm in out",
             LISTING,
             CODE,
-            "assembled out 23\n"
+            "assembled out 23\n",
+            hooks
         )?
     );
     assert!(rt;
@@ -165,14 +206,16 @@ fn listings(rt: HostRuntime) -> Result<(), Fail> {
             "asm in out",
             b"",
             b"NCS V1.0B\x00\x00\x00\x0d",
-            "assembled out 13\n"
+            "assembled out 13\n",
+            hooks
         )?
     );
     Ok(())
 }
 
-#[test]
-fn broken_code(rt: HostRuntime) -> Result<(), Fail> {
+fn broken_code(rt: &HostRuntime, hooks: &Hooks) -> Result<(), Fail>
+    requires hooks { AreServing (map (λ h. h.known) hooks.now.all.items) }
+{
     let rows = [
         (b"NCS V1.0".as_slice(), "refused in magic\n"),
         (b"NCS V1.0B\x00\x00\x00\x0e", "refused in length\n"),
@@ -189,15 +232,16 @@ fn broken_code(rt: HostRuntime) -> Result<(), Fail> {
     ];
     for (bytes, text) in rows {
         assert!(rt;
-            answers(rt.alloc(), "dis in out", bytes, Status::Code, text)?,
+            answers(rt.alloc(), "dis in out", bytes, Status::Code, text, hooks)?,
             "{text}"
         );
     }
     Ok(())
 }
 
-#[test]
-fn checks(rt: HostRuntime) -> Result<(), Fail> {
+fn checks(rt: &HostRuntime, hooks: &Hooks) -> Result<(), Fail>
+    requires hooks { AreServing (map (λ h. h.known) hooks.now.all.items) }
+{
     let rows = [
         (CODE, Status::Done, "passed 3\n"),
         (
@@ -223,15 +267,16 @@ fn checks(rt: HostRuntime) -> Result<(), Fail> {
     ];
     for (bytes, status, text) in rows {
         assert!(rt;
-            answers(rt.alloc(), "check - in", bytes, status, text)?,
+            answers(rt.alloc(), "check - in", bytes, status, text, hooks)?,
             "{text}"
         );
     }
     Ok(())
 }
 
-#[test]
-fn broken_listings(rt: HostRuntime) -> Result<(), Fail> {
+fn broken_listings(rt: &HostRuntime, hooks: &Hooks) -> Result<(), Fail>
+    requires hooks { AreServing (map (λ h. h.known) hooks.now.all.items) }
+{
     let rows = [
         ("JMP 00 @14\nRETN 00\n", "refused in target 1\n"),
         ("FOO 00\n", "refused in line 1\n"),
@@ -244,7 +289,8 @@ fn broken_listings(rt: HostRuntime) -> Result<(), Fail> {
                 "asm in out",
                 listing.as_bytes(),
                 Status::Code,
-                text
+                text,
+                hooks
             )?,
             "{text}"
         );
@@ -252,8 +298,9 @@ fn broken_listings(rt: HostRuntime) -> Result<(), Fail> {
     Ok(())
 }
 
-#[test]
-fn other_statuses(rt: HostRuntime) -> Result<(), Fail> {
+fn other_statuses(rt: &HostRuntime, hooks: &Hooks) -> Result<(), Fail>
+    requires hooks { AreServing (map (λ h. h.known) hooks.now.all.items) }
+{
     let rows = [
         ("tree none", CODE, None, Status::Missing, "missing none\n"),
         (
@@ -280,9 +327,23 @@ fn other_statuses(rt: HostRuntime) -> Result<(), Fail> {
         ("asm in -out", CODE, None, Status::Words, "refused words\n"),
     ];
     for (line, bytes, fails, status, text) in rows {
-        let (found, _files, out) = outcome(rt.alloc(), line, bytes, fails)?;
+        let (found, _files, out) = outcome(rt.alloc(), line, bytes, fails, hooks)?;
         assert_eq!(rt; found, status);
         assert_eq!(rt; out.bytes(), text.as_bytes());
     }
     Ok(())
+}
+
+/// Every test of the commands over other files.
+pub fn all(rt: &HostRuntime, hooks: &Hooks) -> Result<(), Fail>
+    requires hooks { AreServing (map (λ h. h.known) hooks.now.all.items) }
+{
+    trees(rt, hooks)?;
+    broken_trees(rt, hooks)?;
+    short_trees(rt, hooks)?;
+    listings(rt, hooks)?;
+    broken_code(rt, hooks)?;
+    checks(rt, hooks)?;
+    broken_listings(rt, hooks)?;
+    other_statuses(rt, hooks)
 }

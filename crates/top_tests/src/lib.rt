@@ -9,6 +9,8 @@ mod commands;
 #[cfg(test)]
 mod files;
 #[cfg(test)]
+mod hooked;
+#[cfg(test)]
 mod parts;
 #[cfg(test)]
 mod programs;

@@ -1,3 +1,7 @@
+ghost use Rattle.std.specs.Prelude.{map};
+ghost use Rattle.world_core.specs.Calls.{AreServing};
+
+use hook_table::Hooks;
 use nwq_outside::{MemFiles, MemSink};
 use nwq_top::nwq_program;
 use nwq_value::NoMemory;
@@ -6,7 +10,9 @@ use std::test::Fail;
 
 /// The program with these words, parted by spaces, over two scripts: the number with which it ends,
 /// standard output and standard error.
-fn ends(alloc: Global, line: &str) -> Result<(u8, MemSink, MemSink), NoMemory> {
+fn ends(alloc: Global, line: &str, hooks: &Hooks) -> Result<(u8, MemSink, MemSink), NoMemory>
+    requires hooks { AreServing (map (λ h. h.known) hooks.now.all.items) }
+{
     let mut all: Vec<String> = Vec::new(alloc);
     for word in line.split_whitespace() {
         all.push(String::from_str(alloc, word)?)?;
@@ -16,12 +22,13 @@ fn ends(alloc: Global, line: &str) -> Result<(u8, MemSink, MemSink), NoMemory> {
     files.add("q.nss", b"void main() {")?;
     let mut out = MemSink::new(alloc);
     let mut err = MemSink::new(alloc);
-    let number = nwq_program(alloc, all.as_slice(), &mut files, &mut out, &mut err);
+    let number = nwq_program(alloc, all.as_slice(), &mut files, &mut out, &mut err, hooks);
     Ok((number, out, err))
 }
 
-#[test]
-fn whole_program(rt: HostRuntime) -> Result<(), Fail> {
+fn whole_program(rt: &HostRuntime, hooks: &Hooks) -> Result<(), Fail>
+    requires hooks { AreServing (map (λ h. h.known) hooks.now.all.items) }
+{
     let rows = [
         (
             "nwq run - p",
@@ -32,7 +39,7 @@ fn whole_program(rt: HostRuntime) -> Result<(), Fail> {
         ("nwq run - r", 6, "missing r.nss\n"),
     ];
     for (line, number, text) in rows {
-        let (found, out, err) = ends(rt.alloc(), line)?;
+        let (found, out, err) = ends(rt.alloc(), line, hooks)?;
         assert_eq!(rt; found, number);
         assert_eq!(rt; out.bytes(), text.as_bytes());
         assert_eq!(rt; err.bytes(), b"".as_slice());
@@ -40,15 +47,24 @@ fn whole_program(rt: HostRuntime) -> Result<(), Fail> {
     Ok(())
 }
 
-#[test]
-fn usage(rt: HostRuntime) -> Result<(), Fail> {
+fn usage(rt: &HostRuntime, hooks: &Hooks) -> Result<(), Fail>
+    requires hooks { AreServing (map (λ h. h.known) hooks.now.all.items) }
+{
     let told =
         b"usage: nwq run HEADER SCRIPT | compile HEADER SCRIPT | tree FILE | check HEADER FILE | dis FILE TO | asm FILE TO (HEADER: a header file, or - for the built-in one)\n";
     for line in ["", "nwq", "nwq run"] {
-        let (found, out, err) = ends(rt.alloc(), line)?;
+        let (found, out, err) = ends(rt.alloc(), line, hooks)?;
         assert_eq!(rt; found, 1);
         assert_eq!(rt; out.bytes(), b"refused words\n".as_slice());
         assert_eq!(rt; err.bytes(), told.as_slice());
     }
     Ok(())
+}
+
+/// Every test of the whole program.
+pub fn all(rt: &HostRuntime, hooks: &Hooks) -> Result<(), Fail>
+    requires hooks { AreServing (map (λ h. h.known) hooks.now.all.items) }
+{
+    whole_program(rt, hooks)?;
+    usage(rt, hooks)
 }
