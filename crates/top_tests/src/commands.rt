@@ -119,9 +119,9 @@ fn refusals(rt: &HostRuntime, hooks: &Hooks) -> Result<(), Fail>
     requires hooks { AreServing (map (λ h. h.known) hooks.now.all.items) }
 {
     let rows = [
-        ("", "refused p.nss 1 0 notbuilt\n"),
-        ("#include \"none\"\n", "refused p.nss 2 16 notbuilt\n"),
-        ("int a;", "refused p.nss 1 0 notbuilt\n"),
+        ("", "refused p.nss 1 0 entry\n"),
+        ("#include \"none\"\n", "refused p.nss 2 16 entry\n"),
+        ("int a;", "refused p.nss 1 6 entry\n"),
         (
             "void main() { PrintInteger(1-2); }",
             "refused p.nss 1 28 notbuilt\n",
@@ -280,7 +280,7 @@ fn headers(rt: &HostRuntime, hooks: &Hooks) -> Result<(), Fail>
             Status::Script,
             "refused p.nss 1 14 notbuilt\n",
         ),
-        ("", Status::Script, "refused p.nss 1 14 notbuilt\n"),
+        ("", Status::Script, "refused p.nss 1 14 unknown\n"),
     ];
     for (header, status, text) in rows {
         let files = [
@@ -329,7 +329,8 @@ fn words(rt: &HostRuntime, hooks: &Hooks) -> Result<(), Fail>
         "run -h p",
         "run h.nss -",
         "run - seventeen_letters",
-        "compile - p",
+        "compile -",
+        "compile - P",
     ];
     for line in rows {
         assert!(rt; refuses_words(rt.alloc(), line, hooks)?, "{line}");

@@ -3,7 +3,7 @@
 ghost use Rattle.std.specs.Prelude.{◌≤◌, [], IfOk};
 ghost use Rattle.hook_table.specs.Standard.{function_numbered, IsAnswer};
 
-use crate::{commands, files, programs};
+use crate::{commands, files, programs, scripts};
 use hook_table::{Call, Hooks};
 use nwq_hooks::{all_are_put, call_function, put_hook};
 use nwq_value::{Args, NoMemory, Value};
@@ -28,5 +28,6 @@ fn top_call(rt: HostRuntime) -> Result<(), Fail> {
     commands::all(&rt, &hooks)?;
     files::all(&rt, &hooks)?;
     programs::all(&rt, &hooks)?;
+    scripts::all(&rt, &hooks)?;
     Ok(())
 }

@@ -14,3 +14,5 @@ mod hooked;
 mod parts;
 #[cfg(test)]
 mod programs;
+#[cfg(test)]
+mod scripts;
