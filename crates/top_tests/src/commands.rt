@@ -6,6 +6,7 @@ use nwq_outside::{MemFiles, MemSink};
 use nwq_top::{Status, nwq_main};
 use nwq_value::NoMemory;
 use std::alloc::Global;
+use std::process::Abort;
 use std::test::Fail;
 
 /// A call of the outside that is to fail.
@@ -73,7 +74,7 @@ fn plays(
     answers(alloc, &["run", "-", "p"], sources, status, text, hooks)
 }
 
-fn sums(rt: &HostRuntime, hooks: &Hooks) -> Result<(), Fail>
+fn sums(alloc: Global, rt: &impl Abort, hooks: &Hooks) -> Result<(), Fail>
     requires hooks { AreServing (map (λ h. h.known) hooks.now.all.items) }
 {
     let rows = [
@@ -108,14 +109,14 @@ fn sums(rt: &HostRuntime, hooks: &Hooks) -> Result<(), Fail>
             ("head.nss", b"void main()".as_slice()),
         ];
         assert!(rt;
-            plays(rt.alloc(), files.as_slice(), Status::Done, text, hooks)?,
+            plays(alloc, files.as_slice(), Status::Done, text, hooks)?,
             "{source}"
         );
     }
     Ok(())
 }
 
-fn refusals(rt: &HostRuntime, hooks: &Hooks) -> Result<(), Fail>
+fn refusals(alloc: Global, rt: &impl Abort, hooks: &Hooks) -> Result<(), Fail>
     requires hooks { AreServing (map (λ h. h.known) hooks.now.all.items) }
 {
     let rows = [
@@ -168,7 +169,7 @@ fn refusals(rt: &HostRuntime, hooks: &Hooks) -> Result<(), Fail>
             ("head.nss", b"int a;\nint 5;".as_slice()),
         ];
         assert!(rt;
-            plays(rt.alloc(), files.as_slice(), Status::Script, text, hooks)?,
+            plays(alloc, files.as_slice(), Status::Script, text, hooks)?,
             "{source}"
         );
     }
@@ -190,7 +191,7 @@ fn repeated(
     Ok(bytes)
 }
 
-fn limits(rt: &HostRuntime, hooks: &Hooks) -> Result<(), Fail>
+fn limits(alloc: Global, rt: &impl Abort, hooks: &Hooks) -> Result<(), Fail>
     requires hooks { AreServing (map (λ h. h.known) hooks.now.all.items) }
 {
     let main = b"void main() {".as_slice();
@@ -232,10 +233,10 @@ fn limits(rt: &HostRuntime, hooks: &Hooks) -> Result<(), Fail>
         ),
     ];
     for (front, byte, count, rest, text) in rows {
-        let source = repeated(rt.alloc(), front, byte, count, rest)?;
+        let source = repeated(alloc, front, byte, count, rest)?;
         assert!(rt;
             plays(
-                rt.alloc(),
+                alloc,
                 &[("p.nss", source.as_slice())],
                 Status::Script,
                 text,
@@ -248,7 +249,7 @@ fn limits(rt: &HostRuntime, hooks: &Hooks) -> Result<(), Fail>
 }
 
 /// `run h.nss p`, with a script that prints 5.
-fn headers(rt: &HostRuntime, hooks: &Hooks) -> Result<(), Fail>
+fn headers(alloc: Global, rt: &impl Abort, hooks: &Hooks) -> Result<(), Fail>
     requires hooks { AreServing (map (λ h. h.known) hooks.now.all.items) }
 {
     let played = "0 #0 print 5\nend done clock 0 entries 1 instructions 7\n";
@@ -289,7 +290,7 @@ fn headers(rt: &HostRuntime, hooks: &Hooks) -> Result<(), Fail>
         ];
         assert!(rt;
             answers(
-                rt.alloc(),
+                alloc,
                 &["run", "h.nss", "p"],
                 files.as_slice(),
                 status,
@@ -317,7 +318,7 @@ fn refuses_words(alloc: Global, line: &str, hooks: &Hooks) -> Result<bool, NoMem
     Ok(status == Status::Words && out.bytes() == b"refused words\n".as_slice())
 }
 
-fn words(rt: &HostRuntime, hooks: &Hooks) -> Result<(), Fail>
+fn words(alloc: Global, rt: &impl Abort, hooks: &Hooks) -> Result<(), Fail>
     requires hooks { AreServing (map (λ h. h.known) hooks.now.all.items) }
 {
     let rows = [
@@ -333,12 +334,12 @@ fn words(rt: &HostRuntime, hooks: &Hooks) -> Result<(), Fail>
         "compile - P",
     ];
     for line in rows {
-        assert!(rt; refuses_words(rt.alloc(), line, hooks)?, "{line}");
+        assert!(rt; refuses_words(alloc, line, hooks)?, "{line}");
     }
     Ok(())
 }
 
-fn other_statuses(rt: &HostRuntime, hooks: &Hooks) -> Result<(), Fail>
+fn other_statuses(alloc: Global, rt: &impl Abort, hooks: &Hooks) -> Result<(), Fail>
     requires hooks { AreServing (map (λ h. h.known) hooks.now.all.items) }
 {
     let built_in = ["run", "-", "p"].as_slice();
@@ -372,24 +373,24 @@ fn other_statuses(rt: &HostRuntime, hooks: &Hooks) -> Result<(), Fail>
     ];
     for (words, name, failing, status, text) in rows {
         let files = [(name, b"#include \"nope\"".as_slice())];
-        let (found, out) = outcome(rt.alloc(), words, files.as_slice(), failing, hooks)?;
+        let (found, out) = outcome(alloc, words, files.as_slice(), failing, hooks)?;
         assert_eq!(rt; found, status);
         assert_eq!(rt; out.bytes(), text.as_bytes());
     }
     Ok(())
 }
 
-fn long_files(rt: &HostRuntime, hooks: &Hooks) -> Result<(), Fail>
+fn long_files(alloc: Global, rt: &impl Abort, hooks: &Hooks) -> Result<(), Fail>
     requires hooks { AreServing (map (λ h. h.known) hooks.now.all.items) }
 {
-    let long = vec![in rt.alloc(); b' '; 16_777_217]?;
+    let long = vec![in alloc; b' '; 16_777_217]?;
     let files = [
         ("p.nss", b"#include \"long\"".as_slice()),
         ("long.nss", long.as_slice()),
     ];
     assert!(rt;
         plays(
-            rt.alloc(),
+            alloc,
             files.as_slice(),
             Status::Long,
             "long long.nss\n",
@@ -398,7 +399,7 @@ fn long_files(rt: &HostRuntime, hooks: &Hooks) -> Result<(), Fail>
     );
     assert!(rt;
         answers(
-            rt.alloc(),
+            alloc,
             &["run", "long.nss", "p"],
             files.as_slice(),
             Status::Long,
@@ -410,14 +411,14 @@ fn long_files(rt: &HostRuntime, hooks: &Hooks) -> Result<(), Fail>
 }
 
 /// Every test of `run` and of words.
-pub fn all(rt: &HostRuntime, hooks: &Hooks) -> Result<(), Fail>
+pub fn all(alloc: Global, rt: &impl Abort, hooks: &Hooks) -> Result<(), Fail>
     requires hooks { AreServing (map (λ h. h.known) hooks.now.all.items) }
 {
-    sums(rt, hooks)?;
-    refusals(rt, hooks)?;
-    limits(rt, hooks)?;
-    headers(rt, hooks)?;
-    words(rt, hooks)?;
-    other_statuses(rt, hooks)?;
-    long_files(rt, hooks)
+    sums(alloc, rt, hooks)?;
+    refusals(alloc, rt, hooks)?;
+    limits(alloc, rt, hooks)?;
+    headers(alloc, rt, hooks)?;
+    words(alloc, rt, hooks)?;
+    other_statuses(alloc, rt, hooks)?;
+    long_files(alloc, rt, hooks)
 }

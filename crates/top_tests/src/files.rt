@@ -9,6 +9,7 @@ use nwq_outside::{MemFiles, MemSink};
 use nwq_top::{Status, nwq_main};
 use nwq_value::NoMemory;
 use std::alloc::Global;
+use std::process::Abort;
 use std::test::Fail;
 
 /// A GFF file: one struct 4294967295 with a BYTE `A` of 7.
@@ -91,12 +92,12 @@ fn changed(alloc: Global, changes: &[(usize, u32)]) -> Result<Vec<u8>, NoMemory>
     Ok(bytes)
 }
 
-fn trees(rt: &HostRuntime, hooks: &Hooks) -> Result<(), Fail>
+fn trees(alloc: Global, rt: &impl Abort, hooks: &Hooks) -> Result<(), Fail>
     requires hooks { AreServing (map (λ h. h.known) hooks.now.all.items) }
 {
     assert!(rt;
         answers(
-            rt.alloc(),
+            alloc,
             "tree in",
             &TREE,
             Status::Done,
@@ -127,7 +128,7 @@ fn refuses_tree(
     )
 }
 
-fn broken_trees(rt: &HostRuntime, hooks: &Hooks) -> Result<(), Fail>
+fn broken_trees(alloc: Global, rt: &impl Abort, hooks: &Hooks) -> Result<(), Fail>
     requires hooks { AreServing (map (λ h. h.known) hooks.now.all.items) }
 {
     let rows: [(&[(usize, u32)], &str); 10] = [
@@ -143,12 +144,12 @@ fn broken_trees(rt: &HostRuntime, hooks: &Hooks) -> Result<(), Fail>
         (&[(16, 97)], "refused in section 1\n"),
     ];
     for (changes, text) in rows.as_slice() {
-        assert!(rt; refuses_tree(rt.alloc(), *changes, *text, hooks)?, "{text}");
+        assert!(rt; refuses_tree(alloc, *changes, *text, hooks)?, "{text}");
     }
     Ok(())
 }
 
-fn short_trees(rt: &HostRuntime, hooks: &Hooks) -> Result<(), Fail>
+fn short_trees(alloc: Global, rt: &impl Abort, hooks: &Hooks) -> Result<(), Fail>
     requires hooks { AreServing (map (λ h. h.known) hooks.now.all.items) }
 {
     let rows = [
@@ -162,14 +163,7 @@ fn short_trees(rt: &HostRuntime, hooks: &Hooks) -> Result<(), Fail>
     for (size, text) in rows {
         if size < TREE.len() {
             assert!(rt;
-                answers(
-                    rt.alloc(),
-                    "tree in",
-                    &TREE[..size],
-                    Status::Area,
-                    text,
-                    hooks
-                )?,
+                answers(alloc, "tree in", &TREE[..size], Status::Area, text, hooks)?,
                 "{text}"
             );
         }
@@ -177,12 +171,12 @@ fn short_trees(rt: &HostRuntime, hooks: &Hooks) -> Result<(), Fail>
     Ok(())
 }
 
-fn listings(rt: &HostRuntime, hooks: &Hooks) -> Result<(), Fail>
+fn listings(alloc: Global, rt: &impl Abort, hooks: &Hooks) -> Result<(), Fail>
     requires hooks { AreServing (map (λ h. h.known) hooks.now.all.items) }
 {
     assert!(rt;
         writes(
-            rt.alloc(),
+            alloc,
             "dis in out",
             CODE,
             LISTING,
@@ -192,7 +186,7 @@ fn listings(rt: &HostRuntime, hooks: &Hooks) -> Result<(), Fail>
     );
     assert!(rt;
         writes(
-            rt.alloc(),
+            alloc,
             "asm in out",
             LISTING,
             CODE,
@@ -202,7 +196,7 @@ fn listings(rt: &HostRuntime, hooks: &Hooks) -> Result<(), Fail>
     );
     assert!(rt;
         writes(
-            rt.alloc(),
+            alloc,
             "asm in out",
             b"",
             b"NCS V1.0B\x00\x00\x00\x0d",
@@ -213,7 +207,7 @@ fn listings(rt: &HostRuntime, hooks: &Hooks) -> Result<(), Fail>
     Ok(())
 }
 
-fn broken_code(rt: &HostRuntime, hooks: &Hooks) -> Result<(), Fail>
+fn broken_code(alloc: Global, rt: &impl Abort, hooks: &Hooks) -> Result<(), Fail>
     requires hooks { AreServing (map (λ h. h.known) hooks.now.all.items) }
 {
     let rows = [
@@ -232,14 +226,14 @@ fn broken_code(rt: &HostRuntime, hooks: &Hooks) -> Result<(), Fail>
     ];
     for (bytes, text) in rows {
         assert!(rt;
-            answers(rt.alloc(), "dis in out", bytes, Status::Code, text, hooks)?,
+            answers(alloc, "dis in out", bytes, Status::Code, text, hooks)?,
             "{text}"
         );
     }
     Ok(())
 }
 
-fn checks(rt: &HostRuntime, hooks: &Hooks) -> Result<(), Fail>
+fn checks(alloc: Global, rt: &impl Abort, hooks: &Hooks) -> Result<(), Fail>
     requires hooks { AreServing (map (λ h. h.known) hooks.now.all.items) }
 {
     let rows = [
@@ -267,14 +261,14 @@ fn checks(rt: &HostRuntime, hooks: &Hooks) -> Result<(), Fail>
     ];
     for (bytes, status, text) in rows {
         assert!(rt;
-            answers(rt.alloc(), "check - in", bytes, status, text, hooks)?,
+            answers(alloc, "check - in", bytes, status, text, hooks)?,
             "{text}"
         );
     }
     Ok(())
 }
 
-fn broken_listings(rt: &HostRuntime, hooks: &Hooks) -> Result<(), Fail>
+fn broken_listings(alloc: Global, rt: &impl Abort, hooks: &Hooks) -> Result<(), Fail>
     requires hooks { AreServing (map (λ h. h.known) hooks.now.all.items) }
 {
     let rows = [
@@ -285,7 +279,7 @@ fn broken_listings(rt: &HostRuntime, hooks: &Hooks) -> Result<(), Fail>
     for (listing, text) in rows {
         assert!(rt;
             answers(
-                rt.alloc(),
+                alloc,
                 "asm in out",
                 listing.as_bytes(),
                 Status::Code,
@@ -298,7 +292,7 @@ fn broken_listings(rt: &HostRuntime, hooks: &Hooks) -> Result<(), Fail>
     Ok(())
 }
 
-fn other_statuses(rt: &HostRuntime, hooks: &Hooks) -> Result<(), Fail>
+fn other_statuses(alloc: Global, rt: &impl Abort, hooks: &Hooks) -> Result<(), Fail>
     requires hooks { AreServing (map (λ h. h.known) hooks.now.all.items) }
 {
     let rows = [
@@ -327,7 +321,7 @@ fn other_statuses(rt: &HostRuntime, hooks: &Hooks) -> Result<(), Fail>
         ("asm in -out", CODE, None, Status::Words, "refused words\n"),
     ];
     for (line, bytes, fails, status, text) in rows {
-        let (found, _files, out) = outcome(rt.alloc(), line, bytes, fails, hooks)?;
+        let (found, _files, out) = outcome(alloc, line, bytes, fails, hooks)?;
         assert_eq!(rt; found, status);
         assert_eq!(rt; out.bytes(), text.as_bytes());
     }
@@ -335,15 +329,15 @@ fn other_statuses(rt: &HostRuntime, hooks: &Hooks) -> Result<(), Fail>
 }
 
 /// Every test of the commands over other files.
-pub fn all(rt: &HostRuntime, hooks: &Hooks) -> Result<(), Fail>
+pub fn all(alloc: Global, rt: &impl Abort, hooks: &Hooks) -> Result<(), Fail>
     requires hooks { AreServing (map (λ h. h.known) hooks.now.all.items) }
 {
-    trees(rt, hooks)?;
-    broken_trees(rt, hooks)?;
-    short_trees(rt, hooks)?;
-    listings(rt, hooks)?;
-    broken_code(rt, hooks)?;
-    checks(rt, hooks)?;
-    broken_listings(rt, hooks)?;
-    other_statuses(rt, hooks)
+    trees(alloc, rt, hooks)?;
+    broken_trees(alloc, rt, hooks)?;
+    short_trees(alloc, rt, hooks)?;
+    listings(alloc, rt, hooks)?;
+    broken_code(alloc, rt, hooks)?;
+    checks(alloc, rt, hooks)?;
+    broken_listings(alloc, rt, hooks)?;
+    other_statuses(alloc, rt, hooks)
 }

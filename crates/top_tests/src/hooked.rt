@@ -25,9 +25,9 @@ fn top_call(rt: HostRuntime) -> Result<(), Fail> {
         put_hook(alloc, &mut hooks, n, call)?;
     }
     all_are_put(&hooks);
-    commands::all(&rt, &hooks)?;
-    files::all(&rt, &hooks)?;
-    programs::all(&rt, &hooks)?;
-    scripts::all(&rt, &hooks)?;
+    commands::all(alloc, &rt, &hooks)?;
+    files::all(alloc, &rt, &hooks)?;
+    programs::all(alloc, &rt, &hooks)?;
+    scripts::all(alloc, &rt, &hooks)?;
     Ok(())
 }

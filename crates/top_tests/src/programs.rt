@@ -6,6 +6,7 @@ use nwq_outside::{MemFiles, MemSink};
 use nwq_top::nwq_program;
 use nwq_value::NoMemory;
 use std::alloc::Global;
+use std::process::Abort;
 use std::test::Fail;
 
 /// The program with these words, parted by spaces, over two scripts: the number with which it ends,
@@ -26,7 +27,7 @@ fn ends(alloc: Global, line: &str, hooks: &Hooks) -> Result<(u8, MemSink, MemSin
     Ok((number, out, err))
 }
 
-fn whole_program(rt: &HostRuntime, hooks: &Hooks) -> Result<(), Fail>
+fn whole_program(alloc: Global, rt: &impl Abort, hooks: &Hooks) -> Result<(), Fail>
     requires hooks { AreServing (map (λ h. h.known) hooks.now.all.items) }
 {
     let rows = [
@@ -39,7 +40,7 @@ fn whole_program(rt: &HostRuntime, hooks: &Hooks) -> Result<(), Fail>
         ("nwq run - r", 6, "missing r.nss\n"),
     ];
     for (line, number, text) in rows {
-        let (found, out, err) = ends(rt.alloc(), line, hooks)?;
+        let (found, out, err) = ends(alloc, line, hooks)?;
         assert_eq!(rt; found, number);
         assert_eq!(rt; out.bytes(), text.as_bytes());
         assert_eq!(rt; err.bytes(), b"".as_slice());
@@ -47,13 +48,13 @@ fn whole_program(rt: &HostRuntime, hooks: &Hooks) -> Result<(), Fail>
     Ok(())
 }
 
-fn usage(rt: &HostRuntime, hooks: &Hooks) -> Result<(), Fail>
+fn usage(alloc: Global, rt: &impl Abort, hooks: &Hooks) -> Result<(), Fail>
     requires hooks { AreServing (map (λ h. h.known) hooks.now.all.items) }
 {
     let told =
         b"usage: nwq run HEADER SCRIPT | compile HEADER SCRIPT | tree FILE | check HEADER FILE | dis FILE TO | asm FILE TO (HEADER: a header file, or - for the built-in one)\n";
     for line in ["", "nwq", "nwq run"] {
-        let (found, out, err) = ends(rt.alloc(), line, hooks)?;
+        let (found, out, err) = ends(alloc, line, hooks)?;
         assert_eq!(rt; found, 1);
         assert_eq!(rt; out.bytes(), b"refused words\n".as_slice());
         assert_eq!(rt; err.bytes(), told.as_slice());
@@ -62,9 +63,9 @@ fn usage(rt: &HostRuntime, hooks: &Hooks) -> Result<(), Fail>
 }
 
 /// Every test of the whole program.
-pub fn all(rt: &HostRuntime, hooks: &Hooks) -> Result<(), Fail>
+pub fn all(alloc: Global, rt: &impl Abort, hooks: &Hooks) -> Result<(), Fail>
     requires hooks { AreServing (map (λ h. h.known) hooks.now.all.items) }
 {
-    whole_program(rt, hooks)?;
-    usage(rt, hooks)
+    whole_program(alloc, rt, hooks)?;
+    usage(alloc, rt, hooks)
 }

@@ -8,6 +8,7 @@ use nwq_outside::{MemFiles, MemSink};
 use nwq_top::{Status, nwq_main};
 use nwq_value::NoMemory;
 use std::alloc::Global;
+use std::process::Abort;
 use std::test::Fail;
 
 /// What words, parted by spaces, do over this script `p.nss`: the status, the files and the sink.
@@ -60,7 +61,7 @@ fn refuses(alloc: Global, source: &str, text: &str, hooks: &Hooks) -> Result<boo
     Ok(both && same && files.get("p.ncs").is_none())
 }
 
-fn compiled(rt: &HostRuntime, hooks: &Hooks) -> Result<(), Fail>
+fn compiled(alloc: Global, rt: &impl Abort, hooks: &Hooks) -> Result<(), Fail>
     requires hooks { AreServing (map (λ h. h.known) hooks.now.all.items) }
 {
     let rows = [
@@ -76,15 +77,12 @@ fn compiled(rt: &HostRuntime, hooks: &Hooks) -> Result<(), Fail>
         ),
     ];
     for (source, bytes, text) in rows {
-        assert!(rt;
-            compiles(rt.alloc(), source, bytes, text, hooks)?,
-            "{source}"
-        );
+        assert!(rt; compiles(alloc, source, bytes, text, hooks)?, "{source}");
     }
     Ok(())
 }
 
-fn typing_faults(rt: &HostRuntime, hooks: &Hooks) -> Result<(), Fail>
+fn typing_faults(alloc: Global, rt: &impl Abort, hooks: &Hooks) -> Result<(), Fail>
     requires hooks { AreServing (map (λ h. h.known) hooks.now.all.items) }
 {
     let rows = [
@@ -113,32 +111,26 @@ fn typing_faults(rt: &HostRuntime, hooks: &Hooks) -> Result<(), Fail>
         ),
     ];
     for (source, text) in rows {
-        assert!(rt; refuses(rt.alloc(), source, text, hooks)?, "{source}");
+        assert!(rt; refuses(alloc, source, text, hooks)?, "{source}");
     }
     Ok(())
 }
 
-fn failed_write(rt: &HostRuntime, hooks: &Hooks) -> Result<(), Fail>
+fn failed_write(alloc: Global, rt: &impl Abort, hooks: &Hooks) -> Result<(), Fail>
     requires hooks { AreServing (map (λ h. h.known) hooks.now.all.items) }
 {
-    let (status, files, out) = outcome(
-        rt.alloc(),
-        "compile - p",
-        "void main() {}",
-        Some(1),
-        hooks,
-    )?;
+    let (status, files, out) = outcome(alloc, "compile - p", "void main() {}", Some(1), hooks)?;
     assert_eq!(rt; status, Status::Fault);
     assert_eq!(rt; out.bytes(), b"".as_slice());
     assert!(rt; files.get("p.ncs").is_none());
     Ok(())
 }
 
-/// All of them.
-pub fn all(rt: &HostRuntime, hooks: &Hooks) -> Result<(), Fail>
+/// Every test of scripts that are typed and compiled.
+pub fn all(alloc: Global, rt: &impl Abort, hooks: &Hooks) -> Result<(), Fail>
     requires hooks { AreServing (map (λ h. h.known) hooks.now.all.items) }
 {
-    compiled(rt, hooks)?;
-    typing_faults(rt, hooks)?;
-    failed_write(rt, hooks)
+    compiled(alloc, rt, hooks)?;
+    typing_faults(alloc, rt, hooks)?;
+    failed_write(alloc, rt, hooks)
 }
