@@ -14,7 +14,8 @@ void main()
     {
         object oPost = GetObjectByTag("WP_POST", nPost);
         if (!GetIsObjectValid(oPost)) break;
-        ActionDoCommand(Reach(oPost, ++nPost));
+        nPost++;    // a delayed call keeps the value that a variable has now
+        ActionDoCommand(Reach(oPost, nPost));
         ActionWait(1000);
     }
     ActionSpeakString("Nobody passed " + IntToString(nPost) + " posts.");

@@ -5,7 +5,7 @@ use Rattle.std.specs.List.{IsDistinct, AllByRecursion}
 use Rattle.std.specs.Str.{bytes_eq}
 use Rattle.std.specs.declared.alloc.Global.{Global}
 use Rattle.nwq_value.specs.declared.memory.NoMemory.{NoMemory}
-use Rattle.gff_tree.specs.declared.tree.Gff.{Gff}
+use Rattle.gff_tree.specs.Whole.{PlainGff}
 use Rattle.area_tree.specs.Variables.{Variable, IntVar, put, same_variable}
 use Rattle.area_tree.specs.Objects.{AreaObject}
 use Rattle.area_tree.specs.Area.{PlainArea, object_at, tagged, changed_at, bare, IsArea}
@@ -44,10 +44,10 @@ distinct_changed (o ∷ objects) zero change keeps all = (keeps o.vars all.0, al
 distinct_changed (o ∷ objects) (suc i) change keeps all = (all.0, distinct_changed objects i change keeps all.1)
 
 -- the facts of an area with these objects
-abbrev pub Facts : Gff → List AreaObject → Type 0
+abbrev pub Facts : PlainGff → List AreaObject → Type 0
 Facts tree objects = IsArea (record { tree = tree; objects = objects })
 
-pub facts_changed : (tree : Gff) (objects : List AreaObject) (i : ℕ) (change : List Variable → List Variable) → ((vars : List Variable) → IsDistinct same_variable vars → IsDistinct same_variable (change vars)) →
+pub facts_changed : (tree : PlainGff) (objects : List AreaObject) (i : ℕ) (change : List Variable → List Variable) → ((vars : List Variable) → IsDistinct same_variable vars → IsDistinct same_variable (change vars)) →
     Facts tree objects → Facts tree (changed_at i change objects)
 facts_changed tree objects i change keeps area = record {
   sound = area.sound;
@@ -58,35 +58,35 @@ facts_changed tree objects i change keeps area = record {
 }
 
 -- what a change of one object leaves of an area's fields
-abbrev pub Leaves : Gff → List AreaObject → List AreaObject → Type 0
+abbrev pub Leaves : PlainGff → List AreaObject → List AreaObject → Type 0
 Leaves tree before after = Facts tree after × ((tag : List ℕ) → tagged tag 1 after ≡ tagged tag 1 before)
 
 pub index_left : (entries : List (Vec ℕ Global × List ℕ)) (before after : List AreaObject) → Indexes entries before → ((tag : List ℕ) → tagged tag 1 after ≡ tagged tag 1 before) → Indexes entries after
 index_left entries before after indexes same = λ tag. indexes tag ∙ sym (same tag)
 
-pub object_left : (tree : Gff) (objects : List AreaObject) (i : ℕ) (old new : AreaObject) (change : List Variable → List Variable) → ((vars : List Variable) → IsDistinct same_variable vars → IsDistinct same_variable (change vars)) →
+pub object_left : (tree : PlainGff) (objects : List AreaObject) (i : ℕ) (old new : AreaObject) (change : List Variable → List Variable) → ((vars : List Variable) → IsDistinct same_variable vars → IsDistinct same_variable (change vars)) →
     Facts tree objects → i < length objects → old ≡ get_or objects i old → new ≡ record old { vars = change old.vars } → Leaves tree objects (set objects i new)
 object_left tree objects i old new change keeps area lt is made =
     subst (Leaves tree objects) (sym (object_changed objects i old new change lt is made)) (facts_changed tree objects i change keeps area, λ tag. tagged_changed tag 1 objects i change)
 
-same_left : (tree : Gff) (objects : List AreaObject) (i : ℕ) (old new : AreaObject) → Facts tree objects → i < length objects → old ≡ get_or objects i old → new ≡ old → Leaves tree objects (set objects i new)
+same_left : (tree : PlainGff) (objects : List AreaObject) (i : ℕ) (old new : AreaObject) → Facts tree objects → i < length objects → old ≡ get_or objects i old → new ≡ old → Leaves tree objects (set objects i new)
 same_left tree objects i old new area lt is made = object_left tree objects i old new (λ vars. vars) (λ vars d. d) area lt is made
 
 -- a change that may have found no memory
-pub tried_left : (tree : Gff) (objects : List AreaObject) (i : ℕ) (old new : AreaObject) (change : List Variable → List Variable) (r : Result (Unit {0}) NoMemory) →
+pub tried_left : (tree : PlainGff) (objects : List AreaObject) (i : ℕ) (old new : AreaObject) (change : List Variable → List Variable) (r : Result (Unit {0}) NoMemory) →
     ((vars : List Variable) → IsDistinct same_variable vars → IsDistinct same_variable (change vars)) → Facts tree objects → i < length objects → old ≡ get_or objects i old →
     OnOk r (new ≡ record old { vars = change old.vars }) → OnErr r (new ≡ old) → Leaves tree objects (set objects i new)
 tried_left tree objects i old new change (Ok u) keeps area lt is made same = object_left tree objects i old new change keeps area lt is made
 tried_left tree objects i old new change (Err e) keeps area lt is made same = same_left tree objects i old new area lt is same
 
-pub tried_ok : (tree : Gff) (objects : List AreaObject) (i : ℕ) (old new : AreaObject) (change : List Variable → List Variable) (area : PlainArea) (r : Result (Unit {0}) NoMemory) →
+pub tried_ok : (tree : PlainGff) (objects : List AreaObject) (i : ℕ) (old new : AreaObject) (change : List Variable → List Variable) (area : PlainArea) (r : Result (Unit {0}) NoMemory) →
     record { tree = tree; objects = objects } ≡ area → i < length objects → old ≡ get_or objects i old → OnOk r (new ≡ record old { vars = change old.vars }) →
     OnOk r (record { tree = tree; objects = set objects i new } ≡ record area { objects = changed_at i change area.objects })
 tried_ok tree objects i old new change area (Ok u) view lt is made =
     ap (λ (os : List AreaObject). record { tree = tree; objects = os }) (object_changed objects i old new change lt is made) ∙ ap (λ (a : PlainArea). record a { objects = changed_at i change a.objects }) view
 tried_ok tree objects i old new change area (Err e) view lt is made = tt
 
-pub tried_err : (tree : Gff) (objects : List AreaObject) (i : ℕ) (old new : AreaObject) (area : PlainArea) (r : Result (Unit {0}) NoMemory) →
+pub tried_err : (tree : PlainGff) (objects : List AreaObject) (i : ℕ) (old new : AreaObject) (area : PlainArea) (r : Result (Unit {0}) NoMemory) →
     record { tree = tree; objects = objects } ≡ area → i < length objects → old ≡ get_or objects i old → OnErr r (new ≡ old) → OnErr r (record { tree = tree; objects = set objects i new } ≡ area)
 tried_err tree objects i old new area (Ok u) view lt is same = tt
 tried_err tree objects i old new area (Err e) view lt is same =
@@ -97,7 +97,7 @@ tried_err tree objects i old new area (Err e) view lt is same =
     unchanged (o ∷ os) zero = refl
     unchanged (o ∷ os) (suc k) = ap (λ (rest : List AreaObject). o ∷ rest) (unchanged os k)
 
-pub made_view : (tree : Gff) (objects : List AreaObject) (i : ℕ) (old new : AreaObject) (change : List Variable → List Variable) (area : PlainArea) →
+pub made_view : (tree : PlainGff) (objects : List AreaObject) (i : ℕ) (old new : AreaObject) (change : List Variable → List Variable) (area : PlainArea) →
     record { tree = tree; objects = objects } ≡ area → i < length objects → old ≡ get_or objects i old → new ≡ record old { vars = change old.vars } →
     record { tree = tree; objects = set objects i new } ≡ record area { objects = changed_at i change area.objects }
 made_view tree objects i old new change area view lt is made = tried_ok tree objects i old new change area (Ok tt) view lt is made
@@ -106,7 +106,7 @@ made_view tree objects i old new change area view lt is made = tried_ok tree obj
 pub place_of : (o : ℕ) (objects seen : List AreaObject) → objects ≡ seen → 1 ≤ o → o ≤ length seen → o - 1 < length objects
 place_of o objects seen is first within = let same : length objects ≡ length seen = ap length is in omega (arith, first, within, same)
 
-pub object_seen : (o : ℕ) (tree : Gff) (objects : List AreaObject) (area : PlainArea) (object : AreaObject) → record { tree = tree; objects = objects } ≡ area → o - 1 < length objects → object ≡ get_or objects (o - 1) object →
+pub object_seen : (o : ℕ) (tree : PlainGff) (objects : List AreaObject) (area : PlainArea) (object : AreaObject) → record { tree = tree; objects = objects } ≡ area → o - 1 < length objects → object ≡ get_or objects (o - 1) object →
     object ≡ object_at area.objects (o - 1)
 object_seen o tree objects area object view lt is = sym (object_read objects (o - 1) object lt is) ∙ ap (λ (a : PlainArea). object_at a.objects (o - 1)) view
 

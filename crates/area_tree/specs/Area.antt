@@ -2,32 +2,34 @@
 use Rattle.std.specs.Prelude.{◌≡◌, ◌<◌, ◌-◌, ℕ, ℤ, zero, suc, pos, negsuc, if◌then◌else◌, IsTrue, List, [], ◌∷◌, map, length, codes, slice_index}
 use Rattle.std.specs.List.{AllByRecursion, IsDistinct}
 use Rattle.std.specs.Str.{bytes_eq}
-use Rattle.gff_tree.specs.declared.tree.Gff.{Gff}
 use Rattle.gff_tree.specs.Tree.{PlainNode, NoField, Struct, is_sound}
-use Rattle.gff_tree.specs.Whole.{PlainGff, plain_gff}
+use Rattle.gff_tree.specs.Whole.{PlainGff}
 use Rattle.area_tree.specs.Variables.{Variable, same_variable}
 use Rattle.area_tree.specs.Objects.{Script, AreaObject, objects_of}
 use Rattle.area_tree.specs.Broken.{broken_places}
 use Rattle.area_tree.specs.Back.{back}
 
 pub record PlainArea : Type 0 where
-  pub tree : Gff
+  pub tree : PlainGff
   pub objects : List AreaObject
 
 abbrev pub top_of : PlainArea → PlainNode
-top_of area = (plain_gff area.tree).top
+top_of area = area.tree.top
 
 -- the area that a tree tells
-abbrev pub area_of : Gff → PlainArea
-area_of tree = record { tree = tree; objects = objects_of (plain_gff tree).top }
+abbrev pub area_of : PlainGff → PlainArea
+area_of tree = record { tree = tree; objects = objects_of tree.top }
 
 -- the tree of an area without objects
 abbrev pub empty_tree : PlainGff
 empty_tree = record { file_type = codes "GIT "; top = Struct 4294967295 NoField }
 
+abbrev pub empty_area : PlainArea
+empty_area = record { tree = empty_tree; objects = [] }
+
 -- the tree on the way back
 abbrev pub tree_back : PlainArea → PlainGff
-tree_back area = back (plain_gff area.tree) area.objects
+tree_back area = back area.tree area.objects
 
 -- the object at a place from 0; past the end there is none
 abbrev pub object_at : List AreaObject → ℕ → AreaObject

@@ -6,7 +6,7 @@ ghost use Rattle.gff_tree.specs.Whole.{plain_gff};
 ghost use Rattle.gff_tree.specs.Count.{node_count};
 ghost use Rattle.area_tree.specs.Variables.{IntVar, TextVar, is_int, is_text, int_named, text_named, put};
 ghost use Rattle.area_tree.specs.Broken.{broken_places, IsFirst};
-ghost use Rattle.area_tree.specs.Area.{area_of, empty_tree, tree_back, object, by_tag, script_named, changed, IsArea};
+ghost use Rattle.area_tree.specs.Area.{area_of, empty_area, tree_back, object, by_tag, script_named, changed, IsArea};
 
 use crate::back::put_lists;
 use crate::fault::AreaFault;
@@ -28,24 +28,24 @@ pub struct Area {
 
 impl Model for Area {
     ghost use Rattle.std.specs.Coded.{codes};
-    ghost use Rattle.gff_tree.specs.contracts.tree.Gff as gff;
+    ghost use Rattle.gff_tree.specs.Code.{node_code};
+    ghost use Rattle.gff_tree.specs.Whole.{plain_gff};
     ghost use Rattle.area_tree.specs.Area.{PlainArea, IsArea};
     ghost use Rattle.area_tree.specs.Index.{Indexes};
 
     ghost Value = { PlainArea };
 
-    ghost coded = { Prim.hlevel (codes, gff.the_row.coded) };
+    ghost coded = { Prim.hlevel (codes, node_code) };
 
-    ghost view = { λ a. record { tree = a.tree; objects = a.objects.items } };
+    ghost view = { λ a. record { tree = plain_gff a.tree; objects = a.objects.items } };
 
-    ghost invariant = { λ a. IsArea (record { tree = a.tree; objects = a.objects.items }) × Indexes a.tags.entries a.objects.items };
+    ghost invariant = { λ a. IsArea (record { tree = plain_gff a.tree; objects = a.objects.items }) × Indexes a.tags.entries a.objects.items };
 }
 
 impl Area {
     /// The area without objects.
     pub fn empty(alloc: Global) -> Area
-        ensures objects { result.objects ≡ [] }
-        ensures tree { plain_gff result.tree ≡ empty_tree }
+        ensures empty { result ≡ empty_area }
     {
         let top = Node::new(u32::MAX, Vec::new(alloc));
         Area {
@@ -62,7 +62,7 @@ impl Area {
     pub fn of(alloc: Global, tree: Gff) -> Result<Area, AreaFault>
         requires few { node_count (plain_gff tree).top < 4294967296 }
         // What is answered is the tree's area, and the tree breaks no rule.
-        ensures area { IfOk result (λ area. (broken_places (plain_gff tree).top ≡ []) × (area ≡ area_of tree)) }
+        ensures area { IfOk result (λ area. (broken_places (plain_gff tree).top ≡ []) × (area ≡ area_of (plain_gff tree))) }
         // A place that is named is the first that breaks a rule.
         ensures first { IfErr result (λ e. IsFirst e (broken_places (plain_gff tree).top)) }
     {

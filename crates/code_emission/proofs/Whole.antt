@@ -40,7 +40,8 @@ use Rattle.code_emission.specs.Operations.{beneath, bytes_of, dropped, literal_o
 use Rattle.code_emission.specs.Expressions.{Home, InFrame, InGlobals, increment, decrement, moved, home, at_home, read, write, name_code, member_code, prefix_code, postfix_code, Shortcut, WhereTrue, WhereFalse, Never, shortcut, shortcut_labels, binary_code, is_set, read_first, cells_first, constants, result_room, called, is_captured, argument_labels, argument_code, count_arguments, arguments_cells, emit, emit_all, labels, all_labels}
 use Rattle.code_emission.specs.Statements.{Exits, no_exits, in_loop, in_switch, some_labels, evaluated, tested, returned, initial, names_labels, emit_names, is_label, count_labels, behind, test_of, tests, is_default, otherwise, placed, placed_on, stmt_labels, all_stmt_labels, emit_stmt, emit_stmts}
 use Rattle.code_emission.specs.Units.{unit_code, has_globals, body_count, functions_labels, emit_function, emit_functions, globals_labels, emit_globals, entry_call, start_labels, emit_start}
-use Rattle.code_emission.specs.Bounds.{depth_limit, weight, all_weight, some_weight, names_weight, stmt_weight, all_stmt_weight, globals_weight, IsCell, IsType, IsConstant, IsCallee, IsOperator, IsExpr, AreExprs, IsSome, AreNames, IsStmt, AreStmts, AreItems, IsEntry, IsBounded}
+use Rattle.nwq_value.specs.Engine.{IsConstant}
+use Rattle.code_emission.specs.Bounds.{depth_limit, weight, all_weight, some_weight, names_weight, stmt_weight, all_stmt_weight, globals_weight, IsCell, IsType, IsCallee, IsOperator, IsExpr, AreExprs, IsSome, AreNames, IsStmt, AreStmts, AreItems, IsEntry, IsBounded}
 use Rattle.code_emission.specs.Laws.{IsWhole}
 use Rattle.code_emission.proofs.Labels.{unit_placed}
 

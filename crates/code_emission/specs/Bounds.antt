@@ -1,18 +1,15 @@
 -- What the typed tree of a unit keeps, as far as its code needs it: types of few cells, numbers inside their fields, calls of functions that
 -- are there, `break` and `continue` inside of loops, and a stack that is nowhere too deep.
-use Rattle.std.specs.Prelude.{ℕ, ◌+◌, ◌^◌, ◌<◌, ◌≤◌, Bool, true, false, List, [], ◌∷◌, Option, None, Some, length, All, IsTrue, FitsSigned}
+use Rattle.std.specs.Prelude.{ℕ, ◌+◌, ◌^◌, ◌<◌, ◌≤◌, Bool, true, false, List, [], ◌∷◌, Option, None, Some, length, IsTrue}
 use Rattle.std.specs.List.{AllByRecursion}
-use Rattle.std.specs.Int.{w32}
 use Rattle.nss_tree.specs.declared.operators.BinaryOperator.{BinaryOperator}
 use Rattle.nss_tree.specs.declared.operators.BinaryOperator.TheVariants as bin
 use Rattle.nss_tree.specs.Statements.{block, empty, expression, if_only, if_else, while_loop, do_loop, for_loop, switch, break_off, continue_on, return_from, declaration, case_label, default_label, no_stmt, more_stmts}
 use Rattle.nss_tree.specs.Units.{global, function}
 use Rattle.nwq_value.specs.declared.value.Ty.{Ty}
 use Rattle.nwq_value.specs.declared.value.Ty.TheVariants.{Void, Int, Text, Object, Effect, Event, Action, Struct, Refused}
-use Rattle.nwq_value.specs.declared.engine.Const.{Const}
-use Rattle.nwq_value.specs.declared.engine.Const.TheVariants as const
-use Rattle.nwq_value.specs.Limits.{struct_cell_limit, text_limit, parameter_limit, routine_limit}
-use Rattle.ncs_code.specs.Spelling.{IsByte}
+use Rattle.nwq_value.specs.Engine.{IsConstant}
+use Rattle.nwq_value.specs.Limits.{struct_cell_limit, parameter_limit, routine_limit}
 use Rattle.nss_typing.specs.declared.places.Place.{Place}
 use Rattle.nss_typing.specs.declared.places.Place.TheVariants.{Local, Global, Const as IsConst}
 use Rattle.nss_typing.specs.declared.places.Callee.{Callee}
@@ -99,13 +96,6 @@ IsCell Refused = ⊥
 pub record IsType (l : Layout) (t : Ty) : Type 0 where
   pub few : cells l.structs t ≤ struct_cell_limit
   pub kinds : AllByRecursion IsCell (cell_types l.structs t)
-
--- an int of 32 bits, or a text
-abbrev pub IsConstant : Const → Type 0
-IsConstant (const.Int n) = FitsSigned w32 n
-IsConstant (const.Text bytes) = (length bytes ≤ text_limit) × All IsByte bytes
-IsConstant const.SelfObject = Unit {0}
-IsConstant const.InvalidObject = Unit {0}
 
 abbrev pub IsPlace : Place → Type 0
 IsPlace (Local n) = Unit {0}

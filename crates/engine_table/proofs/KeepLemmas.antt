@@ -1,18 +1,22 @@
 -- What no fault says, and what each turn keeps.
-use Rattle.std.proofs.Common.{◌≡◌, ℕ, ◌+◌, ◌<◌, ◌≤◌, Bool, true, false, if◌then◌else◌, nat_lt, List, [], ◌∷◌, ◌++◌, length, codes, bytes_eq, Option, Some, None, is_some, Ok, Err, refl, sym, ap, subst, ◌∙◌, arith, length-append}
+use Rattle.std.proofs.Common.{◌≡◌, ℕ, ◌+◌, ◌^◌, ◌<◌, ◌≤◌, Bool, true, false, if◌then◌else◌, nat_lt, List, [], ◌∷◌, ◌++◌, length, codes, bytes_eq, Option, Some, None, is_some, IfSome, Ok, Err, refl, sym, ap, subst, ◌∙◌, arith, length-append}
 use Rattle.std.proofs.lemmas.Bool.Decides.{nat_tests}
 use Rattle.std.proofs.lemmas.Option.{same_Some, none-some}
+use Rattle.std.proofs.lemmas.Int.{wrapping_neg_is, SFits-int_wrap}
+use Rattle.std.proofs.Math.Facts.{sfits_to_z, Fits-of_lt}
+use Rattle.std.specs.Int.{cast_signed, w32}
+use Rattle.std.specs.Prelude.{FitsSigned, neg_ℤ}
 use Rattle.nwq_value.specs.declared.value.Ty.{Ty}
 use Rattle.nwq_value.specs.declared.value.Ty.TheVariants as ty
 use Rattle.nwq_value.specs.declared.engine.Const.{Const}
 use Rattle.nwq_value.specs.declared.engine.Const.TheVariants as const
 use Rattle.nwq_value.specs.declared.engine.Param.{Param}
-use Rattle.nwq_value.specs.Engine.{Constant, routine_named, constant_named, const_type, IsNoStruct, FitsType, AreParams}
+use Rattle.nwq_value.specs.Engine.{Constant, routine_named, constant_named, const_type, AreConstants, IsConstant, IsNoStruct, FitsType, AreParams}
 use Rattle.engine_table.specs.Known.{Known}
 use Rattle.engine_table.specs.declared.declaration.Declared.{Declared}
 use Rattle.engine_table.specs.declared.declaration.Function.{Function}
 use Rattle.engine_table.specs.declared.declaration.Declaration.{Declaration}
-use Rattle.engine_table.specs.declared.declaration.Declaration.TheVariants.{Passed, TypeWord, Constant as IsConstant, Function as IsFunction}
+use Rattle.engine_table.specs.declared.declaration.Declaration.TheVariants as declaration
 use Rattle.engine_table.specs.declared.fault.HeaderFault.{HeaderFault}
 use Rattle.engine_table.specs.declared.symbol.Word.{Word}
 use Rattle.engine_table.specs.declared.symbol.Word.TheVariants as word
@@ -26,7 +30,8 @@ use Rattle.engine_table.specs.declared.stage.Stage.TheVariants as stage
 use Rattle.engine_table.specs.declared.stage.Turn.{Turn}
 use Rattle.engine_table.specs.declared.stage.Turn.TheVariants.{Goes, Gives}
 use Rattle.engine_table.specs.Names.{is_among}
-use Rattle.engine_table.specs.Grammar.{word_type, type_in, structure_of, defined, has_constants, has_type, of_type, constant_in, brackets}
+use Rattle.engine_table.specs.Symbols.{IsSymbol}
+use Rattle.engine_table.specs.Grammar.{word_type, type_in, structure_of, defined, has_constants, has_type, of_type, constant_in, negative, brackets}
 use Rattle.engine_table.specs.Headers.{function_fault, constant_fault, value_fault}
 use Rattle.engine_table.specs.Turns.{Next, goes, misfit, unless_fault, typed, start_turn, hash_turn, define_turn, given, typed_turn, named_turn, type_of, param_turn, constant_end, valued_turn, owner_fault, checked, got, minus_turn, is_minus_of_int, constant_turn, loose_by, value_by, params_turn, behind_turn, param_type_turn, closed_turn, turn, IsOpen, KeepsOwner, KeepsValue, KeepsStage, KeepsDeclaration, KeepsTurn}
 
@@ -124,12 +129,12 @@ if_keeps k true a d e h = some_keeps k a d e h
 if_keeps k false a d e h = absurd (none-some d e)
 
 made_keeps : (k : Known) (o : Option ℕ) (x : Symbol) (d : Declaration) → defined o x ≡ Some d → KeepsDeclaration k d
-made_keeps k None (symbol.Name n) d e = some_keeps k Passed d e tt
-made_keeps k (Some c) (symbol.Name n) d e = if_keeps k (nat_lt 1 c) (TypeWord n) d e tt
-made_keeps k (Some c) (symbol.Word word.Effect) d e = if_keeps k _ Passed d e tt
-made_keeps k (Some c) (symbol.Word word.Event) d e = if_keeps k _ Passed d e tt
-made_keeps k o (symbol.Word w) d e = some_keeps k Passed d e tt
-made_keeps k o (symbol.Int n) d e = some_keeps k Passed d e tt
+made_keeps k None (symbol.Name n) d e = some_keeps k declaration.Passed d e tt
+made_keeps k (Some c) (symbol.Name n) d e = if_keeps k (nat_lt 1 c) (declaration.TypeWord n) d e tt
+made_keeps k (Some c) (symbol.Word word.Effect) d e = if_keeps k _ declaration.Passed d e tt
+made_keeps k (Some c) (symbol.Word word.Event) d e = if_keeps k _ declaration.Passed d e tt
+made_keeps k o (symbol.Word w) d e = some_keeps k declaration.Passed d e tt
+made_keeps k o (symbol.Int n) d e = some_keeps k declaration.Passed d e tt
 made_keeps k o x d e = absurd (none-some d e)
 
 given_keeps : (k : Known) (o : Option Declaration) (p : ℕ) (t : Turn) → ((d : Declaration) → o ≡ Some d → KeepsDeclaration k d) → given o p ≡ Ok t → KeepsTurn k t
@@ -182,21 +187,25 @@ param_keeps k f u c p (symbol.Sign sign.Close) t h few plain fits e =
     is_turn k (Goes (stage.Closed (with_one f u c))) t e ((open_more k f u c h plain fits, (let n = one_longer f.params (record { ty = u; default = c }) in omega (arith, n, few))), tt)
 param_keeps k f u c p x t h few plain fits e = absurd (no_turn _ t e)
 
-end_keeps : (k : Known) (d : Declared) (c : Option Const) (p : ℕ) (x : Symbol) (t : Turn) → constant_fault k d ≡ None → value_fault k d c ≡ None
+end_keeps : (k : Known) (d : Declared) (c : Option Const) (p : ℕ) (x : Symbol) (t : Turn) → constant_fault k d ≡ None → value_fault k d c ≡ None → IfSome c IsConstant
     → constant_end d c p x ≡ Ok t → KeepsTurn k t
-end_keeps k d c p (symbol.Sign sign.Semicolon) t a b e = is_turn k (Gives (IsConstant d c)) t e (a, b)
-end_keeps k d c p x t a b e = absurd (no_turn _ t e)
+end_keeps k d c p (symbol.Sign sign.Semicolon) t a b bounds e = is_turn k (Gives (declaration.Constant d c)) t e (a, b, bounds)
+end_keeps k d c p x t a b bounds e = absurd (no_turn _ t e)
 
 valued_keeps : (k : Known) (o : Owner) (c : Option Const) (p : ℕ) (x : Symbol) (t : Turn) → KeepsValue k o c → valued_turn o c p x ≡ Ok t → KeepsTurn k t
-valued_keeps k (owner.Constant d) c p x t h e = end_keeps k d c p x t h.0 h.1 e
+valued_keeps k (owner.Constant d) c p x t h e = end_keeps k d c p x t h.0 h.1 h.2 e
 valued_keeps k (owner.Parameter f u) c p x t h e = param_keeps k f u c p x t h.0 h.1 h.2 h.3 e
+
+bounds_of : (c : Option Const) (u : Ty) → FitsType c u → IfSome c IsConstant
+bounds_of None u fits = tt
+bounds_of (Some c) u fits = fits.1
 
 -- what becomes of an owner once its value was read
 valued_of : (k : Known) (o : Owner) (c : Option Const) → KeepsOwner k o → FitsType c (type_of o) → owner_fault k o c ≡ None → KeepsValue k o c
-valued_of k (owner.Constant d) c h fits none = (h, none)
+valued_of k (owner.Constant d) c h fits none = (h, none, bounds_of c d.ty fits)
 valued_of k (owner.Parameter f u) c h fits none = (h.0, h.1, h.2, fits)
 
-got_keeps : (k : Known) (o : Owner) (c : Const) (t : Turn) → KeepsOwner k o → const_type c ≡ type_of o
+got_keeps : (k : Known) (o : Owner) (c : Const) (t : Turn) → KeepsOwner k o → FitsType (Some c) (type_of o)
     → checked k o (Some c) (goes (stage.Valued o (Some c))) ≡ Ok t → KeepsTurn k t
 got_keeps k o c t h fits e =
     unless (KeepsTurn k t) (owner_fault k o (Some c)) (goes (stage.Valued o (Some c))) t
@@ -224,7 +233,37 @@ constant_type constants ty.Object (symbol.Word word.ObjectInvalid) c e = ap cons
 constant_type constants u (symbol.Name n) c e = of_type_type u (constant_named n constants) c e
 constant_type constants u x c e = absurd (none-some c e)
 
-got_some : (k : Known) (o : Owner) (v : Option Const) (p : ℕ) (t : Turn) → KeepsOwner k o → ((c : Const) → v ≡ Some c → const_type c ≡ type_of o)
+-- a constant in sight is within bounds
+named_bounds : (constants : List Constant) (n : List ℕ) (c : Const) → AreConstants constants → constant_named n constants ≡ Some c → IsConstant c
+unfolding constant_named
+named_bounds [] n c all e = absurd (none-some c e)
+named_bounds (d ∷ ds) n c all e = by_name (bytes_eq n d.name) (λ found. named_bounds ds n c all.1 found) e where
+  by_name : (b : Bool) → (constant_named n ds ≡ Some c → IsConstant c) → (if b then Some d.value else constant_named n ds) ≡ Some c → IsConstant c
+  by_name true later is = subst IsConstant (same_Some d.value c is) all.0
+  by_name false later is = later is
+
+of_type_is : (u : Ty) (o : Option Const) (c : Const) → of_type u o ≡ Some c → o ≡ Some c
+of_type_is u None c e = absurd (none-some c e)
+of_type_is u (Some d) c e = by_test (has_type d u) e where
+  by_test : (b : Bool) → (if b then Some d else None) ≡ Some c → Some d ≡ Some c
+  by_test true is = is
+  by_test false is = absurd (none-some c is)
+
+-- so is one that a token is by itself
+constant_bounds : (constants : List Constant) (u : Ty) (x : Symbol) (c : Const) → AreConstants constants → IsSymbol x → constant_in constants u x ≡ Some c
+    → IsConstant c
+constant_bounds constants ty.Int (symbol.Int n) c all bounds e = subst IsConstant (same_Some _ c e) (sfits_to_z (Fits-of_lt bounds))
+constant_bounds constants ty.Text (symbol.Text bytes) c all bounds e = subst IsConstant (same_Some _ c e) bounds
+constant_bounds constants ty.Object (symbol.Word word.ObjectSelf) c all bounds e = subst IsConstant (same_Some _ c e) tt
+constant_bounds constants ty.Object (symbol.Word word.ObjectInvalid) c all bounds e = subst IsConstant (same_Some _ c e) tt
+constant_bounds constants u (symbol.Name n) c all bounds e = named_bounds constants n c all (of_type_is u (constant_named n constants) c e)
+constant_bounds constants u x c all bounds e = absurd (none-some c e)
+
+negative_bounds : (n : ℕ) → n < 2 ^ 32 → IsConstant (negative n)
+negative_bounds n bounds =
+    subst (FitsSigned w32) (sym (wrapping_neg_is w32 (cast_signed w32 n) (sfits_to_z (Fits-of_lt bounds)))) (SFits-int_wrap w32 (neg_ℤ (cast_signed w32 n)))
+
+got_some : (k : Known) (o : Owner) (v : Option Const) (p : ℕ) (t : Turn) → KeepsOwner k o → ((c : Const) → v ≡ Some c → FitsType (Some c) (type_of o))
     → got k o v p ≡ Ok t → KeepsTurn k t
 got_some k o (Some c) p t h fits e = got_keeps k o c t h (fits c refl) e
 got_some k o None p t h fits e = absurd (no_turn _ t e)
@@ -233,24 +272,24 @@ minus_type : (u : Ty) (x : Symbol) → is_minus_of_int u x ≡ true → u ≡ ty
 minus_type ty.Int x e = refl
 minus_type u x e = cc
 
-constant_keeps : (k : Known) (o : Owner) (p : ℕ) (x : Symbol) (t : Turn) → KeepsOwner k o → constant_turn k o (type_of o) p x ≡ Ok t → KeepsTurn k t
-constant_keeps k o p x t h e =
+constant_keeps : (k : Known) (o : Owner) (p : ℕ) (x : Symbol) (t : Turn) → AreConstants k.table.constants → IsSymbol x → KeepsOwner k o → constant_turn k o (type_of o) p x ≡ Ok t → KeepsTurn k t
+constant_keeps k o p x t all bounds h e =
     choose (KeepsTurn k t) (is_minus_of_int (type_of o) x) (goes (stage.Minus o)) (got k o (constant_in k.table.constants (type_of o) x) p) t
     (λ is e'. is_turn k (Goes (stage.Minus o)) t e' ((h, minus_type (type_of o) x is), tt))
-    (λ is e'. got_some k o (constant_in k.table.constants (type_of o) x) p t h (λ c e''. constant_type k.table.constants (type_of o) x c e'') e') e
+    (λ is e'. got_some k o (constant_in k.table.constants (type_of o) x) p t h (λ c e''. (constant_type k.table.constants (type_of o) x c e'', constant_bounds k.table.constants (type_of o) x c all bounds e'')) e') e
 
-minus_keeps : (k : Known) (o : Owner) (p : ℕ) (x : Symbol) (t : Turn) → KeepsOwner k o → type_of o ≡ ty.Int → minus_turn k o p x ≡ Ok t → KeepsTurn k t
-minus_keeps k o p (symbol.Int n) t h int e = got_keeps k o _ t h (sym int) e
-minus_keeps k o p x t h int e = absurd (no_turn _ t e)
+minus_keeps : (k : Known) (o : Owner) (p : ℕ) (x : Symbol) (t : Turn) → IsSymbol x → KeepsOwner k o → type_of o ≡ ty.Int → minus_turn k o p x ≡ Ok t → KeepsTurn k t
+minus_keeps k o p (symbol.Int n) t bounds h int e = got_keeps k o _ t h (sym int, negative_bounds n bounds) e
+minus_keeps k o p x t bounds h int e = absurd (no_turn _ t e)
 
 loose_by_keeps : (k : Known) (o : Owner) (d : Option ℕ) (p : ℕ) (x : Symbol) (t : Turn) → KeepsOwner k o → loose_by k o d p x ≡ Ok t → KeepsTurn k t
 loose_by_keeps k o (Some e) p x t h is = is_turn k (Goes (stage.Loose o e)) t is (h, tt)
 loose_by_keeps k o None p x t h is =
     unless (KeepsTurn k t) (owner_fault k o None) (valued_turn o None p x) t (λ none e. valued_keeps k o None p x t (valued_of k o None h tt none) e) is
 
-value_by_keeps : (b : Bool) (k : Known) (o : Owner) (p : ℕ) (x : Symbol) (t : Turn) → KeepsOwner k o → value_by b k o p x ≡ Ok t → KeepsTurn k t
-value_by_keeps true k o p x t h e = constant_keeps k o p x t h e
-value_by_keeps false k o p x t h e = loose_by_keeps k o (brackets 0 x) p x t h e
+value_by_keeps : (b : Bool) (k : Known) (o : Owner) (p : ℕ) (x : Symbol) (t : Turn) → AreConstants k.table.constants → IsSymbol x → KeepsOwner k o → value_by b k o p x ≡ Ok t → KeepsTurn k t
+value_by_keeps true k o p x t all bounds h e = constant_keeps k o p x t all bounds h e
+value_by_keeps false k o p x t all bounds h e = loose_by_keeps k o (brackets 0 x) p x t h e
 
 -- ---- parameters
 
@@ -269,24 +308,24 @@ param_type_keeps k f u p (symbol.Name n) t h few plain e = is_turn k (Goes (stag
 param_type_keeps k f u p x t h few plain e = behind_keeps k f u p x t h few plain e
 
 closed_keeps : (k : Known) (f : Function) (p : ℕ) (x : Symbol) (t : Turn) → IsOpen k f → length f.params ≤ 255 → closed_turn f p x ≡ Ok t → KeepsTurn k t
-closed_keeps k f p (symbol.Sign sign.Semicolon) t h few e = is_turn k (Gives (IsFunction f)) t e (h, few)
+closed_keeps k f p (symbol.Sign sign.Semicolon) t h few e = is_turn k (Gives (declaration.Function f)) t e (h, few)
 closed_keeps k f p x t h few e = absurd (no_turn _ t e)
 
-pub turn_keeps : (k : Known) (s : Stage) (p : ℕ) (x : Symbol) (t : Turn) → KeepsStage k s → turn k s p x ≡ Ok t → KeepsTurn k t
+pub turn_keeps : (k : Known) (s : Stage) (p : ℕ) (x : Symbol) (t : Turn) → AreConstants k.table.constants → IsSymbol x → KeepsStage k s → turn k s p x ≡ Ok t → KeepsTurn k t
 unfolding turn
-turn_keeps k stage.Start p x t h e = start_keeps k p x t e
-turn_keeps k stage.Hash p x t h e = hash_keeps k p x t e
-turn_keeps k stage.Define p x t h e = define_keeps k p x t e
-turn_keeps k (stage.Defined n) p x t h e = given_keeps k (defined (structure_of n) x) p t (λ d is. made_keeps k (structure_of n) x d is) e
-turn_keeps k stage.Const p x t h e = typed_keeps k (stage.Typed true) (type_in k.words x) p t (λ u is. (no_struct k.words x u is, tt)) e
-turn_keeps k (stage.Typed b u) p x t h e = named_typed_keeps k b u p x t h e
-turn_keeps k (stage.Named b d) p x t h e = named_keeps k b d p x t h e
-turn_keeps k (stage.Value o) p x t h e = value_by_keeps (has_constants (type_of o)) k o p x t h e
-turn_keeps k (stage.Minus o) p x t h e = minus_keeps k o p x t h.0 h.1 e
-turn_keeps k (stage.Loose o d) p x t h e = loose_by_keeps k o (brackets d x) p x t h e
-turn_keeps k (stage.Valued o c) p x t h e = valued_keeps k o c p x t h e
-turn_keeps k (stage.Params f) p x t h e = params_keeps k f p x t h.0 h.1 e
-turn_keeps k (stage.Param f) p x t h e = typed_keeps k (stage.ParamType f) (type_in k.words x) p t (λ u is. ((h.0, h.1, no_struct k.words x u is), tt)) e
-turn_keeps k (stage.ParamType f u) p x t h e = param_type_keeps k f u p x t h.0 h.1 h.2 e
-turn_keeps k (stage.ParamName f u) p x t h e = behind_keeps k f u p x t h.0 h.1 h.2 e
-turn_keeps k (stage.Closed f) p x t h e = closed_keeps k f p x t h.0 h.1 e
+turn_keeps k stage.Start p x t all bounds h e = start_keeps k p x t e
+turn_keeps k stage.Hash p x t all bounds h e = hash_keeps k p x t e
+turn_keeps k stage.Define p x t all bounds h e = define_keeps k p x t e
+turn_keeps k (stage.Defined n) p x t all bounds h e = given_keeps k (defined (structure_of n) x) p t (λ d is. made_keeps k (structure_of n) x d is) e
+turn_keeps k stage.Const p x t all bounds h e = typed_keeps k (stage.Typed true) (type_in k.words x) p t (λ u is. (no_struct k.words x u is, tt)) e
+turn_keeps k (stage.Typed b u) p x t all bounds h e = named_typed_keeps k b u p x t h e
+turn_keeps k (stage.Named b d) p x t all bounds h e = named_keeps k b d p x t h e
+turn_keeps k (stage.Value o) p x t all bounds h e = value_by_keeps (has_constants (type_of o)) k o p x t all bounds h e
+turn_keeps k (stage.Minus o) p x t all bounds h e = minus_keeps k o p x t bounds h.0 h.1 e
+turn_keeps k (stage.Loose o d) p x t all bounds h e = loose_by_keeps k o (brackets d x) p x t h e
+turn_keeps k (stage.Valued o c) p x t all bounds h e = valued_keeps k o c p x t h e
+turn_keeps k (stage.Params f) p x t all bounds h e = params_keeps k f p x t h.0 h.1 e
+turn_keeps k (stage.Param f) p x t all bounds h e = typed_keeps k (stage.ParamType f) (type_in k.words x) p t (λ u is. ((h.0, h.1, no_struct k.words x u is), tt)) e
+turn_keeps k (stage.ParamType f u) p x t all bounds h e = param_type_keeps k f u p x t h.0 h.1 h.2 e
+turn_keeps k (stage.ParamName f u) p x t all bounds h e = behind_keeps k f u p x t h.0 h.1 h.2 e
+turn_keeps k (stage.Closed f) p x t all bounds h e = closed_keeps k f p x t h.0 h.1 e

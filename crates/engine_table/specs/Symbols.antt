@@ -1,5 +1,5 @@
 -- What the grammar of a header sees of a token.
-use Rattle.std.specs.Prelude.{ℕ, Bool, ◌||◌, ◌==◌, List, [], ◌∷◌, take, codes, bytes_eq, if◌then◌else◌}
+use Rattle.std.specs.Prelude.{ℕ, ◌^◌, ◌<◌, ◌≤◌, All, Bool, ◌||◌, ◌==◌, List, [], ◌∷◌, length, take, codes, bytes_eq, if◌then◌else◌}
 use Rattle.nwq_value.specs.Limits.{text_limit}
 use Rattle.nss_lexer.specs.declared.token.Kind.{Kind}
 use Rattle.nss_lexer.specs.declared.token.Kind.TheVariants as kind
@@ -70,6 +70,12 @@ symbol_by kind.Sign text = symbol.Sign (sign_of text)
 
 abbrev pub symbol_of : Lexeme → Symbol
 symbol_of t = symbol_by t.kind t.text
+
+-- the literal's number has 32 bits, its text at most 8,192 bytes
+abbrev pub IsSymbol : Symbol → Type 0
+IsSymbol (symbol.Int n) = n < 2 ^ 32
+IsSymbol (symbol.Text bytes) = (length bytes ≤ text_limit) × All (λ b. b < 256) bytes
+IsSymbol _ = Unit {0}
 
 -- a token with the place of its first byte
 pub record Placed : Type 0 where

@@ -1,11 +1,11 @@
 -- What a token does to a line that has come so far, as the code does it. No public clause names this: it is proved to find exactly
 -- what the grammar has.
-use Rattle.std.specs.Prelude.{◌≡◌, ℕ, zero, ◌+◌, ◌≤◌, ◌<◌, Bool, true, false, nat_lt, List, [], ◌∷◌, ◌++◌, length, codes, bytes_eq, Option, None, Some, if◌then◌else◌, Result, Ok, Err}
+use Rattle.std.specs.Prelude.{◌≡◌, ℕ, zero, ◌+◌, ◌≤◌, ◌<◌, Bool, true, false, nat_lt, List, [], ◌∷◌, ◌++◌, length, codes, bytes_eq, Option, None, Some, IfSome, if◌then◌else◌, Result, Ok, Err}
 use Rattle.nwq_value.specs.declared.value.Ty.{Ty}
 use Rattle.nwq_value.specs.declared.value.Ty.TheVariants as ty
 use Rattle.nwq_value.specs.declared.engine.Const.{Const}
 use Rattle.nwq_value.specs.declared.engine.Param.{Param}
-use Rattle.nwq_value.specs.Engine.{EngineTable, IsNoStruct, FitsType, AreParams}
+use Rattle.nwq_value.specs.Engine.{EngineTable, IsConstant, IsNoStruct, FitsType, AreParams}
 use Rattle.nwq_value.specs.Limits.{parameter_limit}
 use Rattle.engine_table.specs.declared.symbol.Word.TheVariants as word
 use Rattle.engine_table.specs.declared.symbol.Sign.TheVariants as sign
@@ -16,7 +16,7 @@ use Rattle.engine_table.specs.declared.fault.HeaderFault.TheVariants.{Bad, Heade
 use Rattle.engine_table.specs.declared.declaration.Declared.{Declared}
 use Rattle.engine_table.specs.declared.declaration.Function.{Function}
 use Rattle.engine_table.specs.declared.declaration.Declaration.{Declaration}
-use Rattle.engine_table.specs.declared.declaration.Declaration.TheVariants.{Constant as IsConstant, Function as IsFunction}
+use Rattle.engine_table.specs.declared.declaration.Declaration.TheVariants as declaration
 use Rattle.engine_table.specs.declared.stage.Owner.{Owner}
 use Rattle.engine_table.specs.declared.stage.Owner.TheVariants as owner
 use Rattle.engine_table.specs.declared.stage.Stage.{Stage}
@@ -99,7 +99,7 @@ param_turn f x p (symbol.Sign sign.Close) = goes (stage.Closed (record f { param
 param_turn f x p _ = misfit p
 
 abbrev pub constant_end : Declared → Option Const → ℕ → Symbol → Next
-constant_end d c p (symbol.Sign sign.Semicolon) = Ok (Gives (IsConstant d c))
+constant_end d c p (symbol.Sign sign.Semicolon) = Ok (Gives (declaration.Constant d c))
 constant_end d c p _ = misfit p
 
 -- the token behind a value
@@ -160,7 +160,7 @@ param_type_turn f t p (symbol.Name n) = goes (stage.ParamName f t)
 param_type_turn f t p s = behind_turn f t p s
 
 abbrev pub closed_turn : Function → ℕ → Symbol → Next
-closed_turn f p (symbol.Sign sign.Semicolon) = Ok (Gives (IsFunction f))
+closed_turn f p (symbol.Sign sign.Semicolon) = Ok (Gives (declaration.Function f))
 closed_turn f p _ = misfit p
 
 -- what a token at this place does
@@ -198,12 +198,12 @@ KeepsOwner k (owner.Constant d) = constant_fault k d ≡ None
 KeepsOwner k (owner.Parameter f t) = IsOpen k f × (length f.params < parameter_limit) × IsNoStruct t
 
 abbrev pub KeepsDefault : Owner → Option Const → Type 0
-KeepsDefault (owner.Constant d) c = Unit {0}
+KeepsDefault (owner.Constant d) c = IfSome c IsConstant
 KeepsDefault (owner.Parameter f t) c = FitsType c t
 
--- a constant's name is free of functions, and its value clashes with nothing
+-- a constant's name is free of functions, and its value is within bounds and clashes with nothing
 abbrev pub KeepsValue : Known → Owner → Option Const → Type 0
-KeepsValue k (owner.Constant d) c = (constant_fault k d ≡ None) × (value_fault k d c ≡ None)
+KeepsValue k (owner.Constant d) c = (constant_fault k d ≡ None) × (value_fault k d c ≡ None) × IfSome c IsConstant
 KeepsValue k (owner.Parameter f t) c = IsOpen k f × (length f.params < parameter_limit) × IsNoStruct t × FitsType c t
 
 abbrev pub KeepsStage : Known → Stage → Type 0
@@ -221,8 +221,8 @@ KeepsStage k (stage.Closed f) = IsOpen k f × (length f.params ≤ parameter_lim
 KeepsStage k _ = Unit {0}
 
 abbrev pub KeepsDeclaration : Known → Declaration → Type 0
-KeepsDeclaration k (IsConstant d c) = (constant_fault k d ≡ None) × (value_fault k d c ≡ None)
-KeepsDeclaration k (IsFunction f) = IsOpen k f × (length f.params ≤ parameter_limit)
+KeepsDeclaration k (declaration.Constant d c) = (constant_fault k d ≡ None) × (value_fault k d c ≡ None) × IfSome c IsConstant
+KeepsDeclaration k (declaration.Function f) = IsOpen k f × (length f.params ≤ parameter_limit)
 KeepsDeclaration k _ = Unit {0}
 
 -- something of a line stands there

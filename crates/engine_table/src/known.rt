@@ -1,6 +1,6 @@
 ghost use Rattle.std.specs.Prelude.{◌≡◌, ◌==◌, if◌then◌else◌, ◌≤◌, [], ◌∷◌, ◌++◌, length};
-ghost use Rattle.std.specs.Prelude.{Some, None, IfOk, OnOk};
-ghost use Rattle.nwq_value.specs.Engine.{constant_named};
+ghost use Rattle.std.specs.Prelude.{Some, None, IfOk, IfSome, OnOk};
+ghost use Rattle.nwq_value.specs.Engine.{IsConstant, constant_named};
 ghost use Rattle.nwq_value.specs.Limits.{parameter_limit};
 ghost use Rattle.engine_table.specs.declared.symbol.Symbol.TheVariants as symbol;
 ghost use Rattle.engine_table.specs.declared.declaration.Declaration.TheVariants as declaration;
@@ -757,7 +757,8 @@ impl Known {
 
     /// Takes a constant into the table, unless one of its name is there.
     fn define(&mut self, head: Declared, value: Const) -> Result<(), NoMemory>
-        requires { header.constant_fault (known_of self.old) head ≡ None }
+        requires value { IsConstant value }
+        requires free { header.constant_fault (known_of self.old) head ≡ None }
         ensures { OnOk result (known_of self.new
             ≡ header.after (known_of self.old) (declaration.Constant head (Some value))) }
     {
@@ -770,7 +771,8 @@ impl Known {
 
     /// Takes a constant into the table, where it has a value.
     fn declare_constant(&mut self, head: Declared, value: Option<Const>) -> Result<(), NoMemory>
-        requires { header.constant_fault (known_of self.old) head ≡ None }
+        requires value { IfSome value IsConstant }
+        requires free { header.constant_fault (known_of self.old) head ≡ None }
         ensures { OnOk result (known_of self.new
             ≡ header.after (known_of self.old) (declaration.Constant head value)) }
     {

@@ -6,7 +6,7 @@ ghost use Rattle.engine_table.specs.declared.fault.HeaderFault.TheVariants as fa
 ghost use Rattle.engine_table.specs.declared.stage.Stage.TheVariants as stage;
 ghost use Rattle.nss_lexer.specs.Lexemes.{IsToken};
 ghost use Rattle.nss_lexer.specs.Splitting.{plain};
-ghost use Rattle.engine_table.specs.Symbols.{at as placed, placed_of};
+ghost use Rattle.engine_table.specs.Symbols.{IsSymbol, at as placed, placed_of};
 ghost use Rattle.engine_table.specs.Headers.{HasTable, IsRefused, IsWithin, nothing};
 ghost use Rattle.engine_table.specs.Turns.{Answers, KeepsStage, KeepsTurn, Leads, Follows};
 ghost use Rattle.engine_table.specs.Turns.{HasTokens, HasTokensUpTo, ended, known_of, turn_at};
@@ -64,7 +64,8 @@ impl Reader {
 
     /// Takes one token more.
     fn take(&mut self, alloc: Global, place: u32, symbol: Symbol) -> Result<(), HeaderFault>
-        requires { KeepsStage (known_of self.old.known) self.old.stage }
+        requires keeps { KeepsStage (known_of self.old.known) self.old.stage }
+        requires bounds { IsSymbol symbol }
         ensures keeps { OnOk result (KeepsStage (known_of self.new.known) self.new.stage) }
         ensures goes { OnOk result (Follows (known_of self.old.known) self.old.stage
             (placed place symbol) (known_of self.new.known) self.new.stage) }
@@ -72,6 +73,7 @@ impl Reader {
             (turn_at (known_of self.old.known) self.old.stage (placed place symbol))
             (Err fault)) }
     {
+        self.known.table.keeps();
         let stage = mem::replace(&mut self.stage, Stage::Start);
         match self.known.turn(alloc, stage, place, symbol) {
             Err(fault) => Err(fault),

@@ -1,8 +1,9 @@
-ghost use Rattle.std.specs.Prelude.{◌≡◌, ◌≤◌, length, IfOk};
+ghost use Rattle.std.specs.Prelude.{◌≡◌, ◌<◌, ◌≤◌, All, length, IfOk};
 ghost use Rattle.nss_lexer.specs.Lexemes.{IsToken};
 ghost use Rattle.nss_lexer.specs.Splitting.{plain};
 ghost use Rattle.nwq_value.specs.Limits.{name_limit};
 ghost use Rattle.engine_table.specs.Symbols as spec;
+ghost use Rattle.engine_table.specs.declared.symbol.Symbol.TheVariants as symbol;
 
 use nss_lexer::{Kind, Token, literal};
 use nwq_value::{NoMemory, Text};
@@ -152,17 +153,34 @@ fn name_text(alloc: Global, bytes: &[u8]) -> Result<Text, NoMemory>
     Text::of(alloc, bytes)
 }
 
+/// That each of these is a byte.
+fn are_bytes(bytes: &[u8])
+    ensures { All (λ b. b < 256) bytes.now }
+{
+    let _ = bytes.len();
+}
+
+/// A string of these bytes.
+fn text_symbol(text: Text) -> Symbol
+    ensures same { result ≡ symbol.Text text }
+    ensures bounds { spec.IsSymbol result }
+{
+    are_bytes(text.bytes());
+    Symbol::Text(text)
+}
+
 /// What the grammar sees of a token.
 pub(crate) fn symbol_of(alloc: Global, token: &Token<'_>) -> Result<Symbol, NoMemory>
     requires { IsToken token.now }
-    ensures { IfOk result (λ symbol. symbol ≡ spec.symbol_of (plain token.now)) }
+    ensures same { IfOk result (λ symbol. symbol ≡ spec.symbol_of (plain token.now)) }
+    ensures bounds { IfOk result spec.IsSymbol }
 {
     match token.kind {
         Kind::Name => Ok(Symbol::Name(name_text(alloc, token.text)?)),
         Kind::Word => Ok(Symbol::Word(word_of(token.text))),
         Kind::Int(value) => Ok(Symbol::Int(value)),
         Kind::Float => Ok(Symbol::Float),
-        Kind::Text => Ok(Symbol::Text(literal(alloc, token.text)?)),
+        Kind::Text => Ok(text_symbol(literal(alloc, token.text)?)),
         Kind::Sign => Ok(Symbol::Sign(sign_of(token.text))),
     }
 }

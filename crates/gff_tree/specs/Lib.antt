@@ -4,6 +4,7 @@ pub mod Fields
 pub mod Places
 pub mod Readings
 pub mod Count
+pub mod Code
 pub mod Whole
 pub mod Rows
 pub mod Held

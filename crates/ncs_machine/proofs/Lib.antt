@@ -1,6 +1,5 @@
 pub mod Names
 pub mod Frames
-pub mod Tame
 pub mod Answers
 pub mod Fitting
 pub mod Kept

@@ -21,14 +21,12 @@ use Rattle.ncs_machine.specs.Host.{EngineView, host}
 use Rattle.ncs_machine.specs.Endings.{EndsAs, IsLeft, IsRunOf, WhereRan}
 use Rattle.ncs_machine.specs.Stored.{StatesFit}
 use Rattle.ncs_machine.proofs.Fitting.{engine_keeps, told_keeps}
-use Rattle.ncs_machine.proofs.Answers.{answers_well}
 use Rattle.ncs_machine.specs.Steps.{AnswersTyped, Frames, GoesWell, state}
 use Rattle.world_core.specs.Calls.{IsEarly}
-use Rattle.ncs_machine.proofs.Tame.{tame_host, tame_step, tame_is_sound}
 use Rattle.ncs_machine.proofs.Kept.{AllObjects, AreObjects, WorldLaws, step_leaves}
 
 abbrev pub Reached : List Script → EngineView → Tables → World Saved → World Saved → Type 0
-Reached scripts e tables first w = IsReached (tame_host (host scripts e)) tables first w
+Reached scripts e tables first w = IsReached (host scripts e) tables first w
 
 -- so many instructions before a run
 abbrev pub after_so_many : {W : Type 0} → ℕ → Ran W → Ran W
@@ -37,7 +35,7 @@ after_so_many n r = record r { count = n + r.count }
 -- what a run rests on
 pub record Grounds (scripts : List Script) (e : EngineView) (tables : Tables) (first : World Saved) : Type 0 where
   pub steps : StepsSafely (World Saved)
-  pub sound : IsWellStackedHost (tame_host (host scripts e)) tables first
+  pub sound : IsWellStackedHost (host scripts e) tables first
   pub laws : WorldLaws
 
 pub record SoFar (scripts : List Script) (e : EngineView) (tables : Tables) (limit : ℕ) (first : State (World Saved)) (done : ℕ) (s : State (World Saved)) : Type 0 where
@@ -48,15 +46,11 @@ pub record SoFar (scripts : List Script) (e : EngineView) (tables : Tables) (lim
   pub world : IsWorld s.world
   pub left : IsLeft done first.world s.world
 
-scripts_same : (scripts : List Script) (e : EngineView) → (tame_host (host scripts e)).scripts ≡ scripts
-unfolding host
-scripts_same scripts e = refl
-
 steps_on : (scripts : List Script) (e : EngineView) (tables : Tables) (first : World Saved) (s : State (World Saved)) → Grounds scripts e tables first
     → IsSafe scripts tables (Reached scripts e tables first) s → GoesSafely scripts tables (Reached scripts e tables first) (step (host scripts e) s)
 unfolding host
 steps_on scripts e tables first s g safe =
-    subst (GoesSafely scripts tables (Reached scripts e tables first)) (tame_step (host scripts e) s) (g.steps (tame_host (host scripts e)) tables first s g.sound safe)
+    g.steps (host scripts e) tables first s g.sound safe
 
 joined_left : (n : ℕ) (w v u : World Saved) → IsLeft n w v → IsLeft 1 v u → IsLeft (n + 1) w u
 joined_left n w v u a b = record {
@@ -185,7 +179,7 @@ module _ (scripts : List Script) (e : EngineView) (tables : Tables) (limit : ℕ
 reached_fits : (scripts : List Script) (e : EngineView) (tables : Tables) (first w : World Saved) → Reached scripts e tables first w → StatesFit scripts tables first → StatesFit scripts tables w
 unfolding host
 reached_fits scripts e tables first w Unchanged f = f
-reached_fits scripts e tables first w (ByCall number caller r values action world listed types fits before) f =
+reached_fits scripts e tables first w (ByCall number caller r values action world listed callable types fits before) f =
     engine_keeps scripts tables e number caller values action world fits (reached_fits scripts e tables first world before f)
 reached_fits scripts e tables first w (ByMissing target name world before) f = told_keeps scripts tables target (line.NoScript name) world (reached_fits scripts e tables first world before f)
 reached_fits scripts e tables first w (ByDepth target name world before) f = told_keeps scripts tables target (line.Deep name) world (reached_fits scripts e tables first world before f)
@@ -200,7 +194,11 @@ pub grounds_are : (scripts : List Script) (e : EngineView) (tables : Tables) (fi
 unfolding host
 grounds_are scripts e tables first steps engine no_script too_deep types table meets typed = record {
   steps = steps;
-  sound = tame_is_sound (host scripts e) tables first meets (types e.table table) (answers_well scripts e typed);
+  sound = record {
+    scripts = meets;
+    execute = types e.table table;
+    typed = λ number caller r values action world listed callable fit fits reached. typed number caller r values action world listed callable;
+  };
   laws = record { engine = engine; no_script = no_script; too_deep = too_deep };
 }
 

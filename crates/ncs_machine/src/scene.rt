@@ -21,13 +21,13 @@ pub struct Scene {
 
 impl Model for Scene {
     ghost use Rattle.std.specs.Coded.{codes};
-    ghost use Rattle.gff_tree.specs.contracts.tree.Gff as gff;
+    ghost use Rattle.gff_tree.specs.Code.{node_code};
     ghost use Rattle.engine_rows.specs.World.{World};
     ghost use Rattle.saved_state.specs.declared.saved.Saved.{Saved as SavedView};
 
     ghost Value = { World SavedView };
 
-    ghost coded = { Prim.hlevel (codes, gff.the_row.coded) };
+    ghost coded = { Prim.hlevel (codes, node_code) };
 
     ghost view = { λ s. record {
       clock = s.clock;

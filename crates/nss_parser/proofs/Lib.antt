@@ -25,3 +25,5 @@ pub mod OneRefusal
 pub mod ReaderLemmas
 pub mod Sits
 pub mod Weight
+mod Covers
+pub mod Trees

@@ -10,3 +10,5 @@ pub mod ReadExpression
 pub mod ReadStatement
 pub mod ReadWhole
 pub mod ReadParts
+pub mod Sizes
+pub mod KnownOnce

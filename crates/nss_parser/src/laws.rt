@@ -1,6 +1,7 @@
 //! Laws of the grammar, each the contract of a function that does nothing.
 
 ghost use Rattle.nss_parser.specs.Fault.{NoRefusalOfTrees, OneRefusal};
+ghost use Rattle.nss_parser.specs.Sizes.{EachTreeIsKnown};
 ghost use Rattle.nss_parser.specs.Weight.{EachTreeWithinTokens};
 ghost use Rattle.nss_parser.specs.Sentence.{OneTree, TreeOrPlace};
 
@@ -25,4 +26,10 @@ pub fn one_refusal()
 /// node's token is the unit's.
 pub fn within_tokens()
     ensures within { EachTreeWithinTokens }
+{}
+
+/// The numbers and texts of a tree are those of its literals, and the tree is no larger than its
+/// tokens are many.
+pub fn each_tree_is_known()
+    ensures known { EachTreeIsKnown }
 {}

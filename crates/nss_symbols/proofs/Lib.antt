@@ -3,4 +3,5 @@ pub mod TerminalLemmas
 pub mod NestLaws
 pub mod NameLemmas
 pub mod SeenLemmas
+mod LiteralLemmas
 pub mod TerminalsRead

@@ -1,5 +1,6 @@
 -- What the grammar sees of a token, and tokens with their numbers.
-use Rattle.std.specs.Prelude.{ℕ, ◌+◌, List, [], ◌∷◌}
+use Rattle.std.specs.Prelude.{ℕ, ◌+◌, ◌^◌, ◌<◌, ◌≤◌, All, List, [], ◌∷◌, length}
+use Rattle.nwq_value.specs.Limits.{text_limit}
 use Rattle.nss_symbols.specs.declared.terminal.Terminal.{Terminal}
 
 -- A token as the grammar sees it: a name with its bytes, a literal with its value, or a terminal, which is a word or
@@ -12,6 +13,15 @@ pub data Symbol : Type 0 where
   Text : List ℕ → Symbol
   Fixed : Terminal → Symbol
   Unknown : Symbol
+
+-- The value of a string has at most 8,192 bytes, that of an int literal 32 bits.
+abbrev pub IsText : List ℕ → Type 0
+IsText bytes = (length bytes ≤ text_limit) × All (λ b. b < 256) bytes
+
+abbrev pub IsLiteral : Symbol → Type 0
+IsLiteral (Int v) = v < 2 ^ 32
+IsLiteral (Text bytes) = IsText bytes
+IsLiteral _ = Unit {0}
 
 -- A token with its number in the unit.
 pub record Numbered : Type 0 where

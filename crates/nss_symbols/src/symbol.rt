@@ -1,7 +1,10 @@
-ghost use Rattle.std.specs.Prelude.{◌≡◌, ◌≤◌, length, map, IfOk};
+ghost use Rattle.std.specs.Prelude.{◌≡◌, ◌<◌, ◌≤◌, All, length, map, take, IfOk};
 ghost use Rattle.std.specs.List.{AllByRecursion};
-ghost use Rattle.nwq_value.specs.Limits.{name_limit};
+ghost use Rattle.nwq_value.specs.Limits.{name_limit, text_limit};
 ghost use Rattle.nss_lexer.specs.Lexemes.{IsToken};
+ghost use Rattle.nss_lexer.specs.Strings.{IsString, string_value};
+ghost use Rattle.nss_symbols.specs.Symbols as symbol;
+ghost use Rattle.nss_symbols.specs.Symbols.{IsLiteral};
 ghost use Rattle.nss_symbols.specs.Terminals as table;
 ghost use Rattle.nss_symbols.specs.Tokens.{of_terminal, symbol_of, symbols_of};
 ghost use Rattle.nss_symbols.specs.Cursor.{plain_symbol, IsSound, AreSound};
@@ -41,6 +44,7 @@ pub fn name_text(alloc: Global, bytes: &[u8]) -> Result<Text, NoMemory>
 fn spelled<'a>(text: &[u8]) -> Seen<'a>
     ensures same { plain_symbol result ≡ of_terminal (table.terminal_of text.now) }
     ensures sound { IsSound result }
+    ensures literal { IsLiteral (plain_symbol result) }
 {
     match terminal_of(text) {
         Some(terminal) => Seen::Fixed(terminal),
@@ -48,18 +52,38 @@ fn spelled<'a>(text: &[u8]) -> Seen<'a>
     }
 }
 
+/// That each of these is a byte.
+fn are_bytes(bytes: &[u8])
+    ensures { All (λ b. b < 256) bytes.now }
+{
+    let _ = bytes.len();
+}
+
+/// A string with its quotes.
+fn string_seen<'a>(text: &'a [u8]) -> Seen<'a>
+    requires { IsString text.now }
+    ensures same { plain_symbol result
+        ≡ symbol.Text (take text_limit (string_value text.now)) }
+    ensures sound { IsSound result }
+    ensures literal { IsLiteral (plain_symbol result) }
+{
+    are_bytes(text);
+    Seen::Text(text)
+}
+
 /// What the grammar sees of one token.
 fn seen_of<'a>(token: &Token<'a>) -> Seen<'a>
     requires { IsToken token.now }
     ensures same { plain_symbol result ≡ symbol_of token.now }
     ensures sound { IsSound result }
+    ensures literal { IsLiteral (plain_symbol result) }
 {
     match token.kind {
         Kind::Name => Seen::Name(token.text),
         Kind::Word | Kind::Sign => spelled(token.text),
         Kind::Int(value) => Seen::Int(value),
         Kind::Float => Seen::Float,
-        Kind::Text => Seen::Text(token.text),
+        Kind::Text => string_seen(token.text),
     }
 }
 
@@ -68,6 +92,8 @@ pub fn seen_all<'a>(alloc: Global, tokens: &[Token<'a>]) -> Result<Vec<Seen<'a>>
     requires tokens { AllByRecursion IsToken tokens.now }
     ensures same { IfOk result (λ all. map plain_symbol all.items ≡ symbols_of tokens.now) }
     ensures sound { IfOk result (λ all. AreSound all.items) }
+    ensures literals { IfOk result
+        (λ all. AllByRecursion IsLiteral (map plain_symbol all.items)) }
 {
     let mut all = Vec::new(alloc);
     for token in tokens {

@@ -11,8 +11,8 @@ use Rattle.nss_typing.specs.Sight.{Structure}
 use Rattle.nss_typing.specs.Typed.{TypedLine}
 use Rattle.nss_typing.specs.Verdicts.{after_fields, after_line, field_added, field_verdict, fields_faults, fields_fine, line_faults, line_fine, lines_faults, lines_fine, one_more}
 use Rattle.nss_scopes.specs.Places.{first_place}
-use Rattle.nss_types.specs.Rows.{with_rest}
-use Rattle.nss_types.proofs.RowLemmas.{RowLaws}
+use Rattle.nss_expressions.specs.Rows.{with_rest}
+use Rattle.nss_expressions.proofs.RowLemmas.{RowLaws}
 use Rattle.nss_types.proofs.ParameterRows.{plain_begin, plain_step, plain_end}
 
 pub among_is : (x : List ℕ) (ys : List (List ℕ)) → is_some (first_place x ys) ≡ is_among x ys

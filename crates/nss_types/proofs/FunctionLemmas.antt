@@ -14,7 +14,7 @@ use Rattle.nss_typing.specs.Types.{same_type}
 use Rattle.nss_typing.specs.Verdicts.{after_body, after_params}
 use Rattle.nss_scopes.specs.declared.sight.Sight.{Sight as Held}
 use Rattle.nss_scopes.specs.Views.{in_sight}
-use Rattle.nss_types.specs.Faults.{head_rule_by}
+use Rattle.nss_types.specs.Heads.{head_rule_by}
 
 pub unequal_types : (ps : List Param) (qs : List TypedParameter) → (length ps ≡ length qs → ⊥) → false ≡ same_types ps (params_of qs)
 unequal_types [] [] h = absurd (h refl)

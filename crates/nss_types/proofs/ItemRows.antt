@@ -9,8 +9,8 @@ use Rattle.nss_tree.specs.Reading.{plain_item}
 use Rattle.nss_typing.specs.Sight.{Head, Sight}
 use Rattle.nss_typing.specs.UnitReading.{typed_item, typed_items}
 use Rattle.nss_typing.specs.Verdicts.{after_item, after_items, item_faults, item_fine, items_faults, items_fine, one_more}
-use Rattle.nss_types.specs.Rows.{with_rest}
-use Rattle.nss_types.proofs.RowLemmas.{RowLaws, list_begin, list_step, list_end}
+use Rattle.nss_expressions.specs.Rows.{with_rest}
+use Rattle.nss_expressions.proofs.RowLemmas.{RowLaws, list_begin, list_step, list_end}
 
 pub item_laws : (hs : List Head) → RowLaws (option_map typed_items) (option_map typed_item) one_more with_rest
     (λ (c : Sight) (x : Item Expr Constant TypeName (List ℕ)). after_item c (plain_item x))

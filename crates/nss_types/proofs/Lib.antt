@@ -1,12 +1,3 @@
-pub mod Faults
-pub mod ArgumentLemmas
-pub mod WalkLemmas
-pub mod RowLemmas
-pub mod NameRows
-pub mod Judged
-pub mod StatementRows
-pub mod SameSight
-pub mod ReturnLemmas
 pub mod ParameterRows
 pub mod FunctionLemmas
 pub mod FieldRows

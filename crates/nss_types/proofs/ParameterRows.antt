@@ -6,8 +6,8 @@ use Rattle.nss_typing.specs.Nodes.{at, faults_there, fine}
 use Rattle.nss_typing.specs.Sight.{Sight}
 use Rattle.nss_typing.specs.Typed.{TypedParameter}
 use Rattle.nss_typing.specs.Verdicts.{after_params, constant_faults, late_after, one_more, parameter_declared, parameter_verdict, params_faults, params_fine}
-use Rattle.nss_types.specs.Rows.{and_one, with_rest}
-use Rattle.nss_types.proofs.RowLemmas.{RowLaws}
+use Rattle.nss_expressions.specs.Rows.{and_one, with_rest}
+use Rattle.nss_expressions.proofs.RowLemmas.{RowLaws}
 
 module _ {A : Type 0} where
   append_one : (xs : List A) (x : A) (ys : List A) → (xs ++ x ∷ []) ++ ys ≡ xs ++ x ∷ ys

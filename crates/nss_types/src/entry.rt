@@ -9,7 +9,7 @@ ghost use Rattle.nss_typing.specs.Verdicts.{entry_verdict};
 ghost use Rattle.nss_scopes.specs.Entries.{signature_of};
 
 use crate::function::first_types;
-use crate::note::note;
+use nss_expressions::note::note;
 use nss_scopes::{Heads, Signature};
 use nss_typing::rules::same_type;
 use nss_typing::{EntryPoint, Fault, FaultKind};

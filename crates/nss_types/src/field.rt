@@ -11,12 +11,12 @@ ghost use Rattle.nss_typing.specs.Verdicts.{fields_faults, fields_fine, line_fau
 ghost use Rattle.nss_typing.specs.Verdicts.{lines_faults, lines_fine, members_of_line};
 ghost use Rattle.nss_typing.specs.Verdicts.{line_of, members_of_lines, struct_members};
 ghost use Rattle.nss_scopes.specs.Entries.{members_of};
-ghost use Rattle.nss_types.specs.Faults.{fault_unless};
+ghost use Rattle.nss_statements.specs.Faults.{fault_unless};
 ghost use Rattle.nss_types.specs.Fields.{fields_of};
 
-use crate::line::line_type;
-use crate::note::note;
-use crate::row::and_last;
+use nss_expressions::line::line_type;
+use nss_expressions::note::note;
+use nss_expressions::row::and_last;
 use nss_scopes::sight::{counted, crosses};
 use nss_scopes::{Member, Members, Places, Structs};
 use nss_tree::{FieldLine, Identifier};

@@ -15,18 +15,18 @@ ghost use Rattle.nss_typing.specs.Verdicts.{items_faults, items_fine, lines_faul
 ghost use Rattle.nss_scopes.specs.Entries.{members_of};
 ghost use Rattle.nss_scopes.specs.Slots.{meaning_of};
 ghost use Rattle.nss_scopes.specs.Views.{in_sight};
-ghost use Rattle.nss_types.specs.Faults.{fault_unless};
-ghost use Rattle.nss_types.specs.Views.{heads_in, sight_in};
+ghost use Rattle.nss_statements.specs.Faults.{fault_unless};
+ghost use Rattle.nss_expressions.specs.Views.{heads_in, sight_in};
 
-use crate::constant::constant;
-use crate::declared::names;
 use crate::field::{Fields, lines, struct_members};
 use crate::function::function;
-use crate::given::Given;
-use crate::line::{constant_line_type, line_type};
-use crate::note::note;
-use crate::row::and_last;
+use nss_expressions::constant::constant;
+use nss_expressions::given::Given;
+use nss_expressions::line::{constant_line_type, line_type};
+use nss_expressions::note::note;
+use nss_expressions::row::and_last;
 use nss_scopes::{Meaning, Members, Places, Sight, Structs};
+use nss_statements::declared::names;
 use nss_tree::{Constant, DeclaredName, FieldLine, Identifier, Item, TypeName};
 use nss_typing::rules::same_type;
 use nss_typing::{Fault, FaultKind, TypedItem, TypedLine, TypedName};

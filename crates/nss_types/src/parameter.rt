@@ -12,12 +12,12 @@ ghost use Rattle.nss_typing.specs.Verdicts.{parameter_declared};
 ghost use Rattle.nss_typing.specs.Verdicts.{parameter_verdict, params_faults, params_fine};
 ghost use Rattle.nss_scopes.specs.Entries.{meant_of};
 ghost use Rattle.nss_scopes.specs.Views.{in_sight};
-ghost use Rattle.nss_types.specs.Faults.{fault_unless};
+ghost use Rattle.nss_statements.specs.Faults.{fault_unless};
 
-use crate::constant::constant_there;
-use crate::line::{declared_type, type_means, value_type};
-use crate::note::note;
-use crate::row::and_last;
+use nss_expressions::constant::constant_there;
+use nss_expressions::line::{declared_type, type_means, value_type};
+use nss_expressions::note::note;
+use nss_expressions::row::and_last;
 use nss_scopes::{Meant, Sight};
 use nss_tree::Parameter;
 use nss_typing::rules::same_type;

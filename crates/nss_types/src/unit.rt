@@ -11,8 +11,8 @@ ghost use Rattle.nss_typing.specs.Verdicts.{heads, items_faults, items_fine, uni
 ghost use Rattle.nss_types.specs.Answers.{IsFaultOf, IsKeptFault};
 
 use crate::entry::judge_entry;
-use crate::given::Given;
 use crate::item::items;
+use nss_expressions::given::Given;
 use nss_scopes::{Heads, Sight};
 use nss_tree::{Item, Tree};
 use nss_typing::laws::verdicts_are_right;

@@ -1,5 +1,5 @@
 -- What comes of a tree does the work of its area.
-use Rattle.std.proofs.Common.{◌≡◌, ℕ, inl, List, [], ◌∷◌, Some, None, Result, Ok, Err, refl, subst}
+use Rattle.std.proofs.Common.{◌≡◌, ℕ, inl, List, [], ◌∷◌, Some, None, Result, Ok, Err, refl, ap, subst}
 use Rattle.nwq_outside.specs.Outside.{Contents}
 use Rattle.gff_tree.specs.declared.tree.Gff.{Gff}
 use Rattle.gff_tree.specs.Whole.{PlainGff, plain_gff}
@@ -13,7 +13,7 @@ use Rattle.nwq_work.specs.declared.status.Status.TheVariants.{Memory}
 use Rattle.nwq_work.specs.Refusal.{BadArea}
 use Rattle.nwq_work.specs.Work.{Does}
 use Rattle.nwq_work.specs.Parts.{Refuses, cut_here, finds_one, refused}
-use Rattle.nwq_areas.specs.Areas.{area_flaw, place_flaw, AreaFate, Whole, Broken, IsAreaFate, whole, broken, area_by, area_in, plain_answer}
+use Rattle.nwq_areas.specs.Areas.{area_flaw, place_flaw, AreaFate, Whole, Broken, IsAreaFate, whole, broken, area_by, area_in}
 
 none_some : (why : AreaFlaw) → Some why ≡ None → ⊥
 none_some why e = let none : ⊥ = cc in none
@@ -21,20 +21,15 @@ none_some why e = let none : ⊥ = cc in none
 same_some : (why because : AreaFlaw) → Some why ≡ Some because → why ≡ because
 same_some why because e = cc
 
-abbrev IsTree : Result PlainGff Status → PlainGff → Type 0
-IsTree r tree = r ≡ Ok tree
-
 module _ (name : List ℕ) (c : Contents) where
-  goes : (tree : PlainGff) (fate : AreaFate) (r : Result PlainGff Status) (t t' : List ℕ) → IsAreaFate tree.top fate → Does (area_by name tree fate) c t r c t'
+  goes : (tree : PlainGff) (fate : AreaFate) (r : Result PlainArea Status) (t t' : List ℕ) → IsAreaFate tree.top fate → Does (area_by name tree fate) c t r c t'
       → Does (area_in name tree) c t r c t'
   unfolding area_in
   goes tree fate r t t' is does = finds_one (λ (d : Contents) (f : AreaFate). IsAreaFate tree.top f) (area_by name tree) fate c c t t' r is does
 
-  pub area_does : (tree : Gff) (area : PlainArea) (t : List ℕ) → (broken_places (plain_gff tree).top ≡ []) × (area ≡ area_of tree)
-      → Does (area_in name (plain_gff tree)) c t (plain_answer (Ok area)) c t
-  area_does tree area t read =
-      goes (plain_gff tree) Whole (Ok (plain_gff area.tree)) t t (whole read.0)
-      (inl (subst (λ (x : PlainArea). IsTree (Ok (plain_gff area.tree)) (plain_gff x.tree)) read.1 refl), (refl, refl))
+  pub area_does : (tree : Gff) (area : PlainArea) (t : List ℕ) → (broken_places (plain_gff tree).top ≡ []) × (area ≡ area_of (plain_gff tree))
+      → Does (area_in name (plain_gff tree)) c t (Ok area) c t
+  area_does tree area t read = goes (plain_gff tree) Whole (Ok area) t t (whole read.0) (inl (ap Ok read.1), (refl, refl))
 
   broken_at : (tree : PlainGff) (place : Place) (answer : Status) (t t' : List ℕ) → (others : List Place) × (broken_places tree.top ≡ place ∷ others)
       → Refuses (BadArea name (place_flaw place)) t answer t' → Does (area_in name tree) c t (Err answer) c t'

@@ -1,16 +1,14 @@
 -- The area of the GFF file that a command names.
-use Rattle.std.specs.Prelude.{◌≡◌, ℕ, List, [], ◌∷◌, Option, Some, None, Result, Ok, Err}
+use Rattle.std.specs.Prelude.{◌≡◌, ℕ, List, [], ◌∷◌, Option, Some, None}
 use Rattle.nwq_outside.specs.Outside.{Contents}
 use Rattle.gff_tree.specs.Tree.{PlainNode}
-use Rattle.gff_tree.specs.Whole.{PlainGff, plain_gff}
+use Rattle.gff_tree.specs.Whole.{PlainGff}
 use Rattle.area_tree.specs.declared.fault.AreaFault.{AreaFault}
 use Rattle.area_tree.specs.declared.fault.AreaFault.TheVariants as fault
 use Rattle.area_tree.specs.Broken.{Place, broken_places}
-use Rattle.area_tree.specs.Objects.{objects_of}
-use Rattle.area_tree.specs.Area.{PlainArea}
+use Rattle.area_tree.specs.Area.{PlainArea, area_of}
 use Rattle.nwq_work.specs.declared.flaw.AreaFlaw.{AreaFlaw}
 use Rattle.nwq_work.specs.declared.flaw.AreaFlaw.TheVariants as flaw
-use Rattle.nwq_work.specs.declared.status.Status.{Status}
 use Rattle.nwq_work.specs.Refusal.{BadArea}
 use Rattle.nwq_work.specs.Work.{Work, Gives, Refused, Finds, then}
 use Rattle.nwq_files.specs.Trees.{tree_named}
@@ -32,23 +30,14 @@ pub data IsAreaFate (top : PlainNode) : AreaFate → Type 0 where
   whole : broken_places top ≡ [] → IsAreaFate top Whole
   broken : (place : Place) (others : List Place) → broken_places top ≡ place ∷ others → IsAreaFate top (Broken place)
 
-abbrev pub area_by : List ℕ → PlainGff → AreaFate → Work PlainGff
-area_by name tree Whole = Gives tree
+abbrev pub area_by : List ℕ → PlainGff → AreaFate → Work PlainArea
+area_by name tree Whole = Gives (area_of tree)
 area_by name tree (Broken place) = Refused (BadArea name (place_flaw place))
 
--- a tree, which is that of the file of this name, is an area
-unfoldable pub area_in : List ℕ → PlainGff → Work PlainGff
+-- the area of a tree, which is that of the file of this name
+unfoldable pub area_in : List ℕ → PlainGff → Work PlainArea
 area_in name tree = Finds (λ (c : Contents) fate. IsAreaFate tree.top fate) (area_by name tree)
 
--- the tree of the area in the file of this name
-unfoldable pub area_named : List ℕ → Work PlainGff
+-- the area in the file of this name
+unfoldable pub area_named : List ℕ → Work PlainArea
 area_named name = then (tree_named name) (area_in name)
-
--- an answer, its area seen as the tree that was read
-abbrev pub plain_answer : Result PlainArea Status → Result PlainGff Status
-plain_answer (Ok area) = Ok (plain_gff area.tree)
-plain_answer (Err status) = Err status
-
--- the area is as it was read: its objects are those that the tree tells
-abbrev pub IsFresh : PlainArea → Type 0
-IsFresh area = area.objects ≡ objects_of (plain_gff area.tree).top

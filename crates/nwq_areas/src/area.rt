@@ -1,10 +1,10 @@
-ghost use Rattle.std.specs.Prelude.{◌≡◌, ◌<◌, ℕ, IsTrue, IfOk, IfErr};
+ghost use Rattle.std.specs.Prelude.{◌≡◌, ◌<◌, ℕ, IsTrue, IfErr};
 ghost use Rattle.nwq_outside.specs.Outside.{Contents};
 ghost use Rattle.gff_tree.specs.Whole.{plain_gff};
 ghost use Rattle.gff_tree.specs.Count.{node_count};
 ghost use Rattle.nwq_work.specs.Work.{Does};
 ghost use Rattle.nwq_work.specs.Counts.{Counted, Tallies, Refusing, StopsArea};
-ghost use Rattle.nwq_areas.specs.Areas.{area_flaw, area_in, area_named, plain_answer, IsFresh};
+ghost use Rattle.nwq_areas.specs.Areas.{area_flaw, area_in, area_named};
 
 use area_tree::{Area, AreaFault};
 use gff_tree::Gff;
@@ -37,11 +37,10 @@ fn area_of_tree<S: Sink>(alloc: Global, name: &[u8], tree: Gff, out: &mut S) -> 
     requires few { node_count (plain_gff tree).top < 4294967296 }
     ensures does { IsTrue S.tells → (c : Contents) →
         Does (area_in name.now (plain_gff tree)) c
-        (S.taken out.old) (plain_answer result) c (S.taken out.new) }
+        (S.taken out.old) result c (S.taken out.new) }
     ensures counts { (faults absences longs : ℕ) → Tallies result
         (Counted faults absences longs (S.faults out.old))
         (Counted faults absences longs (S.faults out.new)) }
-    ensures fresh { IfOk result IsFresh }
     ensures only { IfErr result (Refusing Status.Area) }
 {
     match Area::of(alloc, tree) {
@@ -63,14 +62,12 @@ pub fn read_area<F: Files, S: Sink>(
 ) -> Result<Area, Status>
     ensures does { IsTrue F.tells → IsTrue S.tells →
         Does (area_named name.now) (F.contents files.old) (S.taken out.old)
-        (plain_answer result) (F.contents files.new) (S.taken out.new) }
+        result (F.contents files.new) (S.taken out.new) }
     ensures counts { Tallies result
         (Counted (F.faults files.old) (F.absences files.old) (F.longs files.old) (S.faults out.old))
         (Counted (F.faults files.new) (F.absences files.new)
         (F.longs files.new) (S.faults out.new)) }
     ensures same { F.contents files.new ≡ F.contents files.old }
-    // Its objects are those that the tree tells.
-    ensures fresh { IfOk result IsFresh }
     ensures only { IfErr result StopsArea }
 {
     match read_tree(alloc, name, files, out) {

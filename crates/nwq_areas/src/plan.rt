@@ -1,11 +1,13 @@
-ghost use Rattle.std.specs.Prelude.{◌≡◌, ℕ, IsTrue, IfErr};
+ghost use Rattle.std.specs.Prelude.{◌≡◌, ℕ, IsTrue, IfErr, IfOk};
 ghost use Rattle.nwq_outside.specs.Outside.{Contents};
 ghost use Rattle.nwq_work.specs.Work.{Does};
 ghost use Rattle.nwq_work.specs.Counts.{Counted, Tallies, Refusing, StopsArea};
+ghost use Rattle.plan_text.specs.Plans.{IsPlan};
 ghost use Rattle.nwq_areas.specs.Plans.{plan_in, plan_named};
 
 use nwq_outside::{Files, Sink};
 use nwq_work::{AreaFlaw, Status, read_file, refuse_area};
+use plan_text::laws::plans_keep;
 use plan_text::{Plan, PlanFault, read_plan};
 use std::alloc::Global;
 
@@ -22,8 +24,11 @@ fn plan_of_bytes<S: Sink>(
     ensures counts { (faults absences longs : ℕ) → Tallies result
         (Counted faults absences longs (S.faults out.old))
         (Counted faults absences longs (S.faults out.new)) }
+    // Every plan that is read keeps its limits.
+    ensures keeps { IfOk result IsPlan }
     ensures only { IfErr result (Refusing Status.Area) }
 {
+    plans_keep();
     match read_plan(alloc, bytes) {
         Ok(plan) => Ok(plan),
         Err(PlanFault::Line(line)) => Err(refuse_area(alloc, name, AreaFlaw::Line(line), out)),
@@ -47,6 +52,8 @@ pub fn read_plan_file<F: Files, S: Sink>(
         (Counted (F.faults files.new) (F.absences files.new)
         (F.longs files.new) (S.faults out.new)) }
     ensures same { F.contents files.new ≡ F.contents files.old }
+    // Every plan that is read keeps its limits.
+    ensures keeps { IfOk result IsPlan }
     ensures only { IfErr result StopsArea }
 {
     match read_file(alloc, name, files, out) {

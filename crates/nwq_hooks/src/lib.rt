@@ -1,16 +1,17 @@
 //! The hooks of a program: one for each function of strings, numbers and tables, put one after
 //! another.
 //!
-//! A program makes a boxed closure for each number from 0 to 9, whose body is [`call_function`], and
-//! puts it by [`put_hook`]. After the tenth the hooks serve every routine that asks for one, which
-//! [`all_are_put`] says. There are no tables, so every cell is empty. What the functions give is
-//! defined in `engine_rows`, and what hooks promise in `hook_table`. See docs/ENGINE.md.
+//! A program without tables makes a boxed closure for each number from 0 to 9, whose body is
+//! [`call_function`], and puts it by [`put_hook`]. After the tenth the hooks serve every routine that
+//! asks for one, which [`all_are_put`] says, and every cell is empty. A program with tables puts the
+//! tenth by [`put_cell_hook`]. What the functions give is defined in `engine_rows`, and what hooks
+//! promise in `hook_table`. See docs/ENGINE.md.
 #![tactic(auto)]
 
 ghost use Rattle.std.specs.Prelude.{◌≡◌, ◌≤◌, ◌+◌, [], map, IfOk, Ok, OnOk};
 ghost use Rattle.hook_table.specs.Served.{AreFirst};
 ghost use Rattle.hook_table.specs.Standard.{function_numbered, types_of, IsAnswer};
-ghost use Rattle.world_core.specs.Calls.{AreServing};
+ghost use Rattle.world_core.specs.Calls.{AreServing, tables_of};
 
 use hook_table::laws::standard_hooks_are_put_one_by_one;
 use hook_table::{Call, Hook, Hooks, cell_call, pure_call};
@@ -103,6 +104,31 @@ pub fn put_hook(alloc: Global, hooks: &mut Hooks, n: u8, call: Call) -> Result<(
     let name = Text::of(alloc, name_of(n).as_bytes())?;
     let params = Tys::of_slice(alloc, params_of(n))?;
     hooks.push(Hook::new(name, params, result_of(n), call, Tables::new(alloc)))
+}
+
+/// Puts the hook of the function that looks cells up last, the tenth, where there are tables. The
+/// closure owns a copy of them, and the hook keeps the tables themselves. After `NoMemory` it is
+/// dropped.
+#[tactic(auto, using(crate::proofs::HookLemmas::next_first, crate::proofs::HookLemmas::name_kept))]
+pub fn put_cell_hook(
+    alloc: Global,
+    hooks: &mut Hooks,
+    call: Call,
+    tables: Tables,
+) -> Result<(), NoMemory>
+    requires first { AreFirst 9 (map (λ h. h.known) hooks.old.all.items) }
+    requires callable { (args : _) → types_of args.now ≡ (function_numbered 9).params
+        → Call.pre call args }
+    requires answers { (args : _) (v : _) → types_of args.now ≡ (function_numbered 9).params
+        → Call.post call args (Ok v) → IsAnswer tables (function_numbered 9).name
+        (function_numbered 9).result args.now v }
+    ensures next { OnOk result (AreFirst 10 (map (λ h. h.known) hooks.new.all.items)) }
+    ensures tables { OnOk result (tables_of (map (λ h. h.known) hooks.new.all.items) ≡ tables) }
+{
+    standard_hooks_are_put_one_by_one();
+    let name = Text::of(alloc, name_of(9).as_bytes())?;
+    let params = Tys::of_slice(alloc, params_of(9))?;
+    hooks.push(Hook::new(name, params, result_of(9), call, tables))
 }
 
 /// Ten hooks that were put so are one for each function.

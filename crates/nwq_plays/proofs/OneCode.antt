@@ -15,8 +15,12 @@ use Rattle.nwq_work.specs.Outcomes.{IsSure, sure_then}
 use Rattle.nwq_files.specs.Codes.{load_flaw, CodeFate, Whole, Faulty, IsCodeFate, whole, broken, code_by, code_in}
 use Rattle.nwq_value.specs.Engine.{EngineTable}
 use Rattle.nwq_checks.specs.Checks.{CheckFate, Passes, Unstacked, IsCheckFate, passes, unstacked, check_by, checked_in}
-use Rattle.nwq_plays.specs.Plays.{loaded_in}
-use Rattle.nwq_plays.specs.Laws.{SureLoaded}
+use Rattle.saved_state.specs.declared.saved.Saved.{Saved}
+use Rattle.engine_rows.specs.Pure.{CellLookup}
+use Rattle.machine_step.specs.Machine.{Script}
+use Rattle.play_steps.specs.Plays.{PlayEnd, Done, OutOfEntries, StoppedInside, Paused, Played}
+use Rattle.nwq_plays.specs.Plays.{loaded_in, first_world, listed, played, ends_by, tells, plays_code, plays_file}
+use Rattle.nwq_plays.specs.Laws.{SureLoaded, SurePlays}
 
 -- ---- the code
 
@@ -89,3 +93,23 @@ pub sure_loaded : SpellingLaws → OneFault → NoFaultInCode → SureLoaded
 unfolding loaded_in
 sure_loaded spells fault none header name bytes =
     sure_then (code_in name bytes) (checked_in header name) (sure_in (record { spells = spells; fault = fault; none = none }) name bytes) (sure_checked header name)
+
+-- ---- the play
+
+sure_end : (ending : PlayEnd) → IsSure (ends_by ending)
+sure_end Done = tt
+sure_end OutOfEntries = tt
+sure_end StoppedInside = tt
+sure_end Paused = tt
+
+sure_tells : (scripts : List Script) (p : Played Saved) → IsSure (tells scripts p)
+sure_tells scripts p = sure_end p.ending
+
+sure_code : (cell : CellLookup) (header : EngineTable) (name : List ℕ) (ops : List PlainOp) → IsSure (plays_code cell header name ops)
+unfolding plays_code
+sure_code cell header name ops = sure_tells (listed name ops) (played cell header (listed name ops) (first_world name))
+
+pub sure_plays : SureLoaded → SurePlays
+unfolding plays_file
+sure_plays loaded cell header name file bytes =
+    sure_then (loaded_in header file bytes) (plays_code cell header name) (loaded header file bytes) (sure_code cell header name)

@@ -3,7 +3,6 @@ use Rattle.std.proofs.Common.{◌≡◌, ℕ, inl, inr, List, Result, Err, refl,
 use Rattle.nwq_value.specs.Engine.{EngineTable}
 use Rattle.nwq_outside.specs.Outside.{Contents}
 use Rattle.ncs_code.specs.Plain.{PlainOp}
-use Rattle.area_tree.specs.Area.{PlainArea}
 use Rattle.saved_state.specs.declared.saved.Saved.{Saved}
 use Rattle.engine_rows.specs.Pure.{CellLookup}
 use Rattle.engine_rows.specs.World.{World}
@@ -13,29 +12,21 @@ use Rattle.nwq_work.specs.declared.status.Status.TheVariants as status
 use Rattle.nwq_work.specs.declared.status.Status.TheVariants.{Memory}
 use Rattle.nwq_work.specs.Work.{Does, CutsShort, Finished}
 use Rattle.nwq_work.specs.Counts.{Refusing}
-use Rattle.nwq_work.specs.Parts.{cut_here, finds_one}
-use Rattle.nwq_plays.specs.Plays.{IsEmptyArea, first_world, listed, played, tells, plays_code}
-use Rattle.nwq_plays.specs.Tellings.{IsFirst, StopsPlay}
+use Rattle.nwq_work.specs.Parts.{cut_here}
+use Rattle.nwq_plays.specs.Plays.{first_world, listed, played, tells, plays_code}
+use Rattle.nwq_plays.specs.Tellings.{StopsPlay}
 use Rattle.nwq_plays.proofs.WorldLemmas.{first_fits, first_quiet, first_next}
 
 module _ (cell : CellLookup) (header : EngineTable) (name : List ℕ) (ops : List PlainOp) (c : Contents) where
   pub code_cut : (t : List ℕ) → Does (plays_code cell header name ops) c t (Err Memory) c t
   code_cut t = cut_here (plays_code cell header name ops) Memory c c t t tt refl refl
 
-  found : (area : PlainArea) (r : Result Finished Status) (t t' : List ℕ) → IsEmptyArea area
-      → Does (tells (listed name ops) (played cell header (listed name ops) (first_world name area))) c t r c t'
-      → Does (plays_code cell header name ops) c t r c t'
-  unfolding plays_code
-  found area r t t' empty does =
-      finds_one (λ (d : Contents) (a : PlainArea). IsEmptyArea a) (λ a. tells (listed name ops) (played cell header (listed name ops) (first_world name a)))
-      area c c t t' r empty does
-
-  pub code_does : (scripts : List Script) (w : World Saved) (r : Result Finished Status) (t t' : List ℕ) → scripts ≡ listed name ops → IsFirst name w
+  pub code_does : (scripts : List Script) (w : World Saved) (r : Result Finished Status) (t t' : List ℕ) → scripts ≡ listed name ops → w ≡ first_world name
       → Does (tells scripts (played cell header scripts w)) c t r c t' → Does (plays_code cell header name ops) c t r c t'
+  unfolding plays_code
   code_does scripts w r t t' is first does =
-      found first.area r t t' first.empty
-      (subst (λ v. Does (tells (listed name ops) (played cell header (listed name ops) v)) c t r c t') first.is
-      (subst (λ s. Does (tells s (played cell header s w)) c t r c t') is does))
+      subst (λ v. Does (tells (listed name ops) (played cell header (listed name ops) v)) c t r c t') first
+      (subst (λ s. Does (tells s (played cell header s w)) c t r c t') is does)
 
 pub ruleset starts = (first_fits, first_quiet, first_next, code_does, code_cut)
 

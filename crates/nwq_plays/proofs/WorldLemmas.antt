@@ -1,11 +1,9 @@
 -- The world in which one script starts, and the one script that is listed.
 use Rattle.std.proofs.Common.{◌≡◌, ℕ, zero, suc, List, [], ◌∷◌, length, Some, subst, sym, ap, ◌∙◌}
-use Rattle.std.specs.Prelude.{replicate, take}
-use Rattle.std.specs.List.{AllByRecursion}
+use Rattle.std.specs.Prelude.{take}
 use Rattle.nwq_value.specs.Engine.{EngineTable}
 use Rattle.nwq_value.specs.Limits.{text_limit}
-use Rattle.gff_tree.specs.Whole.{plain_gff}
-use Rattle.area_tree.specs.Area.{PlainArea, empty_tree}
+use Rattle.area_tree.specs.Area.{PlainArea, empty_area}
 use Rattle.saved_state.specs.declared.saved.Saved.{Saved}
 use Rattle.shape_tables.specs.Rules.{MeetsRules}
 use Rattle.shape_tables.specs.Laws.{AllMeet}
@@ -13,42 +11,35 @@ use Rattle.shape_tables.specs.Fits.{Tables}
 use Rattle.stack_check.specs.Checked.{CheckedCode, kept_table}
 use Rattle.machine_step.specs.Machine.{Script}
 use Rattle.engine_rows.specs.World.{World}
-use Rattle.engine_rows.specs.Turns.{Planned, new_world, idle}
+use Rattle.engine_rows.specs.Turns.{Planned, new_world}
 use Rattle.ncs_machine.specs.Host.{scripts_of, tables_of}
-use Rattle.ncs_machine.specs.Stored.{StatesFit, ThingsFit}
+use Rattle.ncs_machine.specs.Stored.{StatesFit}
 use Rattle.ncs_machine.specs.declared.scripts.Loaded.{Loaded}
-use Rattle.nwq_plays.specs.Plays.{IsEmptyArea, first_world, listed, start_of}
-use Rattle.nwq_plays.specs.Tellings.{IsFirst}
+use Rattle.nwq_plays.specs.Plays.{first_world, listed, start_of}
 
 -- ---- the world
 
-pub first_is : (name random : List ℕ) (area : PlainArea) (events : List Planned) (w : World Saved) → area.objects ≡ [] → plain_gff area.tree ≡ empty_tree → random ≡ []
-    → events ≡ start_of name ∷ [] → w ≡ new_world area random events 2 → IsFirst name w
-first_is name random area events w none tree no_random one is = record {
-  area = area;
-  empty = record { objects = none; tree = tree };
-  is = is ∙ ap (λ es. new_world area random es 2) one ∙ ap (λ xs. new_world area xs (start_of name ∷ []) 2) no_random;
-}
+pub first_is : (name random : List ℕ) (area : PlainArea) (events : List Planned) (w : World Saved) → area ≡ empty_area → random ≡ [] → events ≡ start_of name ∷ []
+    → w ≡ new_world area random events 2 → w ≡ first_world name
+first_is name random area events w empty no_random one is =
+    is ∙ ap (λ es. new_world area random es 2) one ∙ ap (λ xs. new_world area xs (start_of name ∷ []) 2) no_random
+    ∙ ap (λ a. new_world a [] (start_of name ∷ []) 2) empty
 
 pub ruleset worlds = (first_is)
 
 -- ---- nothing in it is stored
 
-no_things : (scripts : List Script) (tables : Tables) (name : List ℕ) (area : PlainArea) → area.objects ≡ []
-    → AllByRecursion (ThingsFit scripts tables) (first_world name area).things
-no_things scripts tables name area none = subst (λ n. AllByRecursion (ThingsFit scripts tables) (replicate n idle)) (sym (ap length none)) tt
+world_fits : (scripts : List Script) (tables : Tables) (name : List ℕ) → StatesFit scripts tables (first_world name)
+world_fits scripts tables name = record { agenda = (tt, tt); queues = tt }
 
-world_fits : (scripts : List Script) (tables : Tables) (name : List ℕ) (area : PlainArea) → IsEmptyArea area → StatesFit scripts tables (first_world name area)
-world_fits scripts tables name area empty = record { agenda = (tt, tt); queues = no_things scripts tables name area empty.objects }
+pub first_fits : (scripts : List Script) (tables : Tables) (name : List ℕ) (w : World Saved) → w ≡ first_world name → StatesFit scripts tables w
+first_fits scripts tables name w is = subst (StatesFit scripts tables) (sym is) (world_fits scripts tables name)
 
-pub first_fits : (scripts : List Script) (tables : Tables) (name : List ℕ) (w : World Saved) → IsFirst name w → StatesFit scripts tables w
-first_fits scripts tables name w first = subst (StatesFit scripts tables) (sym first.is) (world_fits scripts tables name first.area first.empty)
+pub first_quiet : (name : List ℕ) (w : World Saved) → w ≡ first_world name → w.trace ≡ []
+first_quiet name w is = ap (λ v. v.trace) is
 
-pub first_quiet : (name : List ℕ) (w : World Saved) → IsFirst name w → w.trace ≡ []
-first_quiet name w first = ap (λ v. v.trace) first.is
-
-pub first_next : (name : List ℕ) (w : World Saved) → IsFirst name w → w.agenda.next ≡ 1
-first_next name w first = ap (λ v. v.agenda.next) first.is
+pub first_next : (name : List ℕ) (w : World Saved) → w ≡ first_world name → w.agenda.next ≡ 1
+first_next name w is = ap (λ v. v.agenda.next) is
 
 -- ---- the list
 

@@ -1,10 +1,8 @@
 -- The play of one script: its instructions under a header, in a world that has nothing but a start of it.
-use Rattle.std.specs.Prelude.{◌≡◌, ℕ, List, [], ◌∷◌, take}
+use Rattle.std.specs.Prelude.{ℕ, List, [], ◌∷◌, take}
 use Rattle.nwq_value.specs.Engine.{EngineTable}
 use Rattle.nwq_value.specs.Limits.{text_limit, default_instruction_limit, default_entry_limit, default_until}
-use Rattle.nwq_outside.specs.Outside.{Contents}
-use Rattle.gff_tree.specs.Whole.{plain_gff}
-use Rattle.area_tree.specs.Area.{PlainArea, empty_tree}
+use Rattle.area_tree.specs.Area.{empty_area}
 use Rattle.ncs_code.specs.Plain.{PlainOp}
 use Rattle.saved_state.specs.declared.saved.Saved.{Saved}
 use Rattle.engine_rows.specs.Pure.{CellLookup}
@@ -18,7 +16,7 @@ use Rattle.ncs_machine.specs.Host.{host}
 use Rattle.module_player.specs.CodePlays.{code_play, code_end_text}
 use Rattle.nwq_files.specs.Codes.{code_in}
 use Rattle.nwq_work.specs.declared.status.Status.TheVariants.{Limit}
-use Rattle.nwq_work.specs.Work.{Work, Gives, Ends, Puts, Finds, then, Finished}
+use Rattle.nwq_work.specs.Work.{Work, Gives, Ends, Puts, then, Finished}
 use Rattle.nwq_checks.specs.Checks.{checked_in}
 
 -- ---- the code of a file
@@ -33,18 +31,13 @@ loaded_in header name bytes = then (code_in name bytes) (checked_in header name)
 abbrev pub text_name : List ℕ → List ℕ
 text_name name = take text_limit name
 
--- the area without objects
-pub record IsEmptyArea (area : PlainArea) : Type 0 where
-  pub objects : area.objects ≡ []
-  pub tree : plain_gff area.tree ≡ empty_tree
-
 -- a script starts at time 0, with no object as self
 abbrev pub start_of : List ℕ → Planned
 start_of name = record { due = 0; object = 0; script = text_name name }
 
--- the world of an area with a start of this script and no random numbers; actions are cleared as the second version of plans has it
-abbrev pub first_world : List ℕ → PlainArea → World Saved
-first_world name area = new_world area [] (start_of name ∷ []) 2
+-- the world of the area without objects with a start of this script and no random numbers; actions are cleared as the second version of plans has it
+abbrev pub first_world : List ℕ → World Saved
+first_world name = new_world empty_area [] (start_of name ∷ []) 2
 
 -- ---- the play
 
@@ -79,8 +72,7 @@ tells scripts p = Puts (trace_text p.last.trace) (tells_end scripts p)
 
 -- instructions are played as the one script of this name
 unfoldable pub plays_code : CellLookup → EngineTable → List ℕ → List PlainOp → Work Finished
-plays_code cell header name ops =
-    Finds (λ (c : Contents) area. IsEmptyArea area) (λ area. tells (listed name ops) (played cell header (listed name ops) (first_world name area)))
+plays_code cell header name ops = tells (listed name ops) (played cell header (listed name ops) (first_world name))
 
 -- the bytes of a compiled script's file are loaded, checked and played
 unfoldable pub plays_file : CellLookup → EngineTable → List ℕ → List ℕ → List ℕ → Work Finished

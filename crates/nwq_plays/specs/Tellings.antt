@@ -1,19 +1,9 @@
--- What is told of a play's answer, and what a script's world is.
-use Rattle.std.specs.Prelude.{◌≡◌, ℕ, List, Option, None, Some}
-use Rattle.area_tree.specs.Area.{PlainArea}
-use Rattle.saved_state.specs.declared.saved.Saved.{Saved}
-use Rattle.engine_rows.specs.World.{World}
+-- What is told of a play's answer.
+use Rattle.std.specs.Prelude.{Option, None, Some}
 use Rattle.nwq_work.specs.declared.status.Status.{Status}
 use Rattle.nwq_work.specs.declared.status.Status.TheVariants as status
 use Rattle.module_player.specs.declared.played.How.{How}
 use Rattle.module_player.specs.declared.played.How.TheVariants.{Done, InstrStop, EntryStop, Pause, Fault, NoMemory}
-use Rattle.nwq_plays.specs.Plays.{IsEmptyArea, first_world}
-
--- a world is the first one of a script, over an area without objects
-pub record IsFirst (name : List ℕ) (w : World Saved) : Type 0 where
-  pub area : PlainArea
-  pub empty : IsEmptyArea area
-  pub is : w ≡ first_world name area
 
 -- the status of a play that was cut short
 abbrev pub cut_of : How → Option Status

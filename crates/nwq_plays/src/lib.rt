@@ -12,4 +12,5 @@ mod play;
 mod telling;
 mod world;
 
+pub use load::load_checked;
 pub use play::play_file;

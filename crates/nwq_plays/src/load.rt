@@ -86,7 +86,7 @@ fn check_code<S: Sink>(
 
 /// The instructions in the bytes of the file of this name, checked under a header.
 #[tactic(auto, using(crate::proofs::Steps::steps), unfolding(crate::specs::Plays::loaded_in))]
-pub(crate) fn load_checked<S: Sink>(
+pub fn load_checked<S: Sink>(
     alloc: Global,
     table: &Table,
     name: &[u8],

@@ -6,8 +6,7 @@ ghost use Rattle.shape_tables.specs.Laws.{AllMeet};
 ghost use Rattle.stack_check.specs.Checked.{kept_table};
 ghost use Rattle.world_core.specs.Calls.{planned};
 ghost use Rattle.ncs_machine.specs.Host.{scripts_of, tables_of};
-ghost use Rattle.nwq_plays.specs.Plays.{listed, start_of, text_name};
-ghost use Rattle.nwq_plays.specs.Tellings.{IsFirst};
+ghost use Rattle.nwq_plays.specs.Plays.{listed, start_of, first_world};
 
 use area_tree::Area;
 use ncs_machine::{Loaded, Scripts};
@@ -37,7 +36,7 @@ fn one_start(alloc: Global, name: &[u8]) -> Result<Events, NoMemory>
 /// The world that has nothing but a start of the script of this name.
 #[tactic(auto, using(crate::proofs::WorldLemmas::worlds))]
 pub(crate) fn first_world(alloc: Global, name: &[u8]) -> Result<World<Saved>, NoMemory>
-    ensures world { IfOk result (λ w. IsFirst name.now w.world) }
+    ensures world { IfOk result (λ w. w.world ≡ first_world name.now) }
 {
     let events = one_start(alloc, name)?;
     World::new(

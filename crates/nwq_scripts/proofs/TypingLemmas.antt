@@ -1,6 +1,14 @@
 -- What comes of a script's tree does the work of its typed unit.
 use Rattle.std.proofs.Common.{◌≡◌, ℕ, inl, List, Result, Ok, Err, refl, subst}
-use Rattle.nwq_value.specs.Engine.{EngineTable}
+use Rattle.std.specs.Prelude.{◌≤◌, IfOk}
+use Rattle.nwq_value.specs.Engine.{EngineTable, IsTable}
+use Rattle.nwq_value.specs.Limits.{token_limit}
+use Rattle.nss_tree.specs.Source.{SourceTree}
+use Rattle.nss_parser.specs.Sizes.{IsKnownTree}
+use Rattle.nss_types.specs.declared.unit.TypeFault.{TypeFault}
+use Rattle.nss_typing.specs.declared.units.Typed.{Typed}
+use Rattle.nss_typing.specs.UnitReading.{typed_unit}
+use Rattle.typed_bounds.specs.Laws.{HasCode, EachTypedTreeHasCode}
 use Rattle.nwq_outside.specs.Outside.{Contents}
 use Rattle.nss_typing.specs.declared.fault.Fault.{Fault}
 use Rattle.nss_typing.specs.Typed.{TypedUnit}
@@ -13,6 +21,12 @@ use Rattle.nwq_work.specs.Work.{Does, Refused}
 use Rattle.nwq_work.specs.Parts.{Refuses, cut_here, finds_one, refused}
 use Rattle.nwq_sources.specs.Units.{PlainScript, at_token}
 use Rattle.nwq_scripts.specs.Typings.{TypingFate, Whole, Faulty, IsTypingFate, whole, faulty, cause_of, typing_by, typed_in}
+
+-- what is typed has code
+pub code_of_typed : EachTypedTreeHasCode → (table : EngineTable) (u : SourceTree) (r : Result Typed TypeFault) → IsTable table → IsKnownTree u → u.count ≤ token_limit
+    → IfOk r (λ t. TypesUnit table u (typed_unit t)) → IfOk r (λ t. HasCode (typed_unit t))
+code_of_typed law table u (Ok t) is known few h = law table u (typed_unit t) is known few h
+code_of_typed law table u (Err e) is known few h = tt
 
 module _ (header : EngineTable) (script : PlainScript) (c : Contents) where
   goes : (fate : TypingFate) (r : Result TypedUnit Status) (t t' : List ℕ) → IsTypingFate header script.tree fate → Does (typing_by script fate) c t r c t'

@@ -3,8 +3,8 @@ ghost use Rattle.std.specs.Prelude.{IsTrue, IfErr, IfOk};
 ghost use Rattle.nwq_value.specs.Limits.{file_limit};
 ghost use Rattle.nwq_outside.specs.Outside.{Contents};
 ghost use Rattle.nss_typing.specs.UnitReading.{typed_unit};
-ghost use Rattle.code_emission.specs.Bounds.{IsBounded};
-ghost use Rattle.code_emission.specs.Units.{unit_code, unit_file};
+ghost use Rattle.code_emission.specs.Units.{unit_file};
+ghost use Rattle.typed_bounds.specs.Laws.{HasCode};
 ghost use Rattle.nwq_work.specs.Work.{Does, CutsShort};
 ghost use Rattle.nwq_work.specs.Counts.{Counted, Tallies, Refusing, StopsSource, KeepsBut};
 ghost use Rattle.nwq_sources.specs.Scripts.{plain_script};
@@ -15,7 +15,6 @@ use crate::script::TypedScript;
 use crate::typing::type_script;
 use codegen_unit::{GenFault, generate};
 use ncs_code::size_laws;
-use nss_layout::lay;
 use nss_typing::Typed;
 use nwq_files::write_and_put;
 use nwq_outside::{Files, Sink};
@@ -23,41 +22,30 @@ use nwq_sources::{Script, read_table, read_unit, refuse_end};
 use nwq_value::{Items, NoMemory, Table};
 use nwq_work::{Cause, Status};
 use std::alloc::Global;
-use unit_bounds::keeps_bounds;
 
-/// Whether a unit is found to keep the bounds that its code needs.
-fn has_bounds(alloc: Global, unit: &Typed) -> Result<bool, NoMemory>
-    ensures kept { IfOk result (λ found. IsTrue found → IsBounded (typed_unit unit.now)) }
-    ensures few { IfOk result (λ found. IsTrue found →
-        (unit_code (typed_unit unit.now)).labels < 2 ^ 32) }
-{
-    let layout = lay(alloc, unit)?;
-    Ok(keeps_bounds(unit, &layout))
-}
-
-/// The file of a unit. One that isn't found to keep its code's bounds ends in want of memory.
+/// The file of a unit.
 #[tactic(auto, using(crate::proofs::FileLemmas::sizes))]
 fn code_of(alloc: Global, unit: &Typed) -> Result<Vec<u8>, GenFault>
+    requires { HasCode (typed_unit unit.now) }
     ensures file { IfOk result (λ bytes. bytes.items ≡ unit_file (typed_unit unit.now)) }
     ensures small { IfOk result (λ bytes. length bytes.items ≤ file_limit) }
     ensures large { IfErr result (IsTooLarge (unit_file (typed_unit unit.now))) }
 {
     size_laws();
-    if !has_bounds(alloc, unit)? {
-        return Err(GenFault::NoMemory);
-    }
     generate(alloc, unit)
 }
 
 /// The file of a typed script. A script whose file would be too large is refused at its end.
 #[tactic(auto, using(crate::proofs::FileLemmas::files))]
 fn file_of<S: Sink>(alloc: Global, script: &TypedScript, out: &mut S) -> Result<Items<u8>, Status>
+    requires { HasCode (typed_unit script.now.typed) }
     ensures does { IsTrue S.tells → (c : Contents) →
         Does (file_in script.now.unit.files (typed_unit script.now.typed)) c
         (S.taken out.old) result c (S.taken out.new) }
     ensures counts { (faults absences longs : ℕ) → Tallies result
         (Counted faults absences longs (S.faults out.old))
         (Counted faults absences longs (S.faults out.new)) }
+    ensures small { IfOk result (λ bytes. length bytes ≤ file_limit) }
     ensures only { IfErr result (Refusing Status.Script) }
 {
     match code_of(alloc, &script.typed) {
@@ -81,6 +69,7 @@ pub fn compile_script<S: Sink>(
     ensures counts { (faults absences longs : ℕ) → Tallies result
         (Counted faults absences longs (S.faults out.old))
         (Counted faults absences longs (S.faults out.new)) }
+    ensures small { IfOk result (λ bytes. length bytes ≤ file_limit) }
     ensures only { IfErr result (Refusing Status.Script) }
 {
     match type_script(alloc, table, script, out) {
@@ -106,6 +95,7 @@ pub fn read_compiled<F: Files, S: Sink>(
         (Counted (F.faults files.new) (F.absences files.new)
         (F.longs files.new) (S.faults out.new)) }
     ensures same { F.contents files.new ≡ F.contents files.old }
+    ensures small { IfOk result (λ bytes. length bytes ≤ file_limit) }
     ensures only { IfErr result StopsSource }
 {
     match read_unit(alloc, script, files, out) {
@@ -115,7 +105,7 @@ pub fn read_compiled<F: Files, S: Sink>(
 }
 
 /// The name of a script's file of bytecode.
-fn code_name(alloc: Global, script: &str) -> Result<String, NoMemory>
+pub fn code_name(alloc: Global, script: &str) -> Result<String, NoMemory>
     ensures { IfOk result (λ name. string_bytes name ≡ code_name script.now) }
 {
     let mut name = String::new(alloc);

@@ -12,6 +12,6 @@ pub mod laws;
 mod script;
 mod typing;
 
-pub use file::{compile_file, compile_script, read_compiled};
+pub use file::{code_name, compile_file, compile_script, read_compiled};
 pub use script::TypedScript;
 pub use typing::type_script;

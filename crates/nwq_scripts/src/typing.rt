@@ -1,4 +1,11 @@
-ghost use Rattle.std.specs.Prelude.{◌≡◌, ℕ, IsTrue, IfErr, IfOk};
+ghost use Rattle.std.specs.Prelude.{◌≡◌, ◌≤◌, ℕ, IsTrue, IfErr, IfOk};
+ghost use Rattle.nwq_value.specs.Limits.{token_limit};
+ghost use Rattle.nss_tree.specs.Reading.{plain_tree};
+ghost use Rattle.nss_parser.specs.Sizes.{IsKnownTree};
+ghost use Rattle.nss_typing.specs.Meaning.{TypesUnit};
+ghost use Rattle.nss_typing.specs.UnitReading.{typed_unit};
+ghost use Rattle.nss_types.specs.Answers.{IsFaultOf};
+ghost use Rattle.typed_bounds.specs.Laws.{HasCode};
 ghost use Rattle.nwq_outside.specs.Outside.{Contents};
 ghost use Rattle.nwq_work.specs.Work.{Does};
 ghost use Rattle.nwq_work.specs.Counts.{Counted, Tallies, Refusing};
@@ -6,13 +13,15 @@ ghost use Rattle.nwq_sources.specs.Scripts.{plain_script};
 ghost use Rattle.nwq_scripts.specs.Typings.{cause_of, plain_answer, typed_in};
 
 use crate::script::TypedScript;
+use nss_tree::Tree;
 use nss_types::{TypeFault, type_unit};
-use nss_typing::FaultKind;
+use nss_typing::{FaultKind, Typed};
 use nwq_outside::Sink;
 use nwq_sources::{Script, refuse_token};
 use nwq_value::Table;
 use nwq_work::{Cause, Status};
 use std::alloc::Global;
+use typed_bounds::laws::typed_units_have_code;
 
 fn cause_of(kind: FaultKind) -> Cause
     ensures { result ≡ cause_of kind }
@@ -32,6 +41,19 @@ fn cause_of(kind: FaultKind) -> Cause
     }
 }
 
+/// The typed unit of a tree, of which there is code.
+fn typed_of(alloc: Global, tree: Tree, table: &Table) -> Result<Typed, TypeFault>
+    requires known { IsKnownTree (plain_tree tree) }
+    requires few { (plain_tree tree).count ≤ token_limit }
+    ensures typed { IfOk result (λ t. TypesUnit table.now (plain_tree tree) (typed_unit t)) }
+    ensures code { IfOk result (λ t. HasCode (typed_unit t)) }
+    ensures fault { IfErr result (IsFaultOf table.now (plain_tree tree)) }
+{
+    table.keeps();
+    typed_units_have_code();
+    type_unit(alloc, tree, table)
+}
+
 /// The typed unit of a script under a header. A script that has none is refused at its least fault.
 #[tactic(auto, using(crate::proofs::TypingLemmas::typings))]
 pub fn type_script<S: Sink>(
@@ -44,13 +66,14 @@ pub fn type_script<S: Sink>(
         Does (typed_in table.now (plain_script script)) c
         (S.taken out.old) (plain_answer result) c (S.taken out.new) }
     ensures same { IfOk result (λ typed. typed.unit ≡ script.unit) }
+    ensures code { IfOk result (λ typed. HasCode (typed_unit typed.typed)) }
     ensures counts { (faults absences longs : ℕ) → Tallies result
         (Counted faults absences longs (S.faults out.old))
         (Counted faults absences longs (S.faults out.new)) }
     ensures only { IfErr result (Refusing Status.Script) }
 {
     let Script { unit, tree } = script;
-    match type_unit(alloc, tree, table) {
+    match typed_of(alloc, tree, table) {
         Ok(typed) => Ok(TypedScript { unit, typed }),
         Err(TypeFault::NoMemory) => Err(Status::Memory),
         Err(TypeFault::Fault(fault)) => {

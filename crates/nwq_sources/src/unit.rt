@@ -5,6 +5,7 @@ ghost use Rattle.nwq_outside.specs.Outside.{Contents};
 ghost use Rattle.nss_include.specs.Units.{IsUnit};
 ghost use Rattle.nwq_value.specs.Limits.{token_limit};
 ghost use Rattle.nss_tree.specs.Reading.{plain_tree};
+ghost use Rattle.nss_parser.specs.Sizes.{IsKnownTree};
 ghost use Rattle.nss_include.specs.Gather.{Gathers, CountsGathered};
 ghost use Rattle.nwq_work.specs.Work.{Does};
 ghost use Rattle.nwq_work.specs.Parts.{Refuses};
@@ -137,6 +138,7 @@ fn refuse_gather<S: Sink>(alloc: Global, fault: GatherFault, out: &mut S) -> Sta
 fn tree_of(alloc: Global, unit: &Unit) -> Result<Tree, ParseFault>
     ensures tree { IfOk result (λ tree. HasTree unit.now (plain_tree tree)) }
     ensures few { IfOk result (λ tree. (plain_tree tree).count ≤ token_limit) }
+    ensures known { IfOk result (λ tree. IsKnownTree (plain_tree tree)) }
     ensures refused { IfErr result (HasFault unit.now) }
 {
     let tokens = unit.tokens(alloc)?;

@@ -1,22 +1,50 @@
--- What stops a command is one of its statuses.
+-- What stops a part of a run stops the run, and what stops a command is one of its statuses.
 use Rattle.nwq_work.specs.declared.status.Status.{Status}
 use Rattle.nwq_work.specs.declared.status.Status.TheVariants.{Done, Words, Script, Code, Area, Limit, Missing, Fault, Memory, Long}
 use Rattle.nwq_work.specs.Counts.{StopsSource, StopsCode, StopsArea}
 use Rattle.nwq_checks.specs.Checks.{StopsCheck}
-use Rattle.nwq_top.specs.Words.{Form, Run, Compile, Tree, Check, Disassemble, Assemble, NoForm}
-use Rattle.nwq_top.specs.Endings.{EndsRun, EndsCompile, EndsTree, EndsCheck, EndsCode, ComesOf, StopsCommand}
+use Rattle.nwq_plays.specs.Tellings.{StopsPlay}
+use Rattle.nwq_games.specs.Tellings.{StopsGame}
+use Rattle.nwq_top.specs.Words.{Form, Run, Compile, Tree, Check, Disassemble, Assemble, Play, NoForm}
+use Rattle.nwq_top.specs.Endings.{StopsRun, EndsRun, EndsCompile, EndsTree, EndsCheck, EndsCode, EndsPlay, ComesOf, StopsCommand}
 
-source_ends : (status : Status) → StopsSource status → EndsRun status
-source_ends Done h = tt
-source_ends Words h = h
-source_ends Script h = h
-source_ends Code h = h
-source_ends Area h = h
-source_ends Limit h = h
-source_ends Missing h = h
-source_ends Fault h = h
-source_ends Memory h = h
-source_ends Long h = h
+pub source_stops : (status : Status) → StopsSource status → StopsRun status
+source_stops Done h = h
+source_stops Words h = h
+source_stops Script h = h
+source_stops Code h = tt
+source_stops Area h = h
+source_stops Limit h = tt
+source_stops Missing h = h
+source_stops Fault h = h
+source_stops Memory h = h
+source_stops Long h = h
+
+pub play_stops : (status : Status) → StopsPlay status → StopsRun status
+play_stops Done h = h
+play_stops Words h = h
+play_stops Script h = tt
+play_stops Code h = h
+play_stops Area h = h
+play_stops Limit h = h
+play_stops Missing h = tt
+play_stops Fault h = h
+play_stops Memory h = h
+play_stops Long h = tt
+
+pub ruleset runs_stop = (source_stops, play_stops)
+
+run_ends : (status : Status) → StopsRun status → EndsRun status
+run_ends Done h = tt
+run_ends Words h = h
+run_ends Script h = h
+run_ends Code h = h
+run_ends Area h = h
+run_ends Limit h = h
+run_ends Missing h = h
+run_ends Fault h = h
+run_ends Memory h = h
+run_ends Long h = h
 
 compile_ends : (status : Status) → StopsSource status → EndsCompile status
 compile_ends Done h = tt
@@ -66,11 +94,24 @@ check_ends Fault h = h
 check_ends Memory h = h
 check_ends Long h = h
 
+play_ends : (status : Status) → StopsGame status → EndsPlay status
+play_ends Done h = tt
+play_ends Words h = h
+play_ends Script h = h
+play_ends Code h = h
+play_ends Area h = h
+play_ends Limit h = h
+play_ends Missing h = h
+play_ends Fault h = h
+play_ends Memory h = h
+play_ends Long h = h
+
 pub stops_come : (form : Form) (status : Status) → StopsCommand form status → ComesOf form status
-stops_come (Run header script) status h = source_ends status h
+stops_come (Run header script) status h = run_ends status h
 stops_come (Compile header script) status h = compile_ends status h
 stops_come (Tree file) status h = area_ends status h
 stops_come (Check header file) status h = check_ends status h
 stops_come (Disassemble file to) status h = code_ends status h
 stops_come (Assemble file to) status h = code_ends status h
+stops_come (Play header area plan to) status h = play_ends status h
 stops_come NoForm status h = h

@@ -1,7 +1,6 @@
 mod EndingLemmas
-mod PlayLemmas
 mod Rows
+mod RunLemmas
 mod Sure
-mod TextLemmas
 mod WordLemmas
 mod Steps

@@ -1,5 +1,5 @@
 -- The definitions at worked examples, by computing.
-use Rattle.std.proofs.Common.{◌≡◌, ◌++◌, [], ◌∷◌, refl}
+use Rattle.std.proofs.Common.{◌≡◌, [], ◌∷◌, refl}
 use Rattle.std.specs.Prelude.{codes}
 use Rattle.std.specs.Fmt.{digits}
 use Rattle.nwq_text.specs.Escape.{escaped, spelling}
@@ -8,17 +8,11 @@ use Rattle.gff_bytes.specs.declared.rows.Part.TheVariants as part
 use Rattle.nwq_work.specs.declared.flaw.CodeFlaw.TheVariants as code
 use Rattle.nwq_work.specs.declared.flaw.AreaFlaw.TheVariants as area
 use Rattle.nwq_work.specs.Refusal.{line_of, Absent, TooLong, At, BadCode, BadArea}
-use Rattle.nwq_sums.specs.Meaning.{prints_of}
 use Rattle.nwq_files.specs.Texts.{disassembled_line, assembled_line}
-use Rattle.nwq_top.specs.Texts.{trace_text, end_text}
 use Rattle.nwq_top.specs.Words.{form_of, Run, Compile, Tree, Disassemble, Assemble, NoForm}
 
 -- texts
-trace_of_sum : trace_text (prints_of ((2 ∷ 3 ∷ []) ∷ [])) ++ end_text 7 ≡ codes "0 #0 print 5\nend done clock 0 entries 1 instructions 7\n"
-unfolding digits
-trace_of_sum = refl
-
-line_of_script : line_of (At (codes "p.nss") 1 28 cause.NotBuilt) ≡ codes "refused p.nss 1 28 notbuilt\n"
+line_of_script : line_of (At (codes "p.nss") 1 28 cause.Mismatch) ≡ codes "refused p.nss 1 28 mismatch\n"
 unfolding digits escaped spelling
 line_of_script = refl
 

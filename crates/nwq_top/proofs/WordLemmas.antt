@@ -1,8 +1,19 @@
--- Words as lists of bytes.
-use Rattle.std.proofs.Common.{◌≡◌, ◌||◌, List, [], ◌∷◌, map, String, Global, string_bytes, refl, ap}
+-- Words as lists of bytes, and the work of equal words.
+use Rattle.std.proofs.Common.{◌≡◌, ℕ, ◌||◌, List, [], ◌∷◌, map, String, Global, string_bytes, refl, ap, subst}
 use Rattle.std.specs.List.{list_any}
-use Rattle.nwq_top.specs.Words.{is_option}
+use Rattle.nwq_outside.specs.Outside.{Contents}
+use Rattle.engine_rows.specs.Pure.{CellLookup}
+use Rattle.nwq_work.specs.declared.status.Status.{Status}
+use Rattle.nwq_work.specs.Work.{Does, ending}
+use Rattle.nwq_top.specs.Words.{is_option, form_of}
+use Rattle.nwq_top.specs.Command.{work_of}
 
 pub any_dashed : (words : List (String Global)) → list_any is_option (map string_bytes words) ≡ list_any (λ word. is_option (string_bytes word)) words
 any_dashed [] = refl
 any_dashed (word ∷ words) = ap (λ b. is_option (string_bytes word) || b) (any_dashed words)
+
+pub same_work : (cell : CellLookup) (words all : List (String Global)) (told status : Status) (c c' : Contents) (t t' : List ℕ) → words ≡ all → told ≡ status
+    → Does (work_of cell (form_of (map string_bytes words))) c t (ending told) c' t' → Does (work_of cell (form_of (map string_bytes all))) c t (ending status) c' t'
+same_work cell words all told status c c' t t' same is does =
+    subst (λ s. Does (work_of cell (form_of (map string_bytes all))) c t (ending s) c' t') is
+    (subst (λ ws. Does (work_of cell (form_of (map string_bytes ws))) c t (ending told) c' t') same does)

@@ -1,11 +1,12 @@
 -- Which statuses can come of which form of words.
 use Rattle.std.specs.Prelude.{Result, Ok, Err}
 use Rattle.nwq_work.specs.declared.status.Status.{Status}
-use Rattle.nwq_work.specs.declared.status.Status.TheVariants.{Done, Words, Fault, Memory}
+use Rattle.nwq_work.specs.declared.status.Status.TheVariants.{Done, Words, Limit, Fault, Memory}
 use Rattle.nwq_work.specs.Work.{Finished}
 use Rattle.nwq_work.specs.Counts.{StopsSource, StopsCode, StopsArea}
 use Rattle.nwq_checks.specs.Checks.{StopsCheck}
-use Rattle.nwq_top.specs.Words.{Form, Run, Compile, Tree, Check, Disassemble, Assemble, NoForm}
+use Rattle.nwq_games.specs.Tellings.{StopsGame}
+use Rattle.nwq_top.specs.Words.{Form, Run, Compile, Tree, Check, Disassemble, Assemble, Play, NoForm}
 
 abbrev pub EndsWords : Status → Type 0
 EndsWords Words = Unit {0}
@@ -13,9 +14,15 @@ EndsWords Fault = Unit {0}
 EndsWords Memory = Unit {0}
 EndsWords _ = ⊥
 
+-- What stops a run: its header or script, the check of its compiled file, or a limit that ended its play. No law says yet that the check
+-- passes every compiled file; once one does, `Code` goes away here.
+abbrev pub StopsRun : Status → Type 0
+StopsRun Limit = Unit {0}
+StopsRun status = StopsCheck status
+
 abbrev pub EndsRun : Status → Type 0
 EndsRun Done = Unit {0}
-EndsRun status = StopsSource status
+EndsRun status = StopsRun status
 
 abbrev pub EndsCompile : Status → Type 0
 EndsCompile Done = Unit {0}
@@ -33,6 +40,10 @@ abbrev pub EndsCode : Status → Type 0
 EndsCode Done = Unit {0}
 EndsCode status = StopsCode status
 
+abbrev pub EndsPlay : Status → Type 0
+EndsPlay Done = Unit {0}
+EndsPlay status = StopsGame status
+
 -- one table: the status may come of this form
 abbrev pub ComesOf : Form → Status → Type 0
 ComesOf (Run header script) status = EndsRun status
@@ -41,16 +52,18 @@ ComesOf (Tree file) status = EndsTree status
 ComesOf (Check header file) status = EndsCheck status
 ComesOf (Disassemble file to) status = EndsCode status
 ComesOf (Assemble file to) status = EndsCode status
+ComesOf (Play header area plan to) status = EndsPlay status
 ComesOf NoForm status = EndsWords status
 
 -- the same of a command's answer, in which `Done` is no error
 abbrev pub StopsCommand : Form → Status → Type 0
-StopsCommand (Run header script) status = StopsSource status
+StopsCommand (Run header script) status = StopsRun status
 StopsCommand (Compile header script) status = StopsSource status
 StopsCommand (Tree file) status = StopsArea status
 StopsCommand (Check header file) status = StopsCheck status
 StopsCommand (Disassemble file to) status = StopsCode status
 StopsCommand (Assemble file to) status = StopsCode status
+StopsCommand (Play header area plan to) status = StopsGame status
 StopsCommand NoForm status = EndsWords status
 
 abbrev pub ComesOfResult : Form → Result Finished Status → Type 0

@@ -1,5 +1,4 @@
 pub mod Words
-pub mod Texts
 pub mod Command
 pub mod Endings
 pub mod Program

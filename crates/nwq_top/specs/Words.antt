@@ -11,6 +11,7 @@ pub data Form : Type 0 where
   Check : (header file : List ℕ) → Form  -- the header as for `Run`
   Disassemble : (file to : List ℕ) → Form
   Assemble : (file to : List ℕ) → Form
+  Play : (header area plan to : List ℕ) → Form  -- the header as for `Run`
   NoForm : Form
 
 abbrev pub is_between : ℕ → ℕ → ℕ → Bool
@@ -38,7 +39,7 @@ compile_form header script = cond (is_script_name script) (Compile header script
 
 -- a command and one word
 abbrev pub one_word_form : List ℕ → List ℕ → Form
-one_word_form command file = cond (bytes_eq command (codes "tree")) (Tree file) NoForm
+one_word_form command word = cond (bytes_eq command (codes "tree")) (Tree word) NoForm
 
 -- a command and two words
 abbrev pub two_word_form : List ℕ → List ℕ → List ℕ → Form
@@ -49,10 +50,15 @@ two_word_form command first second =
     (cond (bytes_eq command (codes "dis")) (Disassemble first second)
     (cond (bytes_eq command (codes "asm")) (Assemble first second) NoForm))))
 
+-- a command and four words
+abbrev pub four_word_form : List ℕ → List ℕ → List ℕ → List ℕ → List ℕ → Form
+four_word_form command header area plan to = cond (bytes_eq command (codes "play")) (Play header area plan to) NoForm
+
 -- which command these words are, by the first of them
 abbrev pub command_form : List (List ℕ) → Form
 command_form (command ∷ (file ∷ [])) = one_word_form command file
 command_form (command ∷ (first ∷ (second ∷ []))) = two_word_form command first second
+command_form (command ∷ (header ∷ (area ∷ (plan ∷ (to ∷ []))))) = four_word_form command header area plan to
 command_form _ = NoForm
 
 -- which command these words are, if they are one: there are no options
@@ -68,3 +74,4 @@ IsCommand (command.Tree file) form = form ≡ Tree file.now
 IsCommand (command.Check header file) form = form ≡ Check header.now file.now
 IsCommand (command.Disassemble file to) form = form ≡ Disassemble file.now to.now
 IsCommand (command.Assemble file to) form = form ≡ Assemble file.now to.now
+IsCommand (command.Play header area plan to) form = form ≡ Play header.now area.now plan.now to.now

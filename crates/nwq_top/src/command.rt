@@ -11,6 +11,7 @@ use crate::words::{Command, command_of};
 use hook_table::Hooks;
 use nwq_checks::check_file;
 use nwq_files::{assemble_file, disassemble_file, show_tree};
+use nwq_games::play_files;
 use nwq_outside::{Files, Sink};
 use nwq_scripts::compile_file;
 use nwq_work::{Status, refuse_form};
@@ -23,11 +24,11 @@ pub fn command<F: Files, S: Sink>(
     words: &[String],
     files: &mut F,
     out: &mut S,
-    _hooks: &Hooks,
+    hooks: &Hooks,
 ) -> Result<(), Status>
-    requires hooks { AreServing (map (λ h. h.known) _hooks.now.all.items) }
+    requires hooks { AreServing (map (λ h. h.known) hooks.now.all.items) }
     ensures does { IsTrue F.tells → IsTrue S.tells →
-        Does (work_of (cells_of (map (λ h. h.known) _hooks.now.all.items))
+        Does (work_of (cells_of (map (λ h. h.known) hooks.now.all.items))
         (form_of (map string_bytes words.now)))
         (F.contents files.old) (S.taken out.old)
         result (F.contents files.new) (S.taken out.new) }
@@ -41,11 +42,17 @@ pub fn command<F: Files, S: Sink>(
 {
     match command_of(words) {
         Command::NoForm => Err(refuse_form(alloc, out)),
-        Command::Run(header, script) => run(alloc, header, script, files, out),
+        Command::Run(header, script) => run(alloc, header, script, files, out, hooks),
         Command::Compile(header, script) => compile_file(alloc, header, script, files, out),
         Command::Tree(file) => show_tree(alloc, file, files, out),
         Command::Check(header, file) => check_file(alloc, header, file, files, out),
         Command::Disassemble(file, to) => disassemble_file(alloc, file, to, files, out),
         Command::Assemble(file, to) => assemble_file(alloc, file, to, files, out),
+        Command::Play {
+            header,
+            area,
+            plan,
+            to,
+        } => play_files(alloc, header, area, plan, to, hooks, files, out),
     }
 }

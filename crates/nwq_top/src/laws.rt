@@ -4,9 +4,10 @@ ghost use Rattle.nwq_top.specs.Laws.{OneOutcome, Prefixes};
 
 use nwq_checks::laws::one_check;
 use nwq_files::laws::one_file;
+use nwq_games::laws::one_game;
+use nwq_plays::laws::one_code;
 use nwq_scripts::laws::one_script;
 use nwq_sources::laws::one_source;
-use nwq_sums::laws::{one_building, one_run};
 
 /// A command that isn't cut has one outcome, and one that is cut has put a prefix of what it puts
 /// whole.
@@ -18,6 +19,6 @@ pub fn one_outcome()
     one_file();
     one_script();
     one_check();
-    one_building();
-    one_run();
+    one_code();
+    one_game();
 }

@@ -11,7 +11,6 @@ mod command;
 pub mod laws;
 mod program;
 mod run;
-mod texts;
 mod words;
 
 ghost use Rattle.std.specs.Prelude.{◌≡◌, map, string_bytes, IsTrue};

@@ -16,7 +16,7 @@ use std::alloc::Global;
 
 /// What is said on standard error after words that are no form of a command.
 const USAGE: &str =
-    "usage: nwq run HEADER SCRIPT | compile HEADER SCRIPT | tree FILE | check HEADER FILE | dis FILE TO | asm FILE TO (HEADER: a header file, or - for the built-in one)\n";
+    "usage: nwq run HEADER SCRIPT | compile HEADER SCRIPT | tree FILE | check HEADER FILE | dis FILE TO | asm FILE TO | play HEADER AREA PLAN TO (HEADER: a header file, or - for the built-in one)\n";
 
 /// The words after the program's name, which is the first of all.
 fn after_name(all: &[String]) -> &[String]

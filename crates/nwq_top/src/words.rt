@@ -2,6 +2,7 @@ ghost use Rattle.std.specs.Prelude.{◌≡◌, map, string_bytes, bytes_eq};
 ghost use Rattle.std.specs.List.{list_all, list_any};
 ghost use Rattle.nwq_top.specs.Words.{is_script_byte, is_script_name, is_option, command_form};
 ghost use Rattle.nwq_top.specs.Words.{one_word_form, two_word_form, run_form, compile_form};
+ghost use Rattle.nwq_top.specs.Words.{four_word_form};
 ghost use Rattle.nwq_top.specs.Words.{form_of, IsCommand};
 
 /// How many characters the name of a script has at most.
@@ -22,6 +23,14 @@ pub enum Command<'a> {
     Disassemble(&'a str, &'a str),
     /// Writes the file of the first, an assembler text, under the second name.
     Assemble(&'a str, &'a str),
+    /// Plays a plan over the area of a GFF file, under the header that the first names, and leaves the
+    /// area in a file.
+    Play {
+        header: &'a str,
+        area: &'a str,
+        plan: &'a str,
+        to: &'a str,
+    },
     /// The words are no form of a command.
     NoForm,
 }
@@ -69,11 +78,11 @@ fn is_word(word: &str, name: &str) -> bool
     word == name
 }
 
-fn one_word<'a>(command: &str, file: &'a str) -> Command<'a>
-    ensures { IsCommand result (one_word_form command.now file.now) }
+fn one_word<'a>(command: &str, word: &'a str) -> Command<'a>
+    ensures { IsCommand result (one_word_form command.now word.now) }
 {
     if is_word(command, "tree") {
-        Command::Tree(file)
+        Command::Tree(word)
     } else {
         Command::NoForm
     }
@@ -117,12 +126,40 @@ fn two_words<'a>(command: &str, first: &'a str, second: &'a str) -> Command<'a>
     }
 }
 
+fn four_words<'a>(
+    command: &str,
+    header: &'a str,
+    area: &'a str,
+    plan: &'a str,
+    to: &'a str,
+) -> Command<'a>
+    ensures { IsCommand result (four_word_form command.now header.now area.now plan.now to.now) }
+{
+    if is_word(command, "play") {
+        Command::Play {
+            header,
+            area,
+            plan,
+            to,
+        }
+    } else {
+        Command::NoForm
+    }
+}
+
 fn command_by(words: &[String]) -> Command<'_>
     ensures { IsCommand result (command_form (map string_bytes words.now)) }
 {
     match words {
         [command, file] => one_word(command.as_str(), file.as_str()),
         [command, first, second] => two_words(command.as_str(), first.as_str(), second.as_str()),
+        [command, header, area, plan, to] => four_words(
+            command.as_str(),
+            header.as_str(),
+            area.as_str(),
+            plan.as_str(),
+            to.as_str(),
+        ),
         _ => Command::NoForm,
     }
 }

@@ -10,7 +10,7 @@ use Rattle.std.specs.Option.{option_map, option_copied}
 use Rattle.std.specs.Str.{bytes_eq}
 use Rattle.nwq_value.specs.declared.engine.Const.{Const}
 use Rattle.nwq_value.specs.declared.engine.Routine.{Routine}
-use Rattle.nwq_value.specs.Engine.{Constant, EngineTable, IsTable, IsRoutine, AreRoutines, AreApart, routine_named, constant_named}
+use Rattle.nwq_value.specs.Engine.{Constant, EngineTable, IsTable, IsConstant, IsRoutine, AreRoutines, AreConstants, AreApart, routine_named, constant_named}
 use Rattle.indexmap.specs.IndexMap.{IndexMap, insert_entry}
 use Rattle.indexmap.proofs.CallerLemmas.{insert_entry-new}
 use Rattle.nwq_value.specs.Entries.{routines_in, constants_in, table_of, AreKeyed}
@@ -81,6 +81,10 @@ routines_more : (rs : List Routine) (r : Routine) → AreRoutines rs → IsRouti
 routines_more [] r all here = (here, tt)
 routines_more (x ∷ xs) r all here = (all.0, routines_more xs r all.1 here)
 
+constants_more : (cs : List Constant) (c : Constant) → AreConstants cs → IsConstant c.value → AreConstants (cs ++ c ∷ [])
+constants_more [] c all here = (here, tt)
+constants_more (x ∷ xs) c all here = (all.0, constants_more xs c all.1 here)
+
 names_more : {A : Type 0} (f : A → List ℕ) (xs : List A) (x : A) → map f (xs ++ x ∷ []) ≡ map f xs ++ f x ∷ []
 names_more f [] x = refl
 names_more f (y ∷ ys) x = ap (λ l. f y ∷ l) (names_more f ys x)
@@ -94,6 +98,7 @@ pub table_pushed : (t : EngineTable) (r : Routine) → IsTable t → routine_nam
 table_pushed t r kept no_r no_c room here = record {
   few = let e = one_more t.routines r in omega arith;
   routines = routines_more t.routines r kept.routines here;
+  constants = kept.constants;
   routine_names =
       rw names_more (distinct_more (map (λ x. x.name) t.routines) r.name (no_routine r.name t.routines no_r) kept.routine_names);
   constant_names = kept.constant_names;
@@ -101,10 +106,11 @@ table_pushed t r kept no_r no_c room here = record {
 }
 
 pub table_defined : (t : EngineTable) (c : Constant) → IsTable t → routine_named c.name t.routines ≡ None → constant_named c.name t.constants ≡ None
-    → IsTable (record { routines = t.routines; constants = t.constants ++ c ∷ [] })
-table_defined t c kept no_r no_c = record {
+    → IsConstant c.value → IsTable (record { routines = t.routines; constants = t.constants ++ c ∷ [] })
+table_defined t c kept no_r no_c here = record {
   few = kept.few;
   routines = kept.routines;
+  constants = constants_more t.constants c kept.constants here;
   routine_names = kept.routine_names;
   constant_names =
       rw names_more (distinct_more (map (λ x. x.name) t.constants) c.name (no_constant c.name t.constants no_c) kept.constant_names);
@@ -113,7 +119,7 @@ table_defined t c kept no_r no_c = record {
 
 pub table_empty : IsTable (record { routines = []; constants = [] })
 unfolding IsDistinct
-table_empty = record { few = omega arith; routines = tt; routine_names = tt; constant_names = tt; apart = tt }
+table_empty = record { few = omega arith; routines = tt; constants = tt; routine_names = tt; constant_names = tt; apart = tt }
 
 -- ---- the maps' entries
 
@@ -262,9 +268,9 @@ module _ {S : Type 0} (m : IndexMap (Vec ℕ Global) Const S) (k : Vec ℕ Globa
       ∙ ap (λ cs. record { routines = routines_in es; constants = cs }) (constants_in_more m.entries k v name is)
       ∙ ap (λ u. record { routines = u.routines; constants = u.constants ++ record { name = name; value = v } ∷ [] }) view
 
-  pub kept_defined : routine_named name t.routines ≡ None → AreKeyed es × IsTable (table_of es after)
-  kept_defined no_r =
-      (kept.0, subst IsTable (sym view_defined) (table_defined t (record { name = name; value = v }) (subst IsTable view kept.1) no_r no_c))
+  pub kept_defined : routine_named name t.routines ≡ None → IsConstant v → AreKeyed es × IsTable (table_of es after)
+  kept_defined no_r here =
+      (kept.0, subst IsTable (sym view_defined) (table_defined t (record { name = name; value = v }) (subst IsTable view kept.1) no_r no_c here))
 
 -- a lent constant has no routine's name
 pub lent_apart : (o : Option (Bor Const)) (name : List ℕ) (t : EngineTable) → IsTable t → option_copied o ≡ constant_named name t.constants

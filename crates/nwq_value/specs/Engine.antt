@@ -1,7 +1,8 @@
 -- What a table holds, and what is kept of it.
-use Rattle.std.specs.Prelude.{◌≡◌, ◌≢◌, ◌≤◌, ℕ, suc, List, [], ◌∷◌, Option, None, Some, length, map, slice_get, if◌then◌else◌}
+use Rattle.std.specs.Prelude.{◌≡◌, ◌≢◌, ◌<◌, ◌≤◌, ℕ, All, FitsSigned, suc, List, [], ◌∷◌, Option, None, Some, length, map, slice_get, if◌then◌else◌}
 use Rattle.std.specs.Option.{option_map}
 use Rattle.std.specs.List.{IsDistinct}
+use Rattle.std.specs.Int.{w32}
 use Rattle.std.specs.Str.{bytes_eq}
 use Rattle.nwq_value.specs.declared.value.Ty.{Ty}
 use Rattle.nwq_value.specs.declared.value.Ty.TheVariants.{Int as IntTy, Text as TextTy, Object as ObjectTy, Struct}
@@ -9,7 +10,7 @@ use Rattle.nwq_value.specs.declared.engine.Const.{Const}
 use Rattle.nwq_value.specs.declared.engine.Const.TheVariants.{Int, Text, SelfObject, InvalidObject}
 use Rattle.nwq_value.specs.declared.engine.Param.{Param}
 use Rattle.nwq_value.specs.declared.engine.Routine.{Routine}
-use Rattle.nwq_value.specs.Limits.{parameter_limit, routine_limit}
+use Rattle.nwq_value.specs.Limits.{parameter_limit, routine_limit, text_limit}
 use Rattle.nwq_value.specs.Roles.{engine_role, types_of}
 
 -- a constant under its name
@@ -39,10 +40,17 @@ const_type (Text bytes) = TextTy
 const_type SelfObject = ObjectTy
 const_type InvalidObject = ObjectTy
 
--- a default, where there is one, has the parameter's type
+-- a constant's number has 32 bits, its text at most 8,192 bytes
+abbrev pub IsConstant : Const → Type 0
+IsConstant (Int n) = FitsSigned w32 n
+IsConstant (Text bytes) = (length bytes ≤ text_limit) × All (λ b. b < 256) bytes
+IsConstant SelfObject = Unit {0}
+IsConstant InvalidObject = Unit {0}
+
+-- a default, where there is one, is a constant of the parameter's type
 abbrev pub FitsType : Option Const → Ty → Type 0
 FitsType None ty = Unit {0}
-FitsType (Some c) ty = const_type c ≡ ty
+FitsType (Some c) ty = (const_type c ≡ ty) × IsConstant c
 
 -- the type is no struct of a unit
 abbrev pub IsNoStruct : Ty → Type 0
@@ -64,6 +72,11 @@ abbrev pub AreRoutines : List Routine → Type 0
 AreRoutines [] = Unit {0}
 AreRoutines (r ∷ rs) = IsRoutine r × AreRoutines rs
 
+-- so is what each name stands for
+abbrev pub AreConstants : List Constant → Type 0
+AreConstants [] = Unit {0}
+AreConstants (c ∷ cs) = IsConstant c.value × AreConstants cs
+
 -- no constant has the name of a routine
 abbrev pub AreApart : List Constant → List Routine → Type 0
 AreApart [] routines = Unit {0}
@@ -73,6 +86,7 @@ AreApart (c ∷ cs) routines = (routine_named c.name routines ≡ None) × AreAp
 pub record IsTable (t : EngineTable) : Type 0 where
   pub few : length t.routines ≤ routine_limit
   pub routines : AreRoutines t.routines
+  pub constants : AreConstants t.constants
   pub routine_names : IsDistinct bytes_eq (map (λ r. r.name) t.routines)
   pub constant_names : IsDistinct bytes_eq (map (λ c. c.name) t.constants)
   pub apart : AreApart t.constants t.routines

@@ -1,7 +1,7 @@
 ghost use Rattle.std.specs.Prelude.{◌≡◌, ◌<◌, ◌≤◌, ◌∷◌, [], ◌++◌, None, Some, length, slice_get};
 ghost use Rattle.std.specs.Prelude.{IfSome, OnOk, OnErr};
 ghost use Rattle.std.specs.Option.{option_copied};
-ghost use Rattle.nwq_value.specs.Engine.{routine_named, constant_named, AreParams, IsNoStruct};
+ghost use Rattle.nwq_value.specs.Engine.{routine_named, constant_named, AreParams, IsConstant, IsNoStruct};
 ghost use Rattle.nwq_value.specs.Engine.{IsRoutine, IsTable, ConstantIsOfName, NoConstantNoName};
 ghost use Rattle.nwq_value.specs.Engine.{NoNumberNoName, NumberIsOfName};
 ghost use Rattle.nwq_value.specs.Limits.{parameter_limit, routine_limit};
@@ -73,6 +73,7 @@ impl Table {
     pub fn define(&mut self, name: Text, value: Const) -> Result<(), NoMemory>
         requires no_routine { routine_named name self.old.routines ≡ None }
         requires no_constant { constant_named name self.old.constants ≡ None }
+        requires value { IsConstant value }
         ensures ok { OnOk result (self.new ≡ record self.old {
           constants = self.old.constants ++ record { name = name; value = value } ∷ [];
         }) }

@@ -39,8 +39,6 @@ pub enum Cause {
     Entry,
     /// The code would be larger than a file may be.
     Large,
-    /// The unit has a tree, and no code is made for it yet.
-    NotBuilt,
     /// The token fits no line of a header, or the header ends inside one.
     Header,
     /// The name was declared before in the header.
@@ -72,7 +70,6 @@ impl Cause {
             Cause::Cells => "cells",
             Cause::Entry => "entry",
             Cause::Large => "large",
-            Cause::NotBuilt => "notbuilt",
             Cause::Header => "header",
             Cause::Twice => "twice",
             Cause::Many => "many",

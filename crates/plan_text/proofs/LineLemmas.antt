@@ -8,7 +8,7 @@ use Rattle.plan_text.specs.declared.fault.PlanFault.{PlanFault}
 use Rattle.plan_text.specs.declared.fault.PlanFault.TheVariants.{Line as BadLine, NoMemory}
 use Rattle.plan_text.specs.declared.plan.Plan.{Plan}
 use Rattle.plan_text.specs.Fields.{cut_at}
-use Rattle.plan_text.specs.Plans.{Lines, none, last, ended, without_return, whole, more, stops, Reads, Baffles, Gives, headed, headless, IsHeaded, IsVersion, heading, nothing, HasPlan, IsFaulty, plan_of}
+use Rattle.plan_text.specs.Plans.{Lines, none, last, ended, without_return, whole, more, stops, Reads, Baffles, Gives, headed, headless, IsFirstLine, CutsIntoLines, IsHeaded, IsVersion, heading, nothing, HasPlan, IsFaulty, plan_of}
 use Rattle.plan_text.specs.Steps.{first_line, line_of_cut, version_in, GoesOn, ReadsOn, StopsAt}
 use Rattle.plan_text.proofs.FieldLemmas.{CutParts, cut_parts, cut_free, cut_none}
 
@@ -116,6 +116,16 @@ first_some bytes line rest e = subst (FirstParts bytes) e (first_parts bytes)
 -- what follows a line is shorter
 pub first_shorter : (bytes line rest : List ℕ) → first_line bytes ≡ Some (line, rest) → length rest < length bytes
 first_shorter bytes line rest e = (first_some bytes line rest e).1
+
+pub is_first : (bytes line rest : List ℕ) → first_line bytes ≡ Some (line, rest) → IsFirstLine bytes line rest
+is_first bytes line rest e = let parts = first_some bytes line rest e in record { leads = parts.0; shorter = parts.1 }
+
+-- a text without a first line is empty
+pub no_first : (bytes : List ℕ) → first_line bytes ≡ None → bytes ≡ []
+no_first bytes e = subst (FirstParts bytes) e (first_parts bytes)
+
+pub cuts : CutsIntoLines
+cuts = record { some = all_lines; one = one_lines }
 
 -- ---- going on
 

@@ -29,6 +29,16 @@ pub data Lines : List ℕ → List (List ℕ) → Type 0 where
   last : (line : List ℕ) → line ≢ [] → IsFree 10 line → Lines line (line ∷ [])
   ended : (line rest : List ℕ) (lines : List (List ℕ)) → IsFree 10 line → Lines rest lines → Lines (line ++ 10 ∷ rest) (without_return line ∷ lines)
 
+-- the first line of a text: it stands before the lines of the rest, which is shorter
+pub record IsFirstLine (bytes line rest : List ℕ) : Type 0 where
+  pub leads : (lines : List (List ℕ)) → Lines rest lines → Lines bytes (line ∷ lines)
+  pub shorter : length rest < length bytes
+
+-- each text is cut into lines, in one way
+pub record CutsIntoLines : Type 0 where
+  pub some : (bytes : List ℕ) → (lines : List (List ℕ)) × Lines bytes lines
+  pub one : (bytes : List ℕ) (a b : List (List ℕ)) → Lines bytes a → Lines bytes b → a ≡ b
+
 -- ---- what lines say
 
 -- a script of this name is listed

@@ -1,7 +1,8 @@
 //! Plans: texts that list limits, random numbers, scripts, and the events and starts of a play.
 //!
 //! [`read_plan`] reads a plan, or answers the number of the first line that has no reading. What lines say
-//! and what a text of lines gives stands in `specs/Plans.antt`. See docs/PLAN.md.
+//! and what a text of lines gives stands in `specs/Plans.antt`. Other texts of lines are read by
+//! [`next_line`], and names like those of scripts told by [`names_script`]. See docs/PLAN.md.
 #![tactic(auto)]
 
 mod draft;
@@ -14,5 +15,6 @@ mod reading;
 mod words;
 
 pub use fault::PlanFault;
+pub use fields::names_script;
 pub use plan::{Line, Listed, Plan, Planned, Script};
-pub use reading::read_plan;
+pub use reading::{next_line, read_plan};

@@ -1,6 +1,6 @@
-ghost use Rattle.std.specs.Prelude.{◌≡◌, IfOk, IfErr};
+ghost use Rattle.std.specs.Prelude.{◌≡◌, [], IfOk, IfErr, MatchOption};
 ghost use Rattle.std.specs.Option.{option_map};
-ghost use Rattle.plan_text.specs.Plans.{HasPlan, IsFaulty, without_return};
+ghost use Rattle.plan_text.specs.Plans.{HasPlan, IsFaulty, IsFirstLine, without_return};
 ghost use Rattle.plan_text.specs.Steps.{first_line, version_in, ReadsOn, StopsAt};
 
 use crate::draft::Draft;
@@ -31,6 +31,18 @@ fn line_at(bytes: &[u8]) -> Option<(&[u8], &[u8])>
     match cut(bytes, b'\n') {
         None => Some((bytes, &bytes[bytes.len()..])),
         Some((line, rest)) => Some((trimmed(line), rest)),
+    }
+}
+
+/// The first line of a text, and what follows it; nothing exactly where the text is empty.
+#[tactic(auto, using(crate::proofs::LineLemmas::is_first, crate::proofs::LineLemmas::no_first))]
+pub fn next_line(bytes: &[u8]) -> Option<(&[u8], &[u8])>
+    ensures first { MatchOption result (bytes.now ≡ [])
+        (λ p. IsFirstLine bytes.now p.0.now p.1.now) }
+{
+    match line_at(bytes) {
+        None => None,
+        Some((line, rest)) => Some((line, rest)),
     }
 }
 

@@ -65,9 +65,9 @@ follows_safely host tables first s starts well safe None h = absurd h
 follows_safely host tables first s starts well safe (Some (Moves f)) h = record { running = h; waiting = safe.waiting; world = safe.world }
 follows_safely host tables first s starts well safe (Some (Asks number values action f)) h =
     record {
-      running = h.answered (host.engine number f.self values action s.world).value (well.typed number f.self h.routine values action s.world h.listed h.types h.fits safe.world);
+      running = h.answered (host.engine number f.self values action s.world).value (well.typed number f.self h.routine values action s.world h.listed h.callable h.types h.fits safe.world);
       waiting = safe.waiting;
-      world = ByCall number f.self h.routine values action s.world h.listed h.types h.fits safe.world;
+      world = ByCall number f.self h.routine values action s.world h.listed h.callable h.types h.fits safe.world;
     }
 follows_safely host tables first s starts well safe (Some (Executes name target f)) h = executes_safely host tables first s starts well safe name target f h
 follows_safely host tables first s starts well safe (Some Returns) h = over_safely host.scripts tables (IsReached host tables first) s s.waiting safe.waiting safe.world

@@ -61,6 +61,7 @@ pub record Lower : Type 0 where
 pub record AsksSafely (header : EngineTable) (scripts : List Script) (tables : Tables) (number : ℕ) (values : List Value) (action : Option Saved) (f : Frame) : Type 0 where
   pub routine : Routine
   pub listed : slice_get header.routines number ≡ Some routine
+  pub callable : is_callable routine ≡ true
   pub types : value_types values ≡ argument_types routine.params
   pub fits : FitsAction scripts tables action
   pub answered : (a : Option Value) → HasType routine.result a → IsSafeFrame scripts tables (with_answer a f)
@@ -388,6 +389,7 @@ is_le m n h = grind (arith, nat_tests)
 record MorePending (r : Routine) (count pending more : ℕ) (cells : List Slot) (e : StackEffect) : Type 0 where
   fits : call_effect r count (pending + more) cells ≡ Some e
   enough : action_count r.params ≤ pending
+  callable : is_callable r ≡ true
 
 more_by : (r : Routine) (count pending more : ℕ) (cells : List Slot) (e : StackEffect) (b : Bool) → fits_call r count pending ≡ b
     → (if b then exchange (argument_types r.params) (result_types r.result) cells else None) ≡ Some e → MorePending r count pending more cells e
@@ -396,7 +398,11 @@ more_by r count pending more cells e false k h = absurd cc
 more_by r count pending more cells e true k h =
     let b = both_true (is_callable r && (count == length r.params)) (nat_le (action_count r.params) pending) k in
     let enough = le_of (action_count r.params) pending b.1 in
-    record { fits = passes b.0 (is_le (action_count r.params) (pending + more) (omega (arith, enough))); enough = enough }
+    record {
+      fits = passes b.0 (is_le (action_count r.params) (pending + more) (omega (arith, enough)));
+      enough = enough;
+      callable = (both_true (is_callable r) (count == length r.params) b.0).0;
+    }
   where
     passes : (is_callable r && (count == length r.params)) ≡ true → nat_le (action_count r.params) (pending + more) ≡ true → call_effect r count (pending + more) cells ≡ Some e
     passes p q = rw (p, q) h
@@ -447,14 +453,14 @@ behind_safe L scripts tables f s r routine count e t h left enough known cells i
     }
 
 asked_acts : (header : EngineTable) (scripts : List Script) (tables : Tables) (number count : ℕ) (r : Routine) (f : Frame) (t : Taken) (b : Bool) → is_execute_script r.role ≡ b
-    → slice_get header.routines number ≡ Some r → TypesExecuteScript header → value_types t.values ≡ argument_types r.params → FitsAction scripts tables t.action
+    → slice_get header.routines number ≡ Some r → is_callable r ≡ true → TypesExecuteScript header → value_types t.values ≡ argument_types r.params → FitsAction scripts tables t.action
     → ((a : Option Value) → HasType r.result a → IsSafeFrame scripts tables (with_answer a (behind_call number count f t)))
     → ActsSafely header scripts tables (if b then executed t.values (behind_call number count f t) else Some (Asks number t.values t.action (behind_call number count f t)))
-asked_acts header scripts tables number count r f t true role listed runs types fits safe =
+asked_acts header scripts tables number count r f t true role listed callable runs types fits safe =
     let x = runs number r listed role in
     executes header scripts tables t.values (behind_call number count f t) (types ∙ x.takes) (safe None (subst (λ (u : Ty). HasType u None) (sym x.gives) tt))
-asked_acts header scripts tables number count r f t false role listed runs types fits safe =
-    record { routine = r; listed = listed; types = types; fits = fits; answered = safe }
+asked_acts header scripts tables number count r f t false role listed callable runs types fits safe =
+    record { routine = r; listed = listed; callable = callable; types = types; fits = fits; answered = safe }
 
 engine_acts : (L : Lower) (header : EngineTable) (scripts : List Script) (tables : Tables) (f : Frame) (s : IsSafeFrame scripts tables f) (number count : ℕ) (after : TopShape)
     → TypesExecuteScript header → called (slice_get header.routines number) count s.shape ≡ Some after
@@ -480,7 +486,7 @@ engine_acts L header scripts tables f s number count after runs h leads =
     subst (λ (x : Option Routine). ActsSafely header scripts tables (option_and_then (λ (r : Routine).
     option_and_then (asked number count r f) (arguments r count f.stack.cells f.pending)) x)) (sym o.1)
     (subst (λ (x : Option Taken). ActsSafely header scripts tables (option_and_then (asked number count r f) x)) (sym t.are)
-    (asked_acts header scripts tables number count r f t.taken (is_execute_script r.role) refl o.1 runs t.values
+    (asked_acts header scripts tables number count r f t.taken (is_execute_script r.role) refl o.1 more.callable runs t.values
     (subst (FitsAction scripts tables) (sym t.action) (first_fits scripts tables (action_count r.params) f.pending s.fit))
     (λ a typed. answered e t.taken.pending r.result t.taken.cells behind shift a typed)))
   where

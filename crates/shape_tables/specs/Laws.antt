@@ -7,7 +7,7 @@ use Rattle.nwq_value.specs.declared.engine.Routine.{Routine}
 use Rattle.nwq_value.specs.Engine.{EngineTable, IsTable}
 use Rattle.nwq_value.specs.Values.{type_of}
 use Rattle.saved_state.specs.declared.saved.Saved.{Saved}
-use Rattle.stack_shape.specs.Calls.{argument_types}
+use Rattle.stack_shape.specs.Calls.{argument_types, is_callable}
 use Rattle.machine_step.specs.Cells.{value_types}
 use Rattle.machine_step.specs.Calls.{is_execute_script}
 use Rattle.machine_step.specs.Frames.{started, continued}
@@ -42,22 +42,22 @@ HasType Void (Some v) = ⊥
 HasType t None = ⊥
 HasType t (Some v) = type_of v ≡ t
 
--- The worlds to which scripts can lead from one: by engine calls, whose arguments have their types and whose action fits, and by the
+-- The worlds to which scripts can lead from one: by calls of routines that can be called, whose arguments have their types and whose action fits, and by the
 -- lines of scripts that don't run.
 pub data IsReached {W : Type 0} (host : Host W) (tables : Tables) (first : W) : W → Type 0 where
   Unchanged : IsReached host tables first first
   ByCall : (number caller : ℕ) (r : Routine) (values : List Value) (action : Option Saved) (world : W) → slice_get host.table.routines number ≡ Some r
-      → value_types values ≡ argument_types r.params → FitsAction host.scripts tables action → IsReached host tables first world
+      → is_callable r ≡ true → value_types values ≡ argument_types r.params → FitsAction host.scripts tables action → IsReached host tables first world
       → IsReached host tables first (host.engine number caller values action world).world
   ByMissing : (target : ℕ) (name : List ℕ) (world : W) → IsReached host tables first world → IsReached host tables first (host.no_script target name world)
   ByDepth : (target : ℕ) (name : List ℕ) (world : W) → IsReached host tables first world → IsReached host tables first (host.too_deep target name world)
 
--- Every script is well stacked, and in each world that is reached a call's answer has its routine's type.
+-- Every script is well stacked, and in each world that is reached the answer of a routine that can be called has its result's type.
 pub record IsWellStackedHost {W : Type 0} (host : Host W) (tables : Tables) (first : W) : Type 0 where
   pub scripts : AllMeet host.table host.scripts tables
   pub execute : TypesExecuteScript host.table
   pub typed : (number caller : ℕ) (r : Routine) (values : List Value) (action : Option Saved) (world : W) → slice_get host.table.routines number ≡ Some r
-      → value_types values ≡ argument_types r.params → FitsAction host.scripts tables action → IsReached host tables first world
+      → is_callable r ≡ true → value_types values ≡ argument_types r.params → FitsAction host.scripts tables action → IsReached host tables first world
       → HasType r.result (host.engine number caller values action world).value
 
 -- ---- the laws

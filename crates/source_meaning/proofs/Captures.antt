@@ -14,11 +14,11 @@ use Rattle.code_emission.specs.Expressions.{emit}
 use Rattle.machine_step.specs.Frames.{Frame}
 use Rattle.source_meaning.specs.Evaluation.{Variables}
 use Rattle.source_meaning.specs.Scripts.{Function, functions}
-use Rattle.source_meaning.specs.Kept.{Vars}
+use Rattle.source_meaning.specs.Kept.{AreHeld, Vars}
 use Rattle.source_meaning.specs.Fine.{IsFine, AreFine}
 use Rattle.source_meaning.specs.Carries.{unit_site}
 use Rattle.source_meaning.specs.Laws.{CapturesAreCarried}
-use Rattle.source_meaning.proofs.Cells.{stands_over}
+use Rattle.source_meaning.proofs.Cells.{held_over, stands_over}
 use Rattle.source_meaning.proofs.Places.{above_globals}
 
 module _ (script : ℕ) (u : TypedUnit) (self : ℕ) (waiting : List Frame) (other : ℕ) (others : List Frame) where
@@ -76,4 +76,6 @@ captures_are_carried s host tables execute script self waiting l same is scope s
       globals = λ other others. subst (λ t. Vars (unit_site script l.unit other others) x.globals t p.globals) (sym globals_are)
           (vars_elsewhere script l.unit self waiting other others x.globals K.under [] p.globals K.global_values);
       size = length-reverse (take x.layout.globals (cells_beneath x.bp cells)) ∙ ap length bottom ∙ under ∙ sym full;
+      locals_held = subst AreHeld (sym locals_are) (held_over temps K.frame held K.frame_held);
+      globals_held = subst AreHeld (sym globals_are) K.under_held;
     }

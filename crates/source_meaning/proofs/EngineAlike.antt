@@ -6,6 +6,8 @@ use Rattle.engine_rows.specs.Engine.{engine}
 use Rattle.engine_rows.specs.Mapped.{map_answered}
 use Rattle.engine_rows.specs.Alike.{Related, left_of, right_of, Alike, OptionAlike, AnsweredAlike}
 use Rattle.engine_rows.specs.AlikeLaws.{call, EngineKeepsAlike}
+use Rattle.machine_step.specs.Cells.{value_types}
+use Rattle.source_meaning.specs.Expressions.{parts_in}
 use Rattle.source_meaning.specs.Carries.{Carries}
 use Rattle.source_meaning.specs.EngineHost.{EngineIsRun}
 use Rattle.source_meaning.proofs.RowMaps.{engine_map}
@@ -45,6 +47,6 @@ engine_is_run s host tables same typed = record {
       (same.value n caller values a w) ∙ k.value;
   world = λ n caller values a d w v h alike. let k = engine_keeps_alike (Carries s) host.table tables n caller values a d w v h alike in
       subst (λ u. Alike (Carries s) u (engine host.table tables n (call caller values d) v).world) (sym (same.world n caller values a w)) k.world;
-  typed = typed.answers;
+  typed = λ n r caller values a w is callable types. ap (λ o. value_types (parts_in o)) (same.value n caller values a w) ∙ typed.answers n r caller values a w is callable types;
   runs = typed.runs;
 }

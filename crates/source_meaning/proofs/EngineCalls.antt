@@ -57,6 +57,36 @@ use Rattle.source_meaning.proofs.Places.{above_globals}
 use Rattle.source_meaning.proofs.Steps.{both_stand, sizes, acted, constant_goes, jump_goes}
 use Rattle.source_meaning.proofs.Calls.{single_types, ValuesAreValues, taken_values, taken_one, arguments_fit, actions_fit, count_fits, all_over, held_all}
 
+-- ---- each argument leaves a credit
+
+pub spare_defaults : List Const → ℕ → ℕ
+spare_defaults [] c = c
+spare_defaults (k ∷ ks) c = suc (spare_defaults ks c)
+
+pub spare : TypedExprs → ℕ → ℕ
+spare no_typed c = c
+spare (more_typed e es) c = suc (spare es c)
+
+spare_is : (es : TypedExprs) (c : ℕ) → spare es c ≡ count_arguments es + c
+unfolding spare
+spare_is no_typed c = omega arith
+spare_is (more_typed e es) c = let h = spare_is es c in omega (arith, h)
+
+spare_defaults_is : (ks : List Const) (c : ℕ) → spare_defaults ks c ≡ length ks + c
+unfolding spare_defaults
+spare_defaults_is [] c = omega arith
+spare_defaults_is (k ∷ ks) c = let h = spare_defaults_is ks c in omega (arith, h)
+
+spare_all : (es : TypedExprs) (ks : List Const) (c : ℕ) → spare es (spare_defaults ks c) ≡ count_arguments es + length ks + c
+spare_all es ks c = let h = spare_is es (spare_defaults ks c) in let k = spare_defaults_is ks c in omega (arith, h, k)
+
+pub spare_more : (es : TypedExprs) (ks : List Const) (c : ℕ) → c ≤ spare es (spare_defaults ks c)
+spare_more es ks c = let h = spare_all es ks c in omega (arith, h)
+
+some_parameter : (ps : List Param) {t : Ty} {ts : List Ty} → parameter_types ps ≡ t ∷ ts → 1 ≤ length ps
+some_parameter [] h = absurd cc
+some_parameter (p ∷ ps) h = omega arith
+
 -- ---- how many cells arguments take
 
 total : List (List Ty) → ℕ
@@ -120,7 +150,8 @@ module _ (host : MachineHost) (R : Saved → Deferred → Type 0) (tested : Equa
 
   pub defaults_run : (ks : List Const) (scope : List ℕ) (size place c : ℕ) (p : Progress) (K : Kept R x scope size p.globals p.locals p.world) (base between : List Cell) (calls : List ℕ) (pending : List Saved)
       → LinesStand x.code x.places place (constants ks)
-      → Sim host R (HasDefaults scope size ks) (defaults_place scope size ks (place + lines_size (constants ks)) base between calls pending) p.left c (spot_at R x place base between calls pending K) (λ vs. c) (defaults x.self ks p)
+      → Sim host R (HasDefaults scope size ks) (defaults_place scope size ks (place + lines_size (constants ks)) base between calls pending) p.left c (spot_at R x place base between calls pending K) (λ vs. spare_defaults ks c) (defaults x.self ks p)
+  unfolding spare_defaults
   defaults_run [] scope size place c p K base between calls pending stands =
       let same : place ≡ place + 0 = omega arith in
       ((refl, K), subst (λ k. Took host p.left c (spot_at R x place base between calls pending K) p.left c (spot_at R x k base between calls pending K)) same (took_none host p.left c (spot_at R x place base between calls pending K)))
@@ -132,17 +163,17 @@ module _ (host : MachineHost) (R : Saved → Deferred → Type 0) (tested : Equa
       let next = place + lines_size (first ++ last) in
       let goes : middle + op_size (ops.Const (literal_of k)) ≡ next = let h = sizes first last in omega (arith, h) in
       sim_bind host R (HasDefaults scope size ks) (defaults_place scope size ks middle base between calls pending) (HasDefaults scope size (k ∷ ks)) (defaults_place scope size (k ∷ ks) next base between calls pending)
-      p.left c (spot_at R x place base between calls pending K) (λ vs. c) (λ vs. c) (defaults x.self ks p) (λ vs q. spend q (λ r. Gives ((constant_value x.self k ∷ []) ∷ vs) r))
+      p.left c (spot_at R x place base between calls pending K) (λ vs. spare_defaults ks c) (λ vs. suc (spare_defaults ks c)) (defaults x.self ks p) (λ vs q. spend q (λ r. Gives ((constant_value x.self k ∷ []) ∷ vs) r))
       (defaults_run ks scope size place c p K base between calls pending b.0)
       (λ vs q h less.
       let L = h.1 in
       let s = spot_at R x middle (pushed_all vs base) between calls pending L in
       let t = spot_at R x next (Holds (constant_value x.self k) ∷ pushed_all vs base) between calls pending L in
-      sim_paid host R (HasDefaults scope size (k ∷ ks)) (defaults_place scope size (k ∷ ks) next base between calls pending) c s (λ vs. c) q (λ r. Gives ((constant_value x.self k ∷ []) ∷ vs) r) L.alike
+      sim_paid host R (HasDefaults scope size (k ∷ ks)) (defaults_place scope size (k ∷ ks) next base between calls pending) (spare_defaults ks c) s (λ vs. suc (spare_defaults ks c)) q (λ r. Gives ((constant_value x.self k ∷ []) ∷ vs) r) L.alike
       (λ m left. (
         t,
         constant_goes host x listed middle next k (pushed_all vs base ++ (L.frame ++ (between ++ L.under))) calls pending L.machine b.1.0 goes,
-        ((ap (λ ts. ts ∷ all_types vs) (constant_alone k x.self) ∙ ap (λ ts. (const_type k ∷ []) ∷ ts) h.0, L), took_less host c (omega arith) (took_none host m (15 + c) t)),
+        ((ap (λ ts. ts ∷ all_types vs) (constant_alone k x.self) ∙ ap (λ ts. (const_type k ∷ []) ∷ ts) h.0, L), took_less host (suc (spare_defaults ks c)) (omega arith) (took_none host m (15 + spare_defaults ks c) t)),
       )))
 
   -- ---- states that are captured
@@ -210,9 +241,10 @@ module _ (host : MachineHost) (R : Saved → Deferred → Type 0) (tested : Equa
       (scope : List ℕ) (size n depth place c : ℕ) (a : Arguments) (p : Progress) (K : Kept R x scope size p.globals p.locals p.world) (base between : List Cell) (calls : List ℕ) (pending : List Saved)
       → AreFine host.table functions x scope es → LinesStand x.code x.places place (emit_all x.layout n depth es) → length (pushed_all a.values base) + size ≡ depth → p.left ≤ most → AreHeld base → actions_in es ≤ 1
       → Sim host R (HasArguments scope size es a pending) (arguments_place scope size es a (place + lines_size (emit_all x.layout n depth es)) base between calls pending)
-      p.left c (spot_at R x place (pushed_all a.values base) between calls pending K) (λ b. c) (evals here caller es a p)
+      p.left c (spot_at R x place (pushed_all a.values base) between calls pending K) (λ b. spare es c) (evals here caller es a p)
 
   none_run : ArgumentsRun no_typed
+  unfolding spare
   none_run scope size n depth place c a p K base between calls pending fine stands deep le held few =
       let same : place ≡ place + 0 = omega arith in
       let s = spot_at R x place (pushed_all a.values base) between calls pending K in (
@@ -225,12 +257,12 @@ module _ (host : MachineHost) (R : Saved → Deferred → Type 0) (tested : Equa
       (base between : List Cell) (calls : List ℕ) → Runs e → is_captured e ≡ false → IsFine host.table functions x scope e → LinesStand x.code x.places place (emit x.layout label depth e) → place + lines_size (emit x.layout label depth e) ≡ next
       → length (pushed_all b.values base) + size ≡ depth → q.left ≤ most → AreHeld base
       → Sim host R (HasArguments scope size (more_typed e es) a pending) (arguments_place scope size (more_typed e es) a next base between calls pending)
-      q.left c (spot_at R x place (pushed_all b.values base) between calls h.now h.kept) (λ d. c) (argument here false e (λ r. eval here caller e r) b q)
+      q.left c (spot_at R x place (pushed_all b.values base) between calls h.now h.kept) (λ d. suc c) (argument here false e (λ r. eval here caller e r) b q)
   value_case e es a b pending scope size label depth place next c q h base between calls re plain fine stands goes deep le held =
       let B = HasArguments scope size (more_typed e es) a pending in
       sim_bind host R (HoldsValue R x scope size (type_of e)) (value_place R x scope size (type_of e) (place + lines_size (emit x.layout label depth e)) (pushed_all b.values base) between calls h.now)
       B (arguments_place scope size (more_typed e es) a next base between calls pending)
-      q.left c (spot_at R x place (pushed_all b.values base) between calls h.now h.kept) (value_credits c) (λ d. c) (eval here caller e q) (λ parts r. Gives (with_argument parts b) r)
+      q.left c (spot_at R x place (pushed_all b.values base) between calls h.now h.kept) (value_credits c) (λ d. suc c) (eval here caller e q) (λ parts r. Gives (with_argument parts b) r)
       (re scope size label depth place c q h.kept (pushed_all b.values base) between calls h.now fine stands deep le (held_all b.values base held))
       (λ v r k less.
       let counts : (m : ℕ) → actions_in (more_typed e es) ≡ m → actions_in es ≡ m = λ m is. no_more (actions_in es) ∙ ap (λ (t : Bool). one_if t + actions_in es) (sym plain) ∙ is in (
@@ -242,8 +274,8 @@ module _ (host : MachineHost) (R : Saved → Deferred → Type 0) (tested : Equa
           none = λ is. h.none (counts 0 is);
           one = λ is. h.one (counts 1 is);
         },
-        subst (λ j. Took host r.left (8 + c) (spot_at R x (place + lines_size (emit x.layout label depth e)) (pushed v (pushed_all b.values base)) between calls h.now k.1) r.left c (spot_at R x j (pushed v (pushed_all b.values base)) between calls h.now k.1)) goes
-            (took_less host c (omega arith) (took_none host r.left (8 + c) (spot_at R x (place + lines_size (emit x.layout label depth e)) (pushed v (pushed_all b.values base)) between calls h.now k.1))),
+        subst (λ j. Took host r.left (8 + c) (spot_at R x (place + lines_size (emit x.layout label depth e)) (pushed v (pushed_all b.values base)) between calls h.now k.1) r.left (suc c) (spot_at R x j (pushed v (pushed_all b.values base)) between calls h.now k.1)) goes
+            (took_less host (suc c) (omega arith) (took_none host r.left (8 + c) (spot_at R x (place + lines_size (emit x.layout label depth e)) (pushed v (pushed_all b.values base)) between calls h.now k.1))),
       ))
     where
       no_more : (n : ℕ) → n ≡ 0 + n
@@ -255,7 +287,7 @@ module _ (host : MachineHost) (R : Saved → Deferred → Type 0) (tested : Equa
       → LinesStand x.code x.places place (argument_code x.layout here_label depth true (emit x.layout label depth e)) → place + lines_size (argument_code x.layout here_label depth true (emit x.layout label depth e)) ≡ next
       → length (pushed_all b.values base) + size ≡ depth → AreHeld base → actions_in (more_typed e es) ≤ 1
       → Sim host R (HasArguments scope size (more_typed e es) a pending) (arguments_place scope size (more_typed e es) a next base between calls pending)
-      q.left c (spot_at R x place (pushed_all b.values base) between calls h.now h.kept) (λ d. c) (argument here true e (λ r. eval here caller e r) b q)
+      q.left c (spot_at R x place (pushed_all b.values base) between calls h.now h.kept) (λ d. suc c) (argument here true e (λ r. eval here caller e r) b q)
   action_case e es a b pending scope size label here_label depth place next c q h base between calls captures action fine full stands goes deep held few =
       let value = emit x.layout label depth e in
       let retn = Instruction ops.Retn ∷ [] in
@@ -275,7 +307,7 @@ module _ (host : MachineHost) (R : Saved → Deferred → Type 0) (tested : Equa
       let second = jump_goes host x listed (place + 10) next _ (temps ++ (K.frame ++ (between ++ K.under))) calls (saved ∷ h.now) K.machine stands.1.0.begins (stands.1.0.leads ∙ ending) in
       let rest_none : actions_in es ≡ 0 = let all = ap (λ (t : Bool). one_if t + actions_in es) action in omega (arith, all, few) in
       let before = h.none rest_none in
-      sim_paid host R (HasArguments scope size (more_typed e es) a pending) (arguments_place scope size (more_typed e es) a next base between calls pending) c s0 (λ d. c) q
+      sim_paid host R (HasArguments scope size (more_typed e es) a pending) (arguments_place scope size (more_typed e es) a next base between calls pending) c s0 (λ d. suc c) q
       (λ r. Gives (record b { action = Some (deferred here e r) }) r) K.alike
       (λ m left.
       let r = record q { left = m } in (
@@ -295,7 +327,7 @@ module _ (host : MachineHost) (R : Saved → Deferred → Type 0) (tested : Equa
               carries = captures scope size label depth place e r K temps between fine with_retn deep temps_held full;
             };
           },
-          took_cost host m (15 + c) c s1 s2 (omega arith) second,
+          took_cost host m (15 + c) (suc c) s1 s2 (omega arith) second,
         ),
       ))
 
@@ -311,7 +343,7 @@ module _ (host : MachineHost) (R : Saved → Deferred → Type 0) (tested : Equa
       → place + lines_size (argument_code x.layout first depth t (emit x.layout (second + argument_labels t) depth e)) ≡ next
       → length (pushed_all b.values base) + size ≡ depth → q.left ≤ most → AreHeld base → actions_in (more_typed e es) ≤ 1
       → Sim host R (HasArguments scope size (more_typed e es) a pending) (arguments_place scope size (more_typed e es) a next base between calls pending)
-      q.left c (spot_at R x place (pushed_all b.values base) between calls h.now h.kept) (λ d. c) (argument here t e (λ r. eval here caller e r) b q)
+      q.left c (spot_at R x place (pushed_all b.values base) between calls h.now h.kept) (λ d. suc c) (argument here t e (λ r. eval here caller e r) b q)
   argument_case true e es a b pending scope size first second depth place next c q h base between calls captures re is fine fits stands goes deep le held few =
       action_case e es a b pending scope size (second + argument_labels true) first depth place next c q h base between calls captures is fine (fits.made is) stands goes deep held few
   argument_case false e es a b pending scope size first second depth place next c q h base between calls captures re is fine fits stands goes deep le held few =
@@ -322,6 +354,7 @@ module _ (host : MachineHost) (R : Saved → Deferred → Type 0) (tested : Equa
   fewer_actions false n h = omega arith
 
   more_run : (e : TypedExpr) (es : TypedExprs) → CapturesCarry host R x tables execute functions → (is_captured e ≡ false → Runs e) → ArgumentsRun es → ArgumentsRun (more_typed e es)
+  unfolding spare
   more_run e es captures re res scope size n depth place c a p K base between calls pending fine stands deep le held few =
       let l = x.layout in
       let first = emit_all l n depth es in
@@ -333,14 +366,14 @@ module _ (host : MachineHost) (R : Saved → Deferred → Type 0) (tested : Equa
       let goes : middle + lines_size code ≡ next = let h = sizes first code in omega (arith, h) in
       sim_bind host R (HasArguments scope size es a pending) (arguments_place scope size es a middle base between calls pending)
       (HasArguments scope size (more_typed e es) a pending) (arguments_place scope size (more_typed e es) a next base between calls pending)
-      p.left c (spot_at R x place (pushed_all a.values base) between calls pending K) (λ d. c) (λ d. c) (evals here caller es a p) (λ d q. argument here (is_captured e) e (λ r. eval here caller e r) d q)
+      p.left c (spot_at R x place (pushed_all a.values base) between calls pending K) (λ d. spare es c) (λ d. suc (spare es c)) (evals here caller es a p) (λ d q. argument here (is_captured e) e (λ r. eval here caller e r) d q)
       (res scope size n depth place c a p K base between calls pending fine.2 b.0 deep le held (fewer_actions (is_captured e) (actions_in es) few))
       (λ d q h less.
       let before = all_length a.values base in
       let after = all_length d.values base in
       let types = ap total h.types in
       let counted = total_before x es (all_types a.values) in
-      argument_case (is_captured e) e es a d pending scope size (n + all_labels es) (n + all_labels es) within middle next c q h base between calls captures re refl fine.0 fine.1 b.1 goes
+      argument_case (is_captured e) e es a d pending scope size (n + all_labels es) (n + all_labels es) within middle next (spare es c) q h base between calls captures re refl fine.0 fine.1 b.1 goes
       (omega (arith, before, after, types, counted, deep)) (omega (arith, less, le)) held few)
 
   pub arguments_run : (es : TypedExprs) → CapturesCarry host R x tables execute functions → EachRuns es → ArgumentsRun es
@@ -371,7 +404,7 @@ module _ (host : MachineHost) (R : Saved → Deferred → Type 0) (tested : Equa
       → (scope : List ℕ) (size n depth place c : ℕ) (p : Progress) (K : Kept R x scope size p.globals p.locals p.world) (base between : List Cell) (calls : List ℕ) (pending : List Saved)
       → AreFine host.table functions x scope es → LinesStand x.code x.places place (constants ks ++ emit_all x.layout n depth es) → length base + length ks + size ≡ depth → p.left ≤ most → AreHeld base → actions_in es ≤ 1
       → Sim host R (HasCall scope size es ks pending) (call_place scope size es ks (place + lines_size (constants ks ++ emit_all x.layout n depth es)) base between calls pending)
-      p.left c (spot_at R x place base between calls pending K) (λ b. c) (arguments_of es ks p)
+      p.left c (spot_at R x place base between calls pending K) (λ b. spare es (spare_defaults ks c)) (arguments_of es ks p)
   call_arguments_run es ks captures each scope size n depth place c p K base between calls pending fine stands deep le held few =
       let first = constants ks in
       let second = emit_all x.layout n depth es in
@@ -381,7 +414,7 @@ module _ (host : MachineHost) (R : Saved → Deferred → Type 0) (tested : Equa
       let goes : middle + lines_size second ≡ next = let h = sizes first second in omega (arith, h) in
       sim_bind host R (HasDefaults scope size ks) (defaults_place scope size ks middle base between calls pending)
       (HasCall scope size es ks pending) (call_place scope size es ks next base between calls pending)
-      p.left c (spot_at R x place base between calls pending K) (λ vs. c) (λ d. c) (defaults x.self ks p) (λ vs q. evals here caller es (record { values = vs; action = None }) q)
+      p.left c (spot_at R x place base between calls pending K) (λ vs. spare_defaults ks c) (λ d. spare es (spare_defaults ks c)) (defaults x.self ks p) (λ vs q. evals here caller es (record { values = vs; action = None }) q)
       (defaults_run ks scope size place c p K base between calls pending b.0)
       (λ vs q h less.
       let a : Arguments = record { values = vs; action = None } in
@@ -389,12 +422,12 @@ module _ (host : MachineHost) (R : Saved → Deferred → Type 0) (tested : Equa
       let types = ap total h.0 in
       let defaults_size = constants_total ks in
       sim_map host R (HasArguments scope size es a pending) (arguments_place scope size es a (middle + lines_size second) base between calls pending)
-      (HasCall scope size es ks pending) (call_place scope size es ks next base between calls pending) q.left c (spot_at R x middle (pushed_all vs base) between calls pending h.1) (λ d. c) (λ d. c) (evals here caller es a q)
-      (arguments_run es captures each scope size n depth middle c a q h.1 base between calls pending fine b.1 (omega (arith, count, types, defaults_size, deep)) (omega (arith, less, le)) held few)
+      (HasCall scope size es ks pending) (call_place scope size es ks next base between calls pending) q.left (spare_defaults ks c) (spot_at R x middle (pushed_all vs base) between calls pending h.1) (λ d. spare es (spare_defaults ks c)) (λ d. spare es (spare_defaults ks c)) (evals here caller es a q)
+      (arguments_run es captures each scope size n depth middle (spare_defaults ks c) a q h.1 base between calls pending fine b.1 (omega (arith, count, types, defaults_size, deep)) (omega (arith, less, le)) held few)
       (λ d r g. (
         record { types = g.types ∙ ap (types_before x.layout.structs es) h.0; kept = g.kept; now = g.now; none = g.none; one = g.one },
-        subst (λ j. Took host r.left c (spot_at R x (middle + lines_size second) (pushed_all d.values base) between calls g.now g.kept) r.left c (spot_at R x j (pushed_all d.values base) between calls g.now g.kept)) goes
-            (took_none host r.left c (spot_at R x (middle + lines_size second) (pushed_all d.values base) between calls g.now g.kept)),
+        subst (λ j. Took host r.left (spare es (spare_defaults ks c)) (spot_at R x (middle + lines_size second) (pushed_all d.values base) between calls g.now g.kept) r.left (spare es (spare_defaults ks c)) (spot_at R x j (pushed_all d.values base) between calls g.now g.kept)) goes
+            (took_none host r.left (spare es (spare_defaults ks c)) (spot_at R x (middle + lines_size second) (pushed_all d.values base) between calls g.now g.kept)),
       )))
 
   -- ---- engine calls
@@ -458,10 +491,10 @@ module _ (host : MachineHost) (R : Saved → Deferred → Type 0) (tested : Equa
   -- the instruction of a call, and what the call means
   action_runs : (t : Ty) (routine : ℕ) (es : TypedExprs) (ks : List Const) → EngineRuns host R tables → ExecutesRun host R x execute most → (call_fine : CallsRoutine host.table x.layout.structs t routine es ks) → ValuesAreValues es
       → (scope : List ℕ) (size place next c : ℕ) (a : Arguments) (q : Progress) (temps between : List Cell) (calls : List ℕ) (pending : List Saved) (h : HasCall scope size es ks pending a q)
-      → op_at x.code place ≡ Some (ops.Action routine (count_arguments es + length ks)) → place + 5 ≡ next → q.left ≤ most → AreHeld temps
+      → op_at x.code place ≡ Some (ops.Action routine (count_arguments es + length ks)) → place + 5 ≡ next → q.left ≤ most → count_arguments es + length ks ≤ c → AreHeld temps
       → Sim host R (HoldsValue R x scope size t) (value_place R x scope size t next temps between calls pending) q.left c (spot_at R x place (pushed_all a.values temps) between calls h.now h.kept) (value_credits c) (engine_called here routine a q)
   unfolding act
-  action_runs t routine es ks engine_runs executes fine values scope size place next c a q temps between calls pending h begins goes le held =
+  action_runs t routine es ks engine_runs executes fine values scope size place next c a q temps between calls pending h begins goes le spared held =
       let r = fine.routine in
       let count = count_arguments es + length ks in
       let L = h.kept in
@@ -489,7 +522,7 @@ module _ (host : MachineHost) (R : Saved → Deferred → Type 0) (tested : Equa
       let nothing : cell_types x.layout.structs t ≡ [] = fine.result ∙ runs.1 in
       subst (λ vs. Sim host R B there q.left c s (value_credits c) (executed here vs q)) (sym parts.2)
       (sim_map host R (HoldsValue R x scope size Void) (value_place R x scope size Void next temps between calls pending) B there q.left c s (value_credits c) (value_credits c) (execute parts.0 parts.1 q)
-      (executes parts.0 parts.1 scope size next c q L temps between calls pending s le refl refl held
+      (executes parts.0 parts.1 scope size next c q L temps between calls pending s le (let some = some_parameter r.params runs.0 in omega (arith, some, same, spared)) refl refl held
       (takes ∙ ap (λ k. Some (Goes (machine_executed host parts.0 parts.1 (spot_at R x k temps between calls pending L).running s))) goes))
       (λ v u g. ((g.0 ∙ sym nothing, g.1), took_none host u.left (8 + c) (spot_at R x next (pushed v temps) between calls pending g.1)))))
       (λ no.
@@ -517,7 +550,7 @@ module _ (host : MachineHost) (R : Saved → Deferred → Type 0) (tested : Equa
       ∙ ap (λ o. Some (Goes (at x (place + 5) (pushed (parts_in o) (temps ++ rest)) calls pending gives.world))) value_is
       ∙ ap (λ k. Some (Goes (at x k (pushed (parts_in means.value) (temps ++ rest)) calls pending gives.world))) goes
       ∙ ap (λ cells. Some (Goes (at x next cells calls pending gives.world))) (sym (pushed_over (parts_in means.value) temps rest)) in
-      let typed = engine_runs.typed routine r x.self (all_parts a.values) a.action q.world fine.is all ∙ sym fine.result in
+      let typed = ap (λ o. value_types (parts_in o)) (sym value_is) ∙ engine_runs.typed routine r x.self (all_parts a.values) t_is.action L.machine fine.is fine.callable all ∙ sym fine.result in
       sim_paid host R B there c s (value_credits c) q
       (λ u. answered (engine host.table tables routine (record { caller = x.self; values = all_parts a.values; action = a.action }) u.world) u) L.alike
       (λ m left. (
@@ -548,6 +581,12 @@ module _ (host : MachineHost) (R : Saved → Deferred → Type 0) (tested : Equa
       let few = call_fine.actions in
       sim_bind host R (HasCall scope size es ks pending) (call_place scope size es ks middle temps between calls pending)
       (HoldsValue R x scope size t) (value_place R x scope size t next temps between calls pending)
-      p.left c (spot_at R x place temps between calls pending K) (λ b. c) (value_credits c) (arguments_of es ks p) (λ a q. engine_called here routine a q)
+      p.left c (spot_at R x place temps between calls pending K) (λ b. spare es (spare_defaults ks c)) (value_credits c) (arguments_of es ks p) (λ a q. engine_called here routine a q)
       (call_arguments_run es ks captures each scope size n within place c p K temps between calls pending fine.1 b.0 (omega (arith, deep)) le held (omega (arith, actions, few)))
-      (λ a q h less. action_runs t routine es ks engine_runs executes call_fine values scope size middle next c a q temps between calls pending h b.1.0 goes (omega (arith, less, le)) held)
+      (λ a q h less.
+      let all = spare es (spare_defaults ks c) in
+      let s = spot_at R x middle (pushed_all a.values temps) between calls h.now h.kept in
+      sim_map host R (HoldsValue R x scope size t) (value_place R x scope size t next temps between calls pending) (HoldsValue R x scope size t) (value_place R x scope size t next temps between calls pending)
+      q.left all s (value_credits all) (value_credits c) (engine_called here routine a q)
+      (action_runs t routine es ks engine_runs executes call_fine values scope size middle next all a q temps between calls pending h b.1.0 goes (omega (arith, less, le)) (let z = spare_all es ks c in omega (arith, z)) held)
+      (λ v r g. (g, took_less host (8 + c) (let z = spare_more es ks c in omega (arith, z)) (took_none host r.left (8 + all) (spot_at R x next (pushed v temps) between calls pending g.1)))))

@@ -44,8 +44,8 @@ use Rattle.source_meaning.proofs.Calls.{all_over, held_all}
 use Rattle.source_meaning.proofs.Expressions.{literal_runs, local_runs, global_runs, constant_runs, member_runs, prefix_runs, postfix_runs, binary_runs, assign_runs}
 use Rattle.source_meaning.proofs.EngineCalls.{EachRuns, engine_call_runs}
 use Rattle.source_meaning.proofs.UnitCalls.{unit_call_runs}
-use Rattle.source_meaning.proofs.Statements.{vars_new, within, seen_stmts, lower_kept, lower_goes, goes_back, stmts_do}
-use Rattle.source_meaning.proofs.AllStatements.{all_of}
+use Rattle.source_meaning.proofs.Statements.{vars_new, within, seen_stmts, lower_kept, lower_goes, goes_back}
+use Rattle.source_meaning.proofs.AllStatements.{all_too, stmts_do}
 
 -- ---- all expressions, where the functions do what their calls mean
 
@@ -122,7 +122,7 @@ not_allowed x scope size = record { within = λ a. absurd (never a); seen = λ a
 
 -- ---- one function
 
-module _ (host : MachineHost) (R : Saved → Deferred → Type 0) (x : Site) (listed : IsListed host x)
+module _ (host : MachineHost) (R : Saved → Deferred → Type 0) (tested : EqualityIsTested) (x : Site) (listed : IsListed host x)
     (tables : CellLookup) (execute : Executor) (functions : List Function) (caller : Caller) (most : ℕ)
     (runs : (e : TypedExpr) → ExprRuns host R x tables execute functions caller most e) where
   abbrev globals_alone : {globals locals : Variables} {world : World Deferred} → Kept R x [] 0 globals locals world → Kept R x [] 0 globals no_variables world
@@ -183,7 +183,7 @@ module _ (host : MachineHost) (R : Saved → Deferred → Type 0) (x : Site) (li
       (flow_place R x fn.result (record { allowed = false; scope = []; depth = 0; label = 0 }) (record { allowed = false; scope = []; depth = 0; label = 0 }) (after_stmts fn.body scope) (size + many) one room lower back calls pending)
       (HasResult R x fn.result) (result_place R x fn.result back lower calls pending) p.left c (spot_at R x start [] (pushed room lower) (back ∷ calls) pending K0) (flow_credits c many) (λ v. d)
       (execs (running_at host tables execute x) caller fn.body q) (λ flow r. Gives (result_of (cell_types structs fn.result) flow) r)
-      (stmts_do host R x listed tables execute functions caller most fn.result fn.body (all_of host R x listed tables execute functions caller most fn.result (λ e. Unit {0}) (λ e u. runs e) fn.body placed.built)
+      (stmts_do host R tested x listed tables execute functions caller most fn.result (λ e. Unit {0}) (λ e u. runs e) fn.body (all_too (λ e. Unit {0}) (λ e. tt) fn.body)
       no_exits (record { allowed = false; scope = []; depth = 0; label = 0 }) (record { allowed = false; scope = []; depth = 0; label = 0 }) scope size placed.label start c q K0 room lower back calls pending placed.fine a.0
       (record { break_label = refl; break_depth = refl; continue_label = refl; continue_depth = refl }) (not_allowed x scope size) (not_allowed x scope size) typed le)
       (λ flow r h less. left_by fn scope size many one two lower back calls pending c d enough (seen_stmts fn.body scope) (λ n i. fits (within x scope (pushed_all values []) (bound fn.parameters values) b.variables n i) b.size) typed e.0 g.0 g.1.0 flow r h)))
@@ -253,5 +253,5 @@ functions_run tested s host x tables execute fs listed engine_runs captures exec
     subst (λ r. Sim host (Carries s) (HasResult (Carries s) x fn.result) (result_place (Carries s) x fn.result back lower cs pending) p.left credits
     (at x (x.places f) (pushed_all values (pushed (start_parts (cell_types x.layout.structs fn.result)) (lower ++ K.under))) (back ∷ cs) pending K.machine) (λ v. rest) r)
     (found_run host (Carries s) x tables execute (calls c fs k) f fn (slice_get fs f) values p is)
-    (function_runs host (Carries s) x listed tables execute fs (calls c fs k) k before.1 f fn (placed f fn is) values types p (omega (arith, less)) K lower back cs pending credits rest enough) in
+    (function_runs host (Carries s) tested x listed tables execute fs (calls c fs k) k before.1 f fn (placed f fn is) values types p (omega (arith, less)) K lower back cs pending credits rest enough) in
     (now, λ e. every_runs host (Carries s) tested x listed tables execute fs (calls c fs (suc k)) (suc k) engine_runs captures (executes (suc k)) now (λ g fn is. (placed g fn is).cells) e)

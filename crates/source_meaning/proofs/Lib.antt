@@ -12,6 +12,7 @@ mod EngineCalls
 mod Induction
 mod Captures
 mod Statements
+mod Switches
 mod AllStatements
 mod UnitCalls
 mod Functions
@@ -19,4 +20,12 @@ mod Placing
 mod WorldMaps
 mod RowMaps
 mod EngineAlike
+mod BareStarts
+mod Globals
 mod Starts
+mod Resumes
+mod TurnMaps
+mod StayAlike
+mod Executing
+mod Entries
+mod Listed

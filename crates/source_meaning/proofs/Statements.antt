@@ -1,4 +1,4 @@
--- The code of statements does what they mean, statement by statement.
+-- The code of statements does what they mean, statement by statement; a `switch` stands in Switches.
 use Rattle.std.proofs.Common.{arith, ◌≡◌, ◌≤◌, ◌<◌, ◌+◌, ◌-◌, ◌*◌, ◌⊎◌, inl, inr, ℕ, zero, suc, List, [], ◌∷◌, ◌++◌, length, map, take, drop, reverse, Option, Some, None, Bool, true, false, sym, subst, ◌∙◌, ap, refl, append_assoc}
 use Rattle.std.specs.Prelude.{ℤ, pos, not, ◌==◌, if◌then◌else◌}
 use Rattle.std.specs.List.{AllByRecursion}
@@ -220,7 +220,7 @@ module _ (host : MachineHost) (R : Saved → Deferred → Type 0) (x : Site) (li
   place_of_flow breaks continues scope size next room lower back calls pending f p h = flow_place R x result breaks continues scope size next room lower back calls pending f p h
 
   -- a frame of so many cells and no more
-  abbrev and_none : {scope : List ℕ} {size : ℕ} {globals locals : Variables} {world : World Deferred} → Kept R x scope size globals locals world → Kept R x scope (size + 0) globals locals world
+  abbrev pub and_none : {scope : List ℕ} {size : ℕ} {globals locals : Variables} {world : World Deferred} → Kept R x scope size globals locals world → Kept R x scope (size + 0) globals locals world
   and_none {size = size} K = record {
     under = K.under;
     frame = K.frame;
@@ -234,7 +234,7 @@ module _ (host : MachineHost) (R : Saved → Deferred → Type 0) (x : Site) (li
     alike = K.alike;
   }
 
-  abbrev no_more : {scope : List ℕ} {size : ℕ} {globals locals : Variables} {world : World Deferred} → Kept R x scope (size + 0) globals locals world → Kept R x scope size globals locals world
+  abbrev pub no_more : {scope : List ℕ} {size : ℕ} {globals locals : Variables} {world : World Deferred} → Kept R x scope (size + 0) globals locals world → Kept R x scope size globals locals world
   no_more {size = size} K = record {
     under = K.under;
     frame = K.frame;
@@ -326,7 +326,7 @@ module _ (host : MachineHost) (R : Saved → Deferred → Type 0) (x : Site) (li
       (ap (λ t. step host (at x place t calls pending K.machine)) (pushed_over v [] rest)
       ∙ dropped_goes host x listed place (place + lines_size (dropped (suc count))) (suc count) v rest calls pending K.machine lines.0 (omega arith) long)
 
-  expression_does : (m : ℕ) (e : TypedExpr) → Runs e → Does (expression m e)
+  pub expression_does : (m : ℕ) (e : TypedExpr) → Runs e → Does (expression m e)
   expression_does m e r out breaks continues scope size n place c p K room lower back calls pending fine stands exits ends starts typed le =
       let value = emit x.layout n size e in
       let count = length (cell_types x.layout.structs (type_of e)) in
@@ -347,7 +347,7 @@ module _ (host : MachineHost) (R : Saved → Deferred → Type 0) (x : Site) (li
             (value_dropped h.1 q.left (c + 0) middle count v between (back ∷ calls) pending long b.1)),
       ))
 
-  empty_does : (m : ℕ) → Does (empty m)
+  pub empty_does : (m : ℕ) → Does (empty m)
   empty_does m out breaks continues scope size n place c p K room lower back calls pending fine stands exits ends starts typed le =
       let same : place ≡ place + 0 = omega arith in
       let s = spot_at R x place [] (pushed room lower) (back ∷ calls) pending K in
@@ -355,7 +355,7 @@ module _ (host : MachineHost) (R : Saved → Deferred → Type 0) (x : Site) (li
 
   -- ---- `if`
 
-  an_int : (v : List Value) → value_types v ≡ IntTy ∷ [] → (k : ℤ) × (v ≡ Int k ∷ [])
+  pub an_int : (v : List Value) → value_types v ≡ IntTy ∷ [] → (k : ℤ) × (v ≡ Int k ∷ [])
   an_int (Int k ∷ []) h = (k, refl)
   an_int v h = absurd cc
 
@@ -384,7 +384,7 @@ module _ (host : MachineHost) (R : Saved → Deferred → Type 0) (x : Site) (li
       q.left n (spot_at R x at_jump (Holds (Int value.0) ∷ []) (pushed room lower) (back ∷ calls) pending K) (flow_credits c 0) (is_true (Int value.0 ∷ [])) go other q
       (λ yes. h value.0 (is_nonzero (is_zero value.0) yes)) (λ no. k value.0 (is_nought (is_zero value.0) no)))
 
-  if_only_does : (m : ℕ) (e : TypedExpr) (a : TypedStmt) → Runs e → Does a → Does (if_only m e a)
+  pub if_only_does : (m : ℕ) (e : TypedExpr) (a : TypedStmt) → Runs e → Does a → Does (if_only m e a)
   if_only_does m e a r da out breaks continues scope size n place c p K room lower back calls pending fine stands exits ends starts typed le =
       let value = emit x.layout (n + 1) size e in
       let body = emit_stmt x.layout out (n + 1 + labels e) size a in
@@ -418,7 +418,7 @@ module _ (host : MachineHost) (R : Saved → Deferred → Type 0) (x : Site) (li
       let jump = zero_jumps host x listed middle next _ k rest (back ∷ calls) pending L.machine b.1.0.begins nought (b.1.0.leads ∙ label) in
       (and_none L, took_cost host q.left (8 + c) (c + 0) s0 s1 (omega arith) jump)))
 
-  if_else_does : (m : ℕ) (e : TypedExpr) (a o : TypedStmt) → Runs e → Does a → Does o → Does (if_else m e a o)
+  pub if_else_does : (m : ℕ) (e : TypedExpr) (a o : TypedStmt) → Runs e → Does a → Does o → Does (if_else m e a o)
   if_else_does m e a o r da db out breaks continues scope size n place c p K room lower back calls pending fine stands exits ends starts typed le =
       let value = emit x.layout (n + 2) size e in
       let first = emit_stmt x.layout out (n + 2 + labels e) size a in
@@ -487,7 +487,7 @@ module _ (host : MachineHost) (R : Saved → Deferred → Type 0) (x : Site) (li
       (place_of_flow breaks continues (after_stmts ss scope) (size + all_declared_cells x.layout.structs ss) (place + lines_size (emit_stmts x.layout out n size None ss)) room lower back calls pending)
       p.left c (spot_at R x place [] (pushed room lower) (back ∷ calls) pending K) (flow_credits c (all_declared_cells x.layout.structs ss)) (execs here caller ss p)
 
-  none_do : DoAll no_stmt
+  pub none_do : DoAll no_stmt
   none_do out breaks continues scope size n place c p K room lower back calls pending fine stands exits ends starts typed le =
       let same : place ≡ place + 0 = omega arith in
       let s = spot_at R x place [] (pushed room lower) (back ∷ calls) pending K in
@@ -515,7 +515,7 @@ module _ (host : MachineHost) (R : Saved → Deferred → Type 0) (x : Site) (li
   regrouped breaks continues scope size d e first next c room lower back calls pending same whole enough (Returned v) r g =
       (g, took_less host c (omega arith) (took_none host r.left (c + one_of d) (spot_at R x back [] (pushed v lower) calls pending g.1)))
 
-  more_do : (s : TypedStmt) (ss : TypedStmts) → Does s → DoAll ss → DoAll (more_stmts s ss)
+  pub more_do : (s : TypedStmt) (ss : TypedStmts) → Does s → DoAll ss → DoAll (more_stmts s ss)
   more_do s ss ds dss out breaks continues scope size n place c p K room lower back calls pending fine stands exits ends starts typed le =
       let structs = x.layout.structs in
       let first = emit_stmt x.layout out n size s in
@@ -567,7 +567,7 @@ module _ (host : MachineHost) (R : Saved → Deferred → Type 0) (x : Site) (li
 
   -- ---- blocks
 
-  block_does : (m : ℕ) (ss : TypedStmts) → DoAll ss → Does (block m ss)
+  pub block_does : (m : ℕ) (ss : TypedStmts) → DoAll ss → Does (block m ss)
   block_does m ss dss out breaks continues scope size n place c p K room lower back calls pending fine stands exits ends starts typed le =
       let many = all_declared_cells x.layout.structs ss in
       let inner = emit_stmts x.layout out n size None ss in
@@ -655,7 +655,7 @@ module _ (host : MachineHost) (R : Saved → Deferred → Type 0) (x : Site) (li
         took = took_cost host m (15 + c) c (spot_at R x (place + 6) [] between calls pending L) (spot_at R x (x.places e.label) [] between calls pending L) (omega arith) second;
       }
 
-  break_does : (m : ℕ) → Does (break_off m)
+  pub break_does : (m : ℕ) → Does (break_off m)
   break_does m out breaks continues scope size n place c p K room lower back calls pending fine stands exits ends starts typed le =
       let between = pushed room lower in
       let s = spot_at R x place [] between (back ∷ calls) pending K in
@@ -665,7 +665,7 @@ module _ (host : MachineHost) (R : Saved → Deferred → Type 0) (x : Site) (li
       let l = leaves K breaks out.break_to k c place between (back ∷ calls) pending (size - out.break_depth) fine ends exits.break_label (ap (λ d. size - d) (sym exits.break_depth)) stands in
       (l.first, l.goes, ((fine, l.kept), l.took)))
 
-  continue_does : (m : ℕ) → Does (continue_on m)
+  pub continue_does : (m : ℕ) → Does (continue_on m)
   continue_does m out breaks continues scope size n place c p K room lower back calls pending fine stands exits ends starts typed le =
       let between = pushed room lower in
       let s = spot_at R x place [] between (back ∷ calls) pending K in
@@ -696,7 +696,7 @@ module _ (host : MachineHost) (R : Saved → Deferred → Type 0) (x : Site) (li
   unfolding act
   goes_back place back cells calls pending world begins = acted host x listed place ops.Retn cells (back ∷ calls) pending world (Moves (at x back cells calls pending world).running) begins refl
 
-  return_value_does : (m : ℕ) (e : TypedExpr) → Runs e → Does (return_from m (Some e))
+  pub return_value_does : (m : ℕ) (e : TypedExpr) → Runs e → Does (return_from m (Some e))
   return_value_does m e r out breaks continues scope size n place c p K room lower back calls pending fine stands exits ends starts typed le =
       let value = emit x.layout n size e in
       let count = length (cell_types x.layout.structs (type_of e)) in
@@ -929,17 +929,18 @@ module _ (host : MachineHost) (R : Saved → Deferred → Type 0) (x : Site) (li
       (names_do ds each.1 breaks continues (d.name.number ∷ scope) (size + wide) (n + some_labels d.value) middle (c + one_of wide) r M room lower back calls pending fine.3 b.1 (omega (arith, less, le)))
       (λ f u g. regrouped breaks continues scope' size wide many (middle + lines_size rest) next c room lower back calls pending ending whole enough f u g)))
 
-  declaration_does : (m : ℕ) (t : Ty) (ds : List TypedName) → EachName ds → Does (declaration m t ds)
+  pub declaration_does : (m : ℕ) (t : Ty) (ds : List TypedName) → EachName ds → Does (declaration m t ds)
   unfolding NamesDo
   declaration_does m t ds each out breaks continues scope size n place c p K room lower back calls pending fine stands exits ends starts typed le =
       names_do ds each breaks continues scope size n place c p K room lower back calls pending fine stands le
 
   -- ---- labels do nothing by themselves
 
-  case_does : (m : ℕ) (k : Const) → Does (case_label m k)
-  case_does m k = empty_does m
+  pub case_does : (m : ℕ) (k : Const) → Does (case_label m k)
+  case_does m k out breaks continues scope size n place c p K room lower back calls pending fine stands exits ends starts typed le =
+      empty_does m out breaks continues scope size n place c p K room lower back calls pending tt stands exits ends starts typed le
 
-  default_does : (m : ℕ) → Does (default_label m)
+  pub default_does : (m : ℕ) → Does (default_label m)
   default_does m = empty_does m
 
   -- ---- loops
@@ -1072,7 +1073,7 @@ module _ (host : MachineHost) (R : Saved → Deferred → Type 0) (x : Site) (li
       p.left c (spot_at R x place [] between calls pending K) (value_credits c) (value_credits c) (eval here caller e p) h
       (λ v q g. ((g.0 ∙ ap (cell_types x.layout.structs) is, g.1), took_none host q.left (8 + c) (spot_at R x next (pushed v []) between calls pending g.1)))
 
-  while_does : (m : ℕ) (e : TypedExpr) (a : TypedStmt) → Runs e → Does a → Does (while_loop m e a)
+  pub while_does : (m : ℕ) (e : TypedExpr) (a : TypedStmt) → Runs e → Does a → Does (while_loop m e a)
   while_does m e a r da out breaks continues scope size n place c p K room lower back calls pending fine stands exits ends starts typed le =
       let value = emit x.layout (n + 2) size e in
       let inner = in_loop n (n + 1) size in
@@ -1144,7 +1145,7 @@ module _ (host : MachineHost) (R : Saved → Deferred → Type 0) (x : Site) (li
   tested_runs (Some e) r scope size n place c p K between calls pending fine lines le =
       as_test e scope size place (place + lines_size (emit x.layout n size e)) c p K between calls pending fine.1 (r scope size n size place c p K [] between calls pending fine.0 lines (omega arith) le tt)
 
-  for_does : (m : ℕ) (e y z : Option TypedExpr) (a : TypedStmt) → MaybeRuns e → MaybeRuns y → MaybeRuns z → Does a → Does (for_loop m e y z a)
+  pub for_does : (m : ℕ) (e y z : Option TypedExpr) (a : TypedStmt) → MaybeRuns e → MaybeRuns y → MaybeRuns z → Does a → Does (for_loop m e y z a)
   for_does m e y z a re ry rz da out breaks continues scope size n place c p K room lower back calls pending fine stands exits ends starts typed le =
       let l = x.layout in
       let first = evaluated l (n + 3) size e in
@@ -1206,21 +1207,21 @@ module _ (host : MachineHost) (R : Saved → Deferred → Type 0) (x : Site) (li
 
   -- ---- `do`
 
-  one_jumps : (place next : ℕ) (offset k : ℤ) (cells : List Cell) (calls' : List ℕ) (pending : List Saved) (world : World Saved) → op_at x.code place ≡ Some (ops.Jnz offset) → is_zero k ≡ false → jump_place place offset ≡ next
+  pub one_jumps : (place next : ℕ) (offset k : ℤ) (cells : List Cell) (calls' : List ℕ) (pending : List Saved) (world : World Saved) → op_at x.code place ≡ Some (ops.Jnz offset) → is_zero k ≡ false → jump_place place offset ≡ next
       → step host (at x place (Holds (Int k) ∷ cells) calls' pending world) ≡ Some (Goes (at x next cells calls' pending world))
   unfolding act cells_after
   one_jumps place next offset k cells calls' pending world begins test goes =
       moves host x listed place next (ops.Jnz offset) (Holds (Int k) ∷ cells) cells calls' pending world begins refl refl refl
       (ap (λ (b : Bool). if b then place + 6 else jump_place place offset) test ∙ goes)
 
-  zero_passes : (place next : ℕ) (offset k : ℤ) (cells : List Cell) (calls' : List ℕ) (pending : List Saved) (world : World Saved) → op_at x.code place ≡ Some (ops.Jnz offset) → is_zero k ≡ true → place + 6 ≡ next
+  pub zero_passes : (place next : ℕ) (offset k : ℤ) (cells : List Cell) (calls' : List ℕ) (pending : List Saved) (world : World Saved) → op_at x.code place ≡ Some (ops.Jnz offset) → is_zero k ≡ true → place + 6 ≡ next
       → step host (at x place (Holds (Int k) ∷ cells) calls' pending world) ≡ Some (Goes (at x next cells calls' pending world))
   unfolding act cells_after
   zero_passes place next offset k cells calls' pending world begins test goes =
       moves host x listed place next (ops.Jnz offset) (Holds (Int k) ∷ cells) cells calls' pending world begins refl refl refl
       (ap (λ (b : Bool). if b then place + 6 else jump_place place offset) test ∙ goes)
 
-  do_does : (m : ℕ) (a : TypedStmt) (e : TypedExpr) → Does a → Runs e → Does (do_loop m a e)
+  pub do_does : (m : ℕ) (a : TypedStmt) (e : TypedExpr) → Does a → Runs e → Does (do_loop m a e)
   do_does m a e da r out breaks continues scope size n place c p K room lower back calls pending fine stands exits ends starts typed le =
       let inner = in_loop (n + 1) (n + 2) size in
       let body = emit_stmt x.layout inner (n + 3) size a in
@@ -1322,7 +1323,7 @@ module _ (host : MachineHost) (R : Saved → Deferred → Type 0) (x : Site) (li
 
   -- ---- `return` without a value
 
-  return_nothing_does : (m : ℕ) → Does (return_from m None)
+  pub return_nothing_does : (m : ℕ) → Does (return_from m None)
   return_nothing_does m out breaks continues scope size n place c p K room lower back calls pending fine stands exits ends starts typed le =
       let nothing : cell_types x.layout.structs result ≡ [] = ap (cell_types x.layout.structs) fine in
       let no_room = none_typed room (typed ∙ nothing) in
@@ -1345,50 +1346,3 @@ module _ (host : MachineHost) (R : Saved → Deferred → Type 0) (x : Site) (li
       none_typed : (v : List Value) → value_types v ≡ [] → v ≡ []
       none_typed [] h = refl
       none_typed (w ∷ v) h = absurd cc
-
-  -- ---- every statement but `switch`
-
-  abbrev mutual
-    pub EachStmt : TypedStmt → Type 0
-    EachStmt (block m xs) = EachOfAll xs
-    EachStmt (empty m) = Unit {0}
-    EachStmt (expression m e) = Runs e
-    EachStmt (if_only m e a) = Runs e × EachStmt a
-    EachStmt (if_else m e a b) = Runs e × EachStmt a × EachStmt b
-    EachStmt (while_loop m e a) = Runs e × EachStmt a
-    EachStmt (do_loop m a e) = EachStmt a × Runs e
-    EachStmt (for_loop m e y z a) = MaybeRuns e × MaybeRuns y × MaybeRuns z × EachStmt a
-    EachStmt (switch m e xs) = ⊥
-    EachStmt (break_off m) = Unit {0}
-    EachStmt (continue_on m) = Unit {0}
-    EachStmt (return_from m e) = MaybeRuns e
-    EachStmt (declaration m t ds) = EachName ds
-    EachStmt (case_label m k) = Unit {0}
-    EachStmt (default_label m) = Unit {0}
-
-    pub EachOfAll : TypedStmts → Type 0
-    EachOfAll no_stmt = Unit {0}
-    EachOfAll (more_stmts s ss) = EachStmt s × EachOfAll ss
-
-  mutual
-    pub stmt_does : (s : TypedStmt) → EachStmt s → StmtRuns host R x tables execute functions caller most result s
-    stmt_does (block m xs) h = block_does m xs (stmts_do xs h)
-    stmt_does (empty m) h = empty_does m
-    stmt_does (expression m e) h = expression_does m e h
-    stmt_does (if_only m e a) h = if_only_does m e a h.0 (stmt_does a h.1)
-    stmt_does (if_else m e a b) h = if_else_does m e a b h.0 (stmt_does a h.1) (stmt_does b h.2)
-    stmt_does (while_loop m e a) h = while_does m e a h.0 (stmt_does a h.1)
-    stmt_does (do_loop m a e) h = do_does m a e (stmt_does a h.0) h.1
-    stmt_does (for_loop m e y z a) h = for_does m e y z a h.0 h.1 h.2 (stmt_does a h.3)
-    stmt_does (switch m e xs) h = absurd h
-    stmt_does (break_off m) h = break_does m
-    stmt_does (continue_on m) h = continue_does m
-    stmt_does (return_from m None) h = return_nothing_does m
-    stmt_does (return_from m (Some e)) h = return_value_does m e h
-    stmt_does (declaration m t ds) h = declaration_does m t ds h
-    stmt_does (case_label m k) h = case_does m k
-    stmt_does (default_label m) h = default_does m
-
-    pub stmts_do : (ss : TypedStmts) → EachOfAll ss → DoAll ss
-    stmts_do no_stmt h = none_do
-    stmts_do (more_stmts s ss) h = more_do s ss (stmt_does s h.0) (stmts_do ss h.1)

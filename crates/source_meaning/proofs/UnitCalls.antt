@@ -43,7 +43,7 @@ use Rattle.source_meaning.proofs.Ledger.{took_none, took_less, sim_after, sim_bi
 use Rattle.source_meaning.proofs.Places.{above_globals}
 use Rattle.source_meaning.proofs.Steps.{both_stand, sizes, acted}
 use Rattle.source_meaning.proofs.Calls.{all_over}
-use Rattle.source_meaning.proofs.EngineCalls.{EachRuns, HasCall, call_place, arguments_of, call_arguments_run}
+use Rattle.source_meaning.proofs.EngineCalls.{EachRuns, HasCall, call_place, arguments_of, call_arguments_run, spare, spare_defaults, spare_more}
 use Rattle.source_meaning.proofs.Statements.{HasParts, parts_place, made_runs}
 use Rattle.source_meaning.specs.StatementsRun.{one_of}
 
@@ -201,8 +201,8 @@ module _ (host : MachineHost) (R : Saved → Deferred → Type 0) (tested : Equa
       let H = HasCall host R tested x listed tables execute functions caller most scope size es ks pending in
       subst (λ (u : List Value). Sim host R B there q.left (c + one_of wide) (spot_at R x one (pushed u temps) between calls pending h.2) (value_credits c) (bind (arguments_of host R tested x listed tables execute functions caller most es ks q) (λ a r. unit_called caller f a r))) (sym h.0)
       (sim_bind host R H (call_place host R tested x listed tables execute functions caller most scope size es ks two (pushed (start_parts ts) temps) between calls pending) B there
-      q.left (c + one_of wide) (spot_at R x one (pushed (start_parts ts) temps) between calls pending h.2) (λ a. c + one_of wide) (value_credits c) (arguments_of host R tested x listed tables execute functions caller most es ks q) (λ a r. unit_called caller f a r)
+      q.left (c + one_of wide) (spot_at R x one (pushed (start_parts ts) temps) between calls pending h.2) (λ a. spare es (spare_defaults ks (c + one_of wide))) (value_credits c) (arguments_of host R tested x listed tables execute functions caller most es ks q) (λ a r. unit_called caller f a r)
       (call_arguments_run host R tested x listed tables execute functions caller most es ks captures each scope size n within one (c + one_of wide) q h.2 (pushed (start_parts ts) temps) between calls pending fine.1 d.0
       (let starts_long = ap length h.0 in let z = pushed_length (start_parts ts) temps in omega (arith, long, starts_long, z, deep)) (omega (arith, less, le)) (held_pushed (start_parts ts) temps held) (omega (arith, none)))
-      (λ a r g fewer. sim_less host R B there r.left c (c + one_of wide) (spot_at R x two (pushed_all a.values (pushed (start_parts ts) temps)) between calls g.now g.kept) (value_credits c) (unit_called caller f a r) (omega arith)
+      (λ a r g fewer. sim_less host R B there r.left c (spare es (spare_defaults ks (c + one_of wide))) (spot_at R x two (pushed_all a.values (pushed (start_parts ts) temps)) between calls g.now g.kept) (value_credits c) (unit_called caller f a r) (let z = spare_more es ks (c + one_of wide) in omega (arith, z))
       (jsr_runs t f es ks calls_run call_fine scope size two next c a r temps between calls pending g _ d.1.0.begins d.1.0.leads ending (omega (arith, less, fewer, le))))))

@@ -14,7 +14,7 @@ use Rattle.ncs_emit.specs.Standing.{LinesStand}
 use Rattle.saved_state.specs.declared.cell.Cell.{Cell}
 use Rattle.saved_state.specs.declared.saved.Saved.{Saved}
 use Rattle.saved_state.specs.Cells.{captured}
-use Rattle.stack_shape.specs.Calls.{argument_types, result_types}
+use Rattle.stack_shape.specs.Calls.{argument_types, result_types, is_callable}
 use Rattle.code_emission.specs.Layout.{Structs, cell_types}
 use Rattle.code_emission.specs.Expressions.{is_captured, emit}
 use Rattle.engine_rows.specs.Pure.{CellLookup}
@@ -67,14 +67,15 @@ actions_in (more_typed e es) = one_if (is_captured e) + actions_in es
 
 -- ---- what is asked
 
--- The machine's engine gives what the engine of the meaning gives, in worlds that stay alike, and its answers have the routines' types.
+-- The machine's engine gives what the engine of the meaning gives, in worlds that stay alike, and of routines that can be called its answers have
+-- the routines' types.
 pub record EngineRuns (host : MachineHost) (R : Saved → Deferred → Type 0) (tables : CellLookup) : Type 0 where
   pub value : (n caller : ℕ) (values : List Value) (a : Option Saved) (d : Option Deferred) (w : World Saved) (v : World Deferred) → OptionAlike R a d → Alike R w v
       → (host.engine n caller values a w).value ≡ (engine host.table tables n (call caller values d) v).value
   pub world : (n caller : ℕ) (values : List Value) (a : Option Saved) (d : Option Deferred) (w : World Saved) (v : World Deferred) → OptionAlike R a d → Alike R w v
       → Alike R (host.engine n caller values a w).world (engine host.table tables n (call caller values d) v).world
-  pub typed : (n : ℕ) (r : Routine) (caller : ℕ) (values : List Value) (d : Option Deferred) (v : World Deferred) → slice_get host.table.routines n ≡ Some r
-      → value_types values ≡ argument_types r.params → value_types (parts_in (engine host.table tables n (call caller values d) v).value) ≡ result_types r.result
+  pub typed : (n : ℕ) (r : Routine) (caller : ℕ) (values : List Value) (a : Option Saved) (w : World Saved) → slice_get host.table.routines n ≡ Some r
+      → is_callable r ≡ true → value_types values ≡ argument_types r.params → value_types (parts_in (host.engine n caller values a w).value) ≡ result_types r.result
   -- the routine that runs another script takes a name and a target, and gives nothing
   pub runs : (n : ℕ) (r : Routine) → slice_get host.table.routines n ≡ Some r → is_execute_script r.role ≡ true
       → (argument_types r.params ≡ Text ∷ Object ∷ []) × (result_types r.result ≡ [])
@@ -87,11 +88,12 @@ CapturesCarry host R x tables execute functions =
     → length temps + size ≡ depth → AreHeld temps → x.layout.globals ≡ x.bp
     → R (captured x.script (resume_place place) x.layout.globals depth (record { cells = temps ++ (kept.frame ++ (between ++ kept.under)); bp = x.bp })) (deferred (running_at host tables execute x) e p)
 
--- A script that is run does what running it means, from before the instruction that runs it to behind that one.
+-- A script that is run does what running it means, from before the instruction that runs it to behind that one, where a credit is left for
+-- that instruction.
 abbrev pub ExecutesRun : MachineHost → (Saved → Deferred → Type 0) → Site → Executor → ℕ → Type 0
 ExecutesRun host R x execute most =
     (name : List ℕ) (target : ℕ) (scope : List ℕ) (size next c : ℕ) (p : Progress) (kept : Kept R x scope size p.globals p.locals p.world)
     (temps between : List Cell) (calls : List ℕ) (pending : List Saved) (s : Machine)
-    → p.left ≤ most → s.world ≡ kept.machine → s.waiting ≡ x.waiting → AreHeld temps
+    → p.left ≤ most → 1 ≤ c → s.world ≡ kept.machine → s.waiting ≡ x.waiting → AreHeld temps
     → step host s ≡ Some (Goes (executed host name target (spot_at R x next temps between calls pending kept).running s))
     → Sim host R (HoldsValue R x scope size Void) (value_place R x scope size Void next temps between calls pending) p.left c s (value_credits c) (execute name target p)

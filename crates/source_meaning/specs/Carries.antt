@@ -16,7 +16,7 @@ use Rattle.code_emission.specs.Units.{unit_code}
 use Rattle.machine_step.specs.Frames.{Frame}
 use Rattle.source_meaning.specs.Evaluation.{Deferred}
 use Rattle.source_meaning.specs.Scripts.{Listed, Setting, functions, global_names}
-use Rattle.source_meaning.specs.Kept.{Site, Vars}
+use Rattle.source_meaning.specs.Kept.{AreHeld, Site, Vars}
 use Rattle.source_meaning.specs.Fine.{IsFine}
 
 -- ---- the types of a unit's variables, in the order of their numbers
@@ -83,7 +83,7 @@ unit_site script u self waiting = record {
 }
 
 -- A captured state carries a deferred call: it is of the same script, its place is that of the call's code, and the values of the
--- variables stand on its cells, those of the globals and those of the variables that were in sight. Other cells are free.
+-- variables stand on its cells, those of the globals and those of the variables that were in sight. Other cells hold any value.
 pub record Carries (s : Setting) (c : Saved) (d : Deferred) : Type 0 where
   pub script : c.script ≡ d.script
   pub listed : Listed
@@ -97,3 +97,5 @@ pub record Carries (s : Setting) (c : Saved) (d : Deferred) : Type 0 where
   pub globals : (self : ℕ) (waiting : List Frame)
       → Vars (unit_site d.script listed.unit self waiting) (map number_of (global_names listed.unit.items)) (reverse c.globals) d.globals
   pub size : length c.globals ≡ (layout_of listed.unit).globals
+  pub locals_held : AreHeld (reverse c.locals)
+  pub globals_held : AreHeld (reverse c.globals)

@@ -5,14 +5,13 @@ use Rattle.nwq_value.specs.declared.value.Value.{Value}
 use Rattle.nwq_value.specs.declared.engine.Routine.{Routine}
 use Rattle.nwq_value.specs.Engine.{EngineTable}
 use Rattle.saved_state.specs.declared.saved.Saved.{Saved}
-use Rattle.stack_shape.specs.Calls.{argument_types, result_types}
+use Rattle.stack_shape.specs.Calls.{argument_types, result_types, is_callable}
 use Rattle.engine_rows.specs.Pure.{CellLookup}
 use Rattle.engine_rows.specs.World.{World}
 use Rattle.engine_rows.specs.Engine.{engine}
 use Rattle.engine_rows.specs.AlikeLaws.{call}
 use Rattle.machine_step.specs.Cells.{value_types}
 use Rattle.machine_step.specs.Calls.{is_execute_script}
-use Rattle.source_meaning.specs.Evaluation.{Deferred}
 use Rattle.source_meaning.specs.Expressions.{parts_in}
 use Rattle.source_meaning.specs.Scripts.{Setting}
 use Rattle.source_meaning.specs.Ledger.{MachineHost}
@@ -24,10 +23,11 @@ pub record HasEngine (host : MachineHost) (tables : CellLookup) : Type 0 where
   pub value : (n caller : ℕ) (values : List Value) (a : Option Saved) (w : World Saved) → (host.engine n caller values a w).value ≡ (engine host.table tables n (call caller values a) w).value
   pub world : (n caller : ℕ) (values : List Value) (a : Option Saved) (w : World Saved) → (host.engine n caller values a w).world ≡ (engine host.table tables n (call caller values a) w).world
 
--- The world's engine answers with values of the routines' types, and the routine that runs another script has its types.
+-- The world's engine answers calls of routines that can be called with values of the routines' types, and the routine that runs another script has
+-- its types.
 pub record AnswersAreTyped (table : EngineTable) (tables : CellLookup) : Type 0 where
-  pub answers : (n : ℕ) (r : Routine) (caller : ℕ) (values : List Value) (d : Option Deferred) (v : World Deferred) → slice_get table.routines n ≡ Some r
-      → value_types values ≡ argument_types r.params → value_types (parts_in (engine table tables n (call caller values d) v).value) ≡ result_types r.result
+  pub answers : (n : ℕ) (r : Routine) (caller : ℕ) (values : List Value) (a : Option Saved) (w : World Saved) → slice_get table.routines n ≡ Some r
+      → is_callable r ≡ true → value_types values ≡ argument_types r.params → value_types (parts_in (engine table tables n (call caller values a) w).value) ≡ result_types r.result
   pub runs : (n : ℕ) (r : Routine) → slice_get table.routines n ≡ Some r → is_execute_script r.role ≡ true
       → (argument_types r.params ≡ Text ∷ Object ∷ []) × (result_types r.result ≡ [])
 

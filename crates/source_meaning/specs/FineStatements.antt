@@ -1,13 +1,14 @@
 -- What the statements of a function keep, as far as their meaning needs it.
-use Rattle.std.specs.Prelude.{◌≡◌, ◌≤◌, ℕ, ◌+◌, Bool, true, List, [], ◌∷◌, Option, None, Some}
+use Rattle.std.specs.Prelude.{◌≡◌, ◌≤◌, ◌⊎◌, ℕ, ◌+◌, Bool, true, List, [], ◌∷◌, Option, None, Some, IsFalse}
 use Rattle.nss_tree.specs.Statements.{block, empty, expression, if_only, if_else, while_loop, do_loop, for_loop, switch, break_off, continue_on, return_from, declaration, case_label, default_label, no_stmt, more_stmts}
 use Rattle.nwq_value.specs.declared.value.Ty.{Ty}
 use Rattle.nwq_value.specs.declared.value.Ty.TheVariants.{Void, Int}
-use Rattle.nwq_value.specs.Engine.{EngineTable}
+use Rattle.nwq_value.specs.Engine.{EngineTable, const_type}
 use Rattle.nss_typing.specs.Typed.{TypedExpr, TypedName, TypedStmt, TypedStmts, type_of}
 use Rattle.std.specs.List.{AllByRecursion}
 use Rattle.code_emission.specs.Bounds.{IsCell}
 use Rattle.code_emission.specs.Layout.{cell_types, cells, position, declared_cells}
+use Rattle.code_emission.specs.Statements.{is_label}
 use Rattle.source_meaning.specs.Scripts.{Function}
 use Rattle.source_meaning.specs.Kept.{Site}
 use Rattle.source_meaning.specs.Fine.{IsFine}
@@ -29,6 +30,15 @@ after_stmts (more_stmts s ss) scope = after_stmts ss (after_stmt s scope)
 abbrev pub DeclaresNothing : TypedStmt → Type 0
 DeclaresNothing (declaration m t ds) = ⊥
 DeclaresNothing _ = Unit {0}
+
+abbrev pub HasNoLabels : TypedStmts → Type 0
+HasNoLabels no_stmt = Unit {0}
+HasNoLabels (more_stmts s ss) = IsFalse (is_label s) × HasNoLabels ss
+
+-- No label of a switch stands behind a declaration, so all of them stand at one depth, with the same variables in sight.
+abbrev pub LabelsStandFirst : TypedStmts → Type 0
+LabelsStandFirst no_stmt = Unit {0}
+LabelsStandFirst (more_stmts s ss) = (DeclaresNothing s ⊎ HasNoLabels ss) × LabelsStandFirst ss
 
 -- In a function with a result of this type, at a depth of the frame, with these variables in sight.
 module _ (table : EngineTable) (functions : List Function) (x : Site) (result : Ty) where
@@ -69,12 +79,12 @@ module _ (table : EngineTable) (functions : List Function) (x : Site) (result : 
     IsFineStmt breaks continues depth scope (do_loop m a e) = IsFineStmt true true depth scope a × IsFineTest scope (Some e) × DeclaresNothing a
     IsFineStmt breaks continues depth scope (for_loop m e y z a) =
         IsFineMaybe scope e × IsFineTest scope y × IsFineMaybe scope z × IsFineStmt true true depth scope a × DeclaresNothing a
-    IsFineStmt breaks continues depth scope (switch m e xs) = IsFineTest scope (Some e) × AreFineStmts true continues (depth + 1) scope xs
+    IsFineStmt breaks continues depth scope (switch m e xs) = IsFineTest scope (Some e) × AreFineStmts true continues (depth + 1) scope xs × LabelsStandFirst xs
     IsFineStmt breaks continues depth scope (break_off m) = breaks ≡ true
     IsFineStmt breaks continues depth scope (continue_on m) = continues ≡ true
     IsFineStmt breaks continues depth scope (return_from m e) = IsFineReturn scope e
     IsFineStmt breaks continues depth scope (declaration m t ds) = AreFineNames depth scope ds
-    IsFineStmt breaks continues depth scope (case_label m k) = Unit {0}
+    IsFineStmt breaks continues depth scope (case_label m k) = const_type k ≡ Int
     IsFineStmt breaks continues depth scope (default_label m) = Unit {0}
 
     pub AreFineStmts : Bool → Bool → ℕ → List ℕ → TypedStmts → Type 0

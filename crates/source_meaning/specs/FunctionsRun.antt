@@ -6,7 +6,6 @@ use Rattle.ncs_emit.specs.Standing.{LinesStand}
 use Rattle.code_emission.specs.Bounds.{IsCell}
 use Rattle.code_emission.specs.Units.{emit_function}
 use Rattle.source_meaning.specs.FineStatements.{AreFineStmts}
-use Rattle.source_meaning.specs.Laws.{OfAll}
 use Rattle.nwq_value.specs.declared.value.Ty.{Ty}
 use Rattle.nwq_value.specs.declared.value.Value.{Value}
 use Rattle.nss_typing.specs.Typed.{TypedExpr, TypedParameter}
@@ -34,13 +33,12 @@ abbrev pub parameter_scope : List TypedParameter → List ℕ
 parameter_scope [] = []
 parameter_scope (p ∷ ps) = p.name.number ∷ parameter_scope ps
 
--- The code of a function stands at its label, and its statements are fine. None of them is a `switch`.
+-- The code of a function stands at its label, and its statements are fine.
 pub record IsPlaced (table : EngineTable) (functions : List Function) (x : Site) (f : ℕ) (fn : Function) : Type 0 where
   pub label : ℕ
   pub stands : LinesStand x.code x.places (x.places f) (emit_function x.layout label f fn.parameters fn.body)
   pub parameters : AreParameters x fn.parameters
   pub fine : AreFineStmts table functions x fn.result false false (params_cells x.layout.structs fn.parameters) (parameter_scope fn.parameters) fn.body
-  pub built : OfAll (λ e. Unit {0}) fn.body
   pub cells : AllByRecursion IsCell (cell_types x.layout.structs fn.result)
 
 -- the globals are kept, and no frame
@@ -68,7 +66,7 @@ CallsRun host R x functions caller most =
     (at x (x.places f) (pushed_all values (pushed (start_parts (cell_types x.layout.structs fn.result)) (lower ++ kept.under))) (back ∷ waiting) pending kept.machine) (λ v. d) (caller f values p)
 
 -- Functions do what their calls mean, recursion among them, and so do all expressions, where so many steps are left: in a script whose functions
--- stand at their labels, and have no `switch`.
+-- stand at their labels.
 abbrev pub FunctionsRun : Type 0
 FunctionsRun =
     (s : Setting) (host : MachineHost) (x : Site) (tables : CellLookup) (execute : Executor) (fs : List Function)

@@ -70,7 +70,7 @@ CapturesAreCarried =
 
 -- ---- statements
 
--- something holds of each expression of a statement, and it has no `switch`
+-- something holds of each expression of a statement
 module _ (P : TypedExpr → Type 0) where
   abbrev pub OfSome : Option TypedExpr → Type 0
   OfSome None = Unit {0}
@@ -90,7 +90,7 @@ module _ (P : TypedExpr → Type 0) where
     OfEach (while_loop m e a) = P e × OfEach a
     OfEach (do_loop m a e) = OfEach a × P e
     OfEach (for_loop m e y z a) = OfSome e × OfSome y × OfSome z × OfEach a
-    OfEach (switch m e xs) = ⊥
+    OfEach (switch m e xs) = P e × OfAll xs
     OfEach (break_off m) = Unit {0}
     OfEach (continue_on m) = Unit {0}
     OfEach (return_from m e) = OfSome e
@@ -102,7 +102,7 @@ module _ (P : TypedExpr → Type 0) where
     OfAll no_stmt = Unit {0}
     OfAll (more_stmts s ss) = OfEach s × OfAll ss
 
--- The code of a statement without `switch` does what the statement means: declarations, loops with `break` and `continue`, and `return`. So where
+-- The code of a statement does what the statement means: declarations, loops and `switch` with `break` and `continue`, and `return`. So where
 -- nothing is called.
 abbrev pub StatementsRun : Type 0
 StatementsRun =

@@ -18,3 +18,8 @@ pub mod FunctionsRun
 pub mod Placing
 pub mod EngineHost
 pub mod Starts
+pub mod Resumes
+pub mod Executing
+pub mod Entries
+pub mod StayAlike
+pub mod Listed

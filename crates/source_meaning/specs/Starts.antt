@@ -1,5 +1,5 @@
--- That the code of a script without globals does what its start means.
-use Rattle.std.specs.Prelude.{◌≡◌, ℕ, false, List, [], Option, Some, slice_get}
+-- That the code of a script does what its start means.
+use Rattle.std.specs.Prelude.{◌≡◌, ℕ, Bool, true, false, List, [], Option, Some, slice_get}
 use Rattle.nwq_value.specs.Engine.{EngineTable}
 use Rattle.nwq_value.specs.declared.value.Ty.{Ty}
 use Rattle.nwq_value.specs.declared.value.Ty.TheVariants.{Void, Int}
@@ -14,30 +14,41 @@ use Rattle.engine_rows.specs.World.{World}
 use Rattle.engine_rows.specs.Alike.{Alike}
 use Rattle.machine_step.specs.Frames.{Frame}
 use Rattle.source_meaning.specs.Evaluation.{Deferred, Progress}
-use Rattle.source_meaning.specs.Scripts.{Function, Listed, Setting, Starter, functions, executing, listed_started}
+use Rattle.source_meaning.specs.Scripts.{Function, Listed, Setting, Starter, functions, global_names, executing, listed_started}
 use Rattle.source_meaning.specs.Ledger.{Machine, MachineHost, Sim}
 use Rattle.source_meaning.specs.Kept.{Site, IsListed, at}
 use Rattle.source_meaning.specs.Carries.{Carries, unit_site}
 use Rattle.source_meaning.specs.Calling.{EngineRuns, ExecutesRun}
+use Rattle.source_meaning.specs.FineStatements.{AreFineNames}
 use Rattle.source_meaning.specs.FunctionsRun.{IsPlaced}
 
--- a unit without globals that begins with a function of this kind and result, and whose functions are placed
-pub record IsPlain (begin : ℕ → EntryPoint) (t : Ty) (table : EngineTable) (u : TypedUnit) (x : Site) : Type 0 where
+-- The script while its globals are made: they are variables of a frame, and nothing lies beneath. So it also begins and ends.
+abbrev pub making : Site → Site
+making x = record x { globals = []; bp = 0 }
+
+-- A unit that begins with a function of this kind and result. Its globals are fine as declarations in whose values no function is called,
+-- and its functions are placed.
+pub record BeginsWith (begin : ℕ → EntryPoint) (t : Ty) (table : EngineTable) (u : TypedUnit) (x : Site) : Type 0 where
   pub entry : ℕ
   pub begins : u.entry ≡ begin entry
   pub main : Function
   pub is : slice_get (functions u.items) entry ≡ Some main
   pub parameters : main.parameters ≡ []
   pub result : main.result ≡ t
-  pub bare : has_globals u.items ≡ false
+  pub made : AreFineNames table [] (making x) Void 0 [] (global_names u.items)
   pub placed : (f : ℕ) (fn : Function) → slice_get (functions u.items) f ≡ Some fn → IsPlaced table (functions u.items) x f fn
 
--- where its last RETN stands: behind the call of the entry function, and for a condition behind that of its result
+-- Where the last RETN of a start without globals stands: behind the call of the entry function, and for a condition behind that of its result.
 abbrev pub main_return : ℕ
 main_return = 19
 
 abbrev pub condition_return : ℕ
 condition_return = 27
+
+-- With globals it stands behind the first call, which makes them and calls the entry function.
+abbrev pub return_place : Bool → ℕ → ℕ
+return_place true last = 19
+return_place false last = last
 
 -- The start is over there, with an empty stack, in a world that is alike.
 abbrev pub EndsAlike : (Saved → Deferred → Type 0) → List Value → Progress → Type 0
@@ -47,15 +58,17 @@ abbrev pub end_place : (R : Saved → Deferred → Type 0) → Site → ℕ → 
 end_place R x place v p h = at x place [] [] [] h.0
 
 -- From its first instruction on, with an empty stack, the code of such a script does what its start means, up to its last RETN, for which a
--- credit is left: as any object, and whatever scripts wait for it.
+-- credit is left: as any object, and whatever scripts wait for it. It asks of scripts that are run from a first value of a global what it asks
+-- of others.
 abbrev pub StartsRun : (ℕ → EntryPoint) → Ty → ℕ → Type 0
 StartsRun begin t last =
     (s : Setting) (host : MachineHost) (start : Option Starter) (script self : ℕ) (waiting : List Frame) (l : Listed) (p : Progress) (w : World Saved)
     → host.table ≡ s.table → slice_get s.scripts script ≡ Some l → IsListed host (unit_site script l.unit self waiting)
     → EngineRuns host (Carries s) s.tables → ((most : ℕ) → ExecutesRun host (Carries s) (unit_site script l.unit self waiting) (executing s start self) most)
-    → IsPlain begin t host.table l.unit (unit_site script l.unit self waiting) → Alike (Carries s) w p.world
-    → Sim host (Carries s) (EndsAlike (Carries s)) (end_place (Carries s) (unit_site script l.unit self waiting) last) p.left 0
-    (at (unit_site script l.unit self waiting) header_size [] [] [] w) (λ v. 1) (listed_started s (executing s start) script self (Some l) p)
+    → ((most : ℕ) → ExecutesRun host (Carries s) (making (unit_site script l.unit self waiting)) (executing s start self) most)
+    → BeginsWith begin t host.table l.unit (unit_site script l.unit self waiting) → Alike (Carries s) w p.world
+    → Sim host (Carries s) (EndsAlike (Carries s)) (end_place (Carries s) (making (unit_site script l.unit self waiting)) (return_place (has_globals l.unit.items) last)) p.left 0
+    (at (making (unit_site script l.unit self waiting)) header_size [] [] [] w) (λ v. 1) (listed_started s (executing s start) script self (Some l) p)
 
 -- scripts that begin with `void main()`
 abbrev pub MainsRun : Type 0

@@ -1,10 +1,15 @@
 //! Laws about the definitions, each the contract of a function that does nothing.
 ghost use Rattle.source_meaning.specs.Laws.{CapturesAreCarried, EngineCallsRun, EngineStatementsRun};
 ghost use Rattle.source_meaning.specs.EngineHost.{EngineIsRun};
+ghost use Rattle.source_meaning.specs.Entries.{EntriesDo};
+ghost use Rattle.source_meaning.specs.Executing.{ScriptsExecute};
 ghost use Rattle.source_meaning.specs.FunctionsRun.{FunctionsRun};
 ghost use Rattle.source_meaning.specs.Laws.{ExpressionsRun, StatementsRun};
+ghost use Rattle.source_meaning.specs.Listed.{ListedScriptsDo};
 ghost use Rattle.source_meaning.specs.Placing.{FunctionsStand};
+ghost use Rattle.source_meaning.specs.Resumes.{ResumedRun};
 ghost use Rattle.source_meaning.specs.Starts.{ConditionsRun, MainsRun};
+ghost use Rattle.source_meaning.specs.StayAlike.{EntriesKeepAlike};
 
 use code_emission::laws::code_stands;
 use machine_step::equality_is_tested;
@@ -32,7 +37,7 @@ pub fn captures_are_carried()
     ensures carried { CapturesAreCarried }
 {}
 
-/// The code of a statement without `switch` does what the statement means: declarations, loops with
+/// The code of a statement does what the statement means: declarations, loops and `switch` with
 /// `break` and `continue`, and `return`.
 pub fn statements_run()
     ensures quiet { StatementsRun }
@@ -62,8 +67,8 @@ pub fn engine_is_run()
     ensures run { EngineIsRun }
 {}
 
-/// The code of a script without globals does what its start means, from its first instruction on:
-/// whether it begins with `void main()` or with `int StartingConditional()`.
+/// The code of a script does what its start means, from its first instruction on: its globals are
+/// made, and then its entry function runs, `void main()` or `int StartingConditional()`.
 pub fn starts_run()
     ensures mains { MainsRun }
     ensures conditions { ConditionsRun }
@@ -71,3 +76,40 @@ pub fn starts_run()
     equality_is_tested();
     code_stands();
 }
+
+/// A captured state that goes on does what the deferred command means that it carries, and what it
+/// captures carries a command too.
+pub fn resumed_run()
+    ensures runs { ResumedRun }
+{
+    equality_is_tested();
+}
+
+/// A script that `ExecuteScript` runs does what running it means, where each listed script does what
+/// its start means: it begins in its own frame, and at its end the caller goes on behind its call.
+/// So do a name that isn't listed, a target that isn't there, and a script that would run too deep.
+pub fn scripts_execute()
+    ensures execute { ScriptsExecute }
+{}
+
+/// Listed scripts whose units are fine do what their starts mean, whatever they run, and captured
+/// states of theirs do what the deferred commands mean that they carry.
+pub fn listed_scripts_do()
+    ensures run { ListedScriptsDo }
+{
+    equality_is_tested();
+    code_stands();
+}
+
+/// An entry's run does what the entry means: it ends where the entry does, after at least one and at
+/// most 16 instructions for each step; and where the entry wants a step more than it may take, the
+/// run has made an instruction for each step and goes on.
+pub fn entries_do()
+    ensures run { EntriesDo }
+{}
+
+/// Worlds that are alike begin entries that are alike, and stay alike through what entries do beside
+/// the scripts that they run, whatever the stored actions are.
+pub fn entries_stay_alike()
+    ensures alike { EntriesKeepAlike }
+{}

@@ -11,14 +11,18 @@
 //! evaluation has come to some point), `specs/Kept.antt` (where values stand), `specs/Carries.antt`
 //! (which captured states carry which commands), and for expressions, calls and statements by
 //! `specs/Simulation.antt`, `specs/Calling.antt` and `specs/StatementsRun.antt`, for functions and
-//! scripts by `specs/FunctionsRun.antt` and `specs/Starts.antt`. The functions of this crate do
-//! nothing: each is a law, whose contract is proved of the definitions. The page on all of this is
-//! docs/MEANING.md, which also says what isn't proved yet.
+//! scripts by `specs/FunctionsRun.antt` and `specs/Starts.antt`, for commands that were deferred by
+//! `specs/Resumes.antt`. `specs/Executing.antt` has scripts that other scripts run,
+//! `specs/Entries.antt` whole entries, `specs/Listed.antt` the scripts of a play, and
+//! `specs/StayAlike.antt` what entries do beside the scripts that they run. The functions of this
+//! crate do nothing: each is a law, whose contract is proved of the definitions. The page on all of
+//! this is docs/MEANING.md, which also says what isn't proved yet.
 #![tactic(auto)]
 
 mod laws;
 
 pub use laws::{
-    captures_are_carried, engine_calls_run, engine_is_run, expressions_run, functions_run,
-    functions_stand, starts_run, statements_run,
+    captures_are_carried, engine_calls_run, engine_is_run, entries_do, entries_stay_alike,
+    expressions_run, functions_run, functions_stand, listed_scripts_do, resumed_run,
+    scripts_execute, starts_run, statements_run,
 };

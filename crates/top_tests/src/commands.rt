@@ -87,6 +87,10 @@ fn sums(alloc: Global, rt: &impl Abort, hooks: &Hooks) -> Result<(), Fail>
             "0 #0 print 5\nend done clock 0 entries 1 instructions 7\n",
         ),
         (
+            "void main() { PrintInteger(1-2); }",
+            "0 #0 print -1\nend done clock 0 entries 1 instructions 7\n",
+        ),
+        (
             "void main() { PrintInteger(4294967295+2); }",
             "0 #0 print 1\nend done clock 0 entries 1 instructions 7\n",
         ),
@@ -123,14 +127,6 @@ fn refusals(alloc: Global, rt: &impl Abort, hooks: &Hooks) -> Result<(), Fail>
         ("", "refused p.nss 1 0 entry\n"),
         ("#include \"none\"\n", "refused p.nss 2 16 entry\n"),
         ("int a;", "refused p.nss 1 6 entry\n"),
-        (
-            "void main() { PrintInteger(1-2); }",
-            "refused p.nss 1 28 notbuilt\n",
-        ),
-        (
-            "void main() { if (1) if (0) ; else ; }",
-            "refused p.nss 1 14 notbuilt\n",
-        ),
         (
             "void main() { PrintInteger(1++2); }",
             "refused p.nss 1 30 syntax\n",
@@ -201,6 +197,7 @@ fn limits(alloc: Global, rt: &impl Abort, hooks: &Hooks) -> Result<(), Fail>
             b'(',
             257,
             b"".as_slice(),
+            Status::Script,
             "refused p.nss 1 256 nested\n",
         ),
         (
@@ -208,13 +205,15 @@ fn limits(alloc: Global, rt: &impl Abort, hooks: &Hooks) -> Result<(), Fail>
             b'~',
             255,
             b"1; }".as_slice(),
-            "refused p.nss 1 13 notbuilt\n",
+            Status::Done,
+            "end done clock 0 entries 1 instructions 260\n",
         ),
         (
             main,
             b'~',
             256,
             b"1; }".as_slice(),
+            Status::Script,
             "refused p.nss 1 268 nested\n",
         ),
         (
@@ -222,23 +221,25 @@ fn limits(alloc: Global, rt: &impl Abort, hooks: &Hooks) -> Result<(), Fail>
             b';',
             99_994,
             b"}".as_slice(),
-            "refused p.nss 1 13 notbuilt\n",
+            Status::Done,
+            "end done clock 0 entries 1 instructions 3\n",
         ),
         (
             main,
             b';',
             99_995,
             b"}".as_slice(),
+            Status::Script,
             "refused p.nss 1 100008 tokens\n",
         ),
     ];
-    for (front, byte, count, rest, text) in rows {
+    for (front, byte, count, rest, status, text) in rows {
         let source = repeated(alloc, front, byte, count, rest)?;
         assert!(rt;
             plays(
                 alloc,
                 &[("p.nss", source.as_slice())],
-                Status::Script,
+                status,
                 text,
                 hooks
             )?,
@@ -278,8 +279,8 @@ fn headers(alloc: Global, rt: &impl Abort, hooks: &Hooks) -> Result<(), Fail>
         ("int A();\n\"", Status::Script, "refused h.nss 2 9 bad\n"),
         (
             "int PrintInteger(int n);",
-            Status::Script,
-            "refused p.nss 1 14 notbuilt\n",
+            Status::Done,
+            "0 #0 call PrintInteger(5)\nend done clock 0 entries 1 instructions 8\n",
         ),
         ("", Status::Script, "refused p.nss 1 14 unknown\n"),
     ];

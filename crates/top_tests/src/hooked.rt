@@ -3,7 +3,7 @@
 ghost use Rattle.std.specs.Prelude.{◌≤◌, [], IfOk};
 ghost use Rattle.hook_table.specs.Standard.{function_numbered, IsAnswer};
 
-use crate::{commands, files, programs, scripts};
+use crate::{commands, files, plays, programs, scripts};
 use hook_table::{Call, Hooks};
 use nwq_hooks::{all_are_put, call_function, put_hook};
 use nwq_value::{Args, NoMemory, Value};
@@ -27,6 +27,7 @@ fn top_call(rt: HostRuntime) -> Result<(), Fail> {
     all_are_put(&hooks);
     commands::all(alloc, &rt, &hooks)?;
     files::all(alloc, &rt, &hooks)?;
+    plays::all(alloc, &rt, &hooks)?;
     programs::all(alloc, &rt, &hooks)?;
     scripts::all(alloc, &rt, &hooks)?;
     Ok(())

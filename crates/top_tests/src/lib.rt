@@ -13,6 +13,8 @@ mod hooked;
 #[cfg(test)]
 mod parts;
 #[cfg(test)]
+mod plays;
+#[cfg(test)]
 mod programs;
 #[cfg(test)]
 mod scripts;

@@ -1,8 +1,11 @@
 -- What worlds keep through calls.
-use Rattle.std.proofs.Common.{◌≡◌, ◌≤◌, ℕ, Result, Ok, Err, Option, None, Some, slice_get, sym, ap, subst}
+use Rattle.std.proofs.Common.{◌≡◌, ◌≤◌, ℕ, suc, Bool, true, false, cond, List, [], ◌∷◌, drop, arith, Result, Ok, Err, Option, None, Some, slice_get, sym, ap, subst}
+use Rattle.std.specs.List.{AllByRecursion}
 use Rattle.std.specs.Option.{IfSome}
 use Rattle.std.specs.Result.{IfOk, OnErr}
 use Rattle.delay_agenda.specs.declared.entry.Entry.{Entry}
+use Rattle.delay_agenda.specs.Laws.{TakeKeeps}
+use Rattle.delay_agenda.specs.Waiting.{is_turn_of, turn_count}
 use Rattle.nwq_value.specs.Engine.{EngineTable}
 use Rattle.nwq_value.specs.declared.engine.Routine.{Routine}
 use Rattle.nwq_value.specs.declared.memory.NoMemory.{NoMemory}
@@ -11,7 +14,8 @@ use Rattle.engine_rows.specs.Pure.{CellLookup}
 use Rattle.engine_rows.specs.World.{World, count}
 use Rattle.engine_rows.specs.Rows.{Answered, Call}
 use Rattle.engine_rows.specs.Engine.{by_role, by_routine, engine}
-use Rattle.engine_rows.specs.Kept.{IsWorld, IsBegun, BeginKeeps, EngineKeeps}
+use Rattle.engine_rows.specs.Kept.{IsWorld, IsBegun, IsPlaced, BeginKeeps, EngineKeeps}
+use Rattle.engine_rows.specs.Turns.{with_entries}
 use Rattle.world_rows.specs.Begun.{IsBegunAs}
 
 answered : {X : Type 0} → (r : Result (Option Value) NoMemory) (a : Answered X) (w v : World X) → IfOk r (λ value. record { value = value; world = v } ≡ a) → OnErr r (v ≡ w) →
@@ -32,3 +36,26 @@ pub begun_kept : {X : Type 0} → BeginKeeps X → (until : ℕ) (w v : World X)
     IfSome entry (λ e. IsBegun until w (record { entry = e; world = v }))
 begun_kept keeps until w v None world is = tt
 begun_kept keeps until w v (Some e) world is = subst (λ o. IfSome o (IsBegun until w)) is (keeps until w world)
+
+-- ---- an entry that is taken off
+
+all_but_first : {A : Type 0} (P : A → Type 0) (xs : List A) → AllByRecursion P xs → AllByRecursion P (drop 1 xs)
+all_but_first P [] all = tt
+all_but_first P (x ∷ xs) all = all.1
+
+no_more : (b : Bool) (n : ℕ) → n ≤ cond b (suc n) n
+no_more true n = omega arith
+no_more false n = omega arith
+
+fewer_turns : {X : Type 0} (o : ℕ) (es : List (Entry X)) → turn_count o (drop 1 es) ≤ turn_count o es
+fewer_turns o [] = omega arith
+fewer_turns o (e ∷ es) = no_more (is_turn_of o e) (turn_count o es)
+
+pub taken_kept : {X : Type 0} → TakeKeeps X → (w v : World X) → v ≡ with_entries (drop 1 w.agenda.entries) w → IsWorld w → IsWorld v
+taken_kept {X = X} keeps w v is world = subst IsWorld (sym is) (record {
+  counted = world.counted;
+  agenda = keeps w.agenda world.agenda;
+  placed = all_but_first (λ (e : Entry X). IsPlaced (count w) e.kind) w.agenda.entries world.placed;
+  due = all_but_first (λ (e : Entry X). w.clock ≤ e.due) w.agenda.entries world.due;
+  turns = λ o. let few = fewer_turns o w.agenda.entries in let all = world.turns o in omega arith;
+})

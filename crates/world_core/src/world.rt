@@ -41,13 +41,13 @@ pub struct World<X> {
 impl<X> Model for World<X> {
     ghost use Rattle.std.specs.Prelude.{◌≤◌};
     ghost use Rattle.std.specs.Coded.{codes};
-    ghost use Rattle.gff_tree.specs.contracts.tree.Gff as gff;
+    ghost use Rattle.gff_tree.specs.Code.{node_code};
     ghost use Rattle.engine_rows.specs.Kept.{IsWorld};
     ghost use Rattle.world_core.specs.Held.{Held};
 
     ghost Value = { Held X };
 
-    ghost coded = { Prim.hlevel (codes, gff.the_row.coded) };
+    ghost coded = { Prim.hlevel (codes, node_code) };
 
     ghost view = { λ w. record { world = w.parts.world; room = w.room } };
 

@@ -44,12 +44,12 @@ impl<X> Model for Parts<X> {
     ghost use Rattle.std.specs.Prelude.{◌-◌, length};
     ghost use Rattle.std.specs.Vec.{vec_capacity};
     ghost use Rattle.std.specs.Coded.{codes};
-    ghost use Rattle.gff_tree.specs.contracts.tree.Gff as gff;
+    ghost use Rattle.gff_tree.specs.Code.{node_code};
     ghost use Rattle.world_rows.specs.Parts.{PartsView};
 
     ghost Value = { PartsView X };
 
-    ghost coded = { Prim.hlevel (codes, gff.the_row.coded) };
+    ghost coded = { Prim.hlevel (codes, node_code) };
 
     ghost view = { λ p. record {
       world = record {

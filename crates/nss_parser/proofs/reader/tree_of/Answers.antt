@@ -1,10 +1,11 @@
 use Rattle.std.proofs.Common.{ℕ, ◌+◌, ◌-◌, ◌≤◌, length, map, sym, subst, arith, false}
-use Rattle.nss_tree.specs.Reading.{plain_item}
-use Rattle.nss_parser.specs.Sentence.{IsPlace}
+use Rattle.nss_tree.specs.Reading.{plain_item, plain_tree}
+use Rattle.nss_parser.specs.Sentence.{IsPlace, Parses}
 use Rattle.nss_symbols.specs.Cursor.{plain_symbol}
 use Rattle.nss_parser.specs.ReadStatement.{entries, statement}
 use Rattle.nss_parser.specs.ReadUnit.{items}
 use Rattle.nss_parser.proofs.ReaderLemmas.{reads_ok, reads_syntax, reads_deep, got_of, stuck_of, left_of, deep_of}
+use Rattle.nss_parser.proofs.Trees.{each_tree_is_known}
 use Rattle.nss_parser.proofs.reader.tree_of.Goals as goal
 
 pub overflow_sub-passed : goal.overflow_sub-passed
@@ -32,3 +33,10 @@ returns-in-Err-Syntax-clause-refused c =
     c.unit.result c.unit.new.tokens c.in-Err-Syntax.field-0 c.unit.ensures c.in-Err-Syntax.is c.in-Err-Syntax.field-0-is in
     subst (λ (k : ℕ). IsPlace (map plain_symbol c.args.symbols.now) (length c.args.symbols.now - k)) (sym c.left.ensures.count)
     (stuck_of c.args.symbols.now (length c.args.symbols.now + 2) c.new-cursor.result c.unit.new.tokens c.new-cursor.ensures.all (omega arith) stuck)
+
+pub returns-in-Ok-clause-known : goal.returns-in-Ok-clause-known
+returns-in-Ok-clause-known c =
+    let got = reads_ok (map plain_item) (items (length c.args.symbols.now + 2) (entries (length c.args.symbols.now + 2) (statement (length c.args.symbols.now + 2)) false) c.new-cursor.result)
+    c.unit.result c.unit.new.tokens c.in-Ok.items c.unit.ensures c.in-Ok.is in
+    each_tree_is_known (map plain_symbol c.args.symbols.now) _ c.requires.literals
+    (got_of c.args.symbols.now (length c.args.symbols.now + 2) (map plain_item c.in-Ok.items) c.new-cursor.result c.unit.new.tokens c.new-cursor.ensures.all got)

@@ -8,12 +8,13 @@ use Rattle.nss_typing.specs.Sight.{Head, begun, first_types, has_body, is_taken_
 use Rattle.nss_typing.specs.UnitReading.{typed_item, typed_stmts}
 use Rattle.nss_typing.specs.Verdicts.{after_body, after_params, body_faults, body_fine, function_verdict, head, head_verdict, in_body, in_function, item_faults, params_faults, params_fine}
 use Rattle.nss_scopes.specs.Entries.{head_of, meant_of}
-use Rattle.nss_types.specs.Faults.{head_rule_by}
-use Rattle.nss_types.specs.Views.{heads_in, sight_in, typed_head}
-use Rattle.nss_types.proofs.Faults.{kept_append}
+use Rattle.nss_types.specs.Heads.{head_rule_by}
+use Rattle.nss_expressions.specs.Views.{heads_in, sight_in}
+use Rattle.nss_types.specs.Heads.{typed_head}
+use Rattle.nss_expressions.proofs.Faults.{kept_append}
 use Rattle.nss_types.proofs.FunctionLemmas.{function_adds, head_is, seen_after, there_is}
-use Rattle.nss_types.proofs.StatementRows.{scope_left}
-use Rattle.nss_types.proofs.WalkLemmas.{two_least, two_value}
+use Rattle.nss_statements.proofs.StatementRows.{scope_left}
+use Rattle.nss_expressions.proofs.WalkLemmas.{two_least, two_value}
 use Rattle.nss_types.proofs.function.function.Goals as goal
 
 pub returns-in-Ok-clause-value : goal.returns-in-Ok-clause-value

@@ -4,7 +4,7 @@ use Rattle.nss_typing.specs.Reading.{plain}
 use Rattle.nss_typing.specs.Returns.{some_returns}
 use Rattle.nss_typing.specs.Types.{is_void}
 use Rattle.nss_typing.specs.UnitReading.{typed_stmts}
-use Rattle.nss_types.proofs.ReturnLemmas.{mapped_some, or_else}
+use Rattle.nss_statements.proofs.ReturnLemmas.{mapped_some, or_else}
 use Rattle.nss_types.proofs.function.gives.Goals as goal
 
 pub returns-else-is_void : goal.returns-else-is_void

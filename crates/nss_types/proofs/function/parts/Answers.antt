@@ -6,8 +6,8 @@ use Rattle.nss_typing.specs.Rules.{head_rows}
 use Rattle.nss_typing.specs.Sight.{first_types}
 use Rattle.nss_typing.specs.Verdicts.{after_body, body_faults, body_fine, after_params, params_fine}
 use Rattle.nss_scopes.specs.Entries.{meant_of, signature_of}
-use Rattle.nss_types.specs.Faults.{head_rule_by}
-use Rattle.nss_types.specs.Views.{heads_in, sight_in}
+use Rattle.nss_types.specs.Heads.{head_rule_by}
+use Rattle.nss_expressions.specs.Views.{heads_in, sight_in}
 use Rattle.nss_types.proofs.function.parts.Goals as goal
 
 pub returns-in-Ok-body_there-clause-head : goal.returns-in-Ok-body_there-clause-head

@@ -1,10 +1,20 @@
-use Rattle.std.proofs.Common.{List, String, Global, map, string_bytes, subst}
+use Rattle.std.proofs.Common.{List, String, Global, map, drop, string_bytes, sym, subst}
+use Rattle.world_core.specs.Calls.{cells_of}
 use Rattle.nwq_work.specs.Counts.{KeepsBut}
 use Rattle.nwq_top.specs.Words.{form_of}
 use Rattle.nwq_top.specs.Command.{MayWrite}
+use Rattle.nwq_top.specs.Program.{status_numbered}
+use Rattle.nwq_top.proofs.WordLemmas.{same_work}
 use Rattle.nwq_top.proofs.program.nwq_program.Goals as goal
 
 pub returns-clause-names : goal.returns-clause-names
 returns-clause-names g c =
     subst (λ (words : List (String Global)). KeepsBut (MayWrite (form_of (map string_bytes words))) (g.F.Files.contents c.args.files.now) (g.F.Files.contents c.nwq_main-status.new.files))
     c.after_name.ensures c.nwq_main-status.ensures.names
+
+pub returns-clause-does : goal.returns-clause-does
+returns-clause-does g c = λ files_tell sink_tells.
+    same_work (cells_of (map (λ h. h.known) c.args.hooks.now.all.items)) c.after_name.result.now (drop 1 c.args.all.now) c.nwq_main-status.result
+    (status_numbered c.number_of.result) (g.F.Files.contents c.args.files.now) (g.F.Files.contents c.nwq_main-status.new.files)
+    (g.S.Sink.taken c.args.out.now) (g.S.Sink.taken c.nwq_main-status.new.out) c.after_name.ensures (sym c.number_of.ensures.status)
+    (c.nwq_main-status.ensures.does files_tell sink_tells)

@@ -1,9 +1,10 @@
 use Rattle.std.proofs.Common.{◌∙◌, ap}
+use Rattle.gff_tree.specs.Whole.{plain_gff}
 use Rattle.area_tree.proofs.AreaLemmas.{place_of, object_seen}
 use Rattle.area_tree.proofs.area.Area.vars.Goals as goal
 
 pub returns : goal.returns
 returns c =
-    let seen = object_seen c.args.o c.self.inside.tree c.self.inside.objects.items c.args.self.now c.index.result.now c.self.view_is
+    let seen = object_seen c.args.o (plain_gff c.self.inside.tree) c.self.inside.objects.items c.args.self.now c.index.result.now c.self.view_is
     (place_of c.args.o c.self.inside.objects.items c.args.self.now.objects (ap (λ a. a.objects) c.self.view_is) c.requires.first c.requires.within) c.index.ensures in
     record { vars = c.vars.ensures.vars ∙ ap (λ x. x.vars) seen }

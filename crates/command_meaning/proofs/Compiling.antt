@@ -1,0 +1,174 @@
+-- A script that is compiled has a typed unit, of which its file is.
+use Rattle.std.proofs.Common.{◌≡◌, ◌≤◌, ◌⊎◌, inl, inr, ℕ, List, ◌++◌, length, Bool, true, false, nat_lt, Result, Ok, Err, None, subst, ap, refl, arith}
+use Rattle.std.proofs.lemmas.Bool.Decides.{nat_tests}
+use Rattle.std.specs.FinMap as fin_map
+use Rattle.nwq_value.specs.Limits.{file_limit}
+use Rattle.nwq_value.specs.Engine.{EngineTable, IsTable}
+use Rattle.nwq_outside.specs.Outside.{Contents}
+use Rattle.nss_typing.specs.Typed.{TypedUnit}
+use Rattle.nss_typing.specs.Meaning.{TypesUnit}
+use Rattle.nss_include.specs.declared.file.Source.{Source}
+use Rattle.code_emission.specs.Units.{unit_file}
+use Rattle.engine_rows.specs.Pure.{CellLookup}
+use Rattle.nwq_work.specs.declared.status.Status.{Status}
+use Rattle.nwq_work.specs.Refusal.{status_of}
+use Rattle.nwq_work.specs.Work.{Work, Gives, Refused, Ends, Writes, Puts, Finds, then, Stays, Does, Finished}
+use Rattle.nwq_sources.specs.Units.{PlainScript, UnitFate, Whole, Lacks, Exceeds, Faulty, IsUnitFate, whole, unit_by, unit_of}
+use Rattle.nwq_scripts.specs.Typings.{TypingFate, Whole as IsTyped, Faulty as Misfits, IsTypingFate, whole as typed, typing_by, typed_in}
+use Rattle.nwq_scripts.specs.Files.{file_by, file_in, compiled_in, compiled_named}
+use Rattle.nwq_plays.specs.Plays.{plays_file}
+use Rattle.command_meaning.specs.Units.{IsUnitOf}
+use Rattle.command_meaning.specs.Scripts.{HoldBytes, IsScript, ScriptsHaveUnits, EndsCompiling, PlaysScript, ScriptsPlayUnits}
+use Rattle.command_meaning.proofs.Gathered.{unit_known}
+
+-- ---- the unit of a script
+
+gathered : (header : EngineTable) (c : Contents) (name : List ℕ) (u : TypedUnit) → HoldBytes c → (script : PlainScript) → TypesUnit header script.tree u
+    → IsUnitFate (fin_map.get c) name (Whole script) → IsUnitOf header u
+gathered header c name u held script types (whole _ unit nest parses) =
+    let known = unit_known (fin_map.get c) held name script.tokens script.files None unit in
+    record { tokens = _; tree = script.tree; few = known.0; literals = known.1; parses = parses; types = types }
+
+pub scripts_have_units : ScriptsHaveUnits
+scripts_have_units header c name u held h = gathered header c name u held h.script h.types h.is
+
+-- ---- answers
+
+abbrev pub value_or : {A : Type 0} → A → Result A Status → A
+value_or other (Ok a) = a
+value_or other (Err status) = other
+
+-- ---- two parts of a work
+
+-- the first part ended, or it gave a value and the second part was done
+pub record EndsFirst {A B : Type 0} (w : Work A) (c : Contents) (t : List ℕ) (r : Result B Status) (c' : Contents) (t' : List ℕ) : Type 1 where
+  pub status : Status
+  pub is : r ≡ Err status
+  pub does : Does w c t (Err status) c' t'
+
+pub record GoesOn {A B : Type 0} (w : Work A) (f : A → Work B) (c : Contents) (t : List ℕ) (r : Result B Status) (c' : Contents) (t' : List ℕ) : Type 1 where
+  pub value : A
+  pub between : Contents
+  pub taken : List ℕ
+  pub first : Does w c t (Ok value) between taken
+  pub second : Does (f value) between taken r c' t'
+
+pub data Parts {A B : Type 0} (w : Work A) (f : A → Work B) (c : Contents) (t : List ℕ) (r : Result B Status) (c' : Contents) (t' : List ℕ) : Type 1 where
+  ends_first : EndsFirst w c t r c' t' → Parts w f c t r c' t'
+  goes_on : GoesOn w f c t r c' t' → Parts w f c t r c' t'
+
+pub parts : {A B : Type 0} (w : Work A) (f : A → Work B) (c c' : Contents) (t t' : List ℕ) (r : Result B Status) → Does (then w f) c t r c' t' → Parts w f c t r c' t'
+parts (Gives a) f c c' t t' r does = goes_on (record { value = a; between = c; taken = t; first = (inl refl, (refl, refl)); second = does })
+parts (Refused refusal) f c c' t t' r (inl i, s) = ends_first (record { status = status_of refusal; is = i.0; does = (inl (refl, i.1), s) })
+parts (Refused refusal) f c c' t t' (Ok b) (inr cut, s) = absurd cut.0
+parts (Refused refusal) f c c' t t' (Err e) (inr cut, s) = ends_first (record { status = e; is = refl; does = (inr cut, s) })
+parts (Ends status) f c c' t t' r (inl i, s) = ends_first (record { status = status; is = i; does = (inl refl, s) })
+parts (Ends status) f c c' t t' (Ok b) (inr cut, s) = absurd cut
+parts (Ends status) f c c' t t' (Err e) (inr cut, s) = ends_first (record { status = e; is = refl; does = (inr cut, s) })
+parts (Writes name bytes rest) f c c' t t' (Ok b) (inl cut) = absurd cut.0
+parts (Writes name bytes rest) f c c' t t' (Err e) (inl cut) = ends_first (record { status = e; is = refl; does = inl cut })
+parts (Writes name bytes rest) f c c' t t' r (inr does) = written (parts rest f (fin_map.insert c name bytes) c' t t' r does)
+  where
+    written : Parts rest f (fin_map.insert c name bytes) t r c' t' → Parts (Writes name bytes rest) f c t r c' t'
+    written (ends_first h) = ends_first (record { status = h.status; is = h.is; does = inr h.does })
+    written (goes_on h) = goes_on (record { value = h.value; between = h.between; taken = h.taken; first = inr h.first; second = h.second })
+parts (Puts text rest) f c c' t t' (Ok b) (inl cut) = absurd cut.0
+parts (Puts text rest) f c c' t t' (Err e) (inl cut) = ends_first (record { status = e; is = refl; does = inl cut })
+parts (Puts text rest) f c c' t t' r (inr does) = put (parts rest f c c' (t ++ text) t' r does)
+  where
+    put : Parts rest f c (t ++ text) r c' t' → Parts (Puts text rest) f c t r c' t'
+    put (ends_first h) = ends_first (record { status = h.status; is = h.is; does = inr h.does })
+    put (goes_on h) = goes_on (record { value = h.value; between = h.between; taken = h.taken; first = inr h.first; second = h.second })
+parts (Finds P next) f c c' t t' (Ok b) (inl cut) = absurd cut.0
+parts (Finds P next) f c c' t t' (Err e) (inl cut) = ends_first (record { status = e; is = refl; does = inl cut })
+parts (Finds P next) f c c' t t' r (inr h) = found (parts (next h.found) f c c' t t' r h.goes)
+  where
+    found : Parts (next h.found) f c t r c' t' → Parts (Finds P next) f c t r c' t'
+    found (ends_first k) = ends_first (record { status = k.status; is = k.is; does = inr (record { found = h.found; is = h.is; goes = k.does }) })
+    found (goes_on k) = goes_on (record {
+      value = k.value;
+      between = k.between;
+      taken = k.taken;
+      first = inr (record { found = h.found; is = h.is; goes = k.first });
+      second = k.second;
+    })
+
+-- ---- a script's file
+
+pub record Compiled (header : EngineTable) (c : Contents) (name bytes : List ℕ) : Type 0 where
+  pub unit : TypedUnit
+  pub is : IsScript header c name unit
+  pub bytes_are : bytes ≡ unit_file unit
+  pub small : length (unit_file unit) ≤ file_limit
+
+module _ (header : EngineTable) (c : Contents) (name bytes : List ℕ) (t : List ℕ) (c' : Contents) (t' : List ℕ) where
+  abbrev Makes : Type 0
+  Makes = Compiled header c name bytes × Stays c c' t t'
+
+  made_small : (files : List Source) (u : TypedUnit) (script : PlainScript) → IsUnitFate (fin_map.get c) name (Whole script) → TypesUnit header script.tree u
+      → (b : Bool) → nat_lt file_limit (length (unit_file u)) ≡ b → Does (file_by files b (unit_file u)) c t (Ok bytes) c' t' → Makes
+  made_small files u script is types true large (inl refused, s) = absurd cc
+  made_small files u script is types true large (inr cut, s) = absurd cut.0
+  made_small files u script is types false small (inl gives, s) =
+      (record { unit = u; is = record { script = script; is = is; types = types }; bytes_are = ap (value_or bytes) gives; small = grind (arith, nat_tests) }, s)
+  made_small files u script is types false small (inr cut, s) = absurd cut
+
+  made_file : (files : List Source) (u : TypedUnit) (script : PlainScript) → IsUnitFate (fin_map.get c) name (Whole script) → TypesUnit header script.tree u
+      → Does (file_in files u) c t (Ok bytes) c' t' → Makes
+  unfolding file_in
+  made_file files u script is types does = made_small files u script is types (nat_lt file_limit (length (unit_file u))) refl does
+
+  made_typed : (script : PlainScript) → IsUnitFate (fin_map.get c) name (Whole script) → (fate : TypingFate) → IsTypingFate header script.tree fate
+      → Does (then (typing_by script fate) (file_in script.files)) c t (Ok bytes) c' t' → Makes
+  made_typed script is (IsTyped u) (typed _ types) does = made_file script.files u script is types does
+  made_typed script is (Misfits fault) fits (inl refused, s) = absurd cc
+  made_typed script is (Misfits fault) fits (inr cut, s) = absurd cut.0
+
+  made_whole : (script : PlainScript) → IsUnitFate (fin_map.get c) name (Whole script) → Does (compiled_in header script) c t (Ok bytes) c' t' → Makes
+  unfolding compiled_in typed_in
+  made_whole script is (inl cut) = absurd cut.0
+  made_whole script is (inr h) = made_typed script is h.found h.is h.goes
+
+  made_by : (fate : UnitFate) → IsUnitFate (fin_map.get c) name fate → Does (then (unit_by fate) (compiled_in header)) c t (Ok bytes) c' t' → Makes
+  made_by (Whole script) is does = made_whole script is does
+  made_by (Lacks file) is (inl refused, s) = absurd cc
+  made_by (Lacks file) is (inr cut, s) = absurd cut.0
+  made_by (Exceeds file) is (inl refused, s) = absurd cc
+  made_by (Exceeds file) is (inr cut, s) = absurd cut.0
+  made_by (Faulty why spot) is (inl refused, s) = absurd cc
+  made_by (Faulty why spot) is (inr cut, s) = absurd cut.0
+
+  pub compiled : Does (compiled_named header name) c t (Ok bytes) c' t' → Makes
+  unfolding compiled_named unit_of
+  compiled (inl cut) = absurd cut.0
+  compiled (inr h) = made_by h.found h.is h.goes
+
+-- ---- a script that is played
+
+module _ (cell : CellLookup) (header : EngineTable) (name file : List ℕ) (c : Contents) (t : List ℕ) (r : Result Finished Status) (c' : Contents) (t' : List ℕ)
+    (table : IsTable header) (held : HoldBytes c) where
+  play_made : (between : Contents) (taken bytes : List ℕ) → Compiled header c name bytes → Stays c between t taken
+      → Does (plays_file cell header name file bytes) between taken r c' t' → PlaysScript cell header name c t r c' t'
+  play_made between taken bytes made stays does = record {
+    unit = made.unit;
+    script = made.is;
+    plays = record {
+      table = table;
+      unit = scripts_have_units header c name made.unit held made.is;
+      small = made.small;
+      file = file;
+      does = subst (λ (b : List ℕ). Does (plays_file cell header name file b) c t r c' t') made.bytes_are
+          (subst (λ (d : Contents). Does (plays_file cell header name file bytes) d t r c' t') stays.0
+          (subst (λ (k : List ℕ). Does (plays_file cell header name file bytes) between k r c' t') stays.1 does));
+    };
+  }
+
+  play_parts : Parts (compiled_named header name) (plays_file cell header name file) c t r c' t' → EndsCompiling header name c t r c' t' ⊎ PlaysScript cell header name c t r c' t'
+  play_parts (ends_first h) = inl (record { status = h.status; is = h.is; does = h.does })
+  play_parts (goes_on h) =
+      let made = compiled header c name h.value t h.between h.taken h.first in
+      inr (play_made h.between h.taken h.value made.0 made.1 h.second)
+
+pub scripts_play_units : ScriptsPlayUnits
+scripts_play_units cell header name file c t r c' t' table held does =
+    play_parts cell header name file c t r c' t' table held (parts (compiled_named header name) (plays_file cell header name file) c c' t t' r does)

@@ -1,0 +1,62 @@
+-- The file of a typed unit loads and passes the checker, so its play is that of its code.
+use Rattle.std.proofs.Common.{◌≡◌, ◌≤◌, inl, inr, ℕ, List, Result, Ok, Err, subst, refl}
+use Rattle.nwq_value.specs.Limits.{file_limit}
+use Rattle.nwq_value.specs.Engine.{EngineTable}
+use Rattle.nwq_outside.specs.Outside.{Contents}
+use Rattle.ncs_code.specs.Laws.{SizeLaws}
+use Rattle.nss_typing.specs.Typed.{TypedUnit}
+use Rattle.code_emission.specs.Units.{unit_file}
+use Rattle.code_emission.specs.Laws.{FileIsCode}
+use Rattle.emitted_shapes.specs.Laws.{UnitsAreWellStacked}
+use Rattle.typed_bounds.specs.Laws.{EachTypedUnitHasCode}
+use Rattle.nwq_files.specs.Codes.{Whole, whole, code_by, code_in}
+use Rattle.nwq_checks.specs.Checks.{CheckFate, Passes as PassesCheck, Unstacked, IsCheckFate, passes, unstacked, check_by, checked_in}
+use Rattle.nwq_work.specs.declared.status.Status.{Status}
+use Rattle.nwq_work.specs.Work.{Work, then, Stays, IsCut, Does, Finished}
+use Rattle.nwq_work.specs.Parts.{cut_here}
+use Rattle.nwq_work.specs.Outcomes.{IsSure}
+use Rattle.nwq_plays.specs.Plays.{loaded_in, plays_code, plays_file}
+use Rattle.nwq_plays.specs.Laws.{SurePlays}
+use Rattle.engine_rows.specs.Pure.{CellLookup}
+use Rattle.command_meaning.specs.Units.{code_of, Passes, UnitsAreWellTyped, UnitsPass}
+use Rattle.command_meaning.specs.Files.{FilesPlayTheirCode}
+
+-- ---- the file
+
+pub units_pass : UnitsAreWellTyped → UnitsAreWellStacked → EachTypedUnitHasCode → FileIsCode → SizeLaws → UnitsPass
+units_pass typed stacked bounds code sizes header u table unit small =
+    let has = bounds unit.tokens header unit.tree u unit.few unit.literals table unit.parses unit.types in
+    record {
+      loads = code u has.bounded (subst (λ n. n ≤ file_limit) (sizes.file (code_of u)) small);
+      stacked = stacked header u has.bounded (typed header u table unit);
+    }
+
+-- ---- its play
+
+stays_cut : {A : Type 0} (w : Work A) (r : Result A Status) (c c' : Contents) (t t' : List ℕ) → IsCut r → Stays c c' t t' → Does w c t r c' t'
+stays_cut w (Ok a) c c' t t' cut s = absurd cut
+stays_cut w (Err e) c c' t t' cut s = cut_here w e c c' t t' cut s.0 s.1
+
+module _ (sure : SurePlays) (cell : CellLookup) (header : EngineTable) (name file : List ℕ) (u : TypedUnit) (pass : Passes header u)
+    (c : Contents) (t : List ℕ) (r : Result Finished Status) (c' : Contents) (t' : List ℕ) where
+  by_check : (fate : CheckFate) → IsCheckFate header (code_of u) fate → Does (then (check_by file (code_of u) fate) (plays_code cell header name)) c t r c' t'
+      → Does (plays_code cell header name (code_of u)) c t r c' t'
+  by_check PassesCheck (passes stacked) goes = goes
+  by_check Unstacked (unstacked none) goes = absurd (none pass.stacked)
+
+  checked_plays : Does (then (checked_in header file (code_of u)) (plays_code cell header name)) c t r c' t' → Does (plays_code cell header name (code_of u)) c t r c' t'
+  unfolding checked_in
+  checked_plays (inl cut) = stays_cut (plays_code cell header name (code_of u)) r c c' t t' cut.0 cut.1
+  checked_plays (inr h) = by_check h.found h.is h.goes
+
+  pub file_plays : Does (plays_file cell header name file (unit_file u)) c t r c' t' → Does (plays_code cell header name (code_of u)) c t r c' t'
+  unfolding plays_file loaded_in code_in
+  file_plays (inl cut) = stays_cut (plays_code cell header name (code_of u)) r c c' t t' cut.0 cut.1
+  file_plays (inr h) =
+      let one : IsSure (plays_file cell header name file (unit_file u)) = sure cell header name file (unit_file u) in
+      let is : h.found ≡ Whole (code_of u) = one.0 c h.found (Whole (code_of u)) h.is (whole (code_of u) pass.loads refl) in
+      checked_plays (subst (λ fate. Does (then (then (code_by file fate) (checked_in header file)) (plays_code cell header name)) c t r c' t') is h.goes)
+
+pub files_play_their_code : UnitsPass → SurePlays → FilesPlayTheirCode
+files_play_their_code pass sure cell header name u c t r c' t' h =
+    file_plays sure cell header name h.file u (pass header u h.table h.unit h.small) c t r c' t' h.does

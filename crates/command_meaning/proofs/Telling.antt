@@ -1,0 +1,45 @@
+-- What a play that wasn't cut has told.
+use Rattle.std.proofs.Common.{◌≡◌, inl, inr, ℕ, List, ◌++◌, Result, Err, ◌∙◌, append_assoc}
+use Rattle.nwq_outside.specs.Outside.{Contents}
+use Rattle.saved_state.specs.declared.saved.Saved.{Saved}
+use Rattle.engine_rows.specs.Trace.{trace_text}
+use Rattle.machine_step.specs.Machine.{Script}
+use Rattle.play_steps.specs.Plays.{PlayEnd, Done, OutOfEntries, StoppedInside, Paused, Played}
+use Rattle.module_player.specs.CodePlays.{code_end_text}
+use Rattle.nwq_work.specs.declared.status.Status.{Status}
+use Rattle.nwq_work.specs.declared.status.Status.TheVariants.{Code}
+use Rattle.nwq_work.specs.Work.{IsCut, Does, Finished}
+use Rattle.nwq_plays.specs.Plays.{ends_by, tells}
+use Rattle.command_meaning.specs.Runs.{answer_by}
+
+ended : (e : PlayEnd) (c c' : Contents) (t t' : List ℕ) (r : Result Finished Status) → (IsCut r → ⊥) → Does (ends_by e) c t r c' t'
+    → (r ≡ answer_by e) × ((c' ≡ c) × (t' ≡ t))
+ended Done c c' t t' r whole (inl is, s) = (is, s)
+ended OutOfEntries c c' t t' r whole (inl is, s) = (is, s)
+ended StoppedInside c c' t t' r whole (inl is, s) = (is, s)
+ended Paused c c' t t' r whole (inl is, s) = (is, s)
+ended Done c c' t t' r whole (inr cut, s) = absurd (whole cut)
+ended OutOfEntries c c' t t' r whole (inr cut, s) = absurd (whole cut)
+ended StoppedInside c c' t t' r whole (inr cut, s) = absurd (whole cut)
+ended Paused c c' t t' r whole (inr cut, s) = absurd (whole cut)
+
+-- its trace and the text of its end were put, and its answer is as it ends
+pub record Told (scripts : List Script) (p : Played Saved) (c : Contents) (t : List ℕ) (r : Result Finished Status) (c' : Contents) (t' : List ℕ) : Type 0 where
+  pub taken : t' ≡ t ++ (trace_text p.last.trace ++ code_end_text scripts p)
+  pub answer : r ≡ answer_by p.ending
+  pub contents : c' ≡ c
+
+pub told : (scripts : List Script) (p : Played Saved) (c : Contents) (t : List ℕ) (r : Result Finished Status) (c' : Contents) (t' : List ℕ) → (IsCut r → ⊥)
+    → Does (tells scripts p) c t r c' t' → Told scripts p c t r c' t'
+told scripts p c t r c' t' whole (inl cut) = absurd (whole cut.0)
+told scripts p c t r c' t' whole (inr (inl cut)) = absurd (whole cut.0)
+told scripts p c t r c' t' whole (inr (inr goes)) =
+    let e = ended p.ending c c' ((t ++ trace_text p.last.trace) ++ code_end_text scripts p) t' r whole goes in
+    record { taken = e.1.1 ∙ append_assoc t (trace_text p.last.trace) (code_end_text scripts p); answer = e.0; contents = e.1.0 }
+
+-- no play ends with the status of refused code
+pub not_refused : (e : PlayEnd) → Err Code ≡ answer_by e → ⊥
+not_refused Done is = absurd cc
+not_refused OutOfEntries is = absurd cc
+not_refused StoppedInside is = absurd cc
+not_refused Paused is = absurd cc

@@ -1,0 +1,4 @@
+pub mod Units
+pub mod Files
+pub mod Runs
+pub mod Scripts

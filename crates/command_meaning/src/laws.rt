@@ -1,0 +1,85 @@
+//! Laws about the work of commands, each the contract of a function that does nothing.
+ghost use Rattle.command_meaning.specs.Files.{FilesAreNotRefused, FilesPlayTheirCode};
+ghost use Rattle.command_meaning.specs.Runs.{FewStepsEndAsMeant, StoppedRunsBeginAsMeant};
+ghost use Rattle.command_meaning.specs.Runs.{UnstoppedRunsEndAsMeant};
+ghost use Rattle.command_meaning.specs.Scripts.{ScriptsHaveUnits, ScriptsPlayUnits};
+ghost use Rattle.command_meaning.specs.Units.{TablesAnswerInTypes, UnitsAreWellTyped, UnitsPass};
+
+use code_emission::laws::file_is_code;
+use emitted_shapes::{typed_units_fit, units_are_well_stacked};
+use ncs_code::size_laws;
+use nwq_plays::laws::one_code;
+use play_meaning::{code_plays_end, end_texts_agree, source_plays_end, typed_scripts_are_ready};
+use saved_state::Saved;
+use shape_tables::tables_type_execute_script;
+use source_meaning::entries_stay_alike;
+use typed_bounds::laws::typed_units_have_code;
+use typed_units::{entries_are_plain, functions_are_placed, globals_are_fine};
+use world_core::answers_have_types;
+
+/// The values of a typed unit have the types that stand at their nodes, as the shapes of its code
+/// need it.
+pub fn units_are_well_typed()
+    ensures typed { UnitsAreWellTyped }
+{
+    functions_are_placed();
+    globals_are_fine();
+    entries_are_plain();
+    typed_units_fit();
+}
+
+/// The file of a typed unit is one that loads, with the instructions of its code, if it is not too
+/// large, and these are well stacked under its header.
+pub fn units_pass()
+    ensures pass { UnitsPass }
+{
+    units_are_well_typed();
+    units_are_well_stacked();
+    typed_units_have_code();
+    file_is_code();
+    size_laws();
+}
+
+/// What comes of the file of a typed unit as it is loaded, checked and played comes of the play of
+/// its code: the file is never refused.
+pub fn files_play_their_code()
+    ensures plays { FilesPlayTheirCode }
+    ensures passes { FilesAreNotRefused }
+{
+    units_pass();
+    one_code();
+}
+
+/// In each table of a header the engine's answers have the routines' types.
+pub fn tables_answer_in_types()
+    ensures typed { TablesAnswerInTypes }
+{
+    answers_have_types::<Saved>();
+    tables_type_execute_script();
+}
+
+/// The play of a typed unit's file is told as its source means, with the end that the source has:
+/// where each entry of the source ends in 8,192 steps, and in any case where no entry of the code
+/// was stopped. Where one was, exactly as many instructions were made in it as an entry may take,
+/// and the lines told are a beginning of those that the source tells.
+pub fn runs_end_as_meant()
+    ensures few { FewStepsEndAsMeant }
+    ensures unstopped { UnstoppedRunsEndAsMeant }
+    ensures stopped { StoppedRunsBeginAsMeant }
+{
+    files_play_their_code();
+    tables_answer_in_types();
+    typed_scripts_are_ready();
+    source_plays_end();
+    code_plays_end();
+    end_texts_agree();
+    entries_stay_alike();
+}
+
+/// The unit of a script has at most 100,000 tokens, each literal of which has a value, where the
+/// files hold bytes. A script that is compiled and played ends as it is compiled, or its unit's
+/// file is played.
+pub fn scripts_play_units()
+    ensures units { ScriptsHaveUnits }
+    ensures plays { ScriptsPlayUnits }
+{}

@@ -1,0 +1,10 @@
+mod Walks
+mod Cells
+mod Ops
+mod Parts
+mod Turns
+mod Expressions
+mod Statements
+mod Units
+mod Examples
+mod Typing

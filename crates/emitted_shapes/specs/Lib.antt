@@ -1,0 +1,4 @@
+pub mod Spots
+pub mod Table
+pub mod WellTyped
+pub mod Laws

@@ -1,0 +1,4 @@
+pub mod Faults
+pub mod ArgumentLemmas
+pub mod WalkLemmas
+pub mod RowLemmas

@@ -1,0 +1,90 @@
+-- A loop over the parts of a node, each walked in what the ones before it leave in sight.
+use Rattle.std.proofs.Common.{◌≡◌, ℕ, ◌+◌, ◌<◌, ◌≤◌, List, [], ◌∷◌, ◌++◌, length, map, drop, get_or, Option, None, Some, refl, sym, ap, ◌∙◌}
+use Rattle.std.proofs.lemmas.List.{at_drop_more, at_drop_all}
+use Rattle.std.specs.Option.{option_map}
+use Rattle.nss_typing.specs.declared.fault.Fault.{Fault}
+use Rattle.nss_typing.specs.Nodes.{kept}
+use Rattle.nss_typing.specs.Verdicts.{one_more}
+use Rattle.nss_expressions.specs.Rows.{and_one, with_rest}
+use Rattle.nss_expressions.proofs.Faults.{kept_append}
+
+-- C is what is in sight, R a part of the tree, T what code answers, X and XS what is typed: one, and several.
+pub record RowLaws {C R T X XS : Type 0} (V : Option (List T) → Option XS) (v : Option T → Option X) (more : Option X → Option XS → Option XS)
+    (behind : Option XS → Option XS → Option XS) (after : C → R → C) (one : C → R → Option X) (own : C → R → List Fault)
+    (Fine : C → List R → Option XS) (Faults : C → List R → List Fault) (After : C → List R → C) : Type 0 where
+  pub begin : (rest : Option XS) → behind (V (Some [])) rest ≡ rest
+  pub step : (all : Option (List T)) (x : Option T) (rest : Option XS) → behind (V (and_one all x)) rest ≡ behind (V all) (more (v x) rest)
+  pub end : (all : Option (List T)) (c : C) → behind (V all) (Fine c []) ≡ V all
+  pub fine_more : (c : C) (r : R) (rs : List R) → Fine c (r ∷ rs) ≡ more (one c r) (Fine (after c r) rs)
+  pub faults_more : (c : C) (r : R) (rs : List R) → Faults c (r ∷ rs) ≡ own c r ++ Faults (after c r) rs
+  pub faults_none : (c : C) → Faults c [] ≡ []
+  pub after_more : (c : C) (r : R) (rs : List R) → After c (r ∷ rs) ≡ After (after c r) rs
+  pub after_none : (c : C) → After c [] ≡ c
+
+module _ {C R T X XS : Type 0} {V : Option (List T) → Option XS} {v : Option T → Option X} {more : Option X → Option XS → Option XS}
+    {behind : Option XS → Option XS → Option XS} {after : C → R → C} {one : C → R → Option X} {own : C → R → List Fault}
+    {Fine : C → List R → Option XS} {Faults : C → List R → List Fault} {After : C → List R → C} (laws : RowLaws V v more behind after one own Fine Faults After)
+    (rs : List R) (i : ℕ) where
+  module _ (d e : R) (lt : i < length rs) (is : e ≡ get_or rs i d) (c c' : C) (next : c' ≡ after c e) where
+    fine_at : Fine c (drop i rs) ≡ more (one c e) (Fine (after c e) (drop (i + 1) rs))
+    fine_at = at_drop_more (Fine c) rs i d lt ∙ (ap (λ y. Fine c (y ∷ drop (i + 1) rs)) (sym is) ∙ laws.fine_more c e (drop (i + 1) rs))
+
+    faults_at : Faults c (drop i rs) ≡ own c e ++ Faults (after c e) (drop (i + 1) rs)
+    faults_at = at_drop_more (Faults c) rs i d lt ∙ (ap (λ y. Faults c (y ∷ drop (i + 1) rs)) (sym is) ∙ laws.faults_more c e (drop (i + 1) rs))
+
+    after_at : After c (drop i rs) ≡ After (after c e) (drop (i + 1) rs)
+    after_at = at_drop_more (After c) rs i d lt ∙ (ap (λ y. After c (y ∷ drop (i + 1) rs)) (sym is) ∙ laws.after_more c e (drop (i + 1) rs))
+
+    pub row_value : (all all' : Option (List T)) (x : Option T) (whole : Option XS) → v x ≡ one c e → all' ≡ and_one all x
+        → behind (V all) (Fine c (drop i rs)) ≡ whole → behind (V all') (Fine c' (drop (i + 1) rs)) ≡ whole
+    row_value all all' x whole typed added so_far =
+        ap (λ a. behind (V a) (Fine c' (drop (i + 1) rs))) added
+        ∙ (ap (λ k. behind (V (and_one all x)) (Fine k (drop (i + 1) rs))) next
+        ∙ (laws.step all x (Fine (after c e) (drop (i + 1) rs))
+        ∙ (ap (λ o. behind (V all) (more o (Fine (after c e) (drop (i + 1) rs)))) typed
+        ∙ (ap (behind (V all)) (sym fine_at) ∙ so_far))))
+
+    pub row_least : (l l' whole : Option Fault) → l' ≡ kept l (own c e) → kept l (Faults c (drop i rs)) ≡ whole → kept l' (Faults c' (drop (i + 1) rs)) ≡ whole
+    row_least l l' whole walked so_far =
+        ap (λ k. kept k (Faults c' (drop (i + 1) rs))) walked
+        ∙ (ap (λ k. kept (kept l (own c e)) (Faults k (drop (i + 1) rs))) next
+        ∙ (sym (kept_append l (own c e) (Faults (after c e) (drop (i + 1) rs))) ∙ (ap (kept l) (sym faults_at) ∙ so_far)))
+
+    pub row_sight : (whole : C) → After c (drop i rs) ≡ whole → After c' (drop (i + 1) rs) ≡ whole
+    row_sight whole so_far = ap (λ k. After k (drop (i + 1) rs)) next ∙ (sym after_at ∙ so_far)
+
+  module _ (le : length rs ≤ i) (c : C) where
+    pub row_end_value : (all : Option (List T)) (whole : Option XS) → behind (V all) (Fine c (drop i rs)) ≡ whole → V all ≡ whole
+    row_end_value all whole so_far = sym (laws.end all c) ∙ (ap (behind (V all)) (sym (at_drop_all (Fine c) rs i le)) ∙ so_far)
+
+    pub row_end_least : (l whole : Option Fault) → kept l (Faults c (drop i rs)) ≡ whole → l ≡ whole
+    row_end_least l whole so_far = ap (kept l) (sym (laws.faults_none c) ∙ sym (at_drop_all (Faults c) rs i le)) ∙ so_far
+
+    pub row_end_sight : (whole : C) → After c (drop i rs) ≡ whole → c ≡ whole
+    row_end_sight whole so_far = sym (laws.after_none c) ∙ (sym (at_drop_all (After c) rs i le) ∙ so_far)
+
+-- ---- lists, each part seen through a function
+
+module _ {T X : Type 0} (f : T → X) where
+  appended_one : (xs : List T) (x : T) (ys : List X) → map f (xs ++ x ∷ []) ++ ys ≡ map f xs ++ f x ∷ ys
+  appended_one [] x ys = refl
+  appended_one (z ∷ xs) x ys = ap (λ l. f z ∷ l) (appended_one xs x ys)
+
+  appended_none : (xs : List T) → map f xs ++ [] ≡ map f xs
+  appended_none [] = refl
+  appended_none (x ∷ xs) = ap (λ l. f x ∷ l) (appended_none xs)
+
+  pub list_begin : (rest : Option (List X)) → with_rest (option_map (map f) (Some [])) rest ≡ rest
+  list_begin None = refl
+  list_begin (Some ys) = refl
+
+  pub list_step : (all : Option (List T)) (x : Option T) (rest : Option (List X))
+      → with_rest (option_map (map f) (and_one all x)) rest ≡ with_rest (option_map (map f) all) (one_more (option_map f x) rest)
+  list_step None x rest = refl
+  list_step (Some xs) None rest = refl
+  list_step (Some xs) (Some x) None = refl
+  list_step (Some xs) (Some x) (Some ys) = ap Some (appended_one xs x ys)
+
+  pub list_end : (all : Option (List T)) → with_rest (option_map (map f) all) (Some []) ≡ option_map (map f) all
+  list_end None = refl
+  list_end (Some xs) = ap Some (appended_none xs)

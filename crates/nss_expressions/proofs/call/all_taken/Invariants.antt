@@ -1,0 +1,7 @@
+use Rattle.std.proofs.Common.{◌≡◌, drop}
+use Rattle.nss_typing.specs.Reading.{plain_all}
+use Rattle.nss_typing.specs.Rules.{all_taken}
+use Rattle.nss_expressions.proofs.call.all_taken.Given as goal
+
+abbrev pub invariant-loop-x : goal.invariant-loop-x
+invariant-loop-x l = all_taken (plain_all (drop l.x-index l.xs)) l.rest ≡ all_taken (plain_all l.xs) l.params

@@ -1,0 +1,5 @@
+pub mod NameRows
+pub mod Judged
+pub mod StatementRows
+pub mod SameSight
+pub mod ReturnLemmas

@@ -1,0 +1,11 @@
+use Rattle.std.proofs.Common.{◌∙◌, ap}
+use Rattle.nss_tree.specs.Reading.{plain_names}
+use Rattle.nss_typing.specs.Sight.{declaration_seen}
+use Rattle.nss_typing.specs.Verdicts.{after_names}
+use Rattle.nss_expressions.specs.Views.{sight_in}
+use Rattle.nss_statements.proofs.statement.declaration.Goals as goal
+
+pub returns-clause-sight : goal.returns-clause-sight
+returns-clause-sight c =
+    c.see_declaration.ensures.seen c.args.given.now.table.now
+    ∙ ap declaration_seen (c.in_ok-xs.ensures.sight ∙ ap (λ t. after_names (sight_in c.args.given.now c.args.c.now) t (plain_names c.args.ds.now)) c.line_type-ty.ensures.value)

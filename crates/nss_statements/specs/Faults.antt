@@ -1,0 +1,27 @@
+-- The fault of a node whose parts are typed.
+use Rattle.std.specs.Prelude.{ℕ, Bool, not, ◌&&◌, Option, None, Some, if◌then◌else◌}
+use Rattle.nss_tree.specs.Statements as tree
+use Rattle.nss_typing.specs.declared.fault.FaultKind.{FaultKind}
+use Rattle.nss_typing.specs.declared.fault.FaultKind.TheVariants.{Mismatch, Cells}
+use Rattle.nss_typing.specs.Nodes.{Rows, row, no_row}
+use Rattle.nss_typing.specs.Rules.{when}
+use Rattle.nss_typing.specs.Types.{is_int}
+use Rattle.nss_typing.specs.Typed.{TypedExpr, TypedStmt, TypedStmts, type_of}
+
+-- of this kind, unless its rule fits
+abbrev pub fault_unless : Bool → FaultKind → Option FaultKind
+fault_unless fits k = if fits then None else Some k
+
+-- a switch, where it is known whether its value's cell passes the limit
+abbrev pub switch_rows_by : Bool → TypedExpr × TypedStmts → Rows
+switch_rows_by crosses p = row Mismatch (not (is_int (type_of p.0))) (row Cells crosses no_row)
+
+abbrev pub switch_rule_by : Bool → ℕ → TypedExpr × TypedStmts → Option TypedStmt
+switch_rule_by crosses n p = when (is_int (type_of p.0) && not crosses) (tree.switch n p.0 p.1)
+
+-- a `break` and a `continue`, where it is known whether one may stand here
+abbrev pub break_rule_by : Bool → ℕ → Unit {0} → Option TypedStmt
+break_rule_by may_stand n u = when may_stand (tree.break_off n)
+
+abbrev pub continue_rule_by : Bool → ℕ → Unit {0} → Option TypedStmt
+continue_rule_by may_stand n u = when may_stand (tree.continue_on n)

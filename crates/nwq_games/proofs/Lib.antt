@@ -1,0 +1,10 @@
+mod BeginLemmas
+mod FileLemmas
+mod ObjectLemmas
+mod OneGame
+mod PlayLemmas
+mod Steps
+mod StopLemmas
+mod TellLemmas
+mod WorldLemmas
+mod Worked

@@ -1,0 +1,24 @@
+use Rattle.std.proofs.Common.{map}
+use Rattle.world_core.specs.Calls.{cells_of}
+use Rattle.ncs_machine.specs.Host.{scripts_of}
+use Rattle.nwq_games.specs.Games.{played}
+use Rattle.nwq_work.specs.Counts.{Counted}
+use Rattle.nwq_games.proofs.PlayLemmas.{trace_whole}
+use Rattle.nwq_games.proofs.TellLemmas.{counted_on}
+use Rattle.nwq_games.proofs.play.play_world.Goals as goal
+
+pub returns-in-Ok-clause-does : goal.returns-in-Ok-clause-does
+returns-in-Ok-clause-does g c = λ files_tell sink_tells.
+    let p = played (cells_of (map (λ h. h.known) c.args.hooks.now.all.items)) c.args.table.now c.args.plan.now (scripts_of c.args.scripts.now) c.args.world.world in
+    trace_whole c.args.to.now (scripts_of c.args.scripts.now) p (g.F.Files.contents c.args.files.now) (g.F.Files.contents c.tell_end.new.files)
+    (g.S.Sink.taken c.args.out.now) (g.S.Sink.taken c.play_out.new.out) c.tell_end.result (g.S.Sink.taken c.tell_end.new.out) (c.in-Ok.ensures.trace sink_tells)
+    (c.tell_end.ensures.does files_tell sink_tells p c.in-Ok.ensures.ending)
+
+pub returns-in-Ok-clause-counts : goal.returns-in-Ok-clause-counts
+returns-in-Ok-clause-counts g c =
+    let faults = g.F.Files.faults c.args.files.now in
+    let absences = g.F.Files.absences c.args.files.now in
+    let longs = g.F.Files.longs c.args.files.now in
+    counted_on c.tell_end.result (Counted faults absences longs (g.S.Sink.faults c.args.out.now)) (Counted faults absences longs (g.S.Sink.faults c.play_out.new.out))
+    (Counted (g.F.Files.faults c.tell_end.new.files) (g.F.Files.absences c.tell_end.new.files) (g.F.Files.longs c.tell_end.new.files) (g.S.Sink.faults c.tell_end.new.out))
+    (c.in-Ok.ensures.counts faults absences longs) c.tell_end.ensures.counts

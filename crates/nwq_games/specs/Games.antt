@@ -1,0 +1,64 @@
+-- The play of a plan: the files that it needs are read, scripts are listed, and what the play comes to is told and written.
+use Rattle.std.specs.Prelude.{ℕ, List}
+use Rattle.nwq_value.specs.Engine.{EngineTable}
+use Rattle.area_tree.specs.Area.{PlainArea, tree_back}
+use Rattle.plan_text.specs.declared.plan.Plan.{Plan}
+use Rattle.saved_state.specs.declared.saved.Saved.{Saved}
+use Rattle.engine_rows.specs.Pure.{CellLookup}
+use Rattle.engine_rows.specs.Trace.{trace_text}
+use Rattle.engine_rows.specs.World.{World}
+use Rattle.machine_step.specs.Machine.{Script}
+use Rattle.play_steps.specs.Plays.{PlayEnd, Done, OutOfEntries, StoppedInside, Paused, Played}
+use Rattle.module_player.specs.CodePlays.{code_play, code_end_text}
+use Rattle.nwq_work.specs.declared.status.Status.TheVariants.{Limit}
+use Rattle.nwq_work.specs.Work.{Work, Ends, Puts, then, Finished, puts}
+use Rattle.nwq_sources.specs.Headers.{table_of}
+use Rattle.nwq_areas.specs.Areas.{area_named}
+use Rattle.nwq_areas.specs.Finals.{final_written}
+use Rattle.nwq_areas.specs.Plans.{plan_named}
+use Rattle.nwq_plays.specs.Plays.{host_of}
+use Rattle.nwq_listings.specs.Listings.{scripts_listed}
+use Rattle.nwq_games.specs.Worlds.{plan_world}
+
+-- ---- the play
+
+-- the play of listed scripts from a world on, with the limits of a plan
+abbrev pub played : CellLookup → EngineTable → Plan → List Script → World Saved → Played Saved
+played cell header plan scripts w = code_play (host_of cell header scripts) plan.limit plan.entries plan.until w
+
+-- ---- what is told and written
+
+-- a play that is done leaves its area in the file of this name, and then its end is told; where a limit ended it, it is told alone
+abbrev pub ends_by : PlayEnd → List ℕ → PlainArea → List ℕ → Work Finished
+ends_by Done to area text = then (final_written to (tree_back area)) (λ done. puts text)
+ends_by OutOfEntries to area text = Puts text (Ends Limit)
+ends_by StoppedInside to area text = Puts text (Ends Limit)
+ends_by Paused to area text = puts text
+
+-- the end, by the area of the last world and the text of the end
+abbrev pub tells_end : List ℕ → List Script → Played Saved → Work Finished
+tells_end to scripts p = ends_by p.ending to p.last.world.area (code_end_text scripts p)
+
+-- the trace stands before the end
+abbrev pub tells : List ℕ → List Script → Played Saved → Work Finished
+tells to scripts p = Puts (trace_text p.last.trace) (tells_end to scripts p)
+
+-- a plan is played over an area, and the area that it leaves goes into the file of this name
+unfoldable pub plays_plan : CellLookup → EngineTable → PlainArea → Plan → List Script → List ℕ → Work Finished
+plays_plan cell header area plan scripts to = tells to scripts (played cell header plan scripts (plan_world area plan))
+
+-- ---- the command
+
+-- the area is read once the scripts are there
+unfoldable pub plays_area : CellLookup → EngineTable → List ℕ → Plan → List ℕ → List Script → Work Finished
+plays_area cell header area plan to scripts = then (area_named area) (λ a. plays_plan cell header a plan scripts to)
+
+unfoldable pub plays_scripts : CellLookup → List ℕ → Plan → List ℕ → EngineTable → Work Finished
+plays_scripts cell area plan to header = then (scripts_listed header plan.scripts) (plays_area cell header area plan to)
+
+unfoldable pub plays_under : CellLookup → List ℕ → List ℕ → List ℕ → Plan → Work Finished
+plays_under cell header area to plan = then (table_of header) (plays_scripts cell area plan to)
+
+-- the words name a header, an area, a plan and the file in which the area is left
+unfoldable pub plays : CellLookup → List ℕ → List ℕ → List ℕ → List ℕ → Work Finished
+plays cell header area plan to = then (plan_named plan) (plays_under cell header area to)

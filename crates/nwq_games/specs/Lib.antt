@@ -1,0 +1,4 @@
+pub mod Worlds
+pub mod Games
+pub mod Tellings
+pub mod Laws

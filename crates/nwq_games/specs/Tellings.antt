@@ -1,0 +1,32 @@
+-- What is said of a play's files and statuses.
+use Rattle.std.specs.Prelude.{◌≡◌, ℕ, ◌⊎◌, IsTrue, List, ◌++◌, Result, Ok, Err}
+use Rattle.nwq_outside.specs.Outside.{TookPrefix}
+use Rattle.plan_text.specs.Fields.{is_script_name}
+use Rattle.nwq_work.specs.declared.status.Status.{Status}
+use Rattle.nwq_work.specs.declared.status.Status.TheVariants.{Script, Code, Area, Limit}
+use Rattle.nwq_work.specs.Work.{CutsShort}
+use Rattle.nwq_work.specs.Counts.{StopsRead}
+use Rattle.nwq_scripts.specs.Files.{code_name}
+
+-- the file of bytecode of some script
+pub record IsCodeFile (name : List ℕ) : Type 0 where
+  pub script : List ℕ
+  pub named : IsTrue (is_script_name script)
+  pub is : name ≡ code_name script
+
+-- what the play of a plan may write: files of bytecode, and the file in which the area is left
+abbrev pub IsGameFile : List ℕ → List ℕ → Type 0
+IsGameFile to name = IsCodeFile name ⊎ (name ≡ to)
+
+-- what stops the play of a plan: a file isn't there or is too long, one is refused, a limit was reached, or the work is cut
+abbrev pub StopsGame : Status → Type 0
+StopsGame Script = Unit {0}
+StopsGame Code = Unit {0}
+StopsGame Area = Unit {0}
+StopsGame Limit = Unit {0}
+StopsGame status = StopsRead status
+
+-- what a sink took of a text, by the answer: all of it, or a prefix where the work was cut
+abbrev pub TakesText : {A : Type 0} → List ℕ → List ℕ → Result A Status → List ℕ → Type 0
+TakesText text t (Ok a) t' = t' ≡ t ++ text
+TakesText text t (Err cut) t' = CutsShort cut × TookPrefix text t t'

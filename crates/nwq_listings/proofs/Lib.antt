@@ -1,0 +1,7 @@
+mod CodeLemmas
+mod ListingLemmas
+mod NameLemmas
+mod OneListing
+mod Steps
+mod StopLemmas
+mod Worked

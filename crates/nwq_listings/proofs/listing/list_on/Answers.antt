@@ -1,0 +1,24 @@
+use Rattle.std.proofs.Common.{length, ◌∙◌, sym, subst, ◌+◌}
+use Rattle.ncs_machine.specs.Host.{script_of, scripts_of}
+use Rattle.nwq_listings.proofs.ListingLemmas.{SoFar, goes_on, keeps_on, meets_on, scripts_on, count_on}
+use Rattle.nwq_listings.proofs.listing.list_on.Goals as goal
+
+pub loop-line-preserved : goal.loop-line-preserved
+loop-line-preserved g c =
+    let first = scripts_of c.args.scripts.now in
+    let c0 = g.F.Files.contents c.args.files.now in
+    let c1 = g.F.Files.contents c.read_script.new.files in
+    let t0 = g.S.Sink.taken c.args.out.now in
+    let t1 = g.S.Sink.taken c.read_script.new.out in
+    let pushed = c.in-Ok-push.ensures.ok in (
+      subst (λ ss. SoFar g.F.Files.tells g.S.Sink.tells c.args.table.now c.args.lines.now (c.loop-line.line-index + 1) first ss c0 c1 t0 t1)
+          (sym (scripts_on c.loop-line.scripts c.push.new.self c.in-Ok.script pushed))
+          (goes_on g.F.Files.tells g.S.Sink.tells c.args.table.now c.args.lines.now first c0 t0 c.loop-line.line-index c.line-item.result _ (script_of c.in-Ok.script)
+          (scripts_of c.loop-line.scripts) (g.F.Files.contents c.loop-line.files) c1 (g.S.Sink.taken c.loop-line.out) t1 c.loop-line.invariant.0 c.loop-line-test.true
+          c.line-item.is c.in-Ok.ensures.does),
+      c.in-Ok.ensures.counts ∙ c.loop-line.invariant.1,
+      keeps_on c.args.lines.now c.loop-line.line-index c.line-item.result _ c0 (g.F.Files.contents c.loop-line.files) c1 c.loop-line-test.true c.line-item.is
+          c.loop-line.invariant.2 c.in-Ok.ensures.names,
+      meets_on c.loop-line.scripts c.push.new.self c.in-Ok.script pushed c.args.table.now c.loop-line.invariant.3 c.in-Ok.ensures.meets,
+      count_on c.loop-line.scripts c.push.new.self c.in-Ok.script pushed (length c.args.scripts.now) c.loop-line.line-index c.loop-line.invariant.4,
+    )

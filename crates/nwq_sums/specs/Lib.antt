@@ -1,9 +1,0 @@
-pub mod Symbols
-pub mod Sentence
-pub mod Printing
-pub mod Meaning
-pub mod Emission
-pub mod Machine
-pub mod Reading
-pub mod Stepping
-pub mod Laws

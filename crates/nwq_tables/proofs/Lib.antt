@@ -1,0 +1,6 @@
+mod NameLemmas
+mod ListLemmas
+mod TableLemmas
+mod ReadLemmas
+mod OneSet
+mod Steps

@@ -1,0 +1,268 @@
+-- A machine only adds to the lines of its world.
+use Rattle.std.proofs.Common.{◌≡◌, ℕ, ℤ, pos, negsuc, zero, suc, Bool, true, false, List, [], ◌∷◌, Option, None, Some, sym, subst}
+use Rattle.std.specs.Prelude.{if◌then◌else◌, ◌==◌, nat_lt, length, cond, slice_get}
+use Rattle.std.specs.Option.{option_map, option_and_then}
+use Rattle.std.specs.List.{AllByRecursion, list_any}
+use Rattle.action_queue.specs.declared.queue.Item.{Item}
+use Rattle.action_queue.specs.declared.queue.Item.TheVariants.{Do, Wait, Speak}
+use Rattle.area_tree.specs.Variables.{Variable}
+use Rattle.nwq_value.specs.Engine.{EngineTable}
+use Rattle.nwq_value.specs.declared.engine.Role.{Role}
+use Rattle.nwq_value.specs.declared.engine.Role.TheVariants as role
+use Rattle.nwq_value.specs.declared.engine.Routine.{Routine}
+use Rattle.nwq_value.specs.declared.value.Effect.{Effect}
+use Rattle.nwq_value.specs.declared.value.Value.{Value}
+use Rattle.ncs_code.specs.Plain.{PlainOp}
+use Rattle.saved_state.specs.declared.saved.Saved.{Saved}
+use Rattle.engine_rows.specs.declared.data.Line.{Line}
+use Rattle.engine_rows.specs.Arguments.{int_at, object_at, effect_at, event_at}
+use Rattle.engine_rows.specs.Pure.{CellLookup}
+use Rattle.engine_rows.specs.World.{World, is_valid, queue_of, effects_of}
+use Rattle.engine_rows.specs.Changes.{has_turn, is_effect, with_actions}
+use Rattle.engine_rows.specs.Rows.{Call, Row, rows, drawn_from, drawn, assigned, delayed, awake, appended, appended_do, at_rest, cleared, changed_variables, applied, applied_to, removed, signalled}
+use Rattle.engine_rows.specs.Engine.{row_numbered, by_row, by_role, by_routine, engine}
+use Rattle.engine_rows.specs.AlikeLaws.{call}
+use Rattle.engine_rows.specs.Turns.{next_turn, turn_done}
+use Rattle.machine_step.specs.Frames.{Frame}
+use Rattle.machine_step.specs.Act.{Act, Moves, Asks, Executes, Returns, Divides, act}
+use Rattle.machine_step.specs.Machine.{Next, Goes, Ends, Divided, depth_limit, begun, executed, over, followed, next_op, script_named, step}
+use Rattle.source_meaning.specs.Scripts.{Setting}
+use Rattle.source_meaning.specs.Ledger.{Machine, MachineHost}
+use Rattle.source_meaning.specs.Executing.{IsHostOf}
+use Rattle.play_meaning.specs.Together.{Begins}
+use Rattle.play_meaning.proofs.Beginnings.{whole_begins, longer_begins}
+
+-- ---- the engine
+
+module _ {X : Type 0} where
+  -- the second world has the lines of the first one, and perhaps more
+  abbrev Grows : World X → World X → Type 0
+  Grows w v = Begins w.trace v.trace
+
+  stays : (w : World X) → Grows w w
+  stays w = whole_begins w.trace
+
+  where_grows : (b : Bool) (w v u : World X) → Grows w v → Grows w u → Grows w (if b then v else u)
+  where_grows true w v u h k = h
+  where_grows false w v u h k = k
+
+  drawn_from_grows : (rs : List ℕ) (n : ℕ) (w : World X) → Grows w (drawn_from rs n w).world
+  drawn_from_grows [] n w = stays w
+  drawn_from_grows (r ∷ rs) n w = stays w
+
+  drawn_grows : (n : ℤ) (w : World X) → Grows w (drawn n w).world
+  drawn_grows (negsuc n) w = stays w
+  drawn_grows (pos zero) w = stays w
+  drawn_grows (pos (suc n)) w = drawn_from_grows w.random (suc n) w
+
+  assigned_grows : (o : ℕ) (a : Option X) (w : World X) → Grows w (assigned o a w)
+  assigned_grows o None w = stays w
+  assigned_grows o (Some x) w = where_grows (is_valid o w) w _ w (stays w) (stays w)
+
+  delayed_grows : (o : ℕ) (ms : ℤ) (a : Option X) (w : World X) → Grows w (delayed o ms a w)
+  delayed_grows o ms None w = stays w
+  delayed_grows o ms (Some x) w = stays w
+
+  awake_grows : (o : ℕ) (w : World X) → Grows w (awake o w)
+  awake_grows o w = where_grows (queue_of o w).busy w w _ (stays w) (stays w)
+
+  appended_grows : (o : ℕ) (item : Item X) (w : World X) → Grows w (appended o item w)
+  appended_grows o item w = where_grows (is_valid o w) w _ w (awake_grows o _) (stays w)
+
+  appended_do_grows : (o : ℕ) (a : Option X) (w : World X) → Grows w (appended_do o a w)
+  appended_do_grows o None w = stays w
+  appended_do_grows o (Some x) w = appended_grows o (Do x) w
+
+  at_rest_grows : (o : ℕ) (w : World X) → Grows w (at_rest o w)
+  at_rest_grows o w = where_grows (has_turn o w) w _ w (stays w) (stays w)
+
+  cleared_grows : (o : ℕ) (w : World X) → Grows w (cleared o w)
+  cleared_grows o w = where_grows (w.version == 2) w (at_rest o (with_actions o [] w)) (with_actions o [] w) (at_rest_grows o (with_actions o [] w)) (stays w)
+
+  changed_grows : (o : ℕ) (change : List Variable → List Variable) (w : World X) → Grows w (changed_variables o change w)
+  changed_grows o change w = where_grows (is_valid o w) w _ w (stays w) (stays w)
+
+  applied_grows : (duration : ℤ) (o : ℕ) (e : Effect) (ms : ℤ) (w : World X) → Grows w (applied duration o e ms w)
+  applied_grows (pos zero) o e ms w = longer_begins w.trace _
+  applied_grows (pos (suc zero)) o e ms w = longer_begins w.trace _
+  applied_grows (pos (suc (suc zero))) o e ms w = longer_begins w.trace _
+  applied_grows (pos (suc (suc (suc n)))) o e ms w = stays w
+  applied_grows (negsuc n) o e ms w = stays w
+
+  applied_to_grows : (duration : ℤ) (o : ℕ) (e : Effect) (ms : ℤ) (w : World X) → Grows w (applied_to duration o e ms w)
+  applied_to_grows duration o e ms w = where_grows (is_valid o w) w _ w (applied_grows duration o e ms w) (stays w)
+
+  removed_grows : (o : ℕ) (e : Effect) (w : World X) → Grows w (removed o e w)
+  removed_grows o e w = where_grows (list_any (is_effect e) (effects_of o w)) w _ w (longer_begins w.trace _) (stays w)
+
+  signalled_grows : (o : ℕ) (user : ℤ) (w : World X) → Grows w (signalled o user w)
+  signalled_grows o user w = where_grows (is_valid o w) w _ w (stays w) (stays w)
+
+  abbrev RowGrows : Row X → Type 0
+  RowGrows r = (c : Call X) (w : World X) → Grows w (r.does c w).world
+
+  rows_grow : AllByRecursion RowGrows rows
+  rows_grow = (
+    λ c w. drawn_grows (int_at 0 c.values) w,
+    (
+      λ c w. longer_begins w.trace _,
+      (
+        λ c w. longer_begins w.trace _,
+        (
+          λ c w. longer_begins w.trace _,
+          (
+            λ c w. assigned_grows (object_at 0 c.values) c.action w,
+            (
+              λ c w. delayed_grows c.caller (int_at 0 c.values) c.action w,
+              (
+                λ c w. cleared_grows c.caller w,
+                (
+                  λ c w. appended_do_grows c.caller c.action w,
+                  (
+                    λ c w. appended_grows c.caller (Wait (int_at 0 c.values)) w,
+                    (
+                      λ c w. appended_grows c.caller (Speak _) w,
+                      (
+                        λ c w. longer_begins w.trace _,
+                        (
+                          λ c w. stays w,
+                          (
+                            λ c w. stays w,
+                            (
+                              λ c w. stays w,
+                              (
+                                λ c w. stays w,
+                                (
+                                  λ c w. changed_grows _ _ w,
+                                  (
+                                    λ c w. stays w,
+                                    (
+                                      λ c w. changed_grows _ _ w,
+                                      (
+                                        λ c w. changed_grows _ _ w,
+                                        (
+                                          λ c w. changed_grows _ _ w,
+                                          (
+                                            λ c w. applied_to_grows (int_at 0 c.values) (object_at 2 c.values) (effect_at 1 c.values) (int_at 3 c.values) w,
+                                            (
+                                              λ c w. removed_grows (object_at 0 c.values) (effect_at 1 c.values) w,
+                                              (
+                                                λ c w. stays w,
+                                                (
+                                                  λ c w. signalled_grows (object_at 0 c.values) (event_at 1 c.values) w,
+                                                  (
+                                                    λ c w. stays w,
+                                                    tt,
+                                                  ),
+                                                ),
+                                              ),
+                                            ),
+                                          ),
+                                        ),
+                                      ),
+                                    ),
+                                  ),
+                                ),
+                              ),
+                            ),
+                          ),
+                        ),
+                      ),
+                    ),
+                  ),
+                ),
+              ),
+            ),
+          ),
+        ),
+      ),
+    ),
+  )
+
+  chosen_grows : (b : Bool) (r : Row X) (rest : Option (Row X)) (c : Call X) (w : World X) → Grows w (r.does c w).world → Grows w (by_row rest c w).world
+      → Grows w (by_row (cond b (Some r) rest) c w).world
+  chosen_grows true r rest c w h k = h
+  chosen_grows false r rest c w h k = k
+
+  row_grows : (rs : List (Row X)) → AllByRecursion RowGrows rs → (n : ℕ) (c : Call X) (w : World X) → Grows w (by_row (row_numbered n rs) c w).world
+  row_grows [] all n c w = stays w
+  row_grows (r ∷ rs) all n c w = chosen_grows (r.number == n) r (row_numbered n rs) c w (all.0 c w) (row_grows rs all.1 n c w)
+
+  role_grows : (cell : CellLookup) (n : ℕ) (r : Routine) (kind : Role) (c : Call X) (w : World X) → Grows w (by_role cell n r kind c w).world
+  role_grows cell n r (role.Built own) c w = row_grows rows rows_grow own c w
+  role_grows cell n r (role.Pure k) c w = stays w
+  role_grows cell n r role.World c w = longer_begins w.trace _
+  role_grows cell n r role.Uncallable c w = stays w
+
+  routine_grows : (cell : CellLookup) (n : ℕ) (r : Option Routine) (c : Call X) (w : World X) → Grows w (by_routine cell n r c w).world
+  routine_grows cell n None c w = stays w
+  routine_grows cell n (Some r) c w = role_grows cell n r r.role c w
+
+  pub engine_grows : (table : EngineTable) (cell : CellLookup) (n : ℕ) (c : Call X) (w : World X) → Grows w (engine table cell n c w).world
+  unfolding engine
+  engine_grows table cell n c w = routine_grows cell n (slice_get table.routines n) c w
+
+  next_turn_grows : (o : ℕ) (items : List (Item X)) (w : World X) → Grows w (next_turn o items w)
+  next_turn_grows o [] w = stays w
+  next_turn_grows o (item ∷ rest) w = stays w
+
+  pub turn_done_grows : (o : ℕ) (w : World X) → Grows w (turn_done o w)
+  turn_done_grows o w = next_turn_grows o (queue_of o w).actions w
+
+-- ---- a step
+
+-- the lines after a step, or those before it where the run ends with it
+abbrev lines_after : Next (World Saved) → List Line → List Line
+lines_after (Goes t) before = t.world.trace
+lines_after Ends before = before
+lines_after Divided before = before
+
+module _ (s : Setting) (host : MachineHost) (of : IsHostOf host s) where
+  asks_grows : (n caller : ℕ) (values : List Value) (a : Option Saved) (w : World Saved) → Begins w.trace (host.engine n caller values a w).world.trace
+  asks_grows n caller values a w =
+      subst (λ v. Begins w.trace v.trace) (sym (of.engine.world n caller values a w)) (engine_grows host.table s.tables n (call caller values a) w)
+
+  told_grows : (w v u : World Saved) → v ≡ u → Begins w.trace u.trace → Begins w.trace v.trace
+  told_grows w v u is h = subst (λ t. Begins w.trace t.trace) (sym is) h
+
+  begun_grows : (o : Option ℕ) (name : List ℕ) (target : ℕ) (f : Frame) (m : Machine) → Begins m.world.trace (begun host o name target f m).world.trace
+  begun_grows None name target f m = told_grows m.world (host.no_script target name m.world) _ (of.unlisted target name m.world) (longer_begins m.world.trace _)
+  begun_grows (Some script) name target f m = either (nat_lt (length m.waiting) depth_limit) _ _ (whole_begins m.world.trace)
+      (told_grows m.world (host.too_deep target name m.world) _ (of.deep target name m.world) (longer_begins m.world.trace _))
+    where
+      either : (b : Bool) (t u : Machine) → Begins m.world.trace t.world.trace → Begins m.world.trace u.world.trace → Begins m.world.trace (if b then t else u).world.trace
+      either true t u h k = h
+      either false t u h k = k
+
+  executed_grows : (name : List ℕ) (target : ℕ) (f : Frame) (m : Machine) → Begins m.world.trace (executed host name target f m).world.trace
+  executed_grows [] target f m = whole_begins m.world.trace
+  executed_grows (b ∷ name) target f m = either (host.may_run f.self target m.world) _ _ (begun_grows (script_named host.scripts (b ∷ name)) (b ∷ name) target f m) (whole_begins m.world.trace)
+    where
+      either : (b : Bool) (t u : Machine) → Begins m.world.trace t.world.trace → Begins m.world.trace u.world.trace → Begins m.world.trace (if b then t else u).world.trace
+      either true t u h k = h
+      either false t u h k = k
+
+  over_grows : (waiting : List Frame) (m : Machine) → Begins m.world.trace (lines_after (over waiting m) m.world.trace)
+  over_grows [] m = whole_begins m.world.trace
+  over_grows (f ∷ waiting) m = whole_begins m.world.trace
+
+  followed_grows : (m : Machine) (a : Act) → Begins m.world.trace (lines_after (followed host m a) m.world.trace)
+  followed_grows m (Moves f) = whole_begins m.world.trace
+  followed_grows m (Asks routine values action f) = asks_grows routine f.self values action m.world
+  followed_grows m (Executes name target f) = executed_grows name target f m
+  followed_grows m Returns = over_grows m.waiting m
+  followed_grows m Divides = whole_begins m.world.trace
+
+  act_grows : (m t : Machine) (a : Option Act) → option_map (followed host m) a ≡ Some (Goes t) → Begins m.world.trace t.world.trace
+  act_grows m t None h = absurd cc
+  act_grows m t (Some a) h =
+      let is : followed host m a ≡ Goes t = cc in
+      subst (λ n. Begins m.world.trace (lines_after n m.world.trace)) is (followed_grows m a)
+
+  op_grows : (m t : Machine) (op : Option PlainOp) → option_and_then (λ o. option_map (followed host m) (act host.table o m.running)) op ≡ Some (Goes t) → Begins m.world.trace t.world.trace
+  op_grows m t None h = absurd cc
+  op_grows m t (Some op) h = act_grows m t (act host.table op m.running) h
+
+  pub step_grows : (m t : Machine) → step host m ≡ Some (Goes t) → Begins m.world.trace t.world.trace
+  unfolding step
+  step_grows m t h = op_grows m t (next_op host.scripts m.running) h

@@ -1,0 +1,10 @@
+mod Beginnings
+mod Growing
+mod Earlier
+mod Runs
+mod Entering
+mod Playing
+mod PlaysRun
+mod Machines
+mod EndTexts
+mod TypedScripts

@@ -1,0 +1,5 @@
+use Rattle.play_meaning.proofs.PlaysRun.{source_plays_end}
+use Rattle.play_meaning.proofs.laws.source_plays_end.Goals as goal
+
+pub returns : goal.returns
+returns c = record { end = source_plays_end c.listed_scripts_do.ensures.run c.entries_do.ensures.run c.entries_stay_alike.ensures.alike }

@@ -1,0 +1,5 @@
+pub mod Together
+pub mod PlaysRun
+pub mod Machines
+pub mod EndTexts
+pub mod TypedScripts

@@ -1,0 +1,71 @@
+-- Two plays that go together: in the one code is run, and in the other source is evaluated. What is said here is said of any two ways to run
+-- the scripts of an entry, and of any relation between stored actions.
+use Rattle.std.specs.Prelude.{◌≡◌, ◌≤◌, ℕ, ◌*◌, List, ◌++◌, Some}
+use Rattle.engine_rows.specs.World.{World}
+use Rattle.engine_rows.specs.Turns.{Begun, begin}
+use Rattle.engine_rows.specs.Alike.{Alike}
+use Rattle.play_steps.specs.Plays.{Stopped, Run, Runner, Progress, StoppedInside, Played, entered, further}
+use Rattle.source_meaning.specs.Ledger.{step_cost}
+
+-- the one list is a beginning of the other, or all of it
+pub record Begins {A : Type 0} (part whole : List A) : Type 0 where
+  pub more : List A
+  pub is : whole ≡ part ++ more
+
+-- ---- the scripts of an entry
+
+-- Both runs end in the same way, in worlds that are alike, and at least one and at most 16 instructions were made for each step.
+pub record RunsAlike {X Y : Type 0} (R : X → Y → Type 0) (code : Run X) (source : Run Y) : Type 0 where
+  pub ending : code.ending ≡ source.ending
+  pub world : Alike R code.world source.world
+  pub paid : source.count ≤ code.count
+  pub few : code.count ≤ step_cost * source.count
+
+-- where the evaluation isn't stopped
+abbrev pub RunEnds : {X Y : Type 0} → (X → Y → Type 0) → Run X → Run Y → Type 0
+RunEnds R code source = (source.ending ≡ Stopped → ⊥) → RunsAlike R code source
+
+-- So where the run of code isn't stopped; where it is, it has made all the instructions of its limit, and what it has told is a beginning of
+-- what the evaluation tells.
+pub record RunStops {X Y : Type 0} (R : X → Y → Type 0) (limit : ℕ) (code : Run X) (source : Run Y) : Type 0 where
+  pub ends : (code.ending ≡ Stopped → ⊥) → RunsAlike R code source
+  pub count : code.ending ≡ Stopped → code.count ≡ limit
+  pub told : code.ending ≡ Stopped → Begins code.world.trace source.world.trace
+
+-- Two runners know the same scripts, and what they run goes together in worlds that are alike.
+pub record RunnersAre {X Y : Type 0} (R : X → Y → Type 0) (P : Run X → Run Y → Type 0) (code : Runner X) (source : Runner Y) : Type 0 where
+  pub named : (name : List ℕ) → code.named name ≡ source.named name
+  pub script : (name : List ℕ) (script self : ℕ) (w : World X) (v : World Y) → source.named name ≡ Some script → Alike R w v
+      → P (code.script script self w) (source.script script self v)
+  pub stored : (c : X) (d : Y) (self : ℕ) (w : World X) (v : World Y) → R c d → Alike R w v → P (code.stored c self w) (source.stored d self v)
+
+-- ---- whole plays
+
+-- Both plays end in the same way, after as many entries, with the same lines told, in worlds that are alike; and at least one and at most 16
+-- instructions were made for each step.
+pub record PlaysAlike {X Y : Type 0} (R : X → Y → Type 0) (code : Played X) (source : Played Y) : Type 0 where
+  pub ending : code.ending ≡ source.ending
+  pub entries : code.last.entries ≡ source.last.entries
+  pub trace : code.last.trace ≡ source.last.trace
+  pub world : Alike R code.last.world source.last.world
+  pub paid : source.last.count ≤ code.last.count
+  pub few : code.last.count ≤ step_cost * source.last.count
+
+-- where each entry of the play of source ends
+abbrev pub PlayEnds : {X Y : Type 0} → (X → Y → Type 0) → Played X → Played Y → Type 0
+PlayEnds R code source = (source.ending ≡ StoppedInside → ⊥) → PlaysAlike R code source
+
+-- A play was stopped in an entry for which so much was counted.
+pub record StoppedAt {X : Type 0} (runner : Runner X) (until limit : ℕ) (p : Played X) : Type 0 where
+  pub before : Progress X
+  pub begun : Begun X
+  pub is : begin until before.world ≡ Some begun
+  pub last : p.last ≡ further (entered runner begun) before
+  pub count : (entered runner begun).count ≡ limit
+
+-- So where the play of code isn't stopped. Where it is, all the instructions that an entry may take were made in its last entry, and what it
+-- has told is a beginning of what the play of source tells.
+pub record PlayStops {X Y : Type 0} (R : X → Y → Type 0) (runner : Runner X) (until limit : ℕ) (code : Played X) (source : Played Y) : Type 0 where
+  pub ends : (code.ending ≡ StoppedInside → ⊥) → PlaysAlike R code source
+  pub stopped : code.ending ≡ StoppedInside → StoppedAt runner until limit code
+  pub told : code.ending ≡ StoppedInside → Begins code.last.trace source.last.trace

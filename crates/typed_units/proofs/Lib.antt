@@ -1,0 +1,9 @@
+mod Grammar
+mod Types
+mod Bodies
+mod Expressions
+mod Statements
+mod Items
+mod Actions
+mod Entries
+mod Placed

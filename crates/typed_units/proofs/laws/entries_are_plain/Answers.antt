@@ -1,0 +1,5 @@
+use Rattle.typed_units.proofs.Entries.{entries_are_plain}
+use Rattle.typed_units.proofs.laws.entries_are_plain.Goals as goal
+
+pub returns : goal.returns
+returns c = record { plain = entries_are_plain }

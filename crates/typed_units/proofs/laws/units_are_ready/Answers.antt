@@ -1,0 +1,8 @@
+use Rattle.typed_units.proofs.Placed.{units_are_ready}
+use Rattle.typed_units.proofs.laws.units_are_ready.Goals as goal
+
+pub returns : goal.returns
+returns c = record {
+  ready = units_are_ready c.numbered_in_order.ensures c.positions_by_number.ensures c.functions_stand.ensures.stand
+      c.roles_tell.ensures.built c.roles_tell.ensures.hooks c.roles_tell.ensures.world;
+}
