@@ -2,7 +2,11 @@
 #![tactic(auto)]
 
 #[cfg(test)]
+mod entries;
+#[cfg(test)]
 mod files;
+#[cfg(test)]
+mod instructions;
 #[cfg(test)]
 mod passed;
 #[cfg(test)]
