@@ -90,14 +90,21 @@ fn unit_of(alloc: Global, table: &Table, source: &[u8]) -> Option<Typed>
     }
 }
 
-/// The file of a unit.
+/// The file of a typed unit.
+fn code_of(alloc: Global, unit: &Typed) -> Option<Vec<u8>>
+    requires { HasCode (typed_unit unit.now) }
+{
+    match generate(alloc, unit) {
+        Ok(bytes) => Some(bytes),
+        Err(_) => None,
+    }
+}
+
+/// The file of a text.
 fn file_of(alloc: Global, table: &Table, source: &[u8]) -> Option<Vec<u8>> {
     match unit_of(alloc, table, source) {
         None => None,
-        Some(unit) => match generate(alloc, &unit) {
-            Ok(bytes) => Some(bytes),
-            Err(_) => None,
-        },
+        Some(unit) => code_of(alloc, &unit),
     }
 }
 
