@@ -6,6 +6,8 @@ mod entries;
 #[cfg(test)]
 mod files;
 #[cfg(test)]
+mod fits;
+#[cfg(test)]
 mod instructions;
 #[cfg(test)]
 mod passed;
