@@ -4,7 +4,6 @@ use Rattle.nwq_outside.specs.Outside.{Contents}
 use Rattle.nwq_work.specs.declared.status.Status.{Status}
 use Rattle.nwq_work.specs.Refusal.{Refusal, line_of, status_of}
 use Rattle.nwq_work.specs.Work.{Work, Gives, Refused, then, IsCut, Does}
-use Rattle.nwq_work.specs.Parts.{value_or, status_or}
 use Rattle.nwq_work.specs.Outcomes.{IsSure, agree}
 use Rattle.command_meaning.proofs.Compiling.{Parts, ends_first, goes_on, EndsFirst, GoesOn, parts}
 
@@ -13,6 +12,15 @@ pub data Came {A : Type 0} (Has : A → Type 0) (Refuses : Refusal → Type 0) (
   gave : (a : A) → Has a → r ≡ Ok a → c' ≡ c → t' ≡ t → Came Has Refuses c t r c' t'
   stopped : (why : Refusal) → Refuses why → r ≡ Err (status_of why) → c' ≡ c → t' ≡ t ++ line_of why → Came Has Refuses c t r c' t'
   cut : IsCut r → Came Has Refuses c t r c' t'
+
+-- answers are told apart
+abbrev pub value_or : {A : Type 0} → A → Result A Status → A
+value_or other (Ok a) = a
+value_or other (Err status) = other
+
+abbrev pub status_or : {A : Type 0} → Status → Result A Status → Status
+status_or other (Ok a) = other
+status_or other (Err status) = status
 
 pub gives_does : {A : Type 0} (a : A) (c : Contents) (t : List ℕ) → Does (Gives a) c t (Ok a) c t
 gives_does a c t = (inl refl, (refl, refl))

@@ -20,8 +20,8 @@ use Rattle.source_meaning.specs.Scripts.{Listed}
 use Rattle.source_meaning.specs.Executing.{script_of}
 use Rattle.nwq_work.specs.declared.status.Status.{Status}
 use Rattle.nwq_work.specs.Refusal.{Refusal, line_of, status_of}
-use Rattle.nwq_work.specs.Work.{Gives, then, IsCut, Does, writes}
-use Rattle.nwq_work.specs.Parts.{value_or, status_or, then_ok, then_err}
+use Rattle.nwq_work.specs.Work.{Gives, IsCut, Does, writes}
+use Rattle.nwq_work.specs.Parts.{then_ok, then_err}
 use Rattle.nwq_work.specs.Outcomes.{agree}
 use Rattle.nwq_files.specs.Codes.{code_in}
 use Rattle.nwq_files.specs.Codes as code
@@ -38,7 +38,7 @@ use Rattle.words_meaning.specs.Accepting.{Compiles, HasCode, with_file, HasLine,
 use Rattle.words_meaning.specs.Accepting as accepting
 use Rattle.words_meaning.specs.Refusing.{RefusesSource, RefusesBinary, RefusesLine, RefusesScripts, here, later}
 use Rattle.words_meaning.specs.Refusing as refusing
-use Rattle.words_meaning.proofs.Coming.{Came, gave, stopped, cut, gives_does, Follows, follows, ends, cuts, then_follows}
+use Rattle.words_meaning.proofs.Coming.{value_or, status_or, Came, gave, stopped, cut, gives_does, Follows, follows, ends, cuts, then_follows}
 use Rattle.words_meaning.proofs.Sources.{IsMade, source_does, source_refuses, source_comes, binary_does, binary_refuses, binary_comes}
 
 -- ---- source texts stay bytes where a file of bytecode is written
@@ -94,7 +94,7 @@ module _ (header : EngineTable) (c : Contents) (t : List ℕ) (line : ScriptLine
       then_ok (compiled_named header line.name) (writes_loaded header (code_name line.name)) (unit_file unit) c c (with_file c line.name unit) t t t (Ok (code_of unit))
       (source_does header c t line.name unit h.script h.small) (inr (loaded_does header (code_name line.name) unit (with_file c line.name unit) t h.passes))
 
-  pub line_does : (script : Script) (d : Contents) → HasLine header c line script d → Does (script_in header line) c t (Ok script) d t
+  line_does : (script : Script) (d : Contents) → HasLine header c line script d → Does (script_in header line) c t (Ok script) d t
   unfolding script_in
   line_does script d (accepting.source e unit h) =
       then_ok (code_by line.binary header line.name) (λ ops. Gives (playable line ops)) (code_of unit) c d d t t t (Ok script)
@@ -103,7 +103,7 @@ module _ (header : EngineTable) (c : Contents) (t : List ℕ) (line : ScriptLine
       then_ok (code_by line.binary header line.name) (λ os. Gives (playable line os)) ops c d d t t t (Ok script)
       (subst (λ b. Does (code_by b header line.name) c t (Ok ops) d t) (sym e) (binary_does header c t (code_name line.name) ops h)) (gives_does script d t)
 
-  pub line_refuses : (why : Refusal) → RefusesLine header c line why → Does (script_in header line) c t (Err (status_of why)) c (t ++ line_of why)
+  line_refuses : (why : Refusal) → RefusesLine header c line why → Does (script_in header line) c t (Err (status_of why)) c (t ++ line_of why)
   unfolding script_in source_named
   line_refuses why (refusing.source e _ is) =
       then_err (code_by line.binary header line.name) (λ ops. Gives (playable line ops)) (status_of why) c c t (t ++ line_of why)
@@ -180,7 +180,7 @@ module _ (pass : UnitsPass) (units : ScriptsHaveUnits) (sure : SureLoaded) (head
           gives (stays.1 ∙ q)
       code_goes ops d k (inl gives, stays) (lacks why refuse p q o) = absurd cc
 
-      pub line_comes : Does (script_in header line) c t r c' t' → Lined header c t line r c' t'
+      line_comes : Does (script_in header line) c t r c' t' → Lined header c t line r c' t'
       unfolding script_in
       line_comes does = by_parts (parts (code_by line.binary header line.name) (λ ops. Gives (playable line ops)) c c' t t' r does)
         where

@@ -1,5 +1,5 @@
 -- Plans and areas that are read.
-use Rattle.std.proofs.Common.{◌≡◌, inl, inr, ℕ, List, [], ◌∷◌, ◌++◌, Result, Ok, Err, sym, subst, refl}
+use Rattle.std.proofs.Common.{inl, inr, ℕ, List, ◌++◌, Result, Ok, Err, sym, subst, refl}
 use Rattle.nwq_outside.specs.Outside.{Contents}
 use Rattle.gff_tree.specs.Whole.{PlainGff}
 use Rattle.gff_tree.specs.Stands.{Stands}
@@ -9,7 +9,7 @@ use Rattle.nwq_work.specs.declared.flaw.AreaFlaw.{AreaFlaw}
 use Rattle.nwq_work.specs.declared.flaw.AreaFlaw.TheVariants as flaw
 use Rattle.nwq_work.specs.declared.status.Status.{Status}
 use Rattle.nwq_work.specs.Refusal.{Refusal, BadArea, line_of, status_of}
-use Rattle.nwq_work.specs.Work.{Gives, then, Does, file_named}
+use Rattle.nwq_work.specs.Work.{Gives, Does, file_named}
 use Rattle.nwq_work.specs.Parts.{then_ok, then_err}
 use Rattle.nwq_files.specs.Trees as trees
 use Rattle.nwq_files.specs.Trees.{tree_in, tree_named}
@@ -137,9 +137,9 @@ module _ (c : Contents) (t : List ℕ) (name : List ℕ) where
     AreaComes = Came (ReadsArea c name) (RefusesArea c name) c t r c' t'
 
     area_by : (tree : PlainGff) → HasTree c name tree → (fate : areas.AreaFate) → areas.IsAreaFate tree.top fate → Does (areas.area_by name tree fate) c t r c' t' → AreaComes
-    area_by tree h areas.Whole (areas.whole no) does =
+    area_by tree h areas.Whole (areas.whole unbroken) does =
         given_comes (ReadsArea c name) (RefusesArea c name) c t r c' t' (area_of tree)
-        (record { bytes = h.bytes; read = h.read; tree = tree; stands = h.stands; whole = no; is = refl }) does
+        (record { bytes = h.bytes; read = h.read; tree = tree; stands = h.stands; whole = unbroken; is = refl }) does
     area_by tree h (areas.Broken place) (areas.broken _ others is) does =
         refusal_comes (ReadsArea c name) (RefusesArea c name) c t r c' t' (BadArea name (place_flaw place))
         (refusing.broken h.bytes h.read tree h.stands place others is) does

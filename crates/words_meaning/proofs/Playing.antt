@@ -1,5 +1,5 @@
 -- What `play` does.
-use Rattle.std.proofs.Common.{◌≡◌, ℕ, zero, suc, List, [], ◌∷◌, ◌++◌, map, Some, slice_get, Result, Ok, Err, sym, subst, ap}
+use Rattle.std.proofs.Common.{◌≡◌, ℕ, zero, suc, List, [], ◌++◌, map, Some, slice_get, Result, Ok, Err, sym, subst, ap}
 use Rattle.nwq_value.specs.Engine.{EngineTable, IsTable}
 use Rattle.nwq_outside.specs.Outside.{Contents}
 use Rattle.area_tree.specs.Area.{PlainArea}
@@ -12,8 +12,8 @@ use Rattle.source_meaning.specs.Executing.{script_of}
 use Rattle.header_tables.specs.Laws.{HeadersHaveTables, BuiltInIsTable}
 use Rattle.nwq_work.specs.declared.status.Status.{Status}
 use Rattle.nwq_work.specs.Refusal.{Refusal, line_of, status_of}
-use Rattle.nwq_work.specs.Work.{Work, then, IsCut, Does, Finished}
-use Rattle.nwq_work.specs.Parts.{value_or, then_ok, then_err}
+use Rattle.nwq_work.specs.Work.{IsCut, Does, Finished}
+use Rattle.nwq_work.specs.Parts.{then_ok, then_err}
 use Rattle.nwq_sources.specs.Headers.{table_of}
 use Rattle.nwq_sources.specs.Laws.{SureTables}
 use Rattle.nwq_areas.specs.Plans.{plan_named}
@@ -34,7 +34,7 @@ use Rattle.words_meaning.specs.Accepting as accepting
 use Rattle.words_meaning.specs.Refusing.{RefusesHeader, RefusesPlan, RefusesArea, IsRefused}
 use Rattle.words_meaning.specs.Plans.{AcceptsPlay, AcceptsSources, RefusesPlay, of_plan, of_header, of_script, of_area, PlayComes, refused, accepted, MeansSources}
 use Rattle.words_meaning.specs.Laws.{PlaysMean}
-use Rattle.words_meaning.proofs.Coming.{Follows, follows, ends, cuts, then_follows, then_known}
+use Rattle.words_meaning.proofs.Coming.{value_or, Follows, follows, ends, cuts, then_follows, then_known}
 use Rattle.words_meaning.proofs.Reading.{header_does, header_refuses, header_comes, is_table}
 use Rattle.words_meaning.proofs.Plans.{plan_does, plan_refuses, plan_comes, area_does, area_refuses, area_comes}
 use Rattle.words_meaning.proofs.Listing.{scripts_do, scripts_refuse, Listings, all_listed, one_refused, scripts_come, are_scripts, still_bytes}
@@ -63,7 +63,7 @@ module _ (pass : UnitsPass) (units : ScriptsHaveUnits) (reads : HeadersHaveTable
         → accepting.HasScripts table p.scripts c scripts d
         → Follows (λ a. plays_plan cell table a p scripts to) (ReadsArea d area) (RefusesArea d area) d k r c' t' → Comes
     area_follows p table scripts d k has_plan has_table has_scripts (follows a has does) =
-        accepted table p scripts a d (record { plan = has_plan; header = has_table; scripts = has_scripts; area = has })
+        accepted table p scripts a d (record { reads_plan = has_plan; has_header = has_table; lists = has_scripts; reads_area = has })
     area_follows p table scripts d k has_plan has_table has_scripts (ends why is e s o) = refused why d (of_area p table scripts why d has_plan has_table has_scripts is)
     area_follows p table scripts d k has_plan has_table has_scripts (cuts x) = absurd (whole x)
 
@@ -146,18 +146,19 @@ module _ (pass : UnitsPass) (units : ScriptsHaveUnits) (reads : HeadersHaveTable
 
     -- ---- where it is accepted
 
+    listed_do : (table : EngineTable) (p : Plan) (scripts : List Script) (a : PlainArea) (left : Contents) → AcceptsPlay header area plan c table p scripts a left
+        → Does (scripts_listed table p.scripts) c t (Ok scripts) left t
+    unfolding scripts_listed
+    listed_do table p scripts a left h = scripts_do table p.scripts c left t scripts [] h.lists
+
     play_goes : (table : EngineTable) (p : Plan) (scripts : List Script) (a : PlainArea) (left : Contents) → AcceptsPlay header area plan c table p scripts a left
         → Does (plays cell header area plan to) c t r c' t' → Does (plays_plan cell table a p scripts to) left t r c' t'
     unfolding plays plays_under plays_scripts plays_area
     play_goes table p scripts a left h does =
-        then_known (area_named area) (λ x. plays_plan cell table x p scripts to) (areas area) a left left c' t t t' r whole (area_does left t area a h.area)
-        (then_known (scripts_listed table p.scripts) (plays_area cell table area p to) (lists table p.scripts) scripts c left c' t t t' r whole (listed_do h)
-        (then_known (table_of header) (plays_scripts cell area p to) (tables header) table c c c' t t t' r whole (header_does c t header table h.header)
-        (then_known (plan_named plan) (plays_under cell header area to) (plans plan) p c c c' t t t' r whole (plan_does c t plan p h.plan) does)))
-      where
-        listed_do : AcceptsPlay header area plan c table p scripts a left → Does (scripts_listed table p.scripts) c t (Ok scripts) left t
-        unfolding scripts_listed
-        listed_do k = scripts_do table p.scripts c left t scripts [] k.scripts
+        then_known (area_named area) (λ x. plays_plan cell table x p scripts to) (areas area) a left left c' t t t' r whole (area_does left t area a h.reads_area)
+        (then_known (scripts_listed table p.scripts) (plays_area cell table area p to) (lists table p.scripts) scripts c left c' t t t' r whole (listed_do table p scripts a left h)
+        (then_known (table_of header) (plays_scripts cell area p to) (tables header) table c c c' t t t' r whole (header_does c t header table h.has_header)
+        (then_known (plan_named plan) (plays_under cell header area to) (plans plan) p c c c' t t t' r whole (plan_does c t plan p h.reads_plan) does)))
 
   module _ (few : FewStepsPlayAsMeant) (unstopped : UnstoppedPlansPlayAsMeant) (stopped : StoppedPlansBeginAsMeant) where
     sources_mean : (cell : CellLookup) (header area plan to : List ℕ) (c : Contents) (t : List ℕ) (r : Result Finished Status) (c' : Contents) (t' : List ℕ)
@@ -165,12 +166,12 @@ module _ (pass : UnitsPass) (units : ScriptsHaveUnits) (reads : HeadersHaveTable
         → (table : EngineTable) (p : Plan) (listed : List Listed) (a : PlainArea) (left : Contents)
         → AcceptsSources header area plan c table p listed a left → MeansSources cell table a p listed to left t r c' t'
     sources_mean cell header area plan to c t r c' t' held whole does table p listed a left h =
-        let kept : IsTable table = is_table reads own c header table held h.header in
+        let kept : IsTable table = is_table reads own c header table held h.has_header in
         let all : AcceptsPlay header area plan c table p (map script_of listed) a left =
-        record { plan = h.plan; header = h.header; scripts = are_scripts table p.scripts c left listed h.scripts; area = h.area } in
+        record { reads_plan = h.reads_plan; has_header = h.has_header; lists = are_scripts table p.scripts c left listed h.lists; reads_area = h.reads_area } in
         let played : PlaysSources cell table a p listed to left t r c' t' = record {
           table = kept;
-          units = are_units units table p.scripts c left listed (source_bytes c held) h.scripts;
+          units = are_units units table p.scripts c left listed (source_bytes c held) h.lists;
           does = play_goes cell header area plan to c t r c' t' held whole table p (map script_of listed) a left all does;
         } in
         record {

@@ -7,13 +7,12 @@ use Rattle.nwq_value.specs.Engine.{EngineTable, IsTable}
 use Rattle.nwq_value.specs.HeaderTable.{header_table}
 use Rattle.nwq_text.specs.Line.{line_number}
 use Rattle.nwq_outside.specs.Outside.{Contents}
-use Rattle.engine_table.specs.Headers.{HasTable}
 use Rattle.header_tables.specs.Laws.{HeadersHaveTables, BuiltInIsTable}
 use Rattle.nwq_work.specs.declared.status.Status.{Status}
 use Rattle.nwq_work.specs.Refusal.{Refusal, Absent, TooLong, At, line_of, status_of}
-use Rattle.nwq_work.specs.Work.{then, Does, by_size, bytes_of, file_named}
+use Rattle.nwq_work.specs.Work.{Does, by_size, bytes_of, file_named}
 use Rattle.nwq_work.specs.Parts.{then_ok, then_err}
-use Rattle.nwq_sources.specs.Headers.{HeaderFate, Whole, Faulty, IsHeaderFate, whole, bad, header, twice, many, table_by, table_in, table_named, table_unless, table_of}
+use Rattle.nwq_sources.specs.Headers.{HeaderFate, Whole, Faulty, IsHeaderFate, whole, table_by, table_in, table_named, table_unless, table_of}
 use Rattle.words_meaning.specs.Reading.{AreBytes, IsRead, IsUnread, absent, long}
 use Rattle.words_meaning.specs.Accepting.{HasHeader, built_in, read}
 use Rattle.words_meaning.specs.Refusing.{RefusesHeader, unread, faulty}

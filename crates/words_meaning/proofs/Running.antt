@@ -1,11 +1,10 @@
 -- What `run` and `compile` do.
-use Rattle.std.proofs.Common.{◌≡◌, inl, inr, ℕ, List, ◌++◌, length, Result, Ok, Err, subst, refl}
+use Rattle.std.proofs.Common.{inl, inr, ℕ, List, ◌++◌, length, Result, Err}
 use Rattle.nwq_value.specs.Engine.{EngineTable, IsTable}
 use Rattle.nwq_outside.specs.Outside.{Contents}
 use Rattle.nss_include.specs.Names.{file_name}
 use Rattle.nss_typing.specs.Typed.{TypedUnit}
 use Rattle.code_emission.specs.Units.{unit_file}
-use Rattle.engine_rows.specs.Pure.{CellLookup}
 use Rattle.header_tables.specs.Laws.{HeadersHaveTables, BuiltInIsTable}
 use Rattle.nwq_work.specs.declared.status.Status.{Status}
 use Rattle.nwq_work.specs.Refusal.{Refusal, NoForm, Absent, TooLong, At, BadCode, BadArea, line_of, status_of}
@@ -16,7 +15,7 @@ use Rattle.nwq_sources.specs.Headers.{table_of}
 use Rattle.nwq_sources.specs.Laws.{SureTables}
 use Rattle.nwq_files.specs.Commands.{writes_and_puts}
 use Rattle.nwq_scripts.specs.Files.{code_name, compiled_named, compiled_line, writes_code, compiles_under, compiles}
-use Rattle.nwq_scripts.specs.Laws.{SureCompiled, SureCompiles}
+use Rattle.nwq_scripts.specs.Laws.{SureCompiled}
 use Rattle.nwq_plays.specs.Plays.{plays_file}
 use Rattle.nwq_plays.specs.Laws.{SureLoaded, SurePlays}
 use Rattle.command_meaning.specs.Units.{UnitsPass}
@@ -24,9 +23,9 @@ use Rattle.command_meaning.specs.Files.{PlaysFile}
 use Rattle.command_meaning.specs.Runs.{FewStepsEndAsMeant, UnstoppedRunsEndAsMeant, StoppedRunsBeginAsMeant}
 use Rattle.command_meaning.specs.Scripts.{HoldBytes, ScriptsHaveUnits}
 use Rattle.words_meaning.specs.Reading.{AreBytes}
-use Rattle.words_meaning.specs.Accepting.{HasHeader, Compiles, with_file}
+use Rattle.words_meaning.specs.Accepting.{HasHeader}
 use Rattle.words_meaning.specs.Refusing.{RefusesHeader, RefusesSource, IsRefused}
-use Rattle.words_meaning.specs.Runs.{AcceptsScript, RefusesScript, of_header, of_source, ScriptComes, refused, accepted, MeansScript, MeansRun, IsCompiled, MeansCompile}
+use Rattle.words_meaning.specs.Runs.{AcceptsScript, RefusesScript, of_header, of_source, ScriptComes, refused, accepted, IsCompiled}
 use Rattle.words_meaning.specs.Laws.{RunsMean, CompilesMean}
 use Rattle.words_meaning.proofs.Coming.{Follows, follows, ends, cuts, then_follows, then_known}
 use Rattle.words_meaning.proofs.Reading.{header_does, header_refuses, header_comes, is_table}
@@ -66,7 +65,7 @@ module _ (pass : UnitsPass) (units : ScriptsHaveUnits) (reads : HeadersHaveTable
         → Follows (next table) (IsMade table c script) (RefusesSource table c script) c t r c' t' → ScriptComes header script c
     source_ends table has (follows bytes made does) =
         let kept : IsTable table = is_table reads own c header table held has in
-        accepted table made.unit (record { header = has; script = compiles_so pass units loaded table kept c script bytes (source_bytes c held) made })
+        accepted table made.unit (record { has_header = has; compiles = compiles_so pass units loaded table kept c script bytes (source_bytes c held) made })
     source_ends table has (ends why is p q o) = refused why (of_source table why has is)
     source_ends table has (cuts x) = absurd (whole x)
 
@@ -99,8 +98,8 @@ module _ (pass : UnitsPass) (units : ScriptsHaveUnits) (reads : HeadersHaveTable
         → Does (then (table_of header) (λ x. then (compiled_named x script) (next x))) c t r c' t' → Does (next table (unit_file unit)) c t r c' t'
     script_goes table unit h does =
         then_known (compiled_named table script) (next table) (compiled table script) (unit_file unit) c c c' t t t' r whole
-        (source_does table c t script unit h.script.script h.script.small)
-        (then_known (table_of header) (λ x. then (compiled_named x script) (next x)) (tables header) table c c c' t t t' r whole (header_does c t header table h.header) does)
+        (source_does table c t script unit h.compiles.script h.compiles.small)
+        (then_known (table_of header) (λ x. then (compiled_named x script) (next x)) (tables header) table c c c' t t t' r whole (header_does c t header table h.has_header) does)
 
   -- ---- run
 
@@ -112,11 +111,11 @@ module _ (pass : UnitsPass) (units : ScriptsHaveUnits) (reads : HeadersHaveTable
           comes = script_comes (λ table. plays_file cell table script (code_name script)) each header script c t r c' t' held whole does;
           refused = λ why is. script_refused (λ table. plays_file cell table script (code_name script)) each header script c t r c' t' held whole why is does;
           played = λ table unit h.
-              let kept : IsTable table = is_table reads own c header table held h.header in
+              let kept : IsTable table = is_table reads own c header table held h.has_header in
               let file : PlaysFile cell table script unit c t r c' t' = record {
                 table = kept;
-                unit = units table c script unit (source_bytes c held) h.script.script;
-                small = h.script.small;
+                unit = units table c script unit (source_bytes c held) h.compiles.script;
+                small = h.compiles.small;
                 file = code_name script;
                 does = script_goes (λ x. plays_file cell x script (code_name script)) each header script c t r c' t' held whole table unit h does;
               } in

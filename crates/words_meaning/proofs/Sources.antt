@@ -1,5 +1,5 @@
 -- Scripts that are compiled, and files of bytecode that are checked.
-use Rattle.std.proofs.Common.{arith, ◌≡◌, ◌≤◌, inl, inr, Bool, true, false, ℕ, ◌<◌, nat_lt, List, ◌++◌, length, None, Result, Ok, Err, sym, subst, refl}
+use Rattle.std.proofs.Common.{arith, ◌≡◌, ◌≤◌, inl, inr, Bool, true, false, ℕ, nat_lt, List, ◌++◌, length, None, Result, Ok, Err, subst, refl}
 use Rattle.std.proofs.lemmas.Bool.Decides.{nat_tests}
 use Rattle.std.specs.FinMap as fin_map
 use Rattle.nwq_value.specs.Limits.{file_limit}

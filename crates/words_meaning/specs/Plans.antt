@@ -21,17 +21,17 @@ use Rattle.words_meaning.specs.Refusing.{RefusesPlan, RefusesHeader, RefusesScri
 
 -- all is accepted: the plan, the header, the scripts that the plan lists, whose files are written, and the area that is there then
 pub record AcceptsPlay (header area plan : List ℕ) (c : Contents) (table : EngineTable) (p : Plan) (scripts : List Script) (a : PlainArea) (left : Contents) : Type 0 where
-  pub plan : ReadsPlan c plan p
-  pub header : HasHeader c header table
-  pub scripts : HasScripts table p.scripts c scripts left
-  pub area : ReadsArea left area a
+  pub reads_plan : ReadsPlan c plan p
+  pub has_header : HasHeader c header table
+  pub lists : HasScripts table p.scripts c scripts left
+  pub reads_area : ReadsArea left area a
 
 -- the same where the plan lists sources alone
 pub record AcceptsSources (header area plan : List ℕ) (c : Contents) (table : EngineTable) (p : Plan) (listed : List Listed) (a : PlainArea) (left : Contents) : Type 0 where
-  pub plan : ReadsPlan c plan p
-  pub header : HasHeader c header table
-  pub scripts : HasSources table p.scripts c listed left
-  pub area : ReadsArea left area a
+  pub reads_plan : ReadsPlan c plan p
+  pub has_header : HasHeader c header table
+  pub lists : HasSources table p.scripts c listed left
+  pub reads_area : ReadsArea left area a
 
 -- the first of these is refused: the plan, the header, a script, the area; the files that were written till then are left
 pub data RefusesPlay (header area plan : List ℕ) (c : Contents) : Refusal → Contents → Type 0 where

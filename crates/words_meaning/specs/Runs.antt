@@ -1,5 +1,5 @@
 -- What the words `run HEADER SCRIPT` and `compile HEADER SCRIPT` mean.
-use Rattle.std.specs.Prelude.{◌≡◌, ◌≢◌, ℕ, ◌⊎◌, List, ◌++◌, length, Result, Ok}
+use Rattle.std.specs.Prelude.{◌≡◌, ◌≢◌, ℕ, List, ◌++◌, length, Result, Ok}
 use Rattle.nwq_value.specs.Engine.{EngineTable}
 use Rattle.nwq_value.specs.Limits.{default_instruction_limit}
 use Rattle.nwq_outside.specs.Outside.{Contents}
@@ -9,7 +9,7 @@ use Rattle.engine_rows.specs.Pure.{CellLookup}
 use Rattle.play_steps.specs.Plays.{StoppedInside}
 use Rattle.nwq_work.specs.declared.status.Status.{Status}
 use Rattle.nwq_work.specs.Refusal.{Refusal}
-use Rattle.nwq_work.specs.Work.{IsCut, Finished}
+use Rattle.nwq_work.specs.Work.{Finished}
 use Rattle.nwq_scripts.specs.Files.{code_name, compiled_line}
 use Rattle.command_meaning.specs.Runs.{setting_of, source_played, code_played, sure_steps, TellsMeaning, TellsBeginning}
 use Rattle.words_meaning.specs.Accepting.{HasHeader, Compiles, with_file}
@@ -19,8 +19,8 @@ use Rattle.words_meaning.specs.Refusing.{RefusesHeader, RefusesSource, IsRefused
 
 -- the script compiles under the header, to this unit
 pub record AcceptsScript (header script : List ℕ) (c : Contents) (table : EngineTable) (unit : TypedUnit) : Type 0 where
-  pub header : HasHeader c header table
-  pub script : Compiles table c script unit
+  pub has_header : HasHeader c header table
+  pub compiles : Compiles table c script unit
 
 -- the header is refused, or else the script under it
 pub data RefusesScript (header script : List ℕ) (c : Contents) : Refusal → Type 0 where
