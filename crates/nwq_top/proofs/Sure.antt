@@ -34,7 +34,7 @@ module _ (tables : SureTables) (files : SureCommands) (checks : SureChecks) (scr
   sure_work cell (Check header file) = checks header file
   sure_work cell (Disassemble file to) = files.disassembled file to
   sure_work cell (Assemble file to) = files.assembled file to
-  sure_work cell (Play header area plan to) = games cell header area plan to
+  sure_work cell (Play header area plan to list) = games cell header area plan to
   sure_work cell NoForm = tt
 
   pub one_outcome : OneOutcome
