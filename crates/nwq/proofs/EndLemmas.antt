@@ -3,9 +3,16 @@ use Rattle.std.proofs.Common.{◌≡◌, ℕ, List, Option, None, Result, Ok, Er
 use Rattle.table_2da.specs.declared.tables.Named.{Named}
 use Rattle.nwq_work.specs.declared.status.Status.{Status}
 use Rattle.nwq_work.specs.declared.status.Status.TheVariants.{Done, Words, Script, Code, Area, Limit, Missing, Fault, Memory, Long}
-use Rattle.nwq_work.specs.Work.{ending}
-use Rattle.nwq_work.specs.Counts.{StopsArea}
+use Rattle.hook_table.specs.declared.hook.Known.{Known}
+use Rattle.world_core.specs.Calls.{cells_of, tables_of}
+use Rattle.nwq_outside.specs.Outside.{Contents}
+use Rattle.nwq_work.specs.Work.{Does, Finished, ending}
+use Rattle.nwq_work.specs.Counts.{StopsArea, Counts, Tallies, TalliesEnd}
+use Rattle.nwq_work.specs.Parts.{then_ok, then_err}
+use Rattle.nwq_tables.specs.Tables.{tables_given}
+use Rattle.table_2da.specs.Look.{cell_of}
 use Rattle.nwq_top.specs.Words.{Form, Run, Compile, Tree, Check, Disassemble, Assemble, Play, NoForm, list_of}
+use Rattle.nwq_top.specs.Command.{work_of, work_with, whole_work}
 use Rattle.nwq_top.specs.Endings.{ComesOf}
 use Rattle.nwq_top.specs.Program.{TellsUsage}
 
@@ -68,3 +75,29 @@ refusal_is_quiet Missing t t' h same = same
 refusal_is_quiet Fault t t' h same = same
 refusal_is_quiet Memory t t' h same = same
 refusal_is_quiet Long t t' h same = same
+
+-- ---- the works
+
+-- hooks that have these tables look cells up in them
+pub same_cells : (form : Form) (hooks : List Known) (tables : List Named) (r : Result Finished Status) (c c' : Contents) (t t' : List ℕ)
+    → tables_of hooks ≡ tables → Does (work_of (cells_of hooks) form) c t r c' t' → Does (work_with form tables) c t r c' t'
+same_cells form hooks tables r c c' t t' same does = subst (λ ts. Does (work_of (cell_of ts) form) c t r c' t') same does
+
+-- the work of the words goes on with the tables that were read
+pub whole_goes_on : (form : Form) (tables : List Named) (r : Result Finished Status) (c c1 c2 : Contents) (t t1 t2 : List ℕ)
+    → Does (tables_given (list_of form)) c t (Ok tables) c1 t1 → Does (work_with form tables) c1 t1 r c2 t2 → Does (whole_work form) c t r c2 t2
+unfolding whole_work
+whole_goes_on form tables r c c1 c2 t t1 t2 read does = then_ok (tables_given (list_of form)) (work_with form) tables c c1 c2 t t1 t2 r read does
+
+-- and ends where they are refused
+pub whole_ends : (form : Form) (status : Status) (c c' : Contents) (t t' : List ℕ) → StopsArea status
+    → Does (tables_given (list_of form)) c t (Err status) c' t' → Does (whole_work form) c t (ending status) c' t'
+unfolding whole_work
+whole_ends form status c c' t t' stops read =
+    subst (λ r. Does (whole_work form) c t r c' t') (sym (refusal_ends status stops))
+    (then_err (tables_given (list_of form)) (work_with form) status c c' t t' read)
+
+pub refusal_tallies : (status : Status) (before now : Counts) → StopsArea status → TalliesEnd status before now → Tallies (ending status) before now
+refusal_tallies status before now stops tally = subst (λ r. Tallies r before now) (sym (refusal_ends status stops)) tally
+
+pub ruleset program_ends = (memory_comes, refusal_comes, refusal_is_quiet, whole_goes_on, whole_ends, refusal_tallies)
