@@ -1,11 +1,13 @@
 ghost use Rattle.std.specs.Prelude.{◌≡◌, [], drop, map, None, Ok, IsTrue, IfErr};
 ghost use Rattle.world_core.specs.Calls.{cells_of, AreServing};
-ghost use Rattle.nwq_work.specs.Work.{Does, ending};
+ghost use Rattle.nwq_work.specs.Work.{IsCut, Does, ending};
 ghost use Rattle.nwq_work.specs.Counts.{Counted, Tallies, KeepsBut, StopsArea};
 ghost use Rattle.nwq_tables.specs.Tables.{tables_given};
 ghost use Rattle.nwq_top.specs.Words.{form_of, list_of};
 ghost use Rattle.nwq_top.specs.Command.{work_of, MayWrite};
+ghost use Rattle.words_meaning.specs.Reading.{AreBytes};
 ghost use Rattle.nwq_top.specs.Endings.{ComesOf};
+ghost use Rattle.nwq_top.specs.Meaning.{Means};
 ghost use Rattle.nwq_top.specs.Program.{status_number, status_numbered, words_of, usage_line};
 ghost use Rattle.nwq_top.specs.Program.{by_status, TellsUsage};
 
@@ -96,6 +98,11 @@ pub fn nwq_program<F: Files, S: Sink, E: Sink>(
     ensures does { IsTrue F.tells → IsTrue S.tells →
         Does (work_of (cells_of (map (λ h. h.known) hooks.now.all.items))
         (form_of (words_of all.now))) (F.contents files.old) (S.taken out.old)
+        (ending (status_numbered result)) (F.contents files.new) (S.taken out.new) }
+    ensures means { IsTrue F.tells → IsTrue S.tells → AreBytes (F.contents files.old) →
+        (IsCut (ending (status_numbered result)) → ⊥) →
+        Means (cells_of (map (λ h. h.known) hooks.now.all.items))
+        (form_of (words_of all.now)) (F.contents files.old) (S.taken out.old)
         (ending (status_numbered result)) (F.contents files.new) (S.taken out.new) }
     ensures counts { Tallies (ending (status_numbered result))
         (Counted (F.faults files.old) (F.absences files.old) (F.longs files.old) (S.faults out.old))
