@@ -1,44 +1,52 @@
 -- What `play` does.
-use Rattle.std.proofs.Common.{◌≡◌, ℕ, zero, suc, List, [], ◌++◌, map, Some, slice_get, Result, Ok, Err, sym, subst, ap}
+use Rattle.std.proofs.Common.{◌≡◌, ℕ, zero, suc, List, [], ◌++◌, map, Some, slice_get, Result, Ok, Err, sym, subst, ap, ◌∙◌, inl, inr, append_assoc}
+use Rattle.std.specs.FinMap as fin_map
 use Rattle.nwq_value.specs.Engine.{EngineTable, IsTable}
 use Rattle.nwq_outside.specs.Outside.{Contents}
-use Rattle.area_tree.specs.Area.{PlainArea}
+use Rattle.gff_write.specs.declared.fault.WriteFault.{WriteFault}
+use Rattle.gff_write.specs.File.{written, outcome_of}
+use Rattle.area_tree.specs.Area.{PlainArea, tree_back}
+use Rattle.engine_rows.specs.Trace.{trace_text}
+use Rattle.play_steps.specs.Plays.{PlayEnd, Done, OutOfEntries, StoppedInside, Paused, Played}
+use Rattle.play_meaning.specs.EndTexts.{source_end_text}
+use Rattle.source_meaning.specs.Evaluation.{Deferred}
 use Rattle.plan_text.specs.declared.plan.Plan.{Plan}
 use Rattle.plan_text.specs.declared.plan.Script.{Script as ScriptLine}
 use Rattle.machine_step.specs.Machine.{Script}
 use Rattle.engine_rows.specs.Pure.{CellLookup}
-use Rattle.source_meaning.specs.Scripts.{Listed}
+use Rattle.source_meaning.specs.Scripts.{Listed, Setting}
 use Rattle.source_meaning.specs.Executing.{script_of}
 use Rattle.header_tables.specs.Laws.{HeadersHaveTables, BuiltInIsTable}
 use Rattle.nwq_work.specs.declared.status.Status.{Status}
 use Rattle.nwq_work.specs.Refusal.{Refusal, line_of, status_of}
-use Rattle.nwq_work.specs.Work.{IsCut, Does, Finished}
+use Rattle.nwq_work.specs.Work.{Puts, then, puts, writes, IsCut, Does, Finished}
 use Rattle.nwq_work.specs.Parts.{then_ok, then_err}
 use Rattle.nwq_sources.specs.Headers.{table_of}
 use Rattle.nwq_sources.specs.Laws.{SureTables}
 use Rattle.nwq_areas.specs.Plans.{plan_named}
 use Rattle.nwq_areas.specs.Areas.{area_named}
+use Rattle.nwq_areas.specs.Finals.{final_by, final_written}
 use Rattle.nwq_areas.specs.Laws.{SurePlans, SureAreas}
 use Rattle.nwq_plays.specs.Laws.{SureLoaded}
 use Rattle.nwq_listings.specs.Listings.{lists_on, scripts_listed}
 use Rattle.nwq_listings.specs.Laws.{SureListed}
-use Rattle.nwq_games.specs.Games.{plays_plan, plays_area, plays_scripts, plays_under, plays}
+use Rattle.nwq_games.specs.Games.{ends_by, plays_plan, plays_area, plays_scripts, plays_under, plays}
 use Rattle.nwq_games.specs.Laws.{SurePlays}
 use Rattle.command_meaning.specs.Units.{IsUnitOf, UnitsPass}
 use Rattle.command_meaning.specs.Scripts.{HoldBytes, ScriptsHaveUnits}
 use Rattle.command_meaning.proofs.Compiling.{Parts, ends_first, goes_on, parts}
-use Rattle.plan_meaning.specs.Plans.{PlaysSources, FewStepsPlayAsMeant, UnstoppedPlansPlayAsMeant, StoppedPlansBeginAsMeant}
+use Rattle.plan_meaning.specs.Plans.{listing_of, source_plan_played, code_plan_played, PlaysSources, FewStepsPlayAsMeant, UnstoppedPlansPlayAsMeant, StoppedPlansBeginAsMeant}
 use Rattle.words_meaning.specs.Reading.{AreBytes}
 use Rattle.words_meaning.specs.Accepting.{HasHeader, HasSources, with_file, ReadsPlan, ReadsArea}
 use Rattle.words_meaning.specs.Accepting as accepting
 use Rattle.words_meaning.specs.Refusing.{RefusesHeader, RefusesPlan, RefusesArea, IsRefused}
-use Rattle.words_meaning.specs.Plans.{AcceptsPlay, AcceptsSources, RefusesPlay, of_plan, of_header, of_script, of_area, PlayComes, refused, accepted, MeansSources}
+use Rattle.words_meaning.specs.Plans.{AcceptsPlay, AcceptsSources, RefusesPlay, of_plan, of_header, of_script, of_area, PlayComes, refused, accepted, IsDone, MeansSources}
 use Rattle.words_meaning.specs.Laws.{PlaysMean}
 use Rattle.words_meaning.proofs.Coming.{value_or, Follows, follows, ends, cuts, then_follows, then_known}
 use Rattle.words_meaning.proofs.Reading.{header_does, header_refuses, header_comes, is_table}
 use Rattle.words_meaning.proofs.Plans.{plan_does, plan_refuses, plan_comes, area_does, area_refuses, area_comes}
 use Rattle.words_meaning.proofs.Listing.{scripts_do, scripts_refuse, Listings, all_listed, one_refused, scripts_come, are_scripts, still_bytes}
-use Rattle.words_meaning.proofs.Running.{source_bytes, as_refused, not_cut}
+use Rattle.words_meaning.proofs.Running.{not_stopped, source_bytes, as_refused, not_cut}
 
 -- each listed unit is that of a script
 are_units : ScriptsHaveUnits → (header : EngineTable) (lines : List ScriptLine) (c d : Contents) (listed : List Listed) → HoldBytes c → HasSources header lines c listed d
@@ -160,6 +168,30 @@ module _ (pass : UnitsPass) (units : ScriptsHaveUnits) (reads : HeadersHaveTable
         (then_known (table_of header) (plays_scripts cell area p to) (tables header) table c c c' t t t' r whole (header_does c t header table h.has_header)
         (then_known (plan_named plan) (plays_under cell header area to) (plans plan) p c c c' t t t' r whole (plan_does c t plan p h.reads_plan) does)))
 
+  -- the area of a play that is done is written, and then its end is told
+  area_done : (to text bytes : List ℕ) (o : Result (List ℕ) WriteFault) (c : Contents) (t : List ℕ) (r : Result Finished Status) (c' : Contents) (t' : List ℕ)
+      → o ≡ Ok bytes → (IsCut r → ⊥) → Does (then (final_by to o) (λ done. puts text)) c t r c' t'
+      → (r ≡ Ok tt) × (c' ≡ fin_map.insert c to bytes) × (t' ≡ t ++ text)
+  unfolding writes puts
+  area_done to text bytes (Ok file) c t r c' t' same whole (inl x) = absurd (whole x.0)
+  area_done to text bytes (Ok file) c t r c' t' same whole (inr (inl x)) = absurd (whole x.0)
+  area_done to text bytes (Ok file) c t r c' t' same whole (inr (inr (inr x, s))) = absurd (whole x)
+  area_done to text bytes (Ok file) c t r c' t' same whole (inr (inr (inl is, s))) =
+      let one : file ≡ bytes = cc in (is, s.0 ∙ ap (λ x. fin_map.insert c to x) one, s.1)
+  area_done to text bytes (Err fault) c t r c' t' same whole does = absurd cc
+
+  play_done : (to : List ℕ) (s : Setting) (count : ℕ) (p : Played Deferred) (bytes : List ℕ) (e : PlayEnd) (c : Contents) (t : List ℕ) (r : Result Finished Status)
+      (c' : Contents) (t' : List ℕ) → e ≡ Done → outcome_of (written (tree_back p.last.world.area)) ≡ Ok bytes → (IsCut r → ⊥)
+      → Does (Puts (trace_text p.last.trace) (ends_by e to p.last.world.area (source_end_text s count p))) c t r c' t' → IsDone to s count p bytes c t r c' t'
+  unfolding final_written
+  play_done to s count p bytes Done c t r c' t' same file whole (inl x) = absurd (whole x.0)
+  play_done to s count p bytes Done c t r c' t' same file whole (inr does) =
+      let k = area_done to (source_end_text s count p) bytes (outcome_of (written (tree_back p.last.world.area))) c (t ++ trace_text p.last.trace) r c' t' file whole does in
+      record { answer = k.0; taken = k.2 ∙ append_assoc t (trace_text p.last.trace) (source_end_text s count p); contents = k.1 }
+  play_done to s count p bytes OutOfEntries c t r c' t' same file whole does = absurd cc
+  play_done to s count p bytes StoppedInside c t r c' t' same file whole does = absurd cc
+  play_done to s count p bytes Paused c t r c' t' same file whole does = absurd cc
+
   module _ (few : FewStepsPlayAsMeant) (unstopped : UnstoppedPlansPlayAsMeant) (stopped : StoppedPlansBeginAsMeant) where
     sources_mean : (cell : CellLookup) (header area plan to : List ℕ) (c : Contents) (t : List ℕ) (r : Result Finished Status) (c' : Contents) (t' : List ℕ)
         → AreBytes c → (IsCut r → ⊥) → Does (plays cell header area plan to) c t r c' t'
@@ -176,6 +208,10 @@ module _ (pass : UnitsPass) (units : ScriptsHaveUnits) (reads : HeadersHaveTable
         } in
         record {
           few = few cell table a p listed to left t r c' t' played;
+          complete = λ n bytes large done file.
+              let does = few cell table a p listed to left t r c' t' played n large (λ stopped. not_stopped (sym done ∙ stopped)) in
+              play_done to (listing_of cell table listed) (code_plan_played cell table a p listed).last.count (source_plan_played cell table a p listed n) bytes
+              (source_plan_played cell table a p listed n).ending left t r c' t' done file whole does.does;
           unstopped = unstopped cell table a p listed to left t r c' t' played;
           stopped = stopped cell table a p listed to left t r c' t' played;
         }

@@ -1,5 +1,5 @@
 -- What `run` and `compile` do.
-use Rattle.std.proofs.Common.{inl, inr, ℕ, List, ◌++◌, length, Result, Err}
+use Rattle.std.proofs.Common.{◌≡◌, inl, inr, ℕ, List, ◌++◌, length, Result, Err, sym, ap, ◌∙◌}
 use Rattle.nwq_value.specs.Engine.{EngineTable, IsTable}
 use Rattle.nwq_outside.specs.Outside.{Contents}
 use Rattle.nss_include.specs.Names.{file_name}
@@ -20,7 +20,8 @@ use Rattle.nwq_plays.specs.Plays.{plays_file}
 use Rattle.nwq_plays.specs.Laws.{SureLoaded, SurePlays}
 use Rattle.command_meaning.specs.Units.{UnitsPass}
 use Rattle.command_meaning.specs.Files.{PlaysFile}
-use Rattle.command_meaning.specs.Runs.{FewStepsEndAsMeant, UnstoppedRunsEndAsMeant, StoppedRunsBeginAsMeant}
+use Rattle.play_steps.specs.Plays.{Done, StoppedInside}
+use Rattle.command_meaning.specs.Runs.{answer_by, FewStepsEndAsMeant, UnstoppedRunsEndAsMeant, StoppedRunsBeginAsMeant}
 use Rattle.command_meaning.specs.Scripts.{HoldBytes, ScriptsHaveUnits}
 use Rattle.words_meaning.specs.Reading.{AreBytes}
 use Rattle.words_meaning.specs.Accepting.{HasHeader}
@@ -31,6 +32,10 @@ use Rattle.words_meaning.proofs.Coming.{Follows, follows, ends, cuts, then_follo
 use Rattle.words_meaning.proofs.Reading.{header_does, header_refuses, header_comes, is_table}
 use Rattle.words_meaning.proofs.Sources.{IsMade, source_does, source_refuses, source_comes}
 use Rattle.words_meaning.proofs.Listing.{compiles as compiles_so}
+
+-- a play that is done wasn't stopped
+pub not_stopped : Done ≡ StoppedInside → ⊥
+not_stopped e = absurd cc
 
 pub source_bytes : (c : Contents) → AreBytes c → HoldBytes c
 source_bytes c held name bytes is = held (file_name name) bytes is
@@ -121,6 +126,7 @@ module _ (pass : UnitsPass) (units : ScriptsHaveUnits) (reads : HeadersHaveTable
               } in
               record {
                 few = few cell table script unit c t r c' t' file whole;
+                complete = λ done. let told = few cell table script unit c t r c' t' file whole (λ stopped. not_stopped (sym done ∙ stopped)) in told.answer ∙ ap answer_by done;
                 unstopped = unstopped cell table script unit c t r c' t' file whole;
                 stopped = stopped cell table script unit c t r c' t' file whole;
               };

@@ -1,13 +1,18 @@
 -- What the words `play HEADER AREA PLAN TO` mean.
-use Rattle.std.specs.Prelude.{◌≡◌, ◌≢◌, ◌≤◌, ℕ, ◌*◌, List, Result}
+use Rattle.std.specs.Prelude.{◌≡◌, ◌≢◌, ◌≤◌, ℕ, ◌*◌, List, ◌++◌, Result, Ok}
+use Rattle.std.specs.FinMap as fin_map
 use Rattle.nwq_value.specs.Engine.{EngineTable}
 use Rattle.nwq_outside.specs.Outside.{Contents}
-use Rattle.area_tree.specs.Area.{PlainArea}
+use Rattle.gff_write.specs.File.{written, outcome_of}
+use Rattle.area_tree.specs.Area.{PlainArea, tree_back}
 use Rattle.plan_text.specs.declared.plan.Plan.{Plan}
 use Rattle.machine_step.specs.Machine.{Script}
 use Rattle.engine_rows.specs.Pure.{CellLookup}
-use Rattle.play_steps.specs.Plays.{StoppedInside}
-use Rattle.source_meaning.specs.Scripts.{Listed}
+use Rattle.engine_rows.specs.Trace.{trace_text}
+use Rattle.play_steps.specs.Plays.{Done, StoppedInside, Played}
+use Rattle.play_meaning.specs.EndTexts.{source_end_text}
+use Rattle.source_meaning.specs.Evaluation.{Deferred}
+use Rattle.source_meaning.specs.Scripts.{Listed, Setting}
 use Rattle.source_meaning.specs.Ledger.{step_cost}
 use Rattle.nwq_work.specs.declared.status.Status.{Status}
 use Rattle.nwq_work.specs.Refusal.{Refusal}
@@ -50,6 +55,13 @@ pub data PlayComes (header area plan : List ℕ) (c : Contents) : Type 0 where
 
 -- ---- what is told and left
 
+-- A play of source was done: its lines and the text of its end were put, and the one file of its area is left under this name.
+pub record IsDone (to : List ℕ) (s : Setting) (count : ℕ) (source : Played Deferred) (bytes : List ℕ) (c : Contents) (t : List ℕ)
+    (r : Result Finished Status) (c' : Contents) (t' : List ℕ) : Type 0 where
+  pub answer : r ≡ Ok tt
+  pub taken : t' ≡ t ++ (trace_text source.last.trace ++ source_end_text s count source)
+  pub contents : c' ≡ fin_map.insert c to bytes
+
 -- What is told, and left of the area, of the play of the listed sources, which `source_plan_played` gives with so many steps for an entry.
 -- The play of their files is `code_plan_played`, with the plan's own limit of instructions.
 pub record MeansSources (cell : CellLookup) (table : EngineTable) (a : PlainArea) (p : Plan) (listed : List Listed) (to : List ℕ)
@@ -57,6 +69,10 @@ pub record MeansSources (cell : CellLookup) (table : EngineTable) (a : PlainArea
   -- where each entry of the sources ends in n steps, and 16 n is within the limit, all is as the sources mean
   pub few : (n : ℕ) → step_cost * n ≤ p.limit → (source_plan_played cell table a p listed n).ending ≢ StoppedInside
       → DoesMeaning to (listing_of cell table listed) (code_plan_played cell table a p listed) (source_plan_played cell table a p listed n) c t r c' t'
+  -- so where no further entry is due at their end, and the file of the area isn't too large, the play is done
+  pub complete : (n : ℕ) (bytes : List ℕ) → step_cost * n ≤ p.limit → (source_plan_played cell table a p listed n).ending ≡ Done
+      → outcome_of (written (tree_back (source_plan_played cell table a p listed n).last.world.area)) ≡ Ok bytes
+      → IsDone to (listing_of cell table listed) (code_plan_played cell table a p listed).last.count (source_plan_played cell table a p listed n) bytes c t r c' t'
   -- so it is, with as many steps as the plan allows instructions, where no entry of the files was stopped
   pub unstopped : (code_plan_played cell table a p listed).ending ≢ StoppedInside
       → DoesMeaning to (listing_of cell table listed) (code_plan_played cell table a p listed) (source_plan_played cell table a p listed p.limit) c t r c' t'

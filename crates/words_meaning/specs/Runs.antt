@@ -6,7 +6,7 @@ use Rattle.nwq_outside.specs.Outside.{Contents}
 use Rattle.nss_typing.specs.Typed.{TypedUnit}
 use Rattle.code_emission.specs.Units.{unit_file}
 use Rattle.engine_rows.specs.Pure.{CellLookup}
-use Rattle.play_steps.specs.Plays.{StoppedInside}
+use Rattle.play_steps.specs.Plays.{Done, StoppedInside}
 use Rattle.nwq_work.specs.declared.status.Status.{Status}
 use Rattle.nwq_work.specs.Refusal.{Refusal}
 use Rattle.nwq_work.specs.Work.{Finished}
@@ -41,6 +41,8 @@ pub record MeansScript (cell : CellLookup) (table : EngineTable) (name : List �
   -- where each entry of the source ends in 8,192 steps, it is told as the source means
   pub few : (source_played cell table name unit sure_steps).ending ≢ StoppedInside
       → TellsMeaning (setting_of cell table name unit) (code_played cell table name unit) (source_played cell table name unit sure_steps) c t r c' t'
+  -- so where no further entry is due at its end, the play is done
+  pub complete : (source_played cell table name unit sure_steps).ending ≡ Done → r ≡ Ok tt
   -- so it is, with 131,072 steps for an entry, where no entry of the file was stopped
   pub unstopped : (code_played cell table name unit).ending ≢ StoppedInside
       → TellsMeaning (setting_of cell table name unit) (code_played cell table name unit) (source_played cell table name unit default_instruction_limit) c t r c' t'
