@@ -4,6 +4,8 @@
 #[cfg(test)]
 mod files;
 #[cfg(test)]
+mod fits;
+#[cfg(test)]
 mod passed;
 #[cfg(test)]
 mod unstacked;

@@ -57,8 +57,8 @@ abbrev body : TypedStmts
 body = stmts (
     s.while_loop 0 (two bin.Less (local 1) (e.name t.Int (Global 0))) (s.expression 0 (e.postfix t.Int post.Increment (local 1)))
     ∷ s.switch 0 (local 1) (stmts (
-        s.case_label 0 (c.Int (pos 1)) ∷ s.return_from 0 (Some (local 1)) ∷ s.default_label 0 ∷ s.declaration 0 t.Int (declared 2 (int 2) ∷ [])
-        ∷ s.expression 0 (e.assign t.Int asg.Set (local 1) (local 2)) ∷ []))
+    s.case_label 0 (c.Int (pos 1)) ∷ s.return_from 0 (Some (local 1)) ∷ s.default_label 0 ∷ s.declaration 0 t.Int (declared 2 (int 2) ∷ [])
+    ∷ s.expression 0 (e.assign t.Int asg.Set (local 1) (local 2)) ∷ []))
     ∷ s.return_from 0 (Some (e.call t.Int (InUnit 0) (args (two bin.Subtract (local 1) (int 1) ∷ [])) []))
     ∷ [])
 
@@ -118,13 +118,15 @@ f_fine = record {
   parameters = (refl, refl, tt);
   body = (
     (((parameter_fine, global_fine (1 ∷ []), refl), refl), (parameter_fine, refl, refl, refl), tt),
-    ((
-      (parameter_fine, refl),
-      (refl, ((parameter_fine, refl, omega arith), (tt, ((refl, refl, (tt, refl), tt), ((parameter_behind, inner_fine, refl, refl), tt))))),
-      (inl tt, (inl tt, (inl tt, (inr (refl, tt), (inl tt, tt))))),
+    (
+      (
+        (parameter_fine, refl),
+        (refl, ((parameter_fine, refl, omega arith), (tt, ((refl, refl, (tt, refl), tt), ((parameter_behind, inner_fine, refl, refl), tt))))),
+        (inl tt, (inl tt, (inl tt, (inr (refl, tt), (inl tt, tt))))),
+      ),
+      ((((calls_f (two bin.Subtract (local 1) (int 1)) refl, ((parameter_fine, tt, refl), value_argument _ refl refl, tt)), refl, omega arith), tt)),
     ),
-    ((((calls_f (two bin.Subtract (local 1) (int 1)) refl, ((parameter_fine, tt, refl), value_argument _ refl refl, tt)), refl, omega arith), tt)),
-  ));
+  );
   switches = (tt, (((inl tt, (inl tt, (inl tt, (inr refl, (inl tt, tt))))), (refl, (tt, (tt, (tt, (tt, tt)))))), (tt, tt)));
 }
 
@@ -159,10 +161,18 @@ main_fine =
     record {
       parameters = tt;
       body = (
-        (delay_called (int 1) (e.call t.Void (Engine 0) (args (call ∷ [])) []) refl refl, (tt, value_argument (int 1) refl refl, (
-          (print_called call refl, ((calls_f (e.name t.Int (Global 0)) refl, (global_fine [], value_argument _ refl refl, tt)), value_argument call refl refl, tt)),
-          record { made = λ g. refl; value = λ g. absurd cc }, tt,
-        ))),
+        (
+          delay_called (int 1) (e.call t.Void (Engine 0) (args (call ∷ [])) []) refl refl,
+          (
+            tt,
+            value_argument (int 1) refl refl,
+            (
+              (print_called call refl, ((calls_f (e.name t.Int (Global 0)) refl, (global_fine [], value_argument _ refl refl, tt)), value_argument call refl refl, tt)),
+              record { made = λ g. refl; value = λ g. absurd cc },
+              tt,
+            ),
+          ),
+        ),
         tt,
       );
       switches = (tt, tt);

@@ -364,10 +364,12 @@ module _ (header : EngineTable) (functions : List Function) (x : Site) (bodies t
         let count : count_arguments es + length ks ≡ length c.routine.params = sym (arguments_count es ks) ∙ ap length c.arguments ∙ length-map c.routine.params (λ p. p.ty) in
         let before : argument_cells es ++ (map const_type ks ++ ts) ≡ (argument_cells es ++ map const_type ks) ++ ts = sym (append_assoc (argument_cells es) (map const_type ks) ts) in
         let given : value t ≡ result_types c.routine.result = ap reverse c.result ∙ result_single c.routine.result in
-        record { by = one header total callee_of (ops.Action number (count_arguments es + length ks)) tt
-        (ap (λ (us : List Ty). rule header (ops.Action number (count_arguments es + length ks)) (over g (p + actions_in es) us)) before
-        ∙ engine_turns g p (actions_in es) number (count_arguments es + length ks) c.routine (argument_cells es ++ map const_type ks) ts c.is c.callable count taken.actions taken.types
-        ∙ ap (λ (us : List Ty). Some (over g p (us ++ ts))) (sym given)) }
+        record {
+          by = one header total callee_of (ops.Action number (count_arguments es + length ks)) tt
+              (ap (λ (us : List Ty). rule header (ops.Action number (count_arguments es + length ks)) (over g (p + actions_in es) us)) before
+              ∙ engine_turns g p (actions_in es) number (count_arguments es + length ks) c.routine (argument_cells es ++ map const_type ks) ts c.is c.callable count taken.actions taken.types
+              ∙ ap (λ (us : List Ty). Some (over g p (us ++ ts))) (sym given));
+        }
 
     call_unit : (f : ℕ) → CallsFunction functions t f es ks → g.under ≡ map Of globals
         → Code P g (p + actions_in es) p n 0 place (argument_cells es ++ (map const_type ks ++ (value t ++ ts))) (value t ++ ts) (JumpTo Jsr f ∷ [])
@@ -380,22 +382,24 @@ module _ (header : EngineTable) (functions : List Function) (x : Site) (bodies t
         sym (append_assoc (argument_cells es) (map const_type ks) (value t ++ ts))
         ∙ ap (λ (us : List Ty). us ++ (value t ++ ts)) (arguments_are es ks fn.parameters c.arguments c.values)
         ∙ ap (λ (us : List Ty). args ++ (us ++ ts)) room in
-        record { by = calling header total callee_of f (record {
-          callee = callee_for l.structs globals fn;
-          known = callees f fn c.is;
-          rest = map Of ts ++ g.mid;
-          cells = ap (λ (us : List Ty). map Of us ++ g.mid) before
-              ∙ sym (append_assoc (map Of args) (map Of (value fn.result)) (map Of ts ++ g.mid)
-              ∙ ap (λ (cells : List Slot). map Of args ++ cells) (on_top (value fn.result) ts g.mid)
-              ∙ on_top args (value fn.result ++ ts) g.mid);
-          deeper = [];
-          under = under ∙ sym (append-nil (map Of globals));
-          given = map Of (value fn.result);
-          gives = refl;
-          left = ap (λ (us : List Ty). over g p (us ++ ts)) room
-              ∙ ap (λ (cells : List Slot). record (over g p ts) { cells = cells }) (sym (on_top (value fn.result) ts g.mid))
-              ∙ ap (λ (q : ℕ). record { cells = map Of (value fn.result) ++ (map Of ts ++ g.mid); under = g.under; saved = g.saved; pending = q }) (sym none);
-        }) }
+        record {
+          by = calling header total callee_of f (record {
+            callee = callee_for l.structs globals fn;
+            known = callees f fn c.is;
+            rest = map Of ts ++ g.mid;
+            cells = ap (λ (us : List Ty). map Of us ++ g.mid) before
+                ∙ sym (append_assoc (map Of args) (map Of (value fn.result)) (map Of ts ++ g.mid)
+                ∙ ap (λ (cells : List Slot). map Of args ++ cells) (on_top (value fn.result) ts g.mid)
+                ∙ on_top args (value fn.result ++ ts) g.mid);
+            deeper = [];
+            under = under ∙ sym (append-nil (map Of globals));
+            given = map Of (value fn.result);
+            gives = refl;
+            left = ap (λ (us : List Ty). over g p (us ++ ts)) room
+                ∙ ap (λ (cells : List Slot). record (over g p ts) { cells = cells }) (sym (on_top (value fn.result) ts g.mid))
+                ∙ ap (λ (q : ℕ). record { cells = map Of (value fn.result) ++ (map Of ts ++ g.mid); under = g.under; saved = g.saved; pending = q }) (sym none);
+          });
+        }
 
   -- ---- expressions, by their parts
 
@@ -580,7 +584,7 @@ module _ (header : EngineTable) (functions : List Function) (x : Site) (bodies t
       (λ m. emit l m depth a) (λ m. emit l m (depth + cells l.structs (type_of a)) b) fine.2 (omega arith)
       (λ Q m q less. first Q g p m q depth scope ts reach sight (may (λ (c : CallsEngine a × CallsEngine b). c.0) calls) fine.0 is.3 less d)
       (λ Q m q less. second Q g p m q (depth + cells l.structs (type_of a)) scope (value (type_of a) ++ ts) reach (in_sight_over scope (value (type_of a)) ts sight)
-          (may (λ (c : CallsEngine a × CallsEngine b). c.1) calls) fine.1 is.4 less (deeper depth (value (type_of a)) ts _ (value_length l.structs (type_of a)) d))
+      (may (λ (c : CallsEngine a × CallsEngine b). c.1) calls) fine.1 is.4 less (deeper depth (value (type_of a)) ts _ (value_length l.structs (type_of a)) d))
 
   -- ---- assignments
 
@@ -691,10 +695,12 @@ module _ (header : EngineTable) (functions : List Function) (x : Site) (bodies t
       ∙ ap (λ (m : ℕ). stored_types (bytes_of (length globals)) (bytes_of m) (map Of globals) (map Of ts ++ g.mid)) d
       ∙ ap (λ (us : List Ty). stored_types (bytes_of (length globals)) (bytes_of (length ts)) (map Of globals) (map Of us ++ g.mid)) (sym (append-nil ts))
       ∙ stored_there globals ts [] g.mid in
-      record { by = with_label header total callee_of own
-      (line_and header total callee_of (store header total callee_of (bytes_of l.globals) (bytes_of depth) n (record { globals = globals; locals = ts }) found (λ spot_of holds. holds.1) (omega arith))
-      (and_line header total callee_of (each Q inner 0 (n + 1) _ depth scope ts (λ made. refl) sight (inl made) fine is (omega arith) d).by
-      (and_line header total callee_of (back header total callee_of {next = Some own} tt) (mark header total callee_of n (λ spot_of holds. holds.1))))) refl refl }
+      record {
+        by = with_label header total callee_of own
+            (line_and header total callee_of (store header total callee_of (bytes_of l.globals) (bytes_of depth) n (record { globals = globals; locals = ts }) found (λ spot_of holds. holds.1) (omega arith))
+            (and_line header total callee_of (each Q inner 0 (n + 1) _ depth scope ts (λ made. refl) sight (inl made) fine is (omega arith) d).by
+            (and_line header total callee_of (back header total callee_of {next = Some own} tt) (mark header total callee_of n (λ spot_of holds. holds.1))))) refl refl;
+      }
 
   argument_flows : {P : (ℕ → Spot) → Type 0} (g : Ground) (p n place depth : ℕ) (scope : List ℕ) (ts : List Ty) (e : TypedExpr) (b : Bool) → Emits e → is_captured e ≡ b
       → Reaches g → InSight scope ts → (is_captured e ≡ false → MayCall e) → IsFine header functions x scope e → IsArgument x e → IsExpr bodies l e → n + argument_labels b + labels e ≤ total → depth ≡ length ts

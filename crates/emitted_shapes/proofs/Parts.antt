@@ -40,10 +40,10 @@ module _ (header : EngineTable) (total : ℕ) (callee_of : ℕ → Option Callee
     spots = f.spots ++ g.spots;
     many = omega (arith, length-append f.spots g.spots, f.many, g.many);
     flow = λ spot_of labels holds. (
-      let parts = labelled_both spot_of n f.spots g.spots labels in
-      let second : Labelled spot_of k g.spots = subst (λ m. Labelled spot_of m g.spots) (omega (arith, f.many)) parts.1 in
-      flow_then header total callee_of spot_of place (place + lines_size xs) spot middle out xs ys refl
-      (f.flow spot_of parts.0 holds) (g.flow spot_of second holds));
+        let parts = labelled_both spot_of n f.spots g.spots labels in
+        let second : Labelled spot_of k g.spots = subst (λ m. Labelled spot_of m g.spots) (omega (arith, f.many)) parts.1 in
+        flow_then header total callee_of spot_of place (place + lines_size xs) spot middle out xs ys refl
+        (f.flow spot_of parts.0 holds) (g.flow spot_of second holds));
   }
 
   none_labelled : (spot_of : ℕ → Spot) (n : ℕ) (ss : List Spot) → length ss ≡ 0 → Labelled spot_of n ss
@@ -158,6 +158,6 @@ module _ (header : EngineTable) (total : ℕ) (callee_of : ℕ → Option Callee
     spots = first ∷ second ∷ third ∷ f.spots;
     many = omega (arith, f.many);
     flow = λ spot_of labels holds. (
-      let two : n + 1 + 1 ≡ n + 2 = omega arith in
-      f.flow spot_of (subst (λ m. Labelled spot_of m f.spots) (omega (arith, is)) labels.1.1.1) (holds, labels.0, labels.1.0, subst (λ m. spot_of m ≡ third) two labels.1.1.0));
+        let two : n + 1 + 1 ≡ n + 2 = omega arith in
+        f.flow spot_of (subst (λ m. Labelled spot_of m f.spots) (omega (arith, is)) labels.1.1.1) (holds, labels.0, labels.1.0, subst (λ m. spot_of m ≡ third) two labels.1.1.0));
   }

@@ -401,13 +401,15 @@ module _ (header : EngineTable) (functions : List Function) (x : Site) (bodies t
         → Lines (λ spot_of. P spot_of × ((i : ℕ) → i < count → spot_of (n + i) ≡ own)) k a place ts us lines → k ≡ n + count → c ≡ count + a → Lines P n c place ts us lines
     with_same {n = n} {k = k} count own f is sum =
         let many = repeated_length count own in
-        record { by = record {
-          spots = repeated count own ++ f.by.spots;
-          many = omega (arith, length-append (repeated count own) f.by.spots, many, f.by.many);
-          flow = λ spot_of labels holds. (
-            let parts = labelled_both spot_of n (repeated count own) f.by.spots labels in
-            f.by.flow spot_of (subst (λ m. Labelled spot_of m f.by.spots) (omega (arith, many)) parts.1) (holds, λ i lt. repeated_is spot_of n count own parts.0 i lt));
-        } }
+        record {
+          by = record {
+            spots = repeated count own ++ f.by.spots;
+            many = omega (arith, length-append (repeated count own) f.by.spots, many, f.by.many);
+            flow = λ spot_of labels holds. (
+                let parts = labelled_both spot_of n (repeated count own) f.by.spots labels in
+                f.by.flow spot_of (subst (λ m. Labelled spot_of m f.by.spots) (omega (arith, many)) parts.1) (holds, λ i lt. repeated_is spot_of n count own parts.0 i lt));
+          };
+        }
 
     shifted : (P : (ℕ → Spot) → Type 0) (at count : ℕ) (ts : List Ty) → ((k : ℕ) → k < 1 + count → Knows P (at + k) ts) → (k : ℕ) → k < count → Knows P (at + 1 + k) ts
     shifted P at count ts known k lt spot_of holds =

@@ -91,9 +91,10 @@ some_calls hs c e t is (There.present {a = a} {b = b} h) = calls_engine hs c fal
 
 names_call : (hs : List Head) (c : Sight) (t : Option Ty) (ds : List SourceDeclared) (us : List TypedName) → c.at_file ≡ true → TypesNames hs c t ds us → NamesCallEngine us
 names_call hs c t ds us is (TypesNames.none d s) = tt
-names_call hs c t ds us is (TypesNames.more d s {d = a} {ds = others} {u = u} {us = vs} h k) =
-    (subst SomeCallsEngine (ap (λ (n : TypedName). n.value) (when_is _ _ u h.gives)) (some_calls hs d a.value h.typed.1 is h.parts.1),
-    names_call hs (declared d a.name s) s others vs is k)
+names_call hs c t ds us is (TypesNames.more d s {d = a} {ds = others} {u = u} {us = vs} h k) = (
+  subst SomeCallsEngine (ap (λ (n : TypedName). n.value) (when_is _ _ u h.gives)) (some_calls hs d a.value h.typed.1 is h.parts.1),
+  names_call hs (declared d a.name s) s others vs is k,
+)
 
 names_both : (xs ys : List TypedName) → NamesCallEngine xs → NamesCallEngine ys → NamesCallEngine (xs ++ ys)
 names_both [] ys f g = g

@@ -54,9 +54,10 @@ lookup (s ∷ ss) (suc n) = lookup ss n
 labelled_lookup : (spot_of : ℕ → Spot) (n : ℕ) (ss : List Spot) → ((i : ℕ) → i < length ss → spot_of (n + i) ≡ lookup ss i) → Labelled spot_of n ss
 labelled_lookup spot_of n [] h = tt
 labelled_lookup spot_of n (s ∷ ss) h =
-    let here : n ≡ n + 0 = omega arith in
-    (ap spot_of here ∙ h 0 (omega arith),
-    labelled_lookup spot_of (n + 1) ss (λ i lt. (let same : n + 1 + i ≡ n + suc i = omega arith in ap spot_of same ∙ h (suc i) (omega arith))))
+    let here : n ≡ n + 0 = omega arith in (
+      ap spot_of here ∙ h 0 (omega arith),
+      labelled_lookup spot_of (n + 1) ss (λ i lt. (let same : n + 1 + i ≡ n + suc i = omega arith in ap spot_of same ∙ h (suc i) (omega arith))),
+    )
 
 own_labels : (ss : List Spot) → Labelled (lookup ss) 0 ss
 own_labels ss = labelled_lookup (lookup ss) 0 ss (λ i lt. (let same : 0 + i ≡ i = omega arith in ap (lookup ss) same))
@@ -285,18 +286,20 @@ module _ (header : EngineTable) (u : TypedUnit) (bounded : IsBounded u) (typed :
       let taken : map Of (parameter_cells l.structs fn.parameters) ++ map Of (value_types l.structs fn.result) ≡ map Of (value_types l.structs t) =
       ap (λ (ps : List TypedParameter). map Of (parameter_cells l.structs ps) ++ map Of (value_types l.structs fn.result)) e.parameters
       ∙ ap (λ (r : Ty). map Of (value_types l.structs r)) e.result in
-      record { by = calling header total callee_of f (record {
-        callee = callee_for l.structs globals fn;
-        known = callees f fn e.is;
-        rest = map Of ts ++ g.mid;
-        cells = sym (on_top (value_types l.structs t) ts g.mid) ∙ ap (λ (cells : List Slot). cells ++ (map Of ts ++ g.mid)) (sym taken);
-        deeper = [];
-        under = under ∙ sym (append-nil (map Of globals));
-        given = map Of (value_types l.structs fn.result);
-        gives = refl;
-        left = ap (λ (cells : List Slot). record (over g 0 ts) { cells = cells })
-            (sym (on_top (value_types l.structs t) ts g.mid) ∙ ap (λ (r : Ty). map Of (value_types l.structs r) ++ (map Of ts ++ g.mid)) (sym e.result));
-      }) }
+      record {
+        by = calling header total callee_of f (record {
+          callee = callee_for l.structs globals fn;
+          known = callees f fn e.is;
+          rest = map Of ts ++ g.mid;
+          cells = sym (on_top (value_types l.structs t) ts g.mid) ∙ ap (λ (cells : List Slot). cells ++ (map Of ts ++ g.mid)) (sym taken);
+          deeper = [];
+          under = under ∙ sym (append-nil (map Of globals));
+          given = map Of (value_types l.structs fn.result);
+          gives = refl;
+          left = ap (λ (cells : List Slot). record (over g 0 ts) { cells = cells })
+              (sym (on_top (value_types l.structs t) ts g.mid) ∙ ap (λ (r : Ty). map Of (value_types l.structs r) ++ (map Of ts ++ g.mid)) (sym e.result));
+        });
+      }
 
   entry_flows : (g : Ground) (n place : ℕ) (entry : EntryPoint) → g.under ≡ map Of globals → IsFineEntry fs entry
       → Turn header total callee_of Known g 0 0 n 0 place [] [] (entry_call entry)
@@ -406,11 +409,13 @@ module _ (header : EngineTable) (u : TypedUnit) (bounded : IsBounded u) (typed :
           at_bodies : (c : Bool) → eqb label bodies ≡ c → cond c (Some start_callee) None ≡ Some callee → (label < total) × (spot_of label ≡ first_spot label callee)
           at_bodies true e h =
               let same : label ≡ bodies = (Decides-eqb label bodies).0 e in
-              let one : start_callee ≡ callee = cc in
-              (omega (arith, same, ap (λ b. start_labels b u.items) is),
-              subst (λ (m : ℕ). spot_of m ≡ first_spot m callee) (sym same) (holds.1 is ∙ ap (first_spot bodies) one))
+              let one : start_callee ≡ callee = cc in (
+                omega (arith, same, ap (λ b. start_labels b u.items) is),
+                subst (λ (m : ℕ). spot_of m ≡ first_spot m callee) (sym same) (holds.1 is ∙ ap (first_spot bodies) one),
+              )
           at_bodies false e h = absurd cc
       here false is h = absurd cc
+
       on : (o : Option Function) → slice_get fs label ≡ o → callee_at l.structs globals (has_globals u.items) bodies label o ≡ Some callee → (label < total) × (spot_of label ≡ first_spot label callee)
       on (Some fn) is h =
           let one : callee_for l.structs globals fn ≡ callee = cc in
@@ -434,10 +439,13 @@ module _ (header : EngineTable) (u : TypedUnit) (bounded : IsBounded u) (typed :
       let third : Labelled spot_of (bodies + own_count b) flow.spots = subst (λ m. Labelled spot_of m flow.spots) (ap (λ k. bodies + k) (own_length b)) two_part.1 in
       let holds : Known spot_of = (
         λ f fn is. (let same : 0 + f ≡ f = omega arith in subst (λ m. spot_of m ≡ first_spot m (callee_for l.structs globals fn)) same (first_known l.structs globals spot_of 0 fs one_part.0 f fn is)),
-        λ is. own_known b spot_of bodies two_part.0 is) in
-      let f = flow.flow spot_of third holds in
-      (table_of (place_of (unit_code u).lines) callee_of (walk header total callee_of spot_of f), flowing_meets header total callee_of spot_of some (program (unit_code u).lines) (place_of (unit_code u).lines) (unit_code u).lines f (stand u)
-      (λ label lt. placed_some label total (placements (unit_code u).lines label) (placed u label) lt) (known_callee spot_of holds))
+        λ is. own_known b spot_of bodies two_part.0 is,
+      ) in
+      let f = flow.flow spot_of third holds in (
+        table_of (place_of (unit_code u).lines) callee_of (walk header total callee_of spot_of f),
+        flowing_meets header total callee_of spot_of some (program (unit_code u).lines) (place_of (unit_code u).lines) (unit_code u).lines f (stand u)
+            (λ label lt. placed_some label total (placements (unit_code u).lines label) (placed u label) lt) (known_callee spot_of holds),
+      )
     where
       placed_some : (label total count : ℕ) → count ≡ cond (nat_lt label total) 1 0 → label < total → 1 ≤ count
       placed_some label total count is lt = grind (arith, nat_tests)

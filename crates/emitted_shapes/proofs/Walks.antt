@@ -359,13 +359,13 @@ flowing_meets header total callee_of spot_of some code places lines f stand plac
     record {
       start = shape_is header total callee_of spot_of some code places spot_at header_size begin (starts header total callee_of spot_of f);
       entered = λ target callee h. (
-        let g = has_callee places callee_of target callee (spot_at target) h in
-        subst (λ t. (table_of places callee_of spot_at).at (Called t) t ≡ Some (first_shape callee)) g.is
-        (shape_is header total callee_of spot_of some code places spot_at (places g.label) (first_spot g.label callee) (known g.label callee g.known)));
+          let g = has_callee places callee_of target callee (spot_at target) h in
+          subst (λ t. (table_of places callee_of spot_at).at (Called t) t ≡ Some (first_shape callee)) g.is
+          (shape_is header total callee_of spot_of some code places spot_at (places g.label) (first_spot g.label callee) (known g.label callee g.known)));
       each = λ entry place shape h. (
-        let g = has_spot places (spot_at place) entry shape h in
-        let sound = sound_at header total callee_of spot_of some code places spot_at there known f refl stand (λ p le. refl) place g.spot g.there in
-        subst (IsSound header code (table_of places callee_of spot_at) entry place) g.same
-        (subst (λ e. IsSound header code (table_of places callee_of spot_at) e place g.spot.shape) (sym g.way)
-        (record { op = sound.op; stands = sound.stands; obeys = sound.obeys })));
+          let g = has_spot places (spot_at place) entry shape h in
+          let sound = sound_at header total callee_of spot_of some code places spot_at there known f refl stand (λ p le. refl) place g.spot g.there in
+          subst (IsSound header code (table_of places callee_of spot_at) entry place) g.same
+          (subst (λ e. IsSound header code (table_of places callee_of spot_at) e place g.spot.shape) (sym g.way)
+          (record { op = sound.op; stands = sound.stands; obeys = sound.obeys })));
     }

@@ -15,3 +15,4 @@ pub mod Visits
 pub mod Storing
 pub mod Passing
 pub mod Ending
+pub mod Fitting

@@ -4,3 +4,4 @@ pub mod Rows
 pub mod Facts
 pub mod Checked
 pub mod Inference
+pub mod Fitting

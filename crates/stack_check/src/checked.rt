@@ -1,15 +1,18 @@
-ghost use Rattle.std.specs.Prelude.{◌≡◌, IfOk, Err};
+ghost use Rattle.std.specs.Prelude.{◌≡◌, ◌↔◌, IfOk, Err, IsTrue};
 ghost use Rattle.shape_tables.specs.Tables.{ShapeTable};
+ghost use Rattle.shape_tables.specs.Fits.{Fits};
 ghost use Rattle.shape_tables.specs.Rules.{MeetsRules, WellStacked};
 ghost use Rattle.stack_check.specs.Checked.{StoredStand, kept_table};
 ghost use Rattle.stack_check.specs.declared.fault.CheckFault.TheVariants.{Unstacked};
 
 use crate::facts::Facts;
 use crate::fault::CheckFault;
+use crate::fits::fits;
 use crate::held::Heap;
 use crate::infer::{Kept, infer};
 use ncs_file::Code;
 use nwq_value::Table;
+use saved_state::Saved;
 use std::alloc::Global;
 use std::marker::Model;
 
@@ -58,5 +61,14 @@ impl Checked {
         ensures code { result.now ≡ self.now.code }
     {
         &self.code
+    }
+
+    /// Whether a captured state of this code fits the kept table: it resumes where a STORE_STATE
+    /// says, on cells of the types that this one stores. The number of its script isn't looked at.
+    #[tactic(auto, unfolding(crate::specs::Checked::kept_table))]
+    pub fn fits(&self, saved: &Saved) -> bool
+        ensures fits { IsTrue result ↔ Fits (kept_table self.now) saved.now }
+    {
+        fits(&self.heap, &self.facts, saved)
     }
 }

@@ -14,6 +14,7 @@ mod calls;
 mod checked;
 mod facts;
 mod fault;
+mod fits;
 mod held;
 mod infer;
 mod laws;

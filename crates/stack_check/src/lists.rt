@@ -1,5 +1,5 @@
 ghost use Rattle.std.specs.Prelude.{◌≡◌, ◌≤◌, ◌<◌, [], ◌∷◌, length, IfOk, OnErr, IfSome};
-ghost use Rattle.std.specs.Prelude.{MatchOption, ◌++◌, slice_get, Some};
+ghost use Rattle.std.specs.Prelude.{MatchOption, ◌++◌, ◌↔◌, IsTrue, slice_get, Some};
 ghost use Rattle.stack_check.specs.Shared.{Grows, read};
 
 use nwq_value::{Items, NoMemory};
@@ -95,6 +95,16 @@ impl<T: Copy> Lists<T> {
         match self.nodes.get(number as usize - 1) {
             None => None,
             Some(node) => Some((node.item, node.below)),
+        }
+    }
+
+    /// Whether a list has no items.
+    pub fn is_empty(&self, number: u32) -> bool
+        ensures empty { IsTrue result ↔ (read self.now number ≡ []) }
+    {
+        match self.pop(number) {
+            None => true,
+            Some(_) => false,
         }
     }
 }

@@ -236,13 +236,7 @@ fn limits(alloc: Global, rt: &impl Abort, hooks: &Hooks) -> Result<(), Fail>
     for (front, byte, count, rest, status, text) in rows {
         let source = repeated(alloc, front, byte, count, rest)?;
         assert!(rt;
-            plays(
-                alloc,
-                &[("p.nss", source.as_slice())],
-                status,
-                text,
-                hooks
-            )?,
+            plays(alloc, &[("p.nss", source.as_slice())], status, text, hooks)?,
             "{text}"
         );
     }

@@ -55,8 +55,13 @@ fn plays(
 ) -> Result<bool, NoMemory>
     requires hooks { AreServing (map (λ h. h.known) hooks.now.all.items) }
 {
-    let (found, files, out) =
-        outcome(alloc, &["run", "-", "p"], ("", source), (None, None), hooks)?;
+    let (found, files, out) = outcome(
+        alloc,
+        &["run", "-", "p"],
+        ("", source),
+        (None, None),
+        hooks,
+    )?;
     let same = out.bytes() == text.as_bytes();
     Ok(found == status && same && files.get("p.ncs").is_none())
 }
@@ -136,7 +141,10 @@ fn plays_to_the_end(alloc: Global, rt: &impl Abort, hooks: &Hooks) -> Result<(),
         ),
     ];
     for (source, text) in rows {
-        assert!(rt; plays(alloc, source, Status::Done, text, hooks)?, "{source}");
+        assert!(rt;
+            plays(alloc, source, Status::Done, text, hooks)?,
+            "{source}"
+        );
     }
     Ok(())
 }
@@ -176,7 +184,10 @@ fn plays_of_calls(alloc: Global, rt: &impl Abort, hooks: &Hooks) -> Result<(), F
         ),
     ];
     for (source, text) in rows {
-        assert!(rt; plays(alloc, source, Status::Done, text, hooks)?, "{source}");
+        assert!(rt;
+            plays(alloc, source, Status::Done, text, hooks)?,
+            "{source}"
+        );
     }
     Ok(())
 }
@@ -196,7 +207,10 @@ fn plays_to_a_limit(alloc: Global, rt: &impl Abort, hooks: &Hooks) -> Result<(),
         ),
     ];
     for (source, text) in rows {
-        assert!(rt; plays(alloc, source, Status::Limit, text, hooks)?, "{source}");
+        assert!(rt;
+            plays(alloc, source, Status::Limit, text, hooks)?,
+            "{source}"
+        );
     }
     Ok(())
 }

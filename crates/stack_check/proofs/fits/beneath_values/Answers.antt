@@ -1,0 +1,13 @@
+use Rattle.std.proofs.Common.{arith, rules, refl}
+use Rattle.std.proofs.lemmas.Bool.{iff_false}
+use Rattle.stack_check.proofs.Fitting.{values_differ, values_end}
+use Rattle.stack_check.proofs.fits.beneath_values.Goals as goal
+
+pub returns-in-None : goal.returns-in-None
+returns-in-None c =
+    values_end _ c.args.cells.now _ _ _ _ _ c.loop-left.invariant.0 c.in-None.ensures.top c.in-Some.ensures.cell (omega (arith, c.loop-left-test.true)) refl
+
+pub returns-then-not-is_value_of : goal.returns-then-not-is_value_of
+returns-then-not-is_value_of c =
+    values_differ _ c.args.cells.now _ _ _ _ _ _ _ c.loop-left.invariant.0 c.in-Some-pop.ensures.top c.in-Some.ensures.cell
+    (iff_false c.is_value_of.ensures (search rules)) (omega (arith, c.loop-left-test.true)) refl
