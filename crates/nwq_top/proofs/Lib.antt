@@ -1,4 +1,5 @@
 mod EndingLemmas
+mod Meaning
 mod Rows
 mod RunLemmas
 mod Sure

@@ -3,3 +3,4 @@ pub mod Command
 pub mod Endings
 pub mod Program
 pub mod Laws
+pub mod Meaning

@@ -1,10 +1,10 @@
 ghost use Rattle.std.specs.Prelude.{◌≡◌, map, string_bytes, IsTrue};
 ghost use Rattle.world_core.specs.Calls.{cells_of, AreServing};
-ghost use Rattle.nwq_work.specs.Work.{Does};
+ghost use Rattle.nwq_work.specs.Work.{Does, ending};
 ghost use Rattle.nwq_work.specs.Counts.{Counted, Tallies, KeepsBut};
 ghost use Rattle.nwq_top.specs.Words.{form_of};
 ghost use Rattle.nwq_top.specs.Command.{work_of, MayWrite};
-ghost use Rattle.nwq_top.specs.Endings.{ComesOfResult};
+ghost use Rattle.nwq_top.specs.Endings.{ComesOf, ComesOfResult};
 
 use crate::run::run;
 use crate::words::{Command, command_of};
@@ -53,6 +53,36 @@ pub fn command<F: Files, S: Sink>(
             area,
             plan,
             to,
+            ..
         } => play_files(alloc, header, area, plan, to, hooks, files, out),
+    }
+}
+
+/// The status with which the command ends that the words are.
+#[tactic(auto, using(crate::proofs::EndingLemmas::stops_come))]
+pub fn status_of_words<F: Files, S: Sink>(
+    alloc: Global,
+    words: &[String],
+    files: &mut F,
+    out: &mut S,
+    hooks: &Hooks,
+) -> Status
+    requires hooks { AreServing (map (λ h. h.known) hooks.now.all.items) }
+    ensures does { IsTrue F.tells → IsTrue S.tells →
+        Does (work_of (cells_of (map (λ h. h.known) hooks.now.all.items))
+        (form_of (map string_bytes words.now)))
+        (F.contents files.old) (S.taken out.old)
+        (ending result) (F.contents files.new) (S.taken out.new) }
+    ensures counts { Tallies (ending result)
+        (Counted (F.faults files.old) (F.absences files.old) (F.longs files.old) (S.faults out.old))
+        (Counted (F.faults files.new) (F.absences files.new)
+        (F.longs files.new) (S.faults out.new)) }
+    ensures names { KeepsBut (MayWrite (form_of (map string_bytes words.now)))
+        (F.contents files.old) (F.contents files.new) }
+    ensures only { ComesOf (form_of (map string_bytes words.now)) result }
+{
+    match command(alloc, words, files, out, hooks) {
+        Ok(()) => Status::Done,
+        Err(status) => status,
     }
 }

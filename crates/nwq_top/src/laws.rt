@@ -1,6 +1,7 @@
 //! Laws about the work of commands, as the contract of a function that does nothing.
 
-ghost use Rattle.nwq_top.specs.Laws.{OneOutcome, Prefixes};
+ghost use Rattle.nwq_top.specs.Laws.{OneOutcome, Prefixes, OneWhole, WholePrefixes};
+ghost use Rattle.nwq_top.specs.Meaning.{WorkMeans};
 
 use nwq_checks::laws::one_check;
 use nwq_files::laws::one_file;
@@ -8,12 +9,16 @@ use nwq_games::laws::one_game;
 use nwq_plays::laws::one_code;
 use nwq_scripts::laws::one_script;
 use nwq_sources::laws::one_source;
+use nwq_tables::laws::one_set_of_tables;
+use words_meaning::{compiles_mean, plays_mean, runs_mean};
 
 /// A command that isn't cut has one outcome, and one that is cut has put a prefix of what it puts
-/// whole.
+/// whole. So is the whole program, which reads tables first.
 pub fn one_outcome()
     ensures one { OneOutcome }
     ensures prefixes { Prefixes }
+    ensures whole { OneWhole }
+    ensures whole_prefixes { WholePrefixes }
 {
     one_source();
     one_file();
@@ -21,4 +26,16 @@ pub fn one_outcome()
     one_check();
     one_code();
     one_game();
+    one_set_of_tables();
+}
+
+/// Whatever does the work of words does what they mean: a command that has source texts refuses
+/// what is to be refused, writes files that pass the stack checker, and tells and leaves what the
+/// texts mean.
+pub fn work_means()
+    ensures means { WorkMeans }
+{
+    runs_mean();
+    compiles_mean();
+    plays_mean();
 }

@@ -1,35 +1,45 @@
 //! The top call: what the words of a command do with files and a sink, in order, and how it ends.
 //!
 //! [`nwq_main`] is the whole program but for the real files, the real sink and the words;
-//! [`nwq_program`] is what `main` calls. What a command does is a
+//! [`program_tables`] and [`nwq_program`] are what `main` calls. What a command does is a
 //! [`Work`](../../nwq_work/specs/Work.antt), a function of the form of its words
-//! (`specs/Command.antt`), and the clause `does` says that the call did it. The parts of that work
-//! that read sources are `nwq_sources`', and its commands over other files `nwq_files`'. See docs/COMMANDS.md and docs/THEOREMS.md.
+//! (`specs/Command.antt`), and the clause `does` says that the call did it. The clause `means` says
+//! what that is in the words of the language: `words_meaning` has the definitions, and the law by which
+//! the one follows from the other. The parts of that work
+//! that read sources are `nwq_sources`', and its commands over other files `nwq_files`'.
+//!
+//! The tables that its scripts look cells up in are [`nwq_tables`]', which comes first: the tables are
+//! read, hooks are made with them, and `nwq_main` is handed these hooks and the same words. See
+//! docs/COMMANDS.md and docs/THEOREMS.md.
 #![tactic(auto)]
 
 mod command;
 pub mod laws;
 mod program;
 mod run;
+mod tables;
 mod words;
 
-ghost use Rattle.std.specs.Prelude.{◌≡◌, map, string_bytes, IsTrue};
+ghost use Rattle.std.specs.Prelude.{map, string_bytes, IsTrue};
 ghost use Rattle.world_core.specs.Calls.{cells_of, AreServing};
-ghost use Rattle.nwq_work.specs.Work.{Does, ending};
+ghost use Rattle.nwq_work.specs.Work.{IsCut, Does, ending};
 ghost use Rattle.nwq_work.specs.Counts.{Counted, Tallies, KeepsBut};
+ghost use Rattle.words_meaning.specs.Reading.{AreBytes};
 ghost use Rattle.nwq_top.specs.Words.{form_of};
 ghost use Rattle.nwq_top.specs.Command.{work_of, MayWrite};
 ghost use Rattle.nwq_top.specs.Endings.{ComesOf};
+ghost use Rattle.nwq_top.specs.Meaning.{Means};
 
-use crate::command::command;
+use crate::command::status_of_words;
+use crate::laws::work_means;
 use hook_table::Hooks;
 use nwq_outside::{Files, Sink};
 pub use nwq_work::Status;
-pub use program::nwq_program;
+pub use program::{nwq_program, program_tables};
 use std::alloc::Global;
+pub use tables::nwq_tables;
 
 /// Does what the words say. Scripts that it plays call the hooks.
-#[tactic(auto, using(crate::proofs::EndingLemmas::stops_come))]
 pub fn nwq_main<F: Files, S: Sink>(
     alloc: Global,
     words: &[String],
@@ -45,6 +55,15 @@ pub fn nwq_main<F: Files, S: Sink>(
         (form_of (map string_bytes words.now)))
         (F.contents files.old) (S.taken out.old)
         (ending result) (F.contents files.new) (S.taken out.new) }
+    // Where the files also hold bytes: unless a failed call or want of memory cut it short, it
+    // refused what is to be refused, wrote files that pass the stack checker, and told and left what
+    // the source texts mean.
+    ensures means { IsTrue F.tells → IsTrue S.tells → AreBytes (F.contents files.old) →
+        (IsCut (ending result) → ⊥) →
+        Means (cells_of (map (λ h. h.known) hooks.now.all.items))
+        (form_of (map string_bytes words.now))
+        (F.contents files.old) (S.taken out.old)
+        (ending result) (F.contents files.new) (S.taken out.new) }
     // A read, write or put that was refused is the last one, and the status says which.
     ensures counts { Tallies (ending result)
         (Counted (F.faults files.old) (F.absences files.old) (F.longs files.old) (S.faults out.old))
@@ -55,8 +74,6 @@ pub fn nwq_main<F: Files, S: Sink>(
         (F.contents files.old) (F.contents files.new) }
     ensures only { ComesOf (form_of (map string_bytes words.now)) result }
 {
-    match command(alloc, words, files, out, hooks) {
-        Ok(()) => Status::Done,
-        Err(status) => status,
-    }
+    work_means();
+    status_of_words(alloc, words, files, out, hooks)
 }

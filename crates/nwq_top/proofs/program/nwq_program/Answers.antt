@@ -4,6 +4,7 @@ use Rattle.nwq_work.specs.Counts.{KeepsBut}
 use Rattle.nwq_top.specs.Words.{form_of}
 use Rattle.nwq_top.specs.Command.{MayWrite}
 use Rattle.nwq_top.specs.Program.{status_numbered}
+use Rattle.nwq_top.proofs.Meaning.{same_meaning}
 use Rattle.nwq_top.proofs.WordLemmas.{same_work}
 use Rattle.nwq_top.proofs.program.nwq_program.Goals as goal
 
@@ -18,3 +19,10 @@ returns-clause-does g c = λ files_tell sink_tells.
     (status_numbered c.number_of.result) (g.F.Files.contents c.args.files.now) (g.F.Files.contents c.nwq_main-status.new.files)
     (g.S.Sink.taken c.args.out.now) (g.S.Sink.taken c.nwq_main-status.new.out) c.after_name.ensures (sym c.number_of.ensures.status)
     (c.nwq_main-status.ensures.does files_tell sink_tells)
+
+pub returns-clause-means : goal.returns-clause-means
+returns-clause-means g c = λ files_tell sink_tells held.
+    same_meaning (cells_of (map (λ h. h.known) c.args.hooks.now.all.items)) c.after_name.result.now (drop 1 c.args.all.now) c.nwq_main-status.result
+    (status_numbered c.number_of.result) (g.F.Files.contents c.args.files.now) (g.F.Files.contents c.nwq_main-status.new.files)
+    (g.S.Sink.taken c.args.out.now) (g.S.Sink.taken c.nwq_main-status.new.out) c.after_name.ensures (sym c.number_of.ensures.status)
+    (c.nwq_main-status.ensures.means files_tell sink_tells held)

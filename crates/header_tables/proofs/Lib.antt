@@ -1,0 +1,4 @@
+mod Growing
+mod Literals
+mod Lines
+mod Tables

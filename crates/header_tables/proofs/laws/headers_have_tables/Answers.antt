@@ -1,0 +1,5 @@
+use Rattle.header_tables.proofs.Tables.{headers_have_tables, built_in_is_table}
+use Rattle.header_tables.proofs.laws.headers_have_tables.Goals as goal
+
+pub returns : goal.returns
+returns c = record { read = headers_have_tables; built_in = built_in_is_table c.computed_tokens.ensures.tokens }

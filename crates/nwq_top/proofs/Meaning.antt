@@ -1,0 +1,40 @@
+-- The work of words does what they mean.
+use Rattle.std.proofs.Common.{ℕ, List, Result, map, string_bytes, String, Global, ◌≡◌, subst}
+use Rattle.nwq_outside.specs.Outside.{Contents}
+use Rattle.engine_rows.specs.Pure.{CellLookup}
+use Rattle.nwq_work.specs.declared.status.Status.{Status}
+use Rattle.nwq_work.specs.Work.{then, IsCut, Does, Finished, ending}
+use Rattle.nwq_sources.specs.Headers.{table_of}
+use Rattle.nwq_scripts.specs.Files.{code_name, compiled_named}
+use Rattle.nwq_plays.specs.Plays.{plays_file}
+use Rattle.words_meaning.specs.Reading.{AreBytes}
+use Rattle.words_meaning.specs.Laws.{RunsMean, CompilesMean, PlaysMean}
+use Rattle.nwq_top.specs.Words.{Form, Run, Compile, Tree, Check, Disassemble, Assemble, Play, NoForm, form_of}
+use Rattle.nwq_top.specs.Command.{runs_under, runs, work_of}
+use Rattle.nwq_top.specs.Meaning.{Means, WorkMeans}
+
+-- the parts of a run in a row
+as_parts : (cell : CellLookup) (header script : List ℕ) (c : Contents) (t : List ℕ) (r : Result Finished Status) (c' : Contents) (t' : List ℕ)
+    → Does (runs cell header script) c t r c' t'
+    → Does (then (table_of header) (λ table. then (compiled_named table script) (plays_file cell table script (code_name script)))) c t r c' t'
+unfolding runs runs_under
+as_parts cell header script c t r c' t' does = does
+
+pub work_means : RunsMean → CompilesMean → PlaysMean → WorkMeans
+work_means run compile play cell (Run header script) c t r c' t' held whole does =
+    run cell header script c t r c' t' held whole (as_parts cell header script c t r c' t' does)
+work_means run compile play cell (Compile header script) c t r c' t' held whole does = compile header script c t r c' t' held whole does
+work_means run compile play cell (Tree file) c t r c' t' held whole does = tt
+work_means run compile play cell (Check header file) c t r c' t' held whole does = tt
+work_means run compile play cell (Disassemble file to) c t r c' t' held whole does = tt
+work_means run compile play cell (Assemble file to) c t r c' t' held whole does = tt
+work_means run compile play cell (Play header area plan to list) c t r c' t' held whole does = play cell header area plan to c t r c' t' held whole does
+work_means run compile play cell NoForm c t r c' t' held whole does = tt
+
+-- equal words mean the same
+pub same_meaning : (cell : CellLookup) (words all : List (String Global)) (told status : Status) (c c' : Contents) (t t' : List ℕ) → words ≡ all → told ≡ status
+    → ((IsCut (ending told) → ⊥) → Means cell (form_of (map string_bytes words)) c t (ending told) c' t')
+    → (IsCut (ending status) → ⊥) → Means cell (form_of (map string_bytes all)) c t (ending status) c' t'
+same_meaning cell words all told status c c' t t' same is means =
+    subst (λ s. (IsCut (ending s) → ⊥) → Means cell (form_of (map string_bytes all)) c t (ending s) c' t') is
+    (subst (λ ws. (IsCut (ending told) → ⊥) → Means cell (form_of (map string_bytes ws)) c t (ending told) c' t') same means)

@@ -1,0 +1,28 @@
+-- What the words of a command mean.
+use Rattle.std.specs.Prelude.{ℕ, List, Result}
+use Rattle.nwq_outside.specs.Outside.{Contents}
+use Rattle.engine_rows.specs.Pure.{CellLookup}
+use Rattle.nwq_work.specs.declared.status.Status.{Status}
+use Rattle.nwq_work.specs.Work.{IsCut, Does, Finished}
+use Rattle.words_meaning.specs.Reading.{AreBytes}
+use Rattle.words_meaning.specs.Runs.{MeansRun, MeansCompile}
+use Rattle.words_meaning.specs.Plans.{MeansPlay}
+use Rattle.nwq_top.specs.Words.{Form, Run, Compile, Tree, Check, Disassemble, Assemble, Play, NoForm}
+use Rattle.nwq_top.specs.Command.{work_of}
+
+-- What a command that has source texts does, from what the files hold and the bytes taken to those after it: in the words of the language,
+-- where cells of tables are looked up so. The other forms have no source text.
+abbrev pub Means : CellLookup → Form → Contents → List ℕ → Result Finished Status → Contents → List ℕ → Type 0
+Means cell (Run header script) c t r c' t' = MeansRun cell header script c t r c' t'
+Means cell (Compile header script) c t r c' t' = MeansCompile header script c t r c' t'
+Means cell (Tree file) c t r c' t' = Unit {0}
+Means cell (Check header file) c t r c' t' = Unit {0}
+Means cell (Disassemble file to) c t r c' t' = Unit {0}
+Means cell (Assemble file to) c t r c' t' = Unit {0}
+Means cell (Play header area plan to list) c t r c' t' = MeansPlay cell header area plan to c t r c' t'
+Means cell NoForm c t r c' t' = Unit {0}
+
+-- whatever does the work of words does what they mean, where the files hold bytes, unless a failed call or want of memory cut it
+abbrev pub WorkMeans : Type 0
+WorkMeans = (cell : CellLookup) (form : Form) (c : Contents) (t : List ℕ) (r : Result Finished Status) (c' : Contents) (t' : List ℕ) → AreBytes c → (IsCut r → ⊥)
+    → Does (work_of cell form) c t r c' t' → Means cell form c t r c' t'

@@ -1,0 +1,7 @@
+mod Coming
+mod Reading
+mod Sources
+mod Listing
+mod Plans
+mod Running
+mod Playing

@@ -1,0 +1,136 @@
+-- Files and headers that are read.
+use Rattle.std.proofs.Common.{arith, ◌≡◌, inl, inr, Bool, true, false, ℕ, ◌<◌, ◌≤◌, nat_lt, List, ◌++◌, length, Option, Some, None, Result, Ok, Err, codes, bytes_eq, sym, refl}
+use Rattle.std.proofs.lemmas.Bool.Decides.{nat_tests}
+use Rattle.std.specs.FinMap as fin_map
+use Rattle.nwq_value.specs.Limits.{file_limit}
+use Rattle.nwq_value.specs.Engine.{EngineTable, IsTable}
+use Rattle.nwq_value.specs.HeaderTable.{header_table}
+use Rattle.nwq_text.specs.Line.{line_number}
+use Rattle.nwq_outside.specs.Outside.{Contents}
+use Rattle.header_tables.specs.Laws.{HeadersHaveTables, BuiltInIsTable}
+use Rattle.nwq_work.specs.declared.status.Status.{Status}
+use Rattle.nwq_work.specs.Refusal.{Refusal, Absent, TooLong, At, line_of, status_of}
+use Rattle.nwq_work.specs.Work.{Does, by_size, bytes_of, file_named}
+use Rattle.nwq_work.specs.Parts.{then_ok, then_err}
+use Rattle.nwq_sources.specs.Headers.{HeaderFate, Whole, Faulty, IsHeaderFate, whole, table_by, table_in, table_named, table_unless, table_of}
+use Rattle.words_meaning.specs.Reading.{AreBytes, IsRead, IsUnread, absent, long}
+use Rattle.words_meaning.specs.Accepting.{HasHeader, built_in, read}
+use Rattle.words_meaning.specs.Refusing.{RefusesHeader, unread, faulty}
+use Rattle.words_meaning.proofs.Coming.{Came, cut, gives_does, refused_does, given_comes, refusal_comes, then_comes}
+
+-- ---- a file
+
+pub is_small : (n : ℕ) → n ≤ file_limit → nat_lt file_limit n ≡ false
+is_small n small = by_test (nat_lt file_limit n) refl
+  where
+    by_test : (b : Bool) → nat_lt file_limit n ≡ b → b ≡ false
+    by_test true e = let more : file_limit < n = grind (arith, nat_tests) in absurd (omega (arith, more, small))
+    by_test false e = refl
+
+pub is_large : (n : ℕ) → file_limit < n → nat_lt file_limit n ≡ true
+is_large n large = by_test (nat_lt file_limit n) refl
+  where
+    by_test : (b : Bool) → nat_lt file_limit n ≡ b → b ≡ true
+    by_test true e = refl
+    by_test false e = let less : n ≤ file_limit = grind (arith, nat_tests) in absurd (omega (arith, less, large))
+
+module _ (c : Contents) (t : List ℕ) (name : List ℕ) where
+  size_does : (b : Bool) (bytes : List ℕ) → b ≡ false → Does (by_size b name bytes) c t (Ok bytes) c t
+  size_does true bytes e = absurd cc
+  size_does false bytes e = gives_does bytes c t
+
+  size_refuses : (b : Bool) (bytes : List ℕ) → b ≡ true → Does (by_size b name bytes) c t (Err (status_of (TooLong name))) c (t ++ line_of (TooLong name))
+  size_refuses true bytes e = refused_does (TooLong name) c t
+  size_refuses false bytes e = absurd cc
+
+  pub read_does : (bytes : List ℕ) → IsRead c name bytes → Does (file_named name) c t (Ok bytes) c t
+  unfolding file_named
+  read_does bytes h =
+      inr (record { found = Some bytes; is = sym h.held; goes = size_does (nat_lt file_limit (length bytes)) bytes (is_small (length bytes) h.small) })
+
+  pub unread_does : (why : Refusal) → IsUnread c name why → Does (file_named name) c t (Err (status_of why)) c (t ++ line_of why)
+  unfolding file_named
+  unread_does why (absent none) = inr (record { found = None; is = sym none; goes = refused_does (Absent name) c t })
+  unread_does why (long bytes held large) =
+      inr (record { found = Some bytes; is = sym held; goes = size_refuses (nat_lt file_limit (length bytes)) bytes (is_large (length bytes) large) })
+
+  module _ (r : Result (List ℕ) Status) (c' : Contents) (t' : List ℕ) where
+    abbrev Comes : Type 0
+    Comes = Came (IsRead c name) (IsUnread c name) c t r c' t'
+
+    size_comes : (bytes : List ℕ) → fin_map.get c name ≡ Some bytes → (b : Bool) → nat_lt file_limit (length bytes) ≡ b → Does (by_size b name bytes) c t r c' t' → Comes
+    size_comes bytes held true e does =
+        refusal_comes (IsRead c name) (IsUnread c name) c t r c' t' (TooLong name) (long bytes held (grind (arith, nat_tests))) does
+    size_comes bytes held false e does =
+        given_comes (IsRead c name) (IsUnread c name) c t r c' t' bytes (record { held = held; small = grind (arith, nat_tests) }) does
+
+    content_comes : (content : Option (List ℕ)) → content ≡ fin_map.get c name → Does (bytes_of name content) c t r c' t' → Comes
+    content_comes None is does = refusal_comes (IsRead c name) (IsUnread c name) c t r c' t' (Absent name) (absent (sym is)) does
+    content_comes (Some bytes) is does = size_comes bytes (sym is) (nat_lt file_limit (length bytes)) refl does
+
+    pub file_comes : Does (file_named name) c t r c' t' → Comes
+    unfolding file_named
+    file_comes (inl x) = cut x.0
+    file_comes (inr h) = content_comes h.found h.is h.goes
+
+-- ---- a header
+
+module _ (c : Contents) (t : List ℕ) (word : List ℕ) where
+  unless_built : (b : Bool) → b ≡ true → Does (table_unless b word) c t (Ok header_table) c t
+  unless_built true e = gives_does header_table c t
+  unless_built false e = absurd cc
+
+  unless_named : (r : Result EngineTable Status) (c' : Contents) (t' : List ℕ) (b : Bool) → b ≡ false → Does (table_named word) c t r c' t'
+      → Does (table_unless b word) c t r c' t'
+  unless_named r c' t' true e does = absurd cc
+  unless_named r c' t' false e does = does
+
+  pub header_does : (table : EngineTable) → HasHeader c word table → Does (table_of word) c t (Ok table) c t
+  unfolding table_of table_named table_in
+  header_does table (built_in e) = unless_built (bytes_eq word (codes "-")) e
+  header_does table (read e bytes is _ has) =
+      unless_named (Ok table) c t (bytes_eq word (codes "-")) e
+      (then_ok (file_named word) (table_in word) bytes c c c t t t (Ok table) (read_does c t word bytes is)
+      (inr (record { found = Whole table; is = whole table has; goes = gives_does table c t })))
+
+  pub header_refuses : (why : Refusal) → RefusesHeader c word why → Does (table_of word) c t (Err (status_of why)) c (t ++ line_of why)
+  unfolding table_of table_named table_in
+  header_refuses why (unread e _ is) =
+      unless_named (Err (status_of why)) c (t ++ line_of why) (bytes_eq word (codes "-")) e
+      (then_err (file_named word) (table_in word) (status_of why) c c t (t ++ line_of why) (unread_does c t word why is))
+  header_refuses why (faulty e bytes is cause place fate) =
+      unless_named (Err (status_of why)) c (t ++ line_of why) (bytes_eq word (codes "-")) e
+      (then_ok (file_named word) (table_in word) bytes c c c t t (t ++ line_of why) (Err (status_of why)) (read_does c t word bytes is)
+      (inr (record { found = Faulty cause place; is = fate; goes = refused_does (At word (line_number bytes place) place cause) c t })))
+
+  module _ (r : Result EngineTable Status) (c' : Contents) (t' : List ℕ) where
+    abbrev HeaderComes : Type 0
+    HeaderComes = Came (HasHeader c word) (RefusesHeader c word) c t r c' t'
+
+    fate_comes : bytes_eq word (codes "-") ≡ false → (bytes : List ℕ) → IsRead c word bytes → (fate : HeaderFate) → IsHeaderFate bytes fate
+        → Does (table_by word bytes fate) c t r c' t' → HeaderComes
+    fate_comes e bytes is (Whole table) (whole _ has) does =
+        given_comes (HasHeader c word) (RefusesHeader c word) c t r c' t' table (read e bytes is table has) does
+    fate_comes e bytes is (Faulty cause place) fate does =
+        refusal_comes (HasHeader c word) (RefusesHeader c word) c t r c' t' (At word (line_number bytes place) place cause) (faulty e bytes is cause place fate) does
+
+    table_comes : bytes_eq word (codes "-") ≡ false → (bytes : List ℕ) → IsRead c word bytes → Does (table_in word bytes) c t r c' t' → HeaderComes
+    unfolding table_in
+    table_comes e bytes is (inl x) = cut x.0
+    table_comes e bytes is (inr h) = fate_comes e bytes is h.found h.is h.goes
+
+    word_comes : (b : Bool) → bytes_eq word (codes "-") ≡ b → Does (table_unless b word) c t r c' t' → HeaderComes
+    unfolding table_named
+    word_comes true e does = given_comes (HasHeader c word) (RefusesHeader c word) c t r c' t' header_table (built_in e) does
+    word_comes false e does =
+        then_comes (file_named word) (table_in word) (IsRead c word) (IsUnread c word) (HasHeader c word) (RefusesHeader c word) c t r c' t'
+        (file_comes c t word) (table_comes e) (unread e) does
+
+    pub header_comes : Does (table_of word) c t r c' t' → HeaderComes
+    unfolding table_of
+    header_comes does = word_comes (bytes_eq word (codes "-")) refl does
+
+-- the table of a header keeps what every table keeps
+pub is_table : HeadersHaveTables → BuiltInIsTable → (c : Contents) (word : List ℕ) (table : EngineTable) → AreBytes c → HasHeader c word table → IsTable table
+is_table reads own c word table held (built_in e) = own
+is_table reads own c word table held (read e bytes is _ has) = reads bytes table (held word bytes is.held) has

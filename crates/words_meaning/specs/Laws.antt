@@ -1,0 +1,32 @@
+-- What the work of words means, where the files hold bytes and the work isn't cut. Each stands on the contract of a function of `laws`.
+use Rattle.std.specs.Prelude.{ℕ, List, Result}
+use Rattle.nwq_outside.specs.Outside.{Contents}
+use Rattle.engine_rows.specs.Pure.{CellLookup}
+use Rattle.nwq_work.specs.declared.status.Status.{Status}
+use Rattle.nwq_work.specs.Work.{then, IsCut, Does, Finished}
+use Rattle.nwq_sources.specs.Headers.{table_of}
+use Rattle.nwq_scripts.specs.Files.{code_name, compiled_named, compiles}
+use Rattle.nwq_plays.specs.Plays.{plays_file}
+use Rattle.nwq_games.specs.Games.{plays}
+use Rattle.words_meaning.specs.Reading.{AreBytes}
+use Rattle.words_meaning.specs.Runs.{MeansRun, MeansCompile}
+use Rattle.words_meaning.specs.Plans.{MeansPlay}
+
+-- a header is read, a script compiled under it, and its file, which isn't written, is played
+abbrev pub RunsMean : Type 0
+RunsMean =
+    (cell : CellLookup) (header script : List ℕ) (c : Contents) (t : List ℕ) (r : Result Finished Status) (c' : Contents) (t' : List ℕ) → AreBytes c → (IsCut r → ⊥)
+    → Does (then (table_of header) (λ table. then (compiled_named table script) (plays_file cell table script (code_name script)))) c t r c' t'
+    → MeansRun cell header script c t r c' t'
+
+-- a script is compiled, and its file written
+abbrev pub CompilesMean : Type 0
+CompilesMean =
+    (header script : List ℕ) (c : Contents) (t : List ℕ) (r : Result Finished Status) (c' : Contents) (t' : List ℕ) → AreBytes c → (IsCut r → ⊥)
+    → Does (compiles header script) c t r c' t' → MeansCompile header script c t r c' t'
+
+-- a plan is played over an area
+abbrev pub PlaysMean : Type 0
+PlaysMean =
+    (cell : CellLookup) (header area plan to : List ℕ) (c : Contents) (t : List ℕ) (r : Result Finished Status) (c' : Contents) (t' : List ℕ) → AreBytes c → (IsCut r → ⊥)
+    → Does (plays cell header area plan to) c t r c' t' → MeansPlay cell header area plan to c t r c' t'
