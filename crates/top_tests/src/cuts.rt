@@ -1,5 +1,5 @@
-//! Calls of the outside that fail, each in turn: what was put and written before stays, nothing comes
-//! after it, and the status is that of faults.
+//! Calls of the outside that fail, each in turn: what was put and written before stays, nothing
+//! comes after it, and the status is that of faults.
 
 ghost use Rattle.std.specs.Prelude.{map};
 ghost use Rattle.world_core.specs.Calls.{AreServing};

@@ -24,7 +24,8 @@ pub const GUARD: &[u8] = b"\
 /// The same, where the creature has a variable `count` of 5.
 pub const FIVE: &[u8] = b"\
     GIT V3.28\0\0\0\x03\0\0\0\\\0\0\0\x07\0\0\0\xb0\0\0\0\x07\0\0\0\
-    \x20\x01\0\0\x17\0\0\0\x37\x01\0\0\x18\0\0\0O\x01\0\0\x10\0\0\0\xff\xff\xff\xff\0\0\0\0\x01\0\0\0\
+    \x20\x01\0\0\x17\0\0\0\x37\x01\0\0\x18\0\0\0O\x01\0\0\x10\0\0\0\
+    \xff\xff\xff\xff\0\0\0\0\x01\0\0\0\
     \x04\0\0\0\0\0\0\0\x03\0\0\0\0\0\0\0\x0c\0\0\0\x03\0\0\0\x0f\0\0\0\0\0\0\0\0\0\0\0\
     \x0a\0\0\0\x01\0\0\0\0\0\0\0\x0b\0\0\0\x02\0\0\0\x09\0\0\0\x0f\0\0\0\x03\0\0\0\x08\0\0\0\
     \x0a\0\0\0\x04\0\0\0\x0e\0\0\0\x04\0\0\0\x05\0\0\0\x01\0\0\0\x05\0\0\0\x06\0\0\0\x05\0\0\0\
@@ -37,7 +38,8 @@ pub const FIVE: &[u8] = b"\
 /// The same, where the variable is 7.
 pub const SEVEN: &[u8] = b"\
     GIT V3.28\0\0\0\x03\0\0\0\\\0\0\0\x07\0\0\0\xb0\0\0\0\x07\0\0\0\
-    \x20\x01\0\0\x17\0\0\0\x37\x01\0\0\x18\0\0\0O\x01\0\0\x10\0\0\0\xff\xff\xff\xff\0\0\0\0\x01\0\0\0\
+    \x20\x01\0\0\x17\0\0\0\x37\x01\0\0\x18\0\0\0O\x01\0\0\x10\0\0\0\
+    \xff\xff\xff\xff\0\0\0\0\x01\0\0\0\
     \x04\0\0\0\0\0\0\0\x03\0\0\0\0\0\0\0\x0c\0\0\0\x03\0\0\0\x0f\0\0\0\0\0\0\0\0\0\0\0\
     \x0a\0\0\0\x01\0\0\0\0\0\0\0\x0b\0\0\0\x02\0\0\0\x09\0\0\0\x0f\0\0\0\x03\0\0\0\x08\0\0\0\
     \x0a\0\0\0\x04\0\0\0\x0e\0\0\0\x04\0\0\0\x05\0\0\0\x01\0\0\0\x05\0\0\0\x06\0\0\0\x07\0\0\0\
@@ -62,7 +64,8 @@ pub const FIRST_SUM: &[u8] = b"NCS V1.0B\0\0\0\x2a\x1e\0\0\0\0\x08 \0\
 pub const ROUNDS: &[(&str, &[u8])] = &[
     (
         "x.plan",
-        b"NWQ PLAN 1\nscript tick\nevent 0 0 ScriptHeartbeat guard\nevent 6000 0 ScriptHeartbeat guard\n",
+        b"NWQ PLAN 1\nscript tick\nevent 0 0 ScriptHeartbeat guard\n\
+            event 6000 0 ScriptHeartbeat guard\n",
     ),
     (
         "tick.nss",

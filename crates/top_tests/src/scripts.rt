@@ -4,6 +4,7 @@ ghost use Rattle.std.specs.Prelude.{map};
 ghost use Rattle.world_core.specs.Calls.{AreServing};
 
 use crate::answers::{Failing, Held, Row, carry_out, comes};
+use crate::samples::{NOTHING, SUM};
 use hook_table::Hooks;
 use nwq_top::Status;
 use nwq_value::NoMemory;
@@ -67,7 +68,8 @@ pub const PLAYS: &[(&str, &str)] = &[
         "0 #0 print 2\n0 #0 print 3\nend done clock 0 entries 1 instructions 27\n",
     ),
     (
-        "void main() { switch (2) { case 1: PrintInteger(1); case 2: PrintInteger(2); default: PrintInteger(3); } }",
+        "void main() { switch (2) { case 1: PrintInteger(1); case 2: PrintInteger(2); \
+            default: PrintInteger(3); } }",
         "0 #0 print 2\n0 #0 print 3\nend done clock 0 entries 1 instructions 17\n",
     ),
     (
@@ -92,22 +94,27 @@ pub const PLAYS: &[(&str, &str)] = &[
     ),
     (
         "void main() { PrintInteger(1); ExecuteScript(\"p\"); }",
-        "0 #0 print 1\n0 #0 print 1\n0 #0 print 1\n0 #0 print 1\n0 #0 print 1\n0 #0 print 1\n0 #0 print 1\n0 #0 print 1\n0 #0 print 1\n0 #0 deep p\nend done clock 0 entries 1 instructions 72\n",
+        "0 #0 print 1\n0 #0 print 1\n0 #0 print 1\n0 #0 print 1\n0 #0 print 1\n0 #0 print 1\n\
+            0 #0 print 1\n0 #0 print 1\n0 #0 print 1\n0 #0 deep p\n\
+            end done clock 0 entries 1 instructions 72\n",
     ),
 ];
 
 /// Scripts and the lines that `run - p` prints before the end, where the play is done.
 pub const TRACES: &[(&str, &str)] = &[
     (
-        "int g; void F() { g=g+1; PrintInteger(g); } void main() { DelayCommand(10, F()); DelayCommand(20, F()); }",
+        "int g; void F() { g=g+1; PrintInteger(g); } void main() { DelayCommand(10, F()); \
+            DelayCommand(20, F()); }",
         "10 #0 print 1\n20 #0 print 1\n",
     ),
     (
-        "void main() { DelayCommand(500, PrintString(\"A\")); DelayCommand(500, PrintString(\"B\")); }",
+        "void main() { DelayCommand(500, PrintString(\"A\")); \
+            DelayCommand(500, PrintString(\"B\")); }",
         "500 #0 print A\n500 #0 print B\n",
     ),
     (
-        "int f() { DelayCommand(1, PrintString(\"inner\")); return 5; } void main() { DelayCommand(f(), PrintString(\"outer\")); }",
+        "int f() { DelayCommand(1, PrintString(\"inner\")); return 5; } void main() { \
+            DelayCommand(f(), PrintString(\"outer\")); }",
         "1 #0 print inner\n5 #0 print outer\n",
     ),
     (
@@ -119,7 +126,8 @@ pub const TRACES: &[(&str, &str)] = &[
         "0 #0 print 2\n",
     ),
     (
-        "int f(int a, int b) { if (a==0) return b; return f(a-1,b+1); } void main() { PrintInteger(f(3,4)); }",
+        "int f(int a, int b) { if (a==0) return b; return f(a-1,b+1); } void main() { \
+            PrintInteger(f(3,4)); }",
         "0 #0 print 7\n",
     ),
     (
@@ -127,11 +135,13 @@ pub const TRACES: &[(&str, &str)] = &[
         "0 #0 print -2147483648\n0 #0 print 1\n",
     ),
     (
-        "void main() { string s=\"a\"; int i; for(i=0;i<40;i++) s=s+s; PrintInteger(GetStringLength(s)); }",
+        "void main() { string s=\"a\"; int i; for(i=0;i<40;i++) s=s+s; \
+            PrintInteger(GetStringLength(s)); }",
         "0 #0 print 8192\n",
     ),
     (
-        "struct P { int x; int y; }; struct P Make(int a) { struct P p; p.x=a; p.y=a+1; return p; } void main() { PrintInteger(Make(4).y); }",
+        "struct P { int x; int y; }; struct P Make(int a) { struct P p; p.x=a; p.y=a+1; \
+            return p; } void main() { PrintInteger(Make(4).y); }",
         "0 #0 print 5\n",
     ),
     (
@@ -139,7 +149,9 @@ pub const TRACES: &[(&str, &str)] = &[
         "1 #0 print 5\n",
     ),
     (
-        "void main() { PrintInteger(StringToInt(\"-12x\")); PrintString(InsertString(\"ab\",\"X\",9)); PrintString(GetStringRight(\"abc\",5)); PrintString(GetSubString(\"abc\",4,1)); }",
+        "void main() { PrintInteger(StringToInt(\"-12x\")); \
+            PrintString(InsertString(\"ab\",\"X\",9)); PrintString(GetStringRight(\"abc\",5)); \
+            PrintString(GetSubString(\"abc\",4,1)); }",
         "0 #0 print -12\n0 #0 print abX\n0 #0 print abc\n0 #0 print \n",
     ),
     (
@@ -206,7 +218,8 @@ pub const REFUSED: &[(&str, &str)] = &[
     ),
     ("int f() {} void main() {}", "refused p.nss 1 4 noreturn\n"),
     (
-        "struct A { int a, b, c, d, e, f, g, h; }; struct B { struct A a, b, c, d, e, f, g, h; int z; };",
+        "struct A { int a, b, c, d, e, f, g, h; }; struct B { struct A a, b, c, d, e, f, g, h; \
+            int z; };",
         "refused p.nss 1 90 cells\n",
     ),
 ];
@@ -467,7 +480,8 @@ pub const ENDED_AND_COMPILED: &[Row] = &[
         failing: Failing::Nothing,
         status: Status::Limit,
         puts: Some(2),
-        text: "0 #0 print 1\ndue 7 1 stored #0 p\nend instructions clock 0 entries 1 instructions 131072\n",
+        text: "0 #0 print 1\ndue 7 1 stored #0 p\n\
+            end instructions clock 0 entries 1 instructions 131072\n",
         after: &[],
     },
     Row {
@@ -482,7 +496,8 @@ pub const ENDED_AND_COMPILED: &[Row] = &[
         failing: Failing::Nothing,
         status: Status::Done,
         puts: Some(2),
-        text: "0 #0 call GetFoo(\"a b\",3)\n0 #0 print 0\nend done clock 0 entries 1 instructions 7\n",
+        text: "0 #0 call GetFoo(\"a b\",3)\n0 #0 print 0\n\
+            end done clock 0 entries 1 instructions 7\n",
         after: &[],
     },
     Row {
@@ -492,10 +507,7 @@ pub const ENDED_AND_COMPILED: &[Row] = &[
         status: Status::Done,
         puts: Some(1),
         text: "compiled p.ncs 23\n",
-        after: &[(
-            "p.ncs",
-            Held::Bytes(b"NCS V1.0B\x00\x00\x00\x17\x1e\x00\x00\x00\x00\x08\x20\x00\x20\x00"),
-        )],
+        after: &[("p.ncs", Held::Bytes(NOTHING))],
     },
     Row {
         line: "compile - p",
@@ -504,12 +516,7 @@ pub const ENDED_AND_COMPILED: &[Row] = &[
         status: Status::Done,
         puts: Some(1),
         text: "compiled p.ncs 42\n",
-        after: &[(
-            "p.ncs",
-            Held::Bytes(
-                b"NCS V1.0B\x00\x00\x00\x2a\x1e\x00\x00\x00\x00\x08\x20\x00\x04\x03\x00\x00\x00\x02\x04\x03\x00\x00\x00\x03\x14\x20\x05\x00\x00\x04\x01\x20\x00",
-            ),
-        )],
+        after: &[("p.ncs", Held::Bytes(SUM))],
     },
     Row {
         line: "compile - p",
@@ -521,7 +528,8 @@ pub const ENDED_AND_COMPILED: &[Row] = &[
         after: &[(
             "p.ncs",
             Held::Bytes(
-                b"NCS V1.0B\x00\x00\x00\x22\x1e\x00\x00\x00\x00\x08\x20\x00\x04\x06\x00\x00\x00\x01\x05\x00\x00\x05\x01\x20\x00",
+                b"NCS V1.0B\x00\x00\x00\x22\x1e\x00\x00\x00\x00\x08\x20\x00\x04\x06\x00\x00\x00\
+                    \x01\x05\x00\x00\x05\x01\x20\x00",
             ),
         )],
     },
