@@ -113,5 +113,5 @@ stops_come (Tree file) status h = area_ends status h
 stops_come (Check header file) status h = check_ends status h
 stops_come (Disassemble file to) status h = code_ends status h
 stops_come (Assemble file to) status h = code_ends status h
-stops_come (Play header area plan to) status h = play_ends status h
+stops_come (Play header area plan to list) status h = play_ends status h
 stops_come NoForm status h = h

@@ -52,7 +52,7 @@ ComesOf (Tree file) status = EndsTree status
 ComesOf (Check header file) status = EndsCheck status
 ComesOf (Disassemble file to) status = EndsCode status
 ComesOf (Assemble file to) status = EndsCode status
-ComesOf (Play header area plan to) status = EndsPlay status
+ComesOf (Play header area plan to list) status = EndsPlay status
 ComesOf NoForm status = EndsWords status
 
 -- the same of a command's answer, in which `Done` is no error
@@ -63,7 +63,7 @@ StopsCommand (Tree file) status = StopsArea status
 StopsCommand (Check header file) status = StopsCheck status
 StopsCommand (Disassemble file to) status = StopsCode status
 StopsCommand (Assemble file to) status = StopsCode status
-StopsCommand (Play header area plan to) status = StopsGame status
+StopsCommand (Play header area plan to list) status = StopsGame status
 StopsCommand NoForm status = EndsWords status
 
 abbrev pub ComesOfResult : Form → Result Finished Status → Type 0

@@ -53,6 +53,7 @@ pub fn command<F: Files, S: Sink>(
             area,
             plan,
             to,
+            ..
         } => play_files(alloc, header, area, plan, to, hooks, files, out),
     }
 }

@@ -1,6 +1,6 @@
 //! Laws about the work of commands, as the contract of a function that does nothing.
 
-ghost use Rattle.nwq_top.specs.Laws.{OneOutcome, Prefixes};
+ghost use Rattle.nwq_top.specs.Laws.{OneOutcome, Prefixes, OneWhole, WholePrefixes};
 
 use nwq_checks::laws::one_check;
 use nwq_files::laws::one_file;
@@ -8,12 +8,15 @@ use nwq_games::laws::one_game;
 use nwq_plays::laws::one_code;
 use nwq_scripts::laws::one_script;
 use nwq_sources::laws::one_source;
+use nwq_tables::laws::one_set_of_tables;
 
 /// A command that isn't cut has one outcome, and one that is cut has put a prefix of what it puts
-/// whole.
+/// whole. So is the whole program, which reads tables first.
 pub fn one_outcome()
     ensures one { OneOutcome }
     ensures prefixes { Prefixes }
+    ensures whole { OneWhole }
+    ensures whole_prefixes { WholePrefixes }
 {
     one_source();
     one_file();
@@ -21,4 +24,5 @@ pub fn one_outcome()
     one_check();
     one_code();
     one_game();
+    one_set_of_tables();
 }
