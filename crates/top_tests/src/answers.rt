@@ -59,6 +59,17 @@ pub fn words_of(alloc: Global, line: &str) -> Result<Vec<String>, NoMemory> {
     Ok(words)
 }
 
+impl Outcome {
+    /// Before anything is done.
+    pub fn new(alloc: Global) -> Outcome {
+        Outcome {
+            status: Status::Done,
+            files: MemFiles::new(alloc),
+            out: MemSink::new(alloc),
+        }
+    }
+}
+
 fn add_all(files: &mut MemFiles, before: &[(&str, &[u8])]) -> Result<(), NoMemory> {
     for (name, bytes) in before {
         files.add(name, bytes)?;
@@ -74,8 +85,33 @@ fn let_fail(files: &mut MemFiles, out: &mut MemSink, failing: Failing) -> Result
     }
 }
 
-/// Does what a line says over these names.
-pub fn carry_out(
+fn begin(found: &mut Outcome, before: &[(&str, &[u8])], failing: Failing) -> Result<(), NoMemory> {
+    add_all(&mut found.files, before)?;
+    let_fail(&mut found.files, &mut found.out, failing)
+}
+
+/// Does what a line says over what was begun.
+pub fn carry_on(
+    alloc: Global,
+    line: &str,
+    found: &mut Outcome,
+    hooks: &Hooks,
+) -> Result<(), NoMemory>
+    requires hooks { AreServing (map (λ h. h.known) hooks.now.all.items) }
+{
+    let words = words_of(alloc, line)?;
+    found.status = nwq_main(
+        alloc,
+        words.as_slice(),
+        &mut found.files,
+        &mut found.out,
+        hooks,
+    );
+    Ok(())
+}
+
+/// What a line does over these names.
+pub fn outcome_of(
     alloc: Global,
     line: &str,
     before: &[(&str, &[u8])],
@@ -84,13 +120,10 @@ pub fn carry_out(
 ) -> Result<Outcome, NoMemory>
     requires hooks { AreServing (map (λ h. h.known) hooks.now.all.items) }
 {
-    let mut files = MemFiles::new(alloc);
-    let mut out = MemSink::new(alloc);
-    add_all(&mut files, before)?;
-    let_fail(&mut files, &mut out, failing)?;
-    let words = words_of(alloc, line)?;
-    let status = nwq_main(alloc, words.as_slice(), &mut files, &mut out, hooks);
-    Ok(Outcome { status, files, out })
+    let mut found = Outcome::new(alloc);
+    begin(&mut found, before, failing)?;
+    carry_on(alloc, line, &mut found, hooks)?;
+    Ok(found)
 }
 
 fn is_held(found: Option<&[u8]>, held: Held) -> bool {
@@ -128,7 +161,7 @@ fn is_as(found: &Outcome, row: &Row) -> bool {
 pub fn comes(alloc: Global, row: &Row, hooks: &Hooks) -> Result<bool, NoMemory>
     requires hooks { AreServing (map (λ h. h.known) hooks.now.all.items) }
 {
-    let found = carry_out(alloc, row.line, row.before, row.failing, hooks)?;
+    let found = outcome_of(alloc, row.line, row.before, row.failing, hooks)?;
     Ok(is_as(&found, row))
 }
 

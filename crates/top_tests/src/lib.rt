@@ -9,6 +9,8 @@ mod areas;
 #[cfg(test)]
 mod cuts;
 #[cfg(test)]
+mod example;
+#[cfg(test)]
 mod files;
 #[cfg(test)]
 mod games;
@@ -26,5 +28,7 @@ mod samples;
 mod scripts;
 #[cfg(test)]
 mod tables;
+#[cfg(test)]
+mod town;
 #[cfg(test)]
 mod words;

@@ -33,18 +33,42 @@ fn is_told(number: u8, told: &[u8]) -> bool {
     }
 }
 
-/// Whether the program over two scripts ends with this number, and prints this.
-fn ends(alloc: Global, line: &str, number: u8, text: &str, hooks: &Hooks) -> Result<bool, NoMemory>
+fn add_two(files: &mut MemFiles) -> Result<(), NoMemory> {
+    files.add("p.nss", b"void main() { PrintInteger(2+3); }")?;
+    files.add("q.nss", b"void main() {")
+}
+
+/// Whether the program over these files ends with this number, and prints this.
+fn ends(
+    alloc: Global,
+    all: &[String],
+    files: &mut MemFiles,
+    number: u8,
+    text: &str,
+    hooks: &Hooks,
+) -> bool
     requires hooks { AreServing (map (λ h. h.known) hooks.now.all.items) }
 {
-    let mut files = MemFiles::new(alloc);
     let mut out = MemSink::new(alloc);
     let mut err = MemSink::new(alloc);
-    files.add("p.nss", b"void main() { PrintInteger(2+3); }")?;
-    files.add("q.nss", b"void main() {")?;
+    let found = nwq_program(alloc, all, files, &mut out, &mut err, hooks);
+    found == number && out.bytes() == text.as_bytes() && is_told(number, err.bytes())
+}
+
+/// Whether the program over two scripts ends with this number, and prints this.
+fn ends_over_two(
+    alloc: Global,
+    line: &str,
+    number: u8,
+    text: &str,
+    hooks: &Hooks,
+) -> Result<bool, NoMemory>
+    requires hooks { AreServing (map (λ h. h.known) hooks.now.all.items) }
+{
     let all = words_of(alloc, line)?;
-    let found = nwq_program(alloc, all.as_slice(), &mut files, &mut out, &mut err, hooks);
-    Ok(found == number && out.bytes() == text.as_bytes() && is_told(number, err.bytes()))
+    let mut files = MemFiles::new(alloc);
+    add_two(&mut files)?;
+    Ok(ends(alloc, all.as_slice(), &mut files, number, text, hooks))
 }
 
 /// The place of the first words of which something else comes, if there is one.
@@ -52,7 +76,7 @@ pub fn first_wrong(alloc: Global, hooks: &Hooks) -> Result<Option<usize>, NoMemo
     requires hooks { AreServing (map (λ h. h.known) hooks.now.all.items) }
 {
     for (place, (line, number, text)) in ROWS.iter().enumerate() {
-        if !ends(alloc, line, *number, text, hooks)? {
+        if !ends_over_two(alloc, line, *number, text, hooks)? {
             return Ok(Some(place));
         }
     }

@@ -49,10 +49,10 @@ fn all_but<'a>(
 }
 
 /// Whether these words stop at this file, and put one line, of a word and its name.
-fn stops(
+fn stops<'a>(
     alloc: Global,
-    line: &str,
-    before: &[(&str, &[u8])],
+    line: &'a str,
+    before: &'a [(&'a str, &'a [u8])],
     status: Status,
     told: (&str, &str),
     hooks: &Hooks,

@@ -3,7 +3,7 @@
 ghost use Rattle.std.specs.Prelude.{map};
 ghost use Rattle.world_core.specs.Calls.{AreServing};
 
-use crate::answers::{Failing, Held, Row, carry_out, comes};
+use crate::answers::{Failing, Held, Row, comes, outcome_of};
 use crate::samples::{NOTHING, SUM};
 use hook_table::Hooks;
 use nwq_top::Status;
@@ -304,7 +304,7 @@ pub fn first_traced(
 {
     for (place, (source, lines)) in rows.iter().enumerate() {
         let before = [("p.nss", source.as_bytes())];
-        let found = carry_out(alloc, "run - p", &before, Failing::Nothing, hooks)?;
+        let found = outcome_of(alloc, "run - p", &before, Failing::Nothing, hooks)?;
         if found.status != Status::Done || !is_traced(found.out.bytes(), lines) {
             return Ok(Some(place));
         }
