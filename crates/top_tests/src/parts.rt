@@ -40,16 +40,22 @@ fn is_fault(call: u64, files: &mut MemFiles) -> Result<bool, NoMemory> {
     Ok(write_file("a", b"lost", files) == Err(Status::Fault))
 }
 
+/// Whether each of these calls does what it is to, one after the other.
+fn all_hold(alloc: Global, files: &mut MemFiles, out: &mut MemSink) -> Result<[bool; 6], NoMemory> {
+    let text = Vec::from_slice(alloc, b"text\n")?;
+    let written = write_file("a", b"new", files) == Ok(());
+    let read = is_read(alloc, "a", b"new", files, out);
+    let taken = put(Ok(text), out) == Ok(());
+    let stopped = stops(alloc, "b\\", Status::Missing, files, out);
+    let told = out.bytes() == b"text\nmissing b\\\\\n".as_slice();
+    let failed = is_fault(3, files)?;
+    Ok([written, read, taken, stopped, told, failed])
+}
+
 #[test]
 fn reads_writes_puts(rt: HostRuntime) -> Result<(), Fail> {
-    let text = Vec::from_slice(rt.alloc(), b"text\n")?;
     let mut files = MemFiles::new(rt.alloc());
     let mut out = MemSink::new(rt.alloc());
-    assert!(rt; write_file("a", b"new", &mut files) == Ok(()));
-    assert!(rt; is_read(rt.alloc(), "a", b"new", &mut files, &mut out));
-    assert!(rt; put(Ok(text), &mut out) == Ok(()));
-    assert!(rt; stops(rt.alloc(), "b\\", Status::Missing, &mut files, &mut out));
-    assert_eq!(rt; out.bytes(), b"text\nmissing b\\\\\n".as_slice());
-    assert!(rt; is_fault(3, &mut files)?);
+    assert_eq!(rt; all_hold(rt.alloc(), &mut files, &mut out)?, [true; 6]);
     Ok(())
 }

@@ -4,7 +4,7 @@
 ghost use Rattle.std.specs.Prelude.{map};
 ghost use Rattle.world_core.specs.Calls.{AreServing};
 
-use crate::answers::{Failing, Held, Row, comes};
+use crate::answers::{Failing, Outcome, outcome_of};
 use crate::games::THREE;
 use hook_table::Hooks;
 use nwq_top::Status;
@@ -48,29 +48,29 @@ fn all_but<'a>(
     Ok(rest)
 }
 
+/// Whether words ended with this status and line, which is all, and left no area.
+fn is_stop(found: &Outcome, status: Status, text: &str) -> bool {
+    found.status == status
+        && found.out.calls() == 1
+        && found.out.bytes() == text.as_bytes()
+        && found.files.get("f.git").is_none()
+}
+
 /// Whether these words stop at this file, and put one line, of a word and its name.
-fn stops<'a>(
+fn stops(
     alloc: Global,
-    line: &'a str,
-    before: &'a [(&'a str, &'a [u8])],
+    line: &str,
+    before: &[(&str, &[u8])],
     status: Status,
-    told: (&str, &str),
+    word: &str,
+    name: &str,
     hooks: &Hooks,
 ) -> Result<bool, NoMemory>
     requires hooks { AreServing (map (λ h. h.known) hooks.now.all.items) }
 {
-    let (word, name) = told;
     let text = format!(in alloc; "{word} {name}\n")?;
-    let row = Row {
-        line,
-        before,
-        failing: Failing::Nothing,
-        status,
-        puts: Some(1),
-        text: text.as_str(),
-        after: &[("f.git", Held::Nothing)],
-    };
-    comes(alloc, &row, hooks)
+    let found = outcome_of(alloc, line, before, Failing::Nothing, hooks)?;
+    Ok(is_stop(&found, status, text.as_str()))
 }
 
 /// The place of the first words of which something else comes where the file isn't there.
@@ -79,8 +79,15 @@ pub fn first_missing(alloc: Global, hooks: &Hooks) -> Result<Option<usize>, NoMe
 {
     for (place, (line, name)) in READS.iter().enumerate() {
         let rest = all_but(alloc, &THREE, name)?;
-        let told = ("missing", *name);
-        if !stops(alloc, line, rest.as_slice(), Status::Missing, told, hooks)? {
+        if !stops(
+            alloc,
+            line,
+            rest.as_slice(),
+            Status::Missing,
+            "missing",
+            name,
+            hooks,
+        )? {
             return Ok(Some(place));
         }
     }
@@ -104,7 +111,7 @@ pub fn first_long(alloc: Global, hooks: &Hooks) -> Result<Option<usize>, NoMemor
             area,
             (*name, long.as_slice()),
         ];
-        if !stops(alloc, line, &before, Status::Long, ("long", *name), hooks)? {
+        if !stops(alloc, line, &before, Status::Long, "long", name, hooks)? {
             return Ok(Some(place));
         }
     }
