@@ -1,0 +1,121 @@
+//! The summary of a made play.
+ghost use Rattle.std.specs.Prelude.{◌≡◌, ◌≤◌, ◌++◌, ℕ, IsTrue, IfOk, IfErr, OnOk};
+ghost use Rattle.nwq_outside.specs.Outside.{Contents};
+ghost use Rattle.saved_state.specs.declared.saved.Saved.{Saved as SavedView};
+ghost use Rattle.engine_rows.specs.Trace.{trace_text};
+ghost use Rattle.engine_rows.specs.World.{World as WorldView};
+ghost use Rattle.play_steps.specs.Plays.{Played as PlayedView};
+ghost use Rattle.play_generator.specs.Made.{number_limit};
+ghost use Rattle.module_player.specs.EndTexts.{HasText, IsEnding};
+ghost use Rattle.nwq_work.specs.Work.{Does, CutsShort};
+ghost use Rattle.nwq_work.specs.Parts.{PutsWhole};
+ghost use Rattle.nwq_work.specs.Counts.{Counted, Tallies, Refusing};
+ghost use Rattle.nwq_generated.specs.Generated.{line_count, made_line, summary, tells};
+
+use module_player::{Played, put_end_line};
+use nwq_outside::Sink;
+use nwq_plays::ending_of;
+use nwq_text::put_count;
+use nwq_value::NoMemory;
+use nwq_work::{Status, put};
+use std::alloc::Global;
+
+/// How many lines a trace has.
+fn lines_in(trace: &[u8]) -> u64
+    ensures count { result ≡ line_count trace.now }
+{
+    trace.iter().filter(|byte| **byte == b'\n').count() as u64
+}
+
+/// Appends how much was made and told.
+fn put_made(
+    out: &mut Vec<u8>,
+    creatures: u32,
+    events: u32,
+    trace: &[u8],
+) -> Result<(), NoMemory>
+    ensures line { OnOk result (out.new.items
+        ≡ out.old.items ++ made_line creatures events trace.now) }
+{
+    out.extend_from_slice(b"generated creatures ")?;
+    put_count(out, u64::from(creatures))?;
+    out.extend_from_slice(b" events ")?;
+    put_count(out, u64::from(events))?;
+    out.extend_from_slice(b" lines ")?;
+    put_count(out, lines_in(trace))?;
+    out.extend_from_slice(b" bytes ")?;
+    put_count(out, trace.len() as u64)?;
+    out.push(b'\n')?;
+    Ok(())
+}
+
+/// The summary of the play of a number, which left this trace and ended at this time.
+#[tactic(auto, using(crate::proofs::SummaryLemmas::texts))]
+fn summary_of(
+    alloc: Global,
+    number: u32,
+    trace: &[u8],
+    clock: u64,
+    played: &Played,
+) -> Result<Vec<u8>, NoMemory>
+    requires number { number ≤ number_limit }
+    requires told { HasText played.now.how }
+    ensures text { IfOk result (λ text. (p : PlayedView SavedView) (w : WorldView SavedView)
+        → IsEnding played.now p w → trace.now ≡ trace_text p.last.trace → clock ≡ w.clock
+        → text.items ≡ summary number p) }
+{
+    let mut out = Vec::new(alloc);
+    let creatures = 1 + number % 1000;
+    let rounds = 1 + number / 1000 % 60;
+    put_made(&mut out, creatures, creatures * rounds, trace)?;
+    put_end_line(&mut out, played, clock)?;
+    Ok(out)
+}
+
+/// Puts the summary of the play of a number.
+fn put_summary<S: Sink>(
+    alloc: Global,
+    number: u32,
+    trace: &[u8],
+    clock: u64,
+    played: &Played,
+    out: &mut S,
+) -> Result<(), Status>
+    requires number { number ≤ number_limit }
+    requires told { HasText played.now.how }
+    ensures puts { IsTrue S.tells → (p : PlayedView SavedView) (w : WorldView SavedView) →
+        IsEnding played.now p w → trace.now ≡ trace_text p.last.trace → clock ≡ w.clock →
+        PutsWhole (summary number p) (S.taken out.old) result (S.taken out.new) }
+    ensures counts { (faults absences longs : ℕ) → Tallies result
+        (Counted faults absences longs (S.faults out.old))
+        (Counted faults absences longs (S.faults out.new)) }
+    ensures only { IfErr result CutsShort }
+{
+    put(summary_of(alloc, number, trace, clock, played), out)
+}
+
+/// Puts the summary of the play of a number, and ends as the play did.
+#[tactic(auto, using(crate::proofs::SummaryLemmas::tellings))]
+pub(crate) fn tell<S: Sink>(
+    alloc: Global,
+    number: u32,
+    trace: &[u8],
+    clock: u64,
+    played: &Played,
+    out: &mut S,
+) -> Result<(), Status>
+    requires number { number ≤ number_limit }
+    requires told { HasText played.now.how }
+    ensures does { IsTrue S.tells → (p : PlayedView SavedView) (w : WorldView SavedView) →
+        IsEnding played.now p w → trace.now ≡ trace_text p.last.trace → clock ≡ w.clock →
+        (c : Contents) → Does (tells number p) c (S.taken out.old) result c (S.taken out.new) }
+    ensures counts { (faults absences longs : ℕ) → Tallies result
+        (Counted faults absences longs (S.faults out.old))
+        (Counted faults absences longs (S.faults out.new)) }
+    ensures only { IfErr result (Refusing Status.Limit) }
+{
+    match put_summary(alloc, number, trace, clock, played, out) {
+        Err(cut) => Err(cut),
+        Ok(()) => ending_of(played.how),
+    }
+}
