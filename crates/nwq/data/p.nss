@@ -1,1 +1,1 @@
-void main() { PrintInteger(2+3); }
+void main() { PrintString(Get2DAString("x","COST",0)); }

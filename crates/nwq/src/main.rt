@@ -1,24 +1,18 @@
-//! The program: it makes the hooks, the real files, standard output and standard error, hands them
-//! with its words to [`nwq_program`], and ends with the number that comes back.
+//! The program: it makes the real files, standard output and standard error, hands them with its words
+//! to `whole::run_all`, which makes the hooks, and ends with the number that comes back.
 #![tactic(auto)]
 
-ghost use Rattle.std.specs.Prelude.{◌≡◌, ◌≤◌, [], map, IfOk};
+mod whole;
+
+ghost use Rattle.std.specs.Prelude.{◌≡◌};
 ghost use Rattle.std.specs.Process.{exit_status};
-ghost use Rattle.hook_table.specs.Standard.{function_numbered, IsAnswer};
-ghost use Rattle.world_core.specs.Calls.{AreServing};
 ghost use Rattle.nwq.specs.Ending.{end_number};
 
-use hook_table::{Call, Hooks};
-use nwq_hooks::{all_are_put, call_function, put_hook};
+use crate::whole::{WANT_OF_MEMORY, run_all};
 use nwq_outside::{RealFiles, RealSink};
-use nwq_top::nwq_program;
-use nwq_value::{Args, NoMemory, Value};
 use std::env;
 use std::io::{self, ErrorKind};
 use std::process::ExitCode;
-
-/// The number of the status for want of memory.
-const WANT_OF_MEMORY: u8 = 8;
 
 /// The program's name and the words after it.
 fn all_words(rt: &HostRuntime) -> io::Result<Vec<String>> {
@@ -31,46 +25,22 @@ fn all_words(rt: &HostRuntime) -> io::Result<Vec<String>> {
 }
 
 /// Does what the words say with real files and sinks.
-fn run_with(rt: HostRuntime, hooks: &Hooks) -> io::Result<u8>
-    requires hooks { AreServing (map (λ h. h.known) hooks.now.all.items) }
-{
+fn run(rt: HostRuntime) -> io::Result<u8> {
     let all = all_words(&rt)?;
     let mut files = RealFiles::new(rt.clone()?);
     let mut out = RealSink::new(rt.stdout());
     let mut err = RealSink::new(rt.stderr());
-    Ok(nwq_program(
+    Ok(run_all(
         rt.alloc(),
         all.as_slice(),
         &mut files,
         &mut out,
         &mut err,
-        hooks,
     ))
 }
 
-/// Makes the hooks, and does what the words say with them.
-fn run(rt: HostRuntime) -> io::Result<u8> {
-    let alloc = rt.alloc();
-    let mut hooks = Hooks::new(alloc);
-    for n in 0u8..10 {
-        let call: Call = Box::new(
-            alloc,
-            move |args: &Args| -> Result<Value, NoMemory>
-                requires { n ≤ 9 }
-                ensures { IfOk result (λ v. IsAnswer [] (function_numbered n).name
-                    (function_numbered n).result args.now v) }
-            { call_function(alloc, n, args) },
-        )?;
-        if put_hook(alloc, &mut hooks, n, call).is_err() {
-            return Ok(WANT_OF_MEMORY);
-        }
-    }
-    all_are_put(&hooks);
-    run_with(rt, &hooks)
-}
-
 /// How the program ends: with the number that came back, or, where there was no memory for the
-/// hooks, the words, the files or the sinks, as where a command wants it.
+/// words, the files or the sinks, as where a command wants it.
 fn end(outcome: io::Result<u8>) -> ExitCode
     ensures { exit_status result ≡ end_number outcome }
 {

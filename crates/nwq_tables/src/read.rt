@@ -1,4 +1,4 @@
-ghost use Rattle.std.specs.Prelude.{◌≡◌, [], ◌∷◌, ◌++◌, map, None, IsTrue, IfErr, OnOk};
+ghost use Rattle.std.specs.Prelude.{◌≡◌, [], ◌∷◌, ◌++◌, map, None, Ok, IsTrue, IfErr, OnOk};
 ghost use Rattle.std.specs.Option.{option_map};
 ghost use Rattle.plan_text.specs.Fields.{is_script_name};
 ghost use Rattle.table_2da.specs.Look.{table_named};
@@ -188,6 +188,7 @@ pub fn read_tables<F: Files, S: Sink>(
         (F.longs files.new) (S.faults out.new)) }
     ensures same { F.contents files.new ≡ F.contents files.old }
     ensures only { IfErr result StopsArea }
+    ensures none { list.entry ≡ None → result ≡ Ok [] }
 {
     match list {
         None => Ok(Tables::new(alloc)),

@@ -1,6 +1,8 @@
 -- What each form of words does: the seed of the main theorem.
 use Rattle.std.specs.Prelude.{◌≡◌, ℕ, List}
 use Rattle.nwq_value.specs.Engine.{EngineTable}
+use Rattle.table_2da.specs.Look.{cell_of}
+use Rattle.table_2da.specs.declared.tables.Named.{Named}
 use Rattle.engine_rows.specs.Pure.{CellLookup}
 use Rattle.nwq_work.specs.Refusal as refusal
 use Rattle.nwq_work.specs.Work.{Work, Refused, then, Finished}
@@ -10,8 +12,10 @@ use Rattle.nwq_files.specs.Commands.{shows_tree, disassembles, assembles}
 use Rattle.nwq_scripts.specs.Files.{code_name, compiled_named, compiles}
 use Rattle.nwq_plays.specs.Plays.{plays_file}
 use Rattle.nwq_games.specs.Games.{plays}
+use Rattle.nwq_generated.specs.Generated.{generates}
 use Rattle.nwq_games.specs.Tellings.{IsGameFile}
-use Rattle.nwq_top.specs.Words.{Form, Run, Compile, Tree, Check, Disassemble, Assemble, Play, NoForm}
+use Rattle.nwq_tables.specs.Tables.{tables_given}
+use Rattle.nwq_top.specs.Words.{Form, Run, Compile, Tree, Check, Disassemble, Assemble, Play, Generate, NoForm, list_of}
 
 -- a script is compiled under a header, and its file, which isn't written, is played
 unfoldable pub runs_under : CellLookup → List ℕ → EngineTable → Work Finished
@@ -28,8 +32,17 @@ work_of cell (Tree file) = shows_tree file
 work_of cell (Check header file) = checks header file
 work_of cell (Disassemble file to) = disassembles file to
 work_of cell (Assemble file to) = assembles file to
-work_of cell (Play header area plan to) = plays cell header area plan to
+work_of cell (Play header area plan to list) = plays cell header area plan to
+work_of cell (Generate number) = generates cell number
 work_of cell NoForm = Refused refusal.NoForm
+
+-- the work of a form of words, where cells are looked up in these tables
+abbrev pub work_with : Form → List Named → Work Finished
+work_with form tables = work_of (cell_of tables) form
+
+-- the work of the whole program: the tables that the words give are read first, and cells are looked up in them
+unfoldable pub whole_work : Form → Work Finished
+whole_work form = then (tables_given (list_of form)) (work_with form)
 
 -- which names a command may write
 abbrev pub MayWrite : Form → List ℕ → Type 0
@@ -39,5 +52,6 @@ MayWrite (Tree file) name = ⊥
 MayWrite (Check header file) name = ⊥
 MayWrite (Disassemble file to) name = name ≡ to
 MayWrite (Assemble file to) name = name ≡ to
-MayWrite (Play header area plan to) name = IsGameFile to name
+MayWrite (Play header area plan to list) name = IsGameFile to name
+MayWrite (Generate number) name = ⊥
 MayWrite NoForm name = ⊥

@@ -1,6 +1,9 @@
 -- The words of the command line.
-use Rattle.std.specs.Prelude.{◌≡◌, ℕ, Bool, false, cond, ◌&&◌, ◌||◌, ◌==◌, nat_le, List, [], ◌∷◌, length, codes, bytes_eq}
+use Rattle.std.specs.Prelude.{◌≡◌, ◌≤◌, ℕ, Bool, false, cond, ◌&&◌, ◌||◌, ◌==◌, nat_le, List, [], ◌∷◌, length, codes, bytes_eq, Option, None, Some}
 use Rattle.std.specs.List.{list_all, list_any}
+use Rattle.std.specs.Option.{option_map}
+use Rattle.nwq_text.specs.Number.{number_of}
+use Rattle.play_generator.specs.Made.{number_limit}
 use Rattle.nwq_top.specs.declared.words.Command.{Command}
 use Rattle.nwq_top.specs.declared.words.Command.TheVariants as command
 
@@ -11,7 +14,8 @@ pub data Form : Type 0 where
   Check : (header file : List ℕ) → Form  -- the header as for `Run`
   Disassemble : (file to : List ℕ) → Form
   Assemble : (file to : List ℕ) → Form
-  Play : (header area plan to : List ℕ) → Form  -- the header as for `Run`
+  Play : (header area plan to : List ℕ) → (list : Option (List ℕ)) → Form  -- the header as for `Run`, and the list of tables, if there is one
+  Generate : (number : ℕ) → Form
   NoForm : Form
 
 abbrev pub is_between : ℕ → ℕ → ℕ → Bool
@@ -37,9 +41,16 @@ run_form header script = cond (is_script_name script) (Run header script) NoForm
 abbrev pub compile_form : List ℕ → List ℕ → Form
 compile_form header script = cond (is_script_name script) (Compile header script) NoForm
 
+-- the play of a number, unless it is too large for one
+abbrev pub generate_form : Option ℕ → Form
+generate_form None = NoForm
+generate_form (Some n) = cond (nat_le n number_limit) (Generate n) NoForm
+
 -- a command and one word
 abbrev pub one_word_form : List ℕ → List ℕ → Form
-one_word_form command word = cond (bytes_eq command (codes "tree")) (Tree word) NoForm
+one_word_form command word =
+    cond (bytes_eq command (codes "tree")) (Tree word)
+    (cond (bytes_eq command (codes "generate")) (generate_form (number_of word)) NoForm)
 
 -- a command and two words
 abbrev pub two_word_form : List ℕ → List ℕ → List ℕ → Form
@@ -50,20 +61,26 @@ two_word_form command first second =
     (cond (bytes_eq command (codes "dis")) (Disassemble first second)
     (cond (bytes_eq command (codes "asm")) (Assemble first second) NoForm))))
 
--- a command and four words
-abbrev pub four_word_form : List ℕ → List ℕ → List ℕ → List ℕ → List ℕ → Form
-four_word_form command header area plan to = cond (bytes_eq command (codes "play")) (Play header area plan to) NoForm
+-- a command and four words, behind which a list of tables may stand
+abbrev pub play_form : List ℕ → List ℕ → List ℕ → List ℕ → List ℕ → Option (List ℕ) → Form
+play_form command header area plan to list = cond (bytes_eq command (codes "play")) (Play header area plan to list) NoForm
 
 -- which command these words are, by the first of them
 abbrev pub command_form : List (List ℕ) → Form
 command_form (command ∷ (file ∷ [])) = one_word_form command file
 command_form (command ∷ (first ∷ (second ∷ []))) = two_word_form command first second
-command_form (command ∷ (header ∷ (area ∷ (plan ∷ (to ∷ []))))) = four_word_form command header area plan to
+command_form (command ∷ (header ∷ (area ∷ (plan ∷ (to ∷ []))))) = play_form command header area plan to None
+command_form (command ∷ (header ∷ (area ∷ (plan ∷ (to ∷ (list ∷ [])))))) = play_form command header area plan to (Some list)
 command_form _ = NoForm
 
 -- which command these words are, if they are one: there are no options
 abbrev pub form_of : List (List ℕ) → Form
 form_of words = cond (list_any is_option words) NoForm (command_form words)
+
+-- the list of tables that the words give
+abbrev pub list_of : Form → Option (List ℕ)
+list_of (Play header area plan to list) = list
+list_of _ = None
 
 -- the command that the words are
 abbrev pub IsCommand : Command → Form → Type 0
@@ -74,4 +91,6 @@ IsCommand (command.Tree file) form = form ≡ Tree file.now
 IsCommand (command.Check header file) form = form ≡ Check header.now file.now
 IsCommand (command.Disassemble file to) form = form ≡ Disassemble file.now to.now
 IsCommand (command.Assemble file to) form = form ≡ Assemble file.now to.now
-IsCommand (command.Play header area plan to) form = form ≡ Play header.now area.now plan.now to.now
+IsCommand (command.Play header area plan to list) form =
+    form ≡ Play header.now area.now plan.now to.now (option_map (λ name. name.now) list)
+IsCommand (command.Generate number) form = (form ≡ Generate number) × (number ≤ number_limit)

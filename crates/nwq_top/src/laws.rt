@@ -5,6 +5,7 @@ ghost use Rattle.nwq_top.specs.Laws.{OneOutcome, Prefixes};
 use nwq_checks::laws::one_check;
 use nwq_files::laws::one_file;
 use nwq_games::laws::one_game;
+use nwq_generated::laws::one_generated;
 use nwq_plays::laws::one_code;
 use nwq_scripts::laws::one_script;
 use nwq_sources::laws::one_source;
@@ -21,4 +22,5 @@ pub fn one_outcome()
     one_check();
     one_code();
     one_game();
+    one_generated();
 }

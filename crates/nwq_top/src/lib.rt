@@ -1,16 +1,21 @@
 //! The top call: what the words of a command do with files and a sink, in order, and how it ends.
 //!
 //! [`nwq_main`] is the whole program but for the real files, the real sink and the words;
-//! [`nwq_program`] is what `main` calls. What a command does is a
+//! [`program_tables`] and [`nwq_program`] are what `main` calls. What a command does is a
 //! [`Work`](../../nwq_work/specs/Work.antt), a function of the form of its words
 //! (`specs/Command.antt`), and the clause `does` says that the call did it. The parts of that work
-//! that read sources are `nwq_sources`', and its commands over other files `nwq_files`'. See docs/COMMANDS.md and docs/THEOREMS.md.
+//! that read sources are `nwq_sources`', and its commands over other files `nwq_files`'.
+//!
+//! The tables that its scripts look cells up in are [`nwq_tables`]', which comes first: the tables are
+//! read, hooks are made with them, and `nwq_main` is handed these hooks and the same words. See
+//! docs/COMMANDS.md and docs/THEOREMS.md.
 #![tactic(auto)]
 
 mod command;
 pub mod laws;
 mod program;
 mod run;
+mod tables;
 mod words;
 
 ghost use Rattle.std.specs.Prelude.{◌≡◌, map, string_bytes, IsTrue};
@@ -25,8 +30,9 @@ use crate::command::command;
 use hook_table::Hooks;
 use nwq_outside::{Files, Sink};
 pub use nwq_work::Status;
-pub use program::nwq_program;
+pub use program::{nwq_program, program_tables};
 use std::alloc::Global;
+pub use tables::nwq_tables;
 
 /// Does what the words say. Scripts that it plays call the hooks.
 #[tactic(auto, using(crate::proofs::EndingLemmas::stops_come))]

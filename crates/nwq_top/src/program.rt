@@ -1,22 +1,24 @@
-ghost use Rattle.std.specs.Prelude.{◌≡◌, drop, map, IsTrue};
+ghost use Rattle.std.specs.Prelude.{◌≡◌, [], drop, map, None, Ok, IsTrue, IfErr};
 ghost use Rattle.world_core.specs.Calls.{cells_of, AreServing};
 ghost use Rattle.nwq_work.specs.Work.{Does, ending};
-ghost use Rattle.nwq_work.specs.Counts.{Counted, Tallies, KeepsBut};
-ghost use Rattle.nwq_top.specs.Words.{form_of};
+ghost use Rattle.nwq_work.specs.Counts.{Counted, Tallies, KeepsBut, StopsArea};
+ghost use Rattle.nwq_tables.specs.Tables.{tables_given};
+ghost use Rattle.nwq_top.specs.Words.{form_of, list_of};
 ghost use Rattle.nwq_top.specs.Command.{work_of, MayWrite};
 ghost use Rattle.nwq_top.specs.Endings.{ComesOf};
 ghost use Rattle.nwq_top.specs.Program.{status_number, status_numbered, words_of, usage_line};
-ghost use Rattle.nwq_top.specs.Program.{TellsUsage};
+ghost use Rattle.nwq_top.specs.Program.{by_status, TellsUsage};
 
-use crate::nwq_main;
+use crate::{nwq_main, nwq_tables};
 use hook_table::Hooks;
 use nwq_outside::{Files, Sink};
 use nwq_work::Status;
 use std::alloc::Global;
+use table_2da::Tables;
 
 /// What is said on standard error after words that are no form of a command.
 const USAGE: &str =
-    "usage: nwq run HEADER SCRIPT | compile HEADER SCRIPT | tree FILE | check HEADER FILE | dis FILE TO | asm FILE TO | play HEADER AREA PLAN TO (HEADER: a header file, or - for the built-in one)\n";
+    "usage: nwq run HEADER SCRIPT | compile HEADER SCRIPT | tree FILE | check HEADER FILE | dis FILE TO | asm FILE TO | play HEADER AREA PLAN TO [TABLES] | generate NUMBER (HEADER: a header file, or - for the built-in one)\n";
 
 /// The words after the program's name, which is the first of all.
 fn after_name(all: &[String]) -> &[String]
@@ -49,7 +51,35 @@ fn tell_usage<E: Sink>(status: Status, err: &mut E)
     }
 }
 
-/// The whole program, given all its words, the files, standard output, standard error and the hooks
+/// The tables that the program's words give, read before anything else is done, or the number with
+/// which the program ends. It isn't that of words that are no form: these give no tables, and
+/// [`nwq_program`] refuses them.
+pub fn program_tables<F: Files, S: Sink>(
+    alloc: Global,
+    all: &[String],
+    files: &mut F,
+    out: &mut S,
+) -> Result<Tables, u8>
+    ensures number { IfErr result (λ n. status_number (status_numbered n) ≡ n) }
+    ensures does { IsTrue F.tells → IsTrue S.tells →
+        Does (tables_given (list_of (form_of (words_of all.now))))
+        (F.contents files.old) (S.taken out.old)
+        (by_status result) (F.contents files.new) (S.taken out.new) }
+    ensures counts { Tallies (by_status result)
+        (Counted (F.faults files.old) (F.absences files.old) (F.longs files.old) (S.faults out.old))
+        (Counted (F.faults files.new) (F.absences files.new)
+        (F.longs files.new) (S.faults out.new)) }
+    ensures same { F.contents files.new ≡ F.contents files.old }
+    ensures only { IfErr result (λ n. StopsArea (status_numbered n)) }
+    ensures none { list_of (form_of (words_of all.now)) ≡ None → result ≡ Ok [] }
+{
+    match nwq_tables(alloc, after_name(all), files, out) {
+        Err(status) => Err(number_of(status)),
+        Ok(tables) => Ok(tables),
+    }
+}
+
+/// What the program does, given all its words, the files, standard output, standard error and the hooks
 /// that scripts call: the number with which it ends.
 pub fn nwq_program<F: Files, S: Sink, E: Sink>(
     alloc: Global,

@@ -1,9 +1,14 @@
 ghost use Rattle.std.specs.Prelude.{◌≡◌, map, string_bytes, bytes_eq};
 ghost use Rattle.std.specs.List.{list_all, list_any};
+ghost use Rattle.std.specs.Option.{option_map};
+ghost use Rattle.nwq_text.specs.Number.{number_of};
 ghost use Rattle.nwq_top.specs.Words.{is_script_byte, is_script_name, is_option, command_form};
-ghost use Rattle.nwq_top.specs.Words.{one_word_form, two_word_form, run_form, compile_form};
-ghost use Rattle.nwq_top.specs.Words.{four_word_form};
-ghost use Rattle.nwq_top.specs.Words.{form_of, IsCommand};
+ghost use Rattle.nwq_top.specs.Words.{generate_form, one_word_form, two_word_form, run_form};
+ghost use Rattle.nwq_top.specs.Words.{compile_form, play_form};
+ghost use Rattle.nwq_top.specs.Words.{form_of, list_of, IsCommand};
+
+use nwq_text::read_number;
+use play_generator::NUMBER_LIMIT;
 
 /// How many characters the name of a script has at most.
 const NAME_MOST: usize = 16;
@@ -23,14 +28,17 @@ pub enum Command<'a> {
     Disassemble(&'a str, &'a str),
     /// Writes the file of the first, an assembler text, under the second name.
     Assemble(&'a str, &'a str),
-    /// Plays a plan over the area of a GFF file, under the header that the first names, and leaves the
-    /// area in a file.
+    /// Plays a plan over the area of a GFF file, under the header that the first names, with the
+    /// tables that the list names, and leaves the area in a file.
     Play {
         header: &'a str,
         area: &'a str,
         plan: &'a str,
         to: &'a str,
+        list: Option<&'a str>,
     },
+    /// Plays what is made from a number.
+    Generate(u32),
     /// The words are no form of a command.
     NoForm,
 }
@@ -78,11 +86,29 @@ fn is_word(word: &str, name: &str) -> bool
     word == name
 }
 
+/// Plays what is made from the number that the word writes.
+fn generate_word<'a>(word: &str) -> Command<'a>
+    ensures { IsCommand result (generate_form (number_of word.now)) }
+{
+    match read_number(word.as_bytes()) {
+        None => Command::NoForm,
+        Some(number) => {
+            if number <= u64::from(NUMBER_LIMIT) {
+                Command::Generate(number as u32)
+            } else {
+                Command::NoForm
+            }
+        }
+    }
+}
+
 fn one_word<'a>(command: &str, word: &'a str) -> Command<'a>
     ensures { IsCommand result (one_word_form command.now word.now) }
 {
     if is_word(command, "tree") {
         Command::Tree(word)
+    } else if is_word(command, "generate") {
+        generate_word(word)
     } else {
         Command::NoForm
     }
@@ -126,14 +152,16 @@ fn two_words<'a>(command: &str, first: &'a str, second: &'a str) -> Command<'a>
     }
 }
 
-fn four_words<'a>(
+fn play_words<'a>(
     command: &str,
     header: &'a str,
     area: &'a str,
     plan: &'a str,
     to: &'a str,
+    list: Option<&'a str>,
 ) -> Command<'a>
-    ensures { IsCommand result (four_word_form command.now header.now area.now plan.now to.now) }
+    ensures { IsCommand result (play_form command.now header.now area.now plan.now to.now
+        (option_map (λ name. name.now) list.entry)) }
 {
     if is_word(command, "play") {
         Command::Play {
@@ -141,6 +169,7 @@ fn four_words<'a>(
             area,
             plan,
             to,
+            list,
         }
     } else {
         Command::NoForm
@@ -153,12 +182,21 @@ fn command_by(words: &[String]) -> Command<'_>
     match words {
         [command, file] => one_word(command.as_str(), file.as_str()),
         [command, first, second] => two_words(command.as_str(), first.as_str(), second.as_str()),
-        [command, header, area, plan, to] => four_words(
+        [command, header, area, plan, to] => play_words(
             command.as_str(),
             header.as_str(),
             area.as_str(),
             plan.as_str(),
             to.as_str(),
+            None,
+        ),
+        [command, header, area, plan, to, list] => play_words(
+            command.as_str(),
+            header.as_str(),
+            area.as_str(),
+            plan.as_str(),
+            to.as_str(),
+            Some(list.as_str()),
         ),
         _ => Command::NoForm,
     }
@@ -173,5 +211,15 @@ pub fn command_of(words: &[String]) -> Command<'_>
         Command::NoForm
     } else {
         command_by(words)
+    }
+}
+
+/// The list of tables that these words give.
+pub fn list_in(words: &[String]) -> Option<&str>
+    ensures { option_map (λ name. name.now) result ≡ list_of (form_of (map string_bytes words.now)) }
+{
+    match command_of(words) {
+        Command::Play { list, .. } => list,
+        _ => None,
     }
 }

@@ -1,0 +1,104 @@
+ghost use Rattle.std.specs.Prelude.{◌≡◌, ◌≤◌, [], map, IsTrue, IfOk};
+ghost use Rattle.hook_table.specs.Standard.{function_numbered, IsAnswer};
+ghost use Rattle.nwq_work.specs.Work.{Does, ending};
+ghost use Rattle.nwq_work.specs.Counts.{Counted, Tallies, KeepsBut};
+ghost use Rattle.nwq_top.specs.Words.{form_of};
+ghost use Rattle.nwq_top.specs.Command.{work_with, whole_work, MayWrite};
+ghost use Rattle.nwq_top.specs.Endings.{ComesOf};
+ghost use Rattle.nwq_top.specs.Program.{status_number, status_numbered, words_of, TellsUsage};
+ghost use Rattle.nwq.specs.Ending.{end_number};
+
+use hook_table::{Call, Hooks, cell_call};
+use nwq_hooks::{all_are_put, call_function, put_cell_hook, put_hook};
+use nwq_outside::{Files, Sink};
+use nwq_top::{nwq_program, program_tables};
+use nwq_value::{Args, NoMemory, Value};
+use std::alloc::Global;
+use table_2da::Tables;
+
+/// The number of the status for want of memory.
+pub(crate) const WANT_OF_MEMORY: u8 = 8;
+
+/// Makes the hooks, of which the tenth looks cells up in these tables, and does what the words say
+/// with them. Where there is no memory for the hooks, nothing is done.
+fn run_with<F: Files, S: Sink, E: Sink>(
+    alloc: Global,
+    all: &[String],
+    tables: Tables,
+    files: &mut F,
+    out: &mut S,
+    err: &mut E,
+) -> Result<u8, NoMemory>
+    ensures number { status_number (status_numbered (end_number result)) ≡ end_number result }
+    ensures does { IsTrue F.tells → IsTrue S.tells →
+        Does (work_with (form_of (words_of all.now)) tables)
+        (F.contents files.old) (S.taken out.old)
+        (ending (status_numbered (end_number result)))
+        (F.contents files.new) (S.taken out.new) }
+    ensures counts { Tallies (ending (status_numbered (end_number result)))
+        (Counted (F.faults files.old) (F.absences files.old) (F.longs files.old) (S.faults out.old))
+        (Counted (F.faults files.new) (F.absences files.new)
+        (F.longs files.new) (S.faults out.new)) }
+    ensures names { KeepsBut (MayWrite (form_of (words_of all.now)))
+        (F.contents files.old) (F.contents files.new) }
+    ensures only { ComesOf (form_of (words_of all.now)) (status_numbered (end_number result)) }
+    ensures usage { IsTrue E.tells →
+        TellsUsage (status_numbered (end_number result)) (E.taken err.old) (E.taken err.new) }
+{
+    let own = tables.copy(alloc)?;
+    let mut hooks = Hooks::new(alloc);
+    for n in 0u8..9 {
+        let call: Call = Box::new(
+            alloc,
+            move |args: &Args| -> Result<Value, NoMemory>
+                requires { n ≤ 9 }
+                ensures { IfOk result (λ v. IsAnswer [] (function_numbered n).name
+                    (function_numbered n).result args.now v) }
+            { call_function(alloc, n, args) },
+        )?;
+        put_hook(alloc, &mut hooks, n, call)?;
+    }
+    let cells: Call = Box::new(
+        alloc,
+        move |args: &Args| -> Result<Value, NoMemory>
+            ensures { IfOk result (λ v. IsAnswer own (function_numbered 9).name
+                (function_numbered 9).result args.now v) }
+        { cell_call(alloc, &own, args) },
+    )?;
+    put_cell_hook(alloc, &mut hooks, cells, tables)?;
+    all_are_put(&hooks);
+    Ok(nwq_program(alloc, all, files, out, err, &hooks))
+}
+
+/// The whole program, given all its words, the files, standard output and standard error: the number
+/// with which it ends. It reads the tables that the words give, and does what the words say with
+/// hooks that look cells up in them.
+pub(crate) fn run_all<F: Files, S: Sink, E: Sink>(
+    alloc: Global,
+    all: &[String],
+    files: &mut F,
+    out: &mut S,
+    err: &mut E,
+) -> u8
+    ensures number { status_number (status_numbered result) ≡ result }
+    ensures does { IsTrue F.tells → IsTrue S.tells →
+        Does (whole_work (form_of (words_of all.now))) (F.contents files.old) (S.taken out.old)
+        (ending (status_numbered result)) (F.contents files.new) (S.taken out.new) }
+    ensures counts { Tallies (ending (status_numbered result))
+        (Counted (F.faults files.old) (F.absences files.old) (F.longs files.old) (S.faults out.old))
+        (Counted (F.faults files.new) (F.absences files.new)
+        (F.longs files.new) (S.faults out.new)) }
+    ensures names { KeepsBut (MayWrite (form_of (words_of all.now)))
+        (F.contents files.old) (F.contents files.new) }
+    ensures only { ComesOf (form_of (words_of all.now)) (status_numbered result) }
+    ensures usage { IsTrue E.tells →
+        TellsUsage (status_numbered result) (E.taken err.old) (E.taken err.new) }
+{
+    match program_tables(alloc, all, files, out) {
+        Err(number) => number,
+        Ok(tables) => match run_with(alloc, all, tables, files, out, err) {
+            Err(NoMemory) => WANT_OF_MEMORY,
+            Ok(number) => number,
+        },
+    }
+}

@@ -1,0 +1,36 @@
+ghost use Rattle.std.specs.Prelude.{◌≡◌, [], map, string_bytes, None, Ok, IsTrue, IfErr};
+ghost use Rattle.nwq_work.specs.Work.{Does};
+ghost use Rattle.nwq_work.specs.Counts.{Counted, Tallies, StopsArea};
+ghost use Rattle.nwq_tables.specs.Tables.{tables_given};
+ghost use Rattle.nwq_top.specs.Words.{form_of, list_of};
+
+use crate::words::list_in;
+use nwq_outside::{Files, Sink};
+use nwq_tables::read_tables;
+use nwq_work::Status;
+use std::alloc::Global;
+use table_2da::Tables;
+
+/// Reads the tables that the words give, which is the first work of a command. Words without a list
+/// give none.
+pub fn nwq_tables<F: Files, S: Sink>(
+    alloc: Global,
+    words: &[String],
+    files: &mut F,
+    out: &mut S,
+) -> Result<Tables, Status>
+    // Where files and sink tell what they hold: the call read the list and then its tables, in order.
+    ensures does { IsTrue F.tells → IsTrue S.tells →
+        Does (tables_given (list_of (form_of (map string_bytes words.now))))
+        (F.contents files.old) (S.taken out.old)
+        result (F.contents files.new) (S.taken out.new) }
+    ensures counts { Tallies result
+        (Counted (F.faults files.old) (F.absences files.old) (F.longs files.old) (S.faults out.old))
+        (Counted (F.faults files.new) (F.absences files.new)
+        (F.longs files.new) (S.faults out.new)) }
+    ensures same { F.contents files.new ≡ F.contents files.old }
+    ensures only { IfErr result StopsArea }
+    ensures none { list_of (form_of (map string_bytes words.now)) ≡ None → result ≡ Ok [] }
+{
+    read_tables(alloc, list_in(words), files, out)
+}
