@@ -30,13 +30,7 @@ fn run(rt: HostRuntime) -> io::Result<u8> {
     let mut files = RealFiles::new(rt.clone()?);
     let mut out = RealSink::new(rt.stdout());
     let mut err = RealSink::new(rt.stderr());
-    Ok(run_all(
-        rt.alloc(),
-        all.as_slice(),
-        &mut files,
-        &mut out,
-        &mut err,
-    ))
+    Ok(run_all(rt.alloc(), all.as_slice(), &mut files, &mut out, &mut err))
 }
 
 /// How the program ends: with the number that came back, or, where there was no memory for the

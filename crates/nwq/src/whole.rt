@@ -21,6 +21,7 @@ pub(crate) const WANT_OF_MEMORY: u8 = 8;
 
 /// Makes the hooks, of which the tenth looks cells up in these tables, and does what the words say
 /// with them. Where there is no memory for the hooks, nothing is done.
+#[tactic(auto, using(nwq_work::specs::Parts::cut_here, crate::proofs::EndLemmas::memory_comes, crate::proofs::EndLemmas::same_cells))]
 fn run_with<F: Files, S: Sink, E: Sink>(
     alloc: Global,
     all: &[String],
@@ -73,6 +74,7 @@ fn run_with<F: Files, S: Sink, E: Sink>(
 /// The whole program, given all its words, the files, standard output and standard error: the number
 /// with which it ends. It reads the tables that the words give, and does what the words say with
 /// hooks that look cells up in them.
+#[tactic(auto, using(crate::proofs::EndLemmas::program_ends))]
 pub(crate) fn run_all<F: Files, S: Sink, E: Sink>(
     alloc: Global,
     all: &[String],

@@ -1,5 +1,5 @@
 -- The definitions at worked examples, by computing.
-use Rattle.std.proofs.Common.{◌≡◌, [], ◌∷◌, refl}
+use Rattle.std.proofs.Common.{◌≡◌, [], ◌∷◌, None, Some, refl}
 use Rattle.std.specs.Prelude.{codes}
 use Rattle.std.specs.Fmt.{digits}
 use Rattle.nwq_text.specs.Escape.{escaped, spelling}
@@ -9,7 +9,7 @@ use Rattle.nwq_work.specs.declared.flaw.CodeFlaw.TheVariants as code
 use Rattle.nwq_work.specs.declared.flaw.AreaFlaw.TheVariants as area
 use Rattle.nwq_work.specs.Refusal.{line_of, Absent, TooLong, At, BadCode, BadArea}
 use Rattle.nwq_files.specs.Texts.{disassembled_line, assembled_line}
-use Rattle.nwq_top.specs.Words.{form_of, Run, Compile, Tree, Disassemble, Assemble, NoForm}
+use Rattle.nwq_top.specs.Words.{form_of, Run, Compile, Tree, Disassemble, Assemble, Play, NoForm}
 
 -- texts
 line_of_script : line_of (At (codes "p.nss") 1 28 cause.Mismatch) ≡ codes "refused p.nss 1 28 mismatch\n"
@@ -82,3 +82,14 @@ listing_words = refl
 
 assembly_words : form_of (codes "asm" ∷ codes "a.txt" ∷ codes "e.ncs" ∷ []) ≡ Assemble (codes "a.txt") (codes "e.ncs")
 assembly_words = refl
+
+play_words : form_of (codes "play" ∷ codes "-" ∷ codes "a.git" ∷ codes "p.plan" ∷ codes "f.git" ∷ [])
+    ≡ Play (codes "-") (codes "a.git") (codes "p.plan") (codes "f.git") None
+play_words = refl
+
+play_with_tables : form_of (codes "play" ∷ codes "-" ∷ codes "a.git" ∷ codes "p.plan" ∷ codes "f.git" ∷ codes "t.txt" ∷ [])
+    ≡ Play (codes "-") (codes "a.git") (codes "p.plan") (codes "f.git") (Some (codes "t.txt"))
+play_with_tables = refl
+
+two_lists : form_of (codes "play" ∷ codes "-" ∷ codes "a.git" ∷ codes "p.plan" ∷ codes "f.git" ∷ codes "t.txt" ∷ codes "t.txt" ∷ []) ≡ NoForm
+two_lists = refl

@@ -13,9 +13,12 @@ use Rattle.nwq_scripts.specs.Files.{code_name, compiled_named}
 use Rattle.nwq_scripts.specs.Laws.{SureCompiled, SureCompiles}
 use Rattle.nwq_sources.specs.Headers.{table_of}
 use Rattle.nwq_sources.specs.Laws.{SureTables}
-use Rattle.nwq_top.specs.Words.{Form, Run, Compile, Tree, Check, Disassemble, Assemble, Play, Generate, NoForm}
-use Rattle.nwq_top.specs.Command.{runs_under, runs, work_of}
-use Rattle.nwq_top.specs.Laws.{OneOutcome, Prefixes}
+use Rattle.nwq_tables.specs.Tables.{tables_given}
+use Rattle.nwq_tables.specs.Laws.{SureTables as SureGiven}
+use Rattle.table_2da.specs.Look.{cell_of}
+use Rattle.nwq_top.specs.Words.{Form, Run, Compile, Tree, Check, Disassemble, Assemble, Play, Generate, NoForm, list_of}
+use Rattle.nwq_top.specs.Command.{runs_under, runs, work_of, work_with, whole_work}
+use Rattle.nwq_top.specs.Laws.{OneOutcome, Prefixes, OneWhole, WholePrefixes}
 
 module _ (tables : SureTables) (files : SureCommands) (checks : SureChecks) (scripts : SureCompiled) (compiled : SureCompiles) (plays : SurePlays) (games : SureGames) (made : SureGenerated) where
   sure_under : (cell : CellLookup) (script : List ℕ) (header : EngineTable) → IsSure (runs_under cell script header)
@@ -44,3 +47,13 @@ module _ (tables : SureTables) (files : SureCommands) (checks : SureChecks) (scr
 
   pub all_prefixes : Prefixes
   all_prefixes cell form r s c d e t u v = prefixes (work_of cell form) (sure_work cell form) r s c d e t u v
+
+  sure_whole : (given : SureGiven) (form : Form) → IsSure (whole_work form)
+  unfolding whole_work
+  sure_whole given form = sure_then (tables_given (list_of form)) (work_with form) (given (list_of form)) (λ ts. sure_work (cell_of ts) form)
+
+  pub one_whole : SureGiven → OneWhole
+  one_whole given form r s c d e t u v = agree (whole_work form) (sure_whole given form) r s c d e t u v
+
+  pub whole_prefixes : SureGiven → WholePrefixes
+  whole_prefixes given form r s c d e t u v = prefixes (whole_work form) (sure_whole given form) r s c d e t u v

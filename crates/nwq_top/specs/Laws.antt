@@ -6,7 +6,7 @@ use Rattle.nwq_work.specs.declared.status.Status.{Status}
 use Rattle.nwq_work.specs.Work.{IsCut, Does, Finished}
 use Rattle.nwq_work.specs.Outcomes.{Agrees, IsPrefix}
 use Rattle.nwq_top.specs.Words.{Form}
-use Rattle.nwq_top.specs.Command.{work_of}
+use Rattle.nwq_top.specs.Command.{work_of, whole_work}
 
 -- What a command does by the files and the bytes taken, where it isn't cut, is one thing: its answer, what it leaves, what it puts.
 abbrev pub OneOutcome : Type 0
@@ -17,3 +17,12 @@ OneOutcome = (cell : CellLookup) (form : Form) (r s : Result Finished Status) (c
 abbrev pub Prefixes : Type 0
 Prefixes = (cell : CellLookup) (form : Form) (r s : Result Finished Status) (c d e : Contents) (t u v : List ℕ) → (IsCut s → ⊥)
     → Does (work_of cell form) c t r d u → Does (work_of cell form) c t s e v → IsPrefix u v
+
+-- The same of the whole program, which reads tables first.
+abbrev pub OneWhole : Type 0
+OneWhole = (form : Form) (r s : Result Finished Status) (c d e : Contents) (t u v : List ℕ) → (IsCut r → ⊥) → (IsCut s → ⊥)
+    → Does (whole_work form) c t r d u → Does (whole_work form) c t s e v → Agrees r s d e u v
+
+abbrev pub WholePrefixes : Type 0
+WholePrefixes = (form : Form) (r s : Result Finished Status) (c d e : Contents) (t u v : List ℕ) → (IsCut s → ⊥)
+    → Does (whole_work form) c t r d u → Does (whole_work form) c t s e v → IsPrefix u v

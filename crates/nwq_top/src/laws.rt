@@ -1,6 +1,6 @@
 //! Laws about the work of commands, as the contract of a function that does nothing.
 
-ghost use Rattle.nwq_top.specs.Laws.{OneOutcome, Prefixes};
+ghost use Rattle.nwq_top.specs.Laws.{OneOutcome, Prefixes, OneWhole, WholePrefixes};
 
 use nwq_checks::laws::one_check;
 use nwq_files::laws::one_file;
@@ -9,12 +9,15 @@ use nwq_generated::laws::one_generated;
 use nwq_plays::laws::one_code;
 use nwq_scripts::laws::one_script;
 use nwq_sources::laws::one_source;
+use nwq_tables::laws::one_set_of_tables;
 
 /// A command that isn't cut has one outcome, and one that is cut has put a prefix of what it puts
-/// whole.
+/// whole. So is the whole program, which reads tables first.
 pub fn one_outcome()
     ensures one { OneOutcome }
     ensures prefixes { Prefixes }
+    ensures whole { OneWhole }
+    ensures whole_prefixes { WholePrefixes }
 {
     one_source();
     one_file();
@@ -23,4 +26,5 @@ pub fn one_outcome()
     one_code();
     one_game();
     one_generated();
+    one_set_of_tables();
 }
