@@ -1,12 +1,14 @@
 -- The summary of a play, and how its command ends.
-use Rattle.std.proofs.Common.{◌≡◌, ℕ, ◌*◌, inl, inr, List, [], ◌++◌, IfErr, Result, Ok, Err, refl, subst, sym, ap, ◌∙◌}
+use Rattle.std.proofs.Common.{◌≡◌, ◌≤◌, ◌<◌, ◌^◌, ℕ, ◌*◌, arith, inl, inr, List, [], ◌++◌, IfErr, Result, Ok, Err, refl, subst, sym, ap, ◌∙◌}
+use Rattle.std.proofs.lemmas.Nat.{mul-le}
 use Rattle.nwq_outside.specs.Outside.{Contents, TookPrefix}
 use Rattle.saved_state.specs.declared.saved.Saved.{Saved}
 use Rattle.engine_rows.specs.Trace.{trace_text}
 use Rattle.engine_rows.specs.World.{World}
-use Rattle.play_steps.specs.Plays.{Played}
+use Rattle.play_steps.specs.Plays.{PlayEnd, Played}
 use Rattle.play_steps.specs.EndText.{end_line}
 use Rattle.play_generator.specs.Made.{creatures_of, rounds_of}
+use Rattle.module_player.specs.Answers.{EndsAs}
 use Rattle.module_player.specs.EndTexts.{IsEnding}
 use Rattle.module_player.specs.declared.played.Played.{Played as Answer}
 use Rattle.nwq_work.specs.declared.status.Status.{Status}
@@ -16,21 +18,34 @@ use Rattle.nwq_work.specs.Counts.{Counts, Tallies, TalliesEnd, Refusing}
 use Rattle.nwq_plays.specs.Plays.{ends_by}
 use Rattle.nwq_generated.specs.Generated.{made_line, summary, tells}
 
-module _ (n : ℕ) (p : Played Saved) (w : World Saved) (answer : Answer) (clock : ℕ) (trace made : List ℕ) where
+module _ (n : ℕ) (p : Played Saved) (w : World Saved) (answer : Answer) (clock creatures rounds events : ℕ) (trace made : List ℕ) where
+  made_is : creatures ≡ creatures_of n → rounds ≡ rounds_of n → events ≡ creatures * rounds → trace ≡ trace_text p.last.trace
+      → made_line creatures events trace ≡ made_line (creatures_of n) (creatures_of n * rounds_of n) (trace_text p.last.trace)
+  made_is c r e told =
+      ap (λ x. made_line creatures x trace) (e ∙ (ap (λ x. x * rounds) c ∙ ap (λ x. creatures_of n * x) r))
+      ∙ (ap (λ x. made_line x (creatures_of n * rounds_of n) trace) c ∙ ap (λ x. made_line (creatures_of n) (creatures_of n * rounds_of n) x) told)
+
+  end_is : IsEnding answer p w → clock ≡ w.clock
+      → end_line p.ending clock answer.entries answer.instructions ≡ end_line p.ending p.last.world.clock p.last.entries p.last.count
+  end_is ends at =
+      ap (λ x. end_line p.ending x answer.entries answer.instructions) (at ∙ ap (λ (v : World Saved). v.clock) ends.world)
+      ∙ (ap (λ x. end_line p.ending p.last.world.clock x answer.instructions) ends.entries
+      ∙ ap (λ x. end_line p.ending p.last.world.clock p.last.entries x) ends.instructions)
+
   pub summary_is : (out : List ℕ) → IsEnding answer p w → trace ≡ trace_text p.last.trace → clock ≡ w.clock
-      → made ≡ [] ++ made_line (creatures_of n) (creatures_of n * rounds_of n) trace → out ≡ made ++ end_line p.ending clock answer.entries answer.instructions
+      → creatures ≡ creatures_of n → rounds ≡ rounds_of n → events ≡ creatures * rounds → made ≡ [] ++ made_line creatures events trace
+      → ((ending : PlayEnd) → EndsAs answer.how ending → out ≡ made ++ end_line ending clock answer.entries answer.instructions)
       → out ≡ summary n p
   unfolding summary
-  summary_is out ends told at first then =
-      let clocks : clock ≡ p.last.world.clock = at ∙ ap (λ (v : World Saved). v.clock) ends.world in
-      then ∙ ap (λ m. m ++ end_line p.ending clock answer.entries answer.instructions)
-      (first ∙ ap (λ t. made_line (creatures_of n) (creatures_of n * rounds_of n) t) told)
-      ∙ ap (λ e. made_line (creatures_of n) (creatures_of n * rounds_of n) (trace_text p.last.trace) ++ e)
-      (ap (λ x. end_line p.ending x answer.entries answer.instructions) clocks
-      ∙ (ap (λ x. end_line p.ending p.last.world.clock x answer.instructions) ends.entries
-      ∙ ap (λ x. end_line p.ending p.last.world.clock p.last.entries x) ends.instructions))
+  summary_is out ends told at c r e first last =
+      last p.ending ends.ending ∙ ap (λ m. m ++ end_line p.ending clock answer.entries answer.instructions) (first ∙ made_is c r e told)
+      ∙ ap (λ x. made_line (creatures_of n) (creatures_of n * rounds_of n) (trace_text p.last.trace) ++ x) (end_is ends at)
 
 pub ruleset texts = (summary_is)
+
+-- the most events are 60,000
+pub events_fit : (creatures rounds : ℕ) → creatures ≤ 1000 → rounds ≤ 60 → creatures * rounds < 2 ^ 32
+events_fit creatures rounds few most = let all : creatures * rounds ≤ 1000 * 60 = mul-le creatures rounds 1000 60 few most in omega (arith, all)
 
 -- ---- the summary, and the end
 

@@ -1,11 +1,18 @@
 //! Files and a sink in memory that don't fail: a call may only find no memory.
 ghost use Rattle.std.specs.Prelude.{◌≡◌, [], true, IfOk};
-ghost use Rattle.std.specs.FinMap as map;
+ghost use Rattle.nwq_outside.specs.Outside.{next};
 ghost use Rattle.nwq_generated.specs.Generated.{files_with};
 
 use nwq_outside::{Done, FILE_BYTES, Files, MemFiles, Read, Sink};
 use nwq_value::{Items, NoMemory};
 use std::alloc::Global;
+
+/// The next number of a count, which stays at the greatest one.
+fn raised(count: u64) -> u64
+    ensures { result ≡ next count }
+{
+    count.saturating_add(1)
+}
 
 /// Files that are read and not written.
 #[derive(Drop)]
@@ -49,11 +56,11 @@ impl Files for Shelf {
     fn read(&mut self, alloc: Global, name: &str) -> Read {
         match self.held.get(name) {
             None => {
-                self.absences = self.absences.saturating_add(1);
+                self.absences = raised(self.absences);
                 Read::Missing
             }
             Some(bytes) if bytes.len() > FILE_BYTES => {
-                self.longs = self.longs.saturating_add(1);
+                self.longs = raised(self.longs);
                 Read::Long
             }
             Some(bytes) => match Vec::from_slice(alloc, bytes) {

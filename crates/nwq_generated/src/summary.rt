@@ -1,11 +1,11 @@
 //! The summary of a made play.
-ghost use Rattle.std.specs.Prelude.{◌≡◌, ◌≤◌, ◌++◌, ℕ, IsTrue, IfOk, IfErr, OnOk};
+ghost use Rattle.std.specs.Prelude.{◌≡◌, ◌≤◌, ◌*◌, ◌++◌, ℕ, IsTrue, IfOk, IfErr, OnOk};
 ghost use Rattle.nwq_outside.specs.Outside.{Contents};
 ghost use Rattle.saved_state.specs.declared.saved.Saved.{Saved as SavedView};
 ghost use Rattle.engine_rows.specs.Trace.{trace_text};
 ghost use Rattle.engine_rows.specs.World.{World as WorldView};
 ghost use Rattle.play_steps.specs.Plays.{Played as PlayedView};
-ghost use Rattle.play_generator.specs.Made.{number_limit};
+ghost use Rattle.play_generator.specs.Made.{creatures_of, number_limit, rounds_of};
 ghost use Rattle.module_player.specs.EndTexts.{HasText, IsEnding};
 ghost use Rattle.nwq_work.specs.Work.{Does, CutsShort};
 ghost use Rattle.nwq_work.specs.Parts.{PutsWhole};
@@ -19,6 +19,32 @@ use nwq_text::put_count;
 use nwq_value::NoMemory;
 use nwq_work::{Status, put};
 use std::alloc::Global;
+
+/// How many creatures are made from a number.
+fn creatures_of(number: u32) -> u32
+    ensures count { result ≡ creatures_of number }
+    ensures few { result ≤ 1000 }
+{
+    1 + number % 1000
+}
+
+/// How many rounds are made from a number.
+fn rounds_of(number: u32) -> u32
+    ensures count { result ≡ rounds_of number }
+    ensures few { result ≤ 60 }
+{
+    1 + number / 1000 % 60
+}
+
+/// How many events so many creatures have in so many rounds.
+#[tactic(auto, using(crate::proofs::SummaryLemmas::events_fit))]
+fn events_of(creatures: u32, rounds: u32) -> u32
+    requires few { creatures ≤ 1000 }
+    requires rounds { rounds ≤ 60 }
+    ensures count { result ≡ creatures * rounds }
+{
+    creatures * rounds
+}
 
 /// How many lines a trace has.
 fn lines_in(trace: &[u8]) -> u64
@@ -65,9 +91,9 @@ fn summary_of(
         → text.items ≡ summary number p) }
 {
     let mut out = Vec::new(alloc);
-    let creatures = 1 + number % 1000;
-    let rounds = 1 + number / 1000 % 60;
-    put_made(&mut out, creatures, creatures * rounds, trace)?;
+    let creatures = creatures_of(number);
+    let events = events_of(creatures, rounds_of(number));
+    put_made(&mut out, creatures, events, trace)?;
     put_end_line(&mut out, played, clock)?;
     Ok(out)
 }
