@@ -1,5 +1,5 @@
 -- The area that is made breaks no rule of areas, and its structs are few.
-use Rattle.std.proofs.Common.{◌≡◌, ◌≤◌, ◌<◌, ◌+◌, ℕ, suc, List, [], ◌∷◌, ◌++◌, map, length, refl, ap, sym, ◌∙◌, subst, arith}
+use Rattle.std.proofs.Common.{◌≡◌, ◌≤◌, ◌<◌, ◌+◌, ℕ, List, [], ◌∷◌, ◌++◌, map, length, refl, ap, sym, ◌∙◌, subst, arith}
 use Rattle.std.proofs.lemmas.List.FromFn.{length-range_with_len}
 use Rattle.gff_tree.specs.Tree.{nodes_in, nodes_from}
 use Rattle.gff_tree.specs.Whole.{PlainGff}
@@ -22,7 +22,7 @@ whole_area creatures = ap (λ (places : List Place). places ++ []) (whole_member
 
 count_nodes : (numbers : List ℕ) → nodes_count (nodes_from (map creature_node numbers)) ≡ length numbers
 count_nodes [] = refl
-count_nodes (n ∷ numbers) = ap suc (count_nodes numbers)
+count_nodes (n ∷ numbers) = let rest = count_nodes numbers in omega (arith, rest)
 
 count_area : (creatures : ℕ) → node_count (area_tree creatures).top ≡ 1 + creatures
 unfolding area_tree

@@ -17,4 +17,4 @@ module _ (read : PlanIsRead) (one : OnePlan) (n : ℕ) (text : List ℕ) (small 
   pub not_faulty : (line : ℕ) → IsFaulty text (Line line) → ⊥
   not_faulty line faulty = one.not_both text (plan_of n) line has_plan faulty
 
-pub ruleset plans = (plan_is, not_faulty)
+pub ruleset plans = (not_faulty)

@@ -52,4 +52,4 @@ module _ (cell : CellLookup) (n : ℕ) (ops : List PlainOp) (c : Contents) where
       (subst (λ q. Does (tells n (played cell header q scripts (plan_world (made_area n) q))) c t r c t') plans
       (subst (λ a. Does (tells n (played cell header plan scripts (plan_world a plan))) c t r c t') areas does)))
 
-pub ruleset made = (made_cut, made_does)
+pub ruleset made = (made_cut)

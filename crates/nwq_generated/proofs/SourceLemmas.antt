@@ -72,16 +72,13 @@ pub ruleset refuses = (is_cut, line_put, line_cut, source_cut, cut_counts, cut_r
 
 -- ---- files and a sink without faults
 
-none_rises : (n : ℕ) → n ≡ 0 → n ≡ 1 → ⊥
-none_rises n zero one = omega (arith, zero, one)
-
 pub no_fault : (s : Status) (absences longs absences' longs' : ℕ) → TalliesEnd s (Counted 0 absences longs 0) (Counted 0 absences' longs' 0) → s ≢ Fault
 no_fault s absences longs absences' longs' tallies is =
     by_case (subst (λ x. TalliesEnd x (Counted 0 absences longs 0) (Counted 0 absences' longs' 0)) is tallies)
   where
     by_case : TalliesEnd Fault (Counted 0 absences longs 0) (Counted 0 absences' longs' 0) → ⊥
     by_case (inl files) = omega (arith, files.0)
-    by_case (inr sink) = omega (arith, sink.1.0)
+    by_case (inr sink) = omega (arith, sink.1)
 
 -- ---- a source that is compiled
 

@@ -1,5 +1,5 @@
 -- The summary of a play, and how its command ends.
-use Rattle.std.proofs.Common.{◌≡◌, ◌≤◌, ◌<◌, ◌^◌, ℕ, ◌*◌, arith, inl, inr, List, [], ◌++◌, IfErr, Result, Ok, Err, refl, subst, sym, ap, ◌∙◌}
+use Rattle.std.proofs.Common.{◌≡◌, ◌≤◌, ◌<◌, ◌^◌, ℕ, ◌*◌, arith, inl, inr, List, [], ◌∷◌, ◌++◌, length, codes, IfErr, Result, Ok, Err, refl, subst, sym, ap, ◌∙◌}
 use Rattle.std.proofs.lemmas.Nat.{mul-le}
 use Rattle.nwq_outside.specs.Outside.{Contents, TookPrefix}
 use Rattle.saved_state.specs.declared.saved.Saved.{Saved}
@@ -16,7 +16,29 @@ use Rattle.nwq_work.specs.declared.status.Status.TheVariants.{Limit}
 use Rattle.nwq_work.specs.Work.{Does, CutsShort, Finished}
 use Rattle.nwq_work.specs.Counts.{Counts, Tallies, TalliesEnd, Refusing}
 use Rattle.nwq_plays.specs.Plays.{ends_by}
-use Rattle.nwq_generated.specs.Generated.{made_line, summary, tells}
+use Rattle.nwq_generated.specs.Generated.{counted, line_count, made_line, summary, tells}
+
+-- ---- the first line
+
+regroup : (out a b c d e : List ℕ) → ((((out ++ a) ++ b) ++ c) ++ d) ++ e ≡ out ++ a ++ b ++ c ++ d ++ e
+regroup out a b c d e = refl
+
+pub line_is : (creatures events k l m : ℕ) (trace out first second third fourth now : List ℕ) → k ≡ creatures → l ≡ events → m ≡ line_count trace
+    → first ≡ out ++ counted (codes "generated creatures ") k → second ≡ first ++ counted (codes " events ") l
+    → third ≡ second ++ counted (codes " lines ") m → fourth ≡ third ++ counted (codes " bytes ") (length trace) → now ≡ fourth ++ 10 ∷ []
+    → now ≡ out ++ made_line creatures events trace
+unfolding made_line
+line_is creatures events k l m trace out first second third fourth now ks ls ms a b c d e =
+    let one = counted (codes "generated creatures ") creatures in
+    let two = counted (codes " events ") events in
+    let three = counted (codes " lines ") (line_count trace) in
+    let four = counted (codes " bytes ") (length trace) in
+    let firsts : first ≡ out ++ one = a ∙ ap (λ x. out ++ counted (codes "generated creatures ") x) ks in
+    let seconds : second ≡ (out ++ one) ++ two = b ∙ (ap (λ x. first ++ counted (codes " events ") x) ls ∙ ap (λ x. x ++ two) firsts) in
+    let thirds : third ≡ ((out ++ one) ++ two) ++ three = c ∙ (ap (λ x. second ++ counted (codes " lines ") x) ms ∙ ap (λ x. x ++ three) seconds) in
+    e ∙ (ap (λ x. x ++ 10 ∷ []) (d ∙ ap (λ x. x ++ four) thirds) ∙ regroup out one two three four (10 ∷ []))
+
+-- ---- the whole
 
 module _ (n : ℕ) (p : Played Saved) (w : World Saved) (answer : Answer) (clock creatures rounds events : ℕ) (trace made : List ℕ) where
   made_is : creatures ≡ creatures_of n → rounds ≡ rounds_of n → events ≡ creatures * rounds → trace ≡ trace_text p.last.trace
@@ -32,16 +54,14 @@ module _ (n : ℕ) (p : Played Saved) (w : World Saved) (answer : Answer) (clock
       ∙ (ap (λ x. end_line p.ending p.last.world.clock x answer.instructions) ends.entries
       ∙ ap (λ x. end_line p.ending p.last.world.clock p.last.entries x) ends.instructions)
 
-  pub summary_is : (out : List ℕ) → IsEnding answer p w → trace ≡ trace_text p.last.trace → clock ≡ w.clock
-      → creatures ≡ creatures_of n → rounds ≡ rounds_of n → events ≡ creatures * rounds → made ≡ [] ++ made_line creatures events trace
+  pub summary_is : (start out : List ℕ) → IsEnding answer p w → trace ≡ trace_text p.last.trace → clock ≡ w.clock
+      → creatures ≡ creatures_of n → rounds ≡ rounds_of n → events ≡ creatures * rounds → start ≡ [] → made ≡ start ++ made_line creatures events trace
       → ((ending : PlayEnd) → EndsAs answer.how ending → out ≡ made ++ end_line ending clock answer.entries answer.instructions)
       → out ≡ summary n p
   unfolding summary
-  summary_is out ends told at c r e first last =
-      last p.ending ends.ending ∙ ap (λ m. m ++ end_line p.ending clock answer.entries answer.instructions) (first ∙ made_is c r e told)
+  summary_is start out ends told at c r e none first last =
+      last p.ending ends.ending ∙ ap (λ m. m ++ end_line p.ending clock answer.entries answer.instructions) (first ∙ (ap (λ s. s ++ made_line creatures events trace) none ∙ made_is c r e told))
       ∙ ap (λ x. made_line (creatures_of n) (creatures_of n * rounds_of n) (trace_text p.last.trace) ++ x) (end_is ends at)
-
-pub ruleset texts = (summary_is)
 
 -- the most events are 60,000
 pub events_fit : (creatures rounds : ℕ) → creatures ≤ 1000 → rounds ≤ 60 → creatures * rounds < 2 ^ 32
@@ -67,4 +87,4 @@ pub limit_counts : (r : Result Finished Status) (before now : Counts) → IfErr 
 limit_counts (Ok done) before now only same = same
 limit_counts (Err s) before now only same = subst (λ x. TalliesEnd x before now) (sym only) same
 
-pub ruleset tellings = (told_whole, told_cut, limit_refuses, cut_refuses, limit_counts)
+pub ruleset tellings = (told_whole, limit_refuses, cut_refuses)

@@ -55,10 +55,14 @@ source_compiled source = Finds (λ (c : Contents) fate. IsSourceFate source fate
 abbrev pub line_count : List ℕ → ℕ
 line_count trace = count_by (λ b. b == 10) trace
 
-abbrev pub made_line : ℕ → ℕ → List ℕ → List ℕ
+-- a number behind its words
+abbrev pub counted : List ℕ → ℕ → List ℕ
+counted words n = words ++ decimal n
+
+unfoldable pub made_line : ℕ → ℕ → List ℕ → List ℕ
 made_line creatures events trace =
-    codes "generated creatures " ++ decimal creatures ++ codes " events " ++ decimal events ++ codes " lines " ++ decimal (line_count trace)
-    ++ codes " bytes " ++ decimal (length trace) ++ 10 ∷ []
+    counted (codes "generated creatures ") creatures ++ counted (codes " events ") events ++ counted (codes " lines ") (line_count trace)
+    ++ counted (codes " bytes ") (length trace) ++ 10 ∷ []
 
 -- how much was made and told, and the last line of the play's text
 unfoldable pub summary : ℕ → Played Saved → List ℕ

@@ -110,7 +110,7 @@ fn play_listed<S: Sink>(
 }
 
 /// Plays checked code as the one script of the plan of a number.
-#[tactic(auto, using(crate::proofs::PlayLemmas::code_cut))]
+#[tactic(auto, using(crate::proofs::PlayLemmas::made))]
 pub(crate) fn play_code<S: Sink>(
     alloc: Global,
     table: &Table,

@@ -10,7 +10,7 @@ ghost use Rattle.module_player.specs.EndTexts.{HasText, IsEnding};
 ghost use Rattle.nwq_work.specs.Work.{Does, CutsShort};
 ghost use Rattle.nwq_work.specs.Parts.{PutsWhole};
 ghost use Rattle.nwq_work.specs.Counts.{Counted, Tallies, Refusing};
-ghost use Rattle.nwq_generated.specs.Generated.{line_count, made_line, summary, tells};
+ghost use Rattle.nwq_generated.specs.Generated.{counted, line_count, made_line, summary, tells};
 
 use module_player::{Played, put_end_line};
 use nwq_outside::Sink;
@@ -53,7 +53,16 @@ fn lines_in(trace: &[u8]) -> u64
     trace.iter().filter(|byte| **byte == b'\n').count() as u64
 }
 
+/// Appends a number behind its words.
+fn put_counted(out: &mut Vec<u8>, words: &[u8], n: u64) -> Result<(), NoMemory>
+    ensures text { OnOk result (out.new.items ≡ out.old.items ++ counted words.now n) }
+{
+    out.extend_from_slice(words)?;
+    put_count(out, n)
+}
+
 /// Appends how much was made and told.
+#[tactic(auto, unfolding(crate::specs::Generated::made_line))]
 fn put_made(
     out: &mut Vec<u8>,
     creatures: u32,
@@ -63,20 +72,15 @@ fn put_made(
     ensures line { OnOk result (out.new.items
         ≡ out.old.items ++ made_line creatures events trace.now) }
 {
-    out.extend_from_slice(b"generated creatures ")?;
-    put_count(out, u64::from(creatures))?;
-    out.extend_from_slice(b" events ")?;
-    put_count(out, u64::from(events))?;
-    out.extend_from_slice(b" lines ")?;
-    put_count(out, lines_in(trace))?;
-    out.extend_from_slice(b" bytes ")?;
-    put_count(out, trace.len() as u64)?;
+    put_counted(out, b"generated creatures ", u64::from(creatures))?;
+    put_counted(out, b" events ", u64::from(events))?;
+    put_counted(out, b" lines ", lines_in(trace))?;
+    put_counted(out, b" bytes ", trace.len() as u64)?;
     out.push(b'\n')?;
     Ok(())
 }
 
 /// The summary of the play of a number, which left this trace and ended at this time.
-#[tactic(auto, using(crate::proofs::SummaryLemmas::texts))]
 fn summary_of(
     alloc: Global,
     number: u32,
