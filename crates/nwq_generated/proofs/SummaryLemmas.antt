@@ -1,5 +1,5 @@
 -- The summary of a play, and how its command ends.
-use Rattle.std.proofs.Common.{◌≡◌, ◌≤◌, ◌<◌, ◌^◌, ℕ, ◌*◌, arith, inl, inr, List, [], ◌∷◌, ◌++◌, length, codes, IfErr, Result, Ok, Err, refl, subst, sym, ap, ◌∙◌}
+use Rattle.std.proofs.Common.{◌≡◌, ◌≤◌, ◌<◌, ◌^◌, ℕ, ◌*◌, arith, inl, inr, List, [], ◌∷◌, ◌++◌, length, codes, IfErr, Result, Ok, Err, refl, subst, sym, ap, ◌∙◌, append_assoc}
 use Rattle.std.proofs.lemmas.Nat.{mul-le}
 use Rattle.nwq_outside.specs.Outside.{Contents, TookPrefix}
 use Rattle.saved_state.specs.declared.saved.Saved.{Saved}
@@ -20,8 +20,11 @@ use Rattle.nwq_generated.specs.Generated.{counted, line_count, made_line, summar
 
 -- ---- the first line
 
-regroup : (out a b c d e : List ℕ) → ((((out ++ a) ++ b) ++ c) ++ d) ++ e ≡ out ++ a ++ b ++ c ++ d ++ e
-regroup out a b c d e = refl
+three : (out a b c : List ℕ) → ((out ++ a) ++ b) ++ c ≡ out ++ (a ++ (b ++ c))
+three out a b c = append_assoc (out ++ a) b c ∙ append_assoc out a (b ++ c)
+
+regroup : (out a b c d e : List ℕ) → ((((out ++ a) ++ b) ++ c) ++ d) ++ e ≡ out ++ (a ++ (b ++ (c ++ (d ++ e))))
+regroup out a b c d e = three ((out ++ a) ++ b) c d e ∙ three out a b (c ++ (d ++ e))
 
 pub line_is : (creatures events k l m : ℕ) (trace out first second third fourth now : List ℕ) → k ≡ creatures → l ≡ events → m ≡ line_count trace
     → first ≡ out ++ counted (codes "generated creatures ") k → second ≡ first ++ counted (codes " events ") l
@@ -31,12 +34,12 @@ unfolding made_line
 line_is creatures events k l m trace out first second third fourth now ks ls ms a b c d e =
     let one = counted (codes "generated creatures ") creatures in
     let two = counted (codes " events ") events in
-    let three = counted (codes " lines ") (line_count trace) in
+    let third_one = counted (codes " lines ") (line_count trace) in
     let four = counted (codes " bytes ") (length trace) in
     let firsts : first ≡ out ++ one = a ∙ ap (λ x. out ++ counted (codes "generated creatures ") x) ks in
     let seconds : second ≡ (out ++ one) ++ two = b ∙ (ap (λ x. first ++ counted (codes " events ") x) ls ∙ ap (λ x. x ++ two) firsts) in
-    let thirds : third ≡ ((out ++ one) ++ two) ++ three = c ∙ (ap (λ x. second ++ counted (codes " lines ") x) ms ∙ ap (λ x. x ++ three) seconds) in
-    e ∙ (ap (λ x. x ++ 10 ∷ []) (d ∙ ap (λ x. x ++ four) thirds) ∙ regroup out one two three four (10 ∷ []))
+    let thirds : third ≡ ((out ++ one) ++ two) ++ third_one = c ∙ (ap (λ x. second ++ counted (codes " lines ") x) ms ∙ ap (λ x. x ++ third_one) seconds) in
+    e ∙ (ap (λ x. x ++ 10 ∷ []) (d ∙ ap (λ x. x ++ four) thirds) ∙ regroup out one two third_one four (10 ∷ []))
 
 -- ---- the whole
 

@@ -61,8 +61,8 @@ counted words n = words ++ decimal n
 
 unfoldable pub made_line : ℕ → ℕ → List ℕ → List ℕ
 made_line creatures events trace =
-    counted (codes "generated creatures ") creatures ++ counted (codes " events ") events ++ counted (codes " lines ") (line_count trace)
-    ++ counted (codes " bytes ") (length trace) ++ 10 ∷ []
+    counted (codes "generated creatures ") creatures ++ (counted (codes " events ") events ++ (counted (codes " lines ") (line_count trace)
+    ++ (counted (codes " bytes ") (length trace) ++ 10 ∷ [])))
 
 -- how much was made and told, and the last line of the play's text
 unfoldable pub summary : ℕ → Played Saved → List ℕ
