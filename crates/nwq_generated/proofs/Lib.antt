@@ -1,4 +1,5 @@
 mod AreaLemmas
+mod CommandLemmas
 mod OneGenerated
 mod PlanLemmas
 mod PlayLemmas

@@ -13,23 +13,17 @@ use Rattle.play_steps.specs.Plays.{Played}
 use Rattle.nwq_work.specs.declared.status.Status.{Status}
 use Rattle.nwq_work.specs.declared.status.Status.TheVariants.{Fault, Memory, Limit}
 use Rattle.nwq_work.specs.Work.{Does, CutsShort, Finished}
-use Rattle.nwq_work.specs.Counts.{Counted, TalliesEnd, Refusing}
+use Rattle.nwq_work.specs.Counts.{Refusing}
 use Rattle.nwq_work.specs.Parts.{cut_here}
 use Rattle.nwq_plays.specs.Plays.{listed}
 use Rattle.nwq_games.specs.Games.{played}
 use Rattle.nwq_games.specs.Worlds.{plan_world}
 use Rattle.nwq_generated.specs.Generated.{plan_of, made_area, tells, plays_made}
-use Rattle.nwq_generated.proofs.SourceLemmas.{no_fault, cut_counts}
 
 -- ---- a play that is cut
 
 pub play_cut : (n : ℕ) (p : Played Saved) (s : Status) (c : Contents) (t : List ℕ) → CutsShort s → Does (tells n p) c t (Err s) c t
 play_cut n p s c t cut = cut_here (tells n p) s c c t t cut refl refl
-
--- the sink of the trace doesn't fail: memory was wanted
-pub alone : (s : Status) (faults absences longs puts : ℕ) → CutsShort s → TalliesEnd s (Counted 0 0 0 0) (Counted 0 0 0 0)
-    → TalliesEnd s (Counted faults absences longs puts) (Counted faults absences longs puts)
-alone s faults absences longs puts cut tallies = cut_counts s faults absences longs puts (no_fault s 0 0 0 0 tallies) cut
 
 pub cut_limits : (s : Status) → CutsShort s → Refusing Limit s
 cut_limits s cut = inr cut
