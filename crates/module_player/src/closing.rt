@@ -4,7 +4,7 @@ ghost use Rattle.std.specs.List.{flat_map};
 ghost use Rattle.nwq_text.specs.Values.{object_text};
 ghost use Rattle.engine_rows.specs.World.{count as object_count, effects_of, queue_of};
 ghost use Rattle.saved_state.specs.declared.saved.Saved.{Saved as SavedView};
-ghost use Rattle.play_steps.specs.EndText.{by_object, due_line, end_word, item_line};
+ghost use Rattle.play_steps.specs.EndText.{by_object, due_line, end_line, end_word, item_line};
 ghost use Rattle.play_steps.specs.EndText.{item_text, kind_text, queue_lines, script_text};
 ghost use Rattle.play_steps.specs.EndText.{standing_lines};
 ghost use Rattle.play_steps.specs.Plays.{PlayEnd, Played as PlayedView};
@@ -266,6 +266,16 @@ fn put_end(
     put_count(out, instructions)?;
     out.push(b'\n')?;
     Ok(())
+}
+
+/// Appends the last line of a play's text, which is told at this time.
+pub fn put_end_line(out: &mut Vec<u8>, played: &Played, clock: u64) -> Result<(), NoMemory>
+    requires told { HasText played.now.how }
+    ensures line { OnOk result ((ending : PlayEnd) → EndsAs played.now.how ending → out.new.items
+        ≡ out.old.items ++ end_line ending clock played.now.entries played.now.instructions) }
+{
+    let word = end_word(played.how);
+    put_end(out, word, clock, played.entries, played.instructions)
 }
 
 /// The text of a play's end. The agenda's entries are taken off.

@@ -15,6 +15,6 @@ mod scripts;
 mod setting;
 mod turn;
 
-pub use closing::end_text;
+pub use closing::{end_text, put_end_line};
 pub use played::{How, Played};
 pub use plays::{play, play_on};

@@ -18,12 +18,12 @@ use Rattle.module_player.specs.declared.played.How.{How}
 use Rattle.module_player.specs.declared.played.How.TheVariants.{Done, InstrStop, EntryStop, Pause, Fault, NoMemory}
 use Rattle.module_player.specs.declared.played.Played.{Played as Answer}
 use Rattle.nwq_work.specs.declared.status.Status.{Status}
-use Rattle.nwq_work.specs.declared.status.Status.TheVariants as status
 use Rattle.nwq_work.specs.Work.{Does, CutsShort, Finished}
 use Rattle.nwq_work.specs.Counts.{Counted, TalliesEnd}
-use Rattle.nwq_work.specs.Parts.{cut_here}
+use Rattle.nwq_work.specs.Parts.{took_nothing}
 use Rattle.nwq_plays.specs.Tellings.{cut_of}
-use Rattle.nwq_games.specs.Games.{played, tells_end, tells, plays_plan}
+use Rattle.nwq_games.specs.Games.{played, tells_end, plays_plan}
+use Rattle.nwq_games.specs.Tellings.{TakesText}
 use Rattle.nwq_games.specs.Worlds.{plan_world}
 
 same_status : {x y : Status} → Some x ≡ Some y → x ≡ y
@@ -124,27 +124,35 @@ module _ (plan : Plan) (kept : IsPlan plan) where
 
 pub ruleset plays_out = (limit_kept, entries_kept, until_kept, cut_takes, cut_counts, cut_shorts, whole_takes, whole_counts, text_there, ending_is)
 
--- ---- the trace, and what follows
-
-module _ (to : List ℕ) (scripts : List Script) (p : Played Saved) (c c' : Contents) (t t1 : List ℕ) where
-  pub trace_cut : (e : Status) → CutsShort e × TookPrefix (trace_text p.last.trace) t t1 → c' ≡ c → Does (tells to scripts p) c t (Err e) c' t1
-  trace_cut e h same = inl (h.0, same, h.1)
-
-  pub trace_whole : (r : Result Finished Status) (t' : List ℕ) → t1 ≡ t ++ trace_text p.last.trace → Does (tells_end to scripts p) c t1 r c' t'
-      → Does (tells to scripts p) c t r c' t'
-  trace_whole r t' taken does = inr (subst (λ x. Does (tells_end to scripts p) c x r c' t') taken does)
-
-pub ruleset plays_in = (trace_cut, trace_whole)
-
 -- ---- the world of a plan
 
-module _ (cell : CellLookup) (header : EngineTable) (area : PlainArea) (plan : Plan) (scripts : List Script) (to : List ℕ) (c : Contents) (t : List ℕ) where
-  pub plan_does : (w : World Saved) (r : Result Finished Status) (c' : Contents) (t' : List ℕ) → w ≡ plan_world area plan
-      → Does (tells to scripts (played cell header plan scripts w)) c t r c' t' → Does (plays_plan cell header area plan scripts to) c t r c' t'
+module _ (cell : CellLookup) (header : EngineTable) (area : PlainArea) (plan : Plan) (scripts : List Script) (w : World Saved) (is : w ≡ plan_world area plan) where
+  pub lines_end : (answer : Answer) (v : World Saved) → IsEnding answer (played cell header plan scripts w) v
+      → IsEnding answer (played cell header plan scripts (plan_world area plan)) v
+  lines_end answer v ends = subst (λ x. IsEnding answer (played cell header plan scripts x) v) is ends
+
+  pub lines_told : {A : Type 0} (r : Result A Status) (t t' : List ℕ) → TakesText (trace_text (played cell header plan scripts w).last.trace) t r t'
+      → TakesText (trace_text (played cell header plan scripts (plan_world area plan)).last.trace) t r t'
+  lines_told r t t' took = subst (λ x. TakesText (trace_text (played cell header plan scripts x).last.trace) t r t') is took
+
+pub no_lines : (text t : List ℕ) → TookPrefix text t t
+no_lines text t = took_nothing text t t refl
+
+pub ruleset lines = (lines_end, lines_told, no_lines)
+
+-- ---- the trace, and what follows
+
+module _ (cell : CellLookup) (header : EngineTable) (area : PlainArea) (plan : Plan) (to : List ℕ) (scripts : List Script) (c c' : Contents) (t t1 : List ℕ) where
+  pub trace_cut : (e : Status) → CutsShort e × TookPrefix (trace_text (played cell header plan scripts (plan_world area plan)).last.trace) t t1 → c' ≡ c
+      → Does (plays_plan cell header area plan scripts to) c t (Err e) c' t1
   unfolding plays_plan
-  plan_does w r c' t' is does = subst (λ v. Does (tells to scripts (played cell header plan scripts v)) c t r c' t') is does
+  trace_cut e h same = inl (h.0, same, h.1)
 
-  pub plan_cut : Does (plays_plan cell header area plan scripts to) c t (Err status.Memory) c t
-  plan_cut = cut_here (plays_plan cell header area plan scripts to) status.Memory c c t t tt refl refl
+  pub trace_whole : (r : Result Finished Status) (t' : List ℕ) → t1 ≡ t ++ trace_text (played cell header plan scripts (plan_world area plan)).last.trace
+      → Does (tells_end to scripts (played cell header plan scripts (plan_world area plan))) c t1 r c' t'
+      → Does (plays_plan cell header area plan scripts to) c t r c' t'
+  unfolding plays_plan
+  trace_whole r t' taken does =
+      inr (subst (λ x. Does (tells_end to scripts (played cell header plan scripts (plan_world area plan))) c x r c' t') taken does)
 
-pub ruleset starts = (plan_does, plan_cut)
+pub ruleset plays_in = (trace_cut, trace_whole)

@@ -1,138 +1,27 @@
-//! The play of listed scripts in the world of a plan.
-ghost use Rattle.std.specs.Prelude.{◌≡◌, ◌<◌, ◌^◌, ℕ, List, [], length, map, IsTrue, IfOk, IfErr};
+//! The play of a plan, and what it leaves.
+ghost use Rattle.std.specs.Prelude.{◌≡◌, ◌<◌, ◌^◌, length, map, IsTrue, IfErr};
 ghost use Rattle.plan_text.specs.Plans.{IsPlan};
 ghost use Rattle.shape_tables.specs.Laws.{AllMeet};
-ghost use Rattle.engine_rows.specs.Trace.{trace_text};
 ghost use Rattle.world_core.specs.Calls.{AreServing, cells_of};
 ghost use Rattle.ncs_machine.specs.Host.{scripts_of, tables_of};
-ghost use Rattle.ncs_machine.specs.Stored.{StatesFit};
-ghost use Rattle.module_player.specs.EndTexts.{HasText, IsEnding};
-ghost use Rattle.nwq_work.specs.Work.{Does, CutsShort};
+ghost use Rattle.nwq_work.specs.Work.{Does};
 ghost use Rattle.nwq_work.specs.Counts.{Counted, Tallies, KeepsBut};
-ghost use Rattle.nwq_plays.specs.Tellings.{cut_of};
-ghost use Rattle.nwq_games.specs.Games.{played, tells, plays_plan};
-ghost use Rattle.nwq_games.specs.Tellings.{StopsGame, TakesText};
+ghost use Rattle.nwq_games.specs.Games.{plays_plan};
+ghost use Rattle.nwq_games.specs.Tellings.{StopsGame};
 
+use crate::lines::play_lines;
 use crate::telling::tell_end;
-use crate::world::world_of;
 use area_tree::Area;
 use hook_table::Hooks;
-use module_player::{How, Played, play};
 use ncs_machine::Scripts;
 use nwq_outside::{Files, Sink};
-use nwq_value::{NoMemory, Table};
+use nwq_value::Table;
 use nwq_work::Status;
 use plan_text::Plan;
-use saved_state::Saved;
 use std::alloc::Global;
-use world_core::World;
-
-/// The status of a play that was cut short.
-fn cut_of(how: How) -> Option<Status>
-    ensures { result ≡ cut_of how }
-{
-    match how {
-        How::Done => None,
-        How::InstrStop => None,
-        How::EntryStop => None,
-        How::Pause => None,
-        How::Fault => Some(Status::Fault),
-        How::NoMemory => Some(Status::Memory),
-    }
-}
-
-/// Plays listed scripts in a world with the limits of a plan. The lines are put as they come.
-#[tactic(auto, using(crate::proofs::PlayLemmas::plays_out))]
-fn play_out<S: Sink>(
-    alloc: Global,
-    table: &Table,
-    scripts: &Scripts,
-    world: &mut World<Saved>,
-    hooks: &Hooks,
-    plan: &Plan,
-    out: &mut S,
-) -> Result<Played, Status>
-    requires few { length scripts.now < 2 ^ 32 }
-    requires meets { AllMeet table.now (scripts_of scripts.now) (tables_of scripts.now) }
-    requires hooks { AreServing (map (λ h. h.known) hooks.now.all.items) }
-    requires plan { IsPlan plan.now }
-    requires fit { StatesFit (scripts_of scripts.now) (tables_of scripts.now) world.old.world }
-    requires quiet { world.old.world.trace ≡ [] }
-    requires next { world.old.world.agenda.next < 2 ^ 61 }
-    ensures told { IfOk result (λ answer. HasText answer.how) }
-    ensures ending { IfOk result (λ answer. IsEnding answer
-        (played (cells_of (map (λ h. h.known) hooks.now.all.items)) table.now plan.now
-        (scripts_of scripts.now) world.old.world) world.new.world) }
-    ensures trace { IsTrue S.tells → TakesText (trace_text
-        (played (cells_of (map (λ h. h.known) hooks.now.all.items)) table.now plan.now
-        (scripts_of scripts.now) world.old.world).last.trace)
-        (S.taken out.old) result (S.taken out.new) }
-    ensures counts { (faults absences longs : ℕ) → Tallies result
-        (Counted faults absences longs (S.faults out.old))
-        (Counted faults absences longs (S.faults out.new)) }
-    ensures only { IfErr result CutsShort }
-{
-    let played = play(
-        alloc,
-        scripts,
-        world,
-        hooks,
-        table,
-        plan.limit,
-        plan.entries,
-        plan.until,
-        out,
-    );
-    match cut_of(played.how) {
-        Some(status) => Err(status),
-        None => Ok(played),
-    }
-}
-
-/// Plays listed scripts in a world, and leaves what the play comes to.
-#[tactic(auto, using(crate::proofs::PlayLemmas::plays_in))]
-fn play_world<F: Files, S: Sink>(
-    alloc: Global,
-    table: &Table,
-    scripts: &Scripts,
-    world: World<Saved>,
-    hooks: &Hooks,
-    plan: &Plan,
-    to: &str,
-    files: &mut F,
-    out: &mut S,
-) -> Result<(), Status>
-    requires few { length scripts.now < 2 ^ 32 }
-    requires meets { AllMeet table.now (scripts_of scripts.now) (tables_of scripts.now) }
-    requires hooks { AreServing (map (λ h. h.known) hooks.now.all.items) }
-    requires plan { IsPlan plan.now }
-    requires fit { StatesFit (scripts_of scripts.now) (tables_of scripts.now) world.world }
-    requires quiet { world.world.trace ≡ [] }
-    requires next { world.world.agenda.next < 2 ^ 61 }
-    ensures does { IsTrue F.tells → IsTrue S.tells → Does (tells to.now (scripts_of scripts.now)
-        (played (cells_of (map (λ h. h.known) hooks.now.all.items)) table.now plan.now
-        (scripts_of scripts.now) world.world)) (F.contents files.old) (S.taken out.old)
-        result (F.contents files.new) (S.taken out.new) }
-    ensures counts { Tallies result
-        (Counted (F.faults files.old) (F.absences files.old) (F.longs files.old) (S.faults out.old))
-        (Counted (F.faults files.new) (F.absences files.new)
-        (F.longs files.new) (S.faults out.new)) }
-    ensures names { KeepsBut (λ other. other ≡ to.now)
-        (F.contents files.old) (F.contents files.new) }
-    ensures only { IfErr result StopsGame }
-{
-    let mut world = world;
-    match play_out(alloc, table, scripts, &mut world, hooks, plan, out) {
-        Err(status) => {
-            drop(world);
-            Err(status)
-        }
-        Ok(played) => tell_end(alloc, world, scripts, &played, to, files, out),
-    }
-}
 
 /// Plays a plan over an area.
-#[tactic(auto, using(crate::proofs::PlayLemmas::starts))]
+#[tactic(auto, using(crate::proofs::PlayLemmas::plays_in))]
 pub(crate) fn play_plan<F: Files, S: Sink>(
     alloc: Global,
     table: &Table,
@@ -160,8 +49,8 @@ pub(crate) fn play_plan<F: Files, S: Sink>(
         (F.contents files.old) (F.contents files.new) }
     ensures only { IfErr result StopsGame }
 {
-    match world_of(alloc, area, plan) {
-        Err(NoMemory) => Err(Status::Memory),
-        Ok(world) => play_world(alloc, table, scripts, world, hooks, plan, to, files, out),
+    match play_lines(alloc, table, area, plan, scripts, hooks, out) {
+        Err(status) => Err(status),
+        Ok((world, played)) => tell_end(alloc, world, scripts, &played, to, files, out),
     }
 }

@@ -38,7 +38,7 @@ pub(crate) fn cut_of(how: How) -> Option<Status>
 
 /// How a command ends whose play ended so.
 #[tactic(auto, using(crate::proofs::TellLemmas::endings))]
-fn ending_of(how: How) -> Result<(), Status>
+pub fn ending_of(how: How) -> Result<(), Status>
     requires told { HasText how }
     ensures ends { (ending : PlayEnd) → EndsAs how ending → (c : Contents) → (t : List ℕ) →
         Does (ends_by ending) c t result c t }

@@ -60,7 +60,7 @@ fn list_named(alloc: Global, name: Text, code: Checked) -> Result<Scripts, NoMem
 
 /// The one script that is listed.
 #[tactic(auto, using(crate::proofs::WorldLemmas::lists))]
-pub(crate) fn list_one(alloc: Global, name: &[u8], code: Checked) -> Result<Scripts, NoMemory>
+pub fn list_one(alloc: Global, name: &[u8], code: Checked) -> Result<Scripts, NoMemory>
     ensures listed { IfOk result (λ scripts. scripts_of scripts ≡ listed name.now code.code) }
     ensures meets { (header : EngineTable) → MeetsRules header code.code (kept_table code) →
         IfOk result (λ scripts. AllMeet header (scripts_of scripts) (tables_of scripts)) }

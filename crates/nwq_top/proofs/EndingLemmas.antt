@@ -5,8 +5,9 @@ use Rattle.nwq_work.specs.Counts.{StopsSource, StopsCode, StopsArea}
 use Rattle.nwq_checks.specs.Checks.{StopsCheck}
 use Rattle.nwq_plays.specs.Tellings.{StopsPlay}
 use Rattle.nwq_games.specs.Tellings.{StopsGame}
-use Rattle.nwq_top.specs.Words.{Form, Run, Compile, Tree, Check, Disassemble, Assemble, Play, NoForm}
-use Rattle.nwq_top.specs.Endings.{StopsRun, EndsRun, EndsCompile, EndsTree, EndsCheck, EndsCode, EndsPlay, ComesOf, StopsCommand}
+use Rattle.nwq_generated.specs.Generated.{StopsGenerate}
+use Rattle.nwq_top.specs.Words.{Form, Run, Compile, Tree, Check, Disassemble, Assemble, Play, Generate, NoForm}
+use Rattle.nwq_top.specs.Endings.{StopsRun, EndsRun, EndsCompile, EndsTree, EndsCheck, EndsCode, EndsPlay, EndsGenerate, ComesOf, StopsCommand}
 
 pub source_stops : (status : Status) → StopsSource status → StopsRun status
 source_stops Done h = h
@@ -106,6 +107,18 @@ play_ends Fault h = h
 play_ends Memory h = h
 play_ends Long h = h
 
+generate_ends : (status : Status) → StopsGenerate status → EndsGenerate status
+generate_ends Done h = tt
+generate_ends Words h = h
+generate_ends Script h = h
+generate_ends Code h = h
+generate_ends Area h = h
+generate_ends Limit h = h
+generate_ends Missing h = h
+generate_ends Fault h = h
+generate_ends Memory h = h
+generate_ends Long h = h
+
 pub stops_come : (form : Form) (status : Status) → StopsCommand form status → ComesOf form status
 stops_come (Run header script) status h = run_ends status h
 stops_come (Compile header script) status h = compile_ends status h
@@ -114,4 +127,5 @@ stops_come (Check header file) status h = check_ends status h
 stops_come (Disassemble file to) status h = code_ends status h
 stops_come (Assemble file to) status h = code_ends status h
 stops_come (Play header area plan to list) status h = play_ends status h
+stops_come (Generate number) status h = generate_ends status h
 stops_come NoForm status h = h

@@ -9,7 +9,8 @@ use Rattle.nwq_scripts.specs.Files.{code_name, compiled_named}
 use Rattle.nwq_plays.specs.Plays.{plays_file}
 use Rattle.words_meaning.specs.Reading.{AreBytes}
 use Rattle.words_meaning.specs.Laws.{RunsMean, CompilesMean, PlaysMean}
-use Rattle.nwq_top.specs.Words.{Form, Run, Compile, Tree, Check, Disassemble, Assemble, Play, NoForm, form_of}
+use Rattle.generated_meaning.specs.Generated.{GeneratesMean}
+use Rattle.nwq_top.specs.Words.{Form, Run, Compile, Tree, Check, Disassemble, Assemble, Play, Generate, NoForm, form_of}
 use Rattle.nwq_top.specs.Command.{runs_under, runs, work_of}
 use Rattle.nwq_top.specs.Meaning.{Means, WorkMeans}
 
@@ -20,16 +21,17 @@ as_parts : (cell : CellLookup) (header script : List ℕ) (c : Contents) (t : Li
 unfolding runs runs_under
 as_parts cell header script c t r c' t' does = does
 
-pub work_means : RunsMean → CompilesMean → PlaysMean → WorkMeans
-work_means run compile play cell (Run header script) c t r c' t' held whole does =
+pub work_means : RunsMean → CompilesMean → PlaysMean → GeneratesMean → WorkMeans
+work_means run compile play made cell (Run header script) c t r c' t' held whole does =
     run cell header script c t r c' t' held whole (as_parts cell header script c t r c' t' does)
-work_means run compile play cell (Compile header script) c t r c' t' held whole does = compile header script c t r c' t' held whole does
-work_means run compile play cell (Tree file) c t r c' t' held whole does = tt
-work_means run compile play cell (Check header file) c t r c' t' held whole does = tt
-work_means run compile play cell (Disassemble file to) c t r c' t' held whole does = tt
-work_means run compile play cell (Assemble file to) c t r c' t' held whole does = tt
-work_means run compile play cell (Play header area plan to list) c t r c' t' held whole does = play cell header area plan to c t r c' t' held whole does
-work_means run compile play cell NoForm c t r c' t' held whole does = tt
+work_means run compile play made cell (Compile header script) c t r c' t' held whole does = compile header script c t r c' t' held whole does
+work_means run compile play made cell (Tree file) c t r c' t' held whole does = tt
+work_means run compile play made cell (Check header file) c t r c' t' held whole does = tt
+work_means run compile play made cell (Disassemble file to) c t r c' t' held whole does = tt
+work_means run compile play made cell (Assemble file to) c t r c' t' held whole does = tt
+work_means run compile play made cell (Play header area plan to list) c t r c' t' held whole does = play cell header area plan to c t r c' t' held whole does
+work_means run compile play made cell (Generate number) c t r c' t' held whole does = λ small. made cell number c t r c' t' small whole does
+work_means run compile play made cell NoForm c t r c' t' held whole does = tt
 
 -- equal words mean the same
 pub same_meaning : (cell : CellLookup) (words all : List (String Global)) (told status : Status) (c c' : Contents) (t t' : List ℕ) → words ≡ all → told ≡ status

@@ -8,6 +8,7 @@ use Rattle.nwq_files.specs.Laws.{SureCommands}
 use Rattle.nwq_plays.specs.Plays.{plays_file}
 use Rattle.nwq_plays.specs.Laws.{SurePlays}
 use Rattle.nwq_games.specs.Laws.{SurePlays as SureGames}
+use Rattle.nwq_generated.specs.Laws.{SureGenerated}
 use Rattle.nwq_scripts.specs.Files.{code_name, compiled_named}
 use Rattle.nwq_scripts.specs.Laws.{SureCompiled, SureCompiles}
 use Rattle.nwq_sources.specs.Headers.{table_of}
@@ -15,11 +16,11 @@ use Rattle.nwq_sources.specs.Laws.{SureTables}
 use Rattle.nwq_tables.specs.Tables.{tables_given}
 use Rattle.nwq_tables.specs.Laws.{SureTables as SureGiven}
 use Rattle.table_2da.specs.Look.{cell_of}
-use Rattle.nwq_top.specs.Words.{Form, Run, Compile, Tree, Check, Disassemble, Assemble, Play, NoForm, list_of}
+use Rattle.nwq_top.specs.Words.{Form, Run, Compile, Tree, Check, Disassemble, Assemble, Play, Generate, NoForm, list_of}
 use Rattle.nwq_top.specs.Command.{runs_under, runs, work_of, work_with, whole_work}
 use Rattle.nwq_top.specs.Laws.{OneOutcome, Prefixes, OneWhole, WholePrefixes}
 
-module _ (tables : SureTables) (files : SureCommands) (checks : SureChecks) (scripts : SureCompiled) (compiled : SureCompiles) (plays : SurePlays) (games : SureGames) where
+module _ (tables : SureTables) (files : SureCommands) (checks : SureChecks) (scripts : SureCompiled) (compiled : SureCompiles) (plays : SurePlays) (games : SureGames) (made : SureGenerated) where
   sure_under : (cell : CellLookup) (script : List ℕ) (header : EngineTable) → IsSure (runs_under cell script header)
   unfolding runs_under
   sure_under cell script header =
@@ -38,6 +39,7 @@ module _ (tables : SureTables) (files : SureCommands) (checks : SureChecks) (scr
   sure_work cell (Disassemble file to) = files.disassembled file to
   sure_work cell (Assemble file to) = files.assembled file to
   sure_work cell (Play header area plan to list) = games cell header area plan to
+  sure_work cell (Generate number) = made cell number
   sure_work cell NoForm = tt
 
   pub one_outcome : OneOutcome

@@ -12,9 +12,10 @@ use Rattle.nwq_files.specs.Commands.{shows_tree, disassembles, assembles}
 use Rattle.nwq_scripts.specs.Files.{code_name, compiled_named, compiles}
 use Rattle.nwq_plays.specs.Plays.{plays_file}
 use Rattle.nwq_games.specs.Games.{plays}
+use Rattle.nwq_generated.specs.Generated.{generates}
 use Rattle.nwq_games.specs.Tellings.{IsGameFile}
 use Rattle.nwq_tables.specs.Tables.{tables_given}
-use Rattle.nwq_top.specs.Words.{Form, Run, Compile, Tree, Check, Disassemble, Assemble, Play, NoForm, list_of}
+use Rattle.nwq_top.specs.Words.{Form, Run, Compile, Tree, Check, Disassemble, Assemble, Play, Generate, NoForm, list_of}
 
 -- a script is compiled under a header, and its file, which isn't written, is played
 unfoldable pub runs_under : CellLookup → List ℕ → EngineTable → Work Finished
@@ -32,6 +33,7 @@ work_of cell (Check header file) = checks header file
 work_of cell (Disassemble file to) = disassembles file to
 work_of cell (Assemble file to) = assembles file to
 work_of cell (Play header area plan to list) = plays cell header area plan to
+work_of cell (Generate number) = generates cell number
 work_of cell NoForm = Refused refusal.NoForm
 
 -- the work of a form of words, where cells are looked up in these tables
@@ -51,4 +53,5 @@ MayWrite (Check header file) name = ⊥
 MayWrite (Disassemble file to) name = name ≡ to
 MayWrite (Assemble file to) name = name ≡ to
 MayWrite (Play header area plan to list) name = IsGameFile to name
+MayWrite (Generate number) name = ⊥
 MayWrite NoForm name = ⊥

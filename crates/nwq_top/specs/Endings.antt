@@ -6,7 +6,8 @@ use Rattle.nwq_work.specs.Work.{Finished}
 use Rattle.nwq_work.specs.Counts.{StopsSource, StopsCode, StopsArea}
 use Rattle.nwq_checks.specs.Checks.{StopsCheck}
 use Rattle.nwq_games.specs.Tellings.{StopsGame}
-use Rattle.nwq_top.specs.Words.{Form, Run, Compile, Tree, Check, Disassemble, Assemble, Play, NoForm}
+use Rattle.nwq_generated.specs.Generated.{StopsGenerate}
+use Rattle.nwq_top.specs.Words.{Form, Run, Compile, Tree, Check, Disassemble, Assemble, Play, Generate, NoForm}
 
 abbrev pub EndsWords : Status → Type 0
 EndsWords Words = Unit {0}
@@ -44,6 +45,10 @@ abbrev pub EndsPlay : Status → Type 0
 EndsPlay Done = Unit {0}
 EndsPlay status = StopsGame status
 
+abbrev pub EndsGenerate : Status → Type 0
+EndsGenerate Done = Unit {0}
+EndsGenerate status = StopsGenerate status
+
 -- one table: the status may come of this form
 abbrev pub ComesOf : Form → Status → Type 0
 ComesOf (Run header script) status = EndsRun status
@@ -53,6 +58,7 @@ ComesOf (Check header file) status = EndsCheck status
 ComesOf (Disassemble file to) status = EndsCode status
 ComesOf (Assemble file to) status = EndsCode status
 ComesOf (Play header area plan to list) status = EndsPlay status
+ComesOf (Generate number) status = EndsGenerate status
 ComesOf NoForm status = EndsWords status
 
 -- the same of a command's answer, in which `Done` is no error
@@ -64,6 +70,7 @@ StopsCommand (Check header file) status = StopsCheck status
 StopsCommand (Disassemble file to) status = StopsCode status
 StopsCommand (Assemble file to) status = StopsCode status
 StopsCommand (Play header area plan to list) status = StopsGame status
+StopsCommand (Generate number) status = StopsGenerate status
 StopsCommand NoForm status = EndsWords status
 
 abbrev pub ComesOfResult : Form → Result Finished Status → Type 0

@@ -1,5 +1,5 @@
 -- What the words of a command mean.
-use Rattle.std.specs.Prelude.{ℕ, List, Result}
+use Rattle.std.specs.Prelude.{◌≤◌, ℕ, List, Result}
 use Rattle.nwq_outside.specs.Outside.{Contents}
 use Rattle.engine_rows.specs.Pure.{CellLookup}
 use Rattle.nwq_work.specs.declared.status.Status.{Status}
@@ -7,7 +7,9 @@ use Rattle.nwq_work.specs.Work.{IsCut, Does, Finished}
 use Rattle.words_meaning.specs.Reading.{AreBytes}
 use Rattle.words_meaning.specs.Runs.{MeansRun, MeansCompile}
 use Rattle.words_meaning.specs.Plans.{MeansPlay}
-use Rattle.nwq_top.specs.Words.{Form, Run, Compile, Tree, Check, Disassemble, Assemble, Play, NoForm}
+use Rattle.play_generator.specs.Made.{number_limit}
+use Rattle.generated_meaning.specs.Generated.{MeansGenerate}
+use Rattle.nwq_top.specs.Words.{Form, Run, Compile, Tree, Check, Disassemble, Assemble, Play, Generate, NoForm}
 use Rattle.nwq_top.specs.Command.{work_of}
 
 -- What a command that has source texts does, from what the files hold and the bytes taken to those after it: in the words of the language,
@@ -20,6 +22,7 @@ Means cell (Check header file) c t r c' t' = Unit {0}
 Means cell (Disassemble file to) c t r c' t' = Unit {0}
 Means cell (Assemble file to) c t r c' t' = Unit {0}
 Means cell (Play header area plan to list) c t r c' t' = MeansPlay cell header area plan to c t r c' t'
+Means cell (Generate number) c t r c' t' = number ≤ number_limit → MeansGenerate cell number c t r c' t'
 Means cell NoForm c t r c' t' = Unit {0}
 
 -- whatever does the work of words does what they mean, where the files hold bytes, unless a failed call or want of memory cut it

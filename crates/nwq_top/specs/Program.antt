@@ -41,7 +41,7 @@ abbrev pub words_of : {A : Type 0} → List (String A) → List (List ℕ)
 words_of all = map string_bytes (drop 1 all)
 
 abbrev pub usage_line : List ℕ
-usage_line = codes "usage: nwq run HEADER SCRIPT | compile HEADER SCRIPT | tree FILE | check HEADER FILE | dis FILE TO | asm FILE TO | play HEADER AREA PLAN TO [TABLES] (HEADER: a header file, or - for the built-in one)\n"
+usage_line = codes "usage: nwq run HEADER SCRIPT | compile HEADER SCRIPT | tree FILE | check HEADER FILE | dis FILE TO | asm FILE TO | play HEADER AREA PLAN TO [TABLES] | generate NUMBER (HEADER: a header file, or - for the built-in one)\n"
 
 -- the usage line is put after words that are no form of a command, as far as standard error takes it, and nothing else ever
 abbrev pub TellsUsage : Status → List ℕ → List ℕ → Type 0

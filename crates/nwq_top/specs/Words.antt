@@ -1,7 +1,9 @@
 -- The words of the command line.
-use Rattle.std.specs.Prelude.{◌≡◌, ℕ, Bool, false, cond, ◌&&◌, ◌||◌, ◌==◌, nat_le, List, [], ◌∷◌, length, codes, bytes_eq, Option, None, Some}
+use Rattle.std.specs.Prelude.{◌≡◌, ◌≤◌, ℕ, Bool, false, cond, ◌&&◌, ◌||◌, ◌==◌, nat_le, List, [], ◌∷◌, length, codes, bytes_eq, Option, None, Some}
 use Rattle.std.specs.List.{list_all, list_any}
 use Rattle.std.specs.Option.{option_map}
+use Rattle.nwq_text.specs.Number.{number_of}
+use Rattle.play_generator.specs.Made.{number_limit}
 use Rattle.nwq_top.specs.declared.words.Command.{Command}
 use Rattle.nwq_top.specs.declared.words.Command.TheVariants as command
 
@@ -13,6 +15,7 @@ pub data Form : Type 0 where
   Disassemble : (file to : List ℕ) → Form
   Assemble : (file to : List ℕ) → Form
   Play : (header area plan to : List ℕ) → (list : Option (List ℕ)) → Form  -- the header as for `Run`, and the list of tables, if there is one
+  Generate : (number : ℕ) → Form
   NoForm : Form
 
 abbrev pub is_between : ℕ → ℕ → ℕ → Bool
@@ -38,9 +41,16 @@ run_form header script = cond (is_script_name script) (Run header script) NoForm
 abbrev pub compile_form : List ℕ → List ℕ → Form
 compile_form header script = cond (is_script_name script) (Compile header script) NoForm
 
+-- the play of a number, unless it is too large for one
+abbrev pub generate_form : Option ℕ → Form
+generate_form None = NoForm
+generate_form (Some n) = cond (nat_le n number_limit) (Generate n) NoForm
+
 -- a command and one word
 abbrev pub one_word_form : List ℕ → List ℕ → Form
-one_word_form command word = cond (bytes_eq command (codes "tree")) (Tree word) NoForm
+one_word_form command word =
+    cond (bytes_eq command (codes "tree")) (Tree word)
+    (cond (bytes_eq command (codes "generate")) (generate_form (number_of word)) NoForm)
 
 -- a command and two words
 abbrev pub two_word_form : List ℕ → List ℕ → List ℕ → Form
@@ -83,3 +93,4 @@ IsCommand (command.Disassemble file to) form = form ≡ Disassemble file.now to.
 IsCommand (command.Assemble file to) form = form ≡ Assemble file.now to.now
 IsCommand (command.Play header area plan to list) form =
     form ≡ Play header.now area.now plan.now to.now (option_map (λ name. name.now) list)
+IsCommand (command.Generate number) form = (form ≡ Generate number) × (number ≤ number_limit)

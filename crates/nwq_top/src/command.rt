@@ -12,6 +12,7 @@ use hook_table::Hooks;
 use nwq_checks::check_file;
 use nwq_files::{assemble_file, disassemble_file, show_tree};
 use nwq_games::play_files;
+use nwq_generated::generate;
 use nwq_outside::{Files, Sink};
 use nwq_scripts::compile_file;
 use nwq_work::{Status, refuse_form};
@@ -55,6 +56,7 @@ pub fn command<F: Files, S: Sink>(
             to,
             ..
         } => play_files(alloc, header, area, plan, to, hooks, files, out),
+        Command::Generate(number) => generate(alloc, number, hooks, out),
     }
 }
 

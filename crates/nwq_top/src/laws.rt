@@ -3,9 +3,11 @@
 ghost use Rattle.nwq_top.specs.Laws.{OneOutcome, Prefixes, OneWhole, WholePrefixes};
 ghost use Rattle.nwq_top.specs.Meaning.{WorkMeans};
 
+use generated_meaning::generates_mean;
 use nwq_checks::laws::one_check;
 use nwq_files::laws::one_file;
 use nwq_games::laws::one_game;
+use nwq_generated::laws::one_generated;
 use nwq_plays::laws::one_code;
 use nwq_scripts::laws::one_script;
 use nwq_sources::laws::one_source;
@@ -26,6 +28,7 @@ pub fn one_outcome()
     one_check();
     one_code();
     one_game();
+    one_generated();
     one_set_of_tables();
 }
 
@@ -38,4 +41,5 @@ pub fn work_means()
     runs_mean();
     compiles_mean();
     plays_mean();
+    generates_mean();
 }

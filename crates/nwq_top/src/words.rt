@@ -1,10 +1,14 @@
 ghost use Rattle.std.specs.Prelude.{◌≡◌, map, string_bytes, bytes_eq};
 ghost use Rattle.std.specs.List.{list_all, list_any};
 ghost use Rattle.std.specs.Option.{option_map};
+ghost use Rattle.nwq_text.specs.Number.{number_of};
 ghost use Rattle.nwq_top.specs.Words.{is_script_byte, is_script_name, is_option, command_form};
-ghost use Rattle.nwq_top.specs.Words.{one_word_form, two_word_form, run_form, compile_form};
-ghost use Rattle.nwq_top.specs.Words.{play_form};
+ghost use Rattle.nwq_top.specs.Words.{generate_form, one_word_form, two_word_form, run_form};
+ghost use Rattle.nwq_top.specs.Words.{compile_form, play_form};
 ghost use Rattle.nwq_top.specs.Words.{form_of, list_of, IsCommand};
+
+use nwq_text::read_number;
+use play_generator::NUMBER_LIMIT;
 
 /// How many characters the name of a script has at most.
 const NAME_MOST: usize = 16;
@@ -33,6 +37,8 @@ pub enum Command<'a> {
         to: &'a str,
         list: Option<&'a str>,
     },
+    /// Plays what is made from a number.
+    Generate(u32),
     /// The words are no form of a command.
     NoForm,
 }
@@ -80,11 +86,29 @@ fn is_word(word: &str, name: &str) -> bool
     word == name
 }
 
+/// Plays what is made from the number that the word writes.
+fn generate_word<'a>(word: &str) -> Command<'a>
+    ensures { IsCommand result (generate_form (number_of word.now)) }
+{
+    match read_number(word.as_bytes()) {
+        None => Command::NoForm,
+        Some(number) => {
+            if number <= u64::from(NUMBER_LIMIT) {
+                Command::Generate(number as u32)
+            } else {
+                Command::NoForm
+            }
+        }
+    }
+}
+
 fn one_word<'a>(command: &str, word: &'a str) -> Command<'a>
     ensures { IsCommand result (one_word_form command.now word.now) }
 {
     if is_word(command, "tree") {
         Command::Tree(word)
+    } else if is_word(command, "generate") {
+        generate_word(word)
     } else {
         Command::NoForm
     }

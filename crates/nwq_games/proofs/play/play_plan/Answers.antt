@@ -1,13 +1,26 @@
-use Rattle.ncs_machine.specs.Host.{scripts_of, tables_of}
-use Rattle.nwq_games.proofs.WorldLemmas.{world_fits, world_quiet, world_next}
+use Rattle.std.proofs.Common.{map}
+use Rattle.world_core.specs.Calls.{cells_of}
+use Rattle.ncs_machine.specs.Host.{scripts_of}
+use Rattle.nwq_games.specs.Games.{played}
+use Rattle.nwq_games.specs.Worlds.{plan_world}
+use Rattle.nwq_work.specs.Counts.{Counted}
+use Rattle.nwq_games.proofs.PlayLemmas.{trace_whole}
+use Rattle.nwq_games.proofs.TellLemmas.{counted_on}
 use Rattle.nwq_games.proofs.play.play_plan.Goals as goal
 
-pub play_world-requires-clause-fit : goal.play_world-requires-clause-fit
-play_world-requires-clause-fit g c =
-    world_fits c.args.area c.args.plan.now c.in-Ok.world.world c.in-Ok.ensures.world (scripts_of c.args.scripts.now) (tables_of c.args.scripts.now)
+pub returns-in-Ok-clause-does : goal.returns-in-Ok-clause-does
+returns-in-Ok-clause-does g c = λ files_tell sink_tells.
+    let cell = cells_of (map (λ h. h.known) c.args.hooks.now.all.items) in
+    let p = played cell c.args.table.now c.args.plan.now (scripts_of c.args.scripts.now) (plan_world c.args.area c.args.plan.now) in
+    trace_whole cell c.args.table.now c.args.area c.args.plan.now c.args.to.now (scripts_of c.args.scripts.now) (g.F.Files.contents c.args.files.now)
+    (g.F.Files.contents c.tell_end.new.files) (g.S.Sink.taken c.args.out.now) (g.S.Sink.taken c.play_lines.new.out) c.tell_end.result
+    (g.S.Sink.taken c.tell_end.new.out) (c.in-Ok.ensures.trace sink_tells) (c.tell_end.ensures.does files_tell sink_tells p c.in-Ok.ensures.ending)
 
-pub play_world-requires-clause-quiet : goal.play_world-requires-clause-quiet
-play_world-requires-clause-quiet g c = world_quiet c.args.area c.args.plan.now c.in-Ok.world.world c.in-Ok.ensures.world
-
-pub play_world-requires-clause-next : goal.play_world-requires-clause-next
-play_world-requires-clause-next g c = world_next c.args.area c.args.plan.now c.in-Ok.world.world c.in-Ok.ensures.world c.requires.plan
+pub returns-in-Ok-clause-counts : goal.returns-in-Ok-clause-counts
+returns-in-Ok-clause-counts g c =
+    let faults = g.F.Files.faults c.args.files.now in
+    let absences = g.F.Files.absences c.args.files.now in
+    let longs = g.F.Files.longs c.args.files.now in
+    counted_on c.tell_end.result (Counted faults absences longs (g.S.Sink.faults c.args.out.now)) (Counted faults absences longs (g.S.Sink.faults c.play_lines.new.out))
+    (Counted (g.F.Files.faults c.tell_end.new.files) (g.F.Files.absences c.tell_end.new.files) (g.F.Files.longs c.tell_end.new.files) (g.S.Sink.faults c.tell_end.new.out))
+    (c.in-Ok.ensures.counts faults absences longs) c.tell_end.ensures.counts

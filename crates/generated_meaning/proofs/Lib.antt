@@ -1,0 +1,3 @@
+mod Source
+mod Telling
+mod Generating

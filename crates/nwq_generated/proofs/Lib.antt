@@ -1,0 +1,9 @@
+mod AreaLemmas
+mod CommandLemmas
+mod OneGenerated
+mod PlanLemmas
+mod PlayLemmas
+mod SourceLemmas
+mod Steps
+mod StopLemmas
+mod SummaryLemmas
