@@ -7,10 +7,9 @@ use Rattle.nwq_work.specs.Work.{then, IsCut, Does, Finished, ending}
 use Rattle.nwq_sources.specs.Headers.{table_of}
 use Rattle.nwq_scripts.specs.Files.{code_name, compiled_named}
 use Rattle.nwq_plays.specs.Plays.{plays_file}
-use Rattle.words_meaning.specs.Reading.{AreBytes}
 use Rattle.words_meaning.specs.Laws.{RunsMean, CompilesMean, PlaysMean}
-use Rattle.nwq_top.specs.Words.{Form, Run, Compile, Tree, Check, Disassemble, Assemble, Play, NoForm, form_of}
-use Rattle.nwq_top.specs.Command.{runs_under, runs, work_of}
+use Rattle.nwq_top.specs.Words.{Run, Compile, Tree, Check, Disassemble, Assemble, Play, NoForm, form_of}
+use Rattle.nwq_top.specs.Command.{runs_under, runs}
 use Rattle.nwq_top.specs.Meaning.{Means, WorkMeans}
 
 -- the parts of a run in a row
