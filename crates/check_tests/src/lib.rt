@@ -2,9 +2,13 @@
 #![tactic(auto)]
 
 #[cfg(test)]
+mod entries;
+#[cfg(test)]
 mod files;
 #[cfg(test)]
 mod fits;
+#[cfg(test)]
+mod instructions;
 #[cfg(test)]
 mod passed;
 #[cfg(test)]

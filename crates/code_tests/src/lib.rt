@@ -1,5 +1,13 @@
-//! Tests of the code of typed units: whole files, as bytes.
+//! Tests of the code of units: whole files against listings that were written by hand.
 #![tactic(auto)]
 
 #[cfg(test)]
-mod files;
+mod compile;
+#[cfg(test)]
+mod declarations;
+#[cfg(test)]
+mod expressions;
+#[cfg(test)]
+mod headers;
+#[cfg(test)]
+mod statements;

@@ -4,7 +4,7 @@ ghost use Rattle.std.specs.Prelude.{◌≤◌, length, IfOk};
 ghost use Rattle.std.specs.List.{AllByRecursion};
 ghost use Rattle.nss_lexer.specs.Lexemes.{IsToken};
 
-use engine_table::built_in;
+use engine_table::{built_in, read_header};
 use nss_lexer::{Lexed, SOURCE_BYTES, Token, next};
 use nss_parser::parse;
 use nss_tree::Tree;
@@ -15,7 +15,7 @@ use std::alloc::Global;
 use std::test::Fail;
 
 /// A unit, with the kind and the token of its least fault where it has one.
-type Row = (&'static [u8], Option<(FaultKind, u32)>);
+pub type Row = (&'static [u8], Option<(FaultKind, u32)>);
 
 /// The tokens of a unit.
 #[tactic(auto, using(crate::proofs::TestLaws::token_is, crate::proofs::TestLaws::all_push))]
@@ -75,6 +75,23 @@ fn first_unlike(alloc: Global, table: &Table, rows: &[Row]) -> u32 {
         }
     }
     0
+}
+
+/// The same under the built-in header.
+pub fn first_unlike_built_in(alloc: Global, rows: &[Row]) -> Result<u32, NoMemory> {
+    let table = built_in(alloc)?;
+    Ok(first_unlike(alloc, &table, rows))
+}
+
+/// The same under a header of these lines.
+pub fn first_unlike_under(alloc: Global, header: &[u8], rows: &[Row]) -> Option<u32> {
+    if header.len() > SOURCE_BYTES {
+        return None;
+    }
+    match read_header(alloc, header) {
+        Ok(table) => Some(first_unlike(alloc, &table, rows)),
+        Err(_) => None,
+    }
 }
 
 const EXPRESSIONS: [Row; 33] = [
