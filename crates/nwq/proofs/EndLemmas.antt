@@ -28,8 +28,8 @@ memory_comes (Play header area plan to list) = tt
 memory_comes NoForm = tt
 
 play_comes : (header area plan to : List ℕ) (list : Option (List ℕ)) (status : Status) → StopsArea status → ComesOf (Play header area plan to list) status
-play_comes header area plan to list Done h = h
-play_comes header area plan to list Words h = h
+play_comes header area plan to list Done h = absurd h
+play_comes header area plan to list Words h = absurd h
 play_comes header area plan to list Script h = absurd h
 play_comes header area plan to list Code h = absurd h
 play_comes header area plan to list Area h = tt
@@ -38,6 +38,17 @@ play_comes header area plan to list Missing h = tt
 play_comes header area plan to list Fault h = tt
 play_comes header area plan to list Memory h = tt
 play_comes header area plan to list Long h = tt
+
+abbrev IsGiven : Result (List Named) ℕ → List Named → Type 0
+IsGiven r tables = r ≡ Ok tables
+
+abbrev Gave : Result (List Named) ℕ → Type 0
+Gave (Ok tables) = Unit {0}
+Gave (Err number) = ⊥
+
+-- tables that were refused aren't given
+pub none_refused : (number : ℕ) (tables : List Named) → IsGiven (Err number) tables → ⊥
+none_refused number tables given = subst Gave (sym given) tt
 
 -- only words that give a list have tables that may be refused
 pub refusal_comes : (form : Form) (status : Status) → (list_of form ≡ None → ⊥) → StopsArea status → ComesOf form status

@@ -3,4 +3,4 @@ use Rattle.hook_table.specs.Served.{AreFirst}
 use Rattle.nwq.proofs.whole.run_with.Given as goal
 
 abbrev pub invariant-loop-n : goal.invariant-loop-n
-invariant-loop-n l = AreFirst l.n (map (λ h. h.known) l.hooks.all.items)
+invariant-loop-n g l = AreFirst l.n (map (λ h. h.known) l.hooks.all.items)
