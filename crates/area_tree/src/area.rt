@@ -1,12 +1,15 @@
 //! An area.
 
-ghost use Rattle.std.specs.Prelude.{◌≡◌, ◌≤◌, ◌<◌, [], not, filter, length, IsTrue, IfOk, IfErr, OnOk, OnErr};
+ghost use Rattle.std.specs.Prelude.{◌≡◌, ◌≤◌, ◌<◌, [], not, filter, length, IsTrue, IfOk, IfErr};
+ghost use Rattle.std.specs.Prelude.{OnOk, OnErr};
 ghost use Rattle.gff_tree.specs.Tree.{plain_node};
 ghost use Rattle.gff_tree.specs.Whole.{plain_gff};
 ghost use Rattle.gff_tree.specs.Count.{node_count};
-ghost use Rattle.area_tree.specs.Variables.{IntVar, TextVar, is_int, is_text, int_named, text_named, put};
+ghost use Rattle.area_tree.specs.Variables.{IntVar, TextVar, is_int, is_text, int_named};
+ghost use Rattle.area_tree.specs.Variables.{text_named, put};
 ghost use Rattle.area_tree.specs.Broken.{broken_places, IsFirst};
-ghost use Rattle.area_tree.specs.Area.{area_of, empty_area, tree_back, object, by_tag, script_named, changed, IsArea};
+ghost use Rattle.area_tree.specs.Area.{area_of, empty_area, tree_back, object, by_tag};
+ghost use Rattle.area_tree.specs.Area.{script_named, changed, IsArea};
 
 use crate::back::put_lists;
 use crate::fault::AreaFault;
@@ -58,11 +61,13 @@ impl Area {
         }
     }
 
-    /// The area that a tree tells, or the first place at which it breaks the rules. The tree is dropped on a refusal.
+    /// The area that a tree tells, or the first place at which it breaks the rules. The tree is
+    /// dropped on a refusal.
     pub fn of(alloc: Global, tree: Gff) -> Result<Area, AreaFault>
         requires few { node_count (plain_gff tree).top < 4294967296 }
         // What is answered is the tree's area, and the tree breaks no rule.
-        ensures area { IfOk result (λ area. (broken_places (plain_gff tree).top ≡ []) × (area ≡ area_of (plain_gff tree))) }
+        ensures area { IfOk result (λ area. (broken_places (plain_gff tree).top ≡ [])
+            × (area ≡ area_of (plain_gff tree))) }
         // A place that is named is the first that breaks a rule.
         ensures first { IfErr result (λ e. IsFirst e (broken_places (plain_gff tree).top)) }
     {
@@ -122,7 +127,8 @@ impl Area {
         self.objects[o as usize - 1].tag()
     }
 
-    /// The object with a tag before which so many others with it stand; 0 where there is none, and where the number is negative.
+    /// The object with a tag before which so many others with it stand; 0 where there is none, and
+    /// where the number is negative.
     pub fn by_tag(&self, tag: &[u8], nth: i32) -> u32
         ensures object { result ≡ by_tag self.now tag.now nth }
     {

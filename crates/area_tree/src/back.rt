@@ -1,6 +1,7 @@
 //! The way back: the variables of the objects put into the tree that was read.
 
-ghost use Rattle.std.specs.Prelude.{◌≡◌, ◌∷◌, ◌++◌, [], map, filter, not, take, drop, length, codes, None, Some, IfOk, OnOk};
+ghost use Rattle.std.specs.Prelude.{◌≡◌, ◌∷◌, ◌++◌, [], map, filter, not, take, drop, length};
+ghost use Rattle.std.specs.Prelude.{codes, None, Some, IfOk, OnOk};
 ghost use Rattle.std.specs.Option.{option_map};
 ghost use Rattle.std.specs.List.{list_any};
 ghost use Rattle.gff_tree.specs.Tree.{Holds, Str, plain_node, plain_leaf};
@@ -10,7 +11,9 @@ ghost use Rattle.area_tree.specs.Variables.{Variable, variable_of, same_variable
 ghost use Rattle.area_tree.specs.Objects.{structs_in, variables_in, entry_of, list_labels};
 ghost use Rattle.area_tree.specs.Reading.{leaf_in};
 ghost use Rattle.area_tree.specs.Current.{current, with_told};
-ghost use Rattle.area_tree.specs.Back.{name_of, type_of, value_of, new_entry, is_kept, variable_for, valued, table_back, leaf_back, member_back, objects_back, members_back, list_back, lists_back};
+ghost use Rattle.area_tree.specs.Back.{name_of, type_of, value_of, new_entry, is_kept};
+ghost use Rattle.area_tree.specs.Back.{variable_for, valued, table_back, leaf_back, member_back};
+ghost use Rattle.area_tree.specs.Back.{objects_back, members_back, list_back, lists_back};
 
 use crate::object::{Object, Told, list_label, told_by};
 use crate::vars::{Var, Vars};
@@ -100,7 +103,8 @@ fn stays(vars: &Vars, entry: &Node) -> bool
 
 /// Takes the entries out whose variables the object no longer has.
 fn keep_entries(vars: &Vars, entries: &mut Vec<Node>)
-    ensures { map plain_node entries.new.items ≡ filter (is_kept vars.now) (map plain_node entries.old.items) }
+    ensures { map plain_node entries.new.items
+        ≡ filter (is_kept vars.now) (map plain_node entries.old.items) }
 {
     let mut kept = 0;
     for i in 0..entries.len() {
@@ -125,7 +129,8 @@ fn current_leaf(alloc: Global, vars: &Vars, v: Var<'_>) -> Result<Leaf, NoMemory
 /// The value that the variable of an entry has now, where the entry tells one that is still there.
 #[tactic(auto, using(crate::proofs::BackLemmas::value_known, crate::proofs::BackLemmas::value_unknown))]
 fn value_now(alloc: Global, vars: &Vars, entry: &Node) -> Result<Option<Leaf>, NoMemory>
-    ensures { IfOk result (λ leaf. option_map plain_leaf leaf ≡ option_map value_of (variable_for vars.now (entry_of (plain_node entry.now)))) }
+    ensures { IfOk result (λ leaf. option_map plain_leaf leaf
+        ≡ option_map value_of (variable_for vars.now (entry_of (plain_node entry.now)))) }
 {
     match told_by(entry) {
         Told::Broken => Ok(None),
@@ -154,7 +159,8 @@ fn set_value(alloc: Global, vars: &Vars, entry: &mut Node) -> Result<(), NoMemor
 }
 
 fn set_values(alloc: Global, vars: &Vars, entries: &mut Vec<Node>) -> Result<(), NoMemory>
-    ensures { OnOk result (map plain_node entries.new.items ≡ map (valued vars.now) (map plain_node entries.old.items)) }
+    ensures { OnOk result (map plain_node entries.new.items
+        ≡ map (valued vars.now) (map plain_node entries.old.items)) }
 {
     for i in 0..entries.len() {
         set_value(alloc, vars, &mut entries[i])?;
@@ -176,7 +182,8 @@ fn add_one_told(entry: &Node, told: &mut Vars) -> Result<(), NoMemory>
 /// Puts the variables into a list that entries tell.
 fn add_told(entries: &[Node], told: &mut Vars) -> Result<(), NoMemory>
     requires { told.old ≡ [] }
-    ensures { OnOk result ((v : Variable) → list_any (same_variable v) told.new ≡ list_any (same_variable v) (variables_in (map plain_node entries.now))) }
+    ensures { OnOk result ((v : Variable) → list_any (same_variable v) told.new
+        ≡ list_any (same_variable v) (variables_in (map plain_node entries.now))) }
 {
     for entry in entries {
         add_one_told(entry, told)?;
@@ -192,7 +199,8 @@ fn add_other(
     entries: &mut Vec<Node>,
 ) -> Result<(), NoMemory>
     ensures { OnOk result (map plain_node entries.new.items ≡ map plain_node entries.old.items
-        ++ map new_entry (filter (λ w. not (list_any (same_variable w) told.now)) (variable_of v.entry ∷ []))) }
+        ++ map new_entry (filter (λ w. not (list_any (same_variable w) told.now))
+        (variable_of v.entry ∷ []))) }
 {
     if told.contains(v) {
         return Ok(());
@@ -228,8 +236,10 @@ fn change_table(
     told: &Vars,
     entries: &mut Vec<Node>,
 ) -> Result<(), NoMemory>
-    requires { (v : Variable) → list_any (same_variable v) told.now ≡ list_any (same_variable v) (variables_in (map plain_node entries.old.items)) }
-    ensures { OnOk result (map plain_node entries.new.items ≡ table_back vars.now (map plain_node entries.old.items)) }
+    requires { (v : Variable) → list_any (same_variable v) told.now
+        ≡ list_any (same_variable v) (variables_in (map plain_node entries.old.items)) }
+    ensures { OnOk result (map plain_node entries.new.items
+        ≡ table_back vars.now (map plain_node entries.old.items)) }
 {
     keep_entries(vars, entries);
     set_values(alloc, vars, entries)?;
@@ -237,7 +247,8 @@ fn change_table(
 }
 
 fn put_table(alloc: Global, vars: &Vars, entries: &mut Vec<Node>) -> Result<(), NoMemory>
-    ensures { OnOk result (map plain_node entries.new.items ≡ table_back vars.now (map plain_node entries.old.items)) }
+    ensures { OnOk result (map plain_node entries.new.items
+        ≡ table_back vars.now (map plain_node entries.old.items)) }
 {
     let mut told = Vars::new(alloc);
     match add_told(entries, &mut told) {
@@ -248,7 +259,8 @@ fn put_table(alloc: Global, vars: &Vars, entries: &mut Vec<Node>) -> Result<(), 
 
 /// The list field of a changed table.
 fn table_leaf(alloc: Global, vars: &Vars, mut entries: Vec<Node>) -> Result<Leaf, NoMemory>
-    ensures { IfOk result (λ leaf. plain_leaf leaf ≡ list_from (table_back vars.now (map plain_node entries.items))) }
+    ensures { IfOk result (λ leaf. plain_leaf leaf
+        ≡ list_from (table_back vars.now (map plain_node entries.items))) }
 {
     match put_table(alloc, vars, &mut entries) {
         Ok(()) => Ok(Leaf::of_list(entries)),
@@ -299,7 +311,8 @@ fn put_member(alloc: Global, vars: &Vars, node: &mut Node) -> Result<(), NoMemor
 }
 
 fn put_members(alloc: Global, objects: &[Object], nodes: &mut Vec<Node>) -> Result<(), NoMemory>
-    ensures { OnOk result (map plain_node nodes.new.items ≡ members_back objects.now (map plain_node nodes.old.items)) }
+    ensures { OnOk result (map plain_node nodes.new.items
+        ≡ members_back objects.now (map plain_node nodes.old.items)) }
 {
     for i in 0..nodes.len().min(objects.len()) {
         put_member(alloc, objects[i].vars(), &mut nodes[i])?;
@@ -309,7 +322,8 @@ fn put_members(alloc: Global, objects: &[Object], nodes: &mut Vec<Node>) -> Resu
 
 /// The list field of a list's changed members.
 fn members_leaf(alloc: Global, objects: &[Object], mut nodes: Vec<Node>) -> Result<Leaf, NoMemory>
-    ensures { IfOk result (λ leaf. plain_leaf leaf ≡ list_from (members_back objects.now (map plain_node nodes.items))) }
+    ensures { IfOk result (λ leaf. plain_leaf leaf
+        ≡ list_from (members_back objects.now (map plain_node nodes.items))) }
 {
     match put_members(alloc, objects, &mut nodes) {
         Ok(()) => Ok(Leaf::of_list(nodes)),
@@ -322,7 +336,8 @@ fn members_leaf(alloc: Global, objects: &[Object], mut nodes: Vec<Node>) -> Resu
 
 /// What a list of objects becomes; what is no list stays.
 fn changed_list(alloc: Global, objects: &[Object], leaf: Leaf) -> Result<Leaf, NoMemory>
-    ensures { IfOk result (λ changed. plain_leaf changed ≡ objects_back objects.now (plain_leaf leaf)) }
+    ensures { IfOk result (λ changed. plain_leaf changed
+        ≡ objects_back objects.now (plain_leaf leaf)) }
 {
     fields_tell();
     match leaf.into_list() {
@@ -334,7 +349,8 @@ fn changed_list(alloc: Global, objects: &[Object], leaf: Leaf) -> Result<Leaf, N
 /// Puts the variables of objects into the members of a list of the top struct.
 fn put_list(alloc: Global, label: &[u8], objects: &[Object], top: &mut Node) -> Result<(), NoMemory>
     ensures { OnOk result (plain_node top.new ≡ node_from (kind_of (plain_node top.old))
-        (list_back label.now objects.now (found label.now (fields_of (plain_node top.old))) (fields_of (plain_node top.old)))) }
+        (list_back label.now objects.now (found label.now (fields_of (plain_node top.old)))
+        (fields_of (plain_node top.old)))) }
 {
     fields_tell();
     match top.replace(label, Leaf::Byte(0)) {
@@ -382,7 +398,8 @@ fn later_objects(objects: &[Object], count: usize) -> &[Object]
 
 /// Puts the variables of all objects into the five lists.
 pub fn put_lists(alloc: Global, objects: &[Object], top: &mut Node) -> Result<(), NoMemory>
-    ensures { OnOk result (plain_node top.new ≡ node_from (kind_of (plain_node top.old)) (lists_back list_labels objects.now (fields_of (plain_node top.old)))) }
+    ensures { OnOk result (plain_node top.new ≡ node_from (kind_of (plain_node top.old))
+        (lists_back list_labels objects.now (fields_of (plain_node top.old)))) }
 {
     fields_tell();
     let mut rest = objects;

@@ -1,8 +1,8 @@
 use nwq_value::NoMemory;
 use std::alloc::AllocFailed;
 
-/// Why a tree is no area: the first place at which it breaks the rules. Lists have the numbers 0 to 4, members and entries count
-/// from 1, and 0 says that the fault lies above them.
+/// Why a tree is no area: the first place at which it breaks the rules. Lists have the numbers 0 to
+/// 4, members and entries count from 1, and 0 says that the fault lies above them.
 #[derive(Clone, Copy)]
 pub enum AreaFault {
     Shape { list: u8, member: u32, entry: u32 },

@@ -1,14 +1,19 @@
 //! The objects as they are read from a tree, and its first broken place.
 
-ghost use Rattle.std.specs.Prelude.{◌≡◌, ◌<◌, ◌+◌, ◌++◌, ◌∷◌, [], map, filter, not, drop, codes, length, OnOk, OnErr, IfOk, IfErr};
+ghost use Rattle.std.specs.Prelude.{◌≡◌, ◌<◌, ◌+◌, ◌++◌, ◌∷◌, [], map, filter, not, drop, codes};
+ghost use Rattle.std.specs.Prelude.{length, OnOk, OnErr, IfOk, IfErr};
 ghost use Rattle.std.specs.Option.{option_map};
 ghost use Rattle.gff_tree.specs.Tree.{plain_node, plain_field, nodes_list};
 ghost use Rattle.gff_tree.specs.Count.{node_count, nodes_count};
 ghost use Rattle.gff_tree.specs.Fields.{fields_of, found};
 ghost use Rattle.area_tree.specs.Variables.{IntVar, TextVar, is_int, is_text, put, variable_of};
 ghost use Rattle.area_tree.specs.Area.{script_named};
-ghost use Rattle.area_tree.specs.Objects.{dword_in, int_in, string_in, int_entry, text_entry, entry_of, variables_in, structs_in, tag_in, with_script, scripts_in, object_of, list_labels, objects_of};
-ghost use Rattle.area_tree.specs.Broken.{IsFirst, at_member, entry_places, with_later, entries_places, tag_places, table_places, member_places, members_places, list_places, broken_places};
+ghost use Rattle.area_tree.specs.Objects.{dword_in, int_in, string_in, int_entry, text_entry};
+ghost use Rattle.area_tree.specs.Objects.{entry_of, variables_in, structs_in, tag_in, with_script};
+ghost use Rattle.area_tree.specs.Objects.{scripts_in, object_of, list_labels, objects_of};
+ghost use Rattle.area_tree.specs.Broken.{IsFirst, at_member, entry_places, with_later};
+ghost use Rattle.area_tree.specs.Broken.{entries_places, tag_places, table_places, member_places};
+ghost use Rattle.area_tree.specs.Broken.{members_places, list_places, broken_places};
 ghost use Rattle.area_tree.specs.Reading.{Reads, leaf_in, leaves_count, entry_told};
 
 use crate::fault::AreaFault;
@@ -176,7 +181,8 @@ fn told_int(name: Option<&[u8]>, n: Option<i32>) -> Told<'_>
 }
 
 fn told_text<'a>(name: Option<&'a [u8]>, text: Option<&'a [u8]>) -> Told<'a>
-    ensures { entry_told result ≡ text_entry (option_map (λ t. t.now) name.entry) (option_map (λ t. t.now) text.entry) }
+    ensures { entry_told result ≡ text_entry (option_map (λ t. t.now) name.entry)
+        (option_map (λ t. t.now) text.entry) }
 {
     match name {
         None => Told::Broken,
@@ -239,8 +245,10 @@ fn add_entry(
 fn add_entries(list: u8, member: u32, entries: &[Node], vars: &mut Vars) -> Result<(), AreaFault>
     requires few { length entries.now < 4294967296 }
     requires none { vars.old ≡ [] }
-    ensures read { OnOk result ((entries_places list member 1 [] (map plain_node entries.now) ≡ []) × (vars.new ≡ variables_in (map plain_node entries.now))) }
-    ensures first { IfErr result (λ e. IsFirst e (entries_places list member 1 [] (map plain_node entries.now))) }
+    ensures read { OnOk result ((entries_places list member 1 [] (map plain_node entries.now) ≡ [])
+        × (vars.new ≡ variables_in (map plain_node entries.now))) }
+    ensures first { IfErr result (λ e. IsFirst e
+        (entries_places list member 1 [] (map plain_node entries.now))) }
 {
     let mut number = 0;
     for entry in entries {
@@ -252,7 +260,8 @@ fn add_entries(list: u8, member: u32, entries: &[Node], vars: &mut Vars) -> Resu
 
 fn read_entries(alloc: Global, list: u8, member: u32, entries: &[Node]) -> Result<Vars, AreaFault>
     requires few { length entries.now < 4294967296 }
-    ensures { Reads result (entries_places list member 1 [] (map plain_node entries.now)) (variables_in (map plain_node entries.now)) }
+    ensures { Reads result (entries_places list member 1 [] (map plain_node entries.now))
+        (variables_in (map plain_node entries.now)) }
 {
     let mut vars = Vars::new(alloc);
     match add_entries(list, member, entries, &mut vars) {
@@ -267,7 +276,8 @@ fn read_entries(alloc: Global, list: u8, member: u32, entries: &[Node]) -> Resul
 /// The variables of a member.
 fn read_table(alloc: Global, list: u8, member: u32, table: Option<&Leaf>) -> Result<Vars, AreaFault>
     requires few { length (structs_in (leaf_in table)) < 4294967296 }
-    ensures { Reads result (table_places list member (leaf_in table.entry)) (variables_in (structs_in (leaf_in table.entry))) }
+    ensures { Reads result (table_places list member (leaf_in table.entry))
+        (variables_in (structs_in (leaf_in table.entry))) }
 {
     match table {
         None => Ok(Vars::new(alloc)),
@@ -288,7 +298,8 @@ fn read_tag(
     member: u32,
     tag: Option<&Leaf>,
 ) -> Result<Items<u8>, AreaFault>
-    ensures { Reads result (tag_places list member (leaf_in tag.entry)) (tag_in (leaf_in tag.entry)) }
+    ensures { Reads result (tag_places list member (leaf_in tag.entry))
+        (tag_in (leaf_in tag.entry)) }
 {
     match tag {
         None => Ok(Items::new(alloc)),
@@ -304,7 +315,8 @@ fn read_tag(
 
 /// Puts a field last, if it holds the name of a resource.
 fn add_script(alloc: Global, field: &Field, scripts: &mut Vec<ScriptField>) -> Result<(), NoMemory>
-    ensures { OnOk result (scripts.new.items ≡ scripts.old.items ++ with_script field.now.label (plain_field field.now).leaf []) }
+    ensures { OnOk result (scripts.new.items ≡ scripts.old.items
+        ++ with_script field.now.label (plain_field field.now).leaf []) }
 {
     if let Leaf::Res(text) = &field.leaf {
         let label = Items::of_slice(alloc, field.label.bytes())?;
@@ -326,8 +338,10 @@ fn read_scripts(alloc: Global, fields: &[Field]) -> Result<Vec<ScriptField>, NoM
 
 /// The object that a member of a list is.
 fn read_member(alloc: Global, list: u8, member: u32, node: &Node) -> Result<Object, AreaFault>
-    requires few { length (structs_in (found (codes "VarTable") (fields_of (plain_node node.now)))) < 4294967296 }
-    ensures { Reads result (member_places list member (plain_node node.now)) (object_of (plain_node node.now)) }
+    requires few { length (structs_in (found (codes "VarTable") (fields_of (plain_node node.now))))
+        < 4294967296 }
+    ensures { Reads result (member_places list member (plain_node node.now))
+        (object_of (plain_node node.now)) }
 {
     let scripts = read_scripts(alloc, node.fields())?;
     let tag = read_tag(alloc, list, member, node.find(b"Tag".as_slice()))?;
@@ -343,8 +357,10 @@ fn add_members(
     objects: &mut Vec<Object>,
 ) -> Result<(), AreaFault>
     requires few { nodes_count (nodes_list nodes.now) < 4294967296 }
-    ensures read { OnOk result ((members_places list 1 (map plain_node nodes.now) ≡ []) × (objects.new.items ≡ objects.old.items ++ map object_of (map plain_node nodes.now))) }
-    ensures first { IfErr result (λ e. IsFirst e (members_places list 1 (map plain_node nodes.now))) }
+    ensures read { OnOk result ((members_places list 1 (map plain_node nodes.now) ≡ [])
+        × (objects.new.items ≡ objects.old.items ++ map object_of (map plain_node nodes.now))) }
+    ensures first { IfErr result (λ e. IsFirst e
+        (members_places list 1 (map plain_node nodes.now))) }
 {
     let mut member = 0;
     for node in nodes {
@@ -363,7 +379,9 @@ fn add_list(
     objects: &mut Vec<Object>,
 ) -> Result<(), AreaFault>
     requires few { leaves_count (leaf_in leaf) < 4294967296 }
-    ensures read { OnOk result ((list_places list (leaf_in leaf.entry) ≡ []) × (objects.new.items ≡ objects.old.items ++ map object_of (structs_in (leaf_in leaf.entry)))) }
+    ensures read { OnOk result ((list_places list (leaf_in leaf.entry) ≡ [])
+        × (objects.new.items ≡ objects.old.items
+        ++ map object_of (structs_in (leaf_in leaf.entry)))) }
     ensures first { IfErr result (λ e. IsFirst e (list_places list (leaf_in leaf.entry))) }
 {
     match leaf {
@@ -397,7 +415,8 @@ pub fn list_label(list: u8) -> &'static [u8]
 fn add_lists(alloc: Global, top: &Node, objects: &mut Vec<Object>) -> Result<(), AreaFault>
     requires few { node_count (plain_node top.now) < 4294967296 }
     requires none { objects.old.items ≡ [] }
-    ensures read { OnOk result ((broken_places (plain_node top.now) ≡ []) × (objects.new.items ≡ objects_of (plain_node top.now))) }
+    ensures read { OnOk result ((broken_places (plain_node top.now) ≡ [])
+        × (objects.new.items ≡ objects_of (plain_node top.now))) }
     ensures first { IfErr result (λ e. IsFirst e (broken_places (plain_node top.now))) }
 {
     for list in 0..5 {
@@ -410,7 +429,8 @@ fn add_lists(alloc: Global, top: &Node, objects: &mut Vec<Object>) -> Result<(),
 /// The objects of a tree, or its first broken place.
 pub fn read_objects(alloc: Global, top: &Node) -> Result<Vec<Object>, AreaFault>
     requires few { node_count (plain_node top.now) < 4294967296 }
-    ensures read { IfOk result (λ objects. (broken_places (plain_node top.now) ≡ []) × (objects.items ≡ objects_of (plain_node top.now))) }
+    ensures read { IfOk result (λ objects. (broken_places (plain_node top.now) ≡ [])
+        × (objects.items ≡ objects_of (plain_node top.now))) }
     ensures first { IfErr result (λ e. IsFirst e (broken_places (plain_node top.now))) }
 {
     let mut objects = Vec::new(alloc);

@@ -1,7 +1,9 @@
-//! The order of an object's ints and strings together, by their numbers among the ints and among the strings.
+//! The order of an object's ints and strings together, by their numbers among the ints and among
+//! the strings.
 
 ghost use Rattle.std.specs.Prelude.{◌≡◌, map, filter};
-ghost use Rattle.area_tree.specs.Woven.{is_other_int, lower_int, without_int, is_other_text, lower_text, without_text};
+ghost use Rattle.area_tree.specs.Woven.{is_other_int, lower_int, without_int, is_other_text};
+ghost use Rattle.area_tree.specs.Woven.{lower_text, without_text};
 
 /// An int or a string by its number.
 #[derive(Clone, Copy)]

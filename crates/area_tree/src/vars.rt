@@ -1,11 +1,13 @@
 //! The variables of an object.
 
-ghost use Rattle.std.specs.Prelude.{◌≡◌, [], ◌∷◌, ◌++◌, not, false, filter, length, slice_get, OnOk, OnErr};
+ghost use Rattle.std.specs.Prelude.{◌≡◌, [], ◌∷◌, ◌++◌, not, false, filter, length, slice_get};
+ghost use Rattle.std.specs.Prelude.{OnOk, OnErr};
 ghost use Rattle.std.specs.List.{list_any, IsDistinct};
 ghost use Rattle.std.specs.Option.{option_map};
 ghost use Rattle.indexmap.specs.IndexMap.{index_map_len, insert_entry};
 ghost use Rattle.area_tree.specs.Woven.{same_key, int_var, text_var};
-ghost use Rattle.area_tree.specs.Variables.{IntVar, TextVar, variable_of, is_int, is_text, same_variable, int_named, text_named, put};
+ghost use Rattle.area_tree.specs.Variables.{IntVar, TextVar, variable_of, is_int, is_text};
+ghost use Rattle.area_tree.specs.Variables.{same_variable, int_named, text_named, put};
 
 use crate::order::{Place, remove_int, remove_text};
 use indexmap::IndexMap;
@@ -20,7 +22,8 @@ pub enum Var<'a> {
     Text(&'a [u8], &'a [u8]),
 }
 
-/// The variables of one object in their order, no two of one type and name. Contracts see the list of them.
+/// The variables of one object in their order, no two of one type and name. Contracts see the list
+/// of them.
 #[derive(Drop)]
 pub struct Vars {
     alloc: Global,
@@ -36,9 +39,11 @@ impl Model for Vars {
 
     ghost Value = { List Variable };
 
-    ghost view = { λ v. woven v.order.items (map int_var v.ints.entries) (map text_var v.texts.entries) };
+    ghost view = { λ v. woven v.order.items (map int_var v.ints.entries)
+        (map text_var v.texts.entries) };
 
-    ghost invariant = { λ v. AreKept v.order.items (map int_var v.ints.entries) (map text_var v.texts.entries) };
+    ghost invariant = { λ v. AreKept v.order.items (map int_var v.ints.entries)
+        (map text_var v.texts.entries) };
 }
 
 /// Puts an int behind those of the map, and last in the order.
@@ -48,8 +53,10 @@ fn insert_int(
     key: Vec<u8>,
     n: i32,
 ) -> Result<(), NoMemory>
-    ensures order { OnOk result (order.new.items ≡ order.old.items ++ Place.Int (index_map_len ints.old) ∷ []) }
-    ensures entries { OnOk result (ints.new.entries ≡ insert_entry same_key ints.old.entries key n) }
+    ensures order { OnOk result (order.new.items ≡ order.old.items
+        ++ Place.Int (index_map_len ints.old) ∷ []) }
+    ensures entries { OnOk result (ints.new.entries
+        ≡ insert_entry same_key ints.old.entries key n) }
     ensures same_order { OnErr result (order.new.items ≡ order.old.items) }
     ensures same_entries { OnErr result (ints.new.entries ≡ ints.old.entries) }
 {
@@ -68,8 +75,10 @@ fn insert_text(
     key: Vec<u8>,
     text: Items<u8>,
 ) -> Result<(), NoMemory>
-    ensures order { OnOk result (order.new.items ≡ order.old.items ++ Place.Text (index_map_len texts.old) ∷ []) }
-    ensures entries { OnOk result (texts.new.entries ≡ insert_entry same_key texts.old.entries key text) }
+    ensures order { OnOk result (order.new.items ≡ order.old.items
+        ++ Place.Text (index_map_len texts.old) ∷ []) }
+    ensures entries { OnOk result (texts.new.entries
+        ≡ insert_entry same_key texts.old.entries key text) }
     ensures same_order { OnErr result (order.new.items ≡ order.old.items) }
     ensures same_entries { OnErr result (texts.new.entries ≡ texts.old.entries) }
 {
@@ -192,7 +201,8 @@ impl Vars {
         Ok(())
     }
 
-    /// Puts a variable last, where there is none of its type and name. After `NoMemory` the list is as before.
+    /// Puts a variable last, where there is none of its type and name. After `NoMemory` the list is
+    /// as before.
     pub fn push(&mut self, v: Var<'_>) -> Result<(), NoMemory>
         requires new { list_any (same_variable (variable_of v)) self.old ≡ false }
         ensures ok { OnOk result (self.new ≡ self.old ++ variable_of v.entry ∷ []) }
@@ -235,7 +245,8 @@ impl Vars {
         }
     }
 
-    /// Gives the variable of a type and name a value, in its place, or puts it last where there is none.
+    /// Gives the variable of a type and name a value, in its place, or puts it last where there is
+    /// none.
     pub(crate) fn set(&mut self, v: Var<'_>) -> Result<(), NoMemory>
         ensures ok { OnOk result (self.new ≡ put (variable_of v.entry) self.old) }
         ensures err { OnErr result (self.new ≡ self.old) }

@@ -187,7 +187,8 @@ pub(crate) fn emit_read(
     requires globals { layout.now.globals ≤ depth_limit }
     requires few { count ≤ struct_cell_limit }
     ensures { OnOk result (out.new ≡ record out.old {
-      lines = out.old.lines ++ code.at_home (code.read layout.now depth count) (option_map plain_home home);
+      lines = out.old.lines ++ code.at_home (code.read layout.now depth count)
+          (option_map plain_home home);
     }) }
 {
     match home {
@@ -208,7 +209,8 @@ pub(crate) fn emit_write(
     requires globals { layout.now.globals ≤ depth_limit }
     requires few { count ≤ struct_cell_limit }
     ensures { OnOk result (out.new ≡ record out.old {
-      lines = out.old.lines ++ code.at_home (code.write layout.now depth count) (option_map plain_home home);
+      lines = out.old.lines ++ code.at_home (code.write layout.now depth count)
+          (option_map plain_home home);
     }) }
 {
     match home {
@@ -227,7 +229,8 @@ pub(crate) fn emit_increment(
     requires deep { depth < 2 ^ 29 }
     requires globals { layout.now.globals ≤ depth_limit }
     ensures { OnOk result (out.new ≡ record out.old {
-      lines = out.old.lines ++ code.at_home (code.increment layout.now depth) (option_map plain_home home);
+      lines = out.old.lines ++ code.at_home (code.increment layout.now depth)
+          (option_map plain_home home);
     }) }
 {
     match home {
@@ -246,7 +249,8 @@ pub(crate) fn emit_decrement(
     requires deep { depth < 2 ^ 29 }
     requires globals { layout.now.globals ≤ depth_limit }
     ensures { OnOk result (out.new ≡ record out.old {
-      lines = out.old.lines ++ code.at_home (code.decrement layout.now depth) (option_map plain_home home);
+      lines = out.old.lines ++ code.at_home (code.decrement layout.now depth)
+          (option_map plain_home home);
     }) }
 {
     match home {

@@ -11,12 +11,14 @@ ghost use Rattle.ncs_emit.specs.declared.jump.Jump.TheVariants.{Jsr};
 ghost use Rattle.code_emission.specs.Operations.{dropped};
 ghost use Rattle.nss_typing.specs.Typed as typed;
 ghost use Rattle.nss_typing.specs.UnitReading.{typed_item, typed_items, typed_stmts, typed_unit};
-ghost use Rattle.code_emission.specs.Bounds.{AreItems, IsBounded, IsEntry, depth_limit, globals_weight};
+ghost use Rattle.code_emission.specs.Bounds.{AreItems, IsBounded, IsEntry, depth_limit};
+ghost use Rattle.code_emission.specs.Bounds.{globals_weight};
 ghost use Rattle.code_emission.specs.Layout as laid;
 ghost use Rattle.code_emission.specs.Statements as code;
 ghost use Rattle.code_emission.specs.Units as units;
 ghost use Rattle.codegen_expr.specs.Emitted.{extended};
-ghost use Rattle.codegen_unit.specs.Ready.{AreFunctionsOpen, FunctionsReady, GlobalsReady, StmtsReady};
+ghost use Rattle.codegen_unit.specs.Ready.{AreFunctionsOpen, FunctionsReady, GlobalsReady};
+ghost use Rattle.codegen_unit.specs.Ready.{StmtsReady};
 
 use crate::declarations::{emit_names, names_cells};
 use crate::exits::no_exits;

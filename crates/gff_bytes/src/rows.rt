@@ -9,16 +9,16 @@ pub enum Part {
     List,
 }
 
-/// Where a file has nothing: a row number of the first three sections, or a byte offset into one of the
-/// others.
+/// Where a file has nothing: a row number of the first three sections, or a byte offset into one of
+/// the others.
 #[derive(Clone, Copy)]
 pub struct Range {
     pub part: Part,
     pub at: u32,
 }
 
-/// Why bytes are no GFF file: too short for a header, another version, or the first section, numbered from
-/// 0 to 5, that passes the end of the file.
+/// Why bytes are no GFF file: too short for a header, another version, or the first section,
+/// numbered from 0 to 5, that passes the end of the file.
 #[derive(Clone, Copy)]
 pub enum OpenFault {
     Short,

@@ -1,5 +1,9 @@
-ghost use Rattle.std.specs.Prelude.{◌≡◌, ◌≤◌, ◌<◌, ◌+◌, ◌*◌, ◌↔◌, length, take, drop, IsTrue, OnOk, IfOk, MatchResult, Some, None, Ok, Err};
-ghost use Rattle.gff_bytes.specs.File.{word_at, header_place, row_bytes, start_of, count_of, row_place, passes_end, section_fault, has_version, open_fault, file_type_of, struct_row, field_row, label_row, index_at, list_word, section_word, data_at};
+ghost use Rattle.std.specs.Prelude.{◌≡◌, ◌≤◌, ◌<◌, ◌+◌, ◌*◌, ◌↔◌, length, take, drop, IsTrue, OnOk};
+ghost use Rattle.std.specs.Prelude.{IfOk, MatchResult, Some, None, Ok, Err};
+ghost use Rattle.gff_bytes.specs.File.{word_at, header_place, row_bytes, start_of, count_of};
+ghost use Rattle.gff_bytes.specs.File.{row_place, passes_end, section_fault, has_version};
+ghost use Rattle.gff_bytes.specs.File.{open_fault, file_type_of, struct_row, field_row, label_row};
+ghost use Rattle.gff_bytes.specs.File.{index_at, list_word, section_word, data_at};
 ghost use Rattle.nwq_value.specs.Limits.{file_limit};
 
 use crate::rows::{FieldRow, OpenFault, Part, Range, StructRow};
@@ -210,7 +214,8 @@ impl<'a> View<'a> {
     /// The sixteen bytes of a label, its filling included.
     #[tactic(auto, unfolding(crate::specs::File::label_row), using(crate::proofs::FileLemmas::header_fits, crate::proofs::FileLemmas::label_fits))]
     pub fn label_at(&self, n: u32) -> Result<&'a [u8], Range>
-        ensures bytes { MatchResult result (λ part. label_row self.now n ≡ Ok part.now) (λ e. label_row self.now n ≡ Err e) }
+        ensures bytes { MatchResult result (λ part. label_row self.now n ≡ Ok part.now)
+            (λ e. label_row self.now n ≡ Err e) }
         ensures length { IfOk result (λ part. length part.now ≡ 16) }
     {
         let bytes = self.bytes;
@@ -259,7 +264,8 @@ impl<'a> View<'a> {
     /// So many bytes from a byte offset into the field data.
     #[tactic(auto, unfolding(crate::specs::File::data_at), using(crate::proofs::FileLemmas::header_fits, crate::proofs::FileLemmas::data_fits))]
     pub fn data_at(&self, at: u32, len: u32) -> Result<&'a [u8], Range>
-        ensures bytes { MatchResult result (λ part. data_at self.now at len ≡ Ok part.now) (λ e. data_at self.now at len ≡ Err e) }
+        ensures bytes { MatchResult result (λ part. data_at self.now at len ≡ Ok part.now)
+            (λ e. data_at self.now at len ≡ Err e) }
         ensures inside { OnOk result (at + len ≤ file_limit) }
         ensures length { IfOk result (λ part. length part.now ≡ len) }
     {

@@ -6,7 +6,8 @@ ghost use Rattle.std.specs.Fmt.{decimal, signed_decimal};
 ghost use Rattle.nwq_text.specs.Escape.{escaped, quoted};
 ghost use Rattle.gff_tree.specs.Tree.{plain_node, plain_leaf};
 ghost use Rattle.gff_tree.specs.Whole.{plain_gff};
-ghost use Rattle.gff_text.specs.Text.{line, leaf_text, part_line, struct_lines, lines_below, tree_text};
+ghost use Rattle.gff_text.specs.Text.{line, leaf_text, part_line, struct_lines, lines_below};
+ghost use Rattle.gff_text.specs.Text.{tree_text};
 
 use crate::lines::{deeper, put_bytes, put_spaces};
 use crate::value::put_leaf;
@@ -16,7 +17,8 @@ use nwq_value::NoMemory;
 use std::alloc::Global;
 
 fn put_first_line(out: &mut Vec<u8>, file_type: &[u8]) -> Result<(), NoMemory>
-    ensures { OnOk result (out.new.items ≡ out.old.items ++ line 0 (codes "gff " ++ quoted file_type.now)) }
+    ensures { OnOk result (out.new.items ≡ out.old.items
+        ++ line 0 (codes "gff " ++ quoted file_type.now)) }
 {
     put_bytes(out, b"gff ".as_slice())?;
     put_quoted(out, file_type)?;
@@ -25,7 +27,8 @@ fn put_first_line(out: &mut Vec<u8>, file_type: &[u8]) -> Result<(), NoMemory>
 }
 
 fn put_struct_line(out: &mut Vec<u8>, depth: usize, kind: u32) -> Result<(), NoMemory>
-    ensures { OnOk result (out.new.items ≡ out.old.items ++ line depth (codes "struct " ++ decimal kind)) }
+    ensures { OnOk result (out.new.items ≡ out.old.items
+        ++ line depth (codes "struct " ++ decimal kind)) }
 {
     put_spaces(out, depth)?;
     put_bytes(out, b"struct ".as_slice())?;
@@ -40,7 +43,8 @@ fn put_field_line(
     label: &[u8],
     leaf: &Leaf,
 ) -> Result<(), NoMemory>
-    ensures { OnOk result (out.new.items ≡ out.old.items ++ line depth (escaped label.now ++ 32 ∷ leaf_text (plain_leaf leaf.now))) }
+    ensures { OnOk result (out.new.items ≡ out.old.items
+        ++ line depth (escaped label.now ++ 32 ∷ leaf_text (plain_leaf leaf.now))) }
 {
     put_spaces(out, depth)?;
     put_text(out, label)?;
@@ -74,7 +78,8 @@ fn put_parts(out: &mut Vec<u8>, depth: usize, parts: &[LocPart]) -> Result<(), N
 /// A struct and all below it.
 #[cycle(lines)]
 fn put_struct(out: &mut Vec<u8>, depth: usize, node: &Node) -> Result<(), NoMemory>
-    ensures { OnOk result (out.new.items ≡ out.old.items ++ struct_lines depth (plain_node node.now)) }
+    ensures { OnOk result (out.new.items ≡ out.old.items
+        ++ struct_lines depth (plain_node node.now)) }
 {
     readings_tell();
     put_struct_line(out, depth, node.kind)?;
@@ -90,7 +95,8 @@ fn put_struct(out: &mut Vec<u8>, depth: usize, node: &Node) -> Result<(), NoMemo
 /// What stands in a field.
 #[cycle(lines)]
 fn put_below(out: &mut Vec<u8>, depth: usize, leaf: &Leaf) -> Result<(), NoMemory>
-    ensures { OnOk result (out.new.items ≡ out.old.items ++ lines_below depth (plain_leaf leaf.now)) }
+    ensures { OnOk result (out.new.items ≡ out.old.items
+        ++ lines_below depth (plain_leaf leaf.now)) }
 {
     readings_tell();
     match leaf {

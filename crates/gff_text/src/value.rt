@@ -56,7 +56,8 @@ fn put_double(out: &mut Vec<u8>, mut bits: [u8; 8]) -> Result<(), NoMemory>
 }
 
 fn put_localized(out: &mut Vec<u8>, loc: &Loc) -> Result<(), NoMemory>
-    ensures { OnOk result (out.new.items ≡ out.old.items ++ codes "locstring " ++ decimal loc.now.str_ref ++ 32 ∷ decimal (length loc.now.parts)) }
+    ensures { OnOk result (out.new.items ≡ out.old.items ++ codes "locstring "
+        ++ decimal loc.now.str_ref ++ 32 ∷ decimal (length loc.now.parts)) }
 {
     put_bytes(out, b"locstring ".as_slice())?;
     put_count(out, u64::from(loc.str_ref))?;

@@ -3,8 +3,9 @@
 use crate::tree::Leaf;
 use nwq_value::NoMemory;
 
-/// How many bytes a file of the tree may have at most, header and labels aside. Fields and lists of a file may
-/// be shared, so a small file can stand for a tree that no memory holds; the reader gives up past this size.
+/// How many bytes a file of the tree may have at most, header and labels aside. Fields and lists of
+/// a file may be shared, so a small file can stand for a tree that no memory holds; the reader
+/// gives up past this size.
 pub const TREE_BYTES: u64 = 1 << 28;
 
 /// A struct, and so many a field.
@@ -24,7 +25,8 @@ pub fn charge(left: &mut u64, bytes: u64) -> Result<(), NoMemory> {
     }
 }
 
-/// Takes the bytes of a field: its row, and its number in the field indices where its struct has several fields.
+/// Takes the bytes of a field: its row, and its number in the field indices where its struct has
+/// several fields.
 pub fn charge_field(left: &mut u64, several: bool) -> Result<(), NoMemory> {
     charge(left, ROW_BYTES)?;
     if several {

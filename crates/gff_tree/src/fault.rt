@@ -2,9 +2,9 @@ use gff_bytes::Range;
 use nwq_value::NoMemory;
 use std::alloc::{AllocError, AllocFailed};
 
-/// Why a file has no tree, as the first test of the walk that fails: the file has nothing at a place; a
-/// field's type is above 15; a struct was reached already; a struct is more than 64 deep; a field's struct
-/// has its label already. A number is that of the struct or the field.
+/// Why a file has no tree, as the first test of the walk that fails: the file has nothing at a
+/// place; a field's type is above 15; a struct was reached already; a struct is more than 64 deep;
+/// a field's struct has its label already. A number is that of the struct or the field.
 #[derive(Clone, Copy)]
 pub enum TreeFault {
     Range(Range),

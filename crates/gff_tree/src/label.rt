@@ -7,7 +7,8 @@ use std::marker::Model;
 /// How many bytes a label has at most.
 pub const LABEL_BYTES: usize = 16;
 
-/// The name of a field: at most 16 bytes, none of them zero. Contracts see it as the list of its bytes.
+/// The name of a field: at most 16 bytes, none of them zero. Contracts see it as the list of its
+/// bytes.
 #[derive(Drop)]
 pub struct Label {
     bytes: [u8; 16],

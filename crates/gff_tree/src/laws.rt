@@ -1,6 +1,8 @@
 //! Laws, each the contract of a function that does nothing.
 
-ghost use Rattle.gff_tree.specs.Fields.{ReplacedIsSound, AppendedIsSound, FoundIsSound, ListIsSound, NodeIsItsFields, FieldsAreTheNodes, ListIsItsNodes, NodesAreTheLists};
+ghost use Rattle.gff_tree.specs.Fields.{ReplacedIsSound, AppendedIsSound, FoundIsSound};
+ghost use Rattle.gff_tree.specs.Fields.{ListIsSound, NodeIsItsFields, FieldsAreTheNodes};
+ghost use Rattle.gff_tree.specs.Fields.{ListIsItsNodes, NodesAreTheLists};
 ghost use Rattle.gff_tree.specs.Readings.{NodeReads, ListReads};
 ghost use Rattle.gff_tree.specs.Stands.{OneTree};
 
@@ -9,8 +11,8 @@ pub fn one_tree()
     ensures one { OneTree }
 {}
 
-/// Structs and their lists of fields are one another's, and a struct stays sound where a field of it is replaced or a new one
-/// appended.
+/// Structs and their lists of fields are one another's, and a struct stays sound where a field of
+/// it is replaced or a new one appended.
 pub fn fields_tell()
     ensures node { NodeIsItsFields }
     ensures fields { FieldsAreTheNodes }

@@ -1,10 +1,11 @@
-//! The structs of a tree by their fields. What each call says of a struct is stated over its plain tree, so that crates above
-//! need not know how a `Node` is laid out.
+//! The structs of a tree by their fields. What each call says of a struct is stated over its plain
+//! tree, so that crates above need not know how a `Node` is laid out.
 
 ghost use Rattle.std.specs.Prelude.{◌≡◌, map, MatchOption, MatchResult, None, Some, OnOk, OnErr};
 ghost use Rattle.gff_tree.specs.Tree.{plain_node, plain_leaf, plain_field};
 ghost use Rattle.gff_tree.specs.Places.{place_of};
-ghost use Rattle.gff_tree.specs.Fields.{kind_of, fields_of, node_from, list_from, list_in, found, replaced, appended};
+ghost use Rattle.gff_tree.specs.Fields.{kind_of, fields_of, node_from, list_from, list_in, found};
+ghost use Rattle.gff_tree.specs.Fields.{replaced, appended};
 
 use crate::label::Label;
 use crate::tree::{Field, Leaf, Node};
@@ -49,7 +50,8 @@ impl Node {
 
     pub fn fields(&self) -> &[Field]
         ensures fields { map plain_field result.now ≡ fields_of (plain_node self.now) }
-        ensures node { plain_node self.now ≡ node_from (kind_of (plain_node self.now)) (map plain_field result.now) }
+        ensures node { plain_node self.now ≡ node_from (kind_of (plain_node self.now))
+            (map plain_field result.now) }
     {
         &self.fields
     }
@@ -58,12 +60,14 @@ impl Node {
     pub fn find(&self, label: &[u8]) -> Option<&Leaf>
         ensures leaf { MatchOption result
             (found label.now (fields_of (plain_node self.now)) ≡ None)
-            (λ leaf. found label.now (fields_of (plain_node self.now)) ≡ Some (plain_leaf leaf.now)) }
+            (λ leaf. found label.now (fields_of (plain_node self.now))
+            ≡ Some (plain_leaf leaf.now)) }
     {
         find_in(self.fields(), label)
     }
 
-    /// Lets the first field of a label hold this, and gives back what it held; where there is none nothing changes.
+    /// Lets the first field of a label hold this, and gives back what it held; where there is none
+    /// nothing changes.
     pub fn replace(&mut self, label: &[u8], leaf: Leaf) -> Option<Leaf>
         ensures old { MatchOption result
             (found label.now (fields_of (plain_node self.old)) ≡ None)
@@ -97,8 +101,10 @@ fn place_in(fields: &[Field], label: &[u8]) -> Option<usize>
 }
 
 fn append_to(fields: &mut Vec<Field>, label: Label, leaf: Leaf) -> Result<(), NoMemory>
-    ensures ok { OnOk result (map plain_field fields.new.items ≡ appended label (plain_leaf leaf) (map plain_field fields.old.items)) }
-    ensures err { OnErr result (map plain_field fields.new.items ≡ map plain_field fields.old.items) }
+    ensures ok { OnOk result (map plain_field fields.new.items
+        ≡ appended label (plain_leaf leaf) (map plain_field fields.old.items)) }
+    ensures err { OnErr result (map plain_field fields.new.items
+        ≡ map plain_field fields.old.items) }
 {
     fields.push(Field::new(label, leaf))?;
     Ok(())
@@ -108,7 +114,8 @@ fn replace_in(fields: &mut Vec<Field>, label: &[u8], leaf: Leaf) -> Option<Leaf>
     ensures old { MatchOption result
         (found label.now (map plain_field fields.old.items) ≡ None)
         (λ old. found label.now (map plain_field fields.old.items) ≡ Some (plain_leaf old)) }
-    ensures new { map plain_field fields.new.items ≡ replaced label.now (plain_leaf leaf) (map plain_field fields.old.items) }
+    ensures new { map plain_field fields.new.items
+        ≡ replaced label.now (plain_leaf leaf) (map plain_field fields.old.items) }
 {
     match place_in(fields, label) {
         Some(i) => Some(mem::replace(&mut fields[i].leaf, leaf)),

@@ -26,8 +26,8 @@ fn marks(alloc: Global, view: &View<'_>) -> Result<Vec<bool>, NoMemory>
     Ok(vec![in alloc; false; count]?)
 }
 
-/// The tree of a file, or the first test of the walk that fails. `NoMemory` also comes where a file of the tree would pass so
-/// many bytes, labels aside.
+/// The tree of a file, or the first test of the walk that fails. `NoMemory` also comes where a file
+/// of the tree would pass so many bytes, labels aside.
 #[tactic(auto, unfolding(crate::specs::Walk::tree_of))]
 pub fn read_within(alloc: Global, view: &View<'_>, bytes: u64) -> Result<Gff, TreeFault>
     ensures found { IfOk result (λ gff. Stands view.now (plain_gff gff)) }
@@ -43,11 +43,11 @@ pub fn read_within(alloc: Global, view: &View<'_>, bytes: u64) -> Result<Gff, Tr
     })
 }
 
-/// The tree of a file, or the first test of the walk that fails. The walk is in preorder from struct 0. At a
-/// struct it tests the struct's range, that it was not reached before, and its depth; then, field after
-/// field, the index word, the field's range, its type, its label's range, that the label is new in this
-/// struct, its data and its list words. Then it goes down. `NoMemory` also comes where a file of the tree
-/// would pass [`TREE_BYTES`] bytes, labels aside.
+/// The tree of a file, or the first test of the walk that fails. The walk is in preorder from
+/// struct 0. At a struct it tests the struct's range, that it was not reached before, and its
+/// depth; then, field after field, the index word, the field's range, its type, its label's range,
+/// that the label is new in this struct, its data and its list words. Then it goes down. `NoMemory`
+/// also comes where a file of the tree would pass [`TREE_BYTES`] bytes, labels aside.
 pub fn read(alloc: Global, view: &View<'_>) -> Result<Gff, TreeFault>
     // What is read is what the bytes stand for.
     ensures found { IfOk result (λ gff. Stands view.now (plain_gff gff)) }

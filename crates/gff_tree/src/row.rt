@@ -1,9 +1,11 @@
 //! The fields that a struct of the file lists.
 
-ghost use Rattle.std.specs.Prelude.{◌≡◌, ◌≢◌, ◌≤◌, ◌<◌, ◌+◌, ◌*◌, if◌then◌else◌, List, length, map, Ok, Err, OnOk, IfOk};
+ghost use Rattle.std.specs.Prelude.{◌≡◌, ◌≢◌, ◌≤◌, ◌<◌, ◌+◌, ◌*◌, if◌then◌else◌, List, length, map};
+ghost use Rattle.std.specs.Prelude.{Ok, Err, OnOk, IfOk};
 ghost use Rattle.gff_bytes.specs.File as File;
 ghost use Rattle.gff_tree.specs.Label.{label_text};
-ghost use Rattle.gff_tree.specs.Rows.{Gives, PlainRow, placed, words_from, shape_for, has_label, row_for, field_number, rows_from, rows_of};
+ghost use Rattle.gff_tree.specs.Rows.{Gives, PlainRow, placed, words_from, shape_for, has_label};
+ghost use Rattle.gff_tree.specs.Rows.{row_for, field_number, rows_from, rows_of};
 ghost use Rattle.gff_tree.specs.Held.{plain_shape, plain_row};
 ghost use Rattle.gff_tree.specs.Used.{HasLabels, AddsLabel};
 ghost use Rattle.nwq_value.specs.Limits.{file_limit};
@@ -111,7 +113,8 @@ fn take_label<'a>(
     requires { length raw.now ≤ 16 }
     ensures added { IfOk result (λ label. AddsLabel used.old label used.new) }
     ensures read { (rows : List PlainRow) → HasLabels used.old rows → Gives (λ label. label) result
-        (if has_label rows (label_text raw.now) then Err (TreeFault.Label field) else Ok (label_text raw.now)) }
+        (if has_label rows (label_text raw.now) then Err (TreeFault.Label field) else Ok
+        (label_text raw.now)) }
 {
     let text = before_zero(raw);
     if used.insert(text)? {
@@ -131,7 +134,8 @@ fn read_row<'a>(
     left: &mut u64,
 ) -> Result<Row, TreeFault>
     ensures added { IfOk result (λ row. AddsLabel used.old row.label used.new) }
-    ensures read { (rows : List PlainRow) → HasLabels used.old rows → Gives plain_row result (row_for view.now rows field) }
+    ensures read { (rows : List PlainRow) → HasLabels used.old rows →
+        Gives plain_row result (row_for view.now rows field) }
 {
     let entry = view.field_at(field)?;
     match Kind::of(entry.kind) {

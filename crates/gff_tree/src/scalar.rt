@@ -2,7 +2,8 @@
 
 ghost use Rattle.std.specs.Prelude.{◌≡◌, ◌≤◌, ◌+◌, length, Ok, Err, OnOk, IfOk, MatchResult};
 ghost use Rattle.gff_tree.specs.Tree.{plain_leaf};
-ghost use Rattle.gff_tree.specs.Rows.{Gives, bytes_for, number_for, counted_for, name_for, part_in, parts_in, localized_in, number_in, leaf_for};
+ghost use Rattle.gff_tree.specs.Rows.{Gives, bytes_for, number_for, counted_for, name_for, part_in};
+ghost use Rattle.gff_tree.specs.Rows.{parts_in, localized_in, number_in, leaf_for};
 ghost use Rattle.nwq_value.specs.Limits.{file_limit};
 
 use crate::fault::TreeFault;

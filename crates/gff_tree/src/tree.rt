@@ -62,8 +62,8 @@ pub struct Node {
     pub fields: Vec<Field>,
 }
 
-/// A file: what kind of file it is, and its top struct. In every value the structs are at most 64 deep, the
-/// labels of a struct's fields differ, and the name of a resource has at most 16 bytes.
+/// A file: what kind of file it is, and its top struct. In every value the structs are at most 64
+/// deep, the labels of a struct's fields differ, and the name of a resource has at most 16 bytes.
 #[derive(Drop)]
 pub struct Gff {
     pub file_type: [u8; 4],

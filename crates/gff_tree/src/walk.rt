@@ -52,7 +52,8 @@ pub fn read_node(
     left: &mut u64,
 ) -> Result<Node, TreeFault>
     requires { length marks.old ≡ struct_count view.now }
-    ensures { Gives (λ node. (plain_node node, marks.new)) result (node_at depth view.now n marks.old) }
+    ensures { Gives (λ node. (plain_node node, marks.new)) result
+        (node_at depth view.now n marks.old) }
 {
     let entry = enter(view, marks, n, depth)?;
     marks[n as usize] = true;

@@ -3,7 +3,8 @@
 ghost use Rattle.std.specs.Prelude.{◌≡◌, ◌++◌, length, IfOk};
 ghost use Rattle.std.specs.List.{flat_map};
 ghost use Rattle.gff_tree.specs.Tree.{plain_leaf, nodes_list, fields_list};
-ghost use Rattle.gff_write.specs.Flat.{word, wide, counted, named, part_bytes, localized_bytes, leaf_kind, leaf_content, numbers_from, padded, entries_from};
+ghost use Rattle.gff_write.specs.Flat.{word, wide, counted, named, part_bytes, localized_bytes};
+ghost use Rattle.gff_write.specs.Flat.{leaf_kind, leaf_content, numbers_from, padded, entries_from};
 
 use crate::count::{count_leaf, count_node, sum};
 use crate::flat::{Content, Entry};
@@ -40,7 +41,8 @@ fn named_bytes(alloc: Global, name: &[u8]) -> Result<Items<u8>, NoMemory>
 
 /// A localized string, which follows its total size.
 fn body_bytes(alloc: Global, loc: &Loc) -> Result<Items<u8>, NoMemory>
-    ensures { IfOk result (λ bytes. bytes ≡ word loc.now.str_ref ++ word (length loc.now.parts) ++ flat_map part_bytes loc.now.parts) }
+    ensures { IfOk result (λ bytes. bytes ≡ word loc.now.str_ref ++ word (length loc.now.parts)
+        ++ flat_map part_bytes loc.now.parts) }
 {
     let mut bytes = Items::new(alloc);
     put_word(&mut bytes, u64::from(loc.str_ref))?;

@@ -2,8 +2,8 @@
 
 use nwq_value::Items;
 
-/// What the third number of a field's row tells: a value, bytes of the field data, the number of a struct,
-/// or the numbers of a list's structs.
+/// What the third number of a field's row tells: a value, bytes of the field data, the number of a
+/// struct, or the numbers of a list's structs.
 #[derive(Drop)]
 pub enum Content {
     Small(u32),

@@ -32,7 +32,8 @@ pub fn flatten_node(alloc: Global, node: &Node, rows: &mut Items<Row>) -> Result
 /// Puts the structs that stand in a field last, with all below them.
 #[cycle(flatten)]
 fn flatten_leaf(alloc: Global, leaf: &Leaf, rows: &mut Items<Row>) -> Result<(), NoMemory>
-    ensures { OnOk result (rows.new ≡ rows.old ++ leaf_rows (length rows.old) (plain_leaf leaf.now)) }
+    ensures { OnOk result (rows.new ≡ rows.old
+        ++ leaf_rows (length rows.old) (plain_leaf leaf.now)) }
 {
     readings_tell();
     match leaf {

@@ -1,8 +1,9 @@
 //! The one file that a GFF tree is written as.
 //!
-//! The file has its structs in preorder, its fields struct by struct, each label once in order of first use,
-//! and field data, field indices and list indices in the order of the fields. `specs/File.antt` writes it as
-//! a function of the tree. docs/GFF.md tells the format and this project's choices.
+//! The file has its structs in preorder, its fields struct by struct, each label once in order of
+//! first use, and field data, field indices and list indices in the order of the fields.
+//! `specs/File.antt` writes it as a function of the tree. docs/GFF.md tells the format and this
+//! project's choices.
 #![tactic(auto)]
 
 mod count;

@@ -6,7 +6,8 @@ ghost use Rattle.gff_tree.specs.Tree.{plain_node, plain_leaf, fields_list};
 ghost use Rattle.gff_tree.specs.Whole.{plain_gff};
 ghost use Rattle.gff_write.specs.Flat.{padded, part_bytes, rows_of};
 ghost use Rattle.gff_write.specs.File.{joined, row_labels, written};
-ghost use Rattle.gff_write.specs.Size.{capped, index_bytes, node_bytes, leaf_bytes, own_labels, node_labels, leaf_labels, comes_before, nearer, next_label};
+ghost use Rattle.gff_write.specs.Size.{capped, index_bytes, node_bytes, leaf_bytes, own_labels};
+ghost use Rattle.gff_write.specs.Size.{node_labels, leaf_labels, comes_before, nearer, next_label};
 
 use crate::encode::filled;
 use crate::labels::LabelRow;
@@ -162,7 +163,8 @@ fn row_size(row: &LabelRow) -> u64
     row.as_slice().len() as u64
 }
 
-/// The labels of a tree once each. They are met from the least to the greatest, each by a walk over the tree.
+/// The labels of a tree once each. They are met from the least to the greatest, each by a walk over
+/// the tree.
 fn labels_size(top: &Node) -> u64
     ensures { result ≡ capped (length (joined (row_labels [] (rows_of 0 (plain_node top.now))))) }
 {
@@ -180,9 +182,9 @@ fn labels_size(top: &Node) -> u64
     u64::MAX
 }
 
-/// How many bytes the one file of a tree has, or 2^64 - 1 where these are more. It takes no memory: the labels,
-/// which the file has once each, are met in the order of their bytes by one walk over the tree for each, so the
-/// time is the tree's fields times its distinct labels.
+/// How many bytes the one file of a tree has, or 2^64 - 1 where these are more. It takes no memory:
+/// the labels, which the file has once each, are met in the order of their bytes by one walk over
+/// the tree for each, so the time is the tree's fields times its distinct labels.
 pub fn size(tree: &Gff) -> u64
     ensures size { result ≡ min (length (written (plain_gff tree.now))) (2 ^ 64 - 1) }
 {

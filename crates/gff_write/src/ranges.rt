@@ -7,8 +7,9 @@ ghost use Rattle.gff_write.specs.Laws.{IsTree, IsNode, IsLeaf, AreBytes, ArePart
 
 use gff_tree::{Gff, Leaf, LocPart, Node, readings_tell};
 
-/// Tells the proof what the types keep: a tree of a program is in the ranges that the law of the writing asks for. The
-/// walk reads each number, which is how its range becomes known; it computes nothing and changes nothing.
+/// Tells the proof what the types keep: a tree of a program is in the ranges that the law of the
+/// writing asks for. The walk reads each number, which is how its range becomes known; it computes
+/// nothing and changes nothing.
 pub fn tree_ranges(tree: &Gff)
     ensures { IsTree (plain_gff tree.now) }
 {

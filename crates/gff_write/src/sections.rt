@@ -1,7 +1,9 @@
 //! The sections of the file, from the structs in preorder.
 
 ghost use Rattle.std.specs.Prelude.{◌≡◌, ◌++◌, length, IfOk, OnOk};
-ghost use Rattle.gff_write.specs.File.{parts_with, data_of, list_of, third_of, entry_bytes, entries_data, entries_lists, entries_bytes, words_up, indices_of, row_bytes, joined};
+ghost use Rattle.gff_write.specs.File.{parts_with, data_of, list_of, third_of, entry_bytes};
+ghost use Rattle.gff_write.specs.File.{entries_data, entries_lists, entries_bytes, words_up};
+ghost use Rattle.gff_write.specs.File.{indices_of, row_bytes, joined};
 
 use crate::count::sum;
 use crate::flat::{Content, Entry, Row};
@@ -40,7 +42,8 @@ fn put_content(
 ) -> Result<u64, NoMemory>
     ensures datum { OnOk result (datum.new ≡ datum.old ++ data_of content.now) }
     ensures lists { OnOk result (lists.new ≡ lists.old ++ list_of content.now) }
-    ensures third { IfOk result (λ n. n ≡ third_of (length datum.old) (length lists.old) content.now) }
+    ensures third { IfOk result (λ n. n ≡ third_of (length datum.old)
+        (length lists.old) content.now) }
 {
     match content {
         Content::Small(n) => Ok(u64::from(*n)),
@@ -66,7 +69,8 @@ fn put_entry(
     table: &Labels,
     entry: &Entry,
 ) -> Result<(), NoMemory>
-    ensures fields { OnOk result (fields.new ≡ fields.old ++ entry_bytes table.now.keys (length datum.old) (length lists.old) entry.now) }
+    ensures fields { OnOk result (fields.new ≡ fields.old
+        ++ entry_bytes table.now.keys (length datum.old) (length lists.old) entry.now) }
     ensures datum { OnOk result (datum.new ≡ datum.old ++ data_of entry.now.content) }
     ensures lists { OnOk result (lists.new ≡ lists.old ++ list_of entry.now.content) }
 {
@@ -84,7 +88,8 @@ fn put_entries(
     table: &Labels,
     entries: &[Entry],
 ) -> Result<(), NoMemory>
-    ensures fields { OnOk result (fields.new ≡ fields.old ++ entries_bytes table.now.keys (length datum.old) (length lists.old) entries.now) }
+    ensures fields { OnOk result (fields.new ≡ fields.old
+        ++ entries_bytes table.now.keys (length datum.old) (length lists.old) entries.now) }
     ensures datum { OnOk result (datum.new ≡ datum.old ++ entries_data entries.now) }
     ensures lists { OnOk result (lists.new ≡ lists.old ++ entries_lists entries.now) }
 {
@@ -116,8 +121,10 @@ fn put_row(
     first: u64,
     row: &Row,
 ) -> Result<(), NoMemory>
-    ensures structs { OnOk result (structs.new ≡ structs.old ++ row_bytes first (length indices.old) row.now) }
-    ensures indices { OnOk result (indices.new ≡ indices.old ++ indices_of first (length row.now.fields)) }
+    ensures structs { OnOk result (structs.new ≡ structs.old
+        ++ row_bytes first (length indices.old) row.now) }
+    ensures indices { OnOk result (indices.new ≡ indices.old
+        ++ indices_of first (length row.now.fields)) }
 {
     let count = row.fields.len();
     let second = match count {
@@ -164,7 +171,8 @@ fn body(
 
 /// The sections of these structs, whose labels are given.
 pub fn sections_of(alloc: Global, rows: &[Row], table: &Labels) -> Result<Sections, NoMemory>
-    ensures { IfOk result (λ sections. sections ≡ parts_with table.now.keys (joined table.now.keys) rows.now) }
+    ensures { IfOk result (λ sections. sections
+        ≡ parts_with table.now.keys (joined table.now.keys) rows.now) }
 {
     let labels = label_bytes(alloc, table.as_slice())?;
     body(alloc, rows, table, labels)

@@ -5,7 +5,8 @@ ghost use Rattle.gff_tree.specs.Whole.{PlainGff, plain_gff};
 ghost use Rattle.gff_tree.specs.Stands.{Stands};
 ghost use Rattle.gff_tree.specs.Tree.{plain_node};
 ghost use Rattle.gff_write.specs.Flat.{rows_of};
-ghost use Rattle.gff_write.specs.File.{Gives, field_count, row_labels, section_words, header_of, body_of, written_rows, written, outcome_of};
+ghost use Rattle.gff_write.specs.File.{Gives, field_count, row_labels, section_words, header_of};
+ghost use Rattle.gff_write.specs.File.{body_of, written_rows, written, outcome_of};
 
 use crate::count::sum;
 use crate::fault::WriteFault;
@@ -88,7 +89,8 @@ fn joined(
     fields: u64,
     labels: u64,
 ) -> Result<Items<u8>, NoMemory>
-    ensures { IfOk result (λ bytes. bytes ≡ header_of file_type.now s.now structs fields labels ++ body_of s.now) }
+    ensures { IfOk result (λ bytes. bytes ≡ header_of file_type.now s.now structs fields labels
+        ++ body_of s.now) }
 {
     let mut out = header(alloc, file_type, s, structs, fields, labels)?;
     put_body(&mut out, s)?;
@@ -165,7 +167,8 @@ pub fn write(alloc: Global, tree: &Gff) -> Result<Vec<u8>, WriteFault>
     // The bytes stand for the tree.
     ensures stands { IfOk result (λ v. Stands v.items (plain_gff tree.now)) }
     // Reading the bytes gives the tree again: they stand for no other.
-    ensures again { IfOk result (λ v. (other : PlainGff) → Stands v.items other → other ≡ plain_gff tree.now) }
+    ensures again { IfOk result (λ v. (other : PlainGff) → Stands v.items other → other
+        ≡ plain_gff tree.now) }
 {
     tree_ranges(tree);
     one_tree();

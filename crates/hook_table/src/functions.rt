@@ -3,8 +3,10 @@ ghost use Rattle.std.specs.Fmt.{signed_decimal};
 ghost use Rattle.nwq_text.specs.Escape.{hex_digit};
 ghost use Rattle.nwq_value.specs.Limits.{text_limit};
 ghost use Rattle.engine_rows.specs.Arguments.{int_at, text_at, string_value};
-ghost use Rattle.engine_rows.specs.Pure.{CellLookup, pure, absolute, hex_digits, hex_string, inserted};
-ghost use Rattle.engine_rows.specs.Pure.{leading_number, left_part, middle_part, right_part, string_number};
+ghost use Rattle.engine_rows.specs.Pure.{CellLookup, pure, absolute, hex_digits, hex_string};
+ghost use Rattle.engine_rows.specs.Pure.{inserted};
+ghost use Rattle.engine_rows.specs.Pure.{leading_number, left_part, middle_part, right_part};
+ghost use Rattle.engine_rows.specs.Pure.{string_number};
 ghost use Rattle.table_2da.specs.declared.tables.Named.{Named};
 ghost use Rattle.nwq_value.specs.declared.value.Value.TheVariants.{Text as TextValue};
 ghost use Rattle.table_2da.specs.Look.{look};
@@ -168,8 +170,8 @@ fn middle_part(bytes: &[u8], start: i32, count: i32) -> &[u8]
     prefix(suffix(bytes, at_least_zero(start)), at_least_zero(count))
 }
 
-/// A string with another one put in at a place: a negative place is the beginning, and one past the end
-/// the end.
+/// A string with another one put in at a place: a negative place is the beginning, and one past the
+/// end the end.
 fn inserted(alloc: Global, bytes: &[u8], piece: &[u8], place: i32) -> Result<Value, NoMemory>
     ensures value { IfOk result (λ v. v ≡ string_value (inserted bytes.now piece.now place)) }
 {
@@ -218,8 +220,8 @@ fn cell_value(alloc: Global, tables: &Tables, args: &Args) -> Result<Value, NoMe
     Ok(Value::Text(cell))
 }
 
-/// What the function that looks cells up gives for these arguments, in these tables. The closure of a
-/// program's tenth hook calls this.
+/// What the function that looks cells up gives for these arguments, in these tables. The closure of
+/// a program's tenth hook calls this.
 pub fn cell_call(alloc: Global, tables: &Tables, args: &Args) -> Result<Value, NoMemory>
     ensures answer { IfOk result (λ v. IsAnswer tables.now (function_numbered cell_function).name
         (function_numbered cell_function).result args.now v) }

@@ -8,8 +8,8 @@ use table_2da::Tables;
 /// A function over lists of arguments. It may refuse for want of memory.
 pub type Call = Box<dyn Fn(&Args) -> Result<Value, NoMemory>>;
 
-/// What is known of a hook: the name of its function, the types of the parameters and of the result,
-/// and the tables in which it looks cells up, where it does.
+/// What is known of a hook: the name of its function, the types of the parameters and of the
+/// result, and the tables in which it looks cells up, where it does.
 #[derive(Drop)]
 pub struct Known {
     pub name: Text,
@@ -20,8 +20,8 @@ pub struct Known {
 
 /// A function that scripts call by way of a closure.
 ///
-/// Kept beside the closure: it may be called on every list of arguments of the hook's types, and what
-/// it answers there is the function's value.
+/// Kept beside the closure: it may be called on every list of arguments of the hook's types, and
+/// what it answers there is the function's value.
 #[derive(Drop)]
 pub struct Hook {
     pub known: Known,

@@ -2,8 +2,8 @@
 
 ghost use Rattle.hook_table.specs.Served.{AreTheHeaders, StandardServe, FirstGrow, LastCompletes};
 
-/// The functions that hooks answer for are the built-in header's Pure ones, and hooks that begin with one
-/// for each serve every routine with such a role.
+/// The functions that hooks answer for are the built-in header's Pure ones, and hooks that begin
+/// with one for each serve every routine with such a role.
 pub fn standard_hooks_serve()
     ensures header { AreTheHeaders }
     ensures serve { StandardServe }

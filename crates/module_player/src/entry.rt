@@ -12,7 +12,8 @@ ghost use Rattle.ncs_machine.specs.Endings.{FitsBegin};
 ghost use Rattle.ncs_machine.specs.Host.{run_from};
 ghost use Rattle.ncs_machine.specs.Stored.{KindFits};
 ghost use Rattle.module_player.specs.CodePlays.{run_of};
-ghost use Rattle.module_player.specs.Entries.{HasActed, HasEntered, IsReady, KeepsFits, run, turn_taken};
+ghost use Rattle.module_player.specs.Entries.{HasActed, HasEntered, IsReady, KeepsFits, run};
+ghost use Rattle.module_player.specs.Entries.{turn_taken};
 ghost use Rattle.module_player.specs.Scenes.{FitIn, IsSet, host_in, runner_in};
 ghost use Rattle.module_player.specs.Scenes.{scene, scripts_in, tables_in};
 

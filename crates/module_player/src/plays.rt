@@ -68,8 +68,10 @@ fn play_from<S: Sink>(
     requires taken { taken < stop }
     requires within { taken ≤ entries }
     requires done { done < 2 ^ 61 }
-    ensures played { HasPlayed (scene setting.now.scripts.now setting.now.table.now (map (λ h. h.known)
-        setting.now.hooks.now.all.items)) result (play_on (runner_in (scene setting.now.scripts.now setting.now.table.now (map (λ h. h.known)
+    ensures played { HasPlayed (scene setting.now.scripts.now setting.now.table.now
+        (map (λ h. h.known)
+        setting.now.hooks.now.all.items)) result
+        (play_on (runner_in (scene setting.now.scripts.now setting.now.table.now (map (λ h. h.known)
         setting.now.hooks.now.all.items)) limit)
         (record { entries = entries; until = until; stop = stop })
         (played_before taken done world.old.world)) S.tells (S.taken out.old) (S.taken out.new)
@@ -156,18 +158,21 @@ pub fn play_on<S: Sink>(
     ensures ending { EndsAs result.how (code_play_on (host_of scripts.now table.now
         (map (λ h. h.known) hooks.now.all.items)) limit entries until stop taken done
         world.old.world).ending }
-    ensures entries { WherePlayed result.how (result.entries ≡ (code_play_on (host_of scripts.now table.now
+    ensures entries { WherePlayed result.how (result.entries
+        ≡ (code_play_on (host_of scripts.now table.now
         (map (λ h. h.known) hooks.now.all.items)) limit entries until stop taken done
         world.old.world).last.entries) }
     ensures instructions { WherePlayed result.how (result.instructions
         ≡ (code_play_on (host_of scripts.now table.now
         (map (λ h. h.known) hooks.now.all.items)) limit entries until stop taken done
         world.old.world).last.count) }
-    ensures world { WherePlayed result.how (world.new.world ≡ (code_play_on (host_of scripts.now table.now
+    ensures world { WherePlayed result.how (world.new.world
+        ≡ (code_play_on (host_of scripts.now table.now
         (map (λ h. h.known) hooks.now.all.items)) limit entries until stop taken done
         world.old.world).last.world) }
     // The sink took the play's lines, or a prefix of them where the play was cut short.
-    ensures trace { IsTrue S.tells → TakesTrace result.how (trace_text (code_play_on (host_of scripts.now table.now
+    ensures trace { IsTrue S.tells → TakesTrace result.how
+        (trace_text (code_play_on (host_of scripts.now table.now
         (map (λ h. h.known) hooks.now.all.items)) limit entries until stop taken done
         world.old.world).last.trace)
         (S.taken out.old) (S.taken out.new) }
@@ -213,15 +218,18 @@ pub fn play<S: Sink>(
     // How the play ends, after how many entries and instructions, and in which world.
     ensures ending { EndsAs result.how (code_play (host_of scripts.now table.now
         (map (λ h. h.known) hooks.now.all.items)) limit entries until world.old.world).ending }
-    ensures entries { WherePlayed result.how (result.entries ≡ (code_play (host_of scripts.now table.now
+    ensures entries { WherePlayed result.how (result.entries
+        ≡ (code_play (host_of scripts.now table.now
         (map (λ h. h.known) hooks.now.all.items)) limit entries until world.old.world).last.entries) }
     ensures instructions { WherePlayed result.how (result.instructions
         ≡ (code_play (host_of scripts.now table.now
         (map (λ h. h.known) hooks.now.all.items)) limit entries until world.old.world).last.count) }
-    ensures world { WherePlayed result.how (world.new.world ≡ (code_play (host_of scripts.now table.now
+    ensures world { WherePlayed result.how (world.new.world
+        ≡ (code_play (host_of scripts.now table.now
         (map (λ h. h.known) hooks.now.all.items)) limit entries until world.old.world).last.world) }
     // The sink took the play's lines, or a prefix of them where the play was cut short.
-    ensures trace { IsTrue S.tells → TakesTrace result.how (trace_text (code_play (host_of scripts.now table.now
+    ensures trace { IsTrue S.tells → TakesTrace result.how
+        (trace_text (code_play (host_of scripts.now table.now
         (map (λ h. h.known) hooks.now.all.items)) limit entries until world.old.world).last.trace)
         (S.taken out.old) (S.taken out.new) }
     ensures faults { CountsPlay result.how (S.faults out.old) (S.faults out.new) }

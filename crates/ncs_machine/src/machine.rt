@@ -135,7 +135,8 @@ impl Machine {
         self.running.own()
     }
 
-    /// The arguments of a call of the routine, which has this number, by an instruction of this size.
+    /// The arguments of a call of the routine, which has this number, by an instruction of this
+    /// size.
     pub(crate) fn take(
         &mut self,
         alloc: Global,

@@ -2,7 +2,8 @@
 
 ghost use Rattle.std.specs.Prelude.{◌≡◌, ◌+◌, ◌*◌, ◌<◌, ◌≤◌, ◌^◌, ◌∷◌, ◌++◌, [], List, ℕ, length};
 ghost use Rattle.std.specs.Prelude.{true, IfOk, IfSome, MatchOption};
-ghost use Rattle.ncs_text.specs.Arguments.{AreArguments, AreFields, IsArgument, IsString, argument_bytes};
+ghost use Rattle.ncs_text.specs.Arguments.{AreArguments, AreFields, IsArgument, IsString};
+ghost use Rattle.ncs_text.specs.Arguments.{argument_bytes};
 ghost use Rattle.ncs_text.specs.Assembly.{Writes};
 ghost use Rattle.ncs_text.specs.Steps.{Appends, IsRow, Puts, PutsOrStops, PutsSome, SpelledWhole};
 

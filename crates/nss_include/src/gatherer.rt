@@ -8,7 +8,8 @@ ghost use Rattle.nss_include.specs.declared.step.Step.TheVariants as step;
 ghost use Rattle.nss_include.specs.Names.{file_name};
 ghost use Rattle.nss_include.specs.Units.{Lookup, IsUnit, HaveDistinctNames};
 ghost use Rattle.nss_include.specs.Gather.{CountsGathered, HoldsFiles, Claims, HasScript, Gathers};
-ghost use Rattle.nss_include.specs.Progress.{Opens, Opened, Extends, IsReadFault, ExplainsRead, IsOwnFault, Begins, ComesTo};
+ghost use Rattle.nss_include.specs.Progress.{Opens, Opened, Extends, IsReadFault, ExplainsRead};
+ghost use Rattle.nss_include.specs.Progress.{IsOwnFault, Begins, ComesTo};
 
 use crate::fault::GatherFault;
 use crate::opened::{Open, OpenFiles};
@@ -79,7 +80,18 @@ pub struct Gatherer {
 }
 
 impl Gatherer {
-    ghost use Rattle.nss_include.specs.Progress.{HasStep, Stops, Ends, Leads, Explains, IsReady, reopened, steps_left, passed, Includes};
+    ghost use Rattle.nss_include.specs.Progress.{
+      HasStep,
+      Stops,
+      Ends,
+      Leads,
+      Explains,
+      IsReady,
+      reopened,
+      steps_left,
+      passed,
+      Includes,
+    };
 
     /// Goes on behind a token.
     fn give(&mut self, alloc: Global, here: Open, span: Span) -> Result<(), GatherFault>

@@ -1,4 +1,5 @@
-ghost use Rattle.std.specs.Prelude.{◌≡◌, ◌<◌, ◌^◌, length, slice_get, slice_index_or, Some, IfOk, []};
+ghost use Rattle.std.specs.Prelude.{◌≡◌, ◌<◌, ◌^◌, length, slice_get, slice_index_or, Some, IfOk};
+ghost use Rattle.std.specs.Prelude.{[]};
 ghost use Rattle.nss_typing.specs.UnitReading.{typed_unit};
 ghost use Rattle.code_emission.specs.Layout.{cell_types, cells, layout_of, position};
 

@@ -28,8 +28,8 @@ pub fn one_value()
     ensures { (text bytes : List ℕ) → StandsFor text bytes → bytes ≡ string_value text }
 {}
 
-/// Tokens that were computed by reading from the left are the tokens of the file, so that a proof can
-/// find those of a given text.
+/// Tokens that were computed by reading from the left are the tokens of the file, so that a proof
+/// can find those of a given text.
 pub fn computed_tokens()
     ensures tokens { ComputedAreTokens }
 {}

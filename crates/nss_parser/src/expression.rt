@@ -139,7 +139,8 @@ fn after_name(
 #[cycle(level)]
 #[tactic(auto, unfolding(crate::specs::ReadExpression::primary))]
 fn primary(alloc: Global, tokens: &mut Cursor<'_>, depth: usize) -> Result<Expr, Stop>
-    ensures { Reads plain_expr (read.primary depth (read.level depth) tokens.old) result tokens.new }
+    ensures { Reads plain_expr (read.primary depth (read.level depth) tokens.old) result
+        tokens.new }
 {
     match tokens.peek() {
         Some(Seen::Int(value)) => {

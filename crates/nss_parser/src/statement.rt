@@ -366,7 +366,8 @@ fn for_part(
     depth: usize,
     end: Terminal,
 ) -> Result<Option<Expr>, Stop>
-    ensures { Reads (option_map plain_expr) (parts.for_part depth end tokens.old) result tokens.new }
+    ensures { Reads (option_map plain_expr) (parts.for_part depth end tokens.old) result
+        tokens.new }
 {
     let value = optional(alloc, tokens, depth, end)?;
     match tokens.expect(end) {

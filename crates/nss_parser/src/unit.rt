@@ -50,7 +50,8 @@ fn field(alloc: Global, tokens: &mut Cursor<'_>, depth: usize) -> Result<FieldLi
 
 /// The lines of a struct through its `}`, of which there is one at least.
 fn fields(alloc: Global, tokens: &mut Cursor<'_>, depth: usize) -> Result<Items<FieldLine>, Stop>
-    ensures { Reads (λ lines. lines) (read.fields_from depth depth [] tokens.old) result tokens.new }
+    ensures { Reads (λ lines. lines) (read.fields_from depth depth [] tokens.old) result
+        tokens.new }
 {
     let mut lines = Items::new(alloc);
     for _turn in 0..depth {

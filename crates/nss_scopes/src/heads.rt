@@ -1,6 +1,7 @@
 //! The declarations of functions.
 
-ghost use Rattle.std.specs.Prelude.{◌≡◌, ◌++◌, ◌∷◌, [], None, Some, if◌then◌else◌, IfOk, OnErr, OnOk};
+ghost use Rattle.std.specs.Prelude.{◌≡◌, ◌++◌, ◌∷◌, [], None, Some, if◌then◌else◌, IfOk, OnErr};
+ghost use Rattle.std.specs.Prelude.{OnOk};
 ghost use Rattle.std.specs.Option.{option_map};
 ghost use Rattle.nss_typing.specs.Sight.{body_number, find_head, has_body, has_head};
 ghost use Rattle.nss_scopes.specs.Entries.{head_of, signature_of, AreHeads};

@@ -136,7 +136,8 @@ impl Expr {
         operator: PrefixOperator,
         of: Expr,
     ) -> Result<Expr, NoMemory>
-        ensures made { IfOk result (λ e. plain_expr e ≡ tree.prefix token operator (plain_expr of)) }
+        ensures made { IfOk result (λ e. plain_expr e
+            ≡ tree.prefix token operator (plain_expr of)) }
     {
         Ok(Expr::Prefix {
             token,

@@ -1,6 +1,8 @@
 //! Laws about the definitions, each the contract of a function that does nothing.
 
-ghost use Rattle.nss_typing.specs.Laws.{FaultlessIsTyped, FaultsAreListed, LeastIsKept, NoneKeptIsTyped, OneToken, OneTyped, SomeAnswer, TypedIsFaultless, VerdictsAreRight};
+ghost use Rattle.nss_typing.specs.Laws.{FaultlessIsTyped, FaultsAreListed, LeastIsKept};
+ghost use Rattle.nss_typing.specs.Laws.{NoneKeptIsTyped, OneToken, OneTyped, SomeAnswer};
+ghost use Rattle.nss_typing.specs.Laws.{TypedIsFaultless, VerdictsAreRight};
 ghost use Rattle.nss_typing.specs.Numbers.{NumberedInOrder};
 ghost use Rattle.nss_typing.specs.Scopes.{NamesStandFirst, ParametersOnlyAdd, StatementsOnlyAdd};
 

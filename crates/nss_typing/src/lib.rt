@@ -6,10 +6,10 @@
 //!
 //! `specs/Typed.antt` is the typed tree: the tree of `nss_tree` with a type at each expression, a
 //! place at each name, a callee and the filled defaults at each call, and numbered variables.
-//! `specs/Sight.antt` says what is in sight where a node stands, `specs/Rules.antt` the rule of each
-//! node and the kinds of fault that it may have, `specs/Meaning.antt` which typed tree a unit has
-//! and which of its nodes are at fault. `specs/Verdicts.antt` says the same as functions over the
-//! tree; that they agree is among the laws of [`laws`]. The page on it is docs/TYPES.md.
+//! `specs/Sight.antt` says what is in sight where a node stands, `specs/Rules.antt` the rule of
+//! each node and the kinds of fault that it may have, `specs/Meaning.antt` which typed tree a unit
+//! has and which of its nodes are at fault. `specs/Verdicts.antt` says the same as functions over
+//! the tree; that they agree is among the laws of [`laws`]. The page on it is docs/TYPES.md.
 #![tactic(auto)]
 
 pub mod expressions;

@@ -5,7 +5,8 @@ ghost use Rattle.stack_check.specs.Checked.{kept_table};
 ghost use Rattle.nwq_work.specs.Work.{Does, CutsShort};
 ghost use Rattle.nwq_work.specs.Counts.{Counted, Tallies, Refusing, StopsCode};
 ghost use Rattle.nwq_checks.specs.Checks.{checked_in, checked_named, plain_answer};
-ghost use Rattle.nwq_checks.specs.Checks.{passed_line, puts_passed, checks_under, checks, StopsCheck};
+ghost use Rattle.nwq_checks.specs.Checks.{passed_line, puts_passed, checks_under, checks};
+ghost use Rattle.nwq_checks.specs.Checks.{StopsCheck};
 
 use ncs_file::Code;
 use nwq_files::read_code;

@@ -7,7 +7,8 @@ ghost use Rattle.nwq_work.specs.Work.{Does, CutsShort};
 ghost use Rattle.nwq_work.specs.Counts.{Counted, Tallies, KeepsBut, StopsArea, StopsCode};
 ghost use Rattle.nwq_files.specs.Texts.{done_line};
 ghost use Rattle.nwq_files.specs.Commands.{puts_tree, shows_tree, writes_and_puts};
-ghost use Rattle.nwq_files.specs.Commands.{writes_listing, disassembles, writes_assembly, assembles};
+ghost use Rattle.nwq_files.specs.Commands.{writes_listing, disassembles, writes_assembly};
+ghost use Rattle.nwq_files.specs.Commands.{assembles};
 
 use crate::assembly::read_assembly;
 use crate::code::read_code;

@@ -2,10 +2,10 @@
 //! another.
 //!
 //! A program without tables makes a boxed closure for each number from 0 to 9, whose body is
-//! [`call_function`], and puts it by [`put_hook`]. After the tenth the hooks serve every routine that
-//! asks for one, which [`all_are_put`] says, and every cell is empty. A program with tables puts the
-//! tenth by [`put_cell_hook`]. What the functions give is defined in `engine_rows`, and what hooks
-//! promise in `hook_table`. See docs/ENGINE.md.
+//! [`call_function`], and puts it by [`put_hook`]. After the tenth the hooks serve every routine
+//! that asks for one, which [`all_are_put`] says, and every cell is empty. A program with tables
+//! puts the tenth by [`put_cell_hook`]. What the functions give is defined in `engine_rows`, and
+//! what hooks promise in `hook_table`. See docs/ENGINE.md.
 #![tactic(auto)]
 
 ghost use Rattle.std.specs.Prelude.{◌≡◌, ◌≤◌, ◌+◌, [], map, IfOk, Ok, OnOk};
@@ -19,8 +19,8 @@ use nwq_value::{Args, NoMemory, Text, Ty, Tys, Value};
 use std::alloc::Global;
 use table_2da::Tables;
 
-/// What the function of a number gives for these arguments where there are no tables. The closure of
-/// a hook calls this.
+/// What the function of a number gives for these arguments where there are no tables. The closure
+/// of a hook calls this.
 pub fn call_function(alloc: Global, n: u8, args: &Args) -> Result<Value, NoMemory>
     requires number { n ≤ 9 }
     ensures answer { IfOk result (λ v. IsAnswer [] (function_numbered n).name

@@ -1,6 +1,7 @@
 ghost use Rattle.std.specs.Prelude.{◌≡◌, ℕ, Bool, List, IsTrue};
 ghost use Rattle.std.specs.FinMap as map;
-ghost use Rattle.nwq_outside.specs.Outside.{Contents, CountsRead, CountsDone, file_counts, ReadsContent, IsFileSize, KeepsOthers, Leaves, Takes};
+ghost use Rattle.nwq_outside.specs.Outside.{Contents, CountsRead, CountsDone, file_counts};
+ghost use Rattle.nwq_outside.specs.Outside.{ReadsContent, IsFileSize, KeepsOthers, Leaves, Takes};
 
 use crate::answer::{Done, Read};
 use std::alloc::Global;

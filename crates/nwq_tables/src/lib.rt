@@ -1,5 +1,5 @@
-//! The tables that a command is given: a file lists their names, and each is read from a file of its
-//! own.
+//! The tables that a command is given: a file lists their names, and each is read from a file of
+//! its own.
 //!
 //! [`read_tables`] is the first work of a command whose words end in such a list
 //! (`specs/Tables.antt`). The list is tested whole (`specs/Lists.antt`) before the first table is

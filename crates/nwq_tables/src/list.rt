@@ -4,7 +4,8 @@ ghost use Rattle.table_2da.specs.Look.{same_name};
 ghost use Rattle.nwq_outside.specs.Outside.{Contents};
 ghost use Rattle.nwq_work.specs.Work.{Does};
 ghost use Rattle.nwq_work.specs.Counts.{Counted, Tallies, Refusing, StopsArea};
-ghost use Rattle.nwq_tables.specs.Lists.{may_follow, AreNames, HasNames, IsFaulty, names_in, names_listed};
+ghost use Rattle.nwq_tables.specs.Lists.{may_follow, AreNames, HasNames, IsFaulty, names_in};
+ghost use Rattle.nwq_tables.specs.Lists.{names_listed};
 
 use nwq_outside::{Files, Sink};
 use nwq_value::{Items, NoMemory, Text};

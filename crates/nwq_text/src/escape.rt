@@ -1,8 +1,11 @@
-ghost use Rattle.std.specs.Prelude.{◌≡◌, ◌++◌, ◌<◌, ◌≤◌, ◌∷◌, [], List, ℕ, length, take, true, false, MatchOption, ◌≢◌, OnOk, OnErr, IfOk};
+ghost use Rattle.std.specs.Prelude.{◌≡◌, ◌++◌, ◌<◌, ◌≤◌, ◌∷◌, [], List, ℕ, length, take, true};
+ghost use Rattle.std.specs.Prelude.{false, MatchOption, ◌≢◌, OnOk, OnErr, IfOk};
 ghost use Rattle.std.specs.List.{flat_map};
 ghost use Rattle.std.specs.Option.{option_map};
-ghost use Rattle.nwq_text.specs.Escape.{spelling, hex_digit, hex_spelling, escaped, quoted, ReadsText, ReadsQuoted, EscapesApart};
-ghost use Rattle.nwq_text.specs.Unescape.{hex_value, after_x, after_backslash, front_spelled, Unescapes, KeepsAll};
+ghost use Rattle.nwq_text.specs.Escape.{spelling, hex_digit, hex_spelling, escaped, quoted};
+ghost use Rattle.nwq_text.specs.Escape.{ReadsText, ReadsQuoted, EscapesApart};
+ghost use Rattle.nwq_text.specs.Unescape.{hex_value, after_x, after_backslash, front_spelled};
+ghost use Rattle.nwq_text.specs.Unescape.{Unescapes, KeepsAll};
 
 use nwq_value::text::TEXT_BYTES;
 use nwq_value::{NoMemory, Text};
@@ -48,9 +51,11 @@ pub fn read_text(alloc: Global, text: &[u8]) -> Result<Option<Text>, NoMemory>
 }
 
 #[tactic(auto, using(crate::proofs::EscapeLemmas::quoted_is_read, crate::proofs::EscapeLemmas::no_quoted))]
-/// The bytes, however many, whose quoted text this is, and `None` exactly where it is the quoted text of none.
+/// The bytes, however many, whose quoted text this is, and `None` exactly where it is the quoted
+/// text of none.
 pub fn read_quoted(alloc: Global, text: &[u8]) -> Result<Option<Vec<u8>>, NoMemory>
-    ensures reads { IfOk result (λ read. ReadsQuoted text.now (option_map (λ bytes. bytes.items) read)) }
+    ensures reads { IfOk result (λ read. ReadsQuoted text.now
+        (option_map (λ bytes. bytes.items) read)) }
 {
     match between_quotes(text) {
         Some(inner) => unescaped(alloc, true, inner),
@@ -77,7 +82,8 @@ fn text_of(alloc: Global, bytes: &[u8]) -> Result<Option<Text>, NoMemory>
 #[tactic(auto, using(crate::proofs::EscapeLemmas::shorter_rest, crate::proofs::EscapeLemmas::one_more_read, crate::proofs::EscapeLemmas::unspelled_is_none, crate::proofs::EscapeLemmas::whole_is_read))]
 /// The bytes whose spellings in a row this text is.
 fn unescaped(alloc: Global, in_quotes: bool, text: &[u8]) -> Result<Option<Vec<u8>>, NoMemory>
-    ensures { IfOk result (λ read. Unescapes in_quotes text.now (option_map (λ bytes. bytes.items) read)) }
+    ensures { IfOk result (λ read. Unescapes in_quotes text.now
+        (option_map (λ bytes. bytes.items) read)) }
 {
     let mut bytes = Vec::new(alloc);
     let mut rest = text;
@@ -94,7 +100,8 @@ fn unescaped(alloc: Global, in_quotes: bool, text: &[u8]) -> Result<Option<Vec<u
 #[tactic(auto, using(crate::proofs::EscapeLemmas::one_more, crate::proofs::TakenBack::taken_back))]
 /// Appends the spellings of these bytes. A prefix of them may stand there after `NoMemory`.
 fn put_spellings(out: &mut Vec<u8>, in_quotes: bool, text: &[u8]) -> Result<(), NoMemory>
-    ensures ok { OnOk result (out.new.items ≡ out.old.items ++ flat_map (spelling in_quotes) text.now) }
+    ensures ok { OnOk result (out.new.items ≡ out.old.items
+        ++ flat_map (spelling in_quotes) text.now) }
     ensures err { OnErr result (take (length out.old.items) out.new.items ≡ out.old.items) }
 {
     for byte in text {
@@ -106,7 +113,8 @@ fn put_spellings(out: &mut Vec<u8>, in_quotes: bool, text: &[u8]) -> Result<(), 
 #[tactic(auto, using(crate::proofs::EscapeLemmas::between, crate::proofs::TakenBack::taken_back, crate::proofs::TakenBack::taken_back_after))]
 /// The same between quotes.
 fn put_between_quotes(out: &mut Vec<u8>, text: &[u8]) -> Result<(), NoMemory>
-    ensures ok { OnOk result (out.new.items ≡ out.old.items ++ (34 ∷ flat_map (spelling true) text.now ++ 34 ∷ [])) }
+    ensures ok { OnOk result (out.new.items ≡ out.old.items
+        ++ (34 ∷ flat_map (spelling true) text.now ++ 34 ∷ [])) }
     ensures err { OnErr result (take (length out.old.items) out.new.items ≡ out.old.items) }
 {
     out.push(b'"')?;
@@ -160,7 +168,8 @@ fn hex_digit_of(value: u8) -> u8
 
 /// What stands between the quotes with which the text begins and ends.
 fn between_quotes(text: &[u8]) -> Option<&[u8]>
-    ensures { MatchOption result ((inner : List ℕ) → text.now ≢ 34 ∷ inner ++ 34 ∷ []) (λ inner. text.now ≡ 34 ∷ inner.now ++ 34 ∷ []) }
+    ensures { MatchOption result ((inner : List ℕ) → text.now ≢ 34 ∷ inner ++ 34 ∷ [])
+        (λ inner. text.now ≡ 34 ∷ inner.now ++ 34 ∷ []) }
 {
     let (first, rest) = text.split_first()?;
     let (last, inner) = rest.split_last()?;
@@ -174,7 +183,8 @@ fn between_quotes(text: &[u8]) -> Option<&[u8]>
 /// The byte that is spelled at the front, and what follows it.
 #[tactic(auto, unfolding(crate::specs::Unescape::front_spelled))]
 fn front_of(in_quotes: bool, text: &[u8]) -> Option<(u8, &[u8])>
-    ensures { option_map (λ front. (front.0, front.1.now)) result ≡ front_spelled in_quotes text.now }
+    ensures { option_map (λ front. (front.0, front.1.now)) result
+        ≡ front_spelled in_quotes text.now }
 {
     let (first, rest) = text.split_first()?;
     match first {
@@ -185,7 +195,8 @@ fn front_of(in_quotes: bool, text: &[u8]) -> Option<(u8, &[u8])>
 }
 
 fn behind_backslash(in_quotes: bool, text: &[u8]) -> Option<(u8, &[u8])>
-    ensures { option_map (λ front. (front.0, front.1.now)) result ≡ after_backslash in_quotes text.now }
+    ensures { option_map (λ front. (front.0, front.1.now)) result
+        ≡ after_backslash in_quotes text.now }
 {
     let (first, rest) = text.split_first()?;
     match first {

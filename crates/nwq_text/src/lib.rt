@@ -1,9 +1,10 @@
-//! The texts that are printed and read: decimal numbers, escaped and quoted text, values, and line numbers.
+//! The texts that are printed and read: decimal numbers, escaped and quoted text, values, and line
+//! numbers.
 //!
-//! Each call that puts text appends exactly the text that `specs/` defines, and after `NoMemory` has
-//! appended nothing. `read_text` and `read_quoted` are the inverses of `put_text` and `put_quoted`: each
-//! list of bytes has one such text, and whatever else there is is refused. The rules are told in
-//! docs/TEXTS.md.
+//! Each call that puts text appends exactly the text that `specs/` defines, and after `NoMemory`
+//! has appended nothing. `read_text` and `read_quoted` are the inverses of `put_text` and
+//! `put_quoted`: each list of bytes has one such text, and whatever else there is is refused. The
+//! rules are told in docs/TEXTS.md.
 #![tactic(auto)]
 
 pub mod escape;

@@ -1,7 +1,8 @@
 ghost use Rattle.std.specs.Prelude.{◌≡◌, ◌≤◌, length};
 ghost use Rattle.nwq_text.specs.Line.{line_number};
 
-/// The number of the line in which the place `at` stands, counted from 1. A line ends with a newline.
+/// The number of the line in which the place `at` stands, counted from 1. A line ends with a
+/// newline.
 #[tactic(auto, unfolding(crate::specs::Line::line_number))]
 pub fn line_of(bytes: &[u8], at: u32) -> u32
     requires size { length bytes.now ≤ 16_777_216 }

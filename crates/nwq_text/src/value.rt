@@ -1,7 +1,8 @@
 ghost use Rattle.std.specs.Prelude.{◌≡◌, ◌∷◌, ◌++◌, length, take, OnOk, OnErr};
 ghost use Rattle.std.specs.List.{flat_map};
 ghost use Rattle.std.specs.Fmt.{signed_decimal};
-ghost use Rattle.nwq_text.specs.Values.{comma_parted, object_text, effect_text, event_text, value_text, arguments_text};
+ghost use Rattle.nwq_text.specs.Values.{comma_parted, object_text, effect_text, event_text};
+ghost use Rattle.nwq_text.specs.Values.{value_text, arguments_text};
 
 use crate::escape::put_quoted;
 use crate::number::{put_count, put_number};
@@ -110,7 +111,8 @@ fn put_effect_parts(out: &mut Vec<u8>, effect: &Effect) -> Result<(), NoMemory>
 
 #[tactic(auto, using(crate::proofs::TakenBack::taken_back, crate::proofs::TakenBack::taken_back_after))]
 fn put_ints(out: &mut Vec<u8>, ints: &[i32]) -> Result<(), NoMemory>
-    ensures ok { OnOk result (out.new.items ≡ out.old.items ++ comma_parted signed_decimal ints.now) }
+    ensures ok { OnOk result (out.new.items ≡ out.old.items
+        ++ comma_parted signed_decimal ints.now) }
     ensures err { OnErr result (take (length out.old.items) out.new.items ≡ out.old.items) }
 {
     let Some((first, rest)) = ints.split_first() else {
@@ -122,7 +124,8 @@ fn put_ints(out: &mut Vec<u8>, ints: &[i32]) -> Result<(), NoMemory>
 
 #[tactic(auto, using(crate::proofs::ValueLemmas::one_more_parted, crate::proofs::TakenBack::taken_back, crate::proofs::TakenBack::taken_back_after))]
 fn put_further_ints(out: &mut Vec<u8>, ints: &[i32]) -> Result<(), NoMemory>
-    ensures ok { OnOk result (out.new.items ≡ out.old.items ++ flat_map (λ n. 44 ∷ signed_decimal n) ints.now) }
+    ensures ok { OnOk result (out.new.items ≡ out.old.items
+        ++ flat_map (λ n. 44 ∷ signed_decimal n) ints.now) }
     ensures err { OnErr result (take (length out.old.items) out.new.items ≡ out.old.items) }
 {
     for n in ints {
@@ -146,7 +149,8 @@ fn put_values(out: &mut Vec<u8>, values: &[Value]) -> Result<(), NoMemory>
 
 #[tactic(auto, using(crate::proofs::ValueLemmas::one_more_parted, crate::proofs::TakenBack::taken_back, crate::proofs::TakenBack::taken_back_after))]
 fn put_further_values(out: &mut Vec<u8>, values: &[Value]) -> Result<(), NoMemory>
-    ensures ok { OnOk result (out.new.items ≡ out.old.items ++ flat_map (λ value. 44 ∷ value_text value) values.now) }
+    ensures ok { OnOk result (out.new.items ≡ out.old.items
+        ++ flat_map (λ value. 44 ∷ value_text value) values.now) }
     ensures err { OnErr result (take (length out.old.items) out.new.items ≡ out.old.items) }
 {
     for value in values {

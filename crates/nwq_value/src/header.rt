@@ -62,8 +62,8 @@ pub fn built_in_is_the_header()
 {}
 
 /// What a role tells: `Built` and `Pure` come from the header's row of that number alone, with its
-/// name and its types, and each row gives its role; a world function has only values that a call can
-/// pass and give, an uncallable one has not.
+/// name and its types, and each row gives its role; a world function has only values that a call
+/// can pass and give, an uncallable one has not.
 pub fn roles_tell()
     ensures built { BuiltAsHeader }
     ensures hooks { PureAsHeader }

@@ -1,6 +1,7 @@
 ghost use Rattle.std.specs.Prelude.{◌≡◌, map};
 ghost use Rattle.std.specs.List.{list_any};
-ghost use Rattle.nwq_value.specs.Roles.{engine_role, has_signature, header_signatures, is_barred_type};
+ghost use Rattle.nwq_value.specs.Roles.{engine_role, has_signature, header_signatures};
+ghost use Rattle.nwq_value.specs.Roles.{is_barred_type};
 ghost use Rattle.nwq_value.specs.Roles.{role_of_row, role_without_row, ty_eq, tys_eq, types_of};
 ghost use Rattle.nwq_value.specs.Rows.{row_signature};
 

@@ -1,7 +1,8 @@
 ghost use Rattle.std.specs.Prelude.{◌≡◌, ◌<◌, ◌≤◌, ◌∷◌, [], ◌++◌, None, Some, length, slice_get};
 ghost use Rattle.std.specs.Prelude.{IfSome, OnOk, OnErr};
 ghost use Rattle.std.specs.Option.{option_copied};
-ghost use Rattle.nwq_value.specs.Engine.{routine_named, constant_named, AreParams, IsConstant, IsNoStruct};
+ghost use Rattle.nwq_value.specs.Engine.{routine_named, constant_named, AreParams, IsConstant};
+ghost use Rattle.nwq_value.specs.Engine.{IsNoStruct};
 ghost use Rattle.nwq_value.specs.Engine.{IsRoutine, IsTable, ConstantIsOfName, NoConstantNoName};
 ghost use Rattle.nwq_value.specs.Engine.{NoNumberNoName, NumberIsOfName};
 ghost use Rattle.nwq_value.specs.Limits.{parameter_limit, routine_limit};
@@ -17,8 +18,8 @@ use std::marker::Model;
 /// The routines and the named constants of a header.
 ///
 /// Every table keeps this: no two of its names are equal, there are at most 65,535 routines, and
-/// each routine has at most 255 parameters, mentions no struct type, has defaults of its parameters'
-/// types and the role that its name and types give it.
+/// each routine has at most 255 parameters, mentions no struct type, has defaults of its
+/// parameters' types and the role that its name and types give it.
 #[derive(Drop)]
 pub struct Table {
     alloc: Global,

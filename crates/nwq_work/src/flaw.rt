@@ -1,7 +1,8 @@
 //! What is wrong with a file that is no source text.
 
 ghost use Rattle.std.specs.Prelude.{◌≡◌, ◌++◌, OnOk};
-ghost use Rattle.nwq_work.specs.Flaws.{code_flaw_text, area_flaw_text, part_word, range_text, shape_text};
+ghost use Rattle.nwq_work.specs.Flaws.{code_flaw_text, area_flaw_text, part_word, range_text};
+ghost use Rattle.nwq_work.specs.Flaws.{shape_text};
 
 use crate::text::{put_ascii, put_numbered, put_placed};
 use gff_bytes::Part;

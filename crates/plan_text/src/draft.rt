@@ -1,7 +1,8 @@
 ghost use Rattle.std.specs.Prelude.{◌≡◌, ◌<◌, OnOk, OnErr, IfOk, MatchBool};
 ghost use Rattle.plan_text.specs.declared.draft.Draft.{Draft as ThisDraft};
 ghost use Rattle.plan_text.specs.declared.words.Word.TheVariants as word;
-ghost use Rattle.plan_text.specs.Plans.{ReadsBehind, Reads, Plans, Lists, Adds, one_more, is_listed, nothing, plan_of};
+ghost use Rattle.plan_text.specs.Plans.{ReadsBehind, Reads, Plans, Lists, Adds, one_more};
+ghost use Rattle.plan_text.specs.Plans.{is_listed, nothing, plan_of};
 ghost use Rattle.plan_text.specs.Steps.{Took, IsWorded};
 
 use crate::fields::{cut, names_script, number_in};
@@ -35,7 +36,8 @@ pub struct Draft {
 
 /// Adds the number of the digits, or answers that it can't be added.
 fn add_number(random: &mut Randoms, digits: &[u8]) -> Result<bool, NoMemory>
-    ensures { IfOk result (λ took. Took (λ after. one_more random.old digits.now ≡ Some after) took random.new) }
+    ensures { IfOk result (λ took. Took (λ after. one_more random.old digits.now ≡ Some after) took
+        random.new) }
 {
     match number_in(digits, 0, LAST_TIME) {
         Some(number) if random.len() < MOST_RANDOMS => {
@@ -155,7 +157,8 @@ impl Draft {
     }
 
     fn take_random(&mut self, rest: &[u8]) -> Result<bool, NoMemory>
-        ensures { IfOk result (λ took. Took (ReadsBehind word.Random self.old rest.now) took self.new) }
+        ensures { IfOk result (λ took. Took (ReadsBehind word.Random self.old rest.now) took
+            self.new) }
     {
         add_numbers(&mut self.random, rest)
     }
@@ -186,7 +189,8 @@ impl Draft {
     }
 
     fn take_event(&mut self, alloc: Global, rest: &[u8]) -> Result<bool, NoMemory>
-        ensures { IfOk result (λ took. Took (ReadsBehind word.Event self.old rest.now) took self.new) }
+        ensures { IfOk result (λ took. Took (ReadsBehind word.Event self.old rest.now) took
+            self.new) }
     {
         match event_of(alloc, rest)? {
             None => Ok(false),
@@ -195,7 +199,8 @@ impl Draft {
     }
 
     fn take_start(&mut self, alloc: Global, rest: &[u8]) -> Result<bool, NoMemory>
-        ensures { IfOk result (λ took. Took (ReadsBehind word.Start self.old rest.now) took self.new) }
+        ensures { IfOk result (λ took. Took (ReadsBehind word.Start self.old rest.now) took
+            self.new) }
     {
         match start_of(alloc, rest)? {
             None => Ok(false),

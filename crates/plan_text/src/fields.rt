@@ -1,7 +1,8 @@
 ghost use Rattle.std.specs.Prelude.{◌≡◌, ◌≤◌, IfSome};
 ghost use Rattle.std.specs.List.{list_all};
 ghost use Rattle.std.specs.Option.{option_map};
-ghost use Rattle.plan_text.specs.Fields.{cut_at, number_between, is_script_byte, is_script_name, is_spaceless, is_label};
+ghost use Rattle.plan_text.specs.Fields.{cut_at, number_between, is_script_byte, is_script_name};
+ghost use Rattle.plan_text.specs.Fields.{is_spaceless, is_label};
 
 use nwq_text::read_number;
 

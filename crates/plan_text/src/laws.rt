@@ -16,7 +16,8 @@ pub fn one_plan()
     escapes_apart();
 }
 
-/// Every plan of a text keeps its limits, its scripts have distinct names, and each line is one that can be written.
+/// Every plan of a text keeps its limits, its scripts have distinct names, and each line is one
+/// that can be written.
 pub fn plans_keep()
     ensures keep { PlansKeep }
 {}

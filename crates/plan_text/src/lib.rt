@@ -1,8 +1,9 @@
 //! Plans: texts that list limits, random numbers, scripts, and the events and starts of a play.
 //!
-//! [`read_plan`] reads a plan, or answers the number of the first line that has no reading. What lines say
-//! and what a text of lines gives stands in `specs/Plans.antt`. Other texts of lines are read by
-//! [`next_line`], and names like those of scripts told by [`names_script`]. See docs/PLAN.md.
+//! [`read_plan`] reads a plan, or answers the number of the first line that has no reading. What
+//! lines say and what a text of lines gives stands in `specs/Plans.antt`. Other texts of lines are
+//! read by [`next_line`], and names like those of scripts told by [`names_script`]. See
+//! docs/PLAN.md.
 #![tactic(auto)]
 
 mod draft;

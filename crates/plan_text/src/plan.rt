@@ -12,8 +12,8 @@ pub struct Script {
 /// Something that is due at a time, in milliseconds.
 #[derive(Drop)]
 pub enum Line {
-    /// An event of an object: the script in its field of this label. The object is the `nth` of those with the
-    /// tag, counted from 0.
+    /// An event of an object: the script in its field of this label. The object is the `nth` of
+    /// those with the tag, counted from 0.
     Event {
         due: u64,
         nth: u32,

@@ -111,7 +111,8 @@ fn free_start_of(alloc: Global, rest: &[u8]) -> Result<Option<Line>, NoMemory>
 
 /// The start of a line behind its word.
 pub fn start_of(alloc: Global, rest: &[u8]) -> Result<Option<Line>, NoMemory>
-    ensures { IfOk result (λ read. Found (λ line. IsStart rest.now line ⊎ IsFreeStart rest.now line) read) }
+    ensures { IfOk result (λ read. Found (λ line. IsStart rest.now line ⊎ IsFreeStart rest.now line)
+        read) }
 {
     match free_start_of(alloc, rest)? {
         Some(line) => Ok(Some(line)),

@@ -1,5 +1,6 @@
 ghost use Rattle.std.specs.Prelude.{◌≡◌, ◌≤◌, IfOk};
-ghost use Rattle.play_generator.specs.Made.{number_limit, creatures_of, rounds_of, source_text, plan_text, play_of};
+ghost use Rattle.play_generator.specs.Made.{number_limit, creatures_of, rounds_of, source_text};
+ghost use Rattle.play_generator.specs.Made.{plan_text, play_of};
 
 use crate::plan::put_plan;
 use crate::source::put_source;

@@ -66,7 +66,8 @@ fn creature_of(alloc: Global, number: u32) -> Result<Node, NoMemory>
 }
 
 fn push_creature(alloc: Global, number: u32, creatures: &mut Vec<Node>) -> Result<(), NoMemory>
-    ensures { OnOk result (map plain_node creatures.new.items ≡ map plain_node creatures.old.items ++ creature_node number ∷ []) }
+    ensures { OnOk result (map plain_node creatures.new.items ≡ map plain_node creatures.old.items
+        ++ creature_node number ∷ []) }
 {
     let creature = creature_of(alloc, number)?;
     creatures.push(creature)?;
@@ -76,7 +77,8 @@ fn push_creature(alloc: Global, number: u32, creatures: &mut Vec<Node>) -> Resul
 /// Puts so many creatures last.
 #[tactic(auto, using(crate::proofs::AreaLemmas::one_more))]
 fn fill_creatures(alloc: Global, count: u32, creatures: &mut Vec<Node>) -> Result<(), NoMemory>
-    ensures { OnOk result (map plain_node creatures.new.items ≡ map plain_node creatures.old.items ++ map creature_node (below count)) }
+    ensures { OnOk result (map plain_node creatures.new.items ≡ map plain_node creatures.old.items
+        ++ map creature_node (below count)) }
 {
     for number in 0..count {
         push_creature(alloc, number, creatures)?;
@@ -85,7 +87,8 @@ fn fill_creatures(alloc: Global, count: u32, creatures: &mut Vec<Node>) -> Resul
 }
 
 fn all_creatures(alloc: Global, count: u32) -> Result<Vec<Node>, NoMemory>
-    ensures { IfOk result (λ creatures. map plain_node creatures.items ≡ map creature_node (below count)) }
+    ensures { IfOk result (λ creatures. map plain_node creatures.items
+        ≡ map creature_node (below count)) }
 {
     let mut creatures = Vec::new(alloc);
     match fill_creatures(alloc, count, &mut creatures) {

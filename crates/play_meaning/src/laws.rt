@@ -19,9 +19,10 @@ pub fn source_plays_end()
     entries_stay_alike();
 }
 
-/// Where no entry of a play of code is stopped by its limit, the play of the source texts ends as it
-/// does, if its entries may take as many steps. Where one is stopped, exactly so many instructions
-/// were made in it, and the lines told are a beginning of those that the play of source tells.
+/// Where no entry of a play of code is stopped by its limit, the play of the source texts ends as
+/// it does, if its entries may take as many steps. Where one is stopped, exactly so many
+/// instructions were made in it, and the lines told are a beginning of those that the play of
+/// source tells.
 pub fn code_plays_end()
     ensures end { CodePlaysEnd }
 {

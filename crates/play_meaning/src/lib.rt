@@ -5,9 +5,9 @@
 //! told once, in `play_steps`, for any way to run an entry's scripts: `specs/Together.antt` says
 //! when two such plays go together, and `specs/PlaysRun.antt` that those of code and of source do.
 //! `specs/EndTexts.antt` has the text at such a play's end, and `specs/Machines.antt` says of which
-//! setting the player's machine is, and `specs/TypedScripts.antt` that scripts of typed units are as
-//! these laws ask. The functions of this crate do nothing: each is a law, whose contract is proved of
-//! the definitions. The page on all of this is docs/MEANING.md.
+//! setting the player's machine is, and `specs/TypedScripts.antt` that scripts of typed units are
+//! as these laws ask. The functions of this crate do nothing: each is a law, whose contract is
+//! proved of the definitions. The page on all of this is docs/MEANING.md.
 #![tactic(auto)]
 
 mod laws;

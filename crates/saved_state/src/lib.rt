@@ -12,7 +12,8 @@
 //! A list of cells is kept as pieces of pages, which stacks and states share: to capture copies no
 //! cell, and who writes to a shared page copies it first. No contract speaks of pages.
 //!
-//! `docs/STATE.md` tells how code captures and resumes, what a call costs, and what this project chose.
+//! `docs/STATE.md` tells how code captures and resumes, what a call costs, and what this project
+//! chose.
 #![tactic(auto)]
 
 mod cell;

@@ -1,5 +1,6 @@
 //! Laws about the definitions, each the contract of a function that does nothing.
-ghost use Rattle.source_meaning.specs.Laws.{CapturesAreCarried, EngineCallsRun, EngineStatementsRun};
+ghost use Rattle.source_meaning.specs.Laws.{CapturesAreCarried, EngineCallsRun};
+ghost use Rattle.source_meaning.specs.Laws.{EngineStatementsRun};
 ghost use Rattle.source_meaning.specs.EngineHost.{EngineIsRun};
 ghost use Rattle.source_meaning.specs.Entries.{EntriesDo};
 ghost use Rattle.source_meaning.specs.Executing.{ScriptsExecute};
@@ -61,8 +62,8 @@ pub fn functions_stand()
     code_stands();
 }
 
-/// A machine that runs in the world's own engine has the answers of the meaning, in worlds that stay
-/// alike, where the answers have the routines' types.
+/// A machine that runs in the world's own engine has the answers of the meaning, in worlds that
+/// stay alike, where the answers have the routines' types.
 pub fn engine_is_run()
     ensures run { EngineIsRun }
 {}
@@ -85,9 +86,10 @@ pub fn resumed_run()
     equality_is_tested();
 }
 
-/// A script that `ExecuteScript` runs does what running it means, where each listed script does what
-/// its start means: it begins in its own frame, and at its end the caller goes on behind its call.
-/// So do a name that isn't listed, a target that isn't there, and a script that would run too deep.
+/// A script that `ExecuteScript` runs does what running it means, where each listed script does
+/// what its start means: it begins in its own frame, and at its end the caller goes on behind its
+/// call. So do a name that isn't listed, a target that isn't there, and a script that would run too
+/// deep.
 pub fn scripts_execute()
     ensures execute { ScriptsExecute }
 {}
@@ -101,15 +103,15 @@ pub fn listed_scripts_do()
     code_stands();
 }
 
-/// An entry's run does what the entry means: it ends where the entry does, after at least one and at
-/// most 16 instructions for each step; and where the entry wants a step more than it may take, the
-/// run has made an instruction for each step and goes on.
+/// An entry's run does what the entry means: it ends where the entry does, after at least one and
+/// at most 16 instructions for each step; and where the entry wants a step more than it may take,
+/// the run has made an instruction for each step and goes on.
 pub fn entries_do()
     ensures run { EntriesDo }
 {}
 
-/// Worlds that are alike begin entries that are alike, and stay alike through what entries do beside
-/// the scripts that they run, whatever the stored actions are.
+/// Worlds that are alike begin entries that are alike, and stay alike through what entries do
+/// beside the scripts that they run, whatever the stored actions are.
 pub fn entries_stay_alike()
     ensures alike { EntriesKeepAlike }
 {}

@@ -6,7 +6,8 @@ use nwq_value::NoMemory;
 /// Why there is no table.
 #[derive(Clone, Copy, Debug, PartialEq, Eq)]
 pub enum TableFault {
-    /// The first line that breaks a rule, counted from 1. Of the first three lines also one that is missing.
+    /// The first line that breaks a rule, counted from 1. Of the first three lines also one that is
+    /// missing.
     Line(u64),
     NoMemory,
 }

@@ -1,8 +1,8 @@
 //! Tables of 2DA files, and the look-up of a cell.
 //!
-//! [`read_table`] reads a table from a file's bytes, or answers the number of the first line that breaks
-//! a rule. [`Tables`] holds tables under their names, and [`Tables::look`] gives the cell of a column and
-//! a row, the empty text where there is none.
+//! [`read_table`] reads a table from a file's bytes, or answers the number of the first line that
+//! breaks a rule. [`Tables`] holds tables under their names, and [`Tables::look`] gives the cell of
+//! a column and a row, the empty text where there is none.
 //!
 //! `specs/Grammar.antt` says what the lines of a file say, `specs/Table.antt` what a table is, and
 //! `specs/Look.antt` which cell is meant. See docs/TABLES.md.

@@ -84,7 +84,8 @@ impl Table2 {
         Table2 { columns, rows }
     }
 
-    /// The cell in the column of this name and the row of this number; `None` stands for an empty one.
+    /// The cell in the column of this name and the row of this number; `None` stands for an empty
+    /// one.
     pub fn cell(&self, column: &[u8], row: i32) -> Option<&[u8]>
         ensures cell { unwrap_or (option_copied result) [] ≡ cell_in column.now row self.now }
     {

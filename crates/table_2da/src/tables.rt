@@ -48,7 +48,8 @@ impl Tables {
         }
     }
 
-    /// Puts a table under a name last. After `NoMemory` the pair is dropped and the tables are as before.
+    /// Puts a table under a name last. After `NoMemory` the pair is dropped and the tables are as
+    /// before.
     pub fn push(&mut self, name: Text, table: Table2) -> Result<(), NoMemory>
         requires new_name { table_named name self.old ≡ None }
         ensures ok { OnOk result
@@ -68,8 +69,8 @@ impl Tables {
         named.table.cell(column, row)
     }
 
-    /// The cell of a table's column and row, the empty text where there is no such table, column or row.
-    /// Names of tables and columns mean the same in either case.
+    /// The cell of a table's column and row, the empty text where there is no such table, column or
+    /// row. Names of tables and columns mean the same in either case.
     pub fn look(
         &self,
         alloc: Global,

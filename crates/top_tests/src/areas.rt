@@ -1,5 +1,6 @@
 //! The parts of commands that read areas and plans, and write areas.
 
+use crate::samples::{BROKEN, TREE};
 use area_tree::Area;
 use nwq_areas::{read_area, read_plan_file, write_area};
 use nwq_outside::{MemFiles, MemSink};
@@ -8,27 +9,11 @@ use nwq_work::Status;
 use std::alloc::Global;
 use std::test::Fail;
 
-/// A GFF file without an area's lists: one struct 4294967295 with a BYTE `A` of 7.
-const AREA: [u8; 96] = [
-    0x47, 0x49, 0x54, 0x20, 0x56, 0x33, 0x2e, 0x32, 56, 0, 0, 0, 1, 0, 0, 0, 68, 0, 0, 0, 1, 0, 0,
-    0, 80, 0, 0, 0, 1, 0, 0, 0, 96, 0, 0, 0, 0, 0, 0, 0, 96, 0, 0, 0, 0, 0, 0, 0, 96, 0, 0, 0, 0,
-    0, 0, 0, 0xff, 0xff, 0xff, 0xff, 0, 0, 0, 0, 1, 0, 0, 0, 0, 0, 0, 0, 0, 0, 0, 0, 7, 0, 0, 0,
-    0x41, 0, 0, 0, 0, 0, 0, 0, 0, 0, 0, 0, 0, 0, 0, 0,
-];
-
-/// The same, where the field is a BYTE `TriggerList`, which is no list of objects.
-const BROKEN: [u8; 96] = [
-    0x47, 0x49, 0x54, 0x20, 0x56, 0x33, 0x2e, 0x32, 56, 0, 0, 0, 1, 0, 0, 0, 68, 0, 0, 0, 1, 0, 0,
-    0, 80, 0, 0, 0, 1, 0, 0, 0, 96, 0, 0, 0, 0, 0, 0, 0, 96, 0, 0, 0, 0, 0, 0, 0, 96, 0, 0, 0, 0,
-    0, 0, 0, 0xff, 0xff, 0xff, 0xff, 0, 0, 0, 0, 1, 0, 0, 0, 0, 0, 0, 0, 0, 0, 0, 0, 7, 0, 0, 0,
-    0x54, 0x72, 0x69, 0x67, 0x67, 0x65, 0x72, 0x4c, 0x69, 0x73, 0x74, 0, 0, 0, 0, 0,
-];
-
 /// Files with `a`, an area, `b`, which is none, and two plans, of which `q` is none.
 fn files_of(alloc: Global) -> Result<MemFiles, NoMemory> {
     let mut files = MemFiles::new(alloc);
-    files.add("a", &AREA)?;
-    files.add("b", &BROKEN)?;
+    files.add("a", TREE)?;
+    files.add("b", BROKEN)?;
     files.add("p", b"NWQ PLAN 1\nuntil 5\n")?;
     files.add("q", b"NWQ PLAN 1\nuntil\n")?;
     Ok(files)
@@ -43,7 +28,7 @@ fn writes(alloc: Global, area: Area, files: &mut MemFiles, out: &mut MemSink) ->
 fn goes_back(alloc: Global, files: &mut MemFiles, out: &mut MemSink) -> bool {
     match read_area(alloc, "a", files, out) {
         Err(_) => false,
-        Ok(area) => writes(alloc, area, files, out) && files.get("c") == Some(AREA.as_slice()),
+        Ok(area) => writes(alloc, area, files, out) && files.get("c") == Some(TREE),
     }
 }
 

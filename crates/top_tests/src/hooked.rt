@@ -1,19 +1,84 @@
-//! The hooks are made here, once, for all tests of the top call.
+//! The hooks are made here, once, for all rows.
 
-ghost use Rattle.std.specs.Prelude.{◌≤◌, [], IfOk};
+ghost use Rattle.std.specs.Prelude.{◌≤◌, [], IfOk, map};
 ghost use Rattle.hook_table.specs.Standard.{function_numbered, IsAnswer};
+ghost use Rattle.world_core.specs.Calls.{AreServing};
 
-use crate::{commands, files, plays, programs, scripts};
-use hook_table::{Call, Hooks};
-use nwq_hooks::{all_are_put, call_function, put_hook};
+use crate::answers::first_wrong;
+use crate::{cuts, example, files, games, programs, reads, scripts, words};
+use hook_table::{Call, Hooks, cell_call};
+use nwq_hooks::{all_are_put, call_function, put_cell_hook, put_hook};
+use nwq_top::Status;
 use nwq_value::{Args, NoMemory, Value};
+use std::alloc::Global;
+use std::process::Abort;
 use std::test::Fail;
+use table_2da::Tables;
 
-#[test]
-fn top_call(rt: HostRuntime) -> Result<(), Fail> {
-    let alloc = rt.alloc();
+/// Scripts that `run` and `compile` take: of each table the place of its first wrong row, if there
+/// is one.
+fn of_scripts(alloc: Global, hooks: &Hooks) -> Result<[Option<usize>; 6], NoMemory>
+    requires hooks { AreServing (map (λ h. h.known) hooks.now.all.items) }
+{
+    let played = scripts::first_played(alloc, scripts::PLAYS, hooks)?;
+    let traced = scripts::first_traced(alloc, scripts::TRACES, hooks)?;
+    let refused = scripts::first_refused(alloc, scripts::REFUSED, hooks)?;
+    let under = scripts::first_under(alloc, scripts::HEADERS, hooks)?;
+    let sized = scripts::first_sized(alloc, hooks)?;
+    let ended = first_wrong(alloc, scripts::ENDED_AND_COMPILED, hooks)?;
+    Ok([played, traced, refused, under, sized, ended])
+}
+
+/// The same of other commands over files.
+fn of_files(alloc: Global, hooks: &Hooks) -> Result<[Option<usize>; 4], NoMemory>
+    requires hooks { AreServing (map (λ h. h.known) hooks.now.all.items) }
+{
+    let told = files::first_told(alloc, files::TOLD, hooks)?;
+    let changed = files::first_changed(alloc, hooks)?;
+    let cut_short = files::first_cut_short(alloc, hooks)?;
+    let cut = files::first_cut(alloc, hooks)?;
+    Ok([told, changed, cut_short, cut])
+}
+
+/// The same of plays of plans.
+fn of_games(alloc: Global, hooks: &Hooks) -> Result<[Option<usize>; 3], NoMemory>
+    requires hooks { AreServing (map (λ h. h.known) hooks.now.all.items) }
+{
+    let played = first_wrong(alloc, games::DONE, hooks)?;
+    let ended = first_wrong(alloc, games::ENDED, hooks)?;
+    let refused = games::first_refused(alloc, games::REFUSED, hooks)?;
+    Ok([played, ended, refused])
+}
+
+/// The same of words that are no command, files that aren't there or are too long, and the whole
+/// program.
+fn of_stops(alloc: Global, hooks: &Hooks) -> Result<[Option<usize>; 4], NoMemory>
+    requires hooks { AreServing (map (λ h. h.known) hooks.now.all.items) }
+{
+    let answered = words::first_answered(alloc, hooks)?;
+    let missing = reads::first_missing(alloc, hooks)?;
+    let long = reads::first_long(alloc, hooks)?;
+    let whole = programs::first_wrong(alloc, hooks)?;
+    Ok([answered, missing, long, whole])
+}
+
+fn all_hold(alloc: Global, rt: &impl Abort, hooks: &Hooks) -> Result<(), Fail>
+    requires hooks { AreServing (map (λ h. h.known) hooks.now.all.items) }
+{
+    assert!(rt; example::plays(alloc, hooks)?);
+    assert_eq!(rt; cuts::first_wrong(alloc, hooks)?, None);
+    assert_eq!(rt; of_games(alloc, hooks)?, [None; 3]);
+    assert_eq!(rt; of_files(alloc, hooks)?, [None; 4]);
+    assert_eq!(rt; of_stops(alloc, hooks)?, [None; 4]);
+    assert_eq!(rt; of_scripts(alloc, hooks)?, [None; 6]);
+    Ok(())
+}
+
+/// All rows. The hooks look cells up in these tables.
+fn of_all(alloc: Global, rt: &impl Abort, tables: Tables) -> Result<(), Fail> {
+    let own = tables.copy(alloc)?;
     let mut hooks = Hooks::new(alloc);
-    for n in 0u8..10 {
+    for n in 0u8..9 {
         let call: Call = Box::new(
             alloc,
             move |args: &Args| -> Result<Value, NoMemory>
@@ -24,11 +89,25 @@ fn top_call(rt: HostRuntime) -> Result<(), Fail> {
         )?;
         put_hook(alloc, &mut hooks, n, call)?;
     }
+    let cells: Call = Box::new(
+        alloc,
+        move |args: &Args| -> Result<Value, NoMemory>
+            ensures { IfOk result (λ v. IsAnswer own (function_numbered 9).name
+                (function_numbered 9).result args.now v) }
+        { cell_call(alloc, &own, args) },
+    )?;
+    put_cell_hook(alloc, &mut hooks, cells, tables)?;
     all_are_put(&hooks);
-    commands::all(alloc, &rt, &hooks)?;
-    files::all(alloc, &rt, &hooks)?;
-    plays::all(alloc, &rt, &hooks)?;
-    programs::all(alloc, &rt, &hooks)?;
-    scripts::all(alloc, &rt, &hooks)?;
-    Ok(())
+    all_hold(alloc, rt, &hooks)
+}
+
+#[test]
+fn top_call(rt: HostRuntime) -> Result<(), Fail> {
+    match example::tables(rt.alloc())? {
+        Ok(tables) => of_all(rt.alloc(), &rt, tables),
+        Err(status) => {
+            assert_eq!(rt; status, Status::Done);
+            Ok(())
+        }
+    }
 }

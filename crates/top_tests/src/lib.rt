@@ -1,20 +1,34 @@
-//! Tests of the top call: its parts, its commands by the rows of their pages, and the whole program
+//! Tests of the top call: its parts, its commands by rows of words and files, and the whole program
 //! over memory.
 #![tactic(auto)]
 
 #[cfg(test)]
+mod answers;
+#[cfg(test)]
 mod areas;
 #[cfg(test)]
-mod commands;
+mod cuts;
+#[cfg(test)]
+mod example;
 #[cfg(test)]
 mod files;
+#[cfg(test)]
+mod games;
 #[cfg(test)]
 mod hooked;
 #[cfg(test)]
 mod parts;
 #[cfg(test)]
-mod plays;
-#[cfg(test)]
 mod programs;
 #[cfg(test)]
+mod reads;
+#[cfg(test)]
+mod samples;
+#[cfg(test)]
 mod scripts;
+#[cfg(test)]
+mod tables;
+#[cfg(test)]
+mod town;
+#[cfg(test)]
+mod words;

@@ -1,24 +1,61 @@
+//! The parts of commands that read and write files, and put texts.
+
 use nwq_outside::{MemFiles, MemSink};
+use nwq_value::NoMemory;
 use nwq_work::{Status, put, read_file, write_file};
+use std::alloc::Global;
 use std::test::Fail;
+
+/// Whether a read gives these bytes.
+fn is_read(
+    alloc: Global,
+    name: &str,
+    bytes: &[u8],
+    files: &mut MemFiles,
+    out: &mut MemSink,
+) -> bool {
+    match read_file(alloc, name, files, out) {
+        Ok(found) => found.as_slice() == bytes,
+        Err(_) => false,
+    }
+}
+
+/// Whether a read stops with this status.
+fn stops(
+    alloc: Global,
+    name: &str,
+    status: Status,
+    files: &mut MemFiles,
+    out: &mut MemSink,
+) -> bool {
+    match read_file(alloc, name, files, out) {
+        Ok(_) => false,
+        Err(found) => found == status,
+    }
+}
+
+/// Whether a write of which the call is let fail is told as the fault.
+fn is_fault(call: u64, files: &mut MemFiles) -> Result<bool, NoMemory> {
+    files.fail_at(call)?;
+    Ok(write_file("a", b"lost", files) == Err(Status::Fault))
+}
+
+/// Whether each of these calls does what it is to, one after the other.
+fn all_hold(alloc: Global, files: &mut MemFiles, out: &mut MemSink) -> Result<[bool; 6], NoMemory> {
+    let text = Vec::from_slice(alloc, b"text\n")?;
+    let written = write_file("a", b"new", files) == Ok(());
+    let read = is_read(alloc, "a", b"new", files, out);
+    let taken = put(Ok(text), out) == Ok(());
+    let stopped = stops(alloc, "b\\", Status::Missing, files, out);
+    let told = out.bytes() == b"text\nmissing b\\\\\n".as_slice();
+    let failed = is_fault(3, files)?;
+    Ok([written, read, taken, stopped, told, failed])
+}
 
 #[test]
 fn reads_writes_puts(rt: HostRuntime) -> Result<(), Fail> {
     let mut files = MemFiles::new(rt.alloc());
     let mut out = MemSink::new(rt.alloc());
-    assert!(rt; write_file("a", b"new", &mut files) == Ok(()));
-    match read_file(rt.alloc(), "a", &mut files, &mut out) {
-        Ok(bytes) => assert_eq!(rt; bytes.as_slice(), b"new".as_slice()),
-        Err(status) => assert_eq!(rt; status, Status::Done),
-    }
-    let text = Vec::from_slice(rt.alloc(), b"text\n")?;
-    assert!(rt; put(Ok(text), &mut out) == Ok(()));
-    match read_file(rt.alloc(), "b\\", &mut files, &mut out) {
-        Ok(_) => assert!(rt; false, "b isn't there"),
-        Err(status) => assert_eq!(rt; status, Status::Missing),
-    }
-    assert_eq!(rt; out.bytes(), b"text\nmissing b\\\\\n".as_slice());
-    files.fail_at(3)?;
-    assert!(rt; write_file("a", b"lost", &mut files) == Err(Status::Fault));
+    assert_eq!(rt; all_hold(rt.alloc(), &mut files, &mut out)?, [true; 6]);
     Ok(())
 }

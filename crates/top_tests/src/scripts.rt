@@ -1,136 +1,536 @@
-//! Scripts that are typed and compiled: `compile`, and the typing faults that `run` tells.
+//! Scripts: what `run` plays and `compile` makes of them, and how both refuse them.
 
 ghost use Rattle.std.specs.Prelude.{map};
 ghost use Rattle.world_core.specs.Calls.{AreServing};
 
+use crate::answers::{Failing, Held, Row, comes, outcome_of};
+use crate::samples::{NOTHING, SUM};
 use hook_table::Hooks;
-use nwq_outside::{MemFiles, MemSink};
-use nwq_top::{Status, nwq_main};
+use nwq_top::Status;
 use nwq_value::NoMemory;
 use std::alloc::Global;
-use std::process::Abort;
-use std::test::Fail;
 
-/// What words, parted by spaces, do over this script `p.nss`: the status, the files and the sink.
-/// The call of files with the number `fails` fails, if there is one.
-fn outcome(
+/// What scripts may include, beside themselves.
+const INCLUDES: [(&str, &[u8]); 3] = [
+    ("none.nss", b"// nothing\n"),
+    ("head.nss", b"int a;\nint 5;"),
+    ("front.nss", b"void main()"),
+];
+
+/// Scripts and all that `run - p` prints, where the play is done.
+pub const PLAYS: &[(&str, &str)] = &[
+    (
+        "void main() {}",
+        "end done clock 0 entries 1 instructions 3\n",
+    ),
+    (
+        "void main() { PrintInteger(2+3); }",
+        "0 #0 print 5\nend done clock 0 entries 1 instructions 7\n",
+    ),
+    (
+        "void main() { PrintInteger(1-2); }",
+        "0 #0 print -1\nend done clock 0 entries 1 instructions 7\n",
+    ),
+    (
+        "void main() { PrintInteger(4294967295+2); }",
+        "0 #0 print 1\nend done clock 0 entries 1 instructions 7\n",
+    ),
+    (
+        "void main() { // in order\nPrintInteger(0x7fffFFFF+1); /* then */ PrintInteger(7); }",
+        "0 #0 print -2147483648\n0 #0 print 7\nend done clock 0 entries 1 instructions 9\n",
+    ),
+    (
+        "#include \"P\"\nvoid main() {}",
+        "end done clock 0 entries 1 instructions 3\n",
+    ),
+    (
+        "#include \"front\"\n{ PrintInteger(1+2); #include \"FRONT\"\n }",
+        "0 #0 print 3\nend done clock 0 entries 1 instructions 7\n",
+    ),
+    (
+        "void main() { int n=1; DelayCommand(1000, PrintInteger(n)); n=2; PrintInteger(n); }",
+        "0 #0 print 2\n1000 #0 print 1\nend done clock 1000 entries 2 instructions 17\n",
+    ),
+    (
+        "int n=1; void main() { DelayCommand(1000, PrintInteger(n)); n=2; PrintInteger(n); }",
+        "0 #0 print 2\n1000 #0 print 1\nend done clock 1000 entries 2 instructions 21\n",
+    ),
+    (
+        "void main() { int i; for (i=0; i<3; i++) PrintInteger(i); }",
+        "0 #0 print 0\n0 #0 print 1\n0 #0 print 2\nend done clock 0 entries 1 instructions 42\n",
+    ),
+    (
+        "int StartingConditional() { return 3; }",
+        "end done clock 0 entries 1 instructions 8\n",
+    ),
+    (
+        "int g=1; void F() { g=g+1; PrintInteger(g); } void main() { F(); F(); }",
+        "0 #0 print 2\n0 #0 print 3\nend done clock 0 entries 1 instructions 27\n",
+    ),
+    (
+        "void main() { switch (2) { case 1: PrintInteger(1); case 2: PrintInteger(2); \
+            default: PrintInteger(3); } }",
+        "0 #0 print 2\n0 #0 print 3\nend done clock 0 entries 1 instructions 17\n",
+    ),
+    (
+        "void main() { PrintInteger(7); PrintInteger(1/0); PrintInteger(8); }",
+        "0 #0 print 7\n0 #0 fault divide\nend done clock 0 entries 1 instructions 6\n",
+    ),
+    (
+        "void main() { int p; p += p += 1/0; }",
+        "0 #0 fault divide\nend done clock 0 entries 1 instructions 7\n",
+    ),
+    (
+        "void main() { PrintObject(OBJECT_INVALID); }",
+        "0 #0 print #0\nend done clock 0 entries 1 instructions 5\n",
+    ),
+    (
+        "void main() { PrintString(GetSubString(\"abcdef\", 2, 3) + IntToHexString(255)); }",
+        "0 #0 print cde0x000000ff\nend done clock 0 entries 1 instructions 11\n",
+    ),
+    (
+        "void main() { PrintString(Get2DAString(\"x\",\"COST\",0)); }",
+        "0 #0 print \nend done clock 0 entries 1 instructions 8\n",
+    ),
+    (
+        "void main() { PrintInteger(1); ExecuteScript(\"p\"); }",
+        "0 #0 print 1\n0 #0 print 1\n0 #0 print 1\n0 #0 print 1\n0 #0 print 1\n0 #0 print 1\n\
+            0 #0 print 1\n0 #0 print 1\n0 #0 print 1\n0 #0 deep p\n\
+            end done clock 0 entries 1 instructions 72\n",
+    ),
+];
+
+/// Scripts and the lines that `run - p` prints before the end, where the play is done.
+pub const TRACES: &[(&str, &str)] = &[
+    (
+        "int g; void F() { g=g+1; PrintInteger(g); } void main() { DelayCommand(10, F()); \
+            DelayCommand(20, F()); }",
+        "10 #0 print 1\n20 #0 print 1\n",
+    ),
+    (
+        "void main() { DelayCommand(500, PrintString(\"A\")); \
+            DelayCommand(500, PrintString(\"B\")); }",
+        "500 #0 print A\n500 #0 print B\n",
+    ),
+    (
+        "int f() { DelayCommand(1, PrintString(\"inner\")); return 5; } void main() { \
+            DelayCommand(f(), PrintString(\"outer\")); }",
+        "1 #0 print inner\n5 #0 print outer\n",
+    ),
+    (
+        "void main() { DelayCommand(5, PrintInteger(8)); PrintInteger(7); PrintInteger(1/0); }",
+        "0 #0 print 7\n0 #0 fault divide\n5 #0 print 8\n",
+    ),
+    (
+        "void main() { if (1) if (0) PrintInteger(1); else PrintInteger(2); }",
+        "0 #0 print 2\n",
+    ),
+    (
+        "int f(int a, int b) { if (a==0) return b; return f(a-1,b+1); } void main() { \
+            PrintInteger(f(3,4)); }",
+        "0 #0 print 7\n",
+    ),
+    (
+        "void main() { PrintInteger((-2147483647 - 1) / -1); PrintInteger(1 << 32); }",
+        "0 #0 print -2147483648\n0 #0 print 1\n",
+    ),
+    (
+        "void main() { string s=\"a\"; int i; for(i=0;i<40;i++) s=s+s; \
+            PrintInteger(GetStringLength(s)); }",
+        "0 #0 print 8192\n",
+    ),
+    (
+        "struct P { int x; int y; }; struct P Make(int a) { struct P p; p.x=a; p.y=a+1; \
+            return p; } void main() { PrintInteger(Make(4).y); }",
+        "0 #0 print 5\n",
+    ),
+    (
+        "int n=1; void main() { n=5; DelayCommand(1, PrintInteger(n)); }",
+        "1 #0 print 5\n",
+    ),
+    (
+        "void main() { PrintInteger(StringToInt(\"-12x\")); \
+            PrintString(InsertString(\"ab\",\"X\",9)); PrintString(GetStringRight(\"abc\",5)); \
+            PrintString(GetSubString(\"abc\",4,1)); }",
+        "0 #0 print -12\n0 #0 print abX\n0 #0 print abc\n0 #0 print \n",
+    ),
+    (
+        "void main() { ExecuteScript(\"q\"); PrintInteger(3); }",
+        "0 #0 noscript q\n0 #0 print 3\n",
+    ),
+    (
+        "void main() { event e; PrintInteger(e == EventUserDefined(0)); }",
+        "0 #0 print 1\n",
+    ),
+];
+
+/// Scripts that are refused, and the line that tells it.
+pub const REFUSED: &[(&str, &str)] = &[
+    ("", "refused p.nss 1 0 entry\n"),
+    ("#include \"none\"\n", "refused p.nss 2 16 entry\n"),
+    ("int a;", "refused p.nss 1 6 entry\n"),
+    (
+        "void main() { PrintInteger(1++2); }",
+        "refused p.nss 1 30 syntax\n",
+    ),
+    (
+        "void main() { PrintInteger(1); } x",
+        "refused p.nss 1 33 syntax\n",
+    ),
+    ("void main() { int 5; }", "refused p.nss 1 18 syntax\n"),
+    (
+        "void main() { int a; a + 1 = 2; }",
+        "refused p.nss 1 27 syntax\n",
+    ),
+    ("void main() { else; }", "refused p.nss 1 14 syntax\n"),
+    ("void main() {", "refused p.nss 1 13 syntax\n"),
+    (
+        "void main()\n#include \"none\"",
+        "refused p.nss 2 27 syntax\n",
+    ),
+    (
+        "#include \"head\"\nvoid main() {}",
+        "refused head.nss 2 11 syntax\n",
+    ),
+    (
+        "void main() {\n PrintInteger(4294967296); }",
+        "refused p.nss 2 28 bad\n",
+    ),
+    ("void main() { \"a", "refused p.nss 1 14 bad\n"),
+    ("void main() { /* open", "refused p.nss 1 14 bad\n"),
+    ("#include foo", "refused p.nss 1 0 include\n"),
+    (
+        "void main() { float f; }",
+        "refused p.nss 1 14 refusedtype\n",
+    ),
+    ("void main() { int n = n; }", "refused p.nss 1 22 unknown\n"),
+    ("int f; void f() {}", "refused p.nss 1 12 redeclared\n"),
+    ("void f(int n = 1, int m) {}", "refused p.nss 1 18 arity\n"),
+    (
+        "int n; void main() { switch (1) { case n: ; } }",
+        "refused p.nss 1 39 notconst\n",
+    ),
+    ("void main() { 1 = 2; }", "refused p.nss 1 16 notplace\n"),
+    ("void main() { break; }", "refused p.nss 1 14 outside\n"),
+    (
+        "void main() { string s = 1; }",
+        "refused p.nss 1 21 mismatch\n",
+    ),
+    ("int f() {} void main() {}", "refused p.nss 1 4 noreturn\n"),
+    (
+        "struct A { int a, b, c, d, e, f, g, h; }; struct B { struct A a, b, c, d, e, f, g, h; \
+            int z; };",
+        "refused p.nss 1 90 cells\n",
+    ),
+];
+
+/// Headers, and what comes of `run h.nss p` where the script prints 5.
+pub const HEADERS: &[(&str, Status, &str)] = &[
+    (
+        "void PrintInteger(int n);",
+        Status::Done,
+        "0 #0 print 5\nend done clock 0 entries 1 instructions 7\n",
+    ),
+    (
+        "// twice\nint A();\nvoid PrintInteger(int);\nint B();",
+        Status::Done,
+        "0 #0 print 5\nend done clock 0 entries 1 instructions 7\n",
+    ),
+    (
+        "float Cos(float f); vector V(float x=0.0, float y=0.0);\nvoid PrintInteger(int n);",
+        Status::Done,
+        "0 #0 print 5\nend done clock 0 entries 1 instructions 7\n",
+    ),
+    (
+        "int PrintInteger(int n);",
+        Status::Done,
+        "0 #0 call PrintInteger(5)\nend done clock 0 entries 1 instructions 8\n",
+    ),
+    (
+        "int A(); int A();",
+        Status::Script,
+        "refused h.nss 1 13 twice\n",
+    ),
+    (
+        "int A();\nint B()",
+        Status::Script,
+        "refused h.nss 2 16 header\n",
+    ),
+    ("int A();\n\"", Status::Script, "refused h.nss 2 9 bad\n"),
+    ("", Status::Script, "refused p.nss 1 14 unknown\n"),
+];
+
+/// The place of the first script whose play is another, if there is one.
+pub fn first_played(
+    alloc: Global,
+    rows: &[(&str, &str)],
+    hooks: &Hooks,
+) -> Result<Option<usize>, NoMemory>
+    requires hooks { AreServing (map (λ h. h.known) hooks.now.all.items) }
+{
+    let [none, head, front] = INCLUDES;
+    for (place, (source, text)) in rows.iter().enumerate() {
+        let row = Row {
+            line: "run - p",
+            before: &[("p.nss", source.as_bytes()), none, head, front],
+            failing: Failing::Nothing,
+            status: Status::Done,
+            puts: None,
+            text,
+            after: &[("p.ncs", Held::Nothing)],
+        };
+        if !comes(alloc, &row, hooks)? {
+            return Ok(Some(place));
+        }
+    }
+    Ok(None)
+}
+
+/// Whether a text is these lines and an end.
+fn is_traced(text: &[u8], lines: &str) -> bool {
+    match text.strip_prefix(lines.as_bytes()) {
+        None => false,
+        Some(rest) => rest.starts_with(b"end done "),
+    }
+}
+
+/// The place of the first script whose trace is another, if there is one.
+pub fn first_traced(
+    alloc: Global,
+    rows: &[(&str, &str)],
+    hooks: &Hooks,
+) -> Result<Option<usize>, NoMemory>
+    requires hooks { AreServing (map (λ h. h.known) hooks.now.all.items) }
+{
+    for (place, (source, lines)) in rows.iter().enumerate() {
+        let before = [("p.nss", source.as_bytes())];
+        let found = outcome_of(alloc, "run - p", &before, Failing::Nothing, hooks)?;
+        if found.status != Status::Done || !is_traced(found.out.bytes(), lines) {
+            return Ok(Some(place));
+        }
+    }
+    Ok(None)
+}
+
+/// Whether these words refuse this script with this line, which is all, and write nothing.
+fn is_refused(
     alloc: Global,
     line: &str,
     source: &str,
-    fails: Option<u64>,
-    hooks: &Hooks,
-) -> Result<(Status, MemFiles, MemSink), NoMemory>
-    requires hooks { AreServing (map (λ h. h.known) hooks.now.all.items) }
-{
-    let mut words: Vec<String> = Vec::new(alloc);
-    for word in line.split_whitespace() {
-        words.push(String::from_str(alloc, word)?)?;
-    }
-    let mut files = MemFiles::new(alloc);
-    files.add("p.nss", source.as_bytes())?;
-    if let Some(call) = fails {
-        files.fail_at(call)?;
-    }
-    let mut out = MemSink::new(alloc);
-    let status = nwq_main(alloc, words.as_slice(), &mut files, &mut out, hooks);
-    Ok((status, files, out))
-}
-
-/// Whether the script is compiled to these bytes, with this text.
-fn compiles(
-    alloc: Global,
-    source: &str,
-    bytes: &[u8],
     text: &str,
     hooks: &Hooks,
 ) -> Result<bool, NoMemory>
     requires hooks { AreServing (map (λ h. h.known) hooks.now.all.items) }
 {
-    let (found, files, out) = outcome(alloc, "compile - p", source, None, hooks)?;
-    Ok(found == Status::Done && out.bytes() == text.as_bytes() && files.get("p.ncs") == Some(bytes))
+    let [none, head, front] = INCLUDES;
+    let row = Row {
+        line,
+        before: &[("p.nss", source.as_bytes()), none, head, front],
+        failing: Failing::Nothing,
+        status: Status::Script,
+        puts: Some(1),
+        text,
+        after: &[("p.ncs", Held::Nothing)],
+    };
+    comes(alloc, &row, hooks)
 }
 
-/// Whether both commands refuse the script with this text, and write nothing.
-fn refuses(alloc: Global, source: &str, text: &str, hooks: &Hooks) -> Result<bool, NoMemory>
+/// The place of the first script that `run` or `compile` refuses otherwise, if there is one.
+pub fn first_refused(
+    alloc: Global,
+    rows: &[(&str, &str)],
+    hooks: &Hooks,
+) -> Result<Option<usize>, NoMemory>
     requires hooks { AreServing (map (λ h. h.known) hooks.now.all.items) }
 {
-    let (ran, _, told) = outcome(alloc, "run - p", source, None, hooks)?;
-    let (found, files, out) = outcome(alloc, "compile - p", source, None, hooks)?;
-    let both = ran == Status::Script && found == Status::Script;
-    let same = told.bytes() == text.as_bytes() && out.bytes() == text.as_bytes();
-    Ok(both && same && files.get("p.ncs").is_none())
-}
-
-fn compiled(alloc: Global, rt: &impl Abort, hooks: &Hooks) -> Result<(), Fail>
-    requires hooks { AreServing (map (λ h. h.known) hooks.now.all.items) }
-{
-    let rows = [
-        (
-            "void main() {}",
-            b"NCS V1.0B\x00\x00\x00\x17\x1e\x00\x00\x00\x00\x08\x20\x00\x20\x00".as_slice(),
-            "compiled p.ncs 23\n",
-        ),
-        (
-            "void main() { PrintInteger(2+3); }",
-            b"NCS V1.0B\x00\x00\x00\x2a\x1e\x00\x00\x00\x00\x08\x20\x00\x04\x03\x00\x00\x00\x02\x04\x03\x00\x00\x00\x03\x14\x20\x05\x00\x00\x04\x01\x20\x00".as_slice(),
-            "compiled p.ncs 42\n",
-        ),
-    ];
-    for (source, bytes, text) in rows {
-        assert!(rt; compiles(alloc, source, bytes, text, hooks)?, "{source}");
+    for (place, (source, text)) in rows.iter().enumerate() {
+        if !is_refused(alloc, "run - p", source, text, hooks)?
+            || !is_refused(alloc, "compile - p", source, text, hooks)?
+        {
+            return Ok(Some(place));
+        }
     }
-    Ok(())
+    Ok(None)
 }
 
-fn typing_faults(alloc: Global, rt: &impl Abort, hooks: &Hooks) -> Result<(), Fail>
+/// The place of the first header under which something else comes, if there is one.
+pub fn first_under(
+    alloc: Global,
+    rows: &[(&str, Status, &str)],
+    hooks: &Hooks,
+) -> Result<Option<usize>, NoMemory>
     requires hooks { AreServing (map (λ h. h.known) hooks.now.all.items) }
 {
-    let rows = [
-        ("", "refused p.nss 1 0 entry\n"),
-        (
-            "void main() { float f; }",
-            "refused p.nss 1 14 refusedtype\n",
-        ),
-        ("void main() { int n = n; }", "refused p.nss 1 22 unknown\n"),
-        ("int f; void f() {}", "refused p.nss 1 12 redeclared\n"),
-        ("void f(int n = 1, int m) {}", "refused p.nss 1 18 arity\n"),
-        (
-            "int n; void main() { switch (1) { case n: ; } }",
-            "refused p.nss 1 39 notconst\n",
-        ),
-        ("void main() { 1 = 2; }", "refused p.nss 1 16 notplace\n"),
-        ("void main() { break; }", "refused p.nss 1 14 outside\n"),
-        (
-            "void main() { string s = 1; }",
-            "refused p.nss 1 21 mismatch\n",
-        ),
-        ("int f() {} void main() {}", "refused p.nss 1 4 noreturn\n"),
-        (
-            "struct A { int a, b, c, d, e, f, g, h; }; struct B { struct A a, b, c, d, e, f, g, h; int z; };",
-            "refused p.nss 1 90 cells\n",
-        ),
-    ];
-    for (source, text) in rows {
-        assert!(rt; refuses(alloc, source, text, hooks)?, "{source}");
+    let script = b"void main() { PrintInteger(2+3); }".as_slice();
+    for (place, (header, status, text)) in rows.iter().enumerate() {
+        let row = Row {
+            line: "run h.nss p",
+            before: &[("p.nss", script), ("h.nss", header.as_bytes())],
+            failing: Failing::Nothing,
+            status: *status,
+            puts: None,
+            text,
+            after: &[("p.ncs", Held::Nothing)],
+        };
+        if !comes(alloc, &row, hooks)? {
+            return Ok(Some(place));
+        }
     }
-    Ok(())
+    Ok(None)
 }
 
-fn failed_write(alloc: Global, rt: &impl Abort, hooks: &Hooks) -> Result<(), Fail>
-    requires hooks { AreServing (map (λ h. h.known) hooks.now.all.items) }
-{
-    let (status, files, out) = outcome(alloc, "compile - p", "void main() {}", Some(1), hooks)?;
-    assert_eq!(rt; status, Status::Fault);
-    assert_eq!(rt; out.bytes(), b"".as_slice());
-    assert!(rt; files.get("p.ncs").is_none());
-    Ok(())
+/// Scripts at a limit of units: a front, so many of a byte, a rest, and what `run - p` prints.
+const SIZES: &[(&[u8], u8, usize, &[u8], Status, &str)] = &[
+    (
+        b"",
+        b'(',
+        257,
+        b"",
+        Status::Script,
+        "refused p.nss 1 256 nested\n",
+    ),
+    (
+        b"void main() {",
+        b'~',
+        255,
+        b"1; }",
+        Status::Done,
+        "end done clock 0 entries 1 instructions 260\n",
+    ),
+    (
+        b"void main() {",
+        b'~',
+        256,
+        b"1; }",
+        Status::Script,
+        "refused p.nss 1 268 nested\n",
+    ),
+    (
+        b"void main() {",
+        b';',
+        99_994,
+        b"}",
+        Status::Done,
+        "end done clock 0 entries 1 instructions 3\n",
+    ),
+    (
+        b"void main() {",
+        b';',
+        99_995,
+        b"}",
+        Status::Script,
+        "refused p.nss 1 100008 tokens\n",
+    ),
+];
+
+/// A front, so many of a byte, and a rest.
+fn repeated(
+    alloc: Global,
+    front: &[u8],
+    byte: u8,
+    count: usize,
+    rest: &[u8],
+) -> Result<Vec<u8>, NoMemory> {
+    let mut bytes = Vec::from_slice(alloc, front)?;
+    let middle = vec![in alloc; byte; count]?;
+    bytes.extend_from_slice(middle.as_slice())?;
+    bytes.extend_from_slice(rest)?;
+    Ok(bytes)
 }
 
-/// Every test of scripts that are typed and compiled.
-pub fn all(alloc: Global, rt: &impl Abort, hooks: &Hooks) -> Result<(), Fail>
+/// The place of the first script of some size of which something else comes, if there is one.
+pub fn first_sized(alloc: Global, hooks: &Hooks) -> Result<Option<usize>, NoMemory>
     requires hooks { AreServing (map (λ h. h.known) hooks.now.all.items) }
 {
-    compiled(alloc, rt, hooks)?;
-    typing_faults(alloc, rt, hooks)?;
-    failed_write(alloc, rt, hooks)
+    for (place, (front, byte, count, rest, status, text)) in SIZES.iter().enumerate() {
+        let source = repeated(alloc, front, *byte, *count, rest)?;
+        let row = Row {
+            line: "run - p",
+            before: &[("p.nss", source.as_slice())],
+            failing: Failing::Nothing,
+            status: *status,
+            puts: Some(1),
+            text,
+            after: &[],
+        };
+        if !comes(alloc, &row, hooks)? {
+            return Ok(Some(place));
+        }
+    }
+    Ok(None)
 }
+
+/// Plays that a limit ends, which are told whole, and files that are compiled.
+pub const ENDED_AND_COMPILED: &[Row] = &[
+    Row {
+        line: "run - p",
+        before: &[("p.nss", b"void main() { while(TRUE) {} }")],
+        failing: Failing::Nothing,
+        status: Status::Limit,
+        puts: Some(1),
+        text: "end instructions clock 0 entries 1 instructions 131072\n",
+        after: &[],
+    },
+    Row {
+        line: "run - p",
+        before: &[(
+            "p.nss",
+            b"void main() { PrintInteger(1); DelayCommand(7, PrintInteger(2)); while(TRUE) {} }",
+        )],
+        failing: Failing::Nothing,
+        status: Status::Limit,
+        puts: Some(2),
+        text: "0 #0 print 1\ndue 7 1 stored #0 p\n\
+            end instructions clock 0 entries 1 instructions 131072\n",
+        after: &[],
+    },
+    Row {
+        line: "run h.nss p",
+        before: &[
+            (
+                "h.nss",
+                b"int GetFoo(string s, int n=3); void PrintInteger(int n);",
+            ),
+            ("p.nss", b"void main() { PrintInteger(GetFoo(\"a b\")); }"),
+        ],
+        failing: Failing::Nothing,
+        status: Status::Done,
+        puts: Some(2),
+        text: "0 #0 call GetFoo(\"a b\",3)\n0 #0 print 0\n\
+            end done clock 0 entries 1 instructions 7\n",
+        after: &[],
+    },
+    Row {
+        line: "compile - p",
+        before: &[("p.nss", b"void main() {}")],
+        failing: Failing::Nothing,
+        status: Status::Done,
+        puts: Some(1),
+        text: "compiled p.ncs 23\n",
+        after: &[("p.ncs", Held::Bytes(NOTHING))],
+    },
+    Row {
+        line: "compile - p",
+        before: &[("p.nss", b"void main() { PrintInteger(2+3); }")],
+        failing: Failing::Nothing,
+        status: Status::Done,
+        puts: Some(1),
+        text: "compiled p.ncs 42\n",
+        after: &[("p.ncs", Held::Bytes(SUM))],
+    },
+    Row {
+        line: "compile - p",
+        before: &[("p.nss", b"void main() { PrintObject(OBJECT_INVALID); }")],
+        failing: Failing::Nothing,
+        status: Status::Done,
+        puts: Some(1),
+        text: "compiled p.ncs 34\n",
+        after: &[(
+            "p.ncs",
+            Held::Bytes(
+                b"NCS V1.0B\x00\x00\x00\x22\x1e\x00\x00\x00\x00\x08\x20\x00\x04\x06\x00\x00\x00\
+                    \x01\x05\x00\x00\x05\x01\x20\x00",
+            ),
+        )],
+    },
+];

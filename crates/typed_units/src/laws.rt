@@ -1,5 +1,6 @@
 //! Laws about the definitions, each the contract of a function that does nothing.
-ghost use Rattle.typed_units.specs.Laws.{EntriesArePlain, FunctionsArePlaced, GlobalsAreFine, UnitsAreReady};
+ghost use Rattle.typed_units.specs.Laws.{EntriesArePlain, FunctionsArePlaced, GlobalsAreFine};
+ghost use Rattle.typed_units.specs.Laws.{UnitsAreReady};
 
 use code_emission::laws::positions_by_number;
 use nss_typing::laws::numbered_in_order;

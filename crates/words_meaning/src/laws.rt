@@ -12,8 +12,8 @@ use nwq_scripts::laws::one_script;
 use nwq_sources::laws::one_source;
 use plan_meaning::plans_play_as_meant;
 
-/// Whatever does the work of `run` is refused where the header or the script is, and else tells what
-/// the script's source means.
+/// Whatever does the work of `run` is refused where the header or the script is, and else tells
+/// what the script's source means.
 pub fn runs_mean()
     ensures means { RunsMean }
 {
@@ -26,8 +26,8 @@ pub fn runs_mean()
     runs_end_as_meant();
 }
 
-/// Whatever does the work of `compile` is refused where the header or the script is, and else writes
-/// the file of the script's unit, which passes the stack checker.
+/// Whatever does the work of `compile` is refused where the header or the script is, and else
+/// writes the file of the script's unit, which passes the stack checker.
 pub fn compiles_mean()
     ensures means { CompilesMean }
 {
@@ -39,8 +39,8 @@ pub fn compiles_mean()
     one_code();
 }
 
-/// Whatever does the work of `play` is refused for the first of its files that is, and else tells and
-/// leaves what the sources mean that the plan lists.
+/// Whatever does the work of `play` is refused for the first of its files that is, and else tells
+/// and leaves what the sources mean that the plan lists.
 pub fn plays_mean()
     ensures means { PlaysMean }
 {

@@ -4,8 +4,8 @@
 //! command accepts, and why it refuses, by what the files hold; `specs/Runs.antt` and
 //! `specs/Plans.antt` what `run`, `compile` and `play` do of it: each file that they write passes
 //! the stack checker, and what they tell and leave is what the source texts mean. The functions of
-//! this crate do nothing: each is a law, that whatever does the work of the words does this. The top
-//! call promises it. The pages on it are docs/THEOREMS.md and docs/MEANING.md.
+//! this crate do nothing: each is a law, that whatever does the work of the words does this. The
+//! top call promises it. The pages on it are docs/THEOREMS.md and docs/MEANING.md.
 #![tactic(auto)]
 
 mod laws;

@@ -1,5 +1,6 @@
 //! What a call of a header's routine does, by the routine's role.
-ghost use Rattle.std.specs.Prelude.{◌≡◌, ◌<◌, ◌≤◌, ◌+◌, ◌^◌, ◌++◌, ◌∷◌, [], drop, map, slice_get, ℕ, Some};
+ghost use Rattle.std.specs.Prelude.{◌≡◌, ◌<◌, ◌≤◌, ◌+◌, ◌^◌, ◌++◌, ◌∷◌, [], drop, map, slice_get};
+ghost use Rattle.std.specs.Prelude.{ℕ, Some};
 ghost use Rattle.std.specs.Prelude.{IfOk, OnOk, OnErr};
 ghost use Rattle.nwq_value.specs.Engine.{IsRoutine};
 ghost use Rattle.nwq_value.specs.declared.engine.Role.TheVariants as role;

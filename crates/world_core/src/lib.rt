@@ -1,14 +1,14 @@
 //! The world in which scripts run, as code.
 //!
-//! Contracts see a [`World`] as the record that `engine_rows` defines, beside the spare room for posts
-//! (`specs/Held.antt`). Each call is one equation of worlds by a definition of `engine_rows`; for want
-//! of memory it answers `NoMemory` and leaves the world as it was. Every world keeps what `IsWorld`
-//! says there, and [`World::keeps`] hands it to whoever asks.
+//! Contracts see a [`World`] as the record that `engine_rows` defines, beside the spare room for
+//! posts (`specs/Held.antt`). Each call is one equation of worlds by a definition of `engine_rows`;
+//! for want of memory it answers `NoMemory` and leaves the world as it was. Every world keeps what
+//! `IsWorld` says there, and [`World::keeps`] hands it to whoever asks.
 //!
 //! A routine is called by its role: the engine's own ones are rows over the world's parts
-//! (`world_rows`), functions of strings and numbers are answered by hooks, and a world function leaves
-//! its call in the trace. The type of each answer is a law (`specs/Answers.antt`). docs/WORLD.md tells
-//! the calls in words.
+//! (`world_rows`), functions of strings and numbers are answered by hooks, and a world function
+//! leaves its call in the trace. The type of each answer is a law (`specs/Answers.antt`).
+//! docs/WORLD.md tells the calls in words.
 #![tactic(auto)]
 
 mod engine;

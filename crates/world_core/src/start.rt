@@ -24,7 +24,8 @@ pub type Events = Items<Start>;
 /// Posts an event.
 fn post_start<X: Drop>(parts: &mut Parts<X>, start: &Start) -> Result<(), NoMemory>
     requires few { parts.old.world.agenda.next < 2 ^ 63 }
-    ensures posted { OnOk result (parts.new.world ≡ with_planned parts.old.world (planned start.now)) }
+    ensures posted { OnOk result (parts.new.world
+        ≡ with_planned parts.old.world (planned start.now)) }
 {
     parts.room_for_posts(1)?;
     let script = start.script.copy(parts.alloc())?;

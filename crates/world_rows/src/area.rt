@@ -101,7 +101,8 @@ impl<X: Drop> Parts<X> {
     /// GetLocalInt.
     pub(crate) fn get_local_int(&self, args: &Args) -> i32
         ensures value { result ≡ read (object_at 0 args.now)
-            (int_named (text_at 1 args.now) (object self.now.world.area (object_at 0 args.now)).vars)
+            (int_named (text_at 1 args.now) (object self.now.world.area
+            (object_at 0 args.now)).vars)
             (pos 0) self.now.world }
     {
         self.local_int(object_at(args, 0), text_at(args, 1))
@@ -110,7 +111,8 @@ impl<X: Drop> Parts<X> {
     /// GetLocalString.
     pub(crate) fn get_local_text(&self, args: &Args) -> &[u8]
         ensures value { result.now ≡ read (object_at 0 args.now)
-            (text_named (text_at 1 args.now) (object self.now.world.area (object_at 0 args.now)).vars)
+            (text_named (text_at 1 args.now) (object self.now.world.area
+            (object_at 0 args.now)).vars)
             [] self.now.world }
     {
         self.local_text(object_at(args, 0), text_at(args, 1))

@@ -59,7 +59,8 @@ impl<X: Drop> Parts<X> {
         requires first { 1 ≤ o }
         requires within { o ≤ length self.old.world.things }
         requires line { 1 ≤ self.old.lines }
-        ensures ok { OnOk result (self.new.world ≡ applied (pos 2) o effect (pos 0) self.old.world) }
+        ensures ok { OnOk result (self.new.world
+            ≡ applied (pos 2) o effect (pos 0) self.old.world) }
         ensures err { OnErr result (self.new.world ≡ self.old.world) }
         ensures posts { self.old.posts ≤ self.new.posts }
     {

@@ -1,12 +1,14 @@
 //! The parts of a world, and the small changes that everything else is made of.
-ghost use Rattle.std.specs.Prelude.{◌≡◌, ◌<◌, ◌≤◌, ◌+◌, ◌-◌, ◌^◌, ◌↔◌, ◌∷◌, [], drop, filter, length};
+ghost use Rattle.std.specs.Prelude.{◌≡◌, ◌<◌, ◌≤◌, ◌+◌, ◌-◌, ◌^◌, ◌↔◌, ◌∷◌, [], drop, filter};
+ghost use Rattle.std.specs.Prelude.{length};
 ghost use Rattle.std.specs.Prelude.{not, pos, slice_get, Some, IfOk, OnOk, OnErr, IsTrue};
 ghost use Rattle.std.specs.List.{remove};
 ghost use Rattle.area_tree.specs.Variables.{IntVar, TextVar, is_int, is_text, put};
 ghost use Rattle.delay_agenda.specs.Order.{first_due};
 ghost use Rattle.delay_agenda.specs.Waiting.{turn_count};
 ghost use Rattle.engine_rows.specs.Changes.{told, post, with_busy, with_actions, with_action};
-ghost use Rattle.engine_rows.specs.Changes.{with_effect, with_effects, with_variables, without_turn};
+ghost use Rattle.engine_rows.specs.Changes.{with_effect, with_effects, with_variables};
+ghost use Rattle.engine_rows.specs.Changes.{without_turn};
 ghost use Rattle.engine_rows.specs.Turns.{drained, still, with_entries};
 ghost use Rattle.engine_rows.specs.World.{count, effects_of, is_valid, queue_of};
 ghost use Rattle.world_rows.specs.Saved.{put_together};

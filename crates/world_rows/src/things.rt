@@ -35,7 +35,8 @@ pub(crate) fn clear<X: Drop>(things: &mut Vec<Things<X>>, o: u32)
     object.queue.clear();
 }
 
-/// Puts an action last in an object's queue. After `NoMemory` it is dropped, and the queue as before.
+/// Puts an action last in an object's queue. After `NoMemory` it is dropped, and the queue as
+/// before.
 pub(crate) fn append<X: Drop>(
     things: &mut Vec<Things<X>>,
     o: u32,
