@@ -7,11 +7,10 @@ use Rattle.nwq_work.specs.Work.{then, IsCut, Does, Finished, ending}
 use Rattle.nwq_sources.specs.Headers.{table_of}
 use Rattle.nwq_scripts.specs.Files.{code_name, compiled_named}
 use Rattle.nwq_plays.specs.Plays.{plays_file}
-use Rattle.words_meaning.specs.Reading.{AreBytes}
 use Rattle.words_meaning.specs.Laws.{RunsMean, CompilesMean, PlaysMean}
 use Rattle.generated_meaning.specs.Generated.{GeneratesMean}
-use Rattle.nwq_top.specs.Words.{Form, Run, Compile, Tree, Check, Disassemble, Assemble, Play, Generate, NoForm, form_of}
-use Rattle.nwq_top.specs.Command.{runs_under, runs, work_of}
+use Rattle.nwq_top.specs.Words.{Run, Compile, Tree, Check, Disassemble, Assemble, Play, Generate, NoForm, form_of}
+use Rattle.nwq_top.specs.Command.{runs_under, runs}
 use Rattle.nwq_top.specs.Meaning.{Means, WorkMeans}
 
 -- the parts of a run in a row
@@ -22,16 +21,16 @@ unfolding runs runs_under
 as_parts cell header script c t r c' t' does = does
 
 pub work_means : RunsMean → CompilesMean → PlaysMean → GeneratesMean → WorkMeans
-work_means run compile play made cell (Run header script) c t r c' t' held whole does =
+work_means run compile play generate cell (Run header script) c t r c' t' held whole does =
     run cell header script c t r c' t' held whole (as_parts cell header script c t r c' t' does)
-work_means run compile play made cell (Compile header script) c t r c' t' held whole does = compile header script c t r c' t' held whole does
-work_means run compile play made cell (Tree file) c t r c' t' held whole does = tt
-work_means run compile play made cell (Check header file) c t r c' t' held whole does = tt
-work_means run compile play made cell (Disassemble file to) c t r c' t' held whole does = tt
-work_means run compile play made cell (Assemble file to) c t r c' t' held whole does = tt
-work_means run compile play made cell (Play header area plan to list) c t r c' t' held whole does = play cell header area plan to c t r c' t' held whole does
-work_means run compile play made cell (Generate number) c t r c' t' held whole does = λ small. made cell number c t r c' t' small whole does
-work_means run compile play made cell NoForm c t r c' t' held whole does = tt
+work_means run compile play generate cell (Compile header script) c t r c' t' held whole does = compile header script c t r c' t' held whole does
+work_means run compile play generate cell (Tree file) c t r c' t' held whole does = tt
+work_means run compile play generate cell (Check header file) c t r c' t' held whole does = tt
+work_means run compile play generate cell (Disassemble file to) c t r c' t' held whole does = tt
+work_means run compile play generate cell (Assemble file to) c t r c' t' held whole does = tt
+work_means run compile play generate cell (Play header area plan to list) c t r c' t' held whole does = play cell header area plan to c t r c' t' held whole does
+work_means run compile play generate cell (Generate number) c t r c' t' held whole does = λ small. generate cell number c t r c' t' small whole does
+work_means run compile play generate cell NoForm c t r c' t' held whole does = tt
 
 -- equal words mean the same
 pub same_meaning : (cell : CellLookup) (words all : List (String Global)) (told status : Status) (c c' : Contents) (t t' : List ℕ) → words ≡ all → told ≡ status

@@ -15,8 +15,8 @@ EndsWords Fault = Unit {0}
 EndsWords Memory = Unit {0}
 EndsWords _ = ⊥
 
--- What stops a run: its header or script, the check of its compiled file, or a limit that ended its play. No law says yet that the check
--- passes every compiled file; once one does, `Code` goes away here.
+-- What stops a run: its header or script, the check of its compiled file, or a limit that ended its play. The check passes every compiled file
+-- where files tell bytes (`Means`); here nothing is asked of files, so `Code` stands in the table.
 abbrev pub StopsRun : Status → Type 0
 StopsRun Limit = Unit {0}
 StopsRun status = StopsCheck status

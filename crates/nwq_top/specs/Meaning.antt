@@ -2,12 +2,12 @@
 use Rattle.std.specs.Prelude.{◌≤◌, ℕ, List, Result}
 use Rattle.nwq_outside.specs.Outside.{Contents}
 use Rattle.engine_rows.specs.Pure.{CellLookup}
+use Rattle.play_generator.specs.Made.{number_limit}
 use Rattle.nwq_work.specs.declared.status.Status.{Status}
 use Rattle.nwq_work.specs.Work.{IsCut, Does, Finished}
 use Rattle.words_meaning.specs.Reading.{AreBytes}
 use Rattle.words_meaning.specs.Runs.{MeansRun, MeansCompile}
 use Rattle.words_meaning.specs.Plans.{MeansPlay}
-use Rattle.play_generator.specs.Made.{number_limit}
 use Rattle.generated_meaning.specs.Generated.{MeansGenerate}
 use Rattle.nwq_top.specs.Words.{Form, Run, Compile, Tree, Check, Disassemble, Assemble, Play, Generate, NoForm}
 use Rattle.nwq_top.specs.Command.{work_of}

@@ -1,7 +1,7 @@
-mod Coming
+pub mod Coming
 mod Reading
-mod Sources
-mod Listing
+pub mod Sources
+pub mod Listing
 mod Plans
 mod Running
 mod Playing

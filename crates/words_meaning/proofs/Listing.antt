@@ -76,7 +76,7 @@ module _ (header : EngineTable) (c : Contents) (line : ScriptLine) where
 
 -- ---- one line
 
-loaded_does : (header : EngineTable) (file : List ℕ) (unit : TypedUnit) (c : Contents) (t : List ℕ) → Passes header unit
+pub loaded_does : (header : EngineTable) (file : List ℕ) (unit : TypedUnit) (c : Contents) (t : List ℕ) → Passes header unit
     → Does (loaded_in header file (unit_file unit)) c t (Ok (code_of unit)) c t
 unfolding loaded_in code_in checked_in
 loaded_does header file unit c t pass =

@@ -69,16 +69,16 @@ pub record MeansSources (cell : CellLookup) (table : EngineTable) (a : PlainArea
   -- where each entry of the sources ends in n steps, and 16 n is within the limit, all is as the sources mean
   pub few : (n : ℕ) → step_cost * n ≤ p.limit → (source_plan_played cell table a p listed n).ending ≢ StoppedInside
       → DoesMeaning to (listing_of cell table listed) (code_plan_played cell table a p listed) (source_plan_played cell table a p listed n) c t r c' t'
-  -- so where no further entry is due at their end, and the file of the area isn't too large, the play is done
-  pub complete : (n : ℕ) (bytes : List ℕ) → step_cost * n ≤ p.limit → (source_plan_played cell table a p listed n).ending ≡ Done
-      → outcome_of (written (tree_back (source_plan_played cell table a p listed n).last.world.area)) ≡ Ok bytes
-      → IsDone to (listing_of cell table listed) (code_plan_played cell table a p listed).last.count (source_plan_played cell table a p listed n) bytes c t r c' t'
   -- so it is, with as many steps as the plan allows instructions, where no entry of the files was stopped
   pub unstopped : (code_plan_played cell table a p listed).ending ≢ StoppedInside
       → DoesMeaning to (listing_of cell table listed) (code_plan_played cell table a p listed) (source_plan_played cell table a p listed p.limit) c t r c' t'
   -- where one was stopped, all the instructions of the limit were made in it, the lines that are told are a beginning of the sources', and no
   -- area is left
   pub stopped : (code_plan_played cell table a p listed).ending ≡ StoppedInside → DoesBeginning cell table a p listed c t r c' t'
+  -- where the play of the sources is done in n steps for an entry, 16 n is within the limit, and the file of the area isn't too large, so is this one
+  pub complete : (n : ℕ) (bytes : List ℕ) → step_cost * n ≤ p.limit → (source_plan_played cell table a p listed n).ending ≡ Done
+      → outcome_of (written (tree_back (source_plan_played cell table a p listed n).last.world.area)) ≡ Ok bytes
+      → IsDone to (listing_of cell table listed) (code_plan_played cell table a p listed).last.count (source_plan_played cell table a p listed n) bytes c t r c' t'
 
 -- What `play HEADER AREA PLAN TO` does, unless a failed call or want of memory cut it.
 pub record MeansPlay (cell : CellLookup) (header area plan to : List ℕ) (c : Contents) (t : List ℕ) (r : Result Finished Status) (c' : Contents) (t' : List ℕ) : Type 0 where

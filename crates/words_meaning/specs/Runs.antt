@@ -41,13 +41,13 @@ pub record MeansScript (cell : CellLookup) (table : EngineTable) (name : List �
   -- where each entry of the source ends in 8,192 steps, it is told as the source means
   pub few : (source_played cell table name unit sure_steps).ending ≢ StoppedInside
       → TellsMeaning (setting_of cell table name unit) (code_played cell table name unit) (source_played cell table name unit sure_steps) c t r c' t'
-  -- so where no further entry is due at its end, the play is done
-  pub complete : (source_played cell table name unit sure_steps).ending ≡ Done → r ≡ Ok tt
   -- so it is, with 131,072 steps for an entry, where no entry of the file was stopped
   pub unstopped : (code_played cell table name unit).ending ≢ StoppedInside
       → TellsMeaning (setting_of cell table name unit) (code_played cell table name unit) (source_played cell table name unit default_instruction_limit) c t r c' t'
   -- where one was stopped, 131,072 instructions were made in it, and the lines that were put are a beginning of the source's
   pub stopped : (code_played cell table name unit).ending ≡ StoppedInside → TellsBeginning cell table name unit c t r c' t'
+  -- where the play of the source is done in 8,192 steps for an entry, so is this one
+  pub complete : (source_played cell table name unit sure_steps).ending ≡ Done → r ≡ Ok tt
 
 -- What `run HEADER SCRIPT` does, unless a failed call or want of memory cut it.
 pub record MeansRun (cell : CellLookup) (header script : List ℕ) (c : Contents) (t : List ℕ) (r : Result Finished Status) (c' : Contents) (t' : List ℕ) : Type 0 where
