@@ -1,5 +1,5 @@
 -- One thing comes of a number.
-use Rattle.std.proofs.Common.{◌≡◌, ℕ, List, [], Result, Ok, Err, refl, sym, ap, ◌∙◌, subst}
+use Rattle.std.proofs.Common.{◌≡◌, ℕ, List, [], Result, Ok, Err, sym, ap, subst}
 use Rattle.nwq_value.specs.HeaderTable.{header_table}
 use Rattle.nwq_outside.specs.Outside.{Contents}
 use Rattle.ncs_code.specs.Plain.{PlainOp}
@@ -9,7 +9,7 @@ use Rattle.engine_rows.specs.Pure.{CellLookup}
 use Rattle.play_steps.specs.Plays.{PlayEnd, Done, OutOfEntries, StoppedInside, Paused, Played}
 use Rattle.play_generator.specs.Made.{play_of}
 use Rattle.nwq_work.specs.declared.status.Status.{Status}
-use Rattle.nwq_work.specs.Work.{CutsShort, IsCut}
+use Rattle.nwq_work.specs.Work.{IsCut}
 use Rattle.nwq_work.specs.Outcomes.{IsSure, Agrees, agree, sure_then}
 use Rattle.nwq_scripts.specs.Files.{compiled_named}
 use Rattle.nwq_scripts.specs.Laws.{SureCompiled}

@@ -1,8 +1,8 @@
 -- The play of a made play's code.
-use Rattle.std.proofs.Common.{◌≡◌, ◌≤◌, ℕ, inl, inr, List, [], ◌++◌, codes, Result, Ok, Err, refl, subst, sym, ap, ◌∙◌}
+use Rattle.std.proofs.Common.{◌≡◌, ℕ, inr, List, codes, Result, Err, refl, subst}
 use Rattle.nwq_value.specs.Engine.{EngineTable}
 use Rattle.nwq_value.specs.HeaderTable.{header_table}
-use Rattle.nwq_outside.specs.Outside.{Contents, TookPrefix}
+use Rattle.nwq_outside.specs.Outside.{Contents}
 use Rattle.area_tree.specs.Area.{PlainArea}
 use Rattle.ncs_code.specs.Plain.{PlainOp}
 use Rattle.plan_text.specs.declared.plan.Plan.{Plan}
@@ -11,7 +11,7 @@ use Rattle.engine_rows.specs.Pure.{CellLookup}
 use Rattle.machine_step.specs.Machine.{Script}
 use Rattle.play_steps.specs.Plays.{Played}
 use Rattle.nwq_work.specs.declared.status.Status.{Status}
-use Rattle.nwq_work.specs.declared.status.Status.TheVariants.{Fault, Memory, Limit}
+use Rattle.nwq_work.specs.declared.status.Status.TheVariants.{Memory, Limit}
 use Rattle.nwq_work.specs.Work.{Does, CutsShort, Finished}
 use Rattle.nwq_work.specs.Counts.{Refusing}
 use Rattle.nwq_work.specs.Parts.{cut_here}

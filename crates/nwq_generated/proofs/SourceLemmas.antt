@@ -1,5 +1,5 @@
 -- A source that is compiled over files of its own.
-use Rattle.std.proofs.Common.{◌≡◌, ◌≢◌, ℕ, inl, inr, Bool, true, false, List, [], ◌++◌, codes, Result, Ok, Err, refl, subst, sym, ap, ◌∙◌, arith}
+use Rattle.std.proofs.Common.{◌≡◌, ◌≢◌, ℕ, inl, inr, true, false, List, [], ◌++◌, codes, Result, Ok, Err, refl, subst, ◌∙◌, arith}
 use Rattle.nwq_value.specs.Engine.{EngineTable}
 use Rattle.nwq_value.specs.HeaderTable.{header_table}
 use Rattle.nwq_outside.specs.Outside.{Contents, TookPrefix}

@@ -1,7 +1,6 @@
 -- Statements about plays made from numbers. Each stands on the contract of a function of `laws`.
-use Rattle.std.specs.Prelude.{◌≡◌, ◌≤◌, ◌<◌, ℕ, List, []}
+use Rattle.std.specs.Prelude.{◌≡◌, ℕ, []}
 use Rattle.engine_rows.specs.Pure.{CellLookup}
-use Rattle.gff_tree.specs.Count.{node_count}
 use Rattle.area_tree.specs.Broken.{broken_places}
 use Rattle.play_generator.specs.Made.{area_tree}
 use Rattle.nwq_work.specs.Outcomes.{IsSure}
