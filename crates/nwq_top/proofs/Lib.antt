@@ -5,3 +5,4 @@ mod RunLemmas
 mod Sure
 mod WordLemmas
 mod Steps
+mod Usage
