@@ -11,7 +11,7 @@ use Rattle.nwq_work.specs.Counts.{StopsArea, Counts, Tallies, TalliesEnd}
 use Rattle.nwq_work.specs.Parts.{then_ok, then_err}
 use Rattle.nwq_tables.specs.Tables.{tables_given}
 use Rattle.table_2da.specs.Look.{cell_of}
-use Rattle.nwq_top.specs.Words.{Form, Run, Compile, Tree, Check, Disassemble, Assemble, Play, NoForm, list_of}
+use Rattle.nwq_top.specs.Words.{Form, Run, Compile, Tree, Check, Disassemble, Assemble, Play, Generate, NoForm, list_of}
 use Rattle.nwq_top.specs.Command.{work_of, work_with, whole_work}
 use Rattle.nwq_top.specs.Endings.{ComesOf}
 use Rattle.nwq_top.specs.Program.{TellsUsage}
@@ -25,6 +25,7 @@ memory_comes (Check header file) = tt
 memory_comes (Disassemble file to) = tt
 memory_comes (Assemble file to) = tt
 memory_comes (Play header area plan to list) = tt
+memory_comes (Generate number) = tt
 memory_comes NoForm = tt
 
 play_comes : (header area plan to : List ℕ) (list : Option (List ℕ)) (status : Status) → StopsArea status → ComesOf (Play header area plan to list) status
@@ -59,6 +60,7 @@ refusal_comes (Check header file) status list h = absurd (list refl)
 refusal_comes (Disassemble file to) status list h = absurd (list refl)
 refusal_comes (Assemble file to) status list h = absurd (list refl)
 refusal_comes (Play header area plan to given) status list h = play_comes header area plan to given status h
+refusal_comes (Generate number) status list h = absurd (list refl)
 refusal_comes NoForm status list h = absurd (list refl)
 
 -- a refusal of tables is no end of a command that did its work
