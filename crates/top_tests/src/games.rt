@@ -103,6 +103,27 @@ pub const DONE: &[Row] = &[
         text: "0 #1 print 6\n0 #0 print 1\nend done clock 0 entries 1 instructions 30\n",
         after: &[("f.git", Held::Bytes(GUARD))],
     },
+    // Plays that are made from a number: no file is read or written.
+    Row {
+        line: "generate 0",
+        before: &[],
+        failing: Failing::Nothing,
+        status: Status::Done,
+        puts: Some(1),
+        text: "generated creatures 1 events 1 lines 3 bytes 42\n\
+            end done clock 100 entries 5 instructions 87\n",
+        after: &[("beat.ncs", Held::Nothing)],
+    },
+    Row {
+        line: "generate 9099",
+        before: &[],
+        failing: Failing::Nothing,
+        status: Status::Done,
+        puts: Some(1),
+        text: "generated creatures 100 events 1000 lines 3000 bytes 58440\n\
+            end done clock 10000 entries 5000 instructions 209200\n",
+        after: &[("beat.ncs", Held::Nothing)],
+    },
 ];
 
 /// Plays that a limit ends: the area that is left is left as it was.

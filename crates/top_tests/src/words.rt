@@ -29,6 +29,12 @@ const LINES: &[&str] = &[
     "play - a.git p.plan",
     "play - a.git p.plan -f",
     "play - a.git p.plan f.git t.txt more",
+    "generate",
+    "generate x",
+    "generate 1000001",
+    "generate 12345678901",
+    "generate 1 2",
+    "generate -1",
 ];
 
 /// The place of the first words of which something else comes than that they are refused.
