@@ -1,4 +1,4 @@
-//! The outside of the product: files that are read and written, and a sink that takes the printed
+//! The outside of the program: files that are read and written, and a sink that takes the printed
 //! text.
 //!
 //! Everything above is written over the traits [`Files`] and [`Sink`], whose contracts say what an

@@ -1,15 +1,15 @@
 //! The top call: what the words of a command do with files and a sink, in order, and how it ends.
 //!
-//! [`nwq_main`] is the whole program but for the real files, the real sink and the words;
-//! [`program_tables`] and [`nwq_program`] are what `main` calls. What a command does is a
-//! [`Work`](../../nwq_work/specs/Work.antt), a function of the form of its words
-//! (`specs/Command.antt`), and the clause `does` says that the call did it. The clause `means` says
-//! what that is in the words of the language: `words_meaning` has the definitions, and the law by which
-//! the one follows from the other. The parts of that work
-//! that read sources are `nwq_sources`', and its commands over other files `nwq_files`'.
+//! [`nwq_main`] does the work of the words; [`program_tables`] and [`nwq_program`] are what
+//! `run_all` of `nwq` calls. What a command does is a [`Work`](../../nwq_work/specs/Work.antt), a
+//! function of the form of its words (`specs/Command.antt`), and the clause `does` says that the
+//! call did it. The clause `means` says what that is in the words of the language: `words_meaning`
+//! and `generated_meaning` have the definitions, and the laws by which the one follows from the
+//! other. The parts of that work that read sources are `nwq_sources`', and its commands over other
+//! files `nwq_files`'.
 //!
-//! The tables that its scripts look cells up in are [`nwq_tables`]', which comes first: the tables are
-//! read, hooks are made with them, and `nwq_main` is handed these hooks and the same words. See
+//! The tables that its scripts look cells up in are [`nwq_tables`]', which comes first: the tables
+//! are read, hooks are made with them, and `nwq_main` is handed these hooks and the same words. See
 //! docs/COMMANDS.md and docs/THEOREMS.md.
 #![tactic(auto)]
 

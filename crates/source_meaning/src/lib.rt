@@ -16,7 +16,7 @@
 //! `specs/Entries.antt` whole entries, `specs/Listed.antt` the scripts of a play, and
 //! `specs/StayAlike.antt` what entries do beside the scripts that they run. The functions of this
 //! crate do nothing: each is a law, whose contract is proved of the definitions. The page on all of
-//! this is docs/MEANING.md, which also says what isn't proved yet.
+//! this is docs/MEANING.md.
 #![tactic(auto)]
 
 mod laws;
