@@ -1,6 +1,11 @@
-// Prints the sums of the module: the head of `main` stands in an include.
-#include "inc_main"
+// A greeting at once, and a second one two seconds later. The include has the functions.
+#include "inc_lines"
+
+void main()
 {
-    PrintInteger(1 + 2 + 3);   // 6
-    PrintInteger(40 + 2);      // 42
+    int nGoblins = 1;
+    Greet(Count(nGoblins, "goblin"));
+    nGoblins = nGoblins + 2;
+    DelayCommand(2000, Greet(Count(nGoblins, "goblin")));
+    nGoblins = 0;    // too late: the delayed call keeps the 3
 }

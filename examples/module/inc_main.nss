@@ -1,3 +1,0 @@
-// The head of each script of this module.
-#include "greet"
-void main()

@@ -1,1 +1,0 @@
-void main() { PrintInteger(2+3); }
