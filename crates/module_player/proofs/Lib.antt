@@ -1,4 +1,3 @@
-pub mod NamedScripts
 pub mod Runs
 pub mod Entering
 pub mod Turning

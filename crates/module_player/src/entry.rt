@@ -17,12 +17,11 @@ ghost use Rattle.module_player.specs.Entries.{turn_taken};
 ghost use Rattle.module_player.specs.Scenes.{FitIn, IsSet, host_in, runner_in};
 ghost use Rattle.module_player.specs.Scenes.{scene, scripts_in, tables_in};
 
-use crate::names::script_named;
 use crate::scripts::{Ended, run_scripts};
 use crate::setting::Setting;
 use delay_agenda::{Entry, Kind};
 use engine_rows::entries_keep_worlds;
-use ncs_machine::{Begin, entries_keep_fits};
+use ncs_machine::{Begin, entries_keep_fits, script_named};
 use nwq_value::{NoMemory, Text};
 use saved_state::Saved;
 use std::alloc::Global;

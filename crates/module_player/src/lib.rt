@@ -8,7 +8,6 @@
 
 mod closing;
 mod entry;
-mod names;
 mod played;
 mod plays;
 mod scripts;

@@ -15,4 +15,5 @@ mod step;
 
 pub use entry::{Ran, run};
 pub use laws::{calls_keep_fits, entries_keep_fits};
+pub use machine::script_named;
 pub use scripts::{Begin, Loaded, Scripts};
