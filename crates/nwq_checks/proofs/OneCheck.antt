@@ -8,7 +8,7 @@ use Rattle.nwq_sources.specs.Laws.{SureTables}
 use Rattle.nwq_files.specs.Codes.{code_named}
 use Rattle.nwq_files.specs.Laws.{SureCodes}
 use Rattle.nwq_checks.specs.Checks.{CheckFate, Passes, Unstacked, IsCheckFate, passes, unstacked, check_by, checked_in, checked_named, passed_line, puts_passed, checks_under, checks}
-use Rattle.nwq_checks.specs.Laws.{SureChecked, SureChecks}
+use Rattle.nwq_checks.specs.Laws.{SureOps, SureChecked, SureChecks}
 
 module _ (header : EngineTable) (ops : List PlainOp) where
   one_fate : {a b : CheckFate} → IsCheckFate header ops a → IsCheckFate header ops b → a ≡ b
@@ -21,13 +21,13 @@ sure_by : (name : List ℕ) (ops : List PlainOp) (fate : CheckFate) → IsSure (
 sure_by name ops Passes = tt
 sure_by name ops Unstacked = tt
 
-sure_in : (header : EngineTable) (name : List ℕ) (ops : List PlainOp) → IsSure (checked_in header name ops)
+pub sure_ops : SureOps
 unfolding checked_in
-sure_in header name ops = (λ c a b p q. one_fate header ops p q, sure_by name ops)
+sure_ops header name ops = (λ c a b p q. one_fate header ops p q, sure_by name ops)
 
 pub sure_checked : SureCodes → SureChecked
 unfolding checked_named
-sure_checked codes header name = sure_then (code_named name) (checked_in header name) (codes name) (sure_in header name)
+sure_checked codes header name = sure_then (code_named name) (checked_in header name) (codes name) (sure_ops header name)
 
 sure_under : SureCodes → (name : List ℕ) (header : EngineTable) → IsSure (checks_under name header)
 unfolding checks_under

@@ -1,8 +1,13 @@
 -- Statements about checks. Each stands on the contract of a function of `laws`.
 use Rattle.std.specs.Prelude.{ℕ, List}
 use Rattle.nwq_value.specs.Engine.{EngineTable}
+use Rattle.ncs_code.specs.Plain.{PlainOp}
 use Rattle.nwq_work.specs.Outcomes.{IsSure}
-use Rattle.nwq_checks.specs.Checks.{checked_named, checks}
+use Rattle.nwq_checks.specs.Checks.{checked_in, checked_named, checks}
+
+-- a header and instructions decide whether these are well stacked
+abbrev pub SureOps : Type 0
+SureOps = (header : EngineTable) (name : List ℕ) (ops : List PlainOp) → IsSure (checked_in header name ops)
 
 -- what the files hold decides what comes of a check under a header
 abbrev pub SureChecked : Type 0

@@ -20,7 +20,7 @@ use std::alloc::Global;
 
 /// Checks the code of the file of this name under a header.
 #[tactic(auto, using(crate::proofs::CheckLemmas::checked))]
-fn check_code<S: Sink>(
+pub fn check_code<S: Sink>(
     alloc: Global,
     table: &Table,
     name: &[u8],

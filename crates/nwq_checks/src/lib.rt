@@ -8,4 +8,4 @@
 mod check;
 pub mod laws;
 
-pub use check::{check_file, read_checked};
+pub use check::{check_code, check_file, read_checked};

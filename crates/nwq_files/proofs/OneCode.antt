@@ -14,7 +14,7 @@ use Rattle.nwq_work.specs.declared.flaw.CodeFlaw.{CodeFlaw}
 use Rattle.nwq_work.specs.Outcomes.{IsSure, sure_then, sure_file}
 use Rattle.nwq_work.specs.Work.{file_named}
 use Rattle.nwq_files.specs.Codes.{load_flaw, CodeFate, Whole, Faulty, IsCodeFate, whole, broken, code_by, code_in, code_named}
-use Rattle.nwq_files.specs.Laws.{SureCodes}
+use Rattle.nwq_files.specs.Laws.{SureBytes, SureCodes}
 
 drop_header : (ops : List PlainOp) → drop 13 (file_bytes ops) ≡ spellings ops
 unfolding four
@@ -59,14 +59,10 @@ sure_by : (name : List ℕ) (fate : CodeFate) → IsSure (code_by name fate)
 sure_by name (Whole ops) = tt
 sure_by name (Faulty why) = tt
 
-module _ (laws : Laws) where
-  sure_in : (name bytes : List ℕ) → IsSure (code_in name bytes)
-  unfolding code_in
-  sure_in name bytes = (λ c a b p q. one_fate laws bytes p q, sure_by name)
+pub sure_bytes : SpellingLaws → OneFault → NoFaultInCode → SureBytes
+unfolding code_in
+sure_bytes spells fault none name bytes = (λ c a b p q. one_fate (record { spells = spells; fault = fault; none = none }) bytes p q, sure_by name)
 
-  sure_named : SureCodes
-  unfolding code_named
-  sure_named name = sure_then (file_named name) (code_in name) (sure_file name) (sure_in name)
-
-pub sure_codes : SpellingLaws → OneFault → NoFaultInCode → SureCodes
-sure_codes spells fault none = sure_named (record { spells = spells; fault = fault; none = none })
+pub sure_codes : SureBytes → SureCodes
+unfolding code_named
+sure_codes bytes name = sure_then (file_named name) (code_in name) (sure_file name) (bytes name)

@@ -2,9 +2,13 @@
 use Rattle.std.specs.Prelude.{ℕ, List}
 use Rattle.nwq_work.specs.Outcomes.{IsSure}
 use Rattle.nwq_files.specs.Trees.{tree_named}
-use Rattle.nwq_files.specs.Codes.{code_named}
+use Rattle.nwq_files.specs.Codes.{code_in, code_named}
 use Rattle.nwq_files.specs.Assemblies.{assembly_named}
 use Rattle.nwq_files.specs.Commands.{shows_tree, disassembles, assembles}
+
+-- the bytes of a file of bytecode decide which instructions it has, or what is wrong with it
+abbrev pub SureBytes : Type 0
+SureBytes = (name bytes : List ℕ) → IsSure (code_in name bytes)
 
 -- what the files hold decides what comes of a GFF file, of a file of bytecode, and of an assembler text
 abbrev pub SureTrees : Type 0

@@ -28,13 +28,13 @@ fn load_flaw(fault: LoadFault) -> Option<CodeFlaw>
 
 /// The instructions in the bytes of the file of this name.
 #[tactic(auto, using(crate::proofs::CodeLemmas::codes))]
-fn code_of_bytes<S: Sink>(
+pub fn code_of_bytes<S: Sink>(
     alloc: Global,
     name: &[u8],
     bytes: Vec<u8>,
     out: &mut S,
 ) -> Result<Code, Status>
-    requires { length bytes.items ≤ file_limit }
+    requires size { length bytes.items ≤ file_limit }
     ensures does { IsTrue S.tells → (c : Contents) →
         Does (code_in name.now bytes.items) c (S.taken out.old) result c (S.taken out.new) }
     ensures counts { (faults absences longs : ℕ) → Tallies result

@@ -15,6 +15,6 @@ mod texts;
 mod tree;
 
 pub use assembly::read_assembly;
-pub use code::read_code;
+pub use code::{code_of_bytes, read_code};
 pub use commands::{assemble_file, disassemble_file, show_tree, write_and_put};
 pub use tree::read_tree;

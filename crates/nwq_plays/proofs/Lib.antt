@@ -1,4 +1,3 @@
-mod LoadLemmas
 mod OneCode
 mod PlayLemmas
 mod Steps

@@ -1,98 +1,24 @@
 -- One thing comes of the bytes of a compiled file.
-use Rattle.std.proofs.Common.{◌≡◌, ◌≢◌, ℕ, List, length, drop, Option, Some, None, sym, ap, ◌∙◌, subst, refl, arith}
-use Rattle.std.specs.List.{AllByRecursion}
-use Rattle.ncs_code.specs.Plain.{PlainOp}
-use Rattle.ncs_code.specs.Spelling.{IsOp, four}
-use Rattle.ncs_code.specs.Reading.{ops_of}
-use Rattle.ncs_code.specs.File.{IsCode, spellings, file_bytes}
-use Rattle.ncs_code.specs.Laws.{SpellingLaws}
-use Rattle.ncs_file.specs.declared.fault.LoadFault.{LoadFault}
-use Rattle.ncs_file.specs.declared.fault.LoadFault.TheVariants.{NoMemory}
-use Rattle.ncs_file.specs.Loading.{Fails}
-use Rattle.ncs_file.specs.Laws.{OneFault, NoFaultInCode}
-use Rattle.nwq_work.specs.declared.flaw.CodeFlaw.{CodeFlaw}
-use Rattle.nwq_work.specs.Outcomes.{IsSure, sure_then}
-use Rattle.nwq_files.specs.Codes.{load_flaw, CodeFate, Whole, Faulty, IsCodeFate, whole, broken, code_by, code_in}
+use Rattle.std.proofs.Common.{ℕ, List}
 use Rattle.nwq_value.specs.Engine.{EngineTable}
-use Rattle.nwq_checks.specs.Checks.{CheckFate, Passes, Unstacked, IsCheckFate, passes, unstacked, check_by, checked_in}
+use Rattle.ncs_code.specs.Plain.{PlainOp}
 use Rattle.saved_state.specs.declared.saved.Saved.{Saved}
 use Rattle.engine_rows.specs.Pure.{CellLookup}
 use Rattle.machine_step.specs.Machine.{Script}
 use Rattle.play_steps.specs.Plays.{PlayEnd, Done, OutOfEntries, StoppedInside, Paused, Played}
+use Rattle.nwq_work.specs.Outcomes.{IsSure, sure_then}
+use Rattle.nwq_files.specs.Codes.{code_in}
+use Rattle.nwq_files.specs.Laws.{SureBytes}
+use Rattle.nwq_checks.specs.Checks.{checked_in}
+use Rattle.nwq_checks.specs.Laws.{SureOps}
 use Rattle.nwq_plays.specs.Plays.{loaded_in, first_world, listed, played, ends_by, tells, plays_code, plays_file}
 use Rattle.nwq_plays.specs.Laws.{SureLoaded, SurePlays}
 
 -- ---- the code
 
-drop_header : (ops : List PlainOp) → drop 13 (file_bytes ops) ≡ spellings ops
-unfolding four
-drop_header ops = refl
-
--- a file is that of one list of instructions
-same_ops : SpellingLaws → (a b : List PlainOp) → AllByRecursion IsOp a → AllByRecursion IsOp b → file_bytes a ≡ file_bytes b → a ≡ b
-same_ops spells a b f g same =
-    let n : ℕ = length (spellings a) in
-    let bytes : spellings a ≡ spellings b = sym (drop_header a) ∙ ap (drop 13) same ∙ drop_header b in
-    sym (spells.listed n a f (omega arith)) ∙ ap (ops_of n) bytes ∙ spells.listed n b g (omega (arith, ap length bytes))
-
-none_some : (why : CodeFlaw) (o : Option CodeFlaw) → o ≡ None → o ≡ Some why → ⊥
-none_some why o p q = let none : ⊥ = cc in none
-
-same_flaw : (a b : CodeFlaw) (o : Option CodeFlaw) → o ≡ Some a → o ≡ Some b → a ≡ b
-same_flaw a b o p q = let same : Some a ≡ Some b = sym p ∙ q in cc
-
--- what is wrong isn't want of memory
-not_memory : (fails : LoadFault) (why : CodeFlaw) → load_flaw fails ≡ Some why → fails ≢ NoMemory
-not_memory fails why is e = none_some why (load_flaw fails) (ap load_flaw e) is
-
--- the laws that are joined
-record Laws : Type 0 where
-  spells : SpellingLaws
-  fault : OneFault
-  none : NoFaultInCode
-
-module _ (laws : Laws) (bytes : List ℕ) where
-  sound : (ops : List PlainOp) (fails : LoadFault) (why : CodeFlaw) → IsCode ops → bytes ≡ file_bytes ops → Fails fails bytes → load_flaw fails ≡ Some why → ⊥
-  sound ops fails why code is h flaw = not_memory fails why flaw (laws.none ops fails code (subst (λ x. Fails fails x) is h))
-
-  one_fate : {a b : CodeFate} → IsCodeFate bytes a → IsCodeFate bytes b → a ≡ b
-  one_fate (whole x h p) (whole y k q) = ap Whole (same_ops laws.spells x y h.each k.each (sym p ∙ q))
-  one_fate (whole x h p) (broken f why k is) = absurd (sound x f why h p k is)
-  one_fate (broken f why h is) (whole y k q) = absurd (sound y f why k q h is)
-  one_fate (broken f why h is) (broken g because k so) =
-      let same : f ≡ g = laws.fault bytes f g h k (not_memory f why is) (not_memory g because so) in
-      ap Faulty (same_flaw why because (load_flaw g) (sym (ap load_flaw same) ∙ is) so)
-
-sure_by : (name : List ℕ) (fate : CodeFate) → IsSure (code_by name fate)
-sure_by name (Whole ops) = tt
-sure_by name (Faulty why) = tt
-
-module _ (laws : Laws) where
-  sure_in : (name bytes : List ℕ) → IsSure (code_in name bytes)
-  unfolding code_in
-  sure_in name bytes = (λ c a b p q. one_fate laws bytes p q, sure_by name)
-
--- ---- the check
-
-module _ (header : EngineTable) (ops : List PlainOp) where
-  one_check : {a b : CheckFate} → IsCheckFate header ops a → IsCheckFate header ops b → a ≡ b
-  one_check (passes h) (passes k) = refl
-  one_check (passes h) (unstacked k) = absurd (k h)
-  one_check (unstacked h) (passes k) = absurd (h k)
-  one_check (unstacked h) (unstacked k) = refl
-
-sure_check_by : (name : List ℕ) (ops : List PlainOp) (fate : CheckFate) → IsSure (check_by name ops fate)
-sure_check_by name ops Passes = tt
-sure_check_by name ops Unstacked = tt
-
-sure_checked : (header : EngineTable) (name : List ℕ) (ops : List PlainOp) → IsSure (checked_in header name ops)
-unfolding checked_in
-sure_checked header name ops = (λ c a b p q. one_check header ops p q, sure_check_by name ops)
-
-pub sure_loaded : SpellingLaws → OneFault → NoFaultInCode → SureLoaded
+pub sure_loaded : SureBytes → SureOps → SureLoaded
 unfolding loaded_in
-sure_loaded spells fault none header name bytes =
-    sure_then (code_in name bytes) (checked_in header name) (sure_in (record { spells = spells; fault = fault; none = none }) name bytes) (sure_checked header name)
+sure_loaded codes checks header name bytes = sure_then (code_in name bytes) (checked_in header name) (codes name bytes) (checks header name)
 
 -- ---- the play
 

@@ -2,8 +2,8 @@
 
 ghost use Rattle.nwq_plays.specs.Laws.{SureLoaded, SurePlays};
 
-use ncs_code::spelling_laws;
-use ncs_file::one_fault;
+use nwq_checks::laws::one_check;
+use nwq_files::laws::one_file;
 
 /// The bytes of a compiled file decide which instructions are played, or why none are, and what
 /// comes of their play.
@@ -11,6 +11,6 @@ pub fn one_code()
     ensures loaded { SureLoaded }
     ensures plays { SurePlays }
 {
-    spelling_laws();
-    one_fault();
+    one_file();
+    one_check();
 }

@@ -10,7 +10,7 @@ pub returns-in-Ok-clause-does : goal.returns-in-Ok-clause-does
 unfolding loaded_in
 returns-in-Ok-clause-does g c = λ tells d.
     then_ok (code_in c.args.name.now c.args.bytes.items) (checked_in c.args.table.now c.args.name.now) c.in-Ok.code d d d
-    (g.S.Sink.taken c.args.out.now) (g.S.Sink.taken c.load_code.new.out) (g.S.Sink.taken c.check_code.new.out) (plain_answer c.check_code.result)
+    (g.S.Sink.taken c.args.out.now) (g.S.Sink.taken c.code_of_bytes.new.out) (g.S.Sink.taken c.check_code.new.out) (plain_answer c.check_code.result)
     (c.in-Ok.ensures.does tells d) (c.check_code.ensures.does tells d)
 
 pub returns-in-Ok-clause-counts : goal.returns-in-Ok-clause-counts
