@@ -9,7 +9,6 @@ ghost use Rattle.ncs_machine.specs.Stored.{StatesFit};
 ghost use Rattle.module_player.specs.EndTexts.{HasText, IsEnding};
 ghost use Rattle.nwq_work.specs.Work.{CutsShort};
 ghost use Rattle.nwq_work.specs.Counts.{Counted, Tallies};
-ghost use Rattle.nwq_plays.specs.Tellings.{cut_of};
 ghost use Rattle.nwq_games.specs.Games.{played};
 ghost use Rattle.nwq_games.specs.Tellings.{TakesText};
 ghost use Rattle.nwq_games.specs.Worlds.{plan_world};
@@ -17,29 +16,16 @@ ghost use Rattle.nwq_games.specs.Worlds.{plan_world};
 use crate::world::world_of;
 use area_tree::Area;
 use hook_table::Hooks;
-use module_player::{How, Played, play};
+use module_player::{Played, play};
 use ncs_machine::Scripts;
 use nwq_outside::Sink;
+use nwq_plays::cut_of;
 use nwq_value::{NoMemory, Table};
 use nwq_work::Status;
 use plan_text::Plan;
 use saved_state::Saved;
 use std::alloc::Global;
 use world_core::World;
-
-/// The status of a play that was cut short.
-fn cut_of(how: How) -> Option<Status>
-    ensures { result ≡ cut_of how }
-{
-    match how {
-        How::Done => None,
-        How::InstrStop => None,
-        How::EntryStop => None,
-        How::Pause => None,
-        How::Fault => Some(Status::Fault),
-        How::NoMemory => Some(Status::Memory),
-    }
-}
 
 /// Plays listed scripts in a world with the limits of a plan. The lines are put as they come.
 #[tactic(auto, using(crate::proofs::PlayLemmas::plays_out))]

@@ -15,5 +15,5 @@ mod world;
 
 pub use load::load_checked;
 pub use play::play_file;
-pub use telling::ending_of;
+pub use telling::{cut_of, ending_of};
 pub use world::list_one;

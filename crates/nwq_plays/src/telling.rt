@@ -23,8 +23,8 @@ use std::alloc::Global;
 use world_core::World;
 
 /// The status of a play that was cut short.
-pub(crate) fn cut_of(how: How) -> Option<Status>
-    ensures { result ≡ cut_of how }
+pub fn cut_of(how: How) -> Option<Status>
+    ensures status { result ≡ cut_of how }
 {
     match how {
         How::Done => None,
