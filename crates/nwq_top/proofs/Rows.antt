@@ -4,6 +4,7 @@ use Rattle.std.specs.Prelude.{codes}
 use Rattle.std.specs.Fmt.{digits}
 use Rattle.nwq_text.specs.Escape.{escaped, spelling}
 use Rattle.nwq_work.specs.declared.cause.Cause.TheVariants as cause
+use Rattle.plan_text.specs.Fields.{is_script_name}
 use Rattle.gff_bytes.specs.declared.rows.Part.TheVariants as part
 use Rattle.nwq_work.specs.declared.flaw.CodeFlaw.TheVariants as code
 use Rattle.nwq_work.specs.declared.flaw.AreaFlaw.TheVariants as area
@@ -54,18 +55,22 @@ line_of_assembly = refl
 
 -- words
 built_in_header : form_of (codes "run" ∷ codes "-" ∷ codes "p" ∷ []) ≡ Run (codes "-") (codes "p")
+unfolding is_script_name
 built_in_header = refl
 
 header_file : form_of (codes "run" ∷ codes "h.nss" ∷ codes "p" ∷ []) ≡ Run (codes "h.nss") (codes "p")
+unfolding is_script_name
 header_file = refl
 
 compile_words : form_of (codes "compile" ∷ codes "-" ∷ codes "p" ∷ []) ≡ Compile (codes "-") (codes "p")
+unfolding is_script_name
 compile_words = refl
 
 short_words : form_of (codes "run" ∷ codes "-" ∷ []) ≡ NoForm
 short_words = refl
 
 capital_words : form_of (codes "run" ∷ codes "-" ∷ codes "P" ∷ []) ≡ NoForm
+unfolding is_script_name
 capital_words = refl
 
 dashed_words : form_of (codes "run" ∷ codes "-h" ∷ codes "p" ∷ []) ≡ NoForm

@@ -1,8 +1,9 @@
 -- The words of the command line.
-use Rattle.std.specs.Prelude.{◌≡◌, ◌≤◌, ℕ, Bool, false, cond, ◌&&◌, ◌||◌, ◌==◌, nat_le, List, [], ◌∷◌, length, codes, bytes_eq, Option, None, Some}
-use Rattle.std.specs.List.{list_all, list_any}
+use Rattle.std.specs.Prelude.{◌≡◌, ◌≤◌, ℕ, Bool, false, cond, ◌==◌, nat_le, List, [], ◌∷◌, codes, bytes_eq, Option, None, Some}
+use Rattle.std.specs.List.{list_any}
 use Rattle.std.specs.Option.{option_map}
 use Rattle.nwq_text.specs.Number.{number_of}
+use Rattle.plan_text.specs.Fields.{is_script_name}
 use Rattle.play_generator.specs.Made.{number_limit}
 use Rattle.nwq_top.specs.declared.words.Command.{Command}
 use Rattle.nwq_top.specs.declared.words.Command.TheVariants as command
@@ -17,17 +18,6 @@ pub data Form : Type 0 where
   Play : (header area plan to : List ℕ) → (list : Option (List ℕ)) → Form  -- the header as for `Run`, and the list of tables, if there is one
   Generate : (number : ℕ) → Form
   NoForm : Form
-
-abbrev pub is_between : ℕ → ℕ → ℕ → Bool
-is_between low high b = nat_le low b && nat_le b high
-
--- a to z, 0 to 9 and the underscore
-abbrev pub is_script_byte : ℕ → Bool
-is_script_byte b = is_between 97 122 b || is_between 48 57 b || b == 95
-
--- 1 to 16 such bytes
-abbrev pub is_script_name : List ℕ → Bool
-is_script_name name = nat_le 1 (length name) && nat_le (length name) 16 && list_all is_script_byte name
 
 -- a word that begins with `-` and isn't `-` alone
 abbrev pub is_option : List ℕ → Bool

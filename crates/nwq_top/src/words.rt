@@ -1,17 +1,14 @@
 ghost use Rattle.std.specs.Prelude.{◌≡◌, map, string_bytes, bytes_eq};
-ghost use Rattle.std.specs.List.{list_all, list_any};
+ghost use Rattle.std.specs.List.{list_any};
 ghost use Rattle.std.specs.Option.{option_map};
 ghost use Rattle.nwq_text.specs.Number.{number_of};
-ghost use Rattle.nwq_top.specs.Words.{is_script_byte, is_script_name, is_option, command_form};
-ghost use Rattle.nwq_top.specs.Words.{generate_form, one_word_form, two_word_form, run_form};
-ghost use Rattle.nwq_top.specs.Words.{compile_form, play_form};
+ghost use Rattle.nwq_top.specs.Words.{is_option, command_form, generate_form, one_word_form};
+ghost use Rattle.nwq_top.specs.Words.{two_word_form, run_form, compile_form, play_form};
 ghost use Rattle.nwq_top.specs.Words.{form_of, list_of, IsCommand};
 
 use nwq_text::read_number;
+use plan_text::names_script;
 use play_generator::NUMBER_LIMIT;
-
-/// How many characters the name of a script has at most.
-const NAME_MOST: usize = 16;
 
 /// A command, as its words say it.
 #[derive(Clone, Copy)]
@@ -41,26 +38,6 @@ pub enum Command<'a> {
     Generate(u32),
     /// The words are no form of a command.
     NoForm,
-}
-
-fn is_of_script(byte: u8) -> bool
-    ensures { result ≡ is_script_byte byte }
-{
-    (b'a' <= byte && byte <= b'z') || (b'0' <= byte && byte <= b'9') || byte == b'_'
-}
-
-fn all_of_script(bytes: &[u8]) -> bool
-    ensures { result ≡ list_all is_script_byte bytes.now }
-{
-    bytes.iter().all(|byte| is_of_script(*byte))
-}
-
-/// Whether this is the name of a script.
-fn names_script(name: &str) -> bool
-    ensures { result ≡ is_script_name name.now }
-{
-    let bytes = name.as_bytes();
-    1 <= bytes.len() && bytes.len() <= NAME_MOST && all_of_script(bytes)
 }
 
 /// Whether the word begins with `-` and isn't `-` alone.
@@ -117,7 +94,7 @@ fn one_word<'a>(command: &str, word: &'a str) -> Command<'a>
 fn run_words<'a>(header: &'a str, script: &'a str) -> Command<'a>
     ensures { IsCommand result (run_form header.now script.now) }
 {
-    if names_script(script) {
+    if names_script(script.as_bytes()) {
         Command::Run(header, script)
     } else {
         Command::NoForm
@@ -127,7 +104,7 @@ fn run_words<'a>(header: &'a str, script: &'a str) -> Command<'a>
 fn compile_words<'a>(header: &'a str, script: &'a str) -> Command<'a>
     ensures { IsCommand result (compile_form header.now script.now) }
 {
-    if names_script(script) {
+    if names_script(script.as_bytes()) {
         Command::Compile(header, script)
     } else {
         Command::NoForm
