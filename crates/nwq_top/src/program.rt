@@ -19,8 +19,9 @@ use std::alloc::Global;
 use table_2da::Tables;
 
 /// What is said on standard error after words that are no form of a command.
-const USAGE: &str =
-    "usage: nwq run HEADER SCRIPT | compile HEADER SCRIPT | tree FILE | check HEADER FILE | dis FILE TO | asm FILE TO | play HEADER AREA PLAN TO [TABLES] | generate NUMBER (HEADER: a header file, or - for the built-in one)\n";
+const USAGE: &str = "usage: nwq run HEADER SCRIPT | compile HEADER SCRIPT | tree FILE \
+    | check HEADER FILE | dis FILE TO | asm FILE TO | play HEADER AREA PLAN TO [TABLES] \
+    | generate NUMBER (HEADER: a header file, or - for the built-in one)\n";
 
 /// The words after the program's name, which is the first of all.
 fn after_name(all: &[String]) -> &[String]
