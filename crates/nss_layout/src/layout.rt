@@ -1,7 +1,7 @@
-ghost use Rattle.std.specs.Prelude.{◌≡◌, ◌<◌, ◌^◌, length, slice_get, slice_index_or, Some, IfOk};
+ghost use Rattle.std.specs.Prelude.{◌≡◌, ◌<◌, ◌^◌, slice_index_or, IfOk};
 ghost use Rattle.std.specs.Prelude.{[]};
 ghost use Rattle.nss_typing.specs.UnitReading.{typed_unit};
-ghost use Rattle.code_emission.specs.Layout.{cell_types, cells, layout_of, position};
+ghost use Rattle.code_emission.specs.Layout.{cells, layout_of, position};
 
 use crate::frames::items_positions;
 use crate::structs::{cells_of, struct_types, structs_of};
@@ -67,17 +67,6 @@ impl Layout {
         ensures types { result.now ≡ slice_index_or self.now.structs number [] }
     {
         struct_types(self.structs.as_slice(), number)
-    }
-
-    /// The type of cell `i` of a value of the type.
-    pub fn cell(&self, ty: Ty, i: u32) -> Ty
-        requires inside { i < cells self.now.structs ty }
-        ensures cell { slice_get (cell_types self.now.structs ty) i ≡ Some result }
-    {
-        match ty {
-            Ty::Struct(number) => self.struct_cells(number)[i as usize],
-            _ => ty,
-        }
     }
 }
 

@@ -12,8 +12,8 @@ ghost use Rattle.nwq_work.specs.Work.{Does};
 ghost use Rattle.nwq_work.specs.Parts.{Refuses};
 ghost use Rattle.nwq_work.specs.Counts.{Counted, Tallies, TalliesEnd, Refusing, StopsSource};
 ghost use Rattle.nwq_sources.specs.Reading.{HasFault, HasTree, IsCounted};
-ghost use Rattle.nwq_sources.specs.Scripts.{plain_script, plain_answer};
-ghost use Rattle.nwq_sources.specs.Units.{spot_at, spot_of, at_spot, at_token, unit_of};
+ghost use Rattle.nwq_sources.specs.Scripts.{plain_answer};
+ghost use Rattle.nwq_sources.specs.Units.{spot_at, spot_of, at_spot, unit_of};
 
 use crate::script::Script;
 use nss_include::{GatherFault, Spot, Unit, gather};
@@ -24,20 +24,6 @@ use nwq_outside::{Files, Sink};
 use nwq_value::NoMemory;
 use nwq_work::{Cause, Status, refuse_absent, refuse_at, refuse_long};
 use std::alloc::Global;
-
-impl Script {
-    /// Refuses the script at token `i`, or, where there is none, at the end of its file.
-    pub fn refuse<S: Sink>(&self, alloc: Global, i: usize, cause: Cause, out: &mut S) -> Status
-        ensures does { IsTrue S.tells → Refuses (at_token (plain_script self.now) i cause)
-            (S.taken out.old) result (S.taken out.new) }
-        ensures counts { (faults absences longs : ℕ) → TalliesEnd result
-            (Counted faults absences longs (S.faults out.old))
-            (Counted faults absences longs (S.faults out.new)) }
-        ensures only { Refusing Status.Script result }
-    {
-        refuse_token(alloc, &self.unit, i, cause, out)
-    }
-}
 
 fn token_at<'a>(tokens: &[Token<'a>], i: usize) -> Option<Token<'a>>
     ensures { result ≡ slice_get tokens.now i }

@@ -1,5 +1,5 @@
 ghost use Rattle.std.specs.Prelude.{◌≡◌, ◌≤◌, ◌<◌, [], ◌∷◌, length, IfOk, OnErr, IfSome};
-ghost use Rattle.std.specs.Prelude.{MatchOption, ◌++◌, ◌↔◌, IsTrue, slice_get, Some};
+ghost use Rattle.std.specs.Prelude.{MatchOption, ◌++◌, ◌↔◌, IsTrue};
 ghost use Rattle.stack_check.specs.Shared.{Grows, read};
 
 use nwq_value::{Items, NoMemory};
@@ -51,17 +51,6 @@ impl<T> Lists<T> {
 }
 
 impl<T: Copy> Lists<T> {
-    /// The node with a number, counted from 0.
-    pub fn node(&self, k: usize) -> Node<T>
-        requires inside { k < length self.now }
-        ensures node { slice_get self.now k ≡ Some result }
-    {
-        match self.nodes.get(k) {
-            None => unreachable!(),
-            Some(node) => *node,
-        }
-    }
-
     /// The list of an item on top of a list.
     #[tactic(auto, using(crate::proofs::Reading::pushing))]
     pub fn push(&mut self, below: u32, item: T) -> Result<u32, NoMemory>
