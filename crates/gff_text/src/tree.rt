@@ -11,7 +11,7 @@ ghost use Rattle.gff_text.specs.Text.{tree_text};
 
 use crate::lines::{deeper, put_bytes, put_spaces};
 use crate::value::put_leaf;
-use gff_tree::{Field, Gff, Leaf, LocPart, Node, readings_tell};
+use gff_tree::{Gff, Leaf, LocPart, Node, readings_tell};
 use nwq_text::{put_count, put_number, put_quoted, put_text};
 use nwq_value::NoMemory;
 use std::alloc::Global;

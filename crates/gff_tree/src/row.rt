@@ -16,7 +16,7 @@ use crate::kind::Kind;
 use crate::label::{Label, before_zero};
 use crate::scalar::leaf;
 use crate::tree::Leaf;
-use gff_bytes::{FILE_BYTES, StructRow, View};
+use gff_bytes::{StructRow, View};
 use std::alloc::Global;
 use std::collections::BTreeSet;
 

@@ -10,7 +10,7 @@ use crate::fault::TreeFault;
 use crate::kind::Kind;
 use crate::tree::{Leaf, Loc, LocPart, Parts};
 use byteorder::{ByteOrder, LittleEndian};
-use gff_bytes::{FILE_BYTES, Part, Range, View};
+use gff_bytes::{Part, Range, View};
 use nwq_value::Items;
 use std::alloc::Global;
 

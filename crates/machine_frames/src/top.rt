@@ -7,7 +7,6 @@ ghost use Rattle.machine_frames.specs.Tops.{HasInt, HasText, HasValue};
 
 use nwq_value::{NoMemory, Text, Value};
 use saved_state::{Cell, Stack};
-use std::alloc::Global;
 
 /// The cell that lies so many others down.
 #[tactic(auto, using(crate::proofs::Depths::cell_down))]

@@ -19,7 +19,6 @@ ghost use Rattle.module_player.specs.Turns.{lines_text};
 use crate::entry::enter;
 use crate::setting::Setting;
 use delay_agenda::Entry;
-use engine_rows::entries_keep_worlds;
 use ncs_machine::entries_keep_fits;
 use nwq_outside::{Done, Sink};
 use saved_state::Saved;

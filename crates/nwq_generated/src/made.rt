@@ -6,7 +6,6 @@ ghost use Rattle.plan_text.specs.Plans.{IsPlan};
 ghost use Rattle.nwq_generated.specs.Generated.{plan_of};
 
 use area_tree::{Area, AreaFault};
-use gff_tree::Gff;
 use nwq_value::NoMemory;
 use plan_text::laws::{one_plan, plans_keep};
 use plan_text::{Plan, PlanFault, read_plan};

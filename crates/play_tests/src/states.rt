@@ -1,4 +1,4 @@
-use nwq_value::{NoMemory, Text, Value};
+use nwq_value::{NoMemory, Value};
 use saved_state::*;
 use std::alloc::Global;
 use std::test::*;

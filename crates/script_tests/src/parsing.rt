@@ -7,7 +7,6 @@ use nss_parser::{ParseFault, parse};
 use nss_tree::{Expr, Item, Stmt, Tree};
 use nwq_value::NoMemory;
 use std::alloc::Global;
-use std::test::Fail;
 
 /// The tokens of a script.
 #[tactic(auto, using(crate::proofs::TestLaws::token_is, crate::proofs::TestLaws::all_push))]

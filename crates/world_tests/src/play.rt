@@ -9,7 +9,7 @@ ghost use Rattle.engine_rows.specs.World.{count};
 ghost use Rattle.world_core.specs.Calls.{planned, IsEarly};
 
 use area_tree::Area;
-use delay_agenda::{Entry, Kind};
+use delay_agenda::Kind;
 use engine_table::built_in;
 use gff_bytes::View;
 use gff_tree::read;
