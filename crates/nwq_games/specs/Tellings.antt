@@ -1,10 +1,8 @@
 -- What is said of a play's files and statuses.
-use Rattle.std.specs.Prelude.{◌≡◌, ℕ, ◌⊎◌, IsTrue, List, ◌++◌, Result, Ok, Err}
-use Rattle.nwq_outside.specs.Outside.{TookPrefix}
+use Rattle.std.specs.Prelude.{◌≡◌, ℕ, ◌⊎◌, IsTrue, List}
 use Rattle.plan_text.specs.Fields.{is_script_name}
 use Rattle.nwq_work.specs.declared.status.Status.{Status}
 use Rattle.nwq_work.specs.declared.status.Status.TheVariants.{Script, Code, Area, Limit}
-use Rattle.nwq_work.specs.Work.{CutsShort}
 use Rattle.nwq_work.specs.Counts.{StopsRead}
 use Rattle.nwq_scripts.specs.Files.{code_name}
 
@@ -25,8 +23,3 @@ StopsGame Code = Unit {0}
 StopsGame Area = Unit {0}
 StopsGame Limit = Unit {0}
 StopsGame status = StopsRead status
-
--- what a sink took of a text, by the answer: all of it, or a prefix where the work was cut
-abbrev pub TakesText : {A : Type 0} → List ℕ → List ℕ → Result A Status → List ℕ → Type 0
-TakesText text t (Ok a) t' = t' ≡ t ++ text
-TakesText text t (Err cut) t' = CutsShort cut × TookPrefix text t t'

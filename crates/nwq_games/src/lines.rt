@@ -9,8 +9,8 @@ ghost use Rattle.ncs_machine.specs.Stored.{StatesFit};
 ghost use Rattle.module_player.specs.EndTexts.{HasText, IsEnding};
 ghost use Rattle.nwq_work.specs.Work.{CutsShort};
 ghost use Rattle.nwq_work.specs.Counts.{Counted, Tallies};
+ghost use Rattle.nwq_plays.specs.Tellings.{TakesText};
 ghost use Rattle.nwq_games.specs.Games.{played};
-ghost use Rattle.nwq_games.specs.Tellings.{TakesText};
 ghost use Rattle.nwq_games.specs.Worlds.{plan_world};
 
 use crate::world::world_of;
@@ -19,7 +19,7 @@ use hook_table::Hooks;
 use module_player::{Played, play};
 use ncs_machine::Scripts;
 use nwq_outside::Sink;
-use nwq_plays::cut_of;
+use nwq_plays::told_whole;
 use nwq_value::{NoMemory, Table};
 use nwq_work::Status;
 use plan_text::Plan;
@@ -69,10 +69,7 @@ fn play_out<S: Sink>(
         plan.until,
         out,
     );
-    match cut_of(played.how) {
-        Some(status) => Err(status),
-        None => Ok(played),
-    }
+    told_whole(played)
 }
 
 /// Plays listed scripts in a world with the limits of a plan, and hands on the world.

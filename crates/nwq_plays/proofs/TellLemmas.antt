@@ -19,8 +19,90 @@ use Rattle.nwq_work.specs.Counts.{Counts, Counted, Tallies, TalliesEnd, Refusing
 use Rattle.nwq_plays.specs.Plays.{ends_by, tells_end, tells}
 use Rattle.nwq_plays.specs.Tellings.{cut_of}
 
+-- ---- a play's answer
+
 same_status : {x y : Status} → Some x ≡ Some y → x ≡ y
 same_status e = cc
+
+module _ (how : How) (s : Status) (is : Some s ≡ cut_of how) where
+  pub cut_takes : (text t t' : List ℕ) → TakesTrace how text t t' → CutsShort s × TookPrefix text t t'
+  cut_takes text t t' took = by_how how is took
+    where
+      by_how : (h : How) → Some s ≡ cut_of h → TakesTrace h text t t' → CutsShort s × TookPrefix text t t'
+      by_how Done e k = absurd cc
+      by_how InstrStop e k = absurd cc
+      by_how EntryStop e k = absurd cc
+      by_how Pause e k = absurd cc
+      by_how Fault e k = (subst CutsShort (same_status (sym e)) tt, k)
+      by_how NoMemory e k = (subst CutsShort (same_status (sym e)) tt, k)
+
+  pub cut_counts : (puts puts' faults absences longs : ℕ) → CountsPlay how puts puts'
+      → TalliesEnd s (Counted faults absences longs puts) (Counted faults absences longs puts')
+  cut_counts puts puts' faults absences longs counts = by_how how is counts
+    where
+      by_how : (h : How) → Some s ≡ cut_of h → CountsPlay h puts puts' → TalliesEnd s (Counted faults absences longs puts) (Counted faults absences longs puts')
+      by_how Done e k = absurd cc
+      by_how InstrStop e k = absurd cc
+      by_how EntryStop e k = absurd cc
+      by_how Pause e k = absurd cc
+      by_how Fault e k =
+          subst (λ x. TalliesEnd x (Counted faults absences longs puts) (Counted faults absences longs puts')) (same_status (sym e)) (inr (refl, k, inl (refl, refl)))
+      by_how NoMemory e k =
+          subst (λ x. TalliesEnd x (Counted faults absences longs puts) (Counted faults absences longs puts')) (same_status (sym e)) (refl, k, inl (refl, refl))
+
+  pub cut_shorts : CutsShort s
+  cut_shorts = by_how how is
+    where
+      by_how : (h : How) → Some s ≡ cut_of h → CutsShort s
+      by_how Done e = absurd cc
+      by_how InstrStop e = absurd cc
+      by_how EntryStop e = absurd cc
+      by_how Pause e = absurd cc
+      by_how Fault e = subst CutsShort (same_status (sym e)) tt
+      by_how NoMemory e = subst CutsShort (same_status (sym e)) tt
+
+pub whole_takes : (how : How) (text t t' : List ℕ) → None ≡ cut_of how → TakesTrace how text t t' → t' ≡ t ++ text
+whole_takes Done text t t' is took = took
+whole_takes InstrStop text t t' is took = took
+whole_takes EntryStop text t t' is took = took
+whole_takes Pause text t t' is took = took
+whole_takes Fault text t t' is took = absurd cc
+whole_takes NoMemory text t t' is took = absurd cc
+
+pub whole_counts : (how : How) (puts puts' : ℕ) → None ≡ cut_of how → CountsPlay how puts puts' → puts' ≡ puts
+whole_counts Done puts puts' is counts = counts
+whole_counts InstrStop puts puts' is counts = counts
+whole_counts EntryStop puts puts' is counts = counts
+whole_counts Pause puts puts' is counts = counts
+whole_counts Fault puts puts' is counts = absurd cc
+whole_counts NoMemory puts puts' is counts = absurd cc
+
+-- a whole play has a text at its end
+pub text_there : (how : How) → None ≡ cut_of how → how ≢ Pause → HasText how
+text_there Done is whole = tt
+text_there InstrStop is whole = tt
+text_there EntryStop is whole = tt
+text_there Pause is whole = absurd (whole refl)
+text_there Fault is whole = absurd cc
+text_there NoMemory is whole = absurd cc
+
+where_told : (how : How) (fact : Type 0) → None ≡ cut_of how → WherePlayed how fact → fact
+where_told Done fact is h = h
+where_told InstrStop fact is h = h
+where_told EntryStop fact is h = h
+where_told Pause fact is h = h
+where_told Fault fact is h = absurd cc
+where_told NoMemory fact is h = absurd cc
+
+pub ending_is : (answer : Answer) (p : Played Saved) (w : World Saved) → None ≡ cut_of answer.how → EndsAs answer.how p.ending
+    → WherePlayed answer.how (answer.entries ≡ p.last.entries) → WherePlayed answer.how (answer.instructions ≡ p.last.count)
+    → WherePlayed answer.how (w ≡ p.last.world) → IsEnding answer p w
+ending_is answer p w told ending entries count world = record {
+  ending = ending;
+  entries = where_told answer.how _ told entries;
+  instructions = where_told answer.how _ told count;
+  world = where_told answer.how _ told world;
+}
 
 -- ---- the end
 
@@ -59,95 +141,10 @@ pub ruleset ends = (limit_counts, end_whole, end_cut, limit_refuses, cut_refuses
 
 -- ---- the trace, and what follows
 
-cut_by : (how : How) (s : Status) → cut_of how ≡ Some s → (text t t' : List ℕ) → TakesTrace how text t t' → CutsShort s × TookPrefix text t t'
-cut_by Done s is text t t' took = absurd cc
-cut_by InstrStop s is text t t' took = absurd cc
-cut_by EntryStop s is text t t' took = absurd cc
-cut_by Pause s is text t t' took = absurd cc
-cut_by Fault s is text t t' took = (subst CutsShort (same_status is) tt, took)
-cut_by NoMemory s is text t t' took = (subst CutsShort (same_status is) tt, took)
+module _ (scripts : List Script) (p : Played Saved) (c : Contents) (t t' : List ℕ) where
+  pub trace_cut : (s : Status) → CutsShort s × TookPrefix (trace_text p.last.trace) t t' → Does (tells scripts p) c t (Err s) c t'
+  trace_cut s h = inl (h.0, refl, h.1)
 
-whole_by : (how : How) → cut_of how ≡ None → (text t t' : List ℕ) → TakesTrace how text t t' → t' ≡ t ++ text
-whole_by Done is text t t' took = took
-whole_by InstrStop is text t t' took = took
-whole_by EntryStop is text t t' took = took
-whole_by Pause is text t t' took = took
-whole_by Fault is text t t' took = absurd cc
-whole_by NoMemory is text t t' took = absurd cc
-
-module _ (scripts : List Script) (p : Played Saved) (c : Contents) (how : How) (t t' : List ℕ) where
-  pub trace_cut : (s : Status) → Some s ≡ cut_of how → TakesTrace how (trace_text p.last.trace) t t' → Does (tells scripts p) c t (Err s) c t'
-  trace_cut s is took = let h = cut_by how s (sym is) (trace_text p.last.trace) t t' took in inl (h.0, refl, h.1)
-
-  pub trace_whole : (r : Result Finished Status) (t'' : List ℕ) → None ≡ cut_of how → TakesTrace how (trace_text p.last.trace) t t'
-      → Does (tells_end scripts p) c t' r c t'' → Does (tells scripts p) c t r c t''
-  trace_whole r t'' is took does =
-      inr (subst (λ x. Does (tells_end scripts p) c x r c t'') (whole_by how (sym is) (trace_text p.last.trace) t t' took) does)
-
--- the whole play has a text at its end
-pub text_there : (how : How) → None ≡ cut_of how → how ≢ Pause → HasText how
-text_there Done is whole = tt
-text_there InstrStop is whole = tt
-text_there EntryStop is whole = tt
-text_there Pause is whole = absurd (whole refl)
-text_there Fault is whole = absurd cc
-text_there NoMemory is whole = absurd cc
-
-where_told : (how : How) (fact : Type 0) → None ≡ cut_of how → WherePlayed how fact → fact
-where_told Done fact is h = h
-where_told InstrStop fact is h = h
-where_told EntryStop fact is h = h
-where_told Pause fact is h = h
-where_told Fault fact is h = absurd cc
-where_told NoMemory fact is h = absurd cc
-
-pub ending_is : (answer : Answer) (p : Played Saved) (w : World Saved) → None ≡ cut_of answer.how → EndsAs answer.how p.ending
-    → WherePlayed answer.how (answer.entries ≡ p.last.entries) → WherePlayed answer.how (answer.instructions ≡ p.last.count)
-    → WherePlayed answer.how (w ≡ p.last.world) → IsEnding answer p w
-ending_is answer p w told ending entries count world = record {
-  ending = ending;
-  entries = where_told answer.how _ told entries;
-  instructions = where_told answer.how _ told count;
-  world = where_told answer.how _ told world;
-}
-
--- ---- the counts
-
-module _ (how : How) (puts puts' : ℕ) where
-  pub play_counts : (s : Status) (faults absences longs : ℕ) → Some s ≡ cut_of how → CountsPlay how puts puts'
-      → TalliesEnd s (Counted faults absences longs puts) (Counted faults absences longs puts')
-  play_counts s faults absences longs is counts = by_how how is counts
-    where
-      by_how : (h : How) → Some s ≡ cut_of h → CountsPlay h puts puts' → TalliesEnd s (Counted faults absences longs puts) (Counted faults absences longs puts')
-      by_how Done e k = absurd cc
-      by_how InstrStop e k = absurd cc
-      by_how EntryStop e k = absurd cc
-      by_how Pause e k = absurd cc
-      by_how Fault e k = subst (λ x. TalliesEnd x (Counted faults absences longs puts) (Counted faults absences longs puts')) (same_status (sym e)) (inr (refl, k, inl (refl, refl)))
-      by_how NoMemory e k = subst (λ x. TalliesEnd x (Counted faults absences longs puts) (Counted faults absences longs puts')) (same_status (sym e)) (refl, k, inl (refl, refl))
-
-  pub told_same : None ≡ cut_of how → CountsPlay how puts puts' → puts' ≡ puts
-  told_same is counts = by_how how is counts
-    where
-      by_how : (h : How) → None ≡ cut_of h → CountsPlay h puts puts' → puts' ≡ puts
-      by_how Done e k = k
-      by_how InstrStop e k = k
-      by_how EntryStop e k = k
-      by_how Pause e k = k
-      by_how Fault e k = absurd cc
-      by_how NoMemory e k = absurd cc
-
-pub told_counts : (how : How) (puts puts' puts'' : ℕ) (r : Result Finished Status) (faults absences longs : ℕ) → None ≡ cut_of how → CountsPlay how puts puts'
-    → Tallies r (Counted faults absences longs puts') (Counted faults absences longs puts'') → Tallies r (Counted faults absences longs puts) (Counted faults absences longs puts'')
-told_counts how puts puts' puts'' r faults absences longs is counts tallies =
-    subst (λ x. Tallies r (Counted faults absences longs x) (Counted faults absences longs puts'')) (told_same how puts puts' is counts) tallies
-
-pub cut_stops : (how : How) (s : Status) → Some s ≡ cut_of how → Refusing status.Limit s
-cut_stops Done s is = absurd cc
-cut_stops InstrStop s is = absurd cc
-cut_stops EntryStop s is = absurd cc
-cut_stops Pause s is = absurd cc
-cut_stops Fault s is = inr (subst CutsShort (same_status (sym is)) tt)
-cut_stops NoMemory s is = inr (subst CutsShort (same_status (sym is)) tt)
-
-pub ruleset plays_lemmas = (trace_cut, trace_whole, text_there, ending_is, play_counts, told_counts, cut_stops)
+  pub trace_whole : (r : Result Finished Status) (t'' : List ℕ) → t' ≡ t ++ trace_text p.last.trace → Does (tells_end scripts p) c t' r c t''
+      → Does (tells scripts p) c t r c t''
+  trace_whole r t'' taken does = inr (subst (λ x. Does (tells_end scripts p) c x r c t'') taken does)

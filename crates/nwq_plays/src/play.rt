@@ -15,7 +15,7 @@ ghost use Rattle.nwq_plays.specs.Plays.{listed, played, tells, plays_code, plays
 ghost use Rattle.nwq_plays.specs.Tellings.{StopsPlay};
 
 use crate::load::load_checked;
-use crate::telling::{cut_of, tell_end};
+use crate::telling::{tell_end, told_whole};
 use crate::world::{first_world, list_one};
 use hook_table::Hooks;
 use module_player::play;
@@ -38,7 +38,7 @@ const ENTRIES: u64 = 10_000;
 const UNTIL: u64 = 60_000;
 
 /// Plays listed scripts in a world, and tells the play.
-#[tactic(auto, using(crate::proofs::TellLemmas::plays_lemmas))]
+#[tactic(auto, using(crate::proofs::TellLemmas::cut_refuses))]
 fn play_world<S: Sink>(
     alloc: Global,
     table: &Table,
@@ -73,12 +73,12 @@ fn play_world<S: Sink>(
         UNTIL,
         out,
     );
-    match cut_of(played.how) {
-        Some(status) => {
+    match told_whole(played) {
+        Err(status) => {
             drop(world);
             Err(status)
         }
-        None => tell_end(alloc, world, scripts, &played, out),
+        Ok(played) => tell_end(alloc, world, scripts, &played, out),
     }
 }
 
