@@ -21,7 +21,7 @@ use nss_scopes::sight::{counted, crosses};
 use nss_scopes::{Member, Members, Places, Structs};
 use nss_tree::{FieldLine, Identifier};
 use nss_typing::{Fault, FaultKind, TypedLine};
-use nwq_value::{Items, NoMemory, Text, Ty};
+use nwq_value::{Items, NoMemory, Ty};
 use std::alloc::Global;
 
 /// How many cells a struct has at most.

@@ -36,7 +36,7 @@ use nss_tree::{Item, Parameter, Stmt, TypeName};
 use nss_typing::laws::scopes_only_add;
 use nss_typing::rules::same_type;
 use nss_typing::{Fault, FaultKind, TypedItem, TypedParameter, TypedStmt};
-use nwq_value::{Const, Items, NoMemory, Param, Params, Table, Text, Ty};
+use nwq_value::{Const, Items, NoMemory, Param, Params, Text, Ty};
 use std::alloc::Global;
 
 /// The typed parameters and the result of a function.
