@@ -97,6 +97,30 @@ const OPERATORS: &[Row] = &[
         Some((FaultKind::Mismatch, 9)),
     ),
     (
+        b"void main() { string s; s /= 1; }",
+        Some((FaultKind::Mismatch, 9)),
+    ),
+    (
+        b"void main() { string s; s %= 1; }",
+        Some((FaultKind::Mismatch, 9)),
+    ),
+    (
+        b"void main() { string s; s &= 1; }",
+        Some((FaultKind::Mismatch, 9)),
+    ),
+    (
+        b"void main() { string s; s ^= 1; }",
+        Some((FaultKind::Mismatch, 9)),
+    ),
+    (
+        b"void main() { string s; s >>= 1; }",
+        Some((FaultKind::Mismatch, 9)),
+    ),
+    (
+        b"void main() { string s; s >>>= 1; }",
+        Some((FaultKind::Mismatch, 9)),
+    ),
+    (
         b"void main() { int a; a |= OBJECT_SELF; }",
         Some((FaultKind::Mismatch, 9)),
     ),
@@ -108,12 +132,29 @@ const OPERATORS: &[Row] = &[
         b"void main() { object o; o--; }",
         Some((FaultKind::Mismatch, 9)),
     ),
+    (
+        b"void main() { string s; ++s; }",
+        Some((FaultKind::Mismatch, 8)),
+    ),
     (b"void main() { 1 += 2; }", Some((FaultKind::NotPlace, 6))),
+    (b"void main() { 1 -= 2; }", Some((FaultKind::NotPlace, 6))),
+    (b"void main() { 1 *= 2; }", Some((FaultKind::NotPlace, 6))),
+    (b"void main() { 1 /= 2; }", Some((FaultKind::NotPlace, 6))),
+    (b"void main() { 1 %= 2; }", Some((FaultKind::NotPlace, 6))),
+    (b"void main() { 1 &= 2; }", Some((FaultKind::NotPlace, 6))),
+    (b"void main() { 1 |= 2; }", Some((FaultKind::NotPlace, 6))),
+    (b"void main() { 1 ^= 2; }", Some((FaultKind::NotPlace, 6))),
+    (b"void main() { 1 <<= 2; }", Some((FaultKind::NotPlace, 6))),
+    (b"void main() { 1 >>= 2; }", Some((FaultKind::NotPlace, 6))),
+    (b"void main() { 1 >>>= 2; }", Some((FaultKind::NotPlace, 6))),
+    (b"void main() { 1--; }", Some((FaultKind::NotPlace, 6))),
     // What is no place comes before what has a wrong type.
     (
         b"void main() { \"a\" += 1; }",
         Some((FaultKind::NotPlace, 6)),
     ),
+    (b"void main() { ++\"s\"; }", Some((FaultKind::NotPlace, 5))),
+    (b"void main() { \"s\"++; }", Some((FaultKind::NotPlace, 6))),
     (
         b"void main() { OBJECT_SELF = 1; }",
         Some((FaultKind::NotPlace, 6)),
@@ -204,6 +245,11 @@ const CALLEES: &[Row] = &[
     (
         b"void main() { Random(\"a\"); } int Random(string s) { return 1; }",
         Some((FaultKind::Redeclared, 12)),
+    ),
+    // A prototype alone is meant by no call.
+    (
+        b"void main() { Random(\"a\"); } int Random(string s);",
+        Some((FaultKind::Mismatch, 5)),
     ),
     (
         b"void main() { AssignCommand(OBJECT_SELF, (PrintInteger(1))); }",
@@ -500,6 +546,94 @@ const DECLARED_NAMES: &[Row] = &[
     ),
 ];
 
+const FIRST_VALUES_OF_GLOBALS: &[Row] = &[
+    (
+        b"int g = 1.5; void main() { }",
+        Some((FaultKind::RefusedType, 3)),
+    ),
+    (
+        b"int g = PrintFloat(1); void main() { }",
+        Some((FaultKind::RefusedType, 3)),
+    ),
+    (
+        b"int g = Random(); void main() { }",
+        Some((FaultKind::Arity, 3)),
+    ),
+    (
+        b"int g = Random(\"s\"); void main() { }",
+        Some((FaultKind::Mismatch, 3)),
+    ),
+    (
+        b"int a; int g = a.x; void main() { }",
+        Some((FaultKind::Unknown, 7)),
+    ),
+    (
+        b"int g = 1 = 2; void main() { }",
+        Some((FaultKind::NotPlace, 4)),
+    ),
+    (
+        b"int g = ++1; void main() { }",
+        Some((FaultKind::NotPlace, 3)),
+    ),
+    (
+        b"int g = 1++; void main() { }",
+        Some((FaultKind::NotPlace, 4)),
+    ),
+    (
+        b"string s; int g = ++s; void main() { }",
+        Some((FaultKind::Mismatch, 6)),
+    ),
+    (
+        b"string s; int g = s--; void main() { }",
+        Some((FaultKind::Mismatch, 7)),
+    ),
+    (
+        b"int g = -\"s\"; void main() { }",
+        Some((FaultKind::Mismatch, 3)),
+    ),
+    (
+        b"int a; int g = a = \"s\"; void main() { }",
+        Some((FaultKind::Mismatch, 7)),
+    ),
+    (b"int a; int g = a = 2; void main() { }", None),
+    (b"int a = 1, b = ++a, c = a--; void main() { }", None),
+    (
+        b"int g = PrintInteger(1); void main() { }",
+        Some((FaultKind::Mismatch, 1)),
+    ),
+    // What is no action is none here either, and an action is at fault itself.
+    (
+        b"int g = DelayCommand(1, Random(3)); void main() { }",
+        Some((FaultKind::Mismatch, 3)),
+    ),
+    (
+        b"int g = DelayCommand(1, 5); void main() { }",
+        Some((FaultKind::Mismatch, 3)),
+    ),
+    (
+        b"void f() {} int g = DelayCommand(1, f()); void main() { }",
+        Some((FaultKind::NotConst, 13)),
+    ),
+    (
+        b"int f() { return 1; } int g = DelayCommand(1, f()); void main() { }",
+        Some((FaultKind::NotConst, 16)),
+    ),
+    // A call that may not stand here: what can't be called and wrong counts come before it, wrong
+    // types after it.
+    (
+        b"int g = DelayCommand(1, PrintFloat(1)); void main() { }",
+        Some((FaultKind::RefusedType, 7)),
+    ),
+    (
+        b"int g = f(); int f(int n) { return 1; } void main() { }",
+        Some((FaultKind::Arity, 3)),
+    ),
+    (
+        b"int g = f(\"s\"); int f(int n) { return 1; } void main() { }",
+        Some((FaultKind::NotConst, 3)),
+    ),
+];
+
 const CONSTANT_VALUES: &[Row] = &[
     // The token of a constant with a sign is that of its literal.
     (
@@ -657,6 +791,18 @@ const WAYS: &[Row] = &[
         Some((FaultKind::Mismatch, 11)),
     ),
     (
+        b"void f() {} void main() { while (f()) ; }",
+        Some((FaultKind::Mismatch, 11)),
+    ),
+    (
+        b"void f() {} void main() { do ; while (f()); }",
+        Some((FaultKind::Mismatch, 11)),
+    ),
+    (
+        b"void f() {} void main() { switch (f()) { } }",
+        Some((FaultKind::Mismatch, 11)),
+    ),
+    (
         b"object f() { return OBJECT_SELF; } string g() { return \"\"; } effect h() { effect \
           e; return e; } void main() { }",
         None,
@@ -729,6 +875,76 @@ const ENTRY_POINTS: &[Row] = &[
     ),
 ];
 
+/// Nodes of which two kinds are true: the first one in the order of kinds is told.
+const TWO_KINDS: &[Row] = &[
+    (
+        b"void main() { switch (1) { int a; case \"s\": ; } }",
+        Some((FaultKind::Outside, 13)),
+    ),
+    (
+        b"void main() { switch (1) { default: int a; ; default: ; } }",
+        Some((FaultKind::Redeclared, 16)),
+    ),
+    (
+        b"const int TRUE = \"s\"; void main() { }",
+        Some((FaultKind::Redeclared, 2)),
+    ),
+    (
+        b"void main() { int a; int a = \"s\"; }",
+        Some((FaultKind::Redeclared, 9)),
+    ),
+    // Heads of functions.
+    (
+        b"float Random(int n) { return 1; } void main() { }",
+        Some((FaultKind::RefusedType, 1)),
+    ),
+    (
+        b"struct Z Random(int n) { } void main() { }",
+        Some((FaultKind::Unknown, 2)),
+    ),
+    // Parameters.
+    (
+        b"void f(int a, float a) {} void main() { }",
+        Some((FaultKind::RefusedType, 6)),
+    ),
+    (
+        b"void f(int a = 1, float b) {} void main() { }",
+        Some((FaultKind::RefusedType, 8)),
+    ),
+    (
+        b"void f(float a = 1) {} void main() { }",
+        Some((FaultKind::RefusedType, 3)),
+    ),
+    (
+        b"void f(int a, struct Z a) {} void main() { }",
+        Some((FaultKind::Unknown, 6)),
+    ),
+    (
+        b"void f(int a = 1, struct Z b) {} void main() { }",
+        Some((FaultKind::Unknown, 8)),
+    ),
+    (
+        b"void f(struct Z a = 1) {} void main() { }",
+        Some((FaultKind::Unknown, 3)),
+    ),
+    (
+        b"void f(int a = 1, int a) {} void main() { }",
+        Some((FaultKind::Redeclared, 8)),
+    ),
+    (
+        b"void f(int a, int a = \"s\") {} void main() { }",
+        Some((FaultKind::Redeclared, 6)),
+    ),
+    (
+        b"void f(int a, void a) {} void main() { }",
+        Some((FaultKind::Redeclared, 6)),
+    ),
+    (
+        b"void f(int a = 1, void b) {} void main() { }",
+        Some((FaultKind::Arity, 8)),
+    ),
+];
+
 #[test]
 fn operators(rt: HostRuntime) -> Result<(), Fail> {
     assert_eq!(rt; first_unlike_built_in(rt.alloc(), OPERATORS)?, 0);
@@ -754,6 +970,15 @@ fn declared_names(rt: HostRuntime) -> Result<(), Fail> {
 }
 
 #[test]
+fn first_values_of_globals(rt: HostRuntime) -> Result<(), Fail> {
+    assert_eq!(rt;
+        first_unlike_built_in(rt.alloc(), FIRST_VALUES_OF_GLOBALS)?,
+        0
+    );
+    Ok(())
+}
+
+#[test]
 fn constant_values(rt: HostRuntime) -> Result<(), Fail> {
     assert_eq!(rt; first_unlike_built_in(rt.alloc(), CONSTANT_VALUES)?, 0);
     Ok(())
@@ -768,5 +993,11 @@ fn ways(rt: HostRuntime) -> Result<(), Fail> {
 #[test]
 fn entry_points(rt: HostRuntime) -> Result<(), Fail> {
     assert_eq!(rt; first_unlike_built_in(rt.alloc(), ENTRY_POINTS)?, 0);
+    Ok(())
+}
+
+#[test]
+fn two_kinds(rt: HostRuntime) -> Result<(), Fail> {
+    assert_eq!(rt; first_unlike_built_in(rt.alloc(), TWO_KINDS)?, 0);
     Ok(())
 }

@@ -181,6 +181,104 @@ const LIMITS: &[Row] = &[
           n19, n20, n21, n22, n23, n24, n25, n26, n27, n28, n29, n30, n31, z; void main() { }",
         Some((FaultKind::Cells, 325)),
     ),
+    // A second name and a wrong type come before the cells, a parameter without default too.
+    (
+        b"struct A { int a, b, c, d, e, f, g, h; }; struct B { struct A a, b, c, d, e, f, g, \
+          h; }; struct C { struct B a; int a; }; void main() { }",
+        Some((FaultKind::Redeclared, 53)),
+    ),
+    (
+        b"struct A { int a, b, c, d, e, f, g, h; }; struct B { struct A a, b, c, d, e, f, g, \
+          h; }; void main() { struct B p0, p1, p2, p3, p4, p5, p6, p7, p8, p9, p10, p11, p12, \
+          p13, p14, p15, p16, p17, p18, p19, p20, p21, p22, p23, p24, p25, p26, p27, p28, p29, \
+          p30, p31, p32, p33, p34, p35, p36, p37, p38, p39, p40, p41, p42, p43, p44, p45, p46, \
+          p47, p48, p49, p50, p51, p52, p53, p54, p55, p56, p57, p58, p59, p60, p61; struct A \
+          q, r, s, t; int p0; }",
+        Some((FaultKind::Redeclared, 187)),
+    ),
+    (
+        b"struct A { int a, b, c, d, e, f, g, h; }; struct B { struct A a, b, c, d, e, f, g, \
+          h; }; void main() { struct B p0, p1, p2, p3, p4, p5, p6, p7, p8, p9, p10, p11, p12, \
+          p13, p14, p15, p16, p17, p18, p19, p20, p21, p22, p23, p24, p25, p26, p27, p28, p29, \
+          p30, p31, p32, p33, p34, p35, p36, p37, p38, p39, p40, p41, p42, p43, p44, p45, p46, \
+          p47, p48, p49, p50, p51, p52, p53, p54, p55, p56, p57, p58, p59, p60, p61; struct A \
+          q, r, s, t; int z = \"s\"; }",
+        Some((FaultKind::Mismatch, 187)),
+    ),
+    (
+        b"struct A { int a, b, c, d, e, f, g, h; }; struct B { struct A a, b, c, d, e, f, g, \
+          h; }; struct B p0, p1, p2, p3, p4, p5, p6, p7, p8, p9, p10, p11, p12, p13, p14, p15, \
+          p16, p17, p18, p19, p20, p21, p22, p23, p24, p25, p26, p27, p28, p29, p30, p31, p32, \
+          p33, p34, p35, p36, p37, p38, p39, p40, p41, p42, p43, p44, p45, p46, p47, p48, p49, \
+          p50, p51, p52, p53, p54, p55, p56, p57, p58, p59, p60, p61; struct A q, r, s, t; int \
+          p0; void main() { }",
+        Some((FaultKind::Redeclared, 182)),
+    ),
+    (
+        b"struct A { int a, b, c, d, e, f, g, h; }; struct B { struct A a, b, c, d, e, f, g, \
+          h; }; struct B p0, p1, p2, p3, p4, p5, p6, p7, p8, p9, p10, p11, p12, p13, p14, p15, \
+          p16, p17, p18, p19, p20, p21, p22, p23, p24, p25, p26, p27, p28, p29, p30, p31, p32, \
+          p33, p34, p35, p36, p37, p38, p39, p40, p41, p42, p43, p44, p45, p46, p47, p48, p49, \
+          p50, p51, p52, p53, p54, p55, p56, p57, p58, p59, p60, p61; struct A q, r, s, t; int \
+          z = \"s\"; void main() { }",
+        Some((FaultKind::Mismatch, 182)),
+    ),
+    (
+        b"struct A { int a, b, c, d, e, f, g, h; }; struct B { struct A a, b, c, d, e, f, g, \
+          h; }; void main() { struct B p0, p1, p2, p3, p4, p5, p6, p7, p8, p9, p10, p11, p12, \
+          p13, p14, p15, p16, p17, p18, p19, p20, p21, p22, p23, p24, p25, p26, p27, p28, p29, \
+          p30, p31, p32, p33, p34, p35, p36, p37, p38, p39, p40, p41, p42, p43, p44, p45, p46, \
+          p47, p48, p49, p50, p51, p52, p53, p54, p55, p56, p57, p58, p59, p60, p61; struct A \
+          q, r, s, t; switch (\"s\") { } }",
+        Some((FaultKind::Mismatch, 186)),
+    ),
+    (
+        b"struct A { int a, b, c, d, e, f, g, h; }; struct B { struct A a, b, c, d, e, f, g, \
+          h; }; void f(struct B p0, struct B p1, struct B p2, struct B p3, struct B p4, struct \
+          B p5, struct B p6, struct B p7, struct B p8, struct B p9, struct B p10, struct B \
+          p11, struct B p12, struct B p13, struct B p14, struct B p15, struct B p16, struct B \
+          p17, struct B p18, struct B p19, struct B p20, struct B p21, struct B p22, struct B \
+          p23, struct B p24, struct B p25, struct B p26, struct B p27, struct B p28, struct B \
+          p29, struct B p30, struct B p31, struct B p32, struct B p33, struct B p34, struct B \
+          p35, struct B p36, struct B p37, struct B p38, struct B p39, struct B p40, struct B \
+          p41, struct B p42, struct B p43, struct B p44, struct B p45, struct B p46, struct B \
+          p47, struct B p48, struct B p49, struct B p50, struct B p51, struct B p52, struct B \
+          p53, struct B p54, struct B p55, struct B p56, struct B p57, struct B p58, struct B \
+          p59, struct B p60, struct B p61, struct A q, struct A r, struct A s, struct A t, int \
+          p0); void main() { }",
+        Some((FaultKind::Redeclared, 312)),
+    ),
+    (
+        b"struct A { int a, b, c, d, e, f, g, h; }; struct B { struct A a, b, c, d, e, f, g, \
+          h; }; void f(struct B p0, struct B p1, struct B p2, struct B p3, struct B p4, struct \
+          B p5, struct B p6, struct B p7, struct B p8, struct B p9, struct B p10, struct B \
+          p11, struct B p12, struct B p13, struct B p14, struct B p15, struct B p16, struct B \
+          p17, struct B p18, struct B p19, struct B p20, struct B p21, struct B p22, struct B \
+          p23, struct B p24, struct B p25, struct B p26, struct B p27, struct B p28, struct B \
+          p29, struct B p30, struct B p31, struct B p32, struct B p33, struct B p34, struct B \
+          p35, struct B p36, struct B p37, struct B p38, struct B p39, struct B p40, struct B \
+          p41, struct B p42, struct B p43, struct B p44, struct B p45, struct B p46, struct B \
+          p47, struct B p48, struct B p49, struct B p50, struct B p51, struct B p52, struct B \
+          p53, struct B p54, struct B p55, struct B p56, struct B p57, struct B p58, struct B \
+          p59, struct B p60, struct B p61, struct B z = 1); void main() { }",
+        Some((FaultKind::Mismatch, 296)),
+    ),
+    (
+        b"struct A { int a, b, c, d, e, f, g, h; }; struct B { struct A a, b, c, d, e, f, g, \
+          h; }; void f(struct B p0, struct B p1, struct B p2, struct B p3, struct B p4, struct \
+          B p5, struct B p6, struct B p7, struct B p8, struct B p9, struct B p10, struct B \
+          p11, struct B p12, struct B p13, struct B p14, struct B p15, struct B p16, struct B \
+          p17, struct B p18, struct B p19, struct B p20, struct B p21, struct B p22, struct B \
+          p23, struct B p24, struct B p25, struct B p26, struct B p27, struct B p28, struct B \
+          p29, struct B p30, struct B p31, struct B p32, struct B p33, struct B p34, struct B \
+          p35, struct B p36, struct B p37, struct B p38, struct B p39, struct B p40, struct B \
+          p41, struct B p42, struct B p43, struct B p44, struct B p45, struct B p46, struct B \
+          p47, struct B p48, struct B p49, struct B p50, struct B p51, struct B p52, struct B \
+          p53, struct B p54, struct B p55, struct B p56, struct B p57, struct B p58, struct B \
+          p59, struct B p60, struct B p61, struct A q, struct A r, struct A s, int a, int b, \
+          int c, int d, int e, int f, int g, int h = 1, int z); void main() { }",
+        Some((FaultKind::Arity, 334)),
+    ),
 ];
 
 #[test]

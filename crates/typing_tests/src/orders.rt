@@ -148,6 +148,23 @@ const ORDERS: &[Row] = &[
         b"void main() { location l; l = 1; l.x; ++l; }",
         Some((FaultKind::RefusedType, 5)),
     ),
+    // A variable whose first value isn't typed has its type all the same.
+    (
+        b"void main() { int a = f(); a + \"s\"; } float f() { return 1; }",
+        Some((FaultKind::Mismatch, 13)),
+    ),
+    (
+        b"int g = f(); void main() { g = \"s\"; } int f(float x) { return 1; }",
+        Some((FaultKind::Mismatch, 13)),
+    ),
+    (
+        b"int a = f(); const int C = a; void main() { } int f(float x) { return 1; }",
+        Some((FaultKind::NotConst, 11)),
+    ),
+    (
+        b"void main() { int a = f(); ++a.x; } int f(float x) { return 1; }",
+        Some((FaultKind::Unknown, 14)),
+    ),
     // A fault in the body of a function is none of its calls.
     (
         b"void main() { f(1); f(\"s\"); } void f(int a) { g; }",
