@@ -222,42 +222,74 @@ pub const REFUSED: &[(&str, &str)] = &[
             int z; };",
         "refused p.nss 1 90 cells\n",
     ),
+    // Of several causes: a byte that begins no token comes before syntax, syntax before a node at
+    // fault, and that before the end, which is the end of the script's own file.
+    ("void main() { else; \"a", "refused p.nss 1 20 bad\n"),
+    ("void main() { x; 5 5; }", "refused p.nss 1 19 syntax\n"),
+    ("#include \"front\"", "refused p.nss 1 16 syntax\n"),
+    ("int n = m;", "refused p.nss 1 8 unknown\n"),
+    // A node at fault in an include, before one of the script.
+    (
+        "void main() {}\n#include \"front\"\n{ x; }",
+        "refused front.nss 1 5 redeclared\n",
+    ),
 ];
 
-/// Headers, and what comes of `run h.nss p` where the script prints 5.
-pub const HEADERS: &[(&str, Status, &str)] = &[
+/// A script that prints 5.
+const FIVE: &str = "void main() { PrintInteger(2+3); }";
+
+/// Headers with scripts, and what comes of `run h.nss p`.
+pub const HEADERS: &[(&str, &str, Status, &str)] = &[
     (
         "void PrintInteger(int n);",
+        FIVE,
         Status::Done,
         "0 #0 print 5\nend done clock 0 entries 1 instructions 7\n",
     ),
     (
         "// twice\nint A();\nvoid PrintInteger(int);\nint B();",
+        FIVE,
         Status::Done,
         "0 #0 print 5\nend done clock 0 entries 1 instructions 7\n",
     ),
     (
         "float Cos(float f); vector V(float x=0.0, float y=0.0);\nvoid PrintInteger(int n);",
+        FIVE,
         Status::Done,
         "0 #0 print 5\nend done clock 0 entries 1 instructions 7\n",
     ),
     (
         "int PrintInteger(int n);",
+        FIVE,
         Status::Done,
         "0 #0 call PrintInteger(5)\nend done clock 0 entries 1 instructions 8\n",
     ),
     (
         "int A(); int A();",
+        FIVE,
         Status::Script,
         "refused h.nss 1 13 twice\n",
     ),
     (
         "int A();\nint B()",
+        FIVE,
         Status::Script,
         "refused h.nss 2 16 header\n",
     ),
-    ("int A();\n\"", Status::Script, "refused h.nss 2 9 bad\n"),
-    ("", Status::Script, "refused p.nss 1 14 unknown\n"),
+    (
+        "int A();\n\"",
+        FIVE,
+        Status::Script,
+        "refused h.nss 2 9 bad\n",
+    ),
+    ("", FIVE, Status::Script, "refused p.nss 1 14 unknown\n"),
+    // A header is refused before a script is.
+    (
+        "int A()",
+        "#include foo",
+        Status::Script,
+        "refused h.nss 1 7 header\n",
+    ),
 ];
 
 /// The place of the first script whose play is another, if there is one.
@@ -356,16 +388,15 @@ pub fn first_refused(
 /// The place of the first header under which something else comes, if there is one.
 pub fn first_under(
     alloc: Global,
-    rows: &[(&str, Status, &str)],
+    rows: &[(&str, &str, Status, &str)],
     hooks: &Hooks,
 ) -> Result<Option<usize>, NoMemory>
     requires hooks { AreServing (map (λ h. h.known) hooks.now.all.items) }
 {
-    let script = b"void main() { PrintInteger(2+3); }".as_slice();
-    for (place, (header, status, text)) in rows.iter().enumerate() {
+    for (place, (header, script, status, text)) in rows.iter().enumerate() {
         let row = Row {
             line: "run h.nss p",
-            before: &[("p.nss", script), ("h.nss", header.as_bytes())],
+            before: &[("p.nss", script.as_bytes()), ("h.nss", header.as_bytes())],
             failing: Failing::Nothing,
             status: *status,
             puts: None,
@@ -388,6 +419,15 @@ const SIZES: &[(&[u8], u8, usize, &[u8], Status, &str)] = &[
         b"",
         Status::Script,
         "refused p.nss 1 256 nested\n",
+    ),
+    // It comes before syntax, also where that fault stands before it.
+    (
+        b"5 ",
+        b'(',
+        257,
+        b"",
+        Status::Script,
+        "refused p.nss 1 258 nested\n",
     ),
     (
         b"void main() {",
