@@ -8,6 +8,7 @@ use Rattle.code_emission.specs.Units.{unit_file}
 use Rattle.engine_rows.specs.Pure.{CellLookup}
 use Rattle.source_meaning.specs.Scripts.{Listed}
 use Rattle.source_meaning.specs.Executing.{script_of}
+use Rattle.parsed_faults.specs.Laws.{LeastIsTheKept}
 use Rattle.header_tables.specs.Laws.{BuiltInIsTable}
 use Rattle.play_generator.specs.Made.{play_of}
 use Rattle.nwq_work.specs.declared.status.Status.{Status}
@@ -35,7 +36,7 @@ the_unit : (header : EngineTable) (unit : TypedUnit) → IsUnitOf header unit �
 the_unit header unit h zero l is = let same : record { name = codes "beat"; unit = unit } ≡ l = cc in subst (λ (x : Listed). IsUnitOf header x.unit) same h
 the_unit header unit h (suc n) l is = absurd cc
 
-module _ (pass : UnitsPass) (units : ScriptsHaveUnits) (own : BuiltInIsTable) (sure : SureLoaded)
+module _ (pass : UnitsPass) (units : ScriptsHaveUnits) (least : LeastIsTheKept) (own : BuiltInIsTable) (sure : SureLoaded)
     (few : FewStepsPlayAsMeant) (unstopped : UnstoppedPlansPlayAsMeant) (ended : StoppedPlansBeginAsMeant) where
   module _ (cell : CellLookup) (n : ℕ) (held : HoldBytes (made_files n)) (c : Contents) (t : List ℕ) (r : Result Finished Status) (c' : Contents) (t' : List ℕ)
       (uncut : IsCut r → ⊥) where
@@ -101,9 +102,9 @@ module _ (pass : UnitsPass) (units : ScriptsHaveUnits) (own : BuiltInIsTable) (s
 
     fate_comes : (fate : SourceFate) → IsSourceFate (play_of n).source fate → Does (then (source_by fate) (checks_made cell n)) c t r c' t' → MeansGenerate cell n c t r c' t'
     fate_comes (Whole file) (whole _ text made) does =
-        file_comes file text does (source_comes header_table (made_files n) [] (codes "beat") (Ok file) (made_files n) text made)
+        file_comes file text does (source_comes header_table (made_files n) [] (codes "beat") least (Ok file) (made_files n) text made)
     fate_comes (Faulty line) (faulty status _ plain made) does =
-        line_comes status line plain does (source_comes header_table (made_files n) [] (codes "beat") (Err status) (made_files n) line made)
+        line_comes status line plain does (source_comes header_table (made_files n) [] (codes "beat") least (Err status) (made_files n) line made)
 
     generated : Does (generates cell n) c t r c' t' → MeansGenerate cell n c t r c' t'
     unfolding generates source_compiled

@@ -5,6 +5,7 @@ ghost use Rattle.generated_meaning.specs.Generated.{GeneratesMean};
 use command_meaning::{scripts_play_units, units_pass};
 use header_tables::headers_have_tables;
 use nwq_plays::laws::one_code;
+use parsed_faults::laws::one_least_fault;
 use plan_meaning::plans_play_as_meant;
 
 /// Whatever does the work of `generate` refuses the source that is made, or tells of its play what
@@ -14,6 +15,7 @@ pub fn generates_mean()
 {
     units_pass();
     scripts_play_units();
+    one_least_fault();
     headers_have_tables();
     one_code();
     plans_play_as_meant();

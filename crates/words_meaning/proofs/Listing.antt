@@ -12,6 +12,7 @@ use Rattle.nwq_value.specs.Engine.{EngineTable, IsTable}
 use Rattle.nwq_outside.specs.Outside.{Contents}
 use Rattle.nss_include.specs.Names.{file_name}
 use Rattle.nss_typing.specs.Typed.{TypedUnit}
+use Rattle.parsed_faults.specs.Laws.{LeastIsTheKept}
 use Rattle.ncs_code.specs.Plain.{PlainOp}
 use Rattle.code_emission.specs.Units.{unit_file}
 use Rattle.plan_text.specs.declared.plan.Script.{Script as ScriptLine}
@@ -103,14 +104,14 @@ module _ (header : EngineTable) (c : Contents) (t : List ℕ) (line : ScriptLine
       then_ok (code_by line.binary header line.name) (λ os. Gives (playable line os)) ops c d d t t t (Ok script)
       (subst (λ b. Does (code_by b header line.name) c t (Ok ops) d t) (sym e) (binary_does header c t (code_name line.name) ops h)) (gives_does script d t)
 
-  line_refuses : (why : Refusal) → RefusesLine header c line why → Does (script_in header line) c t (Err (status_of why)) c (t ++ line_of why)
+  line_refuses : LeastIsTheKept → (why : Refusal) → RefusesLine header c line why → Does (script_in header line) c t (Err (status_of why)) c (t ++ line_of why)
   unfolding script_in source_named
-  line_refuses why (refusing.source e _ is) =
+  line_refuses least why (refusing.source e _ is) =
       then_err (code_by line.binary header line.name) (λ ops. Gives (playable line ops)) (status_of why) c c t (t ++ line_of why)
       (subst (λ b. Does (code_by b header line.name) c t (Err (status_of why)) c (t ++ line_of why)) (sym e)
       (then_err (compiled_named header line.name) (writes_loaded header (code_name line.name)) (status_of why) c c t (t ++ line_of why)
-      (source_refuses header c t line.name why is)))
-  line_refuses why (refusing.binary e _ is) =
+      (source_refuses header c t line.name least why is)))
+  line_refuses least why (refusing.binary e _ is) =
       then_err (code_by line.binary header line.name) (λ ops. Gives (playable line ops)) (status_of why) c c t (t ++ line_of why)
       (subst (λ b. Does (code_by b header line.name) c t (Err (status_of why)) c (t ++ line_of why)) (sym e)
       (binary_refuses header c t (code_name line.name) why is))
@@ -132,7 +133,7 @@ module _ (pass : UnitsPass) (units : ScriptsHaveUnits) (sure : SureLoaded) (head
     passes = pass header made.unit table (units header c name made.unit held made.script) made.small;
   }
 
-  module _ (c : Contents) (t : List ℕ) (line : ScriptLine) (held : HoldBytes c) where
+  module _ (least : LeastIsTheKept) (c : Contents) (t : List ℕ) (line : ScriptLine) (held : HoldBytes c) where
     module _ (s : Result (List PlainOp) Status) (d : Contents) (k : List ℕ) (whole : IsCut s → ⊥) where
       made_comes : line.binary ≡ false → (bytes : List ℕ) → IsMade header c line.name bytes → Does (writes_loaded header (code_name line.name) bytes) c t s d k
           → Coded header c t line s d k
@@ -164,7 +165,7 @@ module _ (pass : UnitsPass) (units : ScriptsHaveUnits) (sure : SureLoaded) (head
       code_comes true e does = binary_coded e (binary_comes header c t (code_name line.name) s d k does)
       code_comes false e does =
           source_follows e (then_follows (writes_loaded header (code_name line.name)) (IsMade header c line.name) (RefusesSource header c line.name) c t s d k
-          (compiled_named header line.name) (source_comes header c t line.name) does)
+          (compiled_named header line.name) (source_comes header c t line.name least) does)
 
     module _ (r : Result Script Status) (c' : Contents) (t' : List ℕ) (whole : IsCut r → ⊥) where
       code_ends : (status : Status) → r ≡ Err status → Coded header c t line (Err status) c' t' → Lined header c t line r c' t'
@@ -203,14 +204,14 @@ scripts_do header lines c d t scripts before (accepting.more line rest _ e _ scr
     (subst (λ xs. Does (lists_on header (before ++ script ∷ []) rest) e t (Ok xs) d t) (append_assoc before (script ∷ []) more)
     (scripts_do header rest e d t more (before ++ script ∷ []) hs))
 
-pub scripts_refuse : (header : EngineTable) (lines : List ScriptLine) (c d : Contents) (t : List ℕ) (why : Refusal) (before : List Script)
+pub scripts_refuse : LeastIsTheKept → (header : EngineTable) (lines : List ScriptLine) (c d : Contents) (t : List ℕ) (why : Refusal) (before : List Script)
     → RefusesScripts header lines c why d → Does (lists_on header before lines) c t (Err (status_of why)) d (t ++ line_of why)
 unfolding lists_on
-scripts_refuse header lines c d t why before (here line rest _ _ is) =
-    then_err (script_in header line) (λ s. lists_on header (before ++ s ∷ []) rest) (status_of why) c c t (t ++ line_of why) (line_refuses header c t line why is)
-scripts_refuse header lines c d t why before (later line rest _ e _ script _ h hs) =
+scripts_refuse least header lines c d t why before (here line rest _ _ is) =
+    then_err (script_in header line) (λ s. lists_on header (before ++ s ∷ []) rest) (status_of why) c c t (t ++ line_of why) (line_refuses header c t line least why is)
+scripts_refuse least header lines c d t why before (later line rest _ e _ script _ h hs) =
     then_ok (script_in header line) (λ s. lists_on header (before ++ s ∷ []) rest) script c e d t t (t ++ line_of why) (Err (status_of why))
-    (line_does header c t line script e h) (scripts_refuse header rest e d t why (before ++ script ∷ []) hs)
+    (line_does header c t line script e h) (scripts_refuse least header rest e d t why (before ++ script ∷ []) hs)
 
 -- they were listed, or one was refused
 pub data Listings (header : EngineTable) (lines : List ScriptLine) (before : List Script) (c : Contents) (t : List ℕ) (r : Result (List Script) Status)
@@ -218,7 +219,7 @@ pub data Listings (header : EngineTable) (lines : List ScriptLine) (before : Lis
   all_listed : (scripts : List Script) → HasScripts header lines c scripts c' → r ≡ Ok (before ++ scripts) → t' ≡ t → Listings header lines before c t r c' t'
   one_refused : (why : Refusal) → RefusesScripts header lines c why c' → r ≡ Err (status_of why) → t' ≡ t ++ line_of why → Listings header lines before c t r c' t'
 
-module _ (pass : UnitsPass) (units : ScriptsHaveUnits) (sure : SureLoaded) (header : EngineTable) (table : IsTable header) where
+module _ (pass : UnitsPass) (units : ScriptsHaveUnits) (sure : SureLoaded) (least : LeastIsTheKept) (header : EngineTable) (table : IsTable header) where
   module _ (line : ScriptLine) (lines : List ScriptLine) (before : List Script) (c : Contents) (t : List ℕ) (r : Result (List Script) Status)
       (c' : Contents) (t' : List ℕ) (held : HoldBytes c) (whole : IsCut r → ⊥) where
     abbrev All : Type 0
@@ -248,10 +249,10 @@ module _ (pass : UnitsPass) (units : ScriptsHaveUnits) (sure : SureLoaded) (head
         → Listings header lines (before ++ script ∷ []) d k r c' t')
         → Parts (script_in header line) (λ script. lists_on header (before ++ script ∷ []) lines) c t r c' t' → All
     by_parts on (ends_first h) =
-        line_ends h.status h.is (line_comes pass units sure header table c t line held (Err h.status) c' t' (λ x. whole (subst IsCut (sym h.is) x)) h.does)
+        line_ends h.status h.is (line_comes pass units sure header table least c t line held (Err h.status) c' t' (λ x. whole (subst IsCut (sym h.is) x)) h.does)
     by_parts on (goes_on h) =
         line_goes h.value h.between h.taken (λ held. on h.value h.between h.taken held h.second)
-        (line_comes pass units sure header table c t line held (Ok h.value) h.between h.taken (λ x. x) h.first)
+        (line_comes pass units sure header table least c t line held (Ok h.value) h.between h.taken (λ x. x) h.first)
 
   pub scripts_come : (lines : List ScriptLine) (before : List Script) (c : Contents) (t : List ℕ) (r : Result (List Script) Status) (c' : Contents) (t' : List ℕ)
       → HoldBytes c → (IsCut r → ⊥) → Does (lists_on header before lines) c t r c' t' → Listings header lines before c t r c' t'

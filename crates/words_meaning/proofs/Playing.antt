@@ -16,6 +16,7 @@ use Rattle.machine_step.specs.Machine.{Script}
 use Rattle.engine_rows.specs.Pure.{CellLookup}
 use Rattle.source_meaning.specs.Scripts.{Listed, Setting}
 use Rattle.source_meaning.specs.Executing.{script_of}
+use Rattle.parsed_faults.specs.Laws.{LeastIsTheKept}
 use Rattle.header_tables.specs.Laws.{HeadersHaveTables, BuiltInIsTable}
 use Rattle.nwq_work.specs.declared.status.Status.{Status}
 use Rattle.nwq_work.specs.Refusal.{Refusal, line_of, status_of}
@@ -58,7 +59,7 @@ are_units units header lines c d listed held (accepting.more line rest _ _ unit 
 are_units units header lines c d listed held (accepting.more line rest _ _ unit others e h hs) (suc n) l is =
     are_units units header rest (with_file c line.name unit) d others (still_bytes c line.name unit held) hs n l is
 
-module _ (pass : UnitsPass) (units : ScriptsHaveUnits) (reads : HeadersHaveTables) (own : BuiltInIsTable)
+module _ (pass : UnitsPass) (units : ScriptsHaveUnits) (least : LeastIsTheKept) (reads : HeadersHaveTables) (own : BuiltInIsTable)
     (plans : SurePlans) (tables : SureTables) (loaded : SureLoaded) (lists : SureListed) (areas : SureAreas) (games : SurePlays) where
   module _ (cell : CellLookup) (header area plan to : List ℕ) (c : Contents) (t : List ℕ) (r : Result Finished Status) (c' : Contents) (t' : List ℕ)
       (held : AreBytes c) (whole : IsCut r → ⊥) where
@@ -102,11 +103,11 @@ module _ (pass : UnitsPass) (units : ScriptsHaveUnits) (reads : HeadersHaveTable
         by_parts : Parts (lists_on table [] p.scripts) (plays_area cell table area p to) c t r c' t' → Comes
         by_parts (ends_first h) =
             scripts_end p table h.status has_plan has_table
-            (scripts_come pass units loaded table (is_table reads own c header table held has_table) p.scripts [] c t (Err h.status) c' t'
+            (scripts_come pass units loaded least table (is_table reads own c header table held has_table) p.scripts [] c t (Err h.status) c' t'
             (source_bytes c held) (λ x. whole (subst IsCut (sym h.is) x)) h.does)
         by_parts (goes_on h) =
             scripts_go p table h.value h.between h.taken has_plan has_table h.second
-            (scripts_come pass units loaded table (is_table reads own c header table held has_table) p.scripts [] c t (Ok h.value) h.between h.taken
+            (scripts_come pass units loaded least table (is_table reads own c header table held has_table) p.scripts [] c t (Ok h.value) h.between h.taken
             (source_bytes c held) (λ x. x) h.first)
 
     header_follows : (p : Plan) → ReadsPlan c plan p → Follows (plays_scripts cell area p to) (HasHeader c header) (RefusesHeader c header) c t r c' t' → Comes
@@ -140,7 +141,7 @@ module _ (pass : UnitsPass) (units : ScriptsHaveUnits) (reads : HeadersHaveTable
         then_ok (plan_named plan) (plays_under cell header area to) p c c left t t (t ++ line_of why) (Err (status_of why)) (plan_does c t plan p has_plan)
         (then_ok (table_of header) (plays_scripts cell area p to) table c c left t t (t ++ line_of why) (Err (status_of why)) (header_does c t header table has_table)
         (then_err (scripts_listed table p.scripts) (plays_area cell table area p to) (status_of why) c left t (t ++ line_of why)
-        (scripts_refuse table p.scripts c left t why [] is)))
+        (scripts_refuse least table p.scripts c left t why [] is)))
     could_refuse why left (of_area p table scripts _ _ has_plan has_table has_scripts is) =
         then_ok (plan_named plan) (plays_under cell header area to) p c c left t t (t ++ line_of why) (Err (status_of why)) (plan_does c t plan p has_plan)
         (then_ok (table_of header) (plays_scripts cell area p to) table c c left t t (t ++ line_of why) (Err (status_of why)) (header_does c t header table has_table)

@@ -5,6 +5,7 @@ use Rattle.nwq_outside.specs.Outside.{Contents}
 use Rattle.nss_include.specs.Names.{file_name}
 use Rattle.nss_typing.specs.Typed.{TypedUnit}
 use Rattle.code_emission.specs.Units.{unit_file}
+use Rattle.parsed_faults.specs.Laws.{LeastIsTheKept}
 use Rattle.header_tables.specs.Laws.{HeadersHaveTables, BuiltInIsTable}
 use Rattle.nwq_work.specs.declared.status.Status.{Status}
 use Rattle.nwq_work.specs.Refusal.{Refusal, NoForm, Absent, TooLong, At, BadCode, BadArea, line_of, status_of}
@@ -58,7 +59,7 @@ not_cut (BadArea name flaw) x = x
 
 -- ---- a script is compiled, and something is done with its file
 
-module _ (pass : UnitsPass) (units : ScriptsHaveUnits) (reads : HeadersHaveTables) (own : BuiltInIsTable) (tables : SureTables) (compiled : SureCompiled) (loaded : SureLoaded) where
+module _ (pass : UnitsPass) (units : ScriptsHaveUnits) (least : LeastIsTheKept) (reads : HeadersHaveTables) (own : BuiltInIsTable) (tables : SureTables) (compiled : SureCompiled) (loaded : SureLoaded) where
   module _ (next : EngineTable → List ℕ → Work Finished) (each : (table : EngineTable) (bytes : List ℕ) → IsSure (next table bytes)) (header script : List ℕ)
       (c : Contents) (t : List ℕ) (r : Result Finished Status) (c' : Contents) (t' : List ℕ) (held : AreBytes c) (whole : IsCut r → ⊥) where
     sure_work : IsSure (then (table_of header) (λ table. then (compiled_named table script) (next table)))
@@ -77,7 +78,7 @@ module _ (pass : UnitsPass) (units : ScriptsHaveUnits) (reads : HeadersHaveTable
     header_ends : Follows (λ table. then (compiled_named table script) (next table)) (HasHeader c header) (RefusesHeader c header) c t r c' t' → ScriptComes header script c
     header_ends (follows table has does) =
         source_ends table has (then_follows (next table) (IsMade table c script) (RefusesSource table c script) c t r c' t' (compiled_named table script)
-        (source_comes table c t script) does)
+        (source_comes table c t script least) does)
     header_ends (ends why is p q o) = refused why (of_header why is)
     header_ends (cuts x) = absurd (whole x)
 
@@ -92,7 +93,7 @@ module _ (pass : UnitsPass) (units : ScriptsHaveUnits) (reads : HeadersHaveTable
         then_err (table_of header) (λ table. then (compiled_named table script) (next table)) (status_of why) c c t (t ++ line_of why) (header_refuses c t header why is)
     could_refuse why (of_source table _ has is) =
         then_ok (table_of header) (λ x. then (compiled_named x script) (next x)) table c c c t t (t ++ line_of why) (Err (status_of why)) (header_does c t header table has)
-        (then_err (compiled_named table script) (next table) (status_of why) c c t (t ++ line_of why) (source_refuses table c t script why is))
+        (then_err (compiled_named table script) (next table) (status_of why) c c t (t ++ line_of why) (source_refuses table c t script least why is))
 
     pub script_refused : (why : Refusal) → RefusesScript header script c why
         → Does (then (table_of header) (λ table. then (compiled_named table script) (next table))) c t r c' t' → IsRefused why c t r c' t'

@@ -1,13 +1,17 @@
--- Scripts that are compiled, and files of bytecode that are checked.
-use Rattle.std.proofs.Common.{arith, ◌≡◌, ◌≤◌, inl, inr, Bool, true, false, ℕ, nat_lt, List, ◌++◌, length, None, Result, Ok, Err, subst, refl}
+-- Scripts that are compiled or refused, and files of bytecode that are checked.
+use Rattle.std.proofs.Common.{arith, ◌≡◌, ◌↔◌, ◌≤◌, inl, inr, Bool, true, false, ℕ, nat_lt, List, ◌++◌, length, Some, None, Result, Ok, Err, sym, subst, ap, refl}
 use Rattle.std.proofs.lemmas.Bool.Decides.{nat_tests}
 use Rattle.std.specs.FinMap as fin_map
 use Rattle.nwq_value.specs.Limits.{file_limit}
 use Rattle.nwq_value.specs.Engine.{EngineTable}
 use Rattle.nwq_outside.specs.Outside.{Contents}
 use Rattle.nss_include.specs.declared.file.Source.{Source}
+use Rattle.nss_typing.specs.declared.fault.Fault.{Fault}
+use Rattle.nss_typing.specs.Nodes.{kept, IsLeast}
 use Rattle.nss_typing.specs.Typed.{TypedUnit}
-use Rattle.nss_typing.specs.Meaning.{TypesUnit}
+use Rattle.nss_typing.specs.Meaning.{TypesUnit, FaultInUnit}
+use Rattle.nss_typing.specs.Verdicts.{unit_faults}
+use Rattle.parsed_faults.specs.Laws.{OneLeastFault, LeastIsTheKept}
 use Rattle.code_emission.specs.Units.{unit_file}
 use Rattle.ncs_code.specs.Plain.{PlainOp}
 use Rattle.ncs_code.specs.File.{IsCode, file_bytes}
@@ -18,7 +22,9 @@ use Rattle.nwq_work.specs.declared.status.Status.{Status}
 use Rattle.nwq_work.specs.Refusal.{Refusal, Absent, TooLong, BadCode, line_of, status_of}
 use Rattle.nwq_work.specs.Work.{Refused, then, Does, file_named}
 use Rattle.nwq_work.specs.Parts.{then_ok, then_err}
-use Rattle.nwq_sources.specs.Units.{PlainScript, UnitFate, Whole, Lacks, Exceeds, Faulty, IsUnitFate, unit_by, unit_of, at_spot, at_token, spot_of}
+use Rattle.nwq_sources.specs.Units.{PlainScript, UnitFate, Whole, Lacks, Exceeds, Faulty, IsUnitFate, grammar_symbols, unit_by, unit_of, at_spot, at_token, spot_of}
+use Rattle.nwq_sources.specs.Units as units
+use Rattle.nwq_sources.specs.Laws.{SureUnits}
 use Rattle.nwq_files.specs.Codes.{code_in, code_named}
 use Rattle.nwq_files.specs.Codes as code
 use Rattle.nwq_checks.specs.Checks.{CheckFate, IsCheckFate, check_by, checked_in, checked_named}
@@ -31,8 +37,34 @@ use Rattle.words_meaning.specs.Reading.{IsRead, IsUnread}
 use Rattle.words_meaning.specs.Accepting.{HasCode}
 use Rattle.words_meaning.specs.Refusing.{RefusesSource, lacks, exceeds, faulty, untyped, large, RefusesBinary}
 use Rattle.words_meaning.specs.Refusing as refusing
+use Rattle.words_meaning.specs.Laws.{OneFaultRefuses}
 use Rattle.words_meaning.proofs.Coming.{Came, cut, gives_does, refused_does, given_comes, refusal_comes, then_comes}
 use Rattle.words_meaning.proofs.Reading.{is_small, is_large, read_does, unread_does, file_comes}
+
+-- ---- the fault for which a source is refused
+
+-- the fault that is kept of a unit with a tree is its least one
+as_kept : LeastIsTheKept → (header : EngineTable) (c : Contents) (name : List ℕ) (script : PlainScript) (fault : Fault)
+    → IsUnitFate (fin_map.get c) name (Whole script) → (kept None (unit_faults header script.tree) ≡ Some fault) ↔ IsLeast (FaultInUnit header script.tree) fault
+as_kept least header c name script fault (units.whole _ unit nest parses) = least header (grammar_symbols script.tokens) script.tree fault parses
+
+-- two of them are one
+one_here : OneLeastFault → (header : EngineTable) (c : Contents) (name : List ℕ) (script : PlainScript) (f g : Fault)
+    → IsUnitFate (fin_map.get c) name (Whole script) → IsLeast (FaultInUnit header script.tree) f → IsLeast (FaultInUnit header script.tree) g → f ≡ g
+one_here one header c name script f g (units.whole _ unit nest parses) = one header (grammar_symbols script.tokens) script.tree f g parses
+
+abbrev script_or : PlainScript → UnitFate → PlainScript
+script_or other (Whole script) = script
+script_or other (Lacks file) = other
+script_or other (Exceeds file) = other
+script_or other (Faulty why spot) = other
+
+-- a source has one script, and it one least fault
+pub one_fault : SureUnits → OneLeastFault → OneFaultRefuses
+unfolding unit_of
+one_fault sure one header c name script other f g is least is_too least_too =
+    let same : script ≡ other = ap (script_or script) ((sure name).0 c (Whole script) (Whole other) is is_too) in
+    (same, one_here one header c name script f g is least (subst (λ x. IsLeast (FaultInUnit header x.tree) g) (sym same) least_too))
 
 -- ---- a source
 
@@ -67,22 +99,23 @@ module _ (header : EngineTable) (c : Contents) (t : List ℕ) (name : List ℕ) 
         });
       })
 
-  pub source_refuses : (why : Refusal) → RefusesSource header c name why → Does (compiled_named header name) c t (Err (status_of why)) c (t ++ line_of why)
+  pub source_refuses : LeastIsTheKept → (why : Refusal) → RefusesSource header c name why
+      → Does (compiled_named header name) c t (Err (status_of why)) c (t ++ line_of why)
   unfolding compiled_named unit_of compiled_in typed_in file_in
-  source_refuses why (lacks file is) = inr (record { found = Lacks file; is = is; goes = refused_does (Absent file) c t })
-  source_refuses why (exceeds file is) = inr (record { found = Exceeds file; is = is; goes = refused_does (TooLong file) c t })
-  source_refuses why (faulty cause spot is) = inr (record { found = Faulty cause spot; is = is; goes = refused_does (at_spot cause spot) c t })
-  source_refuses why (untyped script fault is least) =
+  source_refuses least why (lacks file is) = inr (record { found = Lacks file; is = is; goes = refused_does (Absent file) c t })
+  source_refuses least why (exceeds file is) = inr (record { found = Exceeds file; is = is; goes = refused_does (TooLong file) c t })
+  source_refuses least why (faulty cause spot is) = inr (record { found = Faulty cause spot; is = is; goes = refused_does (at_spot cause spot) c t })
+  source_refuses least why (untyped script fault is first) =
       inr (record {
         found = Whole script;
         is = is;
         goes = inr (record {
           found = typing.Faulty fault;
-          is = typing.faulty fault least;
+          is = typing.faulty fault ((as_kept least header c name script fault is).1 first);
           goes = refused_does (at_token script fault.token (cause_of fault.kind)) c t;
         });
       })
-  source_refuses why (large script unit is types more) =
+  source_refuses least why (large script unit is types more) =
       inr (record {
         found = Whole script;
         is = is;
@@ -93,7 +126,7 @@ module _ (header : EngineTable) (c : Contents) (t : List ℕ) (name : List ℕ) 
         });
       })
 
-  module _ (r : Result (List ℕ) Status) (c' : Contents) (t' : List ℕ) where
+  module _ (least : LeastIsTheKept) (r : Result (List ℕ) Status) (c' : Contents) (t' : List ℕ) where
     abbrev SourceComes : Type 0
     SourceComes = Came (IsMade header c name) (RefusesSource header c name) c t r c' t'
 
@@ -112,8 +145,8 @@ module _ (header : EngineTable) (c : Contents) (t : List ℕ) (name : List ℕ) 
         → Does (then (typing_by script fate) (file_in script.files)) c t r c' t' → SourceComes
     unfolding file_in
     typed_comes script is (typing.Whole unit) (typing.whole _ types) does = sized_comes script is unit types (nat_lt file_limit (length (unit_file unit))) refl does
-    typed_comes script is (typing.Faulty fault) (typing.faulty _ least) does =
-        stops (at_token script fault.token (cause_of fault.kind)) (untyped script fault is least) does
+    typed_comes script is (typing.Faulty fault) (typing.faulty _ first) does =
+        stops (at_token script fault.token (cause_of fault.kind)) (untyped script fault is ((as_kept least header c name script fault is).0 first)) does
 
     whole_comes : (script : PlainScript) → IsUnitFate (fin_map.get c) name (Whole script) → Does (compiled_in header script) c t r c' t' → SourceComes
     unfolding compiled_in typed_in

@@ -1,10 +1,17 @@
--- What the work of words means, where the files hold bytes and the work isn't cut. Each stands on the contract of a function of `laws`.
-use Rattle.std.specs.Prelude.{ℕ, List, Result}
+-- What the work of words means, where the files hold bytes and the work isn't cut, and that typing refuses a source at one fault. Each stands
+-- on the contract of a function of `laws`.
+use Rattle.std.specs.Prelude.{◌≡◌, ℕ, List, Result}
+use Rattle.std.specs.FinMap as fin_map
+use Rattle.nwq_value.specs.Engine.{EngineTable}
 use Rattle.nwq_outside.specs.Outside.{Contents}
+use Rattle.nss_typing.specs.declared.fault.Fault.{Fault}
+use Rattle.nss_typing.specs.Nodes.{IsLeast}
+use Rattle.nss_typing.specs.Meaning.{FaultInUnit}
 use Rattle.engine_rows.specs.Pure.{CellLookup}
 use Rattle.nwq_work.specs.declared.status.Status.{Status}
 use Rattle.nwq_work.specs.Work.{then, IsCut, Does, Finished}
 use Rattle.nwq_sources.specs.Headers.{table_of}
+use Rattle.nwq_sources.specs.Units.{PlainScript, Whole, IsUnitFate}
 use Rattle.nwq_scripts.specs.Files.{code_name, compiled_named, compiles}
 use Rattle.nwq_plays.specs.Plays.{plays_file}
 use Rattle.nwq_games.specs.Games.{plays}
@@ -30,3 +37,10 @@ abbrev pub PlaysMean : Type 0
 PlaysMean =
     (cell : CellLookup) (header area plan to : List ℕ) (c : Contents) (t : List ℕ) (r : Result Finished Status) (c' : Contents) (t' : List ℕ) → AreBytes c → (IsCut r → ⊥)
     → Does (plays cell header area plan to) c t r c' t' → MeansPlay cell header area plan to c t r c' t'
+
+-- two least faults of a source are one, with its token and its kind, and so is the script that has them
+abbrev pub OneFaultRefuses : Type 0
+OneFaultRefuses =
+    (header : EngineTable) (c : Contents) (name : List ℕ) (script other : PlainScript) (f g : Fault)
+    → IsUnitFate (fin_map.get c) name (Whole script) → IsLeast (FaultInUnit header script.tree) f
+    → IsUnitFate (fin_map.get c) name (Whole other) → IsLeast (FaultInUnit header other.tree) g → (script ≡ other) × (f ≡ g)

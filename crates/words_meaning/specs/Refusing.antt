@@ -1,6 +1,6 @@
 -- Why a command is refused, by what the files hold: exactly where grammar, typing or a stated limit refuses a header, a script, a plan or
 -- an area, and each with its refusal.
-use Rattle.std.specs.Prelude.{◌≡◌, ◌<◌, ℕ, true, false, List, ◌∷◌, ◌++◌, length, Some, None, Result, Err, codes, bytes_eq}
+use Rattle.std.specs.Prelude.{◌≡◌, ◌<◌, ℕ, true, false, List, ◌∷◌, ◌++◌, length, None, Result, Err, codes, bytes_eq}
 use Rattle.std.specs.FinMap as fin_map
 use Rattle.nwq_value.specs.Limits.{file_limit}
 use Rattle.nwq_value.specs.Engine.{EngineTable}
@@ -8,10 +8,9 @@ use Rattle.nwq_text.specs.Line.{line_number}
 use Rattle.nwq_outside.specs.Outside.{Contents}
 use Rattle.nss_include.specs.declared.fault.Spot.{Spot}
 use Rattle.nss_typing.specs.declared.fault.Fault.{Fault}
-use Rattle.nss_typing.specs.Nodes.{kept}
+use Rattle.nss_typing.specs.Nodes.{IsLeast}
 use Rattle.nss_typing.specs.Typed.{TypedUnit}
-use Rattle.nss_typing.specs.Meaning.{TypesUnit}
-use Rattle.nss_typing.specs.Verdicts.{unit_faults}
+use Rattle.nss_typing.specs.Meaning.{TypesUnit, FaultInUnit}
 use Rattle.code_emission.specs.Units.{unit_file}
 use Rattle.ncs_code.specs.Plain.{PlainOp}
 use Rattle.ncs_code.specs.File.{IsCode, file_bytes}
@@ -61,14 +60,15 @@ pub data RefusesHeader (c : Contents) (word : List ℕ) : Refusal → Type 0 whe
 
 -- ---- scripts
 
--- A file of the unit isn't there or is too long; the unit has a first fault, nests too deep or has no syntax tree; it has a node at fault,
--- and is refused for its least one; or its file would be too large, which is told at the end of the script's own file.
+-- A file of the unit isn't there or is too long; the unit has a first fault, nests too deep or has no syntax tree; it has nodes at fault, and
+-- is refused for that of least token, with the kind of the first row that fits it; or its file would be too large, which is told at the end
+-- of the script's own file.
 pub data RefusesSource (header : EngineTable) (c : Contents) (name : List ℕ) : Refusal → Type 0 where
   lacks : (file : List ℕ) → IsUnitFate (fin_map.get c) name (units.Lacks file) → RefusesSource header c name (Absent file)
   exceeds : (file : List ℕ) → IsUnitFate (fin_map.get c) name (units.Exceeds file) → RefusesSource header c name (TooLong file)
   faulty : (why : Cause) (spot : Spot) → IsUnitFate (fin_map.get c) name (units.Faulty why spot) → RefusesSource header c name (at_spot why spot)
   untyped : (script : PlainScript) (fault : Fault) → IsUnitFate (fin_map.get c) name (units.Whole script)
-      → kept None (unit_faults header script.tree) ≡ Some fault → RefusesSource header c name (at_token script fault.token (cause_of fault.kind))
+      → IsLeast (FaultInUnit header script.tree) fault → RefusesSource header c name (at_token script fault.token (cause_of fault.kind))
   large : (script : PlainScript) (unit : TypedUnit) → IsUnitFate (fin_map.get c) name (units.Whole script) → TypesUnit header script.tree unit
       → file_limit < length (unit_file unit) → RefusesSource header c name (at_spot cause.Large (spot_of script.files None))
 

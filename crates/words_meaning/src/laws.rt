@@ -1,6 +1,6 @@
 //! Laws about the work of words, each the contract of a function that does nothing.
 
-ghost use Rattle.words_meaning.specs.Laws.{CompilesMean, PlaysMean, RunsMean};
+ghost use Rattle.words_meaning.specs.Laws.{CompilesMean, OneFaultRefuses, PlaysMean, RunsMean};
 
 use command_meaning::{runs_end_as_meant, scripts_play_units, units_pass};
 use header_tables::headers_have_tables;
@@ -10,6 +10,7 @@ use nwq_listings::laws::one_listing;
 use nwq_plays::laws::one_code;
 use nwq_scripts::laws::one_script;
 use nwq_sources::laws::one_source;
+use parsed_faults::laws::one_least_fault;
 use plan_meaning::plans_play_as_meant;
 
 /// Whatever does the work of `run` is refused where the header or the script is, and else tells
@@ -19,6 +20,7 @@ pub fn runs_mean()
 {
     units_pass();
     scripts_play_units();
+    one_least_fault();
     headers_have_tables();
     one_source();
     one_script();
@@ -33,6 +35,7 @@ pub fn compiles_mean()
 {
     units_pass();
     scripts_play_units();
+    one_least_fault();
     headers_have_tables();
     one_source();
     one_script();
@@ -46,6 +49,7 @@ pub fn plays_mean()
 {
     units_pass();
     scripts_play_units();
+    one_least_fault();
     headers_have_tables();
     one_source();
     one_code();
@@ -53,4 +57,12 @@ pub fn plays_mean()
     one_listing();
     one_game();
     plans_play_as_meant();
+}
+
+/// Typing refuses a source at one fault alone: the least one, with its token and its kind.
+pub fn one_refusal_of_types()
+    ensures one { OneFaultRefuses }
+{
+    one_source();
+    one_least_fault();
 }

@@ -5,9 +5,10 @@
 //! `specs/Plans.antt` what `run`, `compile` and `play` do of it: each file that they write passes
 //! the stack checker, and what they tell and leave is what the source texts mean. The functions of
 //! this crate do nothing: each is a law, that whatever does the work of the words does this. The
-//! top call promises it. The pages on it are docs/THEOREMS.md and docs/MEANING.md.
+//! top call promises it. One more law is that typing refuses a source at one fault. The pages on it
+//! are docs/THEOREMS.md and docs/MEANING.md.
 #![tactic(auto)]
 
 mod laws;
 
-pub use laws::{compiles_mean, plays_mean, runs_mean};
+pub use laws::{compiles_mean, one_refusal_of_types, plays_mean, runs_mean};
