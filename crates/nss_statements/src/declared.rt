@@ -29,20 +29,20 @@ use nwq_value::{Items, NoMemory, Table, Ty};
 /// The typed expression of a part that may be absent.
 pub fn value_there(
     given: &Given<'_>,
-    c: &Sight,
+    sight: &Sight,
     least: &mut Option<Fault>,
     there: &Option<Expr>,
 ) -> Result<Option<Option<Expression>>, NoMemory>
     ensures value { IfOk result (λ r. option_map (option_map plain) r
-        ≡ if_there (value (heads_in given.now) (sight_in given.now c.now))
+        ≡ if_there (value (heads_in given.now) (sight_in given.now sight.now))
         (option_map plain_expr there.now)) }
     ensures least { OnOk result (least.new ≡ kept least.old
-        (faults_there (value_faults (heads_in given.now) (sight_in given.now c.now))
+        (faults_there (value_faults (heads_in given.now) (sight_in given.now sight.now))
         (option_map plain_expr there.now))) }
 {
     match there {
         None => Ok(Some(None)),
-        Some(e) => match expression(given, c, least, false, e)? {
+        Some(e) => match expression(given, sight, least, false, e)? {
             Some(x) => Ok(Some(Some(x))),
             None => Ok(None),
         },
@@ -78,19 +78,19 @@ fn variable_fault(is_taken: bool, fits: bool, crosses: bool) -> Option<FaultKind
 /// A name that is declared with this type and this first value.
 fn judge_variable(
     table: &Table,
-    c: &Sight,
+    sight: &Sight,
     least: &mut Option<Fault>,
     ty: Option<Ty>,
     name: &DeclaredName,
     value: Option<Option<Expression>>,
 ) -> Option<TypedName>
     ensures value { option_map typed_name result
-        ≡ fine (asked (variable_rows (in_sight table.now c.now) name.now.name)
-        (variable_rule (in_sight table.now c.now) (plain_name name.now))
+        ≡ fine (asked (variable_rows (in_sight table.now sight.now) name.now.name)
+        (variable_rule (in_sight table.now sight.now) (plain_name name.now))
         (two ty (option_map (option_map plain) value))) }
     ensures least { least.new ≡ kept least.old (at name.now.token
-        (asked (variable_rows (in_sight table.now c.now) name.now.name)
-        (variable_rule (in_sight table.now c.now) (plain_name name.now))
+        (asked (variable_rows (in_sight table.now sight.now) name.now.name)
+        (variable_rule (in_sight table.now sight.now) (plain_name name.now))
         (two ty (option_map (option_map plain) value)))) }
 {
     match ty {
@@ -101,13 +101,16 @@ fn judge_variable(
         Some(ty) => match value {
             None => None,
             Some(value) => {
-                let is_taken = c.is_taken(table, name.name.bytes());
+                let is_taken = sight.is_taken(table, name.name.bytes());
                 let fits = value_fits(ty, &value);
-                let crosses = c.crosses_with(c.structs.cells(ty));
+                let crosses = sight.crosses_with(sight.structs.cells(ty));
                 match variable_fault(is_taken, fits, crosses) {
                     None => Some(DeclaredName {
                         token: name.token,
-                        name: Variable { number: c.next, ty },
+                        name: Variable {
+                            number: sight.next,
+                            ty,
+                        },
                         value,
                     }),
                     Some(kind) => {
@@ -124,25 +127,25 @@ fn judge_variable(
 /// A declared name with its first value; it is in sight behind it.
 fn variable(
     given: &Given<'_>,
-    c: &mut Sight,
+    sight: &mut Sight,
     least: &mut Option<Fault>,
     ty: Option<Ty>,
     name: &DeclaredName,
 ) -> Result<Option<TypedName>, NoMemory>
     ensures value { IfOk result (λ r. option_map typed_name r
-        ≡ fine (variable_verdict (heads_in given.now) (sight_in given.now c.old) ty
+        ≡ fine (variable_verdict (heads_in given.now) (sight_in given.now sight.old) ty
         (plain_name name.now))) }
     ensures least { OnOk result (least.new ≡ kept least.old
-        (faults_there (value_faults (heads_in given.now) (sight_in given.now c.old))
+        (faults_there (value_faults (heads_in given.now) (sight_in given.now sight.old))
         (option_map plain_expr name.now.value)
-        ++ at name.now.token (variable_verdict (heads_in given.now) (sight_in given.now c.old) ty
-        (plain_name name.now)))) }
-    ensures sight { OnOk result (sight_in given.now c.new
-        ≡ declared (sight_in given.now c.old) name.now.name ty) }
+        ++ at name.now.token (variable_verdict (heads_in given.now) (sight_in given.now sight.old)
+        ty (plain_name name.now)))) }
+    ensures sight { OnOk result (sight_in given.now sight.new
+        ≡ declared (sight_in given.now sight.old) name.now.name ty) }
 {
-    let value = value_there(given, c, least, &name.value)?;
-    let typed = judge_variable(given.table, c, least, ty, name, value);
-    match c.declare(given.alloc, &name.name, ty) {
+    let value = value_there(given, sight, least, &name.value)?;
+    let typed = judge_variable(given.table, sight, least, ty, name, value);
+    match sight.declare(given.alloc, &name.name, ty) {
         Ok(()) => Ok(typed),
         Err(error) => {
             drop(typed);
@@ -154,22 +157,23 @@ fn variable(
 /// The declared names of a line of this type.
 pub fn names(
     given: &Given<'_>,
-    c: &mut Sight,
+    sight: &mut Sight,
     least: &mut Option<Fault>,
     ty: Option<Ty>,
     names: &[DeclaredName],
 ) -> Result<Option<Items<TypedName>>, NoMemory>
     ensures value { IfOk result (λ r. option_map typed_names r
-        ≡ names_fine (heads_in given.now) (sight_in given.now c.old) ty (plain_names names.now)) }
+        ≡ names_fine (heads_in given.now) (sight_in given.now sight.old) ty
+        (plain_names names.now)) }
     ensures least { OnOk result (least.new ≡ kept least.old
-        (names_faults (heads_in given.now) (sight_in given.now c.old) ty
+        (names_faults (heads_in given.now) (sight_in given.now sight.old) ty
         (plain_names names.now))) }
-    ensures sight { OnOk result (sight_in given.now c.new
-        ≡ after_names (sight_in given.now c.old) ty (plain_names names.now)) }
+    ensures sight { OnOk result (sight_in given.now sight.new
+        ≡ after_names (sight_in given.now sight.old) ty (plain_names names.now)) }
 {
     let mut all = Some(Items::new(given.alloc));
     for name in names {
-        let one = variable(given, c, least, ty, name)?;
+        let one = variable(given, sight, least, ty, name)?;
         all = and_last(all, one)?;
     }
     Ok(all)

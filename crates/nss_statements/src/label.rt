@@ -112,20 +112,21 @@ fn judge_case(labels: &Option<Labels>, least: &mut Option<Fault>, token: u32, va
 
 /// A case of a constant that has this value; it is seen behind it.
 fn case_of(
-    c: &mut Sight,
+    sight: &mut Sight,
     least: &mut Option<Fault>,
     token: u32,
     value: Const,
 ) -> Result<Option<TypedStmt>, NoMemory>
     ensures value { IfOk result (λ r. option_map typed_stmt r
-        ≡ fine (asked (case_rows c.old.labels) (case_rule c.old.labels token) (Some value))) }
+        ≡ fine (asked (case_rows sight.old.labels) (case_rule sight.old.labels token)
+        (Some value))) }
     ensures least { OnOk result (least.new ≡ kept least.old (at token
-        (asked (case_rows c.old.labels) (case_rule c.old.labels token) (Some value)))) }
+        (asked (case_rows sight.old.labels) (case_rule sight.old.labels token) (Some value)))) }
     ensures sight { OnOk result ((table : EngineTable)
-        → in_sight table c.new ≡ case_seen (in_sight table c.old) (Some value)) }
+        → in_sight table sight.new ≡ case_seen (in_sight table sight.old) (Some value)) }
 {
-    let fits = judge_case(&c.labels, least, token, &value);
-    c.see_case(&value)?;
+    let fits = judge_case(&sight.labels, least, token, &value);
+    sight.see_case(&value)?;
     if fits {
         return Ok(Some(Stmt::case_label(token, value)));
     }
@@ -136,39 +137,40 @@ fn case_of(
 pub fn case(
     alloc: Global,
     table: &Table,
-    c: &mut Sight,
+    sight: &mut Sight,
     least: &mut Option<Fault>,
     token: u32,
     value: &Constant,
 ) -> Result<Option<TypedStmt>, NoMemory>
     ensures value { IfOk result (λ r. option_map typed_stmt r
-        ≡ fine (asked (case_rows c.old.labels) (case_rule c.old.labels token)
-        (constant_value (in_sight table.now c.old) value.now))) }
+        ≡ fine (asked (case_rows sight.old.labels) (case_rule sight.old.labels token)
+        (constant_value (in_sight table.now sight.old) value.now))) }
     ensures least { OnOk result (least.new ≡ kept least.old
-        (constant_faults (in_sight table.now c.old) value.now ++ at token
-        (asked (case_rows c.old.labels) (case_rule c.old.labels token)
-        (constant_value (in_sight table.now c.old) value.now)))) }
-    ensures sight { OnOk result (in_sight table.now c.new
-        ≡ case_seen (in_sight table.now c.old)
-        (constant_value (in_sight table.now c.old) value.now)) }
+        (constant_faults (in_sight table.now sight.old) value.now ++ at token
+        (asked (case_rows sight.old.labels) (case_rule sight.old.labels token)
+        (constant_value (in_sight table.now sight.old) value.now)))) }
+    ensures sight { OnOk result (in_sight table.now sight.new
+        ≡ case_seen (in_sight table.now sight.old)
+        (constant_value (in_sight table.now sight.old) value.now)) }
 {
-    match constant(alloc, table, c, least, value)? {
-        Some(value) => case_of(c, least, token, value),
+    match constant(alloc, table, sight, least, value)? {
+        Some(value) => case_of(sight, least, token, value),
         None => Ok(None),
     }
 }
 
 /// A `default`; it is seen behind it.
-pub fn default(c: &mut Sight, least: &mut Option<Fault>, token: u32) -> Option<TypedStmt>
+pub fn default(sight: &mut Sight, least: &mut Option<Fault>, token: u32) -> Option<TypedStmt>
     ensures value { option_map typed_stmt result
-        ≡ fine (asked (default_rows c.old.labels) (default_rule c.old.labels token) no_parts) }
+        ≡ fine (asked (default_rows sight.old.labels) (default_rule sight.old.labels token)
+        no_parts) }
     ensures least { least.new ≡ kept least.old (at token
-        (asked (default_rows c.old.labels) (default_rule c.old.labels token) no_parts)) }
+        (asked (default_rows sight.old.labels) (default_rule sight.old.labels token) no_parts)) }
     ensures sight { (table : EngineTable)
-        → in_sight table c.new ≡ default_seen (in_sight table c.old) }
+        → in_sight table sight.new ≡ default_seen (in_sight table sight.old) }
 {
-    let fault = default_fault(has_default_label(&c.labels), is_outside(&c.labels));
-    c.see_default();
+    let fault = default_fault(has_default_label(&sight.labels), is_outside(&sight.labels));
+    sight.see_default();
     match fault {
         None => Some(Stmt::default_label(token)),
         Some(kind) => {

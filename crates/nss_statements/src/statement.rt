@@ -3,9 +3,10 @@
 ghost use Rattle.std.specs.Prelude.{◌≡◌, ◌++◌, IfOk, OnOk};
 ghost use Rattle.std.specs.Option.{option_map};
 ghost use Rattle.nss_tree.specs.Reading.{plain_expr, plain_names, plain_stmt, plain_stmts};
+ghost use Rattle.nss_tree.specs.Statements as tree;
 ghost use Rattle.nss_typing.specs.Nodes.{at, faults_there, fine, if_there, kept, passed, two};
 ghost use Rattle.nss_typing.specs.Reading.{plain};
-ghost use Rattle.nss_typing.specs.Sight.{declaration_seen};
+ghost use Rattle.nss_typing.specs.Sight.{declaration_seen, inside, left, looped};
 ghost use Rattle.nss_typing.specs.UnitReading.{typed_stmt, typed_stmts};
 ghost use Rattle.nss_typing.specs.Verdicts.{after, after_names, afters, declaration_of};
 ghost use Rattle.nss_typing.specs.Verdicts.{line_type, line_verdict, names_faults, names_fine};
@@ -42,139 +43,62 @@ pub struct ForHead {
 #[cycle(walk)]
 pub fn statement(
     given: &Given<'_>,
-    c: &mut Sight,
+    sight: &mut Sight,
     least: &mut Option<Fault>,
-    x: &Stmt,
+    statement: &Stmt,
 ) -> Result<Option<TypedStmt>, NoMemory>
     ensures value { IfOk result (λ r. option_map typed_stmt r
-        ≡ fine (stmt_verdict (heads_in given.now) (sight_in given.now c.old)
-        (plain_stmt x.now))) }
+        ≡ fine (stmt_verdict (heads_in given.now) (sight_in given.now sight.old)
+        (plain_stmt statement.now))) }
     ensures least { OnOk result (least.new ≡ kept least.old
-        (stmt_faults (heads_in given.now) (sight_in given.now c.old) (plain_stmt x.now))) }
-    ensures sight { OnOk result (sight_in given.now c.new
-        ≡ after (sight_in given.now c.old) (plain_stmt x.now)) }
+        (stmt_faults (heads_in given.now) (sight_in given.now sight.old)
+        (plain_stmt statement.now))) }
+    ensures sight { OnOk result (sight_in given.now sight.new
+        ≡ after (sight_in given.now sight.old) (plain_stmt statement.now)) }
 {
-    scopes_only_add();
-    let alloc = given.alloc;
-    match x {
-        Stmt::Block { token, items } => {
-            let mark = c.enter();
-            let xs = statements(given, c, least, items);
-            c.leave(mark);
-            Ok(made_block(*token, xs?))
-        }
+    match statement {
+        Stmt::Block { token, items } => block(given, sight, least, *token, items),
         Stmt::Empty { token } => Ok(Some(Stmt::empty(*token))),
         Stmt::Expression { token, value } => {
-            let e = expression(given, c, least, false, value)?;
-            Ok(made_expression(*token, e))
+            expression_statement(given, sight, least, *token, value)
         }
         Stmt::If {
             token,
             condition,
             then,
-        } => {
-            let e = expression(given, c, least, false, condition)?;
-            let mark = c.inside();
-            let then = statement(given, c, least, then);
-            c.leave(mark);
-            judge_if(alloc, least, *token, e, then?)
-        }
+        } => if_only(given, sight, least, *token, condition, then),
         Stmt::IfElse {
             token,
             condition,
             then,
             otherwise,
-        } => {
-            let e = expression(given, c, least, false, condition)?;
-            let mark = c.inside();
-            let then = statement(given, c, least, then);
-            c.leave(mark);
-            let then = then?;
-            let mark = c.inside();
-            let otherwise = statement(given, c, least, otherwise);
-            c.leave(mark);
-            match otherwise {
-                Ok(otherwise) => judge_if_else(alloc, least, *token, e, then, otherwise),
-                Err(error) => {
-                    drop(e);
-                    drop(then);
-                    Err(error)
-                }
-            }
-        }
+        } => if_else(given, sight, least, *token, condition, then, otherwise),
         Stmt::While {
             token,
             condition,
             body,
-        } => {
-            let e = expression(given, c, least, false, condition)?;
-            let mark = c.enter_loop();
-            let body = statement(given, c, least, body);
-            c.leave(mark);
-            judge_while(alloc, least, *token, e, body?)
-        }
+        } => while_loop(given, sight, least, *token, condition, body),
         Stmt::Do {
             token,
             body,
             condition,
-        } => {
-            let mark = c.enter_loop();
-            let body = statement(given, c, least, body);
-            c.leave(mark);
-            let body = body?;
-            match expression(given, c, least, false, condition) {
-                Ok(e) => judge_do(alloc, least, *token, body, e),
-                Err(error) => {
-                    drop(body);
-                    Err(error)
-                }
-            }
-        }
+        } => do_loop(given, sight, least, *token, body, condition),
         Stmt::For {
             token,
             start,
             condition,
             step,
             body,
-        } => {
-            let head = for_head(given, c, least, start, condition, step)?;
-            let mark = c.enter_loop();
-            let body = statement(given, c, least, body);
-            c.leave(mark);
-            match body {
-                Ok(body) => {
-                    let ForHead {
-                        start,
-                        condition,
-                        step,
-                    } = head;
-                    judge_for(alloc, least, *token, start, condition, step, body)
-                }
-                Err(error) => {
-                    drop(head);
-                    Err(error)
-                }
-            }
-        }
-        Stmt::Switch { token, value, body } => {
-            let e = expression(given, c, least, false, value)?;
-            let crosses = c.crosses_with(1);
-            let mark = c.enter_switch(alloc);
-            let xs = statements(given, c, least, body);
-            c.leave(mark);
-            Ok(judge_switch(least, *token, crosses, e, xs?))
-        }
-        Stmt::Break { token } => Ok(judge_break(least, *token, c.may_break)),
-        Stmt::Continue { token } => Ok(judge_continue(least, *token, c.in_loop)),
-        Stmt::Return { token, value } => {
-            let value = value_there(given, c, least, value)?;
-            Ok(judge_return(least, *token, c.result, value))
-        }
+        } => for_loop(given, sight, least, *token, start, condition, step, body),
+        Stmt::Switch { token, value, body } => switch(given, sight, least, *token, value, body),
+        Stmt::Break { token } => Ok(judge_break(least, *token, sight.may_break)),
+        Stmt::Continue { token } => Ok(judge_continue(least, *token, sight.in_loop)),
+        Stmt::Return { token, value } => return_from(given, sight, least, *token, value),
         Stmt::Declaration { token, ty, names } => {
-            declaration(given, c, least, *token, ty, names.as_slice())
+            declaration(given, sight, least, *token, ty, names.as_slice())
         }
-        Stmt::Case { token, value } => case(alloc, given.table, c, least, *token, value),
-        Stmt::Default { token } => Ok(default(c, least, *token)),
+        Stmt::Case { token, value } => case(given.alloc, given.table, sight, least, *token, value),
+        Stmt::Default { token } => Ok(default(sight, least, *token)),
     }
 }
 
@@ -182,53 +106,356 @@ pub fn statement(
 #[cycle(walk)]
 pub fn statements(
     given: &Given<'_>,
-    c: &mut Sight,
+    sight: &mut Sight,
     least: &mut Option<Fault>,
-    xs: &[Stmt],
+    statements: &[Stmt],
 ) -> Result<Option<Items<TypedStmt>>, NoMemory>
     ensures value { IfOk result (λ r. option_map typed_stmts r
-        ≡ stmts_fine (heads_in given.now) (sight_in given.now c.old) (plain_stmts xs.now)) }
+        ≡ stmts_fine (heads_in given.now) (sight_in given.now sight.old)
+        (plain_stmts statements.now)) }
     ensures least { OnOk result (least.new ≡ kept least.old
-        (stmts_faults (heads_in given.now) (sight_in given.now c.old) (plain_stmts xs.now))) }
-    ensures sight { OnOk result (sight_in given.now c.new
-        ≡ afters (sight_in given.now c.old) (plain_stmts xs.now)) }
+        (stmts_faults (heads_in given.now) (sight_in given.now sight.old)
+        (plain_stmts statements.now))) }
+    ensures sight { OnOk result (sight_in given.now sight.new
+        ≡ afters (sight_in given.now sight.old) (plain_stmts statements.now)) }
 {
     let mut all = Some(Items::new(given.alloc));
-    for x in xs {
-        let one = statement(given, c, least, x)?;
-        all = and_last(all, one)?;
+    for one in statements {
+        let typed = statement(given, sight, least, one)?;
+        all = and_last(all, typed)?;
     }
     Ok(all)
 }
 
+/// The statement of an `if` or behind its `else`, whose scope is left behind it.
+#[cycle(walk)]
+fn in_branch(
+    given: &Given<'_>,
+    sight: &mut Sight,
+    least: &mut Option<Fault>,
+    branch: &Stmt,
+) -> Result<Option<TypedStmt>, NoMemory>
+    ensures value { IfOk result (λ r. option_map typed_stmt r
+        ≡ fine (stmt_verdict (heads_in given.now) (inside (sight_in given.now sight.old))
+        (plain_stmt branch.now))) }
+    ensures least { OnOk result (least.new ≡ kept least.old
+        (stmt_faults (heads_in given.now) (inside (sight_in given.now sight.old))
+        (plain_stmt branch.now))) }
+    ensures sight { OnOk result (sight_in given.now sight.new
+        ≡ left (sight_in given.now sight.old)
+        (after (inside (sight_in given.now sight.old)) (plain_stmt branch.now))) }
+{
+    scopes_only_add();
+    let mark = sight.inside();
+    let typed = statement(given, sight, least, branch);
+    sight.leave(mark);
+    typed
+}
+
+/// The statement of a loop, whose scope is left behind it.
+#[cycle(walk)]
+fn in_loop(
+    given: &Given<'_>,
+    sight: &mut Sight,
+    least: &mut Option<Fault>,
+    body: &Stmt,
+) -> Result<Option<TypedStmt>, NoMemory>
+    ensures value { IfOk result (λ r. option_map typed_stmt r
+        ≡ fine (stmt_verdict (heads_in given.now) (looped (sight_in given.now sight.old))
+        (plain_stmt body.now))) }
+    ensures least { OnOk result (least.new ≡ kept least.old
+        (stmt_faults (heads_in given.now) (looped (sight_in given.now sight.old))
+        (plain_stmt body.now))) }
+    ensures sight { OnOk result (sight_in given.now sight.new
+        ≡ left (sight_in given.now sight.old)
+        (after (looped (sight_in given.now sight.old)) (plain_stmt body.now))) }
+{
+    scopes_only_add();
+    let mark = sight.enter_loop();
+    let typed = statement(given, sight, least, body);
+    sight.leave(mark);
+    typed
+}
+
+/// A block.
+#[cycle(walk)]
+fn block(
+    given: &Given<'_>,
+    sight: &mut Sight,
+    least: &mut Option<Fault>,
+    token: u32,
+    items: &[Stmt],
+) -> Result<Option<TypedStmt>, NoMemory>
+    ensures value { IfOk result (λ r. option_map typed_stmt r
+        ≡ fine (stmt_verdict (heads_in given.now) (sight_in given.now sight.old)
+        (tree.block token (plain_stmts items.now)))) }
+    ensures least { OnOk result (least.new ≡ kept least.old
+        (stmt_faults (heads_in given.now) (sight_in given.now sight.old)
+        (tree.block token (plain_stmts items.now)))) }
+    ensures sight { OnOk result (sight_in given.now sight.new
+        ≡ after (sight_in given.now sight.old)
+        (tree.block token (plain_stmts items.now))) }
+{
+    scopes_only_add();
+    let mark = sight.enter();
+    let typed = statements(given, sight, least, items);
+    sight.leave(mark);
+    Ok(made_block(token, typed?))
+}
+
+/// An expression that stands as a statement.
+fn expression_statement(
+    given: &Given<'_>,
+    sight: &Sight,
+    least: &mut Option<Fault>,
+    token: u32,
+    value: &Expr,
+) -> Result<Option<TypedStmt>, NoMemory>
+    ensures value { IfOk result (λ r. option_map typed_stmt r
+        ≡ fine (stmt_verdict (heads_in given.now) (sight_in given.now sight.now)
+        (tree.expression token (plain_expr value.now)))) }
+    ensures least { OnOk result (least.new ≡ kept least.old
+        (stmt_faults (heads_in given.now) (sight_in given.now sight.now)
+        (tree.expression token (plain_expr value.now)))) }
+{
+    let typed = expression(given, sight, least, false, value)?;
+    Ok(made_expression(token, typed))
+}
+
+/// An `if` without `else`.
+#[cycle(walk)]
+fn if_only(
+    given: &Given<'_>,
+    sight: &mut Sight,
+    least: &mut Option<Fault>,
+    token: u32,
+    condition: &Expr,
+    then: &Stmt,
+) -> Result<Option<TypedStmt>, NoMemory>
+    ensures value { IfOk result (λ r. option_map typed_stmt r
+        ≡ fine (stmt_verdict (heads_in given.now) (sight_in given.now sight.old)
+        (tree.if_only token (plain_expr condition.now) (plain_stmt then.now)))) }
+    ensures least { OnOk result (least.new ≡ kept least.old
+        (stmt_faults (heads_in given.now) (sight_in given.now sight.old)
+        (tree.if_only token (plain_expr condition.now) (plain_stmt then.now)))) }
+    ensures sight { OnOk result (sight_in given.now sight.new
+        ≡ after (sight_in given.now sight.old)
+        (tree.if_only token (plain_expr condition.now) (plain_stmt then.now))) }
+{
+    let condition = expression(given, sight, least, false, condition)?;
+    let then = in_branch(given, sight, least, then);
+    judge_if(given.alloc, least, token, condition, then?)
+}
+
+/// An `if` with `else`.
+#[cycle(walk)]
+fn if_else(
+    given: &Given<'_>,
+    sight: &mut Sight,
+    least: &mut Option<Fault>,
+    token: u32,
+    condition: &Expr,
+    then: &Stmt,
+    otherwise: &Stmt,
+) -> Result<Option<TypedStmt>, NoMemory>
+    ensures value { IfOk result (λ r. option_map typed_stmt r
+        ≡ fine (stmt_verdict (heads_in given.now) (sight_in given.now sight.old)
+        (tree.if_else token (plain_expr condition.now) (plain_stmt then.now)
+        (plain_stmt otherwise.now)))) }
+    ensures least { OnOk result (least.new ≡ kept least.old
+        (stmt_faults (heads_in given.now) (sight_in given.now sight.old)
+        (tree.if_else token (plain_expr condition.now) (plain_stmt then.now)
+        (plain_stmt otherwise.now)))) }
+    ensures sight { OnOk result (sight_in given.now sight.new
+        ≡ after (sight_in given.now sight.old)
+        (tree.if_else token (plain_expr condition.now) (plain_stmt then.now)
+        (plain_stmt otherwise.now))) }
+{
+    let condition = expression(given, sight, least, false, condition)?;
+    let then = in_branch(given, sight, least, then)?;
+    match in_branch(given, sight, least, otherwise) {
+        Ok(otherwise) => judge_if_else(given.alloc, least, token, condition, then, otherwise),
+        Err(error) => {
+            drop(condition);
+            drop(then);
+            Err(error)
+        }
+    }
+}
+
+/// A `while`.
+#[cycle(walk)]
+fn while_loop(
+    given: &Given<'_>,
+    sight: &mut Sight,
+    least: &mut Option<Fault>,
+    token: u32,
+    condition: &Expr,
+    body: &Stmt,
+) -> Result<Option<TypedStmt>, NoMemory>
+    ensures value { IfOk result (λ r. option_map typed_stmt r
+        ≡ fine (stmt_verdict (heads_in given.now) (sight_in given.now sight.old)
+        (tree.while_loop token (plain_expr condition.now) (plain_stmt body.now)))) }
+    ensures least { OnOk result (least.new ≡ kept least.old
+        (stmt_faults (heads_in given.now) (sight_in given.now sight.old)
+        (tree.while_loop token (plain_expr condition.now) (plain_stmt body.now)))) }
+    ensures sight { OnOk result (sight_in given.now sight.new
+        ≡ after (sight_in given.now sight.old)
+        (tree.while_loop token (plain_expr condition.now) (plain_stmt body.now))) }
+{
+    let condition = expression(given, sight, least, false, condition)?;
+    let body = in_loop(given, sight, least, body);
+    judge_while(given.alloc, least, token, condition, body?)
+}
+
+/// A `do`.
+#[cycle(walk)]
+fn do_loop(
+    given: &Given<'_>,
+    sight: &mut Sight,
+    least: &mut Option<Fault>,
+    token: u32,
+    body: &Stmt,
+    condition: &Expr,
+) -> Result<Option<TypedStmt>, NoMemory>
+    ensures value { IfOk result (λ r. option_map typed_stmt r
+        ≡ fine (stmt_verdict (heads_in given.now) (sight_in given.now sight.old)
+        (tree.do_loop token (plain_stmt body.now) (plain_expr condition.now)))) }
+    ensures least { OnOk result (least.new ≡ kept least.old
+        (stmt_faults (heads_in given.now) (sight_in given.now sight.old)
+        (tree.do_loop token (plain_stmt body.now) (plain_expr condition.now)))) }
+    ensures sight { OnOk result (sight_in given.now sight.new
+        ≡ after (sight_in given.now sight.old)
+        (tree.do_loop token (plain_stmt body.now) (plain_expr condition.now))) }
+{
+    let body = in_loop(given, sight, least, body)?;
+    match expression(given, sight, least, false, condition) {
+        Ok(condition) => judge_do(given.alloc, least, token, body, condition),
+        Err(error) => {
+            drop(body);
+            Err(error)
+        }
+    }
+}
+
+/// A `for`.
+#[cycle(walk)]
+fn for_loop(
+    given: &Given<'_>,
+    sight: &mut Sight,
+    least: &mut Option<Fault>,
+    token: u32,
+    start: &Option<Expr>,
+    condition: &Option<Expr>,
+    step: &Option<Expr>,
+    body: &Stmt,
+) -> Result<Option<TypedStmt>, NoMemory>
+    ensures value { IfOk result (λ r. option_map typed_stmt r
+        ≡ fine (stmt_verdict (heads_in given.now) (sight_in given.now sight.old)
+        (tree.for_loop token (option_map plain_expr start.now) (option_map plain_expr condition.now)
+        (option_map plain_expr step.now) (plain_stmt body.now)))) }
+    ensures least { OnOk result (least.new ≡ kept least.old
+        (stmt_faults (heads_in given.now) (sight_in given.now sight.old)
+        (tree.for_loop token (option_map plain_expr start.now) (option_map plain_expr condition.now)
+        (option_map plain_expr step.now) (plain_stmt body.now)))) }
+    ensures sight { OnOk result (sight_in given.now sight.new
+        ≡ after (sight_in given.now sight.old)
+        (tree.for_loop token (option_map plain_expr start.now) (option_map plain_expr condition.now)
+        (option_map plain_expr step.now) (plain_stmt body.now))) }
+{
+    let head = for_head(given, sight, least, start, condition, step)?;
+    match in_loop(given, sight, least, body) {
+        Ok(body) => {
+            let ForHead {
+                start,
+                condition,
+                step,
+            } = head;
+            judge_for(given.alloc, least, token, start, condition, step, body)
+        }
+        Err(error) => {
+            drop(head);
+            Err(error)
+        }
+    }
+}
+
+/// A `switch`.
+#[cycle(walk)]
+fn switch(
+    given: &Given<'_>,
+    sight: &mut Sight,
+    least: &mut Option<Fault>,
+    token: u32,
+    value: &Expr,
+    body: &[Stmt],
+) -> Result<Option<TypedStmt>, NoMemory>
+    ensures value { IfOk result (λ r. option_map typed_stmt r
+        ≡ fine (stmt_verdict (heads_in given.now) (sight_in given.now sight.old)
+        (tree.switch token (plain_expr value.now) (plain_stmts body.now)))) }
+    ensures least { OnOk result (least.new ≡ kept least.old
+        (stmt_faults (heads_in given.now) (sight_in given.now sight.old)
+        (tree.switch token (plain_expr value.now) (plain_stmts body.now)))) }
+    ensures sight { OnOk result (sight_in given.now sight.new
+        ≡ after (sight_in given.now sight.old)
+        (tree.switch token (plain_expr value.now) (plain_stmts body.now))) }
+{
+    scopes_only_add();
+    let value = expression(given, sight, least, false, value)?;
+    let crosses = sight.crosses_with(1);
+    let mark = sight.enter_switch(given.alloc);
+    let body = statements(given, sight, least, body);
+    sight.leave(mark);
+    Ok(judge_switch(least, token, crosses, value, body?))
+}
+
+/// A `return`.
+fn return_from(
+    given: &Given<'_>,
+    sight: &Sight,
+    least: &mut Option<Fault>,
+    token: u32,
+    value: &Option<Expr>,
+) -> Result<Option<TypedStmt>, NoMemory>
+    ensures value { IfOk result (λ r. option_map typed_stmt r
+        ≡ fine (stmt_verdict (heads_in given.now) (sight_in given.now sight.now)
+        (tree.return_from token (option_map plain_expr value.now)))) }
+    ensures least { OnOk result (least.new ≡ kept least.old
+        (stmt_faults (heads_in given.now) (sight_in given.now sight.now)
+        (tree.return_from token (option_map plain_expr value.now)))) }
+{
+    let typed = value_there(given, sight, least, value)?;
+    Ok(judge_return(least, token, sight.result, typed))
+}
+
 fn for_head(
     given: &Given<'_>,
-    c: &Sight,
+    sight: &Sight,
     least: &mut Option<Fault>,
     start: &Option<Expr>,
     condition: &Option<Expr>,
     step: &Option<Expr>,
 ) -> Result<ForHead, NoMemory>
     ensures start { IfOk result (λ r. option_map (option_map plain) r.start
-        ≡ if_there (value (heads_in given.now) (sight_in given.now c.now))
+        ≡ if_there (value (heads_in given.now) (sight_in given.now sight.now))
         (option_map plain_expr start.now)) }
     ensures condition { IfOk result (λ r. option_map (option_map plain) r.condition
-        ≡ if_there (value (heads_in given.now) (sight_in given.now c.now))
+        ≡ if_there (value (heads_in given.now) (sight_in given.now sight.now))
         (option_map plain_expr condition.now)) }
     ensures step { IfOk result (λ r. option_map (option_map plain) r.step
-        ≡ if_there (value (heads_in given.now) (sight_in given.now c.now))
+        ≡ if_there (value (heads_in given.now) (sight_in given.now sight.now))
         (option_map plain_expr step.now)) }
     ensures least { OnOk result (least.new ≡ kept (kept (kept least.old
-        (faults_there (value_faults (heads_in given.now) (sight_in given.now c.now))
+        (faults_there (value_faults (heads_in given.now) (sight_in given.now sight.now))
         (option_map plain_expr start.now)))
-        (faults_there (value_faults (heads_in given.now) (sight_in given.now c.now))
+        (faults_there (value_faults (heads_in given.now) (sight_in given.now sight.now))
         (option_map plain_expr condition.now)))
-        (faults_there (value_faults (heads_in given.now) (sight_in given.now c.now))
+        (faults_there (value_faults (heads_in given.now) (sight_in given.now sight.now))
         (option_map plain_expr step.now))) }
 {
-    let start = value_there(given, c, least, start)?;
-    let condition = value_there(given, c, least, condition)?;
-    let step = value_there(given, c, least, step)?;
+    let start = value_there(given, sight, least, start)?;
+    let condition = value_there(given, sight, least, condition)?;
+    let step = value_there(given, sight, least, step)?;
     Ok(ForHead {
         start,
         condition,
@@ -238,27 +465,27 @@ fn for_head(
 
 fn declaration(
     given: &Given<'_>,
-    c: &mut Sight,
+    sight: &mut Sight,
     least: &mut Option<Fault>,
     token: u32,
     ty: &TypeName,
-    ds: &[DeclaredName],
+    declared: &[DeclaredName],
 ) -> Result<Option<TypedStmt>, NoMemory>
     ensures value { IfOk result (λ r. option_map typed_stmt r
         ≡ fine (passed (declaration_of token)
-        (two (line_type (sight_in given.now c.old).structs ty.now)
-        (names_fine (heads_in given.now) (sight_in given.now c.old)
-        (line_type (sight_in given.now c.old).structs ty.now) (plain_names ds.now))))) }
+        (two (line_type (sight_in given.now sight.old).structs ty.now)
+        (names_fine (heads_in given.now) (sight_in given.now sight.old)
+        (line_type (sight_in given.now sight.old).structs ty.now) (plain_names declared.now))))) }
     ensures least { OnOk result (least.new ≡ kept least.old
-        (at token (line_verdict (sight_in given.now c.old).structs ty.now)
-        ++ names_faults (heads_in given.now) (sight_in given.now c.old)
-        (line_type (sight_in given.now c.old).structs ty.now) (plain_names ds.now))) }
-    ensures sight { OnOk result (sight_in given.now c.new
-        ≡ declaration_seen (after_names (sight_in given.now c.old)
-        (line_type (sight_in given.now c.old).structs ty.now) (plain_names ds.now))) }
+        (at token (line_verdict (sight_in given.now sight.old).structs ty.now)
+        ++ names_faults (heads_in given.now) (sight_in given.now sight.old)
+        (line_type (sight_in given.now sight.old).structs ty.now) (plain_names declared.now))) }
+    ensures sight { OnOk result (sight_in given.now sight.new
+        ≡ declaration_seen (after_names (sight_in given.now sight.old)
+        (line_type (sight_in given.now sight.old).structs ty.now) (plain_names declared.now))) }
 {
-    let ty = line_type(least, token, &c.structs, ty);
-    let xs = names(given, c, least, ty, ds)?;
-    c.see_declaration();
-    Ok(made_declaration(token, ty, xs))
+    let ty = line_type(least, token, &sight.structs, ty);
+    let typed = names(given, sight, least, ty, declared)?;
+    sight.see_declaration();
+    Ok(made_declaration(token, ty, typed))
 }

@@ -10,8 +10,8 @@ use Rattle.nss_statements.proofs.declared.names.Given as goal
 
 abbrev pub invariant-loop-name : goal.invariant-loop-name
 invariant-loop-name l =
-    (with_rest (option_map typed_names l.all) (names_fine (heads_in l.given) (sight_in l.given l.c) l.ty (plain_names (drop l.name-index l.names)))
-    ≡ names_fine (heads_in l.given) (sight_in l.given l.initial.c) l.ty (plain_names l.names))
-    × (kept l.least (names_faults (heads_in l.given) (sight_in l.given l.c) l.ty (plain_names (drop l.name-index l.names)))
-    ≡ kept l.initial.least (names_faults (heads_in l.given) (sight_in l.given l.initial.c) l.ty (plain_names l.names)))
-    × (after_names (sight_in l.given l.c) l.ty (plain_names (drop l.name-index l.names)) ≡ after_names (sight_in l.given l.initial.c) l.ty (plain_names l.names))
+    (with_rest (option_map typed_names l.all) (names_fine (heads_in l.given) (sight_in l.given l.sight) l.ty (plain_names (drop l.name-index l.names)))
+    ≡ names_fine (heads_in l.given) (sight_in l.given l.initial.sight) l.ty (plain_names l.names))
+    × (kept l.least (names_faults (heads_in l.given) (sight_in l.given l.sight) l.ty (plain_names (drop l.name-index l.names)))
+    ≡ kept l.initial.least (names_faults (heads_in l.given) (sight_in l.given l.initial.sight) l.ty (plain_names l.names)))
+    × (after_names (sight_in l.given l.sight) l.ty (plain_names (drop l.name-index l.names)) ≡ after_names (sight_in l.given l.initial.sight) l.ty (plain_names l.names))

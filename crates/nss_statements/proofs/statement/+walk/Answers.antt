@@ -1,391 +1,406 @@
-use Rattle.std.proofs.Common.{◌∙◌, ◌++◌, false, arith, sym, ap, refl, Some}
+use Rattle.std.proofs.Common.{◌≡◌, ◌∙◌, ◌++◌, ◌+◌, arith, false, sym, ap, refl, subst, Some}
 use Rattle.std.specs.Option.{option_map}
-use Rattle.nss_tree.specs.Reading.{plain_expr, plain_names, plain_stmt, plain_stmts}
+use Rattle.std.specs.Result.{IfOk, OnOk}
+use Rattle.nss_tree.specs.Reading.{plain_expr, plain_stmt, plain_stmts}
 use Rattle.nss_tree.specs.Readings.{tree_block, tree_break_off, tree_case_label, tree_continue_on, tree_declaration, tree_default_label, tree_do_loop, tree_empty, tree_expression, tree_for_loop, tree_if_else, tree_if_only, tree_return_from, tree_switch, tree_while_loop}
 use Rattle.nss_tree.specs.Statements as tree
-use Rattle.nss_tree.specs.Statements.{block, break_off, case_label, continue_on, default_label, do_loop, empty, for_loop, if_else, if_only, map_stmt, more_stmts, no_stmt, return_from, switch, while_loop}
+use Rattle.nss_tree.specs.Statements.{map_stmt, more_stmts, no_stmt}
 use Rattle.nss_typing.specs.Nodes.{asked, at, faults_there, fine, four, if_there, kept, passed, three, two}
 use Rattle.nss_typing.specs.Reading.{plain}
-use Rattle.nss_typing.specs.Rules.{do_rows, do_rule, for_rows, for_rule, if_else_rows, if_else_rule, if_rows, if_rule, return_rows, return_rule, while_rule}
+use Rattle.nss_typing.specs.Rules.{do_rows, do_rule, for_rows, for_rule, if_else_rows, if_else_rule, if_rows, if_rule, while_rule}
 use Rattle.nss_typing.specs.Sight.{entered, inside, left, looped, switched}
 use Rattle.nss_typing.specs.UnitReading.{typed_stmt, typed_stmts}
 use Rattle.nss_typing.specs.Verdicts.{after, afters, stmt_faults, stmt_verdict, stmts_faults, stmts_fine, value, value_faults}
 use Rattle.nss_statements.specs.Faults.{switch_rows_by, switch_rule_by}
 use Rattle.nss_expressions.specs.Views.{heads_in, sight_in}
 use Rattle.nss_expressions.proofs.RowLemmas.{row_value, row_least, row_sight, row_end_value, row_end_least, row_end_sight}
+use Rattle.nss_statements.proofs.Nodes.{all_size, block_is, declaration_is, do_is, falls, for_is, if_else_is, if_only_is, next_falls, on_ok, size, switch_is, while_is}
 use Rattle.nss_statements.proofs.SameSight.{same_faults, same_verdict}
 use Rattle.nss_statements.proofs.StatementRows.{scope_left, stmt_laws, stmts_first}
-use Rattle.nss_expressions.proofs.WalkLemmas.{always, answered, four_least, four_value, node_least, node_sight, node_value, one_least, one_value, three_least, three_value, two_least, two_value}
+use Rattle.nss_expressions.proofs.WalkLemmas.{always, answered, four_least, four_value, node_least, node_sight, node_value, three_least, three_value, two_least, two_value}
 use Rattle.nss_statements.proofs.statement.+walk.Goals as goal
 
-pub statement-returns-in_ok-xs-in-Block-clause-value : goal.statement-returns-in_ok-xs-in-Block-clause-value
-statement-returns-in_ok-xs-in-Block-clause-value b c =
-    one_value typed_stmt (stmt_verdict (heads_in c.args.given.now) (sight_in c.args.given.now c.args.c.now)) (stmt_faults (heads_in c.args.given.now) (sight_in c.args.given.now c.args.c.now)) c.in-Block.token (answered c.made_block.result) (plain_stmt c.args.x.now)
-    (block c.in-Block.token (plain_stmts c.deref.result.now))
-    (ap (map_stmt plain_expr) (tree_block _ _ _ c.in-Block.is)
-    ∙ ap (λ y. block c.in-Block.token (plain_stmts y)) (sym c.deref.ensures.value))
-    (passed (block c.in-Block.token)) (option_map typed_stmts c.in_ok-xs-in-Block.field-0) (stmts_fine (heads_in c.args.given.now) (entered (sight_in c.args.given.now c.args.c.now)) (plain_stmts c.deref.result.now))
-    (c.in_ok-xs-in-Block.ensures.value ∙ ap (λ k. stmts_fine (heads_in c.args.given.now) k (plain_stmts c.deref.result.now)) (c.enter-mark.ensures.entered c.args.given.now.table.now)) refl c.made_block.ensures
+-- ---- a statement that is known
 
-pub statement-returns-in_ok-xs-in-Block-clause-least : goal.statement-returns-in_ok-xs-in-Block-clause-least
-statement-returns-in_ok-xs-in-Block-clause-least b c =
-    node_least typed_stmt (stmt_verdict (heads_in c.args.given.now) (sight_in c.args.given.now c.args.c.now)) (stmt_faults (heads_in c.args.given.now) (sight_in c.args.given.now c.args.c.now)) c.in-Block.token (answered c.made_block.result) (plain_stmt c.args.x.now)
-    (block c.in-Block.token (plain_stmts c.deref.result.now))
-    (ap (map_stmt plain_expr) (tree_block _ _ _ c.in-Block.is)
-    ∙ ap (λ y. block c.in-Block.token (plain_stmts y)) (sym c.deref.ensures.value))
-    c.args.least.now c.statements-xs.new.least (c.in_ok-xs-in-Block.ensures.least ∙ ap (λ k. kept c.args.least.now (stmts_faults (heads_in c.args.given.now) k (plain_stmts c.deref.result.now))) (c.enter-mark.ensures.entered c.args.given.now.table.now))
+pub statement-block-requires : goal.statement-block-requires
+statement-block-requires t c = (falls _ (tree.block c.in-Block.token (plain_stmts c.deref.result.now)) t (all_size (plain_stmts c.deref.result.now) + 2) (block_is _ _ _ _ (tree_block _ _ _ c.in-Block.is) c.deref.ensures.value) c.decreases (omega arith), tt)
 
-pub statement-returns-in_ok-xs-in-Block-clause-sight : goal.statement-returns-in_ok-xs-in-Block-clause-sight
-statement-returns-in_ok-xs-in-Block-clause-sight b c =
-    (scope_left c.scopes_only_add.ensures.first c.args.given.now.table.now c.args.c.now c.statements-xs.new.c c.leave.new.self c.enter-mark.result (entered (sight_in c.args.given.now c.args.c.now))
-    (afters (entered (sight_in c.args.given.now c.args.c.now)) (plain_stmts c.deref.result.now)) refl refl refl refl (c.scopes_only_add.ensures.statements (entered (sight_in c.args.given.now c.args.c.now)) (plain_stmts c.deref.result.now)) c.leave.ensures.left c.enter-mark.ensures.mark
-    (c.in_ok-xs-in-Block.ensures.sight ∙ ap (λ k. afters k (plain_stmts c.deref.result.now)) (c.enter-mark.ensures.entered c.args.given.now.table.now))) ∙ ap (after (sight_in c.args.given.now c.args.c.now)) (sym (ap (map_stmt plain_expr) (tree_block _ _ _ c.in-Block.is)
-    ∙ ap (λ y. block c.in-Block.token (plain_stmts y)) (sym c.deref.ensures.value)))
+pub statement-returns-in-Block : goal.statement-returns-in-Block
+statement-returns-in-Block t c =
+    let hs = heads_in c.args.given.now in
+    let s = sight_in c.args.given.now c.args.sight.now in
+    let node = block_is _ _ _ _ (tree_block _ _ _ c.in-Block.is) c.deref.ensures.value in
+    record {
+      value = node_value typed_stmt (stmt_verdict hs s) (stmt_faults hs s) c.in-Block.token c.block.result _ _ node c.block.ensures.value;
+      least = node_least typed_stmt (stmt_verdict hs s) (stmt_faults hs s) c.in-Block.token c.block.result _ _ node _ _ c.block.ensures.least;
+      sight = node_sight c.block.result _ _ node (after s) _ c.block.ensures.sight;
+    }
 
-pub statement-returns-in-Empty-clause-value : goal.statement-returns-in-Empty-clause-value
-statement-returns-in-Empty-clause-value b c =
-    node_value typed_stmt (stmt_verdict (heads_in c.args.given.now) (sight_in c.args.given.now c.args.c.now)) (stmt_faults (heads_in c.args.given.now) (sight_in c.args.given.now c.args.c.now)) c.in-Empty.token (answered (Some c.empty.result)) (plain_stmt c.args.x.now)
-    (empty c.in-Empty.token)
-    (ap (map_stmt plain_expr) (tree_empty _ _ c.in-Empty.is))
-    (ap (λ y. Some (map_stmt plain y)) c.empty.ensures.made)
+pub statement-returns-in-Empty : goal.statement-returns-in-Empty
+statement-returns-in-Empty t c =
+    let hs = heads_in c.args.given.now in
+    let s = sight_in c.args.given.now c.args.sight.now in
+    let node = ap (map_stmt plain_expr) (tree_empty _ _ c.in-Empty.is) in
+    record {
+      value = node_value typed_stmt (stmt_verdict hs s) (stmt_faults hs s) c.in-Empty.token (answered (Some c.empty.result)) _ _ node (ap (λ y. Some (map_stmt plain y)) c.empty.ensures.made);
+      least = node_least typed_stmt (stmt_verdict hs s) (stmt_faults hs s) c.in-Empty.token (answered (Some c.empty.result)) _ _ node c.args.least.now c.args.least.now refl;
+      sight = ap (after s) (sym node);
+    }
 
-pub statement-returns-in-Empty-clause-least : goal.statement-returns-in-Empty-clause-least
-statement-returns-in-Empty-clause-least b c =
-    node_least typed_stmt (stmt_verdict (heads_in c.args.given.now) (sight_in c.args.given.now c.args.c.now)) (stmt_faults (heads_in c.args.given.now) (sight_in c.args.given.now c.args.c.now)) c.in-Empty.token (answered (Some c.empty.result)) (plain_stmt c.args.x.now)
-    (empty c.in-Empty.token)
-    (ap (map_stmt plain_expr) (tree_empty _ _ c.in-Empty.is))
-    c.args.least.now c.args.least.now refl
+pub statement-returns-in-Expression : goal.statement-returns-in-Expression
+statement-returns-in-Expression t c =
+    let hs = heads_in c.args.given.now in
+    let s = sight_in c.args.given.now c.args.sight.now in
+    let node = ap (map_stmt plain_expr) (tree_expression _ _ _ c.in-Expression.is) in
+    record {
+      value = node_value typed_stmt (stmt_verdict hs s) (stmt_faults hs s) c.in-Expression.token c.expression_statement.result _ _ node c.expression_statement.ensures.value;
+      least = node_least typed_stmt (stmt_verdict hs s) (stmt_faults hs s) c.in-Expression.token c.expression_statement.result _ _ node _ _ c.expression_statement.ensures.least;
+      sight = always c.expression_statement.result (ap (after s) (sym node));
+    }
 
-pub statement-returns-in-Empty-clause-sight : goal.statement-returns-in-Empty-clause-sight
-statement-returns-in-Empty-clause-sight b c =
-    ap (after (sight_in c.args.given.now c.args.c.now)) (sym (ap (map_stmt plain_expr) (tree_empty _ _ c.in-Empty.is)))
+pub statement-if_only-requires : goal.statement-if_only-requires
+statement-if_only-requires t c = (falls _ (tree.if_only c.in-If.token (plain_expr c.in-If.condition) (plain_stmt c.deref-in-If.result.now)) t (size (plain_stmt c.deref-in-If.result.now) + 2) (if_only_is _ _ _ _ _ (tree_if_only _ _ _ _ c.in-If.is) c.deref-in-If.ensures) c.decreases (omega arith), tt)
 
-pub statement-returns-in_ok-e-in-Expression-clause-value : goal.statement-returns-in_ok-e-in-Expression-clause-value
-statement-returns-in_ok-e-in-Expression-clause-value b c =
-    one_value typed_stmt (stmt_verdict (heads_in c.args.given.now) (sight_in c.args.given.now c.args.c.now)) (stmt_faults (heads_in c.args.given.now) (sight_in c.args.given.now c.args.c.now)) c.in-Expression.token (answered c.made_expression.result) (plain_stmt c.args.x.now)
-    (tree.expression c.in-Expression.token (plain_expr c.in-Expression.value))
-    (ap (map_stmt plain_expr) (tree_expression _ _ _ c.in-Expression.is))
-    (passed (tree.expression c.in-Expression.token)) (option_map plain c.in_ok-e-in-Expression.e) (value (heads_in c.args.given.now) (sight_in c.args.given.now c.args.c.now) (plain_expr c.in-Expression.value)) c.in_ok-e-in-Expression.ensures.value refl c.made_expression.ensures
+pub statement-returns-in-If : goal.statement-returns-in-If
+statement-returns-in-If t c =
+    let hs = heads_in c.args.given.now in
+    let s = sight_in c.args.given.now c.args.sight.now in
+    let node = if_only_is _ _ _ _ _ (tree_if_only _ _ _ _ c.in-If.is) c.deref-in-If.ensures in
+    record {
+      value = node_value typed_stmt (stmt_verdict hs s) (stmt_faults hs s) c.in-If.token c.if_only.result _ _ node c.if_only.ensures.value;
+      least = node_least typed_stmt (stmt_verdict hs s) (stmt_faults hs s) c.in-If.token c.if_only.result _ _ node _ _ c.if_only.ensures.least;
+      sight = node_sight c.if_only.result _ _ node (after s) _ c.if_only.ensures.sight;
+    }
 
-pub statement-returns-in_ok-e-in-Expression-clause-least : goal.statement-returns-in_ok-e-in-Expression-clause-least
-statement-returns-in_ok-e-in-Expression-clause-least b c =
-    node_least typed_stmt (stmt_verdict (heads_in c.args.given.now) (sight_in c.args.given.now c.args.c.now)) (stmt_faults (heads_in c.args.given.now) (sight_in c.args.given.now c.args.c.now)) c.in-Expression.token (answered c.made_expression.result) (plain_stmt c.args.x.now)
-    (tree.expression c.in-Expression.token (plain_expr c.in-Expression.value))
-    (ap (map_stmt plain_expr) (tree_expression _ _ _ c.in-Expression.is))
-    c.args.least.now c.expression.new.least c.in_ok-e-in-Expression.ensures.least
+pub statement-if_else-requires : goal.statement-if_else-requires
+statement-if_else-requires t c = (falls _ (tree.if_else c.in-IfElse.token (plain_expr c.in-IfElse.condition) (plain_stmt c.deref-in-IfElse.result.now) (plain_stmt c.deref-in-IfElse-2.result.now)) t (size (plain_stmt c.deref-in-IfElse.result.now) + size (plain_stmt c.deref-in-IfElse-2.result.now) + 2) (if_else_is _ _ _ _ _ _ _ (tree_if_else _ _ _ _ _ c.in-IfElse.is) c.deref-in-IfElse.ensures c.deref-in-IfElse-2.ensures) c.decreases (omega arith), tt)
 
-pub statement-returns-in_ok-e-in-Expression-clause-sight : goal.statement-returns-in_ok-e-in-Expression-clause-sight
-statement-returns-in_ok-e-in-Expression-clause-sight b c =
-    ap (after (sight_in c.args.given.now c.args.c.now)) (sym (ap (map_stmt plain_expr) (tree_expression _ _ _ c.in-Expression.is)))
+pub statement-returns-in-IfElse : goal.statement-returns-in-IfElse
+statement-returns-in-IfElse t c =
+    let hs = heads_in c.args.given.now in
+    let s = sight_in c.args.given.now c.args.sight.now in
+    let node = if_else_is _ _ _ _ _ _ _ (tree_if_else _ _ _ _ _ c.in-IfElse.is) c.deref-in-IfElse.ensures c.deref-in-IfElse-2.ensures in
+    record {
+      value = node_value typed_stmt (stmt_verdict hs s) (stmt_faults hs s) c.in-IfElse.token c.if_else.result _ _ node c.if_else.ensures.value;
+      least = node_least typed_stmt (stmt_verdict hs s) (stmt_faults hs s) c.in-IfElse.token c.if_else.result _ _ node _ _ c.if_else.ensures.least;
+      sight = node_sight c.if_else.result _ _ node (after s) _ c.if_else.ensures.sight;
+    }
 
-pub statement-returns-in_ok-then-in-If-clause-value : goal.statement-returns-in_ok-then-in-If-clause-value
-statement-returns-in_ok-then-in-If-clause-value b c =
-    two_value typed_stmt (stmt_verdict (heads_in c.args.given.now) (sight_in c.args.given.now c.args.c.now)) (stmt_faults (heads_in c.args.given.now) (sight_in c.args.given.now c.args.c.now)) c.in-If.token c.judge_if.result (plain_stmt c.args.x.now)
-    (if_only c.in-If.token (plain_expr c.in-If.condition) (plain_stmt c.deref-in-If.result.now))
-    (ap (map_stmt plain_expr) (tree_if_only _ _ _ _ c.in-If.is)
-    ∙ ap (λ y. if_only c.in-If.token (plain_expr c.in-If.condition) (plain_stmt y)) (sym c.deref-in-If.ensures))
-    (λ x y. asked if_rows (if_rule c.in-If.token) (two x y)) (option_map plain c.in_ok-e-in-If.e) (value (heads_in c.args.given.now) (sight_in c.args.given.now c.args.c.now) (plain_expr c.in-If.condition)) (option_map typed_stmt c.in_ok-then-in-If.field-0) (fine (stmt_verdict (heads_in c.args.given.now) (inside (sight_in c.args.given.now c.args.c.now)) (plain_stmt c.deref-in-If.result.now)))
-    c.in_ok-e-in-If.ensures.value (c.in_ok-then-in-If.ensures.value ∙ ap (λ k. fine (stmt_verdict (heads_in c.args.given.now) k (plain_stmt c.deref-in-If.result.now))) (c.inside-mark.ensures.inside c.args.given.now.table.now)) refl c.judge_if.ensures.value
+pub statement-while_loop-requires : goal.statement-while_loop-requires
+statement-while_loop-requires t c = (falls _ (tree.while_loop c.in-While.token (plain_expr c.in-While.condition) (plain_stmt c.deref-in-While.result.now)) t (size (plain_stmt c.deref-in-While.result.now) + 2) (while_is _ _ _ _ _ (tree_while_loop _ _ _ _ c.in-While.is) c.deref-in-While.ensures) c.decreases (omega arith), tt)
 
-pub statement-returns-in_ok-then-in-If-clause-least : goal.statement-returns-in_ok-then-in-If-clause-least
-statement-returns-in_ok-then-in-If-clause-least b c =
-    two_least typed_stmt (stmt_verdict (heads_in c.args.given.now) (sight_in c.args.given.now c.args.c.now)) (stmt_faults (heads_in c.args.given.now) (sight_in c.args.given.now c.args.c.now)) c.in-If.token c.judge_if.result (plain_stmt c.args.x.now)
-    (if_only c.in-If.token (plain_expr c.in-If.condition) (plain_stmt c.deref-in-If.result.now))
-    (ap (map_stmt plain_expr) (tree_if_only _ _ _ _ c.in-If.is)
-    ∙ ap (λ y. if_only c.in-If.token (plain_expr c.in-If.condition) (plain_stmt y)) (sym c.deref-in-If.ensures))
-    (λ x y. asked if_rows (if_rule c.in-If.token) (two x y)) (option_map plain c.in_ok-e-in-If.e) (value (heads_in c.args.given.now) (sight_in c.args.given.now c.args.c.now) (plain_expr c.in-If.condition)) (option_map typed_stmt c.in_ok-then-in-If.field-0) (fine (stmt_verdict (heads_in c.args.given.now) (inside (sight_in c.args.given.now c.args.c.now)) (plain_stmt c.deref-in-If.result.now)))
-    c.args.least.now c.expression-in-If.new.least c.statement-then.new.least c.judge_if.new.least (value_faults (heads_in c.args.given.now) (sight_in c.args.given.now c.args.c.now) (plain_expr c.in-If.condition)) (stmt_faults (heads_in c.args.given.now) (inside (sight_in c.args.given.now c.args.c.now)) (plain_stmt c.deref-in-If.result.now))
-    c.in_ok-e-in-If.ensures.value (c.in_ok-then-in-If.ensures.value ∙ ap (λ k. fine (stmt_verdict (heads_in c.args.given.now) k (plain_stmt c.deref-in-If.result.now))) (c.inside-mark.ensures.inside c.args.given.now.table.now)) refl c.in_ok-e-in-If.ensures.least (c.in_ok-then-in-If.ensures.least ∙ ap (λ k. kept c.expression-in-If.new.least (stmt_faults (heads_in c.args.given.now) k (plain_stmt c.deref-in-If.result.now))) (c.inside-mark.ensures.inside c.args.given.now.table.now)) c.judge_if.ensures.least
+pub statement-returns-in-While : goal.statement-returns-in-While
+statement-returns-in-While t c =
+    let hs = heads_in c.args.given.now in
+    let s = sight_in c.args.given.now c.args.sight.now in
+    let node = while_is _ _ _ _ _ (tree_while_loop _ _ _ _ c.in-While.is) c.deref-in-While.ensures in
+    record {
+      value = node_value typed_stmt (stmt_verdict hs s) (stmt_faults hs s) c.in-While.token c.while_loop.result _ _ node c.while_loop.ensures.value;
+      least = node_least typed_stmt (stmt_verdict hs s) (stmt_faults hs s) c.in-While.token c.while_loop.result _ _ node _ _ c.while_loop.ensures.least;
+      sight = node_sight c.while_loop.result _ _ node (after s) _ c.while_loop.ensures.sight;
+    }
 
-pub statement-returns-in_ok-then-in-If-clause-sight : goal.statement-returns-in_ok-then-in-If-clause-sight
-statement-returns-in_ok-then-in-If-clause-sight b c =
-    always c.judge_if.result ((scope_left c.scopes_only_add.ensures.first c.args.given.now.table.now c.args.c.now c.statement-then.new.c c.leave-in-If.new.self c.inside-mark.result (inside (sight_in c.args.given.now c.args.c.now))
-    (after (inside (sight_in c.args.given.now c.args.c.now)) (plain_stmt c.deref-in-If.result.now)) refl refl refl refl (c.scopes_only_add.ensures.statements (inside (sight_in c.args.given.now c.args.c.now)) (more_stmts (plain_stmt c.deref-in-If.result.now) no_stmt)) c.leave-in-If.ensures.left c.inside-mark.ensures.mark
-    (c.in_ok-then-in-If.ensures.sight ∙ ap (λ k. after k (plain_stmt c.deref-in-If.result.now)) (c.inside-mark.ensures.inside c.args.given.now.table.now))) ∙ ap (after (sight_in c.args.given.now c.args.c.now)) (sym (ap (map_stmt plain_expr) (tree_if_only _ _ _ _ c.in-If.is)
-    ∙ ap (λ y. if_only c.in-If.token (plain_expr c.in-If.condition) (plain_stmt y)) (sym c.deref-in-If.ensures))))
+pub statement-do_loop-requires : goal.statement-do_loop-requires
+statement-do_loop-requires t c = (falls _ (tree.do_loop c.in-Do.token (plain_stmt c.deref-in-Do.result.now) (plain_expr c.in-Do.condition)) t (size (plain_stmt c.deref-in-Do.result.now) + 2) (do_is _ _ _ _ _ (tree_do_loop _ _ _ _ c.in-Do.is) c.deref-in-Do.ensures) c.decreases (omega arith), tt)
 
-pub statement-returns-in_ok-body-in-While-clause-value : goal.statement-returns-in_ok-body-in-While-clause-value
-statement-returns-in_ok-body-in-While-clause-value b c =
-    two_value typed_stmt (stmt_verdict (heads_in c.args.given.now) (sight_in c.args.given.now c.args.c.now)) (stmt_faults (heads_in c.args.given.now) (sight_in c.args.given.now c.args.c.now)) c.in-While.token c.judge_while.result (plain_stmt c.args.x.now)
-    (while_loop c.in-While.token (plain_expr c.in-While.condition) (plain_stmt c.deref-in-While.result.now))
-    (ap (map_stmt plain_expr) (tree_while_loop _ _ _ _ c.in-While.is)
-    ∙ ap (λ y. while_loop c.in-While.token (plain_expr c.in-While.condition) (plain_stmt y)) (sym c.deref-in-While.ensures))
-    (λ x y. asked if_rows (while_rule c.in-While.token) (two x y)) (option_map plain c.in_ok-e-in-While.e) (value (heads_in c.args.given.now) (sight_in c.args.given.now c.args.c.now) (plain_expr c.in-While.condition)) (option_map typed_stmt c.in_ok-body-in-While.field-0) (fine (stmt_verdict (heads_in c.args.given.now) (looped (sight_in c.args.given.now c.args.c.now)) (plain_stmt c.deref-in-While.result.now)))
-    c.in_ok-e-in-While.ensures.value (c.in_ok-body-in-While.ensures.value ∙ ap (λ k. fine (stmt_verdict (heads_in c.args.given.now) k (plain_stmt c.deref-in-While.result.now))) (c.enter_loop-mark.ensures.looped c.args.given.now.table.now)) refl c.judge_while.ensures.value
+pub statement-returns-in-Do : goal.statement-returns-in-Do
+statement-returns-in-Do t c =
+    let hs = heads_in c.args.given.now in
+    let s = sight_in c.args.given.now c.args.sight.now in
+    let node = do_is _ _ _ _ _ (tree_do_loop _ _ _ _ c.in-Do.is) c.deref-in-Do.ensures in
+    record {
+      value = node_value typed_stmt (stmt_verdict hs s) (stmt_faults hs s) c.in-Do.token c.do_loop.result _ _ node c.do_loop.ensures.value;
+      least = node_least typed_stmt (stmt_verdict hs s) (stmt_faults hs s) c.in-Do.token c.do_loop.result _ _ node _ _ c.do_loop.ensures.least;
+      sight = node_sight c.do_loop.result _ _ node (after s) _ c.do_loop.ensures.sight;
+    }
 
-pub statement-returns-in_ok-body-in-While-clause-least : goal.statement-returns-in_ok-body-in-While-clause-least
-statement-returns-in_ok-body-in-While-clause-least b c =
-    two_least typed_stmt (stmt_verdict (heads_in c.args.given.now) (sight_in c.args.given.now c.args.c.now)) (stmt_faults (heads_in c.args.given.now) (sight_in c.args.given.now c.args.c.now)) c.in-While.token c.judge_while.result (plain_stmt c.args.x.now)
-    (while_loop c.in-While.token (plain_expr c.in-While.condition) (plain_stmt c.deref-in-While.result.now))
-    (ap (map_stmt plain_expr) (tree_while_loop _ _ _ _ c.in-While.is)
-    ∙ ap (λ y. while_loop c.in-While.token (plain_expr c.in-While.condition) (plain_stmt y)) (sym c.deref-in-While.ensures))
-    (λ x y. asked if_rows (while_rule c.in-While.token) (two x y)) (option_map plain c.in_ok-e-in-While.e) (value (heads_in c.args.given.now) (sight_in c.args.given.now c.args.c.now) (plain_expr c.in-While.condition)) (option_map typed_stmt c.in_ok-body-in-While.field-0) (fine (stmt_verdict (heads_in c.args.given.now) (looped (sight_in c.args.given.now c.args.c.now)) (plain_stmt c.deref-in-While.result.now)))
-    c.args.least.now c.expression-in-While.new.least c.statement-body.new.least c.judge_while.new.least (value_faults (heads_in c.args.given.now) (sight_in c.args.given.now c.args.c.now) (plain_expr c.in-While.condition)) (stmt_faults (heads_in c.args.given.now) (looped (sight_in c.args.given.now c.args.c.now)) (plain_stmt c.deref-in-While.result.now))
-    c.in_ok-e-in-While.ensures.value (c.in_ok-body-in-While.ensures.value ∙ ap (λ k. fine (stmt_verdict (heads_in c.args.given.now) k (plain_stmt c.deref-in-While.result.now))) (c.enter_loop-mark.ensures.looped c.args.given.now.table.now)) refl c.in_ok-e-in-While.ensures.least (c.in_ok-body-in-While.ensures.least ∙ ap (λ k. kept c.expression-in-While.new.least (stmt_faults (heads_in c.args.given.now) k (plain_stmt c.deref-in-While.result.now))) (c.enter_loop-mark.ensures.looped c.args.given.now.table.now)) c.judge_while.ensures.least
+pub statement-for_loop-requires : goal.statement-for_loop-requires
+statement-for_loop-requires t c = (falls _ (tree.for_loop c.in-For.token (option_map plain_expr c.in-For.start) (option_map plain_expr c.in-For.condition) (option_map plain_expr c.in-For.step) (plain_stmt c.deref-in-For.result.now)) t (size (plain_stmt c.deref-in-For.result.now) + 2) (for_is _ _ _ _ _ _ _ (tree_for_loop _ _ _ _ _ _ c.in-For.is) c.deref-in-For.ensures) c.decreases (omega arith), tt)
 
-pub statement-returns-in_ok-body-in-While-clause-sight : goal.statement-returns-in_ok-body-in-While-clause-sight
-statement-returns-in_ok-body-in-While-clause-sight b c =
-    always c.judge_while.result ((scope_left c.scopes_only_add.ensures.first c.args.given.now.table.now c.args.c.now c.statement-body.new.c c.leave-in-While.new.self c.enter_loop-mark.result (looped (sight_in c.args.given.now c.args.c.now))
-    (after (looped (sight_in c.args.given.now c.args.c.now)) (plain_stmt c.deref-in-While.result.now)) refl refl refl refl (c.scopes_only_add.ensures.statements (looped (sight_in c.args.given.now c.args.c.now)) (more_stmts (plain_stmt c.deref-in-While.result.now) no_stmt)) c.leave-in-While.ensures.left c.enter_loop-mark.ensures.mark
-    (c.in_ok-body-in-While.ensures.sight ∙ ap (λ k. after k (plain_stmt c.deref-in-While.result.now)) (c.enter_loop-mark.ensures.looped c.args.given.now.table.now))) ∙ ap (after (sight_in c.args.given.now c.args.c.now)) (sym (ap (map_stmt plain_expr) (tree_while_loop _ _ _ _ c.in-While.is)
-    ∙ ap (λ y. while_loop c.in-While.token (plain_expr c.in-While.condition) (plain_stmt y)) (sym c.deref-in-While.ensures))))
+pub statement-returns-in-For : goal.statement-returns-in-For
+statement-returns-in-For t c =
+    let hs = heads_in c.args.given.now in
+    let s = sight_in c.args.given.now c.args.sight.now in
+    let node = for_is _ _ _ _ _ _ _ (tree_for_loop _ _ _ _ _ _ c.in-For.is) c.deref-in-For.ensures in
+    record {
+      value = node_value typed_stmt (stmt_verdict hs s) (stmt_faults hs s) c.in-For.token c.for_loop.result _ _ node c.for_loop.ensures.value;
+      least = node_least typed_stmt (stmt_verdict hs s) (stmt_faults hs s) c.in-For.token c.for_loop.result _ _ node _ _ c.for_loop.ensures.least;
+      sight = node_sight c.for_loop.result _ _ node (after s) _ c.for_loop.ensures.sight;
+    }
 
-pub statement-returns-in-Ok-clause-value : goal.statement-returns-in-Ok-clause-value
-statement-returns-in-Ok-clause-value b c =
-    three_value typed_stmt (stmt_verdict (heads_in c.args.given.now) (sight_in c.args.given.now c.args.c.now)) (stmt_faults (heads_in c.args.given.now) (sight_in c.args.given.now c.args.c.now)) c.in-IfElse.token c.judge_if_else.result (plain_stmt c.args.x.now)
-    (if_else c.in-IfElse.token (plain_expr c.in-IfElse.condition) (plain_stmt c.deref-in-IfElse.result.now) (plain_stmt c.deref-in-IfElse-2.result.now))
-    (ap (map_stmt plain_expr) (tree_if_else _ _ _ _ _ c.in-IfElse.is)
-    ∙ (ap (λ x. if_else c.in-IfElse.token (plain_expr c.in-IfElse.condition) (plain_stmt x) (plain_stmt c.in-IfElse.otherwise.value)) (sym c.deref-in-IfElse.ensures) ∙ ap (λ y. if_else c.in-IfElse.token (plain_expr c.in-IfElse.condition) (plain_stmt c.deref-in-IfElse.result.now) (plain_stmt y)) (sym c.deref-in-IfElse-2.ensures)))
-    (λ x y z. asked if_else_rows (if_else_rule c.in-IfElse.token) (three x y z)) (option_map plain c.in_ok-e-in-IfElse.e) (value (heads_in c.args.given.now) (sight_in c.args.given.now c.args.c.now) (plain_expr c.in-IfElse.condition)) (option_map typed_stmt c.in_ok-then-in-IfElse.then) (fine (stmt_verdict (heads_in c.args.given.now) (inside (sight_in c.args.given.now c.args.c.now)) (plain_stmt c.deref-in-IfElse.result.now))) (option_map typed_stmt c.in-Ok.otherwise) (fine (stmt_verdict (heads_in c.args.given.now) (inside (left (sight_in c.args.given.now c.args.c.now) (after (inside (sight_in c.args.given.now c.args.c.now)) (plain_stmt c.deref-in-IfElse.result.now)))) (plain_stmt c.deref-in-IfElse-2.result.now)))
-    c.in_ok-e-in-IfElse.ensures.value (c.in_ok-then-in-IfElse.ensures.value ∙ ap (λ k. fine (stmt_verdict (heads_in c.args.given.now) k (plain_stmt c.deref-in-IfElse.result.now))) (c.inside-mark-in-IfElse.ensures.inside c.args.given.now.table.now))
-    (c.in-Ok.ensures.value ∙ ap (λ k. fine (stmt_verdict (heads_in c.args.given.now) k (plain_stmt c.deref-in-IfElse-2.result.now))) (c.inside-mark-in-IfElse-2.ensures.inside c.args.given.now.table.now ∙ ap inside (scope_left c.scopes_only_add.ensures.first c.args.given.now.table.now c.args.c.now c.statement-then-in-IfElse.new.c c.leave-in-IfElse.new.self c.inside-mark-in-IfElse.result (inside (sight_in c.args.given.now c.args.c.now))
-    (after (inside (sight_in c.args.given.now c.args.c.now)) (plain_stmt c.deref-in-IfElse.result.now)) refl refl refl refl (c.scopes_only_add.ensures.statements (inside (sight_in c.args.given.now c.args.c.now)) (more_stmts (plain_stmt c.deref-in-IfElse.result.now) no_stmt)) c.leave-in-IfElse.ensures.left c.inside-mark-in-IfElse.ensures.mark
-    (c.in_ok-then-in-IfElse.ensures.sight ∙ ap (λ k. after k (plain_stmt c.deref-in-IfElse.result.now)) (c.inside-mark-in-IfElse.ensures.inside c.args.given.now.table.now))))) refl c.judge_if_else.ensures.value
+pub statement-switch-requires : goal.statement-switch-requires
+statement-switch-requires t c = (falls _ (tree.switch c.in-Switch.token (plain_expr c.in-Switch.value) (plain_stmts c.deref-in-Switch.result.now)) t (all_size (plain_stmts c.deref-in-Switch.result.now) + 2) (switch_is _ _ _ _ _ (tree_switch _ _ _ _ c.in-Switch.is) c.deref-in-Switch.ensures.value) c.decreases (omega arith), tt)
 
-pub statement-returns-in-Ok-clause-least : goal.statement-returns-in-Ok-clause-least
-statement-returns-in-Ok-clause-least b c =
-    three_least typed_stmt (stmt_verdict (heads_in c.args.given.now) (sight_in c.args.given.now c.args.c.now)) (stmt_faults (heads_in c.args.given.now) (sight_in c.args.given.now c.args.c.now)) c.in-IfElse.token c.judge_if_else.result (plain_stmt c.args.x.now)
-    (if_else c.in-IfElse.token (plain_expr c.in-IfElse.condition) (plain_stmt c.deref-in-IfElse.result.now) (plain_stmt c.deref-in-IfElse-2.result.now))
-    (ap (map_stmt plain_expr) (tree_if_else _ _ _ _ _ c.in-IfElse.is)
-    ∙ (ap (λ x. if_else c.in-IfElse.token (plain_expr c.in-IfElse.condition) (plain_stmt x) (plain_stmt c.in-IfElse.otherwise.value)) (sym c.deref-in-IfElse.ensures) ∙ ap (λ y. if_else c.in-IfElse.token (plain_expr c.in-IfElse.condition) (plain_stmt c.deref-in-IfElse.result.now) (plain_stmt y)) (sym c.deref-in-IfElse-2.ensures)))
-    (λ x y z. asked if_else_rows (if_else_rule c.in-IfElse.token) (three x y z)) (option_map plain c.in_ok-e-in-IfElse.e) (value (heads_in c.args.given.now) (sight_in c.args.given.now c.args.c.now) (plain_expr c.in-IfElse.condition)) (option_map typed_stmt c.in_ok-then-in-IfElse.then) (fine (stmt_verdict (heads_in c.args.given.now) (inside (sight_in c.args.given.now c.args.c.now)) (plain_stmt c.deref-in-IfElse.result.now))) (option_map typed_stmt c.in-Ok.otherwise) (fine (stmt_verdict (heads_in c.args.given.now) (inside (left (sight_in c.args.given.now c.args.c.now) (after (inside (sight_in c.args.given.now c.args.c.now)) (plain_stmt c.deref-in-IfElse.result.now)))) (plain_stmt c.deref-in-IfElse-2.result.now)))
-    c.args.least.now c.expression-in-IfElse.new.least c.statement-then-in-IfElse.new.least c.statement-otherwise.new.least c.judge_if_else.new.least (value_faults (heads_in c.args.given.now) (sight_in c.args.given.now c.args.c.now) (plain_expr c.in-IfElse.condition)) (stmt_faults (heads_in c.args.given.now) (inside (sight_in c.args.given.now c.args.c.now)) (plain_stmt c.deref-in-IfElse.result.now)) (stmt_faults (heads_in c.args.given.now) (inside (left (sight_in c.args.given.now c.args.c.now) (after (inside (sight_in c.args.given.now c.args.c.now)) (plain_stmt c.deref-in-IfElse.result.now)))) (plain_stmt c.deref-in-IfElse-2.result.now))
-    c.in_ok-e-in-IfElse.ensures.value (c.in_ok-then-in-IfElse.ensures.value ∙ ap (λ k. fine (stmt_verdict (heads_in c.args.given.now) k (plain_stmt c.deref-in-IfElse.result.now))) (c.inside-mark-in-IfElse.ensures.inside c.args.given.now.table.now))
-    (c.in-Ok.ensures.value ∙ ap (λ k. fine (stmt_verdict (heads_in c.args.given.now) k (plain_stmt c.deref-in-IfElse-2.result.now))) (c.inside-mark-in-IfElse-2.ensures.inside c.args.given.now.table.now ∙ ap inside (scope_left c.scopes_only_add.ensures.first c.args.given.now.table.now c.args.c.now c.statement-then-in-IfElse.new.c c.leave-in-IfElse.new.self c.inside-mark-in-IfElse.result (inside (sight_in c.args.given.now c.args.c.now))
-    (after (inside (sight_in c.args.given.now c.args.c.now)) (plain_stmt c.deref-in-IfElse.result.now)) refl refl refl refl (c.scopes_only_add.ensures.statements (inside (sight_in c.args.given.now c.args.c.now)) (more_stmts (plain_stmt c.deref-in-IfElse.result.now) no_stmt)) c.leave-in-IfElse.ensures.left c.inside-mark-in-IfElse.ensures.mark
-    (c.in_ok-then-in-IfElse.ensures.sight ∙ ap (λ k. after k (plain_stmt c.deref-in-IfElse.result.now)) (c.inside-mark-in-IfElse.ensures.inside c.args.given.now.table.now))))) refl c.in_ok-e-in-IfElse.ensures.least
-    (c.in_ok-then-in-IfElse.ensures.least ∙ ap (λ k. kept c.expression-in-IfElse.new.least (stmt_faults (heads_in c.args.given.now) k (plain_stmt c.deref-in-IfElse.result.now))) (c.inside-mark-in-IfElse.ensures.inside c.args.given.now.table.now))
-    (c.in-Ok.ensures.least ∙ ap (λ k. kept c.statement-then-in-IfElse.new.least (stmt_faults (heads_in c.args.given.now) k (plain_stmt c.deref-in-IfElse-2.result.now))) (c.inside-mark-in-IfElse-2.ensures.inside c.args.given.now.table.now ∙ ap inside (scope_left c.scopes_only_add.ensures.first c.args.given.now.table.now c.args.c.now c.statement-then-in-IfElse.new.c c.leave-in-IfElse.new.self c.inside-mark-in-IfElse.result (inside (sight_in c.args.given.now c.args.c.now))
-    (after (inside (sight_in c.args.given.now c.args.c.now)) (plain_stmt c.deref-in-IfElse.result.now)) refl refl refl refl (c.scopes_only_add.ensures.statements (inside (sight_in c.args.given.now c.args.c.now)) (more_stmts (plain_stmt c.deref-in-IfElse.result.now) no_stmt)) c.leave-in-IfElse.ensures.left c.inside-mark-in-IfElse.ensures.mark
-    (c.in_ok-then-in-IfElse.ensures.sight ∙ ap (λ k. after k (plain_stmt c.deref-in-IfElse.result.now)) (c.inside-mark-in-IfElse.ensures.inside c.args.given.now.table.now))))) c.judge_if_else.ensures.least
+pub statement-returns-in-Switch : goal.statement-returns-in-Switch
+statement-returns-in-Switch t c =
+    let hs = heads_in c.args.given.now in
+    let s = sight_in c.args.given.now c.args.sight.now in
+    let node = switch_is _ _ _ _ _ (tree_switch _ _ _ _ c.in-Switch.is) c.deref-in-Switch.ensures.value in
+    record {
+      value = node_value typed_stmt (stmt_verdict hs s) (stmt_faults hs s) c.in-Switch.token c.switch.result _ _ node c.switch.ensures.value;
+      least = node_least typed_stmt (stmt_verdict hs s) (stmt_faults hs s) c.in-Switch.token c.switch.result _ _ node _ _ c.switch.ensures.least;
+      sight = node_sight c.switch.result _ _ node (after s) _ c.switch.ensures.sight;
+    }
 
-pub statement-returns-in-Ok-clause-sight : goal.statement-returns-in-Ok-clause-sight
-statement-returns-in-Ok-clause-sight b c =
-    always c.judge_if_else.result ((scope_left c.scopes_only_add.ensures.first c.args.given.now.table.now c.leave-in-IfElse.new.self c.statement-otherwise.new.c c.leave-in-IfElse-2.new.self c.inside-mark-in-IfElse-2.result (inside (sight_in c.args.given.now c.leave-in-IfElse.new.self))
-    (after (inside (sight_in c.args.given.now c.leave-in-IfElse.new.self)) (plain_stmt c.deref-in-IfElse-2.result.now)) refl refl refl refl (c.scopes_only_add.ensures.statements (inside (sight_in c.args.given.now c.leave-in-IfElse.new.self)) (more_stmts (plain_stmt c.deref-in-IfElse-2.result.now) no_stmt)) c.leave-in-IfElse-2.ensures.left c.inside-mark-in-IfElse-2.ensures.mark
-    (c.in-Ok.ensures.sight ∙ ap (λ k. after k (plain_stmt c.deref-in-IfElse-2.result.now)) (c.inside-mark-in-IfElse-2.ensures.inside c.args.given.now.table.now))
-    ∙ ap (λ k. left k (after (inside k) (plain_stmt c.deref-in-IfElse-2.result.now))) (scope_left c.scopes_only_add.ensures.first c.args.given.now.table.now c.args.c.now c.statement-then-in-IfElse.new.c c.leave-in-IfElse.new.self c.inside-mark-in-IfElse.result (inside (sight_in c.args.given.now c.args.c.now))
-    (after (inside (sight_in c.args.given.now c.args.c.now)) (plain_stmt c.deref-in-IfElse.result.now)) refl refl refl refl (c.scopes_only_add.ensures.statements (inside (sight_in c.args.given.now c.args.c.now)) (more_stmts (plain_stmt c.deref-in-IfElse.result.now) no_stmt)) c.leave-in-IfElse.ensures.left c.inside-mark-in-IfElse.ensures.mark
-    (c.in_ok-then-in-IfElse.ensures.sight ∙ ap (λ k. after k (plain_stmt c.deref-in-IfElse.result.now)) (c.inside-mark-in-IfElse.ensures.inside c.args.given.now.table.now)))) ∙ ap (after (sight_in c.args.given.now c.args.c.now)) (sym (ap (map_stmt plain_expr) (tree_if_else _ _ _ _ _ c.in-IfElse.is)
-    ∙ (ap (λ x. if_else c.in-IfElse.token (plain_expr c.in-IfElse.condition) (plain_stmt x) (plain_stmt c.in-IfElse.otherwise.value)) (sym c.deref-in-IfElse.ensures) ∙ ap (λ y. if_else c.in-IfElse.token (plain_expr c.in-IfElse.condition) (plain_stmt c.deref-in-IfElse.result.now) (plain_stmt y)) (sym c.deref-in-IfElse-2.ensures)))))
+pub statement-returns-in-Break : goal.statement-returns-in-Break
+statement-returns-in-Break t c =
+    let hs = heads_in c.args.given.now in
+    let s = sight_in c.args.given.now c.args.sight.now in
+    let node = ap (map_stmt plain_expr) (tree_break_off _ _ c.in-Break.is) in
+    record {
+      value = node_value typed_stmt (stmt_verdict hs s) (stmt_faults hs s) c.in-Break.token (answered c.judge_break.result) _ _ node c.judge_break.ensures.value;
+      least = node_least typed_stmt (stmt_verdict hs s) (stmt_faults hs s) c.in-Break.token (answered c.judge_break.result) _ _ node _ _ c.judge_break.ensures.least;
+      sight = ap (after s) (sym node);
+    }
 
-pub statement-returns-in-Ok-expression-clause-value : goal.statement-returns-in-Ok-expression-clause-value
-statement-returns-in-Ok-expression-clause-value b c =
-    two_value typed_stmt (stmt_verdict (heads_in c.args.given.now) (sight_in c.args.given.now c.args.c.now)) (stmt_faults (heads_in c.args.given.now) (sight_in c.args.given.now c.args.c.now)) c.in-Do.token c.judge_do.result (plain_stmt c.args.x.now)
-    (do_loop c.in-Do.token (plain_stmt c.deref-in-Do.result.now) (plain_expr c.in-Do.condition))
-    (ap (map_stmt plain_expr) (tree_do_loop _ _ _ _ c.in-Do.is)
-    ∙ ap (λ y. do_loop c.in-Do.token (plain_stmt y) (plain_expr c.in-Do.condition)) (sym c.deref-in-Do.ensures))
-    (λ x y. asked do_rows (do_rule c.in-Do.token) (two x y)) (option_map typed_stmt c.in_ok-body-in-Do.body) (fine (stmt_verdict (heads_in c.args.given.now) (looped (sight_in c.args.given.now c.args.c.now)) (plain_stmt c.deref-in-Do.result.now))) (option_map plain c.in-Ok-expression.e) (value (heads_in c.args.given.now) (sight_in c.args.given.now c.args.c.now) (plain_expr c.in-Do.condition))
-    (c.in_ok-body-in-Do.ensures.value ∙ ap (λ k. fine (stmt_verdict (heads_in c.args.given.now) k (plain_stmt c.deref-in-Do.result.now))) (c.enter_loop-mark-in-Do.ensures.looped c.args.given.now.table.now))
-    (c.in-Ok-expression.ensures.value ∙ (ap (λ k. value (heads_in c.args.given.now) k (plain_expr c.in-Do.condition)) (scope_left c.scopes_only_add.ensures.first c.args.given.now.table.now c.args.c.now c.statement-body-in-Do.new.c c.leave-in-Do.new.self c.enter_loop-mark-in-Do.result (looped (sight_in c.args.given.now c.args.c.now))
-    (after (looped (sight_in c.args.given.now c.args.c.now)) (plain_stmt c.deref-in-Do.result.now)) refl refl refl refl (c.scopes_only_add.ensures.statements (looped (sight_in c.args.given.now c.args.c.now)) (more_stmts (plain_stmt c.deref-in-Do.result.now) no_stmt)) c.leave-in-Do.ensures.left c.enter_loop-mark-in-Do.ensures.mark
-    (c.in_ok-body-in-Do.ensures.sight ∙ ap (λ k. after k (plain_stmt c.deref-in-Do.result.now)) (c.enter_loop-mark-in-Do.ensures.looped c.args.given.now.table.now))) ∙ ap fine (same_verdict (heads_in c.args.given.now) (sight_in c.args.given.now c.args.c.now) (after (looped (sight_in c.args.given.now c.args.c.now)) (plain_stmt c.deref-in-Do.result.now)).next false (plain_expr c.in-Do.condition)))) refl c.judge_do.ensures.value
+pub statement-returns-in-Continue : goal.statement-returns-in-Continue
+statement-returns-in-Continue t c =
+    let hs = heads_in c.args.given.now in
+    let s = sight_in c.args.given.now c.args.sight.now in
+    let node = ap (map_stmt plain_expr) (tree_continue_on _ _ c.in-Continue.is) in
+    record {
+      value = node_value typed_stmt (stmt_verdict hs s) (stmt_faults hs s) c.in-Continue.token (answered c.judge_continue.result) _ _ node c.judge_continue.ensures.value;
+      least = node_least typed_stmt (stmt_verdict hs s) (stmt_faults hs s) c.in-Continue.token (answered c.judge_continue.result) _ _ node _ _ c.judge_continue.ensures.least;
+      sight = ap (after s) (sym node);
+    }
 
-pub statement-returns-in-Ok-expression-clause-least : goal.statement-returns-in-Ok-expression-clause-least
-statement-returns-in-Ok-expression-clause-least b c =
-    two_least typed_stmt (stmt_verdict (heads_in c.args.given.now) (sight_in c.args.given.now c.args.c.now)) (stmt_faults (heads_in c.args.given.now) (sight_in c.args.given.now c.args.c.now)) c.in-Do.token c.judge_do.result (plain_stmt c.args.x.now)
-    (do_loop c.in-Do.token (plain_stmt c.deref-in-Do.result.now) (plain_expr c.in-Do.condition))
-    (ap (map_stmt plain_expr) (tree_do_loop _ _ _ _ c.in-Do.is)
-    ∙ ap (λ y. do_loop c.in-Do.token (plain_stmt y) (plain_expr c.in-Do.condition)) (sym c.deref-in-Do.ensures))
-    (λ x y. asked do_rows (do_rule c.in-Do.token) (two x y)) (option_map typed_stmt c.in_ok-body-in-Do.body) (fine (stmt_verdict (heads_in c.args.given.now) (looped (sight_in c.args.given.now c.args.c.now)) (plain_stmt c.deref-in-Do.result.now))) (option_map plain c.in-Ok-expression.e) (value (heads_in c.args.given.now) (sight_in c.args.given.now c.args.c.now) (plain_expr c.in-Do.condition))
-    c.args.least.now c.statement-body-in-Do.new.least c.expression-in-Do.new.least c.judge_do.new.least (stmt_faults (heads_in c.args.given.now) (looped (sight_in c.args.given.now c.args.c.now)) (plain_stmt c.deref-in-Do.result.now)) (value_faults (heads_in c.args.given.now) (sight_in c.args.given.now c.args.c.now) (plain_expr c.in-Do.condition))
-    (c.in_ok-body-in-Do.ensures.value ∙ ap (λ k. fine (stmt_verdict (heads_in c.args.given.now) k (plain_stmt c.deref-in-Do.result.now))) (c.enter_loop-mark-in-Do.ensures.looped c.args.given.now.table.now))
-    (c.in-Ok-expression.ensures.value ∙ (ap (λ k. value (heads_in c.args.given.now) k (plain_expr c.in-Do.condition)) (scope_left c.scopes_only_add.ensures.first c.args.given.now.table.now c.args.c.now c.statement-body-in-Do.new.c c.leave-in-Do.new.self c.enter_loop-mark-in-Do.result (looped (sight_in c.args.given.now c.args.c.now))
-    (after (looped (sight_in c.args.given.now c.args.c.now)) (plain_stmt c.deref-in-Do.result.now)) refl refl refl refl (c.scopes_only_add.ensures.statements (looped (sight_in c.args.given.now c.args.c.now)) (more_stmts (plain_stmt c.deref-in-Do.result.now) no_stmt)) c.leave-in-Do.ensures.left c.enter_loop-mark-in-Do.ensures.mark
-    (c.in_ok-body-in-Do.ensures.sight ∙ ap (λ k. after k (plain_stmt c.deref-in-Do.result.now)) (c.enter_loop-mark-in-Do.ensures.looped c.args.given.now.table.now))) ∙ ap fine (same_verdict (heads_in c.args.given.now) (sight_in c.args.given.now c.args.c.now) (after (looped (sight_in c.args.given.now c.args.c.now)) (plain_stmt c.deref-in-Do.result.now)).next false (plain_expr c.in-Do.condition)))) refl (c.in_ok-body-in-Do.ensures.least ∙ ap (λ k. kept c.args.least.now (stmt_faults (heads_in c.args.given.now) k (plain_stmt c.deref-in-Do.result.now))) (c.enter_loop-mark-in-Do.ensures.looped c.args.given.now.table.now))
-    (c.in-Ok-expression.ensures.least ∙ (ap (λ k. kept c.statement-body-in-Do.new.least (value_faults (heads_in c.args.given.now) k (plain_expr c.in-Do.condition))) (scope_left c.scopes_only_add.ensures.first c.args.given.now.table.now c.args.c.now c.statement-body-in-Do.new.c c.leave-in-Do.new.self c.enter_loop-mark-in-Do.result (looped (sight_in c.args.given.now c.args.c.now))
-    (after (looped (sight_in c.args.given.now c.args.c.now)) (plain_stmt c.deref-in-Do.result.now)) refl refl refl refl (c.scopes_only_add.ensures.statements (looped (sight_in c.args.given.now c.args.c.now)) (more_stmts (plain_stmt c.deref-in-Do.result.now) no_stmt)) c.leave-in-Do.ensures.left c.enter_loop-mark-in-Do.ensures.mark
-    (c.in_ok-body-in-Do.ensures.sight ∙ ap (λ k. after k (plain_stmt c.deref-in-Do.result.now)) (c.enter_loop-mark-in-Do.ensures.looped c.args.given.now.table.now))) ∙ ap (kept c.statement-body-in-Do.new.least) (same_faults (heads_in c.args.given.now) (sight_in c.args.given.now c.args.c.now) (after (looped (sight_in c.args.given.now c.args.c.now)) (plain_stmt c.deref-in-Do.result.now)).next false (plain_expr c.in-Do.condition)))) c.judge_do.ensures.least
+pub statement-returns-in-Return : goal.statement-returns-in-Return
+statement-returns-in-Return t c =
+    let hs = heads_in c.args.given.now in
+    let s = sight_in c.args.given.now c.args.sight.now in
+    let node = ap (map_stmt plain_expr) (tree_return_from _ _ _ c.in-Return.is) in
+    record {
+      value = node_value typed_stmt (stmt_verdict hs s) (stmt_faults hs s) c.in-Return.token c.return_from.result _ _ node c.return_from.ensures.value;
+      least = node_least typed_stmt (stmt_verdict hs s) (stmt_faults hs s) c.in-Return.token c.return_from.result _ _ node _ _ c.return_from.ensures.least;
+      sight = always c.return_from.result (ap (after s) (sym node));
+    }
 
-pub statement-returns-in-Ok-expression-clause-sight : goal.statement-returns-in-Ok-expression-clause-sight
-statement-returns-in-Ok-expression-clause-sight b c =
-    always c.judge_do.result ((scope_left c.scopes_only_add.ensures.first c.args.given.now.table.now c.args.c.now c.statement-body-in-Do.new.c c.leave-in-Do.new.self c.enter_loop-mark-in-Do.result (looped (sight_in c.args.given.now c.args.c.now))
-    (after (looped (sight_in c.args.given.now c.args.c.now)) (plain_stmt c.deref-in-Do.result.now)) refl refl refl refl (c.scopes_only_add.ensures.statements (looped (sight_in c.args.given.now c.args.c.now)) (more_stmts (plain_stmt c.deref-in-Do.result.now) no_stmt)) c.leave-in-Do.ensures.left c.enter_loop-mark-in-Do.ensures.mark
-    (c.in_ok-body-in-Do.ensures.sight ∙ ap (λ k. after k (plain_stmt c.deref-in-Do.result.now)) (c.enter_loop-mark-in-Do.ensures.looped c.args.given.now.table.now))) ∙ ap (after (sight_in c.args.given.now c.args.c.now)) (sym (ap (map_stmt plain_expr) (tree_do_loop _ _ _ _ c.in-Do.is)
-    ∙ ap (λ y. do_loop c.in-Do.token (plain_stmt y) (plain_expr c.in-Do.condition)) (sym c.deref-in-Do.ensures))))
+pub statement-returns-in-Declaration : goal.statement-returns-in-Declaration
+statement-returns-in-Declaration t c =
+    let hs = heads_in c.args.given.now in
+    let s = sight_in c.args.given.now c.args.sight.now in
+    let node = declaration_is _ _ _ _ _ (tree_declaration _ _ _ _ c.in-Declaration.is) c.as_slice.ensures.items in
+    record {
+      value = node_value typed_stmt (stmt_verdict hs s) (stmt_faults hs s) c.in-Declaration.token c.declaration.result _ _ node c.declaration.ensures.value;
+      least = node_least typed_stmt (stmt_verdict hs s) (stmt_faults hs s) c.in-Declaration.token c.declaration.result _ _ node _ _ c.declaration.ensures.least;
+      sight = node_sight c.declaration.result _ _ node (after s) _ c.declaration.ensures.sight;
+    }
 
-pub statement-returns-in-Ok-body-clause-value : goal.statement-returns-in-Ok-body-clause-value
-statement-returns-in-Ok-body-clause-value b c =
-    four_value typed_stmt (stmt_verdict (heads_in c.args.given.now) (sight_in c.args.given.now c.args.c.now)) (stmt_faults (heads_in c.args.given.now) (sight_in c.args.given.now c.args.c.now)) c.in-For.token c.judge_for.result (plain_stmt c.args.x.now)
-    (for_loop c.in-For.token (option_map plain_expr c.in-For.start) (option_map plain_expr c.in-For.condition) (option_map plain_expr c.in-For.step) (plain_stmt c.deref-in-For.result.now))
-    (ap (map_stmt plain_expr) (tree_for_loop _ _ _ _ _ _ c.in-For.is)
-    ∙ ap (λ y. for_loop c.in-For.token (option_map plain_expr c.in-For.start) (option_map plain_expr c.in-For.condition) (option_map plain_expr c.in-For.step) (plain_stmt y)) (sym c.deref-in-For.ensures))
-    (λ x y z w. asked for_rows (for_rule c.in-For.token) (four x y z w)) (option_map (option_map plain) c.in_ok-head-in-For.head.start) (if_there (value (heads_in c.args.given.now) (sight_in c.args.given.now c.args.c.now)) (option_map plain_expr c.in-For.start)) (option_map (option_map plain) c.in_ok-head-in-For.head.condition) (if_there (value (heads_in c.args.given.now) (sight_in c.args.given.now c.args.c.now)) (option_map plain_expr c.in-For.condition)) (option_map (option_map plain) c.in_ok-head-in-For.head.step) (if_there (value (heads_in c.args.given.now) (sight_in c.args.given.now c.args.c.now)) (option_map plain_expr c.in-For.step)) (option_map typed_stmt c.in-Ok-body.body) (fine (stmt_verdict (heads_in c.args.given.now) (looped (sight_in c.args.given.now c.args.c.now)) (plain_stmt c.deref-in-For.result.now)))
-    c.in_ok-head-in-For.ensures.start c.in_ok-head-in-For.ensures.condition c.in_ok-head-in-For.ensures.step (c.in-Ok-body.ensures.value ∙ ap (λ k. fine (stmt_verdict (heads_in c.args.given.now) k (plain_stmt c.deref-in-For.result.now))) (c.enter_loop-mark-in-For.ensures.looped c.args.given.now.table.now)) refl c.judge_for.ensures.value
+pub statement-returns-in-Case : goal.statement-returns-in-Case
+statement-returns-in-Case t c =
+    let hs = heads_in c.args.given.now in
+    let s = sight_in c.args.given.now c.args.sight.now in
+    let node = ap (map_stmt plain_expr) (tree_case_label _ _ _ c.in-Case.is) in
+    record {
+      value = node_value typed_stmt (stmt_verdict hs s) (stmt_faults hs s) c.in-Case.token c.case.result _ _ node c.case.ensures.value;
+      least = node_least typed_stmt (stmt_verdict hs s) (stmt_faults hs s) c.in-Case.token c.case.result _ _ node _ _ c.case.ensures.least;
+      sight = node_sight c.case.result _ _ node (after s) _ c.case.ensures.sight;
+    }
 
-pub statement-returns-in-Ok-body-clause-least : goal.statement-returns-in-Ok-body-clause-least
-statement-returns-in-Ok-body-clause-least b c =
-    four_least typed_stmt (stmt_verdict (heads_in c.args.given.now) (sight_in c.args.given.now c.args.c.now)) (stmt_faults (heads_in c.args.given.now) (sight_in c.args.given.now c.args.c.now)) c.in-For.token c.judge_for.result (plain_stmt c.args.x.now)
-    (for_loop c.in-For.token (option_map plain_expr c.in-For.start) (option_map plain_expr c.in-For.condition) (option_map plain_expr c.in-For.step) (plain_stmt c.deref-in-For.result.now))
-    (ap (map_stmt plain_expr) (tree_for_loop _ _ _ _ _ _ c.in-For.is)
-    ∙ ap (λ y. for_loop c.in-For.token (option_map plain_expr c.in-For.start) (option_map plain_expr c.in-For.condition) (option_map plain_expr c.in-For.step) (plain_stmt y)) (sym c.deref-in-For.ensures))
-    (λ x y z w. asked for_rows (for_rule c.in-For.token) (four x y z w)) (option_map (option_map plain) c.in_ok-head-in-For.head.start) (if_there (value (heads_in c.args.given.now) (sight_in c.args.given.now c.args.c.now)) (option_map plain_expr c.in-For.start)) (option_map (option_map plain) c.in_ok-head-in-For.head.condition) (if_there (value (heads_in c.args.given.now) (sight_in c.args.given.now c.args.c.now)) (option_map plain_expr c.in-For.condition)) (option_map (option_map plain) c.in_ok-head-in-For.head.step) (if_there (value (heads_in c.args.given.now) (sight_in c.args.given.now c.args.c.now)) (option_map plain_expr c.in-For.step)) (option_map typed_stmt c.in-Ok-body.body) (fine (stmt_verdict (heads_in c.args.given.now) (looped (sight_in c.args.given.now c.args.c.now)) (plain_stmt c.deref-in-For.result.now)))
-    c.args.least.now c.for_head.new.least c.statement-body-in-For.new.least c.statement-body-in-For.new.least c.judge_for.new.least (faults_there (value_faults (heads_in c.args.given.now) (sight_in c.args.given.now c.args.c.now)) (option_map plain_expr c.in-For.start)) (faults_there (value_faults (heads_in c.args.given.now) (sight_in c.args.given.now c.args.c.now)) (option_map plain_expr c.in-For.condition)) (faults_there (value_faults (heads_in c.args.given.now) (sight_in c.args.given.now c.args.c.now)) (option_map plain_expr c.in-For.step)) (stmt_faults (heads_in c.args.given.now) (looped (sight_in c.args.given.now c.args.c.now)) (plain_stmt c.deref-in-For.result.now))
-    c.in_ok-head-in-For.ensures.start c.in_ok-head-in-For.ensures.condition c.in_ok-head-in-For.ensures.step (c.in-Ok-body.ensures.value ∙ ap (λ k. fine (stmt_verdict (heads_in c.args.given.now) k (plain_stmt c.deref-in-For.result.now))) (c.enter_loop-mark-in-For.ensures.looped c.args.given.now.table.now)) refl c.in_ok-head-in-For.ensures.least (c.in-Ok-body.ensures.least ∙ ap (λ k. kept c.for_head.new.least (stmt_faults (heads_in c.args.given.now) k (plain_stmt c.deref-in-For.result.now))) (c.enter_loop-mark-in-For.ensures.looped c.args.given.now.table.now)) c.judge_for.ensures.least
+pub statement-returns-in-Default : goal.statement-returns-in-Default
+statement-returns-in-Default t c =
+    let hs = heads_in c.args.given.now in
+    let s = sight_in c.args.given.now c.args.sight.now in
+    let node = ap (map_stmt plain_expr) (tree_default_label _ _ c.in-Default.is) in
+    record {
+      value = node_value typed_stmt (stmt_verdict hs s) (stmt_faults hs s) c.in-Default.token (answered c.default.result) _ _ node c.default.ensures.value;
+      least = node_least typed_stmt (stmt_verdict hs s) (stmt_faults hs s) c.in-Default.token (answered c.default.result) _ _ node _ _ c.default.ensures.least;
+      sight = c.default.ensures.sight c.args.given.now.table.now ∙ ap (after s) (sym node);
+    }
 
-pub statement-returns-in-Ok-body-clause-sight : goal.statement-returns-in-Ok-body-clause-sight
-statement-returns-in-Ok-body-clause-sight b c =
-    always c.judge_for.result ((scope_left c.scopes_only_add.ensures.first c.args.given.now.table.now c.args.c.now c.statement-body-in-For.new.c c.leave-in-For.new.self c.enter_loop-mark-in-For.result (looped (sight_in c.args.given.now c.args.c.now))
-    (after (looped (sight_in c.args.given.now c.args.c.now)) (plain_stmt c.deref-in-For.result.now)) refl refl refl refl (c.scopes_only_add.ensures.statements (looped (sight_in c.args.given.now c.args.c.now)) (more_stmts (plain_stmt c.deref-in-For.result.now) no_stmt)) c.leave-in-For.ensures.left c.enter_loop-mark-in-For.ensures.mark
-    (c.in-Ok-body.ensures.sight ∙ ap (λ k. after k (plain_stmt c.deref-in-For.result.now)) (c.enter_loop-mark-in-For.ensures.looped c.args.given.now.table.now))) ∙ ap (after (sight_in c.args.given.now c.args.c.now)) (sym (ap (map_stmt plain_expr) (tree_for_loop _ _ _ _ _ _ c.in-For.is)
-    ∙ ap (λ y. for_loop c.in-For.token (option_map plain_expr c.in-For.start) (option_map plain_expr c.in-For.condition) (option_map plain_expr c.in-For.step) (plain_stmt y)) (sym c.deref-in-For.ensures))))
+-- ---- a statement whose scope is left
 
-pub statement-returns-in_ok-xs-in-Switch-clause-value : goal.statement-returns-in_ok-xs-in-Switch-clause-value
-statement-returns-in_ok-xs-in-Switch-clause-value b c =
-    two_value typed_stmt (stmt_verdict (heads_in c.args.given.now) (sight_in c.args.given.now c.args.c.now)) (stmt_faults (heads_in c.args.given.now) (sight_in c.args.given.now c.args.c.now)) c.in-Switch.token (answered c.judge_switch.result) (plain_stmt c.args.x.now)
-    (switch c.in-Switch.token (plain_expr c.in-Switch.value) (plain_stmts c.deref-in-Switch.result.now))
-    (ap (map_stmt plain_expr) (tree_switch _ _ _ _ c.in-Switch.is)
-    ∙ ap (λ y. switch c.in-Switch.token (plain_expr c.in-Switch.value) (plain_stmts y)) (sym c.deref-in-Switch.ensures.value))
-    (λ x y. asked (switch_rows_by c.crosses_with-crosses.result) (switch_rule_by c.crosses_with-crosses.result c.in-Switch.token) (two x y)) (option_map plain c.in_ok-e-in-Switch.e) (value (heads_in c.args.given.now) (sight_in c.args.given.now c.args.c.now) (plain_expr c.in-Switch.value)) (option_map typed_stmts c.in_ok-xs-in-Switch.field-0) (stmts_fine (heads_in c.args.given.now) (switched (sight_in c.args.given.now c.args.c.now)) (plain_stmts c.deref-in-Switch.result.now))
-    c.in_ok-e-in-Switch.ensures.value (c.in_ok-xs-in-Switch.ensures.value ∙ ap (λ k. stmts_fine (heads_in c.args.given.now) k (plain_stmts c.deref-in-Switch.result.now)) (c.enter_switch-mark.ensures.switched c.args.given.now.table.now))
-    (sym (ap (λ b. asked (switch_rows_by b) (switch_rule_by b c.in-Switch.token) (two (value (heads_in c.args.given.now) (sight_in c.args.given.now c.args.c.now) (plain_expr c.in-Switch.value)) (stmts_fine (heads_in c.args.given.now) (switched (sight_in c.args.given.now c.args.c.now)) (plain_stmts c.deref-in-Switch.result.now)))) (c.crosses_with-crosses.ensures.crosses c.args.given.now.table.now))) c.judge_switch.ensures.value
+pub in_branch-returns : goal.in_branch-returns
+in_branch-returns t c =
+    let hs = heads_in c.args.given.now in
+    let s = sight_in c.args.given.now c.args.sight.now in
+    let x = plain_stmt c.args.branch.now in
+    let is = c.inside-mark.ensures.inside c.args.given.now.table.now in
+    record {
+      value = subst (λ k. IfOk c.statement-typed.result (λ r. option_map typed_stmt r ≡ fine (stmt_verdict hs k x))) is c.statement-typed.ensures.value;
+      least = subst (λ k. OnOk c.statement-typed.result (c.statement-typed.new.least ≡ kept c.args.least.now (stmt_faults hs k x))) is c.statement-typed.ensures.least;
+      sight =
+          on_ok c.statement-typed.result
+          (λ behind. scope_left c.scopes_only_add.ensures.first c.args.given.now.table.now c.args.sight.now c.statement-typed.new.sight c.leave.new.self c.inside-mark.result (inside s) (after (inside s) x)
+          refl refl refl refl (c.scopes_only_add.ensures.statements (inside s) (more_stmts x no_stmt)) c.leave.ensures.left c.inside-mark.ensures.mark (behind ∙ ap (λ k. after k x) is))
+          c.statement-typed.ensures.sight;
+    }
 
-pub statement-returns-in_ok-xs-in-Switch-clause-least : goal.statement-returns-in_ok-xs-in-Switch-clause-least
-statement-returns-in_ok-xs-in-Switch-clause-least b c =
-    two_least typed_stmt (stmt_verdict (heads_in c.args.given.now) (sight_in c.args.given.now c.args.c.now)) (stmt_faults (heads_in c.args.given.now) (sight_in c.args.given.now c.args.c.now)) c.in-Switch.token (answered c.judge_switch.result) (plain_stmt c.args.x.now)
-    (switch c.in-Switch.token (plain_expr c.in-Switch.value) (plain_stmts c.deref-in-Switch.result.now))
-    (ap (map_stmt plain_expr) (tree_switch _ _ _ _ c.in-Switch.is)
-    ∙ ap (λ y. switch c.in-Switch.token (plain_expr c.in-Switch.value) (plain_stmts y)) (sym c.deref-in-Switch.ensures.value))
-    (λ x y. asked (switch_rows_by c.crosses_with-crosses.result) (switch_rule_by c.crosses_with-crosses.result c.in-Switch.token) (two x y)) (option_map plain c.in_ok-e-in-Switch.e) (value (heads_in c.args.given.now) (sight_in c.args.given.now c.args.c.now) (plain_expr c.in-Switch.value)) (option_map typed_stmts c.in_ok-xs-in-Switch.field-0) (stmts_fine (heads_in c.args.given.now) (switched (sight_in c.args.given.now c.args.c.now)) (plain_stmts c.deref-in-Switch.result.now))
-    c.args.least.now c.expression-in-Switch.new.least c.statements-xs-in-Switch.new.least c.judge_switch.new.least (value_faults (heads_in c.args.given.now) (sight_in c.args.given.now c.args.c.now) (plain_expr c.in-Switch.value)) (stmts_faults (heads_in c.args.given.now) (switched (sight_in c.args.given.now c.args.c.now)) (plain_stmts c.deref-in-Switch.result.now))
-    c.in_ok-e-in-Switch.ensures.value (c.in_ok-xs-in-Switch.ensures.value ∙ ap (λ k. stmts_fine (heads_in c.args.given.now) k (plain_stmts c.deref-in-Switch.result.now)) (c.enter_switch-mark.ensures.switched c.args.given.now.table.now))
-    (sym (ap (λ b. (value_faults (heads_in c.args.given.now) (sight_in c.args.given.now c.args.c.now) (plain_expr c.in-Switch.value) ++ (stmts_faults (heads_in c.args.given.now) (switched (sight_in c.args.given.now c.args.c.now)) (plain_stmts c.deref-in-Switch.result.now))) ++ at c.in-Switch.token (asked (switch_rows_by b) (switch_rule_by b c.in-Switch.token) (two (value (heads_in c.args.given.now) (sight_in c.args.given.now c.args.c.now) (plain_expr c.in-Switch.value)) (stmts_fine (heads_in c.args.given.now) (switched (sight_in c.args.given.now c.args.c.now)) (plain_stmts c.deref-in-Switch.result.now))))) (c.crosses_with-crosses.ensures.crosses c.args.given.now.table.now))) c.in_ok-e-in-Switch.ensures.least (c.in_ok-xs-in-Switch.ensures.least ∙ ap (λ k. kept c.expression-in-Switch.new.least (stmts_faults (heads_in c.args.given.now) k (plain_stmts c.deref-in-Switch.result.now))) (c.enter_switch-mark.ensures.switched c.args.given.now.table.now)) c.judge_switch.ensures.least
+pub in_loop-returns : goal.in_loop-returns
+in_loop-returns t c =
+    let hs = heads_in c.args.given.now in
+    let s = sight_in c.args.given.now c.args.sight.now in
+    let x = plain_stmt c.args.body.now in
+    let is = c.enter_loop-mark.ensures.looped c.args.given.now.table.now in
+    record {
+      value = subst (λ k. IfOk c.statement-typed.result (λ r. option_map typed_stmt r ≡ fine (stmt_verdict hs k x))) is c.statement-typed.ensures.value;
+      least = subst (λ k. OnOk c.statement-typed.result (c.statement-typed.new.least ≡ kept c.args.least.now (stmt_faults hs k x))) is c.statement-typed.ensures.least;
+      sight =
+          on_ok c.statement-typed.result
+          (λ behind. scope_left c.scopes_only_add.ensures.first c.args.given.now.table.now c.args.sight.now c.statement-typed.new.sight c.leave.new.self c.enter_loop-mark.result (looped s) (after (looped s) x)
+          refl refl refl refl (c.scopes_only_add.ensures.statements (looped s) (more_stmts x no_stmt)) c.leave.ensures.left c.enter_loop-mark.ensures.mark (behind ∙ ap (λ k. after k x) is))
+          c.statement-typed.ensures.sight;
+    }
 
-pub statement-returns-in_ok-xs-in-Switch-clause-sight : goal.statement-returns-in_ok-xs-in-Switch-clause-sight
-statement-returns-in_ok-xs-in-Switch-clause-sight b c =
-    (scope_left c.scopes_only_add.ensures.first c.args.given.now.table.now c.args.c.now c.statements-xs-in-Switch.new.c c.leave-in-Switch.new.self c.enter_switch-mark.result (switched (sight_in c.args.given.now c.args.c.now))
-    (afters (switched (sight_in c.args.given.now c.args.c.now)) (plain_stmts c.deref-in-Switch.result.now)) refl refl refl refl (c.scopes_only_add.ensures.statements (switched (sight_in c.args.given.now c.args.c.now)) (plain_stmts c.deref-in-Switch.result.now)) c.leave-in-Switch.ensures.left c.enter_switch-mark.ensures.mark
-    (c.in_ok-xs-in-Switch.ensures.sight ∙ ap (λ k. afters k (plain_stmts c.deref-in-Switch.result.now)) (c.enter_switch-mark.ensures.switched c.args.given.now.table.now))) ∙ ap (after (sight_in c.args.given.now c.args.c.now)) (sym (ap (map_stmt plain_expr) (tree_switch _ _ _ _ c.in-Switch.is)
-    ∙ ap (λ y. switch c.in-Switch.token (plain_expr c.in-Switch.value) (plain_stmts y)) (sym c.deref-in-Switch.ensures.value)))
+-- ---- each kind of statement
 
-pub statement-returns-in-Break-clause-value : goal.statement-returns-in-Break-clause-value
-statement-returns-in-Break-clause-value b c =
-    node_value typed_stmt (stmt_verdict (heads_in c.args.given.now) (sight_in c.args.given.now c.args.c.now)) (stmt_faults (heads_in c.args.given.now) (sight_in c.args.given.now c.args.c.now)) c.in-Break.token (answered c.judge_break.result) (plain_stmt c.args.x.now)
-    (break_off c.in-Break.token)
-    (ap (map_stmt plain_expr) (tree_break_off _ _ c.in-Break.is)) c.judge_break.ensures.value
+pub block-returns : goal.block-returns
+block-returns t c =
+    let hs = heads_in c.args.given.now in
+    let s = sight_in c.args.given.now c.args.sight.now in
+    let xs = plain_stmts c.args.items.now in
+    let is = c.enter-mark.ensures.entered c.args.given.now.table.now in
+    record {
+      value = c.made_block.ensures ∙ ap (λ o. fine (passed (tree.block c.args.token) o)) (c.in_ok-typed.ensures.value ∙ ap (λ k. stmts_fine hs k xs) is);
+      least = c.in_ok-typed.ensures.least ∙ ap (λ k. kept c.args.least.now (stmts_faults hs k xs)) is;
+      sight =
+          scope_left c.scopes_only_add.ensures.first c.args.given.now.table.now c.args.sight.now c.statements-typed.new.sight c.leave.new.self c.enter-mark.result (entered s) (afters (entered s) xs)
+          refl refl refl refl (c.scopes_only_add.ensures.statements (entered s) xs) c.leave.ensures.left c.enter-mark.ensures.mark (c.in_ok-typed.ensures.sight ∙ ap (λ k. afters k xs) is);
+    }
 
-pub statement-returns-in-Break-clause-least : goal.statement-returns-in-Break-clause-least
-statement-returns-in-Break-clause-least b c =
-    node_least typed_stmt (stmt_verdict (heads_in c.args.given.now) (sight_in c.args.given.now c.args.c.now)) (stmt_faults (heads_in c.args.given.now) (sight_in c.args.given.now c.args.c.now)) c.in-Break.token (answered c.judge_break.result) (plain_stmt c.args.x.now)
-    (break_off c.in-Break.token)
-    (ap (map_stmt plain_expr) (tree_break_off _ _ c.in-Break.is)) c.args.least.now c.judge_break.new.least c.judge_break.ensures.least
+pub if_only-returns : goal.if_only-returns
+if_only-returns t c =
+    let hs = heads_in c.args.given.now in
+    let s = sight_in c.args.given.now c.args.sight.now in
+    let e = plain_expr c.args.condition.now in
+    let a = plain_stmt c.args.then.now in
+    let d = tree.if_only c.args.token e a in
+    record {
+      value = two_value typed_stmt (stmt_verdict hs s) (stmt_faults hs s) c.args.token c.judge_if.result d d refl (λ x y. asked if_rows (if_rule c.args.token) (two x y)) (option_map plain c.in_ok-condition.condition) (value hs s e) (option_map typed_stmt c.in_ok-then.field-0) (fine (stmt_verdict hs (inside s) a)) c.in_ok-condition.ensures.value c.in_ok-then.ensures.value refl c.judge_if.ensures.value;
+      least =
+          two_least typed_stmt (stmt_verdict hs s) (stmt_faults hs s) c.args.token c.judge_if.result d d refl (λ x y. asked if_rows (if_rule c.args.token) (two x y)) (option_map plain c.in_ok-condition.condition) (value hs s e) (option_map typed_stmt c.in_ok-then.field-0) (fine (stmt_verdict hs (inside s) a)) c.args.least.now c.expression.new.least c.in_branch-then.new.least c.judge_if.new.least (value_faults hs s e) (stmt_faults hs (inside s) a)
+          c.in_ok-condition.ensures.value c.in_ok-then.ensures.value refl c.in_ok-condition.ensures.least c.in_ok-then.ensures.least c.judge_if.ensures.least;
+      sight = always c.judge_if.result c.in_ok-then.ensures.sight;
+    }
 
-pub statement-returns-in-Break-clause-sight : goal.statement-returns-in-Break-clause-sight
-statement-returns-in-Break-clause-sight b c =
-    ap (after (sight_in c.args.given.now c.args.c.now)) (sym (ap (map_stmt plain_expr) (tree_break_off _ _ c.in-Break.is)))
+pub while_loop-returns : goal.while_loop-returns
+while_loop-returns t c =
+    let hs = heads_in c.args.given.now in
+    let s = sight_in c.args.given.now c.args.sight.now in
+    let e = plain_expr c.args.condition.now in
+    let a = plain_stmt c.args.body.now in
+    let d = tree.while_loop c.args.token e a in
+    record {
+      value = two_value typed_stmt (stmt_verdict hs s) (stmt_faults hs s) c.args.token c.judge_while.result d d refl (λ x y. asked if_rows (while_rule c.args.token) (two x y)) (option_map plain c.in_ok-condition.condition) (value hs s e) (option_map typed_stmt c.in_ok-body.field-0) (fine (stmt_verdict hs (looped s) a)) c.in_ok-condition.ensures.value c.in_ok-body.ensures.value refl c.judge_while.ensures.value;
+      least =
+          two_least typed_stmt (stmt_verdict hs s) (stmt_faults hs s) c.args.token c.judge_while.result d d refl (λ x y. asked if_rows (while_rule c.args.token) (two x y)) (option_map plain c.in_ok-condition.condition) (value hs s e) (option_map typed_stmt c.in_ok-body.field-0) (fine (stmt_verdict hs (looped s) a)) c.args.least.now c.expression.new.least c.in_loop-body.new.least c.judge_while.new.least (value_faults hs s e) (stmt_faults hs (looped s) a)
+          c.in_ok-condition.ensures.value c.in_ok-body.ensures.value refl c.in_ok-condition.ensures.least c.in_ok-body.ensures.least c.judge_while.ensures.least;
+      sight = always c.judge_while.result c.in_ok-body.ensures.sight;
+    }
 
-pub statement-returns-in-Continue-clause-value : goal.statement-returns-in-Continue-clause-value
-statement-returns-in-Continue-clause-value b c =
-    node_value typed_stmt (stmt_verdict (heads_in c.args.given.now) (sight_in c.args.given.now c.args.c.now)) (stmt_faults (heads_in c.args.given.now) (sight_in c.args.given.now c.args.c.now)) c.in-Continue.token (answered c.judge_continue.result) (plain_stmt c.args.x.now)
-    (continue_on c.in-Continue.token)
-    (ap (map_stmt plain_expr) (tree_continue_on _ _ c.in-Continue.is)) c.judge_continue.ensures.value
+pub if_else-returns-in-Ok : goal.if_else-returns-in-Ok
+if_else-returns-in-Ok t c =
+    let hs = heads_in c.args.given.now in
+    let s = sight_in c.args.given.now c.args.sight.now in
+    let e = plain_expr c.args.condition.now in
+    let a = plain_stmt c.args.then.now in
+    let b = plain_stmt c.args.otherwise.now in
+    let between = left s (after (inside s) a) in
+    let is = c.in_ok-then.ensures.sight in
+    let d = tree.if_else c.args.token e a b in
+    record {
+      value =
+          three_value typed_stmt (stmt_verdict hs s) (stmt_faults hs s) c.args.token c.judge_if_else.result d d refl (λ x y z. asked if_else_rows (if_else_rule c.args.token) (three x y z)) (option_map plain c.in_ok-condition.condition) (value hs s e) (option_map typed_stmt c.in_ok-then.then) (fine (stmt_verdict hs (inside s) a)) (option_map typed_stmt c.in-Ok.otherwise) (fine (stmt_verdict hs (inside between) b))
+          c.in_ok-condition.ensures.value c.in_ok-then.ensures.value (c.in-Ok.ensures.value ∙ ap (λ k. fine (stmt_verdict hs (inside k) b)) is) refl c.judge_if_else.ensures.value;
+      least =
+          three_least typed_stmt (stmt_verdict hs s) (stmt_faults hs s) c.args.token c.judge_if_else.result d d refl (λ x y z. asked if_else_rows (if_else_rule c.args.token) (three x y z)) (option_map plain c.in_ok-condition.condition) (value hs s e) (option_map typed_stmt c.in_ok-then.then) (fine (stmt_verdict hs (inside s) a)) (option_map typed_stmt c.in-Ok.otherwise) (fine (stmt_verdict hs (inside between) b))
+          c.args.least.now c.expression.new.least c.in_branch.new.least c.in_branch-2.new.least c.judge_if_else.new.least (value_faults hs s e) (stmt_faults hs (inside s) a) (stmt_faults hs (inside between) b)
+          c.in_ok-condition.ensures.value c.in_ok-then.ensures.value (c.in-Ok.ensures.value ∙ ap (λ k. fine (stmt_verdict hs (inside k) b)) is) refl c.in_ok-condition.ensures.least c.in_ok-then.ensures.least
+          (c.in-Ok.ensures.least ∙ ap (λ k. kept c.in_branch.new.least (stmt_faults hs (inside k) b)) is) c.judge_if_else.ensures.least;
+      sight = always c.judge_if_else.result (c.in-Ok.ensures.sight ∙ ap (λ k. left k (after (inside k) b)) is);
+    }
 
-pub statement-returns-in-Continue-clause-least : goal.statement-returns-in-Continue-clause-least
-statement-returns-in-Continue-clause-least b c =
-    node_least typed_stmt (stmt_verdict (heads_in c.args.given.now) (sight_in c.args.given.now c.args.c.now)) (stmt_faults (heads_in c.args.given.now) (sight_in c.args.given.now c.args.c.now)) c.in-Continue.token (answered c.judge_continue.result) (plain_stmt c.args.x.now)
-    (continue_on c.in-Continue.token)
-    (ap (map_stmt plain_expr) (tree_continue_on _ _ c.in-Continue.is)) c.args.least.now c.judge_continue.new.least c.judge_continue.ensures.least
+pub do_loop-returns-in-Ok : goal.do_loop-returns-in-Ok
+do_loop-returns-in-Ok t c =
+    let hs = heads_in c.args.given.now in
+    let s = sight_in c.args.given.now c.args.sight.now in
+    let e = plain_expr c.args.condition.now in
+    let a = plain_stmt c.args.body.now in
+    let next = (after (looped s) a).next in
+    let is = c.in_ok-body.ensures.sight in
+    let d = tree.do_loop c.args.token a e in
+    record {
+      value = two_value typed_stmt (stmt_verdict hs s) (stmt_faults hs s) c.args.token c.judge_do.result d d refl (λ x y. asked do_rows (do_rule c.args.token) (two x y)) (option_map typed_stmt c.in_ok-body.body) (fine (stmt_verdict hs (looped s) a)) (option_map plain c.in-Ok.condition) (value hs s e) c.in_ok-body.ensures.value (c.in-Ok.ensures.value ∙ (ap (λ k. value hs k e) is ∙ ap fine (same_verdict hs s next false e))) refl c.judge_do.ensures.value;
+      least =
+          two_least typed_stmt (stmt_verdict hs s) (stmt_faults hs s) c.args.token c.judge_do.result d d refl (λ x y. asked do_rows (do_rule c.args.token) (two x y)) (option_map typed_stmt c.in_ok-body.body) (fine (stmt_verdict hs (looped s) a)) (option_map plain c.in-Ok.condition) (value hs s e) c.args.least.now c.in_loop.new.least c.expression.new.least c.judge_do.new.least (stmt_faults hs (looped s) a) (value_faults hs s e)
+          c.in_ok-body.ensures.value (c.in-Ok.ensures.value ∙ (ap (λ k. value hs k e) is ∙ ap fine (same_verdict hs s next false e))) refl c.in_ok-body.ensures.least (c.in-Ok.ensures.least ∙ (ap (λ k. kept c.in_loop.new.least (value_faults hs k e)) is ∙ ap (kept c.in_loop.new.least) (same_faults hs s next false e))) c.judge_do.ensures.least;
+      sight = always c.judge_do.result is;
+    }
 
-pub statement-returns-in-Continue-clause-sight : goal.statement-returns-in-Continue-clause-sight
-statement-returns-in-Continue-clause-sight b c =
-    ap (after (sight_in c.args.given.now c.args.c.now)) (sym (ap (map_stmt plain_expr) (tree_continue_on _ _ c.in-Continue.is)))
+pub for_loop-returns-in-Ok : goal.for_loop-returns-in-Ok
+for_loop-returns-in-Ok t c =
+    let hs = heads_in c.args.given.now in
+    let s = sight_in c.args.given.now c.args.sight.now in
+    let x = option_map plain_expr c.args.start.now in
+    let y = option_map plain_expr c.args.condition.now in
+    let z = option_map plain_expr c.args.step.now in
+    let a = plain_stmt c.args.body.now in
+    let d = tree.for_loop c.args.token x y z a in
+    record {
+      value =
+          four_value typed_stmt (stmt_verdict hs s) (stmt_faults hs s) c.args.token c.judge_for.result d d refl (λ i j k l. asked for_rows (for_rule c.args.token) (four i j k l)) (option_map (option_map plain) c.in_ok-head.head.start) (if_there (value hs s) x) (option_map (option_map plain) c.in_ok-head.head.condition) (if_there (value hs s) y) (option_map (option_map plain) c.in_ok-head.head.step) (if_there (value hs s) z) (option_map typed_stmt c.in-Ok.body) (fine (stmt_verdict hs (looped s) a))
+          c.in_ok-head.ensures.start c.in_ok-head.ensures.condition c.in_ok-head.ensures.step c.in-Ok.ensures.value refl c.judge_for.ensures.value;
+      least =
+          four_least typed_stmt (stmt_verdict hs s) (stmt_faults hs s) c.args.token c.judge_for.result d d refl (λ i j k l. asked for_rows (for_rule c.args.token) (four i j k l)) (option_map (option_map plain) c.in_ok-head.head.start) (if_there (value hs s) x) (option_map (option_map plain) c.in_ok-head.head.condition) (if_there (value hs s) y) (option_map (option_map plain) c.in_ok-head.head.step) (if_there (value hs s) z) (option_map typed_stmt c.in-Ok.body) (fine (stmt_verdict hs (looped s) a))
+          c.args.least.now c.for_head.new.least c.in_loop.new.least c.in_loop.new.least c.judge_for.new.least
+          (faults_there (value_faults hs s) x) (faults_there (value_faults hs s) y) (faults_there (value_faults hs s) z) (stmt_faults hs (looped s) a)
+          c.in_ok-head.ensures.start c.in_ok-head.ensures.condition c.in_ok-head.ensures.step c.in-Ok.ensures.value refl c.in_ok-head.ensures.least c.in-Ok.ensures.least c.judge_for.ensures.least;
+      sight = always c.judge_for.result c.in-Ok.ensures.sight;
+    }
 
-pub statement-returns-in_ok-value-in-Return-clause-value : goal.statement-returns-in_ok-value-in-Return-clause-value
-statement-returns-in_ok-value-in-Return-clause-value b c =
-    one_value typed_stmt (stmt_verdict (heads_in c.args.given.now) (sight_in c.args.given.now c.args.c.now)) (stmt_faults (heads_in c.args.given.now) (sight_in c.args.given.now c.args.c.now)) c.in-Return.token (answered c.judge_return.result) (plain_stmt c.args.x.now)
-    (return_from c.in-Return.token (option_map plain_expr c.in-Return.value))
-    (ap (map_stmt plain_expr) (tree_return_from _ _ _ c.in-Return.is))
-    (λ o. asked return_rows (return_rule c.in-Return.token) (two c.args.c.now.result o)) (option_map (option_map plain) c.in_ok-value-in-Return.value) (if_there (value (heads_in c.args.given.now) (sight_in c.args.given.now c.args.c.now)) (option_map plain_expr c.in-Return.value)) c.in_ok-value-in-Return.ensures.value refl c.judge_return.ensures.value
+pub switch-returns : goal.switch-returns
+switch-returns t c =
+    let hs = heads_in c.args.given.now in
+    let s = sight_in c.args.given.now c.args.sight.now in
+    let e = plain_expr c.args.value.now in
+    let xs = plain_stmts c.args.body.now in
+    let is = c.enter_switch-mark.ensures.switched c.args.given.now.table.now in
+    let crosses = c.crosses_with-crosses.ensures.crosses c.args.given.now.table.now in
+    let known = c.crosses_with-crosses.result in
+    let d = tree.switch c.args.token e xs in
+    record {
+      value =
+          two_value typed_stmt (stmt_verdict hs s) (stmt_faults hs s) c.args.token (answered c.judge_switch.result) d d refl (λ x y. asked (switch_rows_by known) (switch_rule_by known c.args.token) (two x y)) (option_map plain c.in_ok-value.value) (value hs s e) (option_map typed_stmts c.in_ok-body.field-0) (stmts_fine hs (switched s) xs)
+          c.in_ok-value.ensures.value (c.in_ok-body.ensures.value ∙ ap (λ k. stmts_fine hs k xs) is)
+          (sym (ap (λ b. asked (switch_rows_by b) (switch_rule_by b c.args.token) (two (value hs s e) (stmts_fine hs (switched s) xs))) crosses)) c.judge_switch.ensures.value;
+      least =
+          two_least typed_stmt (stmt_verdict hs s) (stmt_faults hs s) c.args.token (answered c.judge_switch.result) d d refl (λ x y. asked (switch_rows_by known) (switch_rule_by known c.args.token) (two x y)) (option_map plain c.in_ok-value.value) (value hs s e) (option_map typed_stmts c.in_ok-body.field-0) (stmts_fine hs (switched s) xs)
+          c.args.least.now c.expression.new.least c.statements-body.new.least c.judge_switch.new.least (value_faults hs s e) (stmts_faults hs (switched s) xs)
+          c.in_ok-value.ensures.value (c.in_ok-body.ensures.value ∙ ap (λ k. stmts_fine hs k xs) is)
+          (sym (ap (λ b. (value_faults hs s e ++ stmts_faults hs (switched s) xs) ++ at c.args.token (asked (switch_rows_by b) (switch_rule_by b c.args.token) (two (value hs s e) (stmts_fine hs (switched s) xs)))) crosses))
+          c.in_ok-value.ensures.least (c.in_ok-body.ensures.least ∙ ap (λ k. kept c.expression.new.least (stmts_faults hs k xs)) is) c.judge_switch.ensures.least;
+      sight =
+          scope_left c.scopes_only_add.ensures.first c.args.given.now.table.now c.args.sight.now c.statements-body.new.sight c.leave.new.self c.enter_switch-mark.result (switched s) (afters (switched s) xs)
+          refl refl refl refl (c.scopes_only_add.ensures.statements (switched s) xs) c.leave.ensures.left c.enter_switch-mark.ensures.mark (c.in_ok-body.ensures.sight ∙ ap (λ k. afters k xs) is);
+    }
 
-pub statement-returns-in_ok-value-in-Return-clause-least : goal.statement-returns-in_ok-value-in-Return-clause-least
-statement-returns-in_ok-value-in-Return-clause-least b c =
-    one_least typed_stmt (stmt_verdict (heads_in c.args.given.now) (sight_in c.args.given.now c.args.c.now)) (stmt_faults (heads_in c.args.given.now) (sight_in c.args.given.now c.args.c.now)) c.in-Return.token (answered c.judge_return.result) (plain_stmt c.args.x.now)
-    (return_from c.in-Return.token (option_map plain_expr c.in-Return.value))
-    (ap (map_stmt plain_expr) (tree_return_from _ _ _ c.in-Return.is))
-    (λ o. asked return_rows (return_rule c.in-Return.token) (two c.args.c.now.result o)) (option_map (option_map plain) c.in_ok-value-in-Return.value) (if_there (value (heads_in c.args.given.now) (sight_in c.args.given.now c.args.c.now)) (option_map plain_expr c.in-Return.value)) c.args.least.now c.value_there.new.least c.judge_return.new.least (faults_there (value_faults (heads_in c.args.given.now) (sight_in c.args.given.now c.args.c.now)) (option_map plain_expr c.in-Return.value))
-    c.in_ok-value-in-Return.ensures.value refl c.in_ok-value-in-Return.ensures.least c.judge_return.ensures.least
+-- ---- statements in a row
 
-pub statement-returns-in_ok-value-in-Return-clause-sight : goal.statement-returns-in_ok-value-in-Return-clause-sight
-statement-returns-in_ok-value-in-Return-clause-sight b c =
-    ap (after (sight_in c.args.given.now c.args.c.now)) (sym (ap (map_stmt plain_expr) (tree_return_from _ _ _ c.in-Return.is)))
+pub statements-statement-requires : goal.statements-statement-requires
+statements-statement-requires t c = (next_falls c.args.statements.now c.loop-one.one-index c.one-item.result c.one-item.is c.loop-one-test.true t c.decreases, tt)
 
-pub statement-returns-in-Declaration-clause-value : goal.statement-returns-in-Declaration-clause-value
-statement-returns-in-Declaration-clause-value b c =
-    node_value typed_stmt (stmt_verdict (heads_in c.args.given.now) (sight_in c.args.given.now c.args.c.now)) (stmt_faults (heads_in c.args.given.now) (sight_in c.args.given.now c.args.c.now)) c.in-Declaration.token c.declaration.result (plain_stmt c.args.x.now)
-    (tree.declaration c.in-Declaration.token c.in-Declaration.ty (plain_names c.as_slice.result.now))
-    (ap (map_stmt plain_expr) (tree_declaration _ _ _ _ c.in-Declaration.is)
-    ∙ ap (λ y. tree.declaration c.in-Declaration.token c.in-Declaration.ty (plain_names y)) (sym c.as_slice.ensures.items)) c.declaration.ensures.value
+pub statements-loop-one-init : goal.statements-loop-one-init
+statements-loop-one-init t c =
+    (stmts_first c.new.result (stmts_fine (heads_in c.args.given.now) (sight_in c.args.given.now c.args.sight.now) (plain_stmts c.args.statements.now)) c.new.ensures.empty, refl, refl)
 
-pub statement-returns-in-Declaration-clause-least : goal.statement-returns-in-Declaration-clause-least
-statement-returns-in-Declaration-clause-least b c =
-    node_least typed_stmt (stmt_verdict (heads_in c.args.given.now) (sight_in c.args.given.now c.args.c.now)) (stmt_faults (heads_in c.args.given.now) (sight_in c.args.given.now c.args.c.now)) c.in-Declaration.token c.declaration.result (plain_stmt c.args.x.now)
-    (tree.declaration c.in-Declaration.token c.in-Declaration.ty (plain_names c.as_slice.result.now))
-    (ap (map_stmt plain_expr) (tree_declaration _ _ _ _ c.in-Declaration.is)
-    ∙ ap (λ y. tree.declaration c.in-Declaration.token c.in-Declaration.ty (plain_names y)) (sym c.as_slice.ensures.items)) c.args.least.now c.declaration.new.least c.declaration.ensures.least
-
-pub statement-returns-in-Declaration-clause-sight : goal.statement-returns-in-Declaration-clause-sight
-statement-returns-in-Declaration-clause-sight b c =
-    node_sight c.declaration.result (plain_stmt c.args.x.now) (tree.declaration c.in-Declaration.token c.in-Declaration.ty (plain_names c.as_slice.result.now))
-    (ap (map_stmt plain_expr) (tree_declaration _ _ _ _ c.in-Declaration.is)
-    ∙ ap (λ y. tree.declaration c.in-Declaration.token c.in-Declaration.ty (plain_names y)) (sym c.as_slice.ensures.items))
-    (after (sight_in c.args.given.now c.args.c.now)) (sight_in c.args.given.now c.declaration.new.c) c.declaration.ensures.sight
-
-pub statement-returns-in-Case-clause-value : goal.statement-returns-in-Case-clause-value
-statement-returns-in-Case-clause-value b c =
-    node_value typed_stmt (stmt_verdict (heads_in c.args.given.now) (sight_in c.args.given.now c.args.c.now)) (stmt_faults (heads_in c.args.given.now) (sight_in c.args.given.now c.args.c.now)) c.in-Case.token c.case.result (plain_stmt c.args.x.now)
-    (case_label c.in-Case.token c.in-Case.value)
-    (ap (map_stmt plain_expr) (tree_case_label _ _ _ c.in-Case.is)) c.case.ensures.value
-
-pub statement-returns-in-Case-clause-least : goal.statement-returns-in-Case-clause-least
-statement-returns-in-Case-clause-least b c =
-    node_least typed_stmt (stmt_verdict (heads_in c.args.given.now) (sight_in c.args.given.now c.args.c.now)) (stmt_faults (heads_in c.args.given.now) (sight_in c.args.given.now c.args.c.now)) c.in-Case.token c.case.result (plain_stmt c.args.x.now)
-    (case_label c.in-Case.token c.in-Case.value)
-    (ap (map_stmt plain_expr) (tree_case_label _ _ _ c.in-Case.is)) c.args.least.now c.case.new.least c.case.ensures.least
-
-pub statement-returns-in-Case-clause-sight : goal.statement-returns-in-Case-clause-sight
-statement-returns-in-Case-clause-sight b c =
-    node_sight c.case.result (plain_stmt c.args.x.now) (case_label c.in-Case.token c.in-Case.value)
-    (ap (map_stmt plain_expr) (tree_case_label _ _ _ c.in-Case.is))
-    (after (sight_in c.args.given.now c.args.c.now)) (sight_in c.args.given.now c.case.new.c) c.case.ensures.sight
-
-pub statement-returns-in-Default-clause-value : goal.statement-returns-in-Default-clause-value
-statement-returns-in-Default-clause-value b c =
-    node_value typed_stmt (stmt_verdict (heads_in c.args.given.now) (sight_in c.args.given.now c.args.c.now)) (stmt_faults (heads_in c.args.given.now) (sight_in c.args.given.now c.args.c.now)) c.in-Default.token (answered c.default.result) (plain_stmt c.args.x.now)
-    (default_label c.in-Default.token)
-    (ap (map_stmt plain_expr) (tree_default_label _ _ c.in-Default.is)) c.default.ensures.value
-
-pub statement-returns-in-Default-clause-least : goal.statement-returns-in-Default-clause-least
-statement-returns-in-Default-clause-least b c =
-    node_least typed_stmt (stmt_verdict (heads_in c.args.given.now) (sight_in c.args.given.now c.args.c.now)) (stmt_faults (heads_in c.args.given.now) (sight_in c.args.given.now c.args.c.now)) c.in-Default.token (answered c.default.result) (plain_stmt c.args.x.now)
-    (default_label c.in-Default.token)
-    (ap (map_stmt plain_expr) (tree_default_label _ _ c.in-Default.is)) c.args.least.now c.default.new.least c.default.ensures.least
-
-pub statement-returns-in-Default-clause-sight : goal.statement-returns-in-Default-clause-sight
-statement-returns-in-Default-clause-sight b c =
-    c.default.ensures.sight c.args.given.now.table.now ∙ ap (after (sight_in c.args.given.now c.args.c.now)) (sym (ap (map_stmt plain_expr) (tree_default_label _ _ c.in-Default.is)))
-
-pub statements-loop-x-init : goal.statements-loop-x-init
-statements-loop-x-init b c =
-    (stmts_first c.new.result (stmts_fine (heads_in c.args.given.now) (sight_in c.args.given.now c.args.c.now) (plain_stmts c.args.xs.now)) c.new.ensures.empty, refl, refl)
-
-pub statements-loop-x-preserved : goal.statements-loop-x-preserved
-statements-loop-x-preserved b c = (
-  row_value (stmt_laws (heads_in c.args.given.now)) c.args.xs.now c.loop-x.x-index _ c.x-item.result c.loop-x-test.true c.x-item.is (sight_in c.args.given.now c.loop-x.c)
-      (sight_in c.args.given.now c.statement.new.c) c.in_ok-one.ensures.sight c.loop-x.all c.in_ok-all.all c.in_ok-one.one _ c.in_ok-one.ensures.value c.in_ok-all.ensures c.loop-x.invariant.0,
-  row_least (stmt_laws (heads_in c.args.given.now)) c.args.xs.now c.loop-x.x-index _ c.x-item.result c.loop-x-test.true c.x-item.is (sight_in c.args.given.now c.loop-x.c)
-      (sight_in c.args.given.now c.statement.new.c) c.in_ok-one.ensures.sight c.loop-x.least c.statement.new.least _ c.in_ok-one.ensures.least c.loop-x.invariant.1,
-  row_sight (stmt_laws (heads_in c.args.given.now)) c.args.xs.now c.loop-x.x-index _ c.x-item.result c.loop-x-test.true c.x-item.is (sight_in c.args.given.now c.loop-x.c)
-      (sight_in c.args.given.now c.statement.new.c) c.in_ok-one.ensures.sight _ c.loop-x.invariant.2,
+pub statements-loop-one-preserved : goal.statements-loop-one-preserved
+statements-loop-one-preserved t c = (
+  row_value (stmt_laws (heads_in c.args.given.now)) c.args.statements.now c.loop-one.one-index _ c.one-item.result c.loop-one-test.true c.one-item.is (sight_in c.args.given.now c.loop-one.sight)
+      (sight_in c.args.given.now c.statement.new.sight) c.in_ok-typed.ensures.sight c.loop-one.all c.in_ok-all.all c.in_ok-typed.typed _ c.in_ok-typed.ensures.value c.in_ok-all.ensures c.loop-one.invariant.0,
+  row_least (stmt_laws (heads_in c.args.given.now)) c.args.statements.now c.loop-one.one-index _ c.one-item.result c.loop-one-test.true c.one-item.is (sight_in c.args.given.now c.loop-one.sight)
+      (sight_in c.args.given.now c.statement.new.sight) c.in_ok-typed.ensures.sight c.loop-one.least c.statement.new.least _ c.in_ok-typed.ensures.least c.loop-one.invariant.1,
+  row_sight (stmt_laws (heads_in c.args.given.now)) c.args.statements.now c.loop-one.one-index _ c.one-item.result c.loop-one-test.true c.one-item.is (sight_in c.args.given.now c.loop-one.sight)
+      (sight_in c.args.given.now c.statement.new.sight) c.in_ok-typed.ensures.sight _ c.loop-one.invariant.2,
 )
 
 pub statements-returns-clause-value : goal.statements-returns-clause-value
-statements-returns-clause-value b c =
-    row_end_value (stmt_laws (heads_in c.args.given.now)) c.args.xs.now c.loop-x.x-index (omega (arith, c.loop-x-test.false)) (sight_in c.args.given.now c.loop-x.c) c.loop-x.all _ c.loop-x.invariant.0
+statements-returns-clause-value t c =
+    row_end_value (stmt_laws (heads_in c.args.given.now)) c.args.statements.now c.loop-one.one-index (omega (arith, c.loop-one-test.false)) (sight_in c.args.given.now c.loop-one.sight) c.loop-one.all _ c.loop-one.invariant.0
 
 pub statements-returns-clause-least : goal.statements-returns-clause-least
-statements-returns-clause-least b c =
-    row_end_least (stmt_laws (heads_in c.args.given.now)) c.args.xs.now c.loop-x.x-index (omega (arith, c.loop-x-test.false)) (sight_in c.args.given.now c.loop-x.c) c.loop-x.least _ c.loop-x.invariant.1
+statements-returns-clause-least t c =
+    row_end_least (stmt_laws (heads_in c.args.given.now)) c.args.statements.now c.loop-one.one-index (omega (arith, c.loop-one-test.false)) (sight_in c.args.given.now c.loop-one.sight) c.loop-one.least _ c.loop-one.invariant.1
 
 pub statements-returns-clause-sight : goal.statements-returns-clause-sight
-statements-returns-clause-sight b c =
-    row_end_sight (stmt_laws (heads_in c.args.given.now)) c.args.xs.now c.loop-x.x-index (omega (arith, c.loop-x-test.false)) (sight_in c.args.given.now c.loop-x.c) _ c.loop-x.invariant.2
+statements-returns-clause-sight t c =
+    row_end_sight (stmt_laws (heads_in c.args.given.now)) c.args.statements.now c.loop-one.one-index (omega (arith, c.loop-one-test.false)) (sight_in c.args.given.now c.loop-one.sight) _ c.loop-one.invariant.2

@@ -1,17 +1,51 @@
-use Rattle.std.proofs.Common.{◌≡◌, drop}
+use Rattle.std.proofs.Common.{◌≡◌, ◌+◌, drop}
 use Rattle.std.specs.Option.{option_map}
-use Rattle.nss_tree.specs.Reading.{plain_stmts}
+use Rattle.nss_tree.specs.Reading.{plain_stmt, plain_stmts}
 use Rattle.nss_typing.specs.Nodes.{kept}
 use Rattle.nss_typing.specs.UnitReading.{typed_stmts}
 use Rattle.nss_typing.specs.Verdicts.{afters, stmts_faults, stmts_fine}
 use Rattle.nss_expressions.specs.Rows.{stmts_with_rest}
 use Rattle.nss_expressions.specs.Views.{heads_in, sight_in}
+use Rattle.nss_statements.proofs.Nodes.{size, all_size}
 use Rattle.nss_statements.proofs.statement.+walk.Given as goal
 
-abbrev pub invariant-statements-loop-x : goal.invariant-statements-loop-x
-invariant-statements-loop-x l =
-    (stmts_with_rest (option_map typed_stmts l.all) (stmts_fine (heads_in l.given) (sight_in l.given l.c) (plain_stmts (drop l.x-index l.xs)))
-    ≡ stmts_fine (heads_in l.given) (sight_in l.given l.initial.c) (plain_stmts l.xs))
-    × (kept l.least (stmts_faults (heads_in l.given) (sight_in l.given l.c) (plain_stmts (drop l.x-index l.xs)))
-    ≡ kept l.initial.least (stmts_faults (heads_in l.given) (sight_in l.given l.initial.c) (plain_stmts l.xs)))
-    × (afters (sight_in l.given l.c) (plain_stmts (drop l.x-index l.xs)) ≡ afters (sight_in l.given l.initial.c) (plain_stmts l.xs))
+abbrev pub invariant-statements-loop-one : goal.invariant-statements-loop-one
+invariant-statements-loop-one l =
+    (stmts_with_rest (option_map typed_stmts l.all) (stmts_fine (heads_in l.given) (sight_in l.given l.sight) (plain_stmts (drop l.one-index l.statements)))
+    ≡ stmts_fine (heads_in l.given) (sight_in l.given l.initial.sight) (plain_stmts l.statements))
+    × (kept l.least (stmts_faults (heads_in l.given) (sight_in l.given l.sight) (plain_stmts (drop l.one-index l.statements)))
+    ≡ kept l.initial.least (stmts_faults (heads_in l.given) (sight_in l.given l.initial.sight) (plain_stmts l.statements)))
+    × (afters (sight_in l.given l.sight) (plain_stmts (drop l.one-index l.statements)) ≡ afters (sight_in l.given l.initial.sight) (plain_stmts l.statements))
+
+abbrev pub decreases-statement : goal.decreases-statement
+decreases-statement l = size (plain_stmt l.statement.now)
+
+abbrev pub decreases-statements : goal.decreases-statements
+decreases-statements l = all_size (plain_stmts l.statements.now) + 1
+
+abbrev pub decreases-in_branch : goal.decreases-in_branch
+decreases-in_branch l = size (plain_stmt l.branch.now) + 1
+
+abbrev pub decreases-in_loop : goal.decreases-in_loop
+decreases-in_loop l = size (plain_stmt l.body.now) + 1
+
+abbrev pub decreases-block : goal.decreases-block
+decreases-block l = all_size (plain_stmts l.items.now) + 2
+
+abbrev pub decreases-if_only : goal.decreases-if_only
+decreases-if_only l = size (plain_stmt l.then.now) + 2
+
+abbrev pub decreases-if_else : goal.decreases-if_else
+decreases-if_else l = size (plain_stmt l.then.now) + size (plain_stmt l.otherwise.now) + 2
+
+abbrev pub decreases-while_loop : goal.decreases-while_loop
+decreases-while_loop l = size (plain_stmt l.body.now) + 2
+
+abbrev pub decreases-do_loop : goal.decreases-do_loop
+decreases-do_loop l = size (plain_stmt l.body.now) + 2
+
+abbrev pub decreases-for_loop : goal.decreases-for_loop
+decreases-for_loop l = size (plain_stmt l.body.now) + 2
+
+abbrev pub decreases-switch : goal.decreases-switch
+decreases-switch l = all_size (plain_stmts l.body.now) + 2

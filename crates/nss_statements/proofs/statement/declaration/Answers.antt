@@ -8,4 +8,4 @@ use Rattle.nss_statements.proofs.statement.declaration.Goals as goal
 pub returns-clause-sight : goal.returns-clause-sight
 returns-clause-sight c =
     c.see_declaration.ensures.seen c.args.given.now.table.now
-    ∙ ap declaration_seen (c.in_ok-xs.ensures.sight ∙ ap (λ t. after_names (sight_in c.args.given.now c.args.c.now) t (plain_names c.args.ds.now)) c.line_type-ty.ensures.value)
+    ∙ ap declaration_seen (c.in_ok-typed.ensures.sight ∙ ap (λ t. after_names (sight_in c.args.given.now c.args.sight.now) t (plain_names c.args.declared.now)) c.line_type-ty.ensures.value)
