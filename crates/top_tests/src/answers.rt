@@ -38,7 +38,7 @@ pub struct Row<'a> {
     pub puts: Option<u64>,
     /// What is put.
     pub text: &'a str,
-    /// Names, and what they hold afterwards.
+    /// Names, and what they hold afterwards. Every other name of `before` holds what it held.
     pub after: &'a [(&'a str, Held<'a>)],
 }
 
@@ -143,6 +143,36 @@ fn are_held(files: &MemFiles, after: &[(&str, Held)]) -> bool {
     true
 }
 
+fn is_told(name: &str, after: &[(&str, Held)]) -> bool {
+    for (other, _held) in after {
+        if *other == name {
+            return true;
+        }
+    }
+    false
+}
+
+/// What a name held at first.
+fn held_before<'a>(name: &str, before: &[(&str, &'a [u8])]) -> Option<&'a [u8]> {
+    let mut held = None;
+    for (other, bytes) in before {
+        if *other == name {
+            held = Some(*bytes);
+        }
+    }
+    held
+}
+
+/// Whether each name that held something, and of which nothing is told, holds it still.
+fn are_kept(files: &MemFiles, before: &[(&str, &[u8])], after: &[(&str, Held)]) -> bool {
+    for (name, _bytes) in before {
+        if !is_told(name, after) && files.get(name) != held_before(name, before) {
+            return false;
+        }
+    }
+    true
+}
+
 fn are_so_many(found: u64, puts: Option<u64>) -> bool {
     match puts {
         None => true,
@@ -155,6 +185,7 @@ fn is_as(found: &Outcome, row: &Row) -> bool {
         && are_so_many(found.out.calls(), row.puts)
         && found.out.bytes() == row.text.as_bytes()
         && are_held(&found.files, row.after)
+        && are_kept(&found.files, row.before, row.after)
 }
 
 /// Whether what is to come of a row does.

@@ -6,7 +6,7 @@ ghost use Rattle.world_core.specs.Calls.{AreServing};
 
 use crate::answers::{Failing, Held, Row, comes};
 use crate::games;
-use crate::samples::{FIRST_SUM, ROUNDS, SEVEN};
+use crate::samples::{FIRST_SUM, ROUNDS, SEVEN, TICK};
 use hook_table::Hooks;
 use nwq_top::Status;
 use nwq_value::NoMemory;
@@ -61,9 +61,12 @@ const COMPILES: &[Cut] = &[
 
 const NO_FILE: &[(&str, Held)] = &[("tick.ncs", Held::Nothing), ("f.git", Held::Nothing)];
 
-const NO_AREA: &[(&str, Held)] = &[("tick.ncs", Held::Something), ("f.git", Held::Nothing)];
+const NO_AREA: &[(&str, Held)] = &[("tick.ncs", Held::Bytes(TICK)), ("f.git", Held::Nothing)];
 
-const AN_AREA: &[(&str, Held)] = &[("tick.ncs", Held::Something), ("f.git", Held::Bytes(SEVEN))];
+const AN_AREA: &[(&str, Held)] = &[
+    ("tick.ncs", Held::Bytes(TICK)),
+    ("f.git", Held::Bytes(SEVEN)),
+];
 
 /// The lines of the play of a guard's rounds.
 const LINES: &str =

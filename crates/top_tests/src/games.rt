@@ -4,7 +4,10 @@ ghost use Rattle.std.specs.Prelude.{map};
 ghost use Rattle.world_core.specs.Calls.{AreServing};
 
 use crate::answers::{Failing, Held, Row, comes};
-use crate::samples::{BROKEN, FIRST_SUM, GUARD, NOTHING, ROUNDS, SEVEN, SUM, TREE};
+use crate::samples::{
+    BROKEN, FIRST_SUM, GUARD, LARGE_FILL, LARGE_FRONT, LARGE_REST, NOTHING, ROUNDS, SEVEN, SUM,
+    TICK, TREE, repeated,
+};
 use hook_table::Hooks;
 use nwq_top::Status;
 use nwq_value::NoMemory;
@@ -58,7 +61,10 @@ pub const DONE: &[Row] = &[
         puts: Some(5),
         text: "0 #1 speak round 6\n6000 #1 print 6\n6000 #1 speak round 7\n12000 #1 print 7\n\
             end done clock 12000 entries 6 instructions 64\n",
-        after: &[("tick.ncs", Held::Something), ("f.git", Held::Bytes(SEVEN))],
+        after: &[
+            ("tick.ncs", Held::Bytes(TICK)),
+            ("f.git", Held::Bytes(SEVEN)),
+        ],
     },
     Row {
         line: "play h.nss a.git x.plan f.git",
@@ -281,6 +287,72 @@ pub fn first_refused(
             after,
         };
         if !comes(alloc, &row, hooks)? {
+            return Ok(Some(place));
+        }
+    }
+    Ok(None)
+}
+
+/// Scripts that are played over an area as large as a file may be, how the plays end, what they
+/// print, and whether the area that is left is written. A new variable takes 153 bytes: with its
+/// table a field of 12 bytes, an index of 4, a label of 16 and a list of 8, and its entry a struct
+/// of 12, three fields of 36, their indices of 12 and labels of 48, and a name of 5.
+const LARGE: &[(&[u8], Status, &str, bool)] = &[
+    (
+        b"void main() { PrintInteger(7); }",
+        Status::Done,
+        "0 #1 print 7\nend done clock 0 entries 1 instructions 5\n",
+        true,
+    ),
+    (
+        b"void main() { SetLocalInt(OBJECT_SELF, \"n\", 1); PrintInteger(7); }",
+        Status::Area,
+        "0 #1 print 7\nrefused f.git large 16777369\n",
+        false,
+    ),
+];
+
+/// Whether the play of a script over this area ends so, prints this, and leaves this area.
+fn plays_over(
+    alloc: Global,
+    area: &[u8],
+    source: &[u8],
+    status: Status,
+    text: &str,
+    left: &[u8],
+    hooks: &Hooks,
+) -> Result<bool, NoMemory>
+    requires hooks { AreServing (map (λ h. h.known) hooks.now.all.items) }
+{
+    let row = Row {
+        line: "play - a.git x.plan f.git",
+        before: &[
+            ("x.plan", b"NWQ PLAN 1\nscript s\nstart 0 0 s guard\n"),
+            ("s.nss", source),
+            ("a.git", area),
+            ("f.git", b"before"),
+        ],
+        failing: Failing::Nothing,
+        status,
+        puts: Some(2),
+        text,
+        after: &[("f.git", Held::Bytes(left))],
+    };
+    comes(alloc, &row, hooks)
+}
+
+/// The place of the first script of which something else comes, if there is one.
+pub fn first_large(alloc: Global, hooks: &Hooks) -> Result<Option<usize>, NoMemory>
+    requires hooks { AreServing (map (λ h. h.known) hooks.now.all.items) }
+{
+    let area = repeated(alloc, LARGE_FRONT, 0, LARGE_FILL, LARGE_REST)?;
+    for (place, (source, status, text, written)) in LARGE.iter().enumerate() {
+        let left = if *written {
+            area.as_slice()
+        } else {
+            b"before".as_slice()
+        };
+        if !plays_over(alloc, area.as_slice(), source, *status, text, left, hooks)? {
             return Ok(Some(place));
         }
     }

@@ -41,13 +41,14 @@ fn of_files(alloc: Global, hooks: &Hooks) -> Result<[Option<usize>; 4], NoMemory
 }
 
 /// The same of plays of plans.
-fn of_games(alloc: Global, hooks: &Hooks) -> Result<[Option<usize>; 3], NoMemory>
+fn of_games(alloc: Global, hooks: &Hooks) -> Result<[Option<usize>; 4], NoMemory>
     requires hooks { AreServing (map (λ h. h.known) hooks.now.all.items) }
 {
     let played = first_wrong(alloc, games::DONE, hooks)?;
     let ended = first_wrong(alloc, games::ENDED, hooks)?;
     let refused = games::first_refused(alloc, games::REFUSED, hooks)?;
-    Ok([played, ended, refused])
+    let large = games::first_large(alloc, hooks)?;
+    Ok([played, ended, refused, large])
 }
 
 /// The same of words that are no command, files that aren't there or are too long, and the whole
@@ -67,7 +68,7 @@ fn all_hold(alloc: Global, rt: &impl Abort, hooks: &Hooks) -> Result<(), Fail>
 {
     assert!(rt; example::plays(alloc, hooks)?);
     assert_eq!(rt; cuts::first_wrong(alloc, hooks)?, None);
-    assert_eq!(rt; of_games(alloc, hooks)?, [None; 3]);
+    assert_eq!(rt; of_games(alloc, hooks)?, [None; 4]);
     assert_eq!(rt; of_files(alloc, hooks)?, [None; 4]);
     assert_eq!(rt; of_stops(alloc, hooks)?, [None; 4]);
     assert_eq!(rt; of_scripts(alloc, hooks)?, [None; 6]);

@@ -1,5 +1,8 @@
 //! Files that many rows are over.
 
+use nwq_value::NoMemory;
+use std::alloc::Global;
+
 /// A GFF file, and an area without objects: one struct 4294967295 with a BYTE `A` of 7.
 pub const TREE: &[u8] = b"\
     GIT V3.28\0\0\0\x01\0\0\0D\0\0\0\x01\0\0\0P\0\0\0\x01\0\0\0\
@@ -49,6 +52,21 @@ pub const SEVEN: &[u8] = b"\
     \x01\0\0\0\x02\0\0\0\x03\0\0\0\x04\0\0\0\x05\0\0\0\x06\0\0\0\
     \x01\0\0\0\x01\0\0\0\x01\0\0\0\x02\0\0\0";
 
+/// The front of an area as large as a file may be: the guard with a VOID `Fill` beside the list.
+pub const LARGE_FRONT: &[u8] = b"\
+    GIT V3.28\0\0\0\x02\0\0\0P\0\0\0\x04\0\0\0\x80\0\0\0\x04\0\0\0\xc0\0\0\0(\xff\xff\0\
+    \xe8\xff\xff\0\x10\0\0\0\xf8\xff\xff\0\x08\0\0\0\xff\xff\xff\xff\0\0\0\0\x02\0\0\0\
+    \x04\0\0\0\x08\0\0\0\x02\0\0\0\x0f\0\0\0\0\0\0\0\0\0\0\0\x0d\0\0\0\x01\0\0\0\0\0\0\0\
+    \x0a\0\0\0\x02\0\0\0\x1a\xff\xff\0\x0b\0\0\0\x03\0\0\0#\xff\xff\0Creature List\0\0\0\
+    Fill\0\0\0\0\0\0\0\0\0\0\0\0Tag\0\0\0\0\0\0\0\0\0\0\0\0\0ScriptHeartbeat\0\x16\xff\xff\0";
+
+/// How many bytes of the VOID stand between front and rest.
+pub const LARGE_FILL: usize = 16_776_982;
+
+/// The rest of that area.
+pub const LARGE_REST: &[u8] = b"\
+    \x05\0\0\0guard\x04tick\0\0\0\0\x01\0\0\0\x02\0\0\0\x03\0\0\0\x01\0\0\0\x01\0\0\0";
+
 /// The file of bytecode of `void main() {}`: a call of the code behind it, and two returns.
 pub const NOTHING: &[u8] = b"NCS V1.0B\0\0\0\x17\x1e\0\0\0\0\x08 \0 \0";
 
@@ -81,3 +99,30 @@ pub const ROUNDS: &[(&str, &[u8])] = &[
     ),
     ("a.git", FIVE),
 ];
+
+/// The file of bytecode of `tick` under the built-in header: `Say` begins at byte 21, `main` at 70.
+pub const TICK: &[u8] = b"\
+    NCS V1.0B\0\0\0\xcb\x1e\0\0\0\0\x39 \0\x04\x05\0\x06round \
+    \x03\x01\xff\xff\xff\xf8\0\x04\x05\0\0\x1d\x01\x14#\x01\x01\xff\xff\xff\xf4\0\x04\
+    \x1b\0\xff\xff\xff\xf8 \0\x1b\0\xff\xff\xff\xfc \0\x04\x05\0\x05count\
+    \x04\x06\0\0\0\0\x05\0\0\x11\x02\x04\x03\0\0\0\x01\x14 \
+    \x03\x01\xff\xff\xff\xfc\0\x04\x04\x05\0\x05count\x04\x06\0\0\0\0\x05\0\0\x12\x03\
+    \x04\x03\0\0\0\0\x02\x05\x03\x01\xff\xff\xff\xf4\0\x04\x1e\0\xff\xff\xff\x87\
+    \x05\0\0\x0c\x02,\x10\0\0\0\0\0\0\0\x04\x1d\0\0\0\0\x15\
+    \x03\x01\xff\xff\xff\xfc\0\x04\x05\0\0\x04\x01 \0\x04\x03\0\0\x17p\x05\0\0\x07\x02\
+    \x1b\0\xff\xff\xff\xfc \0";
+
+/// A front, so many of a byte, and a rest.
+pub fn repeated(
+    alloc: Global,
+    front: &[u8],
+    byte: u8,
+    count: usize,
+    rest: &[u8],
+) -> Result<Vec<u8>, NoMemory> {
+    let mut bytes = Vec::from_slice(alloc, front)?;
+    let middle = vec![in alloc; byte; count]?;
+    bytes.extend_from_slice(middle.as_slice())?;
+    bytes.extend_from_slice(rest)?;
+    Ok(bytes)
+}

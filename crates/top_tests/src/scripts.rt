@@ -4,7 +4,7 @@ ghost use Rattle.std.specs.Prelude.{map};
 ghost use Rattle.world_core.specs.Calls.{AreServing};
 
 use crate::answers::{Failing, Held, Row, comes, outcome_of};
-use crate::samples::{NOTHING, SUM};
+use crate::samples::{NOTHING, SUM, repeated};
 use hook_table::Hooks;
 use nwq_top::Status;
 use nwq_value::NoMemory;
@@ -463,21 +463,6 @@ const SIZES: &[(&[u8], u8, usize, &[u8], Status, &str)] = &[
     ),
 ];
 
-/// A front, so many of a byte, and a rest.
-fn repeated(
-    alloc: Global,
-    front: &[u8],
-    byte: u8,
-    count: usize,
-    rest: &[u8],
-) -> Result<Vec<u8>, NoMemory> {
-    let mut bytes = Vec::from_slice(alloc, front)?;
-    let middle = vec![in alloc; byte; count]?;
-    bytes.extend_from_slice(middle.as_slice())?;
-    bytes.extend_from_slice(rest)?;
-    Ok(bytes)
-}
-
 /// The place of the first script of some size of which something else comes, if there is one.
 pub fn first_sized(alloc: Global, hooks: &Hooks) -> Result<Option<usize>, NoMemory>
     requires hooks { AreServing (map (λ h. h.known) hooks.now.all.items) }
@@ -500,7 +485,45 @@ pub fn first_sized(alloc: Global, hooks: &Hooks) -> Result<Option<usize>, NoMemo
     Ok(None)
 }
 
-/// Plays that a limit ends, which are told whole, and files that are compiled.
+/// The example `examples/module`.
+const MODULE: &[(&str, &[u8])] = &[
+    (
+        "greet.nss",
+        b"\
+// A greeting at once, and a second one two seconds later. The include has the functions.
+#include \"inc_lines\"
+
+void main()
+{
+    int nGoblins = 1;
+    Greet(Count(nGoblins, \"goblin\"));
+    nGoblins = nGoblins + 2;
+    DelayCommand(2000, Greet(Count(nGoblins, \"goblin\")));
+    nGoblins = 0;    // too late: the delayed call keeps the 3
+}
+",
+    ),
+    (
+        "inc_lines.nss",
+        b"\
+// Lines for scripts of this module.
+
+// \"1 goblin\", \"3 goblins\"
+string Count(int nCount, string sWhat)
+{
+    if (nCount == 1) return \"1 \" + sWhat;
+    return IntToString(nCount) + \" \" + sWhat + \"s\";
+}
+
+void Greet(string sWho)
+{
+    SpeakString(\"Well met, \" + sWho + \"!\");
+}
+",
+    ),
+];
+
+/// Plays that are told whole, those that a limit ends among them, and files that are compiled.
 pub const ENDED_AND_COMPILED: &[Row] = &[
     Row {
         line: "run - p",
@@ -539,6 +562,19 @@ pub const ENDED_AND_COMPILED: &[Row] = &[
         text: "0 #0 call GetFoo(\"a b\",3)\n0 #0 print 0\n\
             end done clock 0 entries 1 instructions 7\n",
         after: &[],
+    },
+    Row {
+        line: "run - greet",
+        before: MODULE,
+        failing: Failing::Nothing,
+        status: Status::Done,
+        puts: Some(3),
+        text: "\
+0 #0 speak Well met, 1 goblin!
+2000 #0 speak Well met, 3 goblins!
+end done clock 2000 entries 2 instructions 71
+",
+        after: &[("greet.ncs", Held::Nothing)],
     },
     Row {
         line: "compile - p",
