@@ -136,26 +136,78 @@ void SignalEvent(object oObject, event evToRun);\n\
 json JsonObject(string sKey=\"\", json jValue=JSON_NULL);\n\
 int SqlStep(sqlquery sqlQuery, object = NOBODY);\n";
 
+/// Lines of which the game's own header has hundreds: what stands before a number, and behind it.
+const MORE: [(&str, &str); 6] = [
+    ("int MORE_", " = 0x10;"),
+    ("float RATE_", " = 0.5;"),
+    ("vector PLACE_", " = [0.0,-1.0,0.0];"),
+    (
+        "void ActionMore",
+        "(object oTarget=OBJECT_SELF, int bRun=FALSE, float fRate=1.0);",
+    ),
+    (
+        "effect EffectMore",
+        "(int nMore, vector vPlace=[0.0,0.0,0.0], string sName=GREETING);",
+    ),
+    (
+        "json JsonMore",
+        "(sqlquery sqlQuery, json jMore=JSON_NULL, int nFilter=NO_FILTER);",
+    ),
+];
+
+fn add_more(alloc: Global, text: &mut Vec<u8>, number: u32) -> Result<(), NoMemory> {
+    for (front, rest) in MORE {
+        let line = format!(in alloc; "{front}{number}{rest}\n")?;
+        text.extend_from_slice(line.as_bytes())?;
+    }
+    Ok(())
+}
+
+/// The header, with 600 lines more, of which 300 are of functions.
+fn with_more(alloc: Global) -> Result<Vec<u8>, NoMemory> {
+    let mut text = Vec::from_slice(alloc, ENGINE)?;
+    for number in 0u32..100 {
+        add_more(alloc, &mut text, number)?;
+    }
+    Ok(text)
+}
+
+/// Six of its functions: name, number, result and role.
+const SIX: [(&[u8], u16, Ty, Role); 6] = [
+    (b"Random", 0, Ty::Int, Role::Built(0)),
+    (b"AssignCommand", 2, Ty::Void, Role::Built(6)),
+    (b"GetNearest", 4, Ty::Object, Role::World),
+    (b"EffectBeam", 6, Ty::Effect, Role::Uncallable),
+    (b"SignalEvent", 9, Ty::Void, Role::Built(39)),
+    (b"SqlStep", 11, Ty::Int, Role::Uncallable),
+];
+
+/// Whether the table has the six, each under its number.
+fn has_six(table: &Table) -> bool {
+    for (name, number, result, role) in SIX {
+        if table.by_name(name) != Some(number) || function_of(table, name) != Some((result, role)) {
+            return false;
+        }
+    }
+    true
+}
+
 #[test]
 fn the_games_functions(rt: HostRuntime) -> Result<(), Fail> {
-    let table = table_of(rt.alloc(), ENGINE).ok_or("no header")?;
-    assert_eq!(rt; table.count(), 12);
-    assert_eq!(rt; table.by_name(b"SignalEvent"), Some(9));
+    let text = with_more(rt.alloc())?;
+    let table = table_of(rt.alloc(), text.as_slice()).ok_or("no header")?;
+    assert_eq!(rt; table.count(), 312);
+    assert!(rt; has_six(&table));
+    assert_eq!(rt; table.by_name(b"JsonMore99"), Some(311));
+    assert!(rt; is_self(param_of(&table, b"GetNearest", 1)));
     assert_eq!(rt;
-        function_of(&table, b"SignalEvent"),
-        Some((Ty::Void, Role::Built(39)))
+        int_default(param_of(&table, b"GetNearest", 3)),
+        Some((Ty::Int, Some(-1)))
     );
+    assert!(rt; is_self(param_of(&table, b"ActionMore99", 0)));
     assert_eq!(rt;
-        function_of(&table, b"GetNearest"),
-        Some((Ty::Object, Role::World))
-    );
-    assert_eq!(rt;
-        function_of(&table, b"SqlStep"),
-        Some((Ty::Int, Role::Uncallable))
-    );
-    assert_eq!(rt;
-        function_of(&table, b"EffectBeam"),
-        Some((Ty::Effect, Role::Uncallable))
+        int_default(param_of(&table, b"ActionMore99", 1)),
+        Some((Ty::Int, Some(0)))
     );
     Ok(())
 }
