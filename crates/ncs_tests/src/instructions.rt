@@ -1,6 +1,3 @@
-ghost use Rattle.std.specs.Prelude.{◌<◌, ◌≤◌, length};
-ghost use Rattle.nwq_value.specs.Limits.{file_limit};
-
 use ncs_code::{CodeFault, decode, opcode_named};
 use nwq_value::NoMemory;
 use std::alloc::Global;
@@ -78,10 +75,10 @@ const ROWS: [(u8, &[u8], &[u8]); 47] = [
 const STATE: [u8; 10] = [0x2c, 0x10, 0, 0, 0, 0, 0, 0, 0, 0];
 
 /// Are these bytes one instruction, which is spelled so again and has the name of their opcode?
-fn reads_back(alloc: Global, bytes: &[u8]) -> Result<bool, NoMemory>
-    requires some { 0 < length bytes.now }
-    requires bounded { length bytes.now ≤ file_limit }
-{
+fn reads_back(alloc: Global, bytes: &[u8]) -> Result<bool, NoMemory> {
+    if bytes.is_empty() || bytes.len() > 20 {
+        return Ok(false);
+    }
     match decode(bytes, 0) {
         Err(_) => Ok(false),
         Ok((op, size)) => {
@@ -94,17 +91,25 @@ fn reads_back(alloc: Global, bytes: &[u8]) -> Result<bool, NoMemory>
     }
 }
 
+/// Does the row read back at each of its types?
+fn is_read_back(alloc: Global, row: &(u8, &[u8], &[u8])) -> Result<bool, NoMemory> {
+    let (code, kinds, arguments) = row;
+    for kind in *kinds {
+        let mut bytes = Vec::new(alloc);
+        bytes.push(*code)?;
+        bytes.push(*kind)?;
+        bytes.extend_from_slice(arguments)?;
+        if !reads_back(alloc, bytes.as_slice())? {
+            return Ok(false);
+        }
+    }
+    Ok(true)
+}
+
 #[test]
 fn every_row_at_every_type(rt: HostRuntime) -> Result<(), Fail> {
-    for (code, kinds, arguments) in &ROWS {
-        for kind in *kinds {
-            let mut bytes = Vec::new(rt.alloc());
-            bytes.push(*code)?;
-            bytes.push(*kind)?;
-            bytes.extend_from_slice(arguments)?;
-            assert!(rt; 0 < bytes.len() && bytes.len() < 20);
-            assert!(rt; reads_back(rt.alloc(), bytes.as_slice())?);
-        }
+    for row in &ROWS {
+        assert!(rt; is_read_back(rt.alloc(), row)?, "at {}", row.0);
     }
     Ok(())
 }
