@@ -1,16 +1,19 @@
 ghost use Rattle.std.specs.Prelude.{◌≡◌, ◌≤◌, [], map, IsTrue, IfOk};
 ghost use Rattle.hook_table.specs.Standard.{function_numbered, IsAnswer};
-ghost use Rattle.nwq_work.specs.Work.{Does, ending};
+ghost use Rattle.nwq_work.specs.Work.{IsCut, Does, ending};
 ghost use Rattle.nwq_work.specs.Counts.{Counted, Tallies, KeepsBut};
+ghost use Rattle.words_meaning.specs.Reading.{AreBytes};
 ghost use Rattle.nwq_top.specs.Words.{form_of};
 ghost use Rattle.nwq_top.specs.Command.{work_with, whole_work, MayWrite};
 ghost use Rattle.nwq_top.specs.Endings.{ComesOf};
+ghost use Rattle.nwq_top.specs.Meaning.{MeansWhole};
 ghost use Rattle.nwq_top.specs.Program.{status_number, status_numbered, words_of, TellsUsage};
 ghost use Rattle.nwq.specs.Ending.{end_number};
 
 use hook_table::{Call, Hooks, cell_call};
 use nwq_hooks::{all_are_put, call_function, put_cell_hook, put_hook};
 use nwq_outside::{Files, Sink};
+use nwq_top::laws::whole_means;
 use nwq_top::{nwq_program, program_tables};
 use nwq_value::{Args, NoMemory, Value};
 use std::alloc::Global;
@@ -71,11 +74,10 @@ fn run_with<F: Files, S: Sink, E: Sink>(
     Ok(nwq_program(alloc, all, files, out, err, &hooks))
 }
 
-/// The whole program, given all its words, the files, standard output and standard error: the number
-/// with which it ends. It reads the tables that the words give, and does what the words say with
-/// hooks that look cells up in them.
+/// Reads the tables that the words give, and does what the words say with hooks that look cells up
+/// in them: the number with which the program ends.
 #[tactic(auto, using(crate::proofs::EndLemmas::program_ends))]
-pub(crate) fn run_all<F: Files, S: Sink, E: Sink>(
+fn run_in_order<F: Files, S: Sink, E: Sink>(
     alloc: Global,
     all: &[String],
     files: &mut F,
@@ -103,4 +105,38 @@ pub(crate) fn run_all<F: Files, S: Sink, E: Sink>(
             Ok(number) => number,
         },
     }
+}
+
+/// The whole program, given all its words, the files, standard output and standard error: the number
+/// with which it ends.
+pub(crate) fn run_all<F: Files, S: Sink, E: Sink>(
+    alloc: Global,
+    all: &[String],
+    files: &mut F,
+    out: &mut S,
+    err: &mut E,
+) -> u8
+    ensures number { status_number (status_numbered result) ≡ result }
+    ensures does { IsTrue F.tells → IsTrue S.tells →
+        Does (whole_work (form_of (words_of all.now))) (F.contents files.old) (S.taken out.old)
+        (ending (status_numbered result)) (F.contents files.new) (S.taken out.new) }
+    // Where the files also hold bytes: unless a failed call or want of memory cut it short, it
+    // refused the list or the table that is to be refused, or else did what the words mean, with
+    // cells looked up in exactly the tables that they give.
+    ensures means { IsTrue F.tells → IsTrue S.tells → AreBytes (F.contents files.old) →
+        (IsCut (ending (status_numbered result)) → ⊥) →
+        MeansWhole (form_of (words_of all.now)) (F.contents files.old) (S.taken out.old)
+        (ending (status_numbered result)) (F.contents files.new) (S.taken out.new) }
+    ensures counts { Tallies (ending (status_numbered result))
+        (Counted (F.faults files.old) (F.absences files.old) (F.longs files.old) (S.faults out.old))
+        (Counted (F.faults files.new) (F.absences files.new)
+        (F.longs files.new) (S.faults out.new)) }
+    ensures names { KeepsBut (MayWrite (form_of (words_of all.now)))
+        (F.contents files.old) (F.contents files.new) }
+    ensures only { ComesOf (form_of (words_of all.now)) (status_numbered result) }
+    ensures usage { IsTrue E.tells →
+        TellsUsage (status_numbered result) (E.taken err.old) (E.taken err.new) }
+{
+    whole_means();
+    run_in_order(alloc, all, files, out, err)
 }

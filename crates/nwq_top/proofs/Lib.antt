@@ -1,4 +1,5 @@
 mod EndingLemmas
+mod GivenTables
 mod Meaning
 mod Rows
 mod RunLemmas
@@ -6,3 +7,4 @@ mod Sure
 mod WordLemmas
 mod Steps
 mod Usage
+mod WholeMeaning

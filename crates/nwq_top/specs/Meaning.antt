@@ -1,16 +1,21 @@
--- What the words of a command mean.
+-- What the words of a command mean, and the whole program.
 use Rattle.std.specs.Prelude.{◌≤◌, ℕ, List, Result}
 use Rattle.nwq_outside.specs.Outside.{Contents}
+use Rattle.table_2da.specs.declared.tables.Named.{Named}
+use Rattle.table_2da.specs.Look.{cell_of}
 use Rattle.engine_rows.specs.Pure.{CellLookup}
 use Rattle.play_generator.specs.Made.{number_limit}
 use Rattle.nwq_work.specs.declared.status.Status.{Status}
+use Rattle.nwq_work.specs.Refusal.{Refusal}
 use Rattle.nwq_work.specs.Work.{IsCut, Does, Finished}
 use Rattle.words_meaning.specs.Reading.{AreBytes}
+use Rattle.words_meaning.specs.Refusing.{IsRefused}
 use Rattle.words_meaning.specs.Runs.{MeansRun, MeansCompile}
 use Rattle.words_meaning.specs.Plans.{MeansPlay}
 use Rattle.generated_meaning.specs.Generated.{MeansGenerate}
-use Rattle.nwq_top.specs.Words.{Form, Run, Compile, Tree, Check, Disassemble, Assemble, Play, Generate, NoForm}
-use Rattle.nwq_top.specs.Command.{work_of}
+use Rattle.nwq_top.specs.Words.{Form, Run, Compile, Tree, Check, Disassemble, Assemble, Play, Generate, NoForm, list_of}
+use Rattle.nwq_top.specs.Command.{work_of, whole_work}
+use Rattle.nwq_top.specs.GivenTables.{GivesTables, RefusesGiven, TablesCome}
 
 -- What a command that has source texts does, from what the files hold and the bytes taken to those after it: in the words of the language,
 -- where cells of tables are looked up so. The other forms have no source text.
@@ -29,3 +34,16 @@ Means cell NoForm c t r c' t' = Unit {0}
 abbrev pub WorkMeans : Type 0
 WorkMeans = (cell : CellLookup) (form : Form) (c : Contents) (t : List ℕ) (r : Result Finished Status) (c' : Contents) (t' : List ℕ) → AreBytes c → (IsCut r → ⊥)
     → Does (work_of cell form) c t r c' t' → Means cell form c t r c' t'
+
+-- What the whole program does, unless a failed call or want of memory cut it. It reads the tables that its words give, which changes no file
+-- and puts nothing. Where they are refused, it puts the one line of that and does no more. Else it does what the words mean, from the same
+-- files and bytes taken, where cells are looked up in exactly these tables.
+pub record MeansWhole (form : Form) (c : Contents) (t : List ℕ) (r : Result Finished Status) (c' : Contents) (t' : List ℕ) : Type 0 where
+  pub comes : TablesCome c (list_of form)
+  pub refused : (why : Refusal) → RefusesGiven c (list_of form) why → IsRefused why c t r c' t'
+  pub meant : (tables : List Named) → GivesTables c (list_of form) tables → Means (cell_of tables) form c t r c' t'
+
+-- whatever does the work of the whole program does what it means, likewise
+abbrev pub WholeMeans : Type 0
+WholeMeans = (form : Form) (c : Contents) (t : List ℕ) (r : Result Finished Status) (c' : Contents) (t' : List ℕ) → AreBytes c → (IsCut r → ⊥)
+    → Does (whole_work form) c t r c' t' → MeansWhole form c t r c' t'

@@ -1,7 +1,7 @@
 //! Laws about the work of commands, as the contract of a function that does nothing.
 
 ghost use Rattle.nwq_top.specs.Laws.{OneOutcome, Prefixes, OneWhole, WholePrefixes};
-ghost use Rattle.nwq_top.specs.Meaning.{WorkMeans};
+ghost use Rattle.nwq_top.specs.Meaning.{WorkMeans, WholeMeans};
 
 use generated_meaning::generates_mean;
 use nwq_checks::laws::one_check;
@@ -42,4 +42,14 @@ pub fn work_means()
     compiles_mean();
     plays_mean();
     generates_mean();
+}
+
+/// Whatever does the work of the whole program does what it means: the tables that the words give
+/// are refused where they are to be, or else the words do what they mean, with cells looked up in
+/// exactly these tables.
+pub fn whole_means()
+    ensures means { WholeMeans }
+{
+    work_means();
+    one_set_of_tables();
 }

@@ -9,8 +9,8 @@
 //! files `nwq_files`'.
 //!
 //! The tables that its scripts look cells up in are [`nwq_tables`]', which comes first: the tables
-//! are read, hooks are made with them, and `nwq_main` is handed these hooks and the same words. See
-//! docs/COMMANDS.md and docs/THEOREMS.md.
+//! are read, hooks are made with them, and `nwq_main` is handed these hooks and the same words. What
+//! both mean together says the law [`laws::whole_means`]. See docs/COMMANDS.md and docs/THEOREMS.md.
 #![tactic(auto)]
 
 mod command;

@@ -1,17 +1,10 @@
-use Rattle.std.proofs.Common.{[], subst}
-use Rattle.nwq_work.specs.Counts.{KeepsBut}
+use Rattle.nwq_work.specs.Work.{ending}
 use Rattle.nwq_top.specs.Words.{form_of}
-use Rattle.nwq_top.specs.Command.{MayWrite}
 use Rattle.nwq_top.specs.Program.{status_numbered, words_of}
-use Rattle.nwq.proofs.EndLemmas.{none_refused, refusal_comes}
 use Rattle.nwq.proofs.whole.run_all.Goals as goal
 
-pub returns-in-Err-clause-only : goal.returns-in-Err-clause-only
-returns-in-Err-clause-only g c =
-    refusal_comes (form_of (words_of c.args.all.now)) (status_numbered c.in-Err.number) (λ list. none_refused c.in-Err.number [] (c.in-Err.ensures.none list))
-    c.in-Err.ensures.only
-
-pub returns-in-Err-run_with-clause-names : goal.returns-in-Err-run_with-clause-names
-returns-in-Err-run_with-clause-names g c =
-    subst (λ contents. KeepsBut (MayWrite (form_of (words_of c.args.all.now))) contents (g.F.Files.contents c.run_with.new.files)) c.program_tables.ensures.same
-    c.run_with.ensures.names
+pub returns-clause-means : goal.returns-clause-means
+returns-clause-means g c = λ files_tell sink_tells held whole.
+    c.whole_means.ensures.means (form_of (words_of c.args.all.now)) (g.F.Files.contents c.args.files.now) (g.S.Sink.taken c.args.out.now)
+    (ending (status_numbered c.run_in_order.result)) (g.F.Files.contents c.run_in_order.new.files) (g.S.Sink.taken c.run_in_order.new.out) held whole
+    (c.run_in_order.ensures.does files_tell sink_tells)
