@@ -182,62 +182,71 @@ const SIX: [(&[u8], u16, Ty, Role); 6] = [
     (b"SqlStep", 11, Ty::Int, Role::Uncallable),
 ];
 
-/// Whether the table has the six, each under its number.
-fn has_six(table: &Table) -> bool {
+/// Whether the table has the six, each under its number, and all functions.
+fn has_functions(table: &Table) -> bool {
     for (name, number, result, role) in SIX {
         if table.by_name(name) != Some(number) || function_of(table, name) != Some((result, role)) {
             return false;
         }
     }
-    true
+    table.count() == 312 && table.by_name(b"JsonMore99") == Some(311)
 }
 
-#[test]
-fn the_games_functions(rt: HostRuntime) -> Result<(), Fail> {
-    let text = with_more(rt.alloc())?;
-    let table = table_of(rt.alloc(), text.as_slice()).ok_or("no header")?;
-    assert_eq!(rt; table.count(), 312);
-    assert!(rt; has_six(&table));
-    assert_eq!(rt; table.by_name(b"JsonMore99"), Some(311));
-    assert!(rt; is_self(param_of(&table, b"GetNearest", 1)));
-    assert_eq!(rt;
-        int_default(param_of(&table, b"GetNearest", 3)),
-        Some((Ty::Int, Some(-1)))
-    );
-    assert!(rt; is_self(param_of(&table, b"ActionMore99", 0)));
-    assert_eq!(rt;
-        int_default(param_of(&table, b"ActionMore99", 1)),
-        Some((Ty::Int, Some(0)))
-    );
-    Ok(())
-}
+/// Parameters of its functions that are no objects: type, and default where that is an int.
+const DEFAULTS: [(&[u8], usize, (Ty, Option<i32>)); 8] = [
+    (b"PrintFloat", 1, (Ty::Int, Some(18))),
+    (b"GetNearest", 3, (Ty::Int, Some(-1))),
+    (b"EffectBeam", 2, (Ty::Int, Some(0))),
+    (b"EffectBeam", 3, (Ty::Refused, None)),
+    (b"Filter", 0, (Ty::Int, Some(127))),
+    (b"Filter", 2, (Ty::Int, Some(-16))),
+    (b"SignalEvent", 1, (Ty::Event, None)),
+    (b"ActionMore99", 1, (Ty::Int, Some(0))),
+];
 
-#[test]
-fn the_games_defaults(rt: HostRuntime) -> Result<(), Fail> {
-    let table = table_of(rt.alloc(), ENGINE).ok_or("no header")?;
-    assert!(rt; is_self(param_of(&table, b"GetNearest", 1)));
-    for (name, i, want) in [
-        (b"PrintFloat".as_slice(), 1, (Ty::Int, Some(18))),
-        (b"GetNearest".as_slice(), 3, (Ty::Int, Some(-1))),
-        (b"EffectBeam".as_slice(), 2, (Ty::Int, Some(0))),
-        (b"EffectBeam".as_slice(), 3, (Ty::Refused, None)),
-        (b"Filter".as_slice(), 0, (Ty::Int, Some(127))),
-        (b"Filter".as_slice(), 2, (Ty::Int, Some(-16))),
-        (b"SignalEvent".as_slice(), 1, (Ty::Event, None)),
-    ] {
-        assert_eq!(rt; int_default(param_of(&table, name, i)), Some(want));
+/// Whether the table's functions have these defaults.
+fn has_defaults(table: &Table) -> bool {
+    for (name, i, want) in DEFAULTS {
+        if int_default(param_of(table, name, i)) != Some(want) {
+            return false;
+        }
     }
-    Ok(())
+    is_self(param_of(table, b"GetNearest", 1)) && is_self(param_of(table, b"ActionMore99", 0))
+}
+
+/// Whether the table has the header's constants, and none that is no int, string or object.
+fn has_constants(table: &Table) -> bool {
+    for (name, want) in [
+        (b"TRUE".as_slice(), Some(1)),
+        (b"NO_FILTER", Some(-1)),
+        (b"ALL_BITS", Some(-1)),
+        (b"FIRST_BIT", Some(i32::MIN)),
+        (b"MORE_99", Some(16)),
+        (b"GREETING", None),
+    ] {
+        if int_of(table, name) != want {
+            return false;
+        }
+    }
+    table.constant(b"ORIGIN").is_none() && table.constant(b"PLACE_99").is_none()
+}
+
+/// What the table of a text has of the header's functions, defaults and constants.
+fn had(alloc: Global, text: &[u8]) -> [bool; 3] {
+    match table_of(alloc, text) {
+        Some(table) => [
+            has_functions(&table),
+            has_defaults(&table),
+            has_constants(&table),
+        ],
+        None => [false; 3],
+    }
 }
 
 #[test]
-fn the_games_constants(rt: HostRuntime) -> Result<(), Fail> {
-    let table = table_of(rt.alloc(), ENGINE).ok_or("no header")?;
-    assert_eq!(rt; int_of(&table, b"TRUE"), Some(1));
-    assert_eq!(rt; int_of(&table, b"NO_FILTER"), Some(-1));
-    assert_eq!(rt; int_of(&table, b"ALL_BITS"), Some(-1));
-    assert_eq!(rt; int_of(&table, b"FIRST_BIT"), Some(i32::MIN));
-    assert!(rt; table.constant(b"ORIGIN").is_none());
+fn the_games_header(rt: HostRuntime) -> Result<(), Fail> {
+    let text = with_more(rt.alloc())?;
+    assert_eq!(rt; had(rt.alloc(), text.as_slice()), [true; 3]);
     Ok(())
 }
 
