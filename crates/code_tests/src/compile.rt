@@ -1,4 +1,4 @@
-ghost use Rattle.std.specs.Prelude.{◌≤◌, length, IfOk, IfSome};
+ghost use Rattle.std.specs.Prelude.{◌≤◌, length, IfSome};
 ghost use Rattle.std.specs.List.{AllByRecursion};
 ghost use Rattle.nwq_value.specs.Limits.{token_limit};
 ghost use Rattle.nss_lexer.specs.Lexemes.{IsToken};
@@ -10,13 +10,14 @@ ghost use Rattle.typed_bounds.specs.Laws.{HasCode};
 use codegen_unit::generate;
 use engine_table::{built_in, read_header};
 use ncs_text::assemble;
-use nss_lexer::{Lexed, Token, next};
+use nss_lexer::Token;
 use nss_parser::parse;
 use nss_tree::Tree;
 use nss_types::type_unit;
 use nss_typing::Typed;
 use nwq_value::{NoMemory, Table};
 use std::alloc::Global;
+use test_units::tokens_of;
 use typed_bounds::laws::typed_units_have_code;
 
 /// A unit, with the listing of its file.
@@ -25,29 +26,8 @@ pub type Row = (&'static [u8], &'static [u8]);
 /// The most bytes of a text here: so a unit has few tokens.
 const MOST_BYTES: usize = 100_000;
 
-/// The tokens of a unit.
-#[tactic(auto, using(crate::proofs::Tokens::token_is, crate::proofs::Tokens::all_push))]
-fn tokens_of<'a>(alloc: Global, source: &'a [u8]) -> Result<Vec<Token<'a>>, NoMemory>
-    requires { length source.now ≤ token_limit }
-    ensures tokens { IfOk result (λ all. AllByRecursion IsToken all.items) }
-    ensures count { IfOk result (λ all. length all.items ≤ length source.now) }
-{
-    let mut all = Vec::new(alloc);
-    let mut at = 0;
-    for _turn in 0..source.len() {
-        match next(source, 0, at) {
-            Lexed::Token(token) => {
-                at = token.end;
-                all.push(token)?;
-            }
-            _ => return Ok(all),
-        }
-    }
-    Ok(all)
-}
-
 /// The tree of a unit's tokens.
-#[tactic(auto, using(crate::proofs::Tokens::tree_few))]
+#[tactic(auto, using(crate::proofs::Trees::tree_few))]
 fn parsed(alloc: Global, tokens: &[Token<'_>]) -> Option<Tree>
     requires count { length tokens.now ≤ token_limit }
     requires spelled { AllByRecursion IsToken tokens.now }

@@ -1,33 +1,8 @@
-ghost use Rattle.std.specs.Prelude.{◌≤◌, length, IfOk};
-ghost use Rattle.std.specs.List.{AllByRecursion};
-ghost use Rattle.nss_lexer.specs.Lexemes.{IsToken};
-
-use nss_lexer::{Lexed, SOURCE_BYTES, Token, next};
+use nss_lexer::SOURCE_BYTES;
 use nss_parser::{ParseFault, parse};
 use nss_tree::{Expr, Item, Stmt, Tree};
-use nwq_value::NoMemory;
 use std::alloc::Global;
-
-/// The tokens of a script.
-#[tactic(auto, using(crate::proofs::TestLaws::token_is, crate::proofs::TestLaws::all_push))]
-fn tokens_of<'a>(alloc: Global, source: &'a [u8]) -> Result<Vec<Token<'a>>, NoMemory>
-    requires { length source.now ≤ SOURCE_BYTES }
-    ensures tokens { IfOk result (λ all. AllByRecursion IsToken all.items) }
-    ensures count { IfOk result (λ all. length all.items ≤ length source.now) }
-{
-    let mut all = Vec::new(alloc);
-    let mut at = 0;
-    for _turn in 0..source.len() {
-        match next(source, 0, at) {
-            Lexed::Token(token) => {
-                at = token.end;
-                all.push(token)?;
-            }
-            _ => return Ok(all),
-        }
-    }
-    Ok(all)
-}
+use test_units::tokens_of;
 
 /// The tree of a script, which is short.
 fn tree_of(alloc: Global, source: &[u8]) -> Result<Tree, ParseFault> {

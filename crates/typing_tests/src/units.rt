@@ -1,11 +1,7 @@
 //! Small units, each with its least fault or none.
 
-ghost use Rattle.std.specs.Prelude.{◌≤◌, length, IfOk};
-ghost use Rattle.std.specs.List.{AllByRecursion};
-ghost use Rattle.nss_lexer.specs.Lexemes.{IsToken};
-
 use engine_table::{built_in, read_header};
-use nss_lexer::{Lexed, SOURCE_BYTES, Token, next};
+use nss_lexer::SOURCE_BYTES;
 use nss_parser::parse;
 use nss_tree::Tree;
 use nss_types::{TypeFault, type_unit};
@@ -13,30 +9,10 @@ use nss_typing::{Fault, FaultKind};
 use nwq_value::{NoMemory, Table};
 use std::alloc::Global;
 use std::test::Fail;
+use test_units::tokens_of;
 
 /// A unit, with the kind and the token of its least fault where it has one.
 pub type Row = (&'static [u8], Option<(FaultKind, u32)>);
-
-/// The tokens of a unit.
-#[tactic(auto, using(crate::proofs::TestLaws::token_is, crate::proofs::TestLaws::all_push))]
-fn tokens_of<'a>(alloc: Global, source: &'a [u8]) -> Result<Vec<Token<'a>>, NoMemory>
-    requires { length source.now ≤ SOURCE_BYTES }
-    ensures tokens { IfOk result (λ all. AllByRecursion IsToken all.items) }
-    ensures count { IfOk result (λ all. length all.items ≤ length source.now) }
-{
-    let mut all = Vec::new(alloc);
-    let mut at = 0;
-    for _turn in 0..source.len() {
-        match next(source, 0, at) {
-            Lexed::Token(token) => {
-                at = token.end;
-                all.push(token)?;
-            }
-            _ => return Ok(all),
-        }
-    }
-    Ok(all)
-}
 
 /// The tree of a unit, which is short.
 fn tree_of(alloc: Global, source: &[u8]) -> Option<Tree> {

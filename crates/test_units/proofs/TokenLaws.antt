@@ -1,4 +1,4 @@
--- The tokens that the tests make are tokens.
+-- The tokens that a text is split into are tokens.
 use Rattle.std.proofs.Common.{ℕ, List, [], ◌∷◌, ◌++◌}
 use Rattle.std.specs.List.{AllByRecursion}
 use Rattle.nss_lexer.specs.declared.token.Token.{Token}
