@@ -1,5 +1,7 @@
-//! The program: it makes the real files, standard output and standard error, hands them with its words
-//! to `whole::run_all`, which makes the hooks, and ends with the number that comes back.
+//! The program: it makes the real files, standard output and standard error, hands them with its
+//! words to `whole::run_all`, which makes the hooks, and ends with the number that comes back
+//! (`specs/Ending.antt`). What that call promises is the whole program's contract: see
+//! docs/COMMANDS.md and docs/THEOREMS.md.
 #![tactic(auto)]
 
 mod whole;

@@ -107,8 +107,8 @@ fn run_in_order<F: Files, S: Sink, E: Sink>(
     }
 }
 
-/// The whole program, given all its words, the files, standard output and standard error: the number
-/// with which it ends.
+/// The whole program, given all its words, the files, standard output and standard error: the
+/// number with which it ends.
 pub(crate) fn run_all<F: Files, S: Sink, E: Sink>(
     alloc: Global,
     all: &[String],

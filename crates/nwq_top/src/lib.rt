@@ -9,8 +9,9 @@
 //! files `nwq_files`'.
 //!
 //! The tables that its scripts look cells up in are [`nwq_tables`]', which comes first: the tables
-//! are read, hooks are made with them, and `nwq_main` is handed these hooks and the same words. What
-//! both mean together says the law [`laws::whole_means`]. See docs/COMMANDS.md and docs/THEOREMS.md.
+//! are read, hooks are made with them, and `nwq_main` is handed these hooks and the same words.
+//! What both mean together says the law [`laws::whole_means`]. See docs/COMMANDS.md and
+//! docs/THEOREMS.md.
 #![tactic(auto)]
 
 mod command;
@@ -56,8 +57,8 @@ pub fn nwq_main<F: Files, S: Sink>(
         (F.contents files.old) (S.taken out.old)
         (ending result) (F.contents files.new) (S.taken out.new) }
     // Where the files also hold bytes: unless a failed call or want of memory cut it short, it
-    // refused what is to be refused, wrote files that pass the stack checker, and told and left what
-    // the source texts mean.
+    // refused what is to be refused, wrote files that pass the stack checker, and told and left
+    // what the source texts mean.
     ensures means { IsTrue F.tells → IsTrue S.tells → AreBytes (F.contents files.old) →
         (IsCut (ending result) → ⊥) →
         Means (cells_of (map (λ h. h.known) hooks.now.all.items))

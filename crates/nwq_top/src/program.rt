@@ -82,8 +82,8 @@ pub fn program_tables<F: Files, S: Sink>(
     }
 }
 
-/// What the program does, given all its words, the files, standard output, standard error and the hooks
-/// that scripts call: the number with which it ends.
+/// What the program does, given all its words, the files, standard output, standard error and the
+/// hooks that scripts call: the number with which it ends.
 pub fn nwq_program<F: Files, S: Sink, E: Sink>(
     alloc: Global,
     all: &[String],

@@ -19,7 +19,8 @@ pub fn nwq_tables<F: Files, S: Sink>(
     files: &mut F,
     out: &mut S,
 ) -> Result<Tables, Status>
-    // Where files and sink tell what they hold: the call read the list and then its tables, in order.
+    // Where files and sink tell what they hold: the call read the list and then its tables, in
+    // order.
     ensures does { IsTrue F.tells → IsTrue S.tells →
         Does (tables_given (list_of (form_of (map string_bytes words.now))))
         (F.contents files.old) (S.taken out.old)
