@@ -313,13 +313,13 @@ const LARGE: &[(&[u8], Status, &str, bool)] = &[
 ];
 
 /// Whether the play of a script over this area ends so, prints this, and leaves this area.
-fn plays_over(
+fn plays_over<'x>(
     alloc: Global,
-    area: &[u8],
-    source: &[u8],
+    area: &'x [u8],
+    source: &'x [u8],
     status: Status,
-    text: &str,
-    left: &[u8],
+    text: &'x str,
+    left: &'x [u8],
     hooks: &Hooks,
 ) -> Result<bool, NoMemory>
     requires hooks { AreServing (map (λ h. h.known) hooks.now.all.items) }

@@ -49,10 +49,10 @@ fn all_but<'a>(
 }
 
 /// Whether these words stop at this file, put one line, of a word and its name, and leave no area.
-fn stops(
+fn stops<'x>(
     alloc: Global,
-    line: &str,
-    before: &[(&str, &[u8])],
+    line: &'x str,
+    before: &'x [(&'x str, &'x [u8])],
     status: Status,
     word: &str,
     name: &str,
