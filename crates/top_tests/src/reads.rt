@@ -4,7 +4,7 @@
 ghost use Rattle.std.specs.Prelude.{map};
 ghost use Rattle.world_core.specs.Calls.{AreServing};
 
-use crate::answers::{Failing, Held, Row, comes};
+use crate::answers::{Failing, Outcome, outcome_of};
 use crate::games::THREE;
 use hook_table::Hooks;
 use nwq_top::Status;
@@ -48,11 +48,19 @@ fn all_but<'a>(
     Ok(rest)
 }
 
-/// Whether these words stop at this file, put one line, of a word and its name, and leave no area.
-fn stops<'x>(
+/// Whether words ended with this status and line, which is all, and left no area.
+fn is_stop(found: &Outcome, status: Status, text: &str) -> bool {
+    found.status == status
+        && found.out.calls() == 1
+        && found.out.bytes() == text.as_bytes()
+        && found.files.get("f.git").is_none()
+}
+
+/// Whether these words stop at this file, and put one line, of a word and its name.
+fn stops(
     alloc: Global,
-    line: &'x str,
-    before: &'x [(&'x str, &'x [u8])],
+    line: &str,
+    before: &[(&str, &[u8])],
     status: Status,
     word: &str,
     name: &str,
@@ -61,16 +69,8 @@ fn stops<'x>(
     requires hooks { AreServing (map (λ h. h.known) hooks.now.all.items) }
 {
     let text = format!(in alloc; "{word} {name}\n")?;
-    let row = Row {
-        line,
-        before,
-        failing: Failing::Nothing,
-        status,
-        puts: Some(1),
-        text: text.as_str(),
-        after: &[("f.git", Held::Nothing)],
-    };
-    comes(alloc, &row, hooks)
+    let found = outcome_of(alloc, line, before, Failing::Nothing, hooks)?;
+    Ok(is_stop(&found, status, text.as_str()))
 }
 
 /// The place of the first words of which something else comes where the file isn't there.
