@@ -13,7 +13,7 @@ use nss_typing::laws::{numbered_in_order, one_typed};
 
 /// A unit has one file at most.
 pub fn one_file()
-    ensures { OneFile }
+    ensures one { OneFile }
 {
     one_typed();
 }
@@ -27,14 +27,14 @@ pub fn positions_by_number()
 
 /// Each label that the code of a unit takes is placed exactly once, and no other one is.
 pub fn each_placed_once()
-    ensures { EachPlacedOnce }
+    ensures once { EachPlacedOnce }
 {
     part_laws();
 }
 
 /// In the program of a unit's code each line stands at its place.
 pub fn code_stands()
-    ensures { CodeStands }
+    ensures stands { CodeStands }
 {
     each_placed_once();
     program_stands();
@@ -43,7 +43,7 @@ pub fn code_stands()
 /// The code of a unit that keeps the bounds has a spelling for each instruction, jumps to labels
 /// that are placed, and ends with an instruction.
 pub fn code_is_whole()
-    ensures { CodeIsWhole }
+    ensures whole { CodeIsWhole }
 {
     part_laws();
 }
@@ -51,7 +51,7 @@ pub fn code_is_whole()
 /// The file of a unit that keeps the bounds loads, with the same instructions, if it is not too
 /// large.
 pub fn file_is_code()
-    ensures { FileIsCode }
+    ensures code { FileIsCode }
 {
     code_is_whole();
     finished_is_code();

@@ -6,7 +6,7 @@ use ncs_emit::part_laws;
 
 /// No part of a unit's code places a label below the next one that it begins with.
 pub fn places_above()
-    ensures { PlacesAbove }
+    ensures above { PlacesAbove }
 {
     part_laws();
 }

@@ -5,6 +5,7 @@ use Rattle.std.specs.FinMap as fin_map
 use Rattle.nwq_value.specs.Limits.{file_limit}
 use Rattle.nwq_value.specs.Engine.{EngineTable, IsTable}
 use Rattle.nwq_outside.specs.Outside.{Contents}
+use Rattle.nss_lexer.specs.Strings.{ValuesAreBytes}
 use Rattle.nss_typing.specs.Typed.{TypedUnit}
 use Rattle.nss_typing.specs.Meaning.{TypesUnit}
 use Rattle.nss_include.specs.declared.file.Source.{Source}
@@ -23,14 +24,14 @@ use Rattle.command_meaning.proofs.Gathered.{unit_known}
 
 -- ---- the unit of a script
 
-gathered : (header : EngineTable) (c : Contents) (name : List ℕ) (u : TypedUnit) → HoldBytes c → (script : PlainScript) → TypesUnit header script.tree u
-    → IsUnitFate (fin_map.get c) name (Whole script) → IsUnitOf header u
-gathered header c name u held script types (whole _ unit nest parses) =
-    let known = unit_known (fin_map.get c) held name script.tokens script.files None unit in
+gathered : ValuesAreBytes → (header : EngineTable) (c : Contents) (name : List ℕ) (u : TypedUnit) → HoldBytes c → (script : PlainScript)
+    → TypesUnit header script.tree u → IsUnitFate (fin_map.get c) name (Whole script) → IsUnitOf header u
+gathered values header c name u held script types (whole _ unit nest parses) =
+    let known = unit_known values (fin_map.get c) held name script.tokens script.files None unit in
     record { tokens = _; tree = script.tree; few = known.0; literals = known.1; parses = parses; types = types }
 
-pub scripts_have_units : ScriptsHaveUnits
-scripts_have_units header c name u held h = gathered header c name u held h.script h.types h.is
+pub scripts_have_units : ValuesAreBytes → ScriptsHaveUnits
+scripts_have_units values header c name u held h = gathered values header c name u held h.script h.types h.is
 
 -- ---- answers
 
@@ -146,7 +147,7 @@ module _ (header : EngineTable) (c : Contents) (name bytes : List ℕ) (t : List
 -- ---- a script that is played
 
 module _ (cell : CellLookup) (header : EngineTable) (name file : List ℕ) (c : Contents) (t : List ℕ) (r : Result Finished Status) (c' : Contents) (t' : List ℕ)
-    (table : IsTable header) (held : HoldBytes c) where
+    (units : ScriptsHaveUnits) (table : IsTable header) (held : HoldBytes c) where
   play_made : (between : Contents) (taken bytes : List ℕ) → Compiled header c name bytes → Stays c between t taken
       → Does (plays_file cell header name file bytes) between taken r c' t' → PlaysScript cell header name c t r c' t'
   play_made between taken bytes made stays does = record {
@@ -154,7 +155,7 @@ module _ (cell : CellLookup) (header : EngineTable) (name file : List ℕ) (c : 
     script = made.is;
     plays = record {
       table = table;
-      unit = scripts_have_units header c name made.unit held made.is;
+      unit = units header c name made.unit held made.is;
       small = made.small;
       file = file;
       does = subst (λ (b : List ℕ). Does (plays_file cell header name file b) c t r c' t') made.bytes_are
@@ -169,6 +170,6 @@ module _ (cell : CellLookup) (header : EngineTable) (name file : List ℕ) (c : 
       let made = compiled header c name h.value t h.between h.taken h.first in
       inr (play_made h.between h.taken h.value made.0 made.1 h.second)
 
-pub scripts_play_units : ScriptsPlayUnits
-scripts_play_units cell header name file c t r c' t' table held does =
-    play_parts cell header name file c t r c' t' table held (parts (compiled_named header name) (plays_file cell header name file) c c' t t' r does)
+pub scripts_play_units : ScriptsHaveUnits → ScriptsPlayUnits
+scripts_play_units units cell header name file c t r c' t' table held does =
+    play_parts cell header name file c t r c' t' units table held (parts (compiled_named header name) (plays_file cell header name file) c c' t t' r does)

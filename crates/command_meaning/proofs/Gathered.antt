@@ -6,7 +6,7 @@ use Rattle.std.specs.Prelude.{All}
 use Rattle.std.specs.List.{AllByRecursion}
 use Rattle.nwq_value.specs.Limits.{token_limit}
 use Rattle.nss_lexer.specs.Splitting.{Lexeme}
-use Rattle.nss_lexer.specs.Strings.{string_value}
+use Rattle.nss_lexer.specs.Strings.{string_value, ValuesAreBytes}
 use Rattle.nss_symbols.specs.Symbols.{IsLiteral}
 use Rattle.nss_include.specs.declared.fault.GatherFault.{GatherFault}
 use Rattle.nss_include.specs.declared.fault.GatherFault.TheVariants.{Tokens}
@@ -53,8 +53,9 @@ pieces_literal (t ∷ u ∷ v ∷ ts) ending h =
     )
     (h.0, pieces_literal (u ∷ v ∷ ts) ending h.1)
 
-file_literal : (bytes : List ℕ) (file at : ℕ) (ps : List Piece) → All IsByte bytes → HasPieces bytes file at ps → AreLiteral ps
-file_literal bytes file at ps all h = subst AreLiteral (sym h.is) (pieces_literal h.tokens h.ending (split_literals bytes file at h.tokens h.ending all h.splits))
+file_literal : ValuesAreBytes → (bytes : List ℕ) (file at : ℕ) (ps : List Piece) → All IsByte bytes → HasPieces bytes file at ps → AreLiteral ps
+file_literal values bytes file at ps all h =
+    subst AreLiteral (sym h.is) (pieces_literal h.tokens h.ending (split_literals values bytes file at h.tokens h.ending all h.splits))
 
 -- ---- the unit
 
@@ -82,7 +83,7 @@ has_rooms count f o h = room (nat_lt token_limit (count + 3)) refl h
     room true is k = absurd cc
     room false is k = grind (arith, nat_tests)
 
-module _ (lookup : Lookup) (held_bytes : (name bytes : List ℕ) → lookup (file_name name) ≡ Some bytes → All IsByte bytes) where
+module _ (values : ValuesAreBytes) (lookup : Lookup) (held_bytes : (name bytes : List ℕ) → lookup (file_name name) ≡ Some bytes → All IsByte bytes) where
   counted : (file : Source) (ps : List Piece) (held : Held) (ts : List Lexeme) (after : Held) (ending : Option GatherFault) → AreLiteral ps → held.count ≤ token_limit
       → Unfolds lookup file ps held ts after ending → AreCounted ts held.count after.count
   counted file ps held ts after ending lit few (ends _ _) = record { literals = tt; all = omega arith; few = few }
@@ -97,11 +98,11 @@ module _ (lookup : Lookup) (held_bytes : (name bytes : List ℕ) → lookup (fil
       record { literals = k.literals; all = let all = k.all in omega (arith, all); few = k.few }
   counted file ps held ts after ending lit few (breaks_off _ hash name more _ bytes inner tokens _ broken is new found has rest) =
       let room = has_rooms held.count (Tokens (spot_in file hash)) (cond (is_among held.files (file_name name)) None (reading_fault (file_name name) (lookup (file_name name)))) is in
-      let k = counted _ inner (with_file held (file_name name) bytes) tokens after (Some broken) (file_literal bytes (length held.files) 0 inner (held_bytes name bytes found) has) room rest in
+      let k = counted _ inner (with_file held (file_name name) bytes) tokens after (Some broken) (file_literal values bytes (length held.files) 0 inner (held_bytes name bytes found) has) room rest in
       record { literals = k.literals; all = let all = k.all in omega (arith, all); few = k.few }
   counted file ps held ts after ending lit few (includes _ hash name more _ bytes inner first between tokens _ _ is new found has deeper rest) =
       let room = has_rooms held.count (Tokens (spot_in file hash)) (cond (is_among held.files (file_name name)) None (reading_fault (file_name name) (lookup (file_name name)))) is in
-      let k = counted _ inner (with_file held (file_name name) bytes) first between None (file_literal bytes (length held.files) 0 inner (held_bytes name bytes found) has) room deeper in
+      let k = counted _ inner (with_file held (file_name name) bytes) first between None (file_literal values bytes (length held.files) 0 inner (held_bytes name bytes found) has) room deeper in
       let j = counted file more between tokens after ending lit.1 k.few rest in
       record {
         literals = both_literal first tokens k.literals j.literals;
@@ -123,7 +124,7 @@ module _ (lookup : Lookup) (held_bytes : (name bytes : List ℕ) → lookup (fil
       → (length (grammar_symbols ts) ≤ token_limit) × AllByRecursion IsLiteral (grammar_symbols ts)
   unit_known name ts files ending (unread missing is) = (omega arith, tt)
   unit_known name ts files ending (is_read bytes all _ after _ found small has rest) =
-      let k = counted _ all _ ts after ending (file_literal bytes 0 0 all (held_bytes name bytes found) has) (omega arith) rest in
+      let k = counted _ all _ ts after ending (file_literal values bytes 0 0 all (held_bytes name bytes found) has) (omega arith) rest in
       let n = seen_count ts in
       let a = k.all in
       let b = k.few in

@@ -8,6 +8,7 @@ ghost use Rattle.command_meaning.specs.Units.{TablesAnswerInTypes, UnitsAreWellT
 use code_emission::laws::file_is_code;
 use emitted_shapes::{typed_units_fit, units_are_well_stacked};
 use ncs_code::size_laws;
+use nss_lexer::laws::values_are_bytes;
 use nwq_plays::laws::one_code;
 use play_meaning::{code_plays_end, end_texts_agree, source_plays_end, typed_scripts_are_ready};
 use saved_state::Saved;
@@ -82,4 +83,6 @@ pub fn runs_end_as_meant()
 pub fn scripts_play_units()
     ensures units { ScriptsHaveUnits }
     ensures plays { ScriptsPlayUnits }
-{}
+{
+    values_are_bytes();
+}

@@ -2,18 +2,15 @@
 use Rattle.std.proofs.Common.{◌≡◌, ℕ, ◌<◌, true, false, Bool, ◌&&◌, nat_lt, List, [], ◌∷◌, ◌++◌, length, drop, Option, sym, subst, arith}
 use Rattle.std.proofs.lemmas.Bool.Decides.{nat_tests}
 use Rattle.std.proofs.lemmas.List.{length-take}
-use Rattle.std.proofs.lemmas.List.Elements.{All-nil, All-cons, All-head, All-tail, All-take, All-drop}
-use Rattle.std.specs.Prelude.{All, IsTrue}
+use Rattle.std.proofs.lemmas.List.Elements.{All-nil, All-cons, All-take, All-drop}
+use Rattle.std.specs.Prelude.{All}
 use Rattle.std.specs.List.{AllByRecursion, list_all}
-use Rattle.std.specs.Char.{digit_value}
 use Rattle.nwq_value.specs.Limits.{text_limit}
 use Rattle.nss_lexer.specs.declared.token.Kind.{Kind}
 use Rattle.nss_lexer.specs.declared.token.Kind.TheVariants as kind
-use Rattle.nss_lexer.specs.Bytes.{is_hexadecimal}
 use Rattle.nss_lexer.specs.Lexemes.{IsLexeme}
 use Rattle.nss_lexer.specs.Splitting.{Lexeme, IsFirstToken, Splits, whole, broken, token}
-use Rattle.nss_lexer.specs.Strings.{Spelling, plain, escaped, line_end, hexadecimal, Inside, closed, more, quoted, IsString, string_value, quote, backslash}
-use Rattle.nss_lexer.proofs.StringLaws.{one_value}
+use Rattle.nss_lexer.specs.Strings.{string_value, ValuesAreBytes}
 use Rattle.engine_table.specs.Symbols.{IsSymbol, Placed, symbol_by, symbol_of, placed_all}
 
 abbrev pub IsByte : ℕ → Type 0
@@ -33,61 +30,34 @@ all_bytes [] e = All-nil IsByte
 all_bytes (b ∷ bytes) e =
     let both = all_by (nat_lt b 256) (list_all (λ c. nat_lt c 256) bytes) e in All-cons IsByte b bytes (below b 256 both.0) (all_bytes bytes both.1)
 
--- ---- a string stands for bytes
-
-sooner : (xs ys : List ℕ) → All IsByte (xs ++ ys) → All IsByte xs
-sooner [] ys h = All-nil IsByte
-sooner (x ∷ xs) ys h = All-cons IsByte x xs (All-head IsByte x (xs ++ ys) h) (sooner xs ys (All-tail IsByte x (xs ++ ys) h))
-
-later : (xs ys : List ℕ) → All IsByte (xs ++ ys) → All IsByte ys
-later [] ys h = h
-later (x ∷ xs) ys h = later xs ys (All-tail IsByte x (xs ++ ys) h)
-
-half_byte : (c : ℕ) → IsTrue (is_hexadecimal c) → digit_value c < 16
-half_byte c h = below (digit_value c) 16 h
-
-spelled_byte : (one : List ℕ) (b : ℕ) → All IsByte one → Spelling one b → b < 256
-spelled_byte one b h (plain c is) = All-head IsByte c [] h
-spelled_byte one b h (escaped c is) = All-head IsByte c [] (All-tail IsByte backslash (c ∷ []) h)
-spelled_byte one b h line_end = omega arith
-spelled_byte one b h (hexadecimal high low i j) = let x = half_byte high i in let y = half_byte low j in omega (arith, x, y)
-
-inside_bytes : (text bytes : List ℕ) → All IsByte text → Inside text bytes → All IsByte bytes
-inside_bytes text bytes h closed = All-nil IsByte
-inside_bytes text bytes h (more b one rest ones s i) =
-    All-cons IsByte b ones (spelled_byte one b (sooner one rest h) s) (inside_bytes rest ones (later one rest h) i)
-
-string_bytes : (text : List ℕ) → IsString text → All IsByte text → All IsByte (string_value text)
-string_bytes text (bytes, quoted rest ones i) h =
-    subst (All IsByte) (one_value (quote ∷ rest) ones (quoted rest ones i)) (inside_bytes rest ones (All-tail IsByte quote rest h) i)
-
 -- ---- tokens
-
-lexeme_bounds : (k : Kind) (text : List ℕ) → IsLexeme k text → All IsByte text → IsSymbol (symbol_by k text)
-lexeme_bounds kind.Name text h all = tt
-lexeme_bounds kind.Word text h all = tt
-lexeme_bounds (kind.Int n) text h all = h.1
-lexeme_bounds kind.Float text h all = tt
-lexeme_bounds kind.Text text h all =
-    let e = length-take text_limit (string_value text) in
-    (omega (arith, e), All-take IsByte text_limit (string_value text) (string_bytes text h.0 all))
-lexeme_bounds kind.Sign text h all = tt
 
 -- each token is within bounds
 abbrev pub AreSymbols : List Placed → Type 0
 AreSymbols xs = AllByRecursion (λ (x : Placed). IsSymbol x.symbol) xs
 
-first_bounds : (bytes : List ℕ) (file at : ℕ) (t : Lexeme) → All IsByte bytes → IsFirstToken bytes file at t → IsSymbol (symbol_of t)
-first_bounds bytes file at t all h =
-    lexeme_bounds t.kind t.text h.begins.lexeme
-    (subst (All IsByte) (sym h.begins.prefix) (All-take IsByte (length t.text) (drop t.start bytes) (All-drop IsByte t.start bytes all)))
+module _ (values : ValuesAreBytes) where
+  lexeme_bounds : (k : Kind) (text : List ℕ) → IsLexeme k text → All IsByte text → IsSymbol (symbol_by k text)
+  lexeme_bounds kind.Name text h all = tt
+  lexeme_bounds kind.Word text h all = tt
+  lexeme_bounds (kind.Int n) text h all = h.1
+  lexeme_bounds kind.Float text h all = tt
+  lexeme_bounds kind.Text text h all =
+      let e = length-take text_limit (string_value text) in
+      (omega (arith, e), All-take IsByte text_limit (string_value text) (values text h.0 all))
+  lexeme_bounds kind.Sign text h all = tt
 
-pub tokens_bounds : (bytes : List ℕ) (file at : ℕ) (ts : List Lexeme) (ending : Option ℕ) → All IsByte bytes → Splits bytes file at ts ending
-    → AreSymbols (placed_all ts)
-tokens_bounds bytes file at ts ending all (whole _ h) = tt
-tokens_bounds bytes file at ts ending all (broken _ place h) = tt
-tokens_bounds bytes file at ts ending all (token _ t others _ h rest) =
-    (first_bounds bytes file at t all h, tokens_bounds bytes file t.end others ending all rest)
+  first_bounds : (bytes : List ℕ) (file at : ℕ) (t : Lexeme) → All IsByte bytes → IsFirstToken bytes file at t → IsSymbol (symbol_of t)
+  first_bounds bytes file at t all h =
+      lexeme_bounds t.kind t.text h.begins.lexeme
+      (subst (All IsByte) (sym h.begins.prefix) (All-take IsByte (length t.text) (drop t.start bytes) (All-drop IsByte t.start bytes all)))
+
+  pub tokens_bounds : (bytes : List ℕ) (file at : ℕ) (ts : List Lexeme) (ending : Option ℕ) → All IsByte bytes → Splits bytes file at ts ending
+      → AreSymbols (placed_all ts)
+  tokens_bounds bytes file at ts ending all (whole _ h) = tt
+  tokens_bounds bytes file at ts ending all (broken _ place h) = tt
+  tokens_bounds bytes file at ts ending all (token _ t others _ h rest) =
+      (first_bounds bytes file at t all h, tokens_bounds bytes file t.end others ending all rest)
 
 pub front : (xs ys : List Placed) → AreSymbols (xs ++ ys) → AreSymbols xs
 front [] ys h = tt

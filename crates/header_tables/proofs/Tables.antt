@@ -5,6 +5,7 @@ use Rattle.nwq_value.specs.Engine.{IsTable}
 use Rattle.nwq_value.specs.Header.{header_text, header_constants, header_routines}
 use Rattle.nwq_value.specs.HeaderTable.{header_table}
 use Rattle.nss_lexer.specs.Computed.{ComputedAreTokens}
+use Rattle.nss_lexer.specs.Strings.{ValuesAreBytes}
 use Rattle.engine_table.specs.declared.declaration.Declaration.{Declaration}
 use Rattle.engine_table.specs.Known.{Known}
 use Rattle.engine_table.specs.Symbols.{Placed, placed_all}
@@ -20,13 +21,13 @@ lines_keep k ds xs h bounds (none _) = h
 lines_keep k ds xs h bounds (more _ d others ys zs line clear rest) =
     lines_keep (after k d) others zs (line_keeps k d ys h (front ys zs bounds) line clear) (back ys zs bounds) rest
 
-pub headers_have_tables : HeadersHaveTables
-headers_have_tables bytes table all (tokens, are, (ds, lines, is)) =
-    subst IsTable (sym is) (lines_keep nothing ds (placed_all tokens) table_empty (tokens_bounds bytes 0 0 tokens _ all are) lines)
+pub headers_have_tables : ValuesAreBytes → HeadersHaveTables
+headers_have_tables values bytes table all (tokens, are, (ds, lines, is)) =
+    subst IsTable (sym is) (lines_keep nothing ds (placed_all tokens) table_empty (tokens_bounds values bytes 0 0 tokens _ all are) lines)
 
 header_is_bytes : list_all (λ b. nat_lt b 256) header_text ≡ true
 unfolding header_text header_constants header_routines
 header_is_bytes = refl
 
-pub built_in_is_table : ComputedAreTokens → BuiltInIsTable
-built_in_is_table computed = headers_have_tables header_text header_table (all_bytes header_text header_is_bytes) (has_table computed)
+pub built_in_is_table : ValuesAreBytes → ComputedAreTokens → BuiltInIsTable
+built_in_is_table values computed = headers_have_tables values header_text header_table (all_bytes header_text header_is_bytes) (has_table computed)

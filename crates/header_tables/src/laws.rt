@@ -2,7 +2,7 @@
 
 ghost use Rattle.header_tables.specs.Laws.{BuiltInIsTable, HeadersHaveTables};
 
-use nss_lexer::laws::computed_tokens;
+use nss_lexer::laws::{computed_tokens, values_are_bytes};
 
 /// The table of a header keeps what every table keeps, where its text is bytes; and so does the
 /// table of the built-in header.
@@ -11,4 +11,5 @@ pub fn headers_have_tables()
     ensures built_in { BuiltInIsTable }
 {
     computed_tokens();
+    values_are_bytes();
 }

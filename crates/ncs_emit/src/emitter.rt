@@ -66,7 +66,7 @@ impl Emitter {
     /// A new label, which is placed nowhere. After `NoMemory` the emitter is as before.
     #[tactic(auto, using(crate::proofs::Counting::label_lemmas))]
     pub fn label(&mut self) -> Result<u32, NoMemory>
-        requires { self.old.labels + 1 < 2 ^ 32 }
+        requires few { self.old.labels + 1 < 2 ^ 32 }
         ensures number { IfOk result (λ label. label ≡ self.old.labels) }
         ensures unplaced { IfOk result (λ label. placements self.new.lines label ≡ 0) }
         ensures made { OnOk result (self.new ≡ record self.old { labels = self.old.labels + 1 }) }
@@ -84,7 +84,7 @@ impl Emitter {
     pub fn place(&mut self, label: u32)
         requires made { label < self.old.labels }
         requires unplaced { placements self.old.lines label ≡ 0 }
-        ensures { self.new ≡ record self.old { lines = self.old.lines ++ Label label ∷ [] } }
+        ensures placed { self.new ≡ record self.old { lines = self.old.lines ++ Label label ∷ [] } }
     {
         self.kept.push(Kept::Label(label)).unwrap();
         self.placed[label as usize] = true;
@@ -94,7 +94,7 @@ impl Emitter {
     /// Puts an instruction last. After `NoMemory` the emitter is as before.
     #[tactic(auto, using(crate::proofs::Counting::op_lemmas))]
     pub fn op(&mut self, op: &Op<'_>) -> Result<(), NoMemory>
-        requires { HasRow (plain op.now) }
+        requires row { HasRow (plain op.now) }
         ensures ok { OnOk result (self.new
             ≡ record self.old { lines = self.old.lines ++ Instruction (plain op.now) ∷ [] }) }
         ensures err { OnErr result (self.new ≡ self.old) }
@@ -110,7 +110,7 @@ impl Emitter {
     /// Puts a jump to a label last. After `NoMemory` the emitter is as before.
     #[tactic(auto, using(crate::proofs::Counting::jump_lemmas))]
     pub fn jump(&mut self, jump: Jump, label: u32) -> Result<(), NoMemory>
-        requires { label < self.old.labels }
+        requires made { label < self.old.labels }
         ensures ok { OnOk result (self.new
             ≡ record self.old { lines = self.old.lines ++ JumpTo jump label ∷ [] }) }
         ensures err { OnErr result (self.new ≡ self.old) }

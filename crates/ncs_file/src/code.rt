@@ -38,7 +38,7 @@ impl Model for Code {
 /// The file that these bytes are, which keeps them.
 #[tactic(auto, using(crate::proofs::Loaded::load_lemmas))]
 pub fn load(alloc: Global, bytes: Vec<u8>) -> Result<Code, LoadFault>
-    requires { length bytes.items ≤ file_limit }
+    requires size { length bytes.items ≤ file_limit }
 
     // What is loaded is a file, spelled so.
     ensures loaded { IfOk result (λ code. IsCode code × (bytes.items ≡ file_bytes code)) }
@@ -64,7 +64,7 @@ pub fn load(alloc: Global, bytes: Vec<u8>) -> Result<Code, LoadFault>
 
 /// The bytes of the file, as they were loaded.
 pub fn store(code: &Code) -> &[u8]
-    ensures { result.now ≡ file_bytes code.now }
+    ensures bytes { result.now ≡ file_bytes code.now }
 {
     code.bytes.as_slice()
 }
@@ -72,7 +72,7 @@ pub fn store(code: &Code) -> &[u8]
 impl Code {
     /// The instruction that begins at a place, and how many bytes it takes.
     pub fn op_at(&self, at: u32) -> Option<(Op<'_>, u32)>
-        ensures { MatchOption result (op_at self.now at ≡ None)
+        ensures op { MatchOption result (op_at self.now at ≡ None)
             (λ x. (op_at self.now at ≡ Some (plain x.0)) × (x.1 ≡ op_size (plain x.0))) }
     {
         size_laws();
@@ -88,14 +88,14 @@ impl Code {
 
     /// How many instructions there are.
     pub fn count(&self) -> u32
-        ensures { result ≡ length self.now }
+        ensures count { result ≡ length self.now }
     {
         self.count
     }
 
     /// What is known of every file that was loaded.
     pub fn sound(&self)
-        ensures { IsCode self.now }
+        ensures code { IsCode self.now }
     {
         size_laws();
         let _ = &self.count;

@@ -4,7 +4,7 @@ use ncs_code::{one_first_bad, place_laws, size_laws, spelling_laws};
 
 /// Behind an instruction of a file the next one begins, or the file ends.
 pub fn next_begins()
-    ensures { NextBegins }
+    ensures next { NextBegins }
 {
     place_laws();
     size_laws();

@@ -100,7 +100,7 @@ fn test_targets(alloc: Global, text: &[u8], body: &[u8], size: u64) -> Result<()
 
 /// The file of a text.
 pub fn assemble(alloc: Global, text: &[u8]) -> Result<Vec<u8>, AsmFault>
-    requires { length text.now < 2 ^ 32 }
+    requires size { length text.now < 2 ^ 32 }
     ensures file { IfOk result (λ file. IsAssembled text.now file.items) }
     ensures fault { IfErr result (λ fault. Fails fault text.now) }
 {

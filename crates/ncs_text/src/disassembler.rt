@@ -162,7 +162,7 @@ fn put_line(out: &mut Vec<u8>, at: u32, op: &Op<'_>) -> Result<(), NoMemory>
 
 /// The text of a file: a line for each instruction.
 pub fn disassemble(alloc: Global, code: &Code) -> Result<Vec<u8>, NoMemory>
-    ensures { IfOk result (λ text. text.items ≡ listing code.now) }
+    ensures text { IfOk result (λ text. text.items ≡ listing code.now) }
 {
     size_laws();
     place_laws();

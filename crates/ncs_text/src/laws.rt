@@ -4,7 +4,7 @@ use ncs_code::{distance_leads, one_name, place_laws, size_laws, spelling_laws};
 
 /// Assembling the text of a file gives the file again.
 pub fn listed_again()
-    ensures { ListedAgain }
+    ensures again { ListedAgain }
 {
     place_laws();
     size_laws();
@@ -13,7 +13,7 @@ pub fn listed_again()
 
 /// A text has one answer, want of memory aside.
 pub fn one_answer()
-    ensures { OneAnswer }
+    ensures one { OneAnswer }
 {
     spelling_laws();
     size_laws();
@@ -23,7 +23,7 @@ pub fn one_answer()
 
 /// A jump leads to an instruction exactly where one begins at the place that its line names.
 pub fn target_is_meant()
-    ensures { TargetIsMeant }
+    ensures meant { TargetIsMeant }
 {
     place_laws();
     distance_leads();

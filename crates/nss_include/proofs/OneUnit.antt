@@ -3,16 +3,12 @@ use Rattle.std.proofs.Common.{◌≡◌, ℕ, ◌≤◌, nat_le, arith, Bool, tr
 use Rattle.std.proofs.lemmas.Option.{same_Some, none-some}
 use Rattle.std.proofs.lemmas.Bool.Decides.{nat_tests}
 use Rattle.nwq_value.specs.Limits.{file_limit}
-use Rattle.nss_lexer.specs.Splitting.{Lexeme, Splits}
+use Rattle.nss_lexer.specs.Splitting.{Lexeme, OneSplit}
 use Rattle.nss_include.specs.declared.fault.GatherFault.{GatherFault}
 use Rattle.nss_include.specs.declared.file.Source.{Source}
 use Rattle.nss_include.specs.Names.{file_name}
 use Rattle.nss_include.specs.Pieces.{Piece, Token, Directive, pieces, HasPieces}
 use Rattle.nss_include.specs.Units.{Lookup, Held, Unfolds, piece_fault, reading_fault, is_among, source, with_token, with_directive, with_file, script_alone, ends, fails, gives, again, breaks_off, includes, unread, is_read, OneUnit}
-
--- a file is split in one way
-abbrev pub OneSplit : Type 0
-OneSplit = (bytes : List ℕ) (file at : ℕ) (ts us : List Lexeme) (e f : Option ℕ) → Splits bytes file at ts e → Splits bytes file at us f → (ts ≡ us) × (e ≡ f)
 
 one_pieces : (one : OneSplit) (bytes : List ℕ) (file at : ℕ) (ps qs : List Piece) → HasPieces bytes file at ps → HasPieces bytes file at qs → ps ≡ qs
 one_pieces one bytes file at ps qs p q =

@@ -2,7 +2,7 @@
 use Rattle.std.proofs.Common.{◌≡◌, ℕ, zero, suc, ◌+◌, Bool, true, false, ◌&&◌, List, [], ◌∷◌, ◌++◌, length, Option, Some, None, refl, sym, ap, subst, ◌∙◌, append_assoc, append-nil}
 use Rattle.std.proofs.lemmas.Option.{same_Some, none-some}
 use Rattle.std.specs.List.{slice_get}
-use Rattle.nss_lexer.specs.Splitting.{Lexeme, First, Found, AtEnd, BadAt, IsFirst, Splits, whole, broken, token}
+use Rattle.nss_lexer.specs.Splitting.{Lexeme, First, Found, AtEnd, BadAt, IsFirst, Splits, whole, broken, token, OneFirst, SomeSplit}
 use Rattle.nss_lexer.specs.Strings.{string_value}
 use Rattle.nss_include.specs.declared.fault.GatherFault.{GatherFault}
 use Rattle.nss_include.specs.declared.file.Source.{Source}
@@ -13,13 +13,6 @@ use Rattle.nss_include.specs.Pieces.{Piece, Token, Directive, BadDirective, BadB
 use Rattle.nss_include.specs.Steps.{IsStep, lexeme_in, begins_include, named_step, directive_step, ends as step_ends, breaks, other, sign, begins}
 use Rattle.nss_include.specs.Units.{Lookup, Held, source, Unfolds, ends as no_piece, fails as piece_fails, gives as piece_gives, again as piece_again, breaks_off as piece_breaks_off, includes as piece_includes}
 use Rattle.nss_include.specs.Walks.{Walks, step_fault, ends, fails, gives, again, breaks_off, includes}
-
--- one thing stands first at a place, and each file is split from each place on
-abbrev pub OneFirst : Type 0
-OneFirst = (bytes : List ℕ) (file at : ℕ) (x y : First) → IsFirst bytes file at x → IsFirst bytes file at y → x ≡ y
-
-abbrev pub SomeSplit : Type 0
-SomeSplit = (bytes : List ℕ) (file at : ℕ) → (tokens : List Lexeme) × (ending : Option ℕ) × Splits bytes file at tokens ending
 
 -- ---- the pieces at a step
 

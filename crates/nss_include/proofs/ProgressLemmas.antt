@@ -9,7 +9,7 @@ use Rattle.std.specs.Str.{IsUtf8}
 use Rattle.nwq_value.specs.Limits.{file_limit, text_limit, token_limit}
 use Rattle.nss_lexer.specs.Bytes.{is_name_byte}
 use Rattle.std.specs.Option.{option_map}
-use Rattle.nss_lexer.specs.Splitting.{Lexeme}
+use Rattle.nss_lexer.specs.Splitting.{Lexeme, OneFirst, SomeSplit}
 use Rattle.nss_include.specs.declared.fault.GatherFault.{GatherFault}
 use Rattle.nss_include.specs.declared.fault.GatherFault.TheVariants.{Missing, Fault, Long, Bad, Tokens, Include, NoMemory}
 use Rattle.nss_include.specs.declared.fault.Spot.{Spot}
@@ -24,7 +24,7 @@ use Rattle.nss_include.specs.Steps.{IsStep, IsWithin, lexeme_in}
 use Rattle.nss_include.specs.Units.{Lookup, reading_fault, is_among, source, HaveDistinctNames, IsUnit, unread, is_read}
 use Rattle.nss_include.specs.Walks.{Walks, step_fault, ends, fails, gives, again, breaks_off, includes}
 use Rattle.nss_include.specs.View.{lexeme_of, bytes_of}
-use Rattle.nss_include.proofs.PieceLemmas.{OneFirst, SomeSplit, reads, of_file}
+use Rattle.nss_include.proofs.PieceLemmas.{reads, of_file}
 use Rattle.nss_include.proofs.UnitLemmas.{bytes_stay, all_map, distinct_more}
 use Rattle.nss_include.specs.Gather.{HoldsFiles, Claims}
 use Rattle.nss_include.specs.Progress.{Rest, closed, stops, goes, Ends, Leads, Stops, HasStep, Explains, ExplainsRead, IsReadFault, Includes, IsOpen, IsReady, Begins, ComesTo, Extends, reopened}

@@ -8,6 +8,7 @@ ghost use Rattle.nss_include.specs.declared.step.Step.TheVariants as step;
 ghost use Rattle.nss_include.specs.Names.{file_name};
 ghost use Rattle.nss_include.specs.Units.{Lookup, IsUnit, HaveDistinctNames};
 ghost use Rattle.nss_include.specs.Gather.{CountsGathered, HoldsFiles, Claims, HasScript, Gathers};
+ghost use Rattle.nss_include.specs.View.{file_count_limit};
 ghost use Rattle.nss_include.specs.Progress.{Opens, Opened, Extends, IsReadFault, ExplainsRead};
 ghost use Rattle.nss_include.specs.Progress.{IsOwnFault, Begins, ComesTo};
 
@@ -42,7 +43,7 @@ fn read_into<F: Files>(
     unit: &mut Unit,
     name: &str,
 ) -> Result<(), GatherFault>
-    requires { length unit.old.files < 65_536 }
+    requires { length unit.old.files < file_count_limit }
     ensures opens { OnOk result (Opens unit.old unit.new name.now) }
     ensures holds { IsTrue F.tells → OnOk result (Opened
         (map.get (F.contents files.old)) unit.old unit.new name.now) }

@@ -6,7 +6,7 @@ use nss_lexer::laws::one_split;
 
 /// A script has one unit, or one first fault.
 pub fn one_unit()
-    ensures { OneUnit }
+    ensures one { OneUnit }
 {
     one_split();
 }

@@ -7,7 +7,7 @@ ghost use Rattle.nss_lexer.specs.Lexemes.{IsToken};
 ghost use Rattle.nss_lexer.specs.Splitting.{plain};
 ghost use Rattle.nss_include.specs.Names.{spot_in};
 ghost use Rattle.nss_include.specs.Units.{is_among, source};
-ghost use Rattle.nss_include.specs.View.{IsSpan, StandsIn, lexeme_of, bytes_of};
+ghost use Rattle.nss_include.specs.View.{IsSpan, StandsIn, lexeme_of, bytes_of, file_count_limit};
 
 use crate::fault::Spot;
 use crate::file::Source;
@@ -60,15 +60,16 @@ impl Unit {
     /// The name of a file, with `.nss`. The script is file 0, and the others follow in order of
     /// first mention.
     pub fn file_name(&self, file: u16) -> &[u8]
-        requires { file < length self.now.files }
-        ensures { option_map (λ f. f.name) (slice_get self.now.files file) ≡ Some result.now }
+        requires file { file < length self.now.files }
+        ensures name { option_map (λ f. f.name) (slice_get self.now.files file)
+            ≡ Some result.now }
     {
         self.files.as_slice()[file as usize].name.as_slice()
     }
 
     /// The bytes of a file.
     pub fn file_bytes(&self, file: u16) -> &[u8]
-        requires { file < length self.now.files }
+        requires file { file < length self.now.files }
         ensures bytes { option_map (λ f. f.bytes) (slice_get self.now.files file)
             ≡ Some result.now }
         ensures size { length result.now ≤ file_limit }
@@ -79,7 +80,7 @@ impl Unit {
     /// How many files the unit has.
     pub(crate) fn count(&self) -> usize
         ensures count { result ≡ length self.now.files }
-        ensures few { result ≤ 65_536 }
+        ensures few { result ≤ file_count_limit }
     {
         self.files.len()
     }
@@ -98,7 +99,7 @@ impl Unit {
     /// Puts a file last.
     pub(crate) fn open(&mut self, name: Items<u8>, bytes: Items<u8>) -> Result<(), NoMemory>
         requires size { length bytes ≤ file_limit }
-        requires few { length self.old.files < 65_536 }
+        requires few { length self.old.files < file_count_limit }
         ensures ok { OnOk result (self.new ≡ record {
           files = self.old.files ++ source name bytes ∷ [];
           tokens = self.old.tokens;
@@ -128,7 +129,7 @@ impl Unit {
     pub fn spot(&self, alloc: Global, file: u16, at: u32) -> Result<Spot, NoMemory>
         requires file { file < length self.now.files }
         requires place { at ≤ length (bytes_of (slice_get self.now.files file)) }
-        ensures { IfOk result
+        ensures spot { IfOk result
             (λ spot. option_map (λ f. spot_in f at) (slice_get self.now.files file) ≡ Some spot) }
     {
         let source = &self.files.as_slice()[file as usize];

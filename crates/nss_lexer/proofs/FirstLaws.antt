@@ -10,7 +10,7 @@ use Rattle.nss_lexer.specs.declared.token.Kind.TheVariants.{Name, Word, Int, Flo
 use Rattle.nss_lexer.specs.declared.scan.Scanned.{Scanned}
 use Rattle.nss_lexer.specs.Bytes.{is_blank, is_letter, is_decimal}
 use Rattle.nss_lexer.specs.Lexemes.{HasForm, IsWithin, signs}
-use Rattle.nss_lexer.specs.Splitting.{Skips, Gap, nothing, more, begins_comment, Begins, IsStuck, Lexeme, First, Found, AtEnd, BadAt, IsFirst, IsFirstToken, IsFirstBad, Splits, whole, broken, token}
+use Rattle.nss_lexer.specs.Splitting.{Skips, Gap, nothing, more, begins_comment, Begins, IsStuck, Lexeme, First, Found, AtEnd, BadAt, IsFirst, IsFirstToken, IsFirstBad, Splits, whole, broken, token, OneFirst, OneSplit}
 use Rattle.nss_lexer.specs.Reading.{scanned, limited, within, form, lexeme, comment, pass, first_prefix}
 use Rattle.nss_lexer.proofs.FormLaws.{AtLeast, reads, any_passes, form_sign}
 use Rattle.nss_lexer.proofs.FoundLaws.{IsFound, IsFoundIf, form_found, length_taken, first_found, signs_some}
@@ -283,7 +283,7 @@ one_bad : (bytes : List ℕ) (at p q : ℕ) → IsFirstBad bytes at p → IsFirs
 one_bad bytes at p q h k =
     same_place bytes p q (omega (arith, h.within)) (omega (arith, k.within)) (one_stop bytes at _ _ (bad_stop bytes at p h) (bad_stop bytes at q k))
 
-pub one_first : (bytes : List ℕ) (file at : ℕ) (x y : First) → IsFirst bytes file at x → IsFirst bytes file at y → x ≡ y
+pub one_first : OneFirst
 one_first bytes file at (Found t) (Found u) h k = ap Found (one_token bytes file at t u h k)
 one_first bytes file at (Found t) AtEnd h k = absurd (no_end bytes file at t h k)
 one_first bytes file at (Found t) (BadAt q) h k = absurd (no_bad bytes file at q t h k)
@@ -311,8 +311,7 @@ end_found t e = cc
 bad_found : (p : ℕ) (t : Lexeme) → BadAt p ≡ Found t → ⊥
 bad_found p t e = cc
 
-pub one_split : (bytes : List ℕ) (file at : ℕ) (ts us : List Lexeme) (e f : Option ℕ) → Splits bytes file at ts e → Splits bytes file at us f
-    → (ts ≡ us) × (e ≡ f)
+pub one_split : OneSplit
 one_split bytes file at ts us e f (whole a h) (whole b k) = (refl, refl)
 one_split bytes file at ts us e f (whole a h) (broken b q k) = absurd (end_bad q (one_first bytes file at AtEnd (BadAt q) h k))
 one_split bytes file at ts us e f (whole a h) (token b u vs d k s) = absurd (end_found u (one_first bytes file at AtEnd (Found u) h k))

@@ -1,5 +1,6 @@
 pub mod Scanning
 pub mod StringLaws
+mod StringBytes
 pub mod GapLaws
 pub mod FormLaws
 pub mod FoundLaws

@@ -3,7 +3,7 @@ use Rattle.std.specs.Prelude.{Option, Some, None}
 use Rattle.std.proofs.Common.{◌≡◌, ℕ, zero, suc, ◌+◌, ◌<◌, ◌≤◌, Bool, true, false, List, [], ◌∷◌, length, take, drop, refl, ap, sym, subst, arith, inr, length-append}
 use Rattle.std.proofs.lemmas.List.{length-drop}
 use Rattle.nss_lexer.specs.declared.scan.Scanned.{Scanned}
-use Rattle.nss_lexer.specs.Splitting.{Skips, blank, line, block, Gap, nothing, begins_comment, Lexeme, First, Found, AtEnd, BadAt, IsFirst, Splits, whole, broken, token}
+use Rattle.nss_lexer.specs.Splitting.{Skips, blank, line, block, Gap, nothing, begins_comment, Lexeme, First, Found, AtEnd, BadAt, IsFirst, Splits, whole, broken, token, SomeSplit}
 use Rattle.nss_lexer.specs.Reading.{lexeme, pass}
 use Rattle.nss_lexer.proofs.FoundLaws.{length_taken}
 use Rattle.nss_lexer.proofs.GapLaws.{pass_skips}
@@ -95,10 +95,10 @@ some_first bytes file at =
     let l = landing (length bytes) bytes at at (pass (drop at bytes)) refl (omega arith) (omega arith) (nothing (drop at bytes)) in
     first_from bytes file at l (drop l.place bytes) refl
 
-abbrev pub SomeSplit : List ℕ → ℕ → ℕ → Type 0
-SomeSplit bytes file at = (tokens : List Lexeme) × (ending : Option ℕ) × Splits bytes file at tokens ending
+abbrev IsSplit : List ℕ → ℕ → ℕ → Type 0
+IsSplit bytes file at = (tokens : List Lexeme) × (ending : Option ℕ) × Splits bytes file at tokens ending
 
-split_by : (n : ℕ) (bytes : List ℕ) (file at : ℕ) (x : First) → length bytes ≤ at + n → IsFirst bytes file at x → SomeSplit bytes file at
+split_by : (n : ℕ) (bytes : List ℕ) (file at : ℕ) (x : First) → length bytes ≤ at + n → IsFirst bytes file at x → IsSplit bytes file at
 split_by n bytes file at AtEnd near is = ([], None, whole at is)
 split_by n bytes file at (BadAt place) near is = ([], Some place, broken at place is)
 split_by zero bytes file at (Found t) near is = absurd (omega (arith, is.from, is.some, is.within))
@@ -107,6 +107,6 @@ split_by (suc n) bytes file at (Found t) near is =
     let rest = split_by n bytes file t.end next.0 (omega (arith, is.from, is.some)) next.1 in
     (t ∷ rest.0, rest.1, token at t rest.0 rest.1 is rest.2)
 
-pub some_split : (bytes : List ℕ) (file at : ℕ) → SomeSplit bytes file at
+pub some_split : SomeSplit
 some_split bytes file at =
     let first = some_first bytes file at in split_by (length bytes) bytes file at first.0 (omega arith) first.1

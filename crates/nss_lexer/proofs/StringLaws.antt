@@ -8,7 +8,7 @@ use Rattle.nss_lexer.specs.declared.string.Escape.TheVariants.{Outside, AfterBac
 use Rattle.nss_lexer.specs.declared.string.Step.{Step}
 use Rattle.nss_lexer.specs.declared.string.Step.TheVariants.{Gives, Leads, Closes, Fails}
 use Rattle.nss_lexer.specs.Bytes.{newline, is_hexadecimal}
-use Rattle.nss_lexer.specs.Strings.{Spelling, plain, escaped, line_end, hexadecimal, Inside, closed, more, StandsFor, quoted, IsString, inside_value, escape_value, string_value, is_plain, is_escaped, quote, backslash, small_n, small_x}
+use Rattle.nss_lexer.specs.Strings.{Spelling, plain, escaped, line_end, hexadecimal, Inside, closed, more, quoted, IsString, inside_value, escape_value, string_value, is_plain, is_escaped, quote, backslash, small_n, small_x, OneValue}
 use Rattle.nss_lexer.specs.Reading.{step, value_from, closing, length_after}
 
 option_same : (m n : ℕ) → Some m ≡ Some n → m ≡ n
@@ -67,7 +67,7 @@ inside_is : (text bytes : List ℕ) → Inside text bytes → bytes ≡ inside_v
 inside_is text bytes closed = refl
 inside_is text bytes (more b one after ones s i) = ap (λ rest. b ∷ rest) (inside_is after ones i) ∙ sym (spelled_value b one after s)
 
-pub one_value : (text bytes : List ℕ) → StandsFor text bytes → bytes ≡ string_value text
+pub one_value : OneValue
 unfolding string_value
 one_value text bytes (quoted rest ones i) = inside_is rest ones i
 

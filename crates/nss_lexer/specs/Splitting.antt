@@ -112,3 +112,16 @@ AreTokens bytes file tokens = Splits bytes file 0 tokens None
 -- the tokens of a file before the place where nothing begins
 abbrev pub AreTokensUpTo : List ℕ → ℕ → List Lexeme → ℕ → Type 0
 AreTokensUpTo bytes file tokens place = Splits bytes file 0 tokens (Some place)
+
+-- a place of a file has one first token, or the file ends there, or nothing begins there
+abbrev pub OneFirst : Type 0
+OneFirst = (bytes : List ℕ) (file at : ℕ) (x y : First) → IsFirst bytes file at x → IsFirst bytes file at y → x ≡ y
+
+-- a file is split in at most one way, and ends in one way
+abbrev pub OneSplit : Type 0
+OneSplit =
+    (bytes : List ℕ) (file at : ℕ) (ts us : List Lexeme) (e f : Option ℕ) → Splits bytes file at ts e → Splits bytes file at us f → (ts ≡ us) × (e ≡ f)
+
+-- each file is split from each place on
+abbrev pub SomeSplit : Type 0
+SomeSplit = (bytes : List ℕ) (file at : ℕ) → (tokens : List Lexeme) × (ending : Option ℕ) × Splits bytes file at tokens ending

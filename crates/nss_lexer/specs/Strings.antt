@@ -1,5 +1,5 @@
 -- How a string is written, and the bytes that it stands for.
-use Rattle.std.specs.Prelude.{ℕ, ◌+◌, ◌*◌, Bool, not, ◌||◌, ◌==◌, IsTrue, List, [], ◌∷◌, ◌++◌, drop, if◌then◌else◌}
+use Rattle.std.specs.Prelude.{◌≡◌, ℕ, ◌+◌, ◌*◌, ◌<◌, All, Bool, not, ◌||◌, ◌==◌, IsTrue, List, [], ◌∷◌, ◌++◌, drop, if◌then◌else◌}
 use Rattle.std.specs.Char.{digit_value}
 use Rattle.nss_lexer.specs.Bytes.{newline, is_hexadecimal}
 
@@ -61,3 +61,11 @@ abbrev mutual
 
 unfoldable pub string_value : List ℕ → List ℕ
 string_value text = inside_value (drop 1 text)
+
+-- what a string stands for is its value, and nothing else
+abbrev pub OneValue : Type 0
+OneValue = (text bytes : List ℕ) → StandsFor text bytes → bytes ≡ string_value text
+
+-- what a string of bytes stands for are bytes
+abbrev pub ValuesAreBytes : Type 0
+ValuesAreBytes = (text : List ℕ) → IsString text → All (λ b. b < 256) text → All (λ b. b < 256) (string_value text)

@@ -27,7 +27,7 @@ fn token_at_start(bytes: &[u8]) -> Option<Scanned>
 pub fn next(bytes: &[u8], file: u16, at: u32) -> Lexed<'_>
     requires size { length bytes.now ≤ file_limit }
     requires place { at ≤ length bytes.now }
-    ensures { IsFirst bytes.now file at (first result) }
+    ensures first { IsFirst bytes.now file at (first result) }
 {
     let start = past_gap(bytes, at as usize);
     let rest = tail(bytes, start);

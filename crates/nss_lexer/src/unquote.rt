@@ -39,8 +39,8 @@ fn value_of(alloc: Global, rest: &[u8]) -> Result<Vec<u8>, NoMemory>
 /// The first 8,192 of the bytes that a string token stands for.
 #[tactic(auto, using(crate::proofs::StringLaws::read_value))]
 pub fn literal(alloc: Global, text: &[u8]) -> Result<Text, NoMemory>
-    requires { IsString text.now }
-    ensures { IfOk result (λ made. made ≡ take text_limit (string_value text.now)) }
+    requires string { IsString text.now }
+    ensures value { IfOk result (λ made. made ≡ take text_limit (string_value text.now)) }
 {
     let bytes = value_of(alloc, past_quote(text))?;
     Text::of(alloc, bytes.as_slice())

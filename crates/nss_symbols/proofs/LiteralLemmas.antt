@@ -1,49 +1,13 @@
--- The literals of tokens are within bounds: a string stands for bytes.
-use Rattle.std.proofs.Common.{◌≡◌, ℕ, ◌+◌, ◌<◌, true, nat_lt, List, [], ◌∷◌, ◌++◌, take, subst, arith}
-use Rattle.std.proofs.lemmas.Bool.Decides.{nat_tests}
+-- The text of a string token is within its bounds.
+use Rattle.std.proofs.Common.{ℕ, ◌<◌, List, take, arith}
 use Rattle.std.proofs.lemmas.List.{length-take}
-use Rattle.std.proofs.lemmas.List.Elements.{All-nil, All-cons, All-head, All-tail, All-take}
-use Rattle.std.specs.Prelude.{All, IsTrue}
-use Rattle.std.specs.Char.{digit_value}
+use Rattle.std.proofs.lemmas.List.Elements.{All-take}
+use Rattle.std.specs.Prelude.{All}
 use Rattle.nwq_value.specs.Limits.{text_limit}
-use Rattle.nss_lexer.specs.Bytes.{is_hexadecimal}
-use Rattle.nss_lexer.specs.Strings.{Spelling, plain, escaped, line_end, hexadecimal, Inside, closed, more, quoted, IsString, string_value, quote, backslash}
-use Rattle.nss_lexer.proofs.StringLaws.{one_value}
+use Rattle.nss_lexer.specs.Strings.{IsString, string_value, ValuesAreBytes}
 use Rattle.nss_symbols.specs.Symbols.{IsText}
 
-abbrev IsByte : ℕ → Type 0
-IsByte b = b < 256
-
-sooner : (xs ys : List ℕ) → All IsByte (xs ++ ys) → All IsByte xs
-sooner [] ys h = All-nil IsByte
-sooner (x ∷ xs) ys h = All-cons IsByte x xs (All-head IsByte x (xs ++ ys) h) (sooner xs ys (All-tail IsByte x (xs ++ ys) h))
-
-later : (xs ys : List ℕ) → All IsByte (xs ++ ys) → All IsByte ys
-later [] ys h = h
-later (x ∷ xs) ys h = later xs ys (All-tail IsByte x (xs ++ ys) h)
-
-below : (a b : ℕ) → nat_lt a b ≡ true → a < b
-below a b h = grind (arith, nat_tests)
-
-half_byte : (c : ℕ) → IsTrue (is_hexadecimal c) → digit_value c < 16
-half_byte c h = below (digit_value c) 16 h
-
-spelled_byte : (one : List ℕ) (b : ℕ) → All IsByte one → Spelling one b → b < 256
-spelled_byte one b h (plain c is) = All-head IsByte c [] h
-spelled_byte one b h (escaped c is) = All-head IsByte c [] (All-tail IsByte backslash (c ∷ []) h)
-spelled_byte one b h line_end = omega arith
-spelled_byte one b h (hexadecimal high low i j) = let x = half_byte high i in let y = half_byte low j in omega (arith, x, y)
-
-inside_bytes : (text bytes : List ℕ) → All IsByte text → Inside text bytes → All IsByte bytes
-inside_bytes text bytes h closed = All-nil IsByte
-inside_bytes text bytes h (more b one rest ones s i) =
-    All-cons IsByte b ones (spelled_byte one b (sooner one rest h) s) (inside_bytes rest ones (later one rest h) i)
-
-string_bytes : (text : List ℕ) → IsString text → All IsByte text → All IsByte (string_value text)
-string_bytes text (bytes, quoted rest ones i) h =
-    subst (All IsByte) (one_value (quote ∷ rest) ones (quoted rest ones i)) (inside_bytes rest ones (All-tail IsByte quote rest h) i)
-
-pub text_literal : (text : List ℕ) → IsString text → All (λ b. b < 256) text → IsText (take text_limit (string_value text))
-text_literal text is h =
+pub text_literal : ValuesAreBytes → (text : List ℕ) → IsString text → All (λ b. b < 256) text → IsText (take text_limit (string_value text))
+text_literal bytes text is h =
     let e = length-take text_limit (string_value text) in
-    (omega (arith, e), All-take IsByte text_limit (string_value text) (string_bytes text is h))
+    (omega (arith, e), All-take (λ b. b < 256) text_limit (string_value text) (bytes text is h))

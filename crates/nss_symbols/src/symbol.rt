@@ -10,6 +10,7 @@ ghost use Rattle.nss_symbols.specs.Tokens.{of_terminal, symbol_of, symbols_of};
 ghost use Rattle.nss_symbols.specs.Cursor.{plain_symbol, IsSound, AreSound};
 
 use crate::terminal::{Terminal, terminal_of};
+use nss_lexer::laws::values_are_bytes;
 use nss_lexer::{Kind, Token};
 use nwq_value::{NoMemory, Text};
 use std::alloc::Global;
@@ -68,6 +69,7 @@ fn string_seen<'a>(text: &'a [u8]) -> Seen<'a>
     ensures literal { IsLiteral (plain_symbol result) }
 {
     are_bytes(text);
+    values_are_bytes();
     Seen::Text(text)
 }
 

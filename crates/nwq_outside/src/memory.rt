@@ -72,7 +72,7 @@ impl MemFiles {
 
     /// Files without names. No call was made, and none is to fail.
     pub fn new(alloc: Global) -> MemFiles
-        ensures { result ≡ record {
+        ensures empty { result ≡ record {
           contents = map.empty;
           failing = [];
           calls = 0;
@@ -103,7 +103,8 @@ impl MemFiles {
 
     /// What is under the name, and `None` exactly where nothing is. This is no call.
     pub fn get(&self, name: &str) -> Option<&[u8]>
-        ensures { option_map (λ bytes. bytes.now) result ≡ map.get self.now.contents name.now }
+        ensures found { option_map (λ bytes. bytes.now) result
+            ≡ map.get self.now.contents name.now }
     {
         match content_of(&self.held, name) {
             None => None,
@@ -213,7 +214,7 @@ impl Model for MemSink {
 impl MemSink {
     /// A sink that took nothing. No call was made, and none is to fail.
     pub fn new(alloc: Global) -> MemSink
-        ensures { result ≡ record { taken = []; failing = []; calls = 0; faults = 0 } }
+        ensures empty { result ≡ record { taken = []; failing = []; calls = 0; faults = 0 } }
     {
         MemSink {
             taken: Items::new(alloc),
@@ -225,14 +226,14 @@ impl MemSink {
 
     /// The bytes that were taken so far.
     pub fn bytes(&self) -> &[u8]
-        ensures { result.now ≡ self.now.taken }
+        ensures taken { result.now ≡ self.now.taken }
     {
         self.taken.as_slice()
     }
 
     /// How many puts there were so far.
     pub fn calls(&self) -> u64
-        ensures { result ≡ self.now.calls }
+        ensures count { result ≡ self.now.calls }
     {
         self.calls
     }

@@ -28,7 +28,7 @@ impl<R: HostFiles> Model for RealFiles<R> {
 
 impl<R: HostFiles> RealFiles<R> {
     pub fn new(host: R) -> Self
-        ensures { result ≡ record { faults = 0; absences = 0; longs = 0 } }
+        ensures made { result ≡ record { faults = 0; absences = 0; longs = 0 } }
     {
         RealFiles {
             host,
@@ -112,13 +112,13 @@ impl<W: Write> Model for RealSink<W> {
 
 impl<W: Write> RealSink<W> {
     pub fn new(writer: W) -> Self
-        ensures { result ≡ record { faults = 0; known = W.contents writer } }
+        ensures made { result ≡ record { faults = 0; known = W.contents writer } }
     {
         RealSink { writer, faults: 0 }
     }
 
     pub fn writer(&self) -> &W
-        ensures { W.contents result.now ≡ self.now.known }
+        ensures known { W.contents result.now ≡ self.now.known }
     {
         &self.writer
     }

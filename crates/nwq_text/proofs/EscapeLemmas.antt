@@ -3,6 +3,7 @@ use Rattle.std.proofs.lemmas.List.{take_more, flat_map_more, take_all, append_ca
 use Rattle.std.proofs.lemmas.Bool.Decides.{nat_tests}
 use Rattle.std.proofs.lemmas.Option.{cond_some, some_pair_parts, none-some}
 use Rattle.std.specs.List.{flat_map}
+use Rattle.nwq_value.specs.Limits.{text_limit}
 use Rattle.nwq_text.specs.Escape.{spelling, hex_digit, is_plain, escaped, quoted, AreBytes, ReadsText, ReadsQuoted, EscapesApart}
 use Rattle.nwq_text.specs.Unescape.{front_spelled, after_backslash, after_x, hex_value, hex_pair, is_spelled_in_hex, Unescapes, KeepsAll}
 
@@ -174,8 +175,8 @@ pub whole_is_read : (q : Bool) (text done rest : List ℕ) → TextSoFar q text 
 whole_is_read q text done rest so end =
     (so.each, so.whole ∙ ap (λ r. flat_map (spelling q) done ++ r) end ∙ append-nil (flat_map (spelling q) done))
 
-pub all_kept : (bytes text : List ℕ) → text ≡ take 8192 bytes → length bytes ≤ 8192 → text ≡ bytes
-all_kept bytes text is fits = is ∙ take_all 8192 bytes fits
+pub all_kept : (bytes text : List ℕ) → text ≡ take text_limit bytes → length bytes ≤ text_limit → text ≡ bytes
+all_kept bytes text is fits = is ∙ take_all text_limit bytes fits
 
 -- the text of bytes whose escaped text this is, where they are no more than a text has
 pub text_is_read : (text bytes : List ℕ) (read : Option (List ℕ)) → Unescapes false text (Some bytes) → KeepsAll bytes read → ReadsText text read

@@ -1,5 +1,6 @@
 use Rattle.std.specs.Prelude.{◌≡◌, ◌≢◌, ℕ, ◌+◌, ◌/◌, ◌%◌, ◌<◌, ◌≤◌, Bool, true, false, ◌&&◌, not, ◌==◌, nat_lt, nat_le, if◌then◌else◌, List, [], ◌∷◌, ◌++◌, length, Option, MatchOption}
 use Rattle.std.specs.List.{flat_map, AllByRecursion}
+use Rattle.nwq_value.specs.Limits.{text_limit}
 
 -- a byte that stands for itself: a printable ASCII character other than the backslash and, between quotes, the quote
 abbrev pub is_plain : Bool → ℕ → Bool
@@ -33,7 +34,7 @@ AreBytes numbers = AllByRecursion (λ b. b < 256) numbers
 
 -- a list of bytes that a text can hold
 pub record IsTextual (bytes : List ℕ) : Type 0 where
-  pub fits : length bytes ≤ 8192
+  pub fits : length bytes ≤ text_limit
   pub each : AreBytes bytes
 
 -- what is read is the text whose escaped text this is, and nothing exactly where this is the escaped text of none

@@ -1,5 +1,6 @@
 use Rattle.std.specs.Prelude.{◌≡◌, ◌≢◌, ℕ, ◌+◌, ◌-◌, ◌*◌, ◌<◌, ◌≤◌, length, Bool, ◌&&◌, not, ◌==◌, nat_le, if◌then◌else◌, List, [], ◌∷◌, Option, Some, None, MatchOption}
 use Rattle.std.specs.List.{flat_map}
+use Rattle.nwq_value.specs.Limits.{text_limit}
 use Rattle.nwq_text.specs.Escape.{is_plain, spelling, AreBytes}
 
 -- the number of a hexadecimal digit in lower case
@@ -42,4 +43,4 @@ Unescapes q text read =
 
 -- the text is all of the bytes, where it may have so many, and else there is none
 abbrev pub KeepsAll : List ℕ → Option (List ℕ) → Type 0
-KeepsAll bytes read = MatchOption read (8192 < length bytes) (λ text. (length bytes ≤ 8192) × (text ≡ bytes))
+KeepsAll bytes read = MatchOption read (text_limit < length bytes) (λ text. (length bytes ≤ text_limit) × (text ≡ bytes))

@@ -31,7 +31,7 @@ pub fn put_count(out: &mut Vec<u8>, n: u64) -> Result<(), NoMemory>
 #[tactic(auto, using(crate::proofs::NumberLemmas::one_more_digit, crate::proofs::NumberLemmas::number_fits, crate::proofs::NumberLemmas::no_digit, crate::proofs::NumberLemmas::all_digits, crate::proofs::NumberLemmas::no_number))]
 /// The number that one to ten decimal digits write, and `None` for any other bytes.
 pub fn read_number(digits: &[u8]) -> Option<u64>
-    ensures { result ≡ number_of digits.now }
+    ensures number { result ≡ number_of digits.now }
 {
     if digits.is_empty() || digits.len() > MOST_DIGITS {
         return None;

@@ -2,4 +2,6 @@ use Rattle.code_emission.proofs.Whole.{unit_whole}
 use Rattle.code_emission.proofs.laws.code_is_whole.Goals as goal
 
 pub returns : goal.returns
-returns c = unit_whole c.part_laws.ensures.placements c.part_laws.ensures.lead c.part_laws.ensures.close
+returns c =
+    let parts = c.part_laws.ensures.parts in
+    record { whole = unit_whole parts.placements parts.lead parts.close }

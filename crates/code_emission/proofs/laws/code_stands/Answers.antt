@@ -7,6 +7,7 @@ at_most_once true count is = omega arith
 at_most_once false count is = omega arith
 
 pub returns : goal.returns
-returns c u =
-    c.program_stands.ensures.stands (unit_code u).lines
-    (λ label. at_most_once (ltb label (unit_code u).labels) _ (c.each_placed_once.ensures u label))
+returns c = record {
+  stands = λ u. c.program_stands.ensures.stands (unit_code u).lines
+      (λ label. at_most_once (ltb label (unit_code u).labels) _ (c.each_placed_once.ensures.once u label));
+}

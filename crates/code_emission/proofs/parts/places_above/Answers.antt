@@ -2,10 +2,14 @@ use Rattle.code_emission.proofs.Labels.{arguments_above, exprs_above, names_abov
 use Rattle.code_emission.proofs.parts.places_above.Goals as goal
 
 pub returns : goal.returns
-returns c = record {
-  exprs = exprs_above c.part_laws.ensures.placements;
-  arguments = arguments_above c.part_laws.ensures.placements;
-  names = names_above c.part_laws.ensures.placements;
-  stmt = stmt_above c.part_laws.ensures.placements;
-  stmts = stmts_above c.part_laws.ensures.placements;
-}
+returns c =
+    let add = c.part_laws.ensures.parts.placements in
+    record {
+      above = record {
+        exprs = exprs_above add;
+        arguments = arguments_above add;
+        names = names_above add;
+        stmt = stmt_above add;
+        stmts = stmts_above add;
+      };
+    }

@@ -138,7 +138,7 @@ or_else-expression-requires-2 t c = (
 pub or_else-returns : goal.or_else-returns
 or_else-returns t c =
     or_code c.args.layout.now (plain c.args.left.now) (plain c.args.right.now) _ c.args.depth _ (c.args.depth + cells c.args.layout.now.structs (type_of (plain c.args.left.now))) _ _ _ _ _ _ _ _ _ _ c.in_ok-other.ensures.number c.in_ok-end.ensures.number c.in_ok-other.ensures.made c.in_ok-end.ensures.made c.in_ok-expression.ensures
-    c.in_ok-skip_right.ensures (ap (λ n. c.args.depth + n) (c.cells.ensures.cells ∙ ap (cells c.args.layout.now.structs) c.ty.ensures.ty)) c.in_ok-expression-2.ensures c.in_ok-op.ensures.ok c.place.ensures
+    c.in_ok-skip_right.ensures (ap (λ n. c.args.depth + n) (c.cells.ensures.cells ∙ ap (cells c.args.layout.now.structs) c.ty.ensures.ty)) c.in_ok-expression-2.ensures c.in_ok-op.ensures.ok c.place.ensures.placed
 
 -- ---- calls
 

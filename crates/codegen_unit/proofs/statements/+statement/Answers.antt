@@ -86,7 +86,7 @@ statements-loop-stmt-preserved t c =
     let deeper : c.loop-stmt.depth + c.declared_cells-depth.result ≡ _ = ap (λ k. c.loop-stmt.depth + k) c.declared_cells-depth.ensures in (
       rest_ready c.args.layout.now c.args.exits c.args.stmts.now c.loop-stmt.stmt-index c.stmt-item.result c.stmt-item.is c.loop-stmt-test.true c.loop-stmt.out.labels _ c.loop-stmt.depth _ c.loop-stmt.invariant.0
           (ap (λ (d : LabelledCode). d.labels) c.in_ok-statement.ensures ∙ ap (λ (d : LabelledCode). d.labels + code.stmt_labels (typed_stmt c.stmt-item.result)) c.place_label-at.ensures.placed) deeper,
-      open_after c.args.layout.now c.args.exits c.args.stmts.now c.loop-stmt.stmt-index c.stmt-item.result c.stmt-item.is c.loop-stmt-test.true c.part_laws.ensures.placements c.places_above.ensures.stmt (plain_exits c.args.exits)
+      open_after c.args.layout.now c.args.exits c.args.stmts.now c.loop-stmt.stmt-index c.stmt-item.result c.stmt-item.is c.loop-stmt-test.true c.part_laws.ensures.parts.placements c.places_above.ensures.above.stmt (plain_exits c.args.exits)
           c.loop-stmt.out c.place_label-at.new.out c.statement.new.out c.loop-stmt.depth c.loop-stmt.at c.place_label-at.result c.place_label-at.ensures.placed c.in_ok-statement.ensures c.place_label-at.ensures.next
           c.loop-stmt.invariant.1,
       code_step c.args.layout.now c.args.exits c.args.stmts.now c.loop-stmt.stmt-index c.stmt-item.result c.stmt-item.is c.loop-stmt-test.true (plain_exits c.args.exits) c.loop-stmt.out c.place_label-at.new.out c.statement.new.out _
@@ -109,7 +109,7 @@ pub for_loop-place-requires-clause-unplaced : goal.for_loop-place-requires-claus
 for_loop-place-requires-clause-unplaced t c =
     let made = ap (λ (d : LabelledCode). d.labels) c.in_ok-top.ensures.made in
     let top = c.in_ok-top.top in
-    for_open c.part_laws.ensures.placements c.places_above.ensures.exprs c.places_above.ensures.stmt c.args.layout.now (plain_exits c.in_loop-exits.result) c.args.depth top (top + 1) (top + 2) (top + 2)
+    for_open c.part_laws.ensures.parts.placements c.places_above.ensures.above.exprs c.places_above.ensures.above.stmt c.args.layout.now (plain_exits c.in_loop-exits.result) c.args.depth top (top + 1) (top + 2) (top + 2)
     (option_map plain c.args.start.now) (option_map plain c.args.condition.now) (option_map plain c.args.step.now) (typed_stmt c.args.body.now) _ _ _ _ _
     c.in_ok-emit_evaluated.ensures c.in_ok-emit_turn.ensures c.in_ok-statement.ensures c.in_ok-emit_again.ensures
     (omega (arith, made, c.in_ok-top.ensures.first)) (omega arith) (omega arith)
@@ -127,7 +127,7 @@ switch-statements-requires t c =
         record {
           inside = omega (arith, made, after, c.count_labels.ensures, c.in_ok-end.ensures.first);
           unplaced = λ label from to.
-              choice_open c.part_laws.ensures.placements c.places_above.ensures.exprs c.args.layout.now c.args.depth c.in_ok-end.end _ (plain c.args.value.now) (typed_stmts c.args.body.now) _ _ c.in_ok-emit_choice.ensures label
+              choice_open c.part_laws.ensures.parts.placements c.places_above.ensures.above.exprs c.args.layout.now c.args.depth c.in_ok-end.end _ (plain c.args.value.now) (typed_stmts c.args.body.now) _ _ c.in_ok-emit_choice.ensures label
               (omega (arith, made, from, to, c.count_labels.ensures, c.in_ok-end.ensures.first))
               (c.in_ok-end.ensures.unplaced label (omega (arith, from, c.in_ok-end.ensures.first)) (omega (arith, to, c.count_labels.ensures, c.in_ok-end.ensures.first)));
         },
@@ -141,9 +141,9 @@ pub switch-close_switch-requires-clause-unplaced : goal.switch-close_switch-requ
 switch-close_switch-requires-clause-unplaced t c =
     let made = ap (λ (d : LabelledCode). d.labels) c.in_ok-end.ensures.made in
     let after = ap (λ (d : LabelledCode). d.labels) c.in_ok-emit_choice.ensures in
-    close_open c.part_laws.ensures.placements c.places_above.ensures.stmt c.args.layout.now (plain_exits c.in_switch-exits.result) (c.args.depth + 1) (c.in_ok-end.end + 1) c.in_ok-end.end (typed_stmts c.args.body.now) _ _
+    close_open c.part_laws.ensures.parts.placements c.places_above.ensures.above.stmt c.args.layout.now (plain_exits c.in_switch-exits.result) (c.args.depth + 1) (c.in_ok-end.end + 1) c.in_ok-end.end (typed_stmts c.args.body.now) _ _
     c.in_ok-behind.ensures.code (omega (arith, made, after, c.in_ok-end.ensures.first)) (omega arith)
-    (choice_open c.part_laws.ensures.placements c.places_above.ensures.exprs c.args.layout.now c.args.depth c.in_ok-end.end _ (plain c.args.value.now) (typed_stmts c.args.body.now) _ _ c.in_ok-emit_choice.ensures c.in_ok-end.end
+    (choice_open c.part_laws.ensures.parts.placements c.places_above.ensures.above.exprs c.args.layout.now c.args.depth c.in_ok-end.end _ (plain c.args.value.now) (typed_stmts c.args.body.now) _ _ c.in_ok-emit_choice.ensures c.in_ok-end.end
     (omega (arith, made, c.in_ok-end.ensures.first))
     (c.in_ok-end.ensures.unplaced c.in_ok-end.end (omega (arith, c.in_ok-end.ensures.first)) (omega (arith, c.in_ok-end.ensures.first))))
 

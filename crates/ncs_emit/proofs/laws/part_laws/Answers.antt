@@ -5,10 +5,12 @@ use Rattle.ncs_emit.proofs.laws.part_laws.Goals as goal
 
 pub returns : goal.returns
 returns c = record {
-  placements = placements_add;
-  size = lines_size_adds;
-  stand = both_stand;
-  lead = both_lead_on;
-  close = both_close;
-  last = instruction_closes;
+  parts = record {
+    placements = placements_add;
+    size = lines_size_adds;
+    stand = both_stand;
+    lead = both_lead_on;
+    close = both_close;
+    last = instruction_closes;
+  };
 }

@@ -12,14 +12,14 @@ returns-in-Err-clause-told g c = λ told. begins-fails _ c.args.name.now c.in-Er
 pub returns-in-Err-run-clause-told : goal.returns-in-Err-run-clause-told
 returns-in-Err-run-clause-told g c = λ told.
     let outside : map.get (g.F.Files.contents c.begin.new.files) ≡ map.get (g.F.Files.contents c.args.files.now) = ap map.get c.in-Ok.ensures.same
-    in begins-stops c.one_first.ensures c.some_split.ensures (map.get (g.F.Files.contents c.args.files.now)) c.args.name.now c.in-Ok.gatherer c.in-Err-run.fault
+    in begins-stops c.one_first.ensures.one c.some_split.ensures.some (map.get (g.F.Files.contents c.args.files.now)) c.args.name.now c.in-Ok.gatherer c.in-Err-run.fault
     c.in-Ok.ensures.begins (c.in-Ok.ensures.holds told)
     (subst (λ (o : Lookup). HoldsFiles o c.in-Ok.gatherer.unit.files → Claims c.in-Err-run.fault (ComesTo o c.in-Ok.gatherer c.in-Err-run.fault)) outside
     (c.in-Err-run.ensures.stops told) (c.in-Ok.ensures.holds told))
 
 pub returns-in-Ok-run-clause-unit : goal.returns-in-Ok-run-clause-unit
 returns-in-Ok-run-clause-unit g c = λ lookup held.
-    begins-unit c.one_first.ensures c.some_split.ensures lookup c.args.name.now c.in-Ok.gatherer _ _ _ _ c.in-Ok.ensures.begins
+    begins-unit c.one_first.ensures.one c.some_split.ensures.some lookup c.args.name.now c.in-Ok.gatherer _ _ _ _ c.in-Ok.ensures.begins
     (c.in-Ok-run.ensures.keeps lookup held) (c.in-Ok-run.ensures.whole lookup held)
 
 pub returns-in-Ok-run-clause-told : goal.returns-in-Ok-run-clause-told
@@ -28,5 +28,5 @@ returns-in-Ok-run-clause-told g c = λ told.
     in let lookup : Lookup = map.get (g.F.Files.contents c.args.files.now)
     in let held = subst (λ (o : Lookup). HoldsFiles o c.in-Ok.gatherer.unit.files → HoldsFiles o c.run.new.self.unit.files) outside
     (c.in-Ok-run.ensures.holds told) (c.in-Ok.ensures.holds told)
-    in begins-unit c.one_first.ensures c.some_split.ensures lookup c.args.name.now c.in-Ok.gatherer _ _ _ _
+    in begins-unit c.one_first.ensures.one c.some_split.ensures.some lookup c.args.name.now c.in-Ok.gatherer _ _ _ _
     c.in-Ok.ensures.begins (c.in-Ok.ensures.holds told) (c.in-Ok-run.ensures.whole lookup held)

@@ -14,9 +14,9 @@ pub returns-clause-codes : goal.returns-clause-codes
 returns-clause-codes c = sure_codes (sure_bytes c.spelling_laws.ensures c.one_fault.ensures.one c.one_fault.ensures.none)
 
 pub returns-clause-assemblies : goal.returns-clause-assemblies
-returns-clause-assemblies c = sure_assemblies c.one_answer.ensures
+returns-clause-assemblies c = sure_assemblies c.one_answer.ensures.one
 
 pub returns-clause-commands : goal.returns-clause-commands
 returns-clause-commands c =
     sure_commands (sure_trees c.one_tree.ensures.one) (sure_codes (sure_bytes c.spelling_laws.ensures c.one_fault.ensures.one c.one_fault.ensures.none))
-    (sure_assemblies c.one_answer.ensures)
+    (sure_assemblies c.one_answer.ensures.one)

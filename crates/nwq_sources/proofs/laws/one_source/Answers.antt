@@ -6,4 +6,4 @@ pub returns-clause-tables : goal.returns-clause-tables
 returns-clause-tables c = sure_tables c.one_header.ensures.one
 
 pub returns-clause-units : goal.returns-clause-units
-returns-clause-units c = sure_units c.one_unit.ensures c.one_tree.ensures.one c.one_refusal.ensures.one c.one_refusal.ensures.none
+returns-clause-units c = sure_units c.one_unit.ensures.one c.one_tree.ensures.one c.one_refusal.ensures.one c.one_refusal.ensures.none

@@ -19,10 +19,10 @@ spot-requires-clause-place c =
 pub returns-in-Some : goal.returns-in-Some
 returns-in-Some c =
     token_spots c.args.unit.now.files c.as_slice.result.now c.args.unit.now.tokens c.args.i
-    (ap (map plain) c.as_slice.ensures.value ∙ c.in_ok-tokens.ensures.tokens) c.spot.result c.in-Some.token c.in-Some.ensures c.spot.ensures
+    (ap (map plain) c.as_slice.ensures.value ∙ c.in_ok-tokens.ensures.tokens) c.spot.result c.in-Some.token c.in-Some.ensures c.spot.ensures.spot
 
 pub returns : goal.returns
 returns c =
     end_spots c.args.unit.now.files c.as_slice.result.now c.args.unit.now.tokens c.args.i
     (ap (map plain) c.as_slice.ensures.value ∙ c.in_ok-tokens.ensures.tokens) c.spot-in-None.result c.file_bytes.result.now (length c.file_bytes.result.now) c.in-None.ensures
-    c.file_bytes.ensures.bytes refl c.spot-in-None.ensures
+    c.file_bytes.ensures.bytes refl c.spot-in-None.ensures.spot

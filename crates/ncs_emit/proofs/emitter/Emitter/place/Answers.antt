@@ -28,4 +28,4 @@ invariant_of-self c =
 pub returns : goal.returns
 returns c =
     let items = rw c.unwrap.ensures at c.push.ensures.items in
-    code_and_label _ _ _ _ _ _ c.args.label items c.self.view_is (length-set c.self.inside.placed.items c.args.label true)
+    record { placed = code_and_label _ _ _ _ _ _ c.args.label items c.self.view_is (length-set c.self.inside.placed.items c.args.label true) }

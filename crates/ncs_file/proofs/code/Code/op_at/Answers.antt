@@ -4,8 +4,9 @@ use Rattle.ncs_file.proofs.Loaded.{none_there, one_there}
 use Rattle.ncs_file.proofs.code.Code.op_at.Goals as goal
 
 pub returns-then-not-is_marked : goal.returns-then-not-is_marked
-returns-then-not-is_marked c =
-    none_there c.size_laws.ensures _ _ _ _ _ _ _ c.self.invariant c.self.view_is c.as_slice.ensures.value c.is_marked.ensures c.if-not-is_marked.true
+returns-then-not-is_marked c = record {
+  op = none_there c.size_laws.ensures _ _ _ _ _ _ _ c.self.invariant c.self.view_is c.as_slice.ensures.value c.is_marked.ensures c.if-not-is_marked.true;
+}
 
 pub decode-requires-clause-inside : goal.decode-requires-clause-inside
 decode-requires-clause-inside c =
@@ -20,4 +21,4 @@ pub returns : goal.returns
 returns c =
     let there = one_there c.size_laws.ensures c.place_laws.ensures _ _ _ _ _ _ _ _ c.self.invariant c.self.view_is c.as_slice-2.ensures.value c.as_slice.ensures.value c.is_marked.ensures c.if-not-is_marked.false in
     let found = c.in-Ok.ensures.only there.op there.rest there.is_op there.prefix in
-    (there.is ∙ ap Some (sym found.0), found.1 ∙ ap op_size (sym found.0))
+    record { op = (there.is ∙ ap Some (sym found.0), found.1 ∙ ap op_size (sym found.0)) }

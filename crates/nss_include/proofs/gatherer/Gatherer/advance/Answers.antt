@@ -11,9 +11,9 @@ returns-in-Ends-clause-leads g c = λ lookup _.
 pub returns-in-Breaks-clause-stops : goal.returns-in-Breaks-clause-stops
 returns-in-Breaks-clause-stops g c = λ lookup _.
     stops-breaks c.args.self.now c.args.here c.in-Breaks.place
-    (subst (λ (s : Step). HasStep c.args.self.now c.args.here s) c.in-Breaks.is (c.in_ok-step_at.ensures {u = tt})) _ c.in_ok-spot-in-Breaks.ensures lookup
+    (subst (λ (s : Step). HasStep c.args.self.now c.args.here s) c.in-Breaks.is (c.in_ok-step_at.ensures {u = tt})) _ c.in_ok-spot-in-Breaks.ensures.spot lookup
 
 pub returns-clause-stops : goal.returns-clause-stops
 returns-clause-stops g c = λ lookup _.
     stops-misses c.args.self.now c.args.here c.in-Misses.place
-    (subst (λ (s : Step). HasStep c.args.self.now c.args.here s) c.in-Misses.is (c.in_ok-step_at.ensures {u = tt})) _ c.in_ok-spot-in-Misses.ensures lookup
+    (subst (λ (s : Step). HasStep c.args.self.now c.args.here s) c.in-Misses.is (c.in_ok-step_at.ensures {u = tt})) _ c.in_ok-spot-in-Misses.ensures.spot lookup

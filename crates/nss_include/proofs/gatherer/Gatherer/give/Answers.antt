@@ -5,7 +5,7 @@ use Rattle.nss_include.proofs.gatherer.Gatherer.give.Goals as goal
 
 pub returns-then-self-eq-MOST_TOKENS-clause-stops : goal.returns-then-self-eq-MOST_TOKENS-clause-stops
 returns-then-self-eq-MOST_TOKENS-clause-stops c =
-    stops-gives c.args.self.now c.args.here c.args.span c.requires.step _ c.if-self-eq-MOST_TOKENS.true c.in_ok-spot.ensures
+    stops-gives c.args.self.now c.args.here c.args.span c.requires.step _ c.if-self-eq-MOST_TOKENS.true c.in_ok-spot.ensures.spot
 
 pub returns-clause-leads : goal.returns-clause-leads
 returns-clause-leads c =

@@ -9,7 +9,7 @@ use Rattle.nss_include.proofs.gatherer.Gatherer.mention.Goals as goal
 
 pub returns-then-self-gt-MOST_TOKENS-clause-stops : goal.returns-then-self-gt-MOST_TOKENS-clause-stops
 returns-then-self-gt-MOST_TOKENS-clause-stops g c = λ lookup _.
-    stops-mentions c.args.self.now c.args.here c.args.hash c.args.name.now c.args.after c.requires.step _ c.if-self-gt-MOST_TOKENS.true c.in_ok-spot.ensures lookup
+    stops-mentions c.args.self.now c.args.here c.args.hash c.args.name.now c.args.after c.requires.step _ c.if-self-gt-MOST_TOKENS.true c.in_ok-spot.ensures.spot lookup
 
 pub file_of-requires : goal.file_of-requires
 file_of-requires g c = rw c.bytes.ensures.same (IsUtf8-name c.args.name.now c.requires.step.within.2)
