@@ -15,6 +15,7 @@
 #![tactic(auto)]
 
 mod arguments;
+mod decoder;
 mod fault;
 mod file_header;
 mod instruction;
@@ -22,16 +23,15 @@ mod laws;
 mod leading;
 mod name;
 mod opcode;
-mod reading;
 mod writing;
 
+pub use decoder::decode;
 pub use fault::CodeFault;
 pub use file_header::{HEADER_BYTES, header};
 pub use instruction::{Lit, Op};
 pub use laws::{distance_leads, one_first_bad, one_name, place_laws, size_laws, spelling_laws};
 pub use leading::jump_place;
 pub use name::opcode_named;
-pub use reading::decode;
 
 /// How many bytes a file of bytecode has at most.
 pub const FILE_BYTES: u32 = 16_777_216;

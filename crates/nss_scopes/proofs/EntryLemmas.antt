@@ -7,7 +7,7 @@ use Rattle.nss_typing.specs.Sight.{struct_means, has_struct, is_of_struct, find_
 use Rattle.nss_scopes.specs.declared.structs.Structure.{Structure}
 use Rattle.nss_scopes.specs.declared.heads.Head.{Head}
 use Rattle.nss_scopes.specs.Places.{first_place}
-use Rattle.nss_scopes.specs.Entries.{structure_of, head_of, struct_name, head_name, AreStructs, AreHeads, bodies_in}
+use Rattle.nss_scopes.specs.Entries.{structure_of, head_of, struct_name, head_name, AreStructs, AreHeads, bodies_in, struct_limit}
 
 pub mapped_at : {A B : Type 0} (f : A → B) (xs : List A) (i : ℕ) → option_map f (slice_get xs i) ≡ slice_get (map f xs) i
 mapped_at f [] i = refl
@@ -96,7 +96,7 @@ pub struct_is_there : (x : List ℕ) (all : List Structure) (places : List (List
 struct_is_there x all places seen kept view =
     ap (λ ps. is_some (first_place x ps)) kept.names ∙ (sym (struct_there x all) ∙ ap (has_struct x) view)
 
-pub structs_more : (all : List Structure) (places after : List (List ℕ)) (s : Structure) (name : List ℕ) → AreStructs all places → name ≡ s.called → length all < 65536
+pub structs_more : (all : List Structure) (places after : List (List ℕ)) (s : Structure) (name : List ℕ) → AreStructs all places → name ≡ s.called → length all < struct_limit
     → after ≡ places ++ name ∷ [] → AreStructs (all ++ s ∷ []) after
 structs_more all places after s name kept is few more = record {
   names = more ∙ (ap (λ ps. ps ++ name ∷ []) kept.names ∙ (ap (λ x. map struct_name all ++ x ∷ []) is ∙ sym (mapped_more struct_name all s)));

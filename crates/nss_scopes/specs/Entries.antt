@@ -38,9 +38,13 @@ struct_name s = s.called
 abbrev pub head_name : Head → List ℕ
 head_name h = h.called
 
+-- how many structs can be told apart, since the number of a struct has 16 bits
+abbrev pub struct_limit : ℕ
+struct_limit = 65536
+
 pub record AreStructs (all : List Structure) (places : List (List ℕ)) : Type 0 where
   pub names : places ≡ map struct_name all
-  pub few : length all ≤ 65536
+  pub few : length all ≤ struct_limit
 
 -- the names of those with a body
 abbrev pub bodies_in : List Head → List (List ℕ)

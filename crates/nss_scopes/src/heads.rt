@@ -27,7 +27,7 @@ pub struct Head {
 }
 
 /// How many declarations are kept.
-const MOST: usize = 4_294_967_294;
+const MOST_HEADS: usize = 4_294_967_294;
 
 /// The declarations of functions in order. Contracts see the list of them.
 #[derive(Drop)]
@@ -95,7 +95,7 @@ fn push(
     ensures ok { OnOk result (all.new.items ≡ all.old.items ++ head ∷ []) }
     ensures kept { AreHeads all.new.items places.new bodies.new }
 {
-    if all.len() >= MOST {
+    if all.len() >= MOST_HEADS {
         drop(head);
         return Err(NoMemory);
     }

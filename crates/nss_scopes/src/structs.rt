@@ -44,8 +44,8 @@ pub enum Meant {
     Is(Ty),
 }
 
-/// How many structs have a number.
-const MOST: usize = 65536;
+/// How many structs are kept: so many have a number of 16 bits.
+const MOST_STRUCTS: usize = 65_536;
 
 /// The declared structs in order, at most 65,536. Contracts see the list of them.
 #[derive(Drop)]
@@ -91,7 +91,7 @@ fn push(
     ensures err { OnErr result (all.new.items ≡ all.old.items) }
     ensures kept { AreStructs all.new.items places.new }
 {
-    if all.len() >= MOST {
+    if all.len() >= MOST_STRUCTS {
         drop(structure);
         return Err(NoMemory);
     }

@@ -5,3 +5,4 @@ pub mod Spellings
 pub mod Outcome
 pub mod Cursor
 pub mod Nest
+pub mod Levels

@@ -1,12 +1,15 @@
 -- How deep the tokens nest, counted over the tokens alone. A list of numbers is carried over them, with a
 -- count of open `do`s beside each number; the nest of a token is the sum of the numbers after it.
 use Rattle.std.specs.Prelude.{ℕ, ◌+◌, ◌-◌, ◌<◌, ◌≤◌, ◌==◌, Bool, true, false, ◌&&◌, not, List, [], ◌∷◌, Option, None, Some, sum_by, slice_index, map, if◌then◌else◌}
-use Rattle.std.specs.List.{AllByRecursion}
 use Rattle.nwq_value.specs.Limits.{nest_limit}
 use Rattle.nss_symbols.specs.declared.terminal.Terminal.{Terminal}
 use Rattle.nss_symbols.specs.declared.terminal.Terminal.TheVariants as terminal
 use Rattle.nss_symbols.specs.Symbols.{Symbol, Fixed}
-use Rattle.nss_symbols.specs.declared.nest.Level.{Level}
+
+-- a number, and the count of open `do`s beside it
+pub record Level : Type 0 where
+  pub number : ℕ
+  pub dos : ℕ
 
 -- the last number, and those below it, the nearest first
 pub record State : Type 0 where
@@ -17,23 +20,23 @@ pub record State : Type 0 where
 abbrev pub start : State
 start = record { last = record { number = 0; dos = 0 }; below = [] }
 
-abbrev pub opens : Terminal → Bool
-opens terminal.Open = true
-opens terminal.OpenBrace = true
-opens terminal.OpenBracket = true
-opens _ = false
+abbrev pub is_opening : Terminal → Bool
+is_opening terminal.Open = true
+is_opening terminal.OpenBrace = true
+is_opening terminal.OpenBracket = true
+is_opening _ = false
 
-abbrev pub closes : Terminal → Bool
-closes terminal.Close = true
-closes terminal.CloseBrace = true
-closes terminal.CloseBracket = true
-closes _ = false
+abbrev pub is_closing : Terminal → Bool
+is_closing terminal.Close = true
+is_closing terminal.CloseBrace = true
+is_closing terminal.CloseBracket = true
+is_closing _ = false
 
 -- a `}` or `;`
-abbrev pub ends : Terminal → Bool
-ends terminal.CloseBrace = true
-ends terminal.Semicolon = true
-ends _ = false
+abbrev pub is_end : Terminal → Bool
+is_end terminal.CloseBrace = true
+is_end terminal.Semicolon = true
+is_end _ = false
 
 -- the words of branches and loops, the operators and the assignments
 abbrev pub is_head : Terminal → Bool
@@ -99,13 +102,13 @@ terminal_in (Fixed m) = Some m
 terminal_in _ = None
 
 -- a test of a word or a sign, and false of every other token
-abbrev pub tests : (Terminal → Bool) → Option Terminal → Bool
-tests p (Some m) = p m
-tests p None = false
+abbrev pub is_some_and : (Terminal → Bool) → Option Terminal → Bool
+is_some_and p (Some m) = p m
+is_some_and p None = false
 
 -- an opening bracket appends the number 1
 abbrev pub opened : Terminal → State → State
-opened m s = if opens m then record { last = record { number = 1; dos = 0 }; below = s.last ∷ s.below } else s
+opened m s = if is_opening m then record { last = record { number = 1; dos = 0 }; below = s.last ∷ s.below } else s
 
 abbrev pub without_last : Level → List Level → State
 without_last last [] = record { last = last; below = [] }
@@ -113,7 +116,7 @@ without_last last (l ∷ ls) = record { last = l; below = ls }
 
 -- a closing bracket takes the last number off, where more than one number is there
 abbrev pub closed : Terminal → State → State
-closed m s = if closes m then without_last s.last s.below else s
+closed m s = if is_closing m then without_last s.last s.below else s
 
 abbrev pub with_last : State → Level → State
 with_last s l = record { last = l; below = s.below }
@@ -128,19 +131,19 @@ counted m s = if is_do m then with_last s (record { number = s.last.number; dos 
 
 -- a `while` directly after `}` or `;` lowers the count of the last number by 1 where it isn't 0
 abbrev pub uncounted : Option Terminal → Terminal → State → State
-uncounted before m s = if is_while m && tests ends before then with_last s (record { number = s.last.number; dos = s.last.dos - 1 }) else s
+uncounted before m s = if is_while m && is_some_and is_end before then with_last s (record { number = s.last.number; dos = s.last.dos - 1 }) else s
 
 abbrev pub reset_number : List Level → ℕ
 reset_number [] = 0
 reset_number (l ∷ ls) = 1
 
-abbrev pub positive : ℕ → Bool
-positive n = not (n == 0)
+abbrev pub is_positive : ℕ → Bool
+is_positive n = not (n == 0)
 
 -- A `}` or `;` then resets the last number, to 1, or to 0 where it is the only one, and its count to 0; but not
 -- before `else`, and not before `while` where the count is above 0.
 abbrev pub reset : Terminal → Option Terminal → State → State
-reset m after s = if ends m && not (tests is_else after) && not (tests is_while after && positive s.last.dos) then with_last s (record { number = reset_number s.below; dos = 0 }) else s
+reset m after s = if is_end m && not (is_some_and is_else after) && not (is_some_and is_while after && is_positive s.last.dos) then with_last s (record { number = reset_number s.below; dos = 0 }) else s
 
 -- what a token makes of the numbers, by the one before it and the one after it
 abbrev pub changed : Option Terminal → Option Terminal → Option Terminal → State → State
@@ -178,7 +181,3 @@ IsWithinNest tokens = (k : ℕ) → slice_index (nests tokens) k ≤ nest_limit
 abbrev pub IsNestAnswer : List Symbol → Option ℕ → Type 0
 IsNestAnswer tokens None = IsWithinNest tokens
 IsNestAnswer tokens (Some i) = IsFirstOver tokens i
-
--- no count passes its number, since each `do` raises both
-abbrev pub AreCounted : Level → List Level → Type 0
-AreCounted last below = (last.dos ≤ last.number) × AllByRecursion (λ l. l.dos ≤ l.number) below

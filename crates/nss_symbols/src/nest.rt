@@ -31,20 +31,20 @@ struct Nest {
 }
 
 impl Model for Nest {
-    ghost use Rattle.std.specs.Prelude.{◌≡◌, reverse};
-    ghost use Rattle.nss_symbols.specs.Nest.{AreCounted, State, total};
+    ghost use Rattle.std.specs.Prelude.{◌≡◌};
+    ghost use Rattle.nss_symbols.specs.Levels.{AreCounted, state_of};
+    ghost use Rattle.nss_symbols.specs.Nest.{State, total};
 
     ghost Value = { State };
 
-    ghost view = { λ n. record { last = n.last; below = reverse n.below.items } };
+    ghost view = { λ n. state_of n.last n.below.items };
 
-    ghost invariant = { λ n.
-        (n.sum ≡ total (record { last = n.last; below = reverse n.below.items }))
-        × AreCounted n.last (reverse n.below.items) };
+    ghost invariant = { λ n. (n.sum ≡ total (state_of n.last n.below.items))
+        × AreCounted (state_of n.last n.below.items) };
 }
 
-fn opens(terminal: Terminal) -> bool
-    ensures { result ≡ nest.opens terminal }
+fn is_opening(terminal: Terminal) -> bool
+    ensures { result ≡ nest.is_opening terminal }
 {
     match terminal {
         Terminal::Open | Terminal::OpenBrace | Terminal::OpenBracket => true,
@@ -52,8 +52,8 @@ fn opens(terminal: Terminal) -> bool
     }
 }
 
-fn closes(terminal: Terminal) -> bool
-    ensures { result ≡ nest.closes terminal }
+fn is_closing(terminal: Terminal) -> bool
+    ensures { result ≡ nest.is_closing terminal }
 {
     match terminal {
         Terminal::Close | Terminal::CloseBrace | Terminal::CloseBracket => true,
@@ -61,8 +61,8 @@ fn closes(terminal: Terminal) -> bool
     }
 }
 
-fn ends(terminal: Terminal) -> bool
-    ensures { result ≡ nest.ends terminal }
+fn is_end(terminal: Terminal) -> bool
+    ensures { result ≡ nest.is_end terminal }
 {
     match terminal {
         Terminal::CloseBrace | Terminal::Semicolon => true,
@@ -138,17 +138,17 @@ fn is_while(terminal: Terminal) -> bool
     }
 }
 
-fn ends_one(terminal: Option<Terminal>) -> bool
-    ensures { result ≡ nest.tests nest.ends terminal }
+fn is_end_one(terminal: Option<Terminal>) -> bool
+    ensures { result ≡ nest.is_some_and nest.is_end terminal }
 {
     match terminal {
-        Some(terminal) => ends(terminal),
+        Some(terminal) => is_end(terminal),
         None => false,
     }
 }
 
 fn is_else(terminal: Option<Terminal>) -> bool
-    ensures { result ≡ nest.tests nest.is_else terminal }
+    ensures { result ≡ nest.is_some_and nest.is_else terminal }
 {
     match terminal {
         Some(Terminal::Else) => true,
@@ -157,7 +157,7 @@ fn is_else(terminal: Option<Terminal>) -> bool
 }
 
 fn is_while_one(terminal: Option<Terminal>) -> bool
-    ensures { result ≡ nest.tests nest.is_while terminal }
+    ensures { result ≡ nest.is_some_and nest.is_while terminal }
 {
     match terminal {
         Some(terminal) => is_while(terminal),
@@ -181,7 +181,7 @@ impl Nest {
         ensures state { OnOk result (self.new ≡ opened terminal self.old) }
         ensures sum { OnOk result (total self.new ≤ total self.old + 1) }
     {
-        if opens(terminal) {
+        if is_opening(terminal) {
             self.below.push(self.last)?;
             self.last = Level { number: 1, dos: 0 };
             self.sum += 1;
@@ -193,7 +193,7 @@ impl Nest {
         ensures state { self.new ≡ closed terminal self.old }
         ensures sum { total self.new ≤ total self.old }
     {
-        if closes(terminal) {
+        if is_closing(terminal) {
             match self.below.pop() {
                 None => {}
                 Some(level) => {
@@ -222,7 +222,7 @@ impl Nest {
         ensures state { self.new ≡ uncounted before terminal self.old }
         ensures sum { total self.new ≡ total self.old }
     {
-        if is_while(terminal) && ends_one(before) {
+        if is_while(terminal) && is_end_one(before) {
             self.last.dos = self.last.dos.saturating_sub(1);
         }
     }
@@ -231,7 +231,7 @@ impl Nest {
         requires { total self.old < 1000 }
         ensures { self.new ≡ reset terminal after self.old }
     {
-        if ends(terminal) && !is_else(after) && !(is_while_one(after) && self.last.dos != 0) {
+        if is_end(terminal) && !is_else(after) && !(is_while_one(after) && self.last.dos != 0) {
             let number = if self.below.is_empty() { 0 } else { 1 };
             self.sum = self.sum - self.last.number + number;
             self.last = Level { number, dos: 0 };

@@ -6,14 +6,13 @@ use Rattle.std.proofs.lemmas.Slice.Eq.{bytes_eq-Decides}
 use Rattle.std.specs.List.{AllByRecursion}
 use Rattle.std.specs.Str.{bytes_eq}
 use Rattle.nwq_value.specs.Limits.{time_limit, random_limit, event_limit, script_limit, instruction_limit, entry_limit, default_instruction_limit, default_entry_limit, default_until}
-use Rattle.plan_text.specs.declared.draft.Draft.{Draft}
 use Rattle.plan_text.specs.declared.plan.Script.{Script}
 use Rattle.plan_text.specs.declared.plan.Line.{Line}
-use Rattle.plan_text.specs.declared.words.Word.{Word}
-use Rattle.plan_text.specs.declared.words.Word.TheVariants as word
+use Rattle.plan_text.specs.Words as word
+use Rattle.plan_text.specs.Words.{Word}
 use Rattle.plan_text.specs.Fields.{within, number_between, is_script_name, greatest_nth, greatest_random}
 use Rattle.nwq_text.specs.Number.{number_of}
-use Rattle.plan_text.specs.Plans.{Adds, one, more, one_more, with_number, given_once, IsEvent, IsStart, IsFreeStart, Plans, Lists, is_listed, ReadsBehind, Reads, empty, remark, says, Comes, whole, more, stops, Gives, headed, headless, Lines, nothing, plan_of, or_default, HasPlan, IsFaulty, IsVersion, IsBetween, AreRandoms, AreListed, IsLine, IsPlan, PlansKeep, IsLineOf, FaultsLieInside}
+use Rattle.plan_text.specs.Plans.{Draft, Adds, one, more, one_more, with_number, given_once, IsEvent, IsStart, IsFreeStart, Plans, Lists, is_listed, ReadsBehind, Reads, empty, remark, says, Comes, whole, more, stops, Gives, headed, headless, Lines, nothing, plan_of, or_default, HasPlan, IsFaulty, IsVersion, IsBetween, AreRandoms, AreListed, IsLine, IsPlan, PlansKeep, IsLineOf, FaultsLieInside}
 use Rattle.plan_text.specs.Plans as plans
 
 -- ---- one line

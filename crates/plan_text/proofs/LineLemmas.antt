@@ -3,12 +3,11 @@ use Rattle.std.proofs.lemmas.Bool.Decides.{nat_tests}
 use Rattle.std.proofs.lemmas.Option.{none-some, some_pair_parts, same_Some}
 use Rattle.std.proofs.lemmas.Slice.Eq.{bytes_eq-Decides}
 use Rattle.std.specs.Str.{bytes_eq}
-use Rattle.plan_text.specs.declared.draft.Draft.{Draft}
 use Rattle.plan_text.specs.declared.fault.PlanFault.{PlanFault}
 use Rattle.plan_text.specs.declared.fault.PlanFault.TheVariants.{Line as BadLine, NoMemory}
 use Rattle.plan_text.specs.declared.plan.Plan.{Plan}
 use Rattle.plan_text.specs.Fields.{cut_at}
-use Rattle.plan_text.specs.Plans.{Lines, none, last, ended, without_return, whole, more, stops, Reads, Baffles, Gives, headed, headless, IsFirstLine, CutsIntoLines, IsHeaded, IsVersion, heading, nothing, HasPlan, IsFaulty, plan_of}
+use Rattle.plan_text.specs.Plans.{Draft, Lines, none, last, ended, without_return, whole, more, stops, Reads, Baffles, Gives, headed, headless, IsFirstLine, CutsIntoLines, IsHeaded, IsVersion, heading, nothing, HasPlan, IsFaulty, plan_of}
 use Rattle.plan_text.specs.Steps.{first_line, line_of_cut, version_in, GoesOn, ReadsOn, StopsAt}
 use Rattle.plan_text.proofs.FieldLemmas.{CutParts, cut_parts, cut_free, cut_none}
 

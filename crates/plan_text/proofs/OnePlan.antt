@@ -1,14 +1,11 @@
 use Rattle.std.proofs.Common.{◌≡◌, ℕ, ◌+◌, ◌⊎◌, inl, inr, ◌==◌, Bool, true, false, List, [], ◌∷◌, ◌++◌, Option, Some, None, Result, Ok, Err, refl, sym, ap, ◌∙◌, subst, arith}
 use Rattle.std.proofs.lemmas.Option.{same_Some}
 use Rattle.nwq_text.specs.Escape.{EscapesApart}
-use Rattle.plan_text.specs.declared.draft.Draft.{Draft}
 use Rattle.plan_text.specs.declared.plan.Line.{Line}
 use Rattle.plan_text.specs.declared.plan.Line.TheVariants.{Event, Start, Free}
-use Rattle.plan_text.specs.declared.words.Word.{Word}
-use Rattle.plan_text.specs.declared.words.Word.TheVariants.{Limit, Entries, Until, Random, Script, Binary, Event as EventWord, Start as StartWord}
 use Rattle.plan_text.specs.Fields.{parted}
-use Rattle.plan_text.specs.Words.{head_of, spelled}
-use Rattle.plan_text.specs.Plans.{IsEvent, IsStart, IsFreeStart, Spells, ReadsBehind, Reads, empty, remark, says, Baffles, Comes, whole, more, stops, Gives, headed, headless, IsHeaded, heading, OnePlan, nothing, plan_of}
+use Rattle.plan_text.specs.Words.{Word, Limit, Entries, Until, Random, Script, Binary, Event as EventWord, Start as StartWord, head_of, spelled}
+use Rattle.plan_text.specs.Plans.{Draft, IsEvent, IsStart, IsFreeStart, Spells, ReadsBehind, Reads, empty, remark, says, Baffles, Comes, whole, more, stops, Gives, headed, headless, IsHeaded, heading, OnePlan, nothing, plan_of}
 use Rattle.plan_text.proofs.AddsLemmas.{one_adds}
 use Rattle.plan_text.proofs.LineLemmas.{one_lines}
 use Rattle.plan_text.proofs.PlannedLemmas.{FourFields, event_four, start_four, free_two, same_four, same_two, apart}

@@ -2,3 +2,4 @@ pub mod Fields
 pub mod Words
 pub mod Plans
 pub mod Steps
+pub mod Drafts

@@ -9,11 +9,9 @@ use Rattle.plan_text.specs.declared.plan.Line.TheVariants.{Event, Start, Free}
 use Rattle.plan_text.specs.declared.plan.Plan.{Plan}
 use Rattle.plan_text.specs.declared.fault.PlanFault.{PlanFault}
 use Rattle.plan_text.specs.declared.fault.PlanFault.TheVariants.{Line as BadLine, NoMemory}
-use Rattle.plan_text.specs.declared.draft.Draft.{Draft}
-use Rattle.plan_text.specs.declared.words.Word.{Word}
-use Rattle.plan_text.specs.declared.words.Word.TheVariants as word
 use Rattle.plan_text.specs.Fields.{IsFree, parted, number_between, is_script_name, is_label, greatest_nth, greatest_random}
-use Rattle.plan_text.specs.Words.{spelled}
+use Rattle.plan_text.specs.Words as word
+use Rattle.plan_text.specs.Words.{Word, spelled}
 
 -- ---- lines of a text
 
@@ -40,6 +38,16 @@ pub record CutsIntoLines : Type 0 where
   pub one : (bytes : List ℕ) (a b : List (List ℕ)) → Lines bytes a → Lines bytes b → a ≡ b
 
 -- ---- what lines say
+
+-- what the lines so far have given
+pub record Draft : Type 0 where
+  pub version : ℕ
+  pub limit : Option ℕ
+  pub entries : Option ℕ
+  pub until : Option ℕ
+  pub random : List ℕ
+  pub scripts : List Script
+  pub events : List Line
 
 -- a script of this name is listed
 abbrev pub is_listed : List ℕ → List Script → Bool

@@ -1,12 +1,11 @@
--- What single steps of the reading answer.
+-- What single steps of the reading answer. Private clauses and proofs alone need this.
 use Rattle.std.specs.Prelude.{◌≢◌, ℕ, Bool, true, false, List, [], ◌∷◌, codes, bytes_eq, if◌then◌else◌, Option, None, Some, Result, Ok, Err, MatchOption}
 use Rattle.std.specs.Option.{option_map}
 use Rattle.plan_text.specs.declared.fault.PlanFault.{PlanFault}
 use Rattle.plan_text.specs.declared.fault.PlanFault.TheVariants.{Line, NoMemory}
-use Rattle.plan_text.specs.declared.draft.Draft.{Draft}
 use Rattle.nwq_value.specs.Limits.{time_limit}
 use Rattle.plan_text.specs.Fields.{cut_at, number_between, greatest_nth}
-use Rattle.plan_text.specs.Plans.{without_return, Comes, Lines, nothing, heading}
+use Rattle.plan_text.specs.Plans.{Draft, without_return, Comes, Lines, nothing, heading}
 
 -- a step goes on by the relation, or says that nothing does
 abbrev pub Took : {A : Type 0} → (A → Type 0) → Bool → A → Type 0

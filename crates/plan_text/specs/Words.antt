@@ -1,9 +1,17 @@
 -- The words that lines begin with.
 use Rattle.std.specs.Prelude.{ℕ, List, codes, bytes_eq, if◌then◌else◌, Option, Some, None}
 use Rattle.std.specs.Option.{option_map}
-use Rattle.plan_text.specs.declared.words.Word.{Word}
-use Rattle.plan_text.specs.declared.words.Word.TheVariants.{Limit, Entries, Until, Random, Script, Binary, Event, Start}
 use Rattle.plan_text.specs.Fields.{cut_at}
+
+pub data Word : Type 0 where
+  Limit : Word
+  Entries : Word
+  Until : Word
+  Random : Word
+  Script : Word
+  Binary : Word
+  Event : Word
+  Start : Word
 
 abbrev pub spelled : Word → List ℕ
 spelled Limit = codes "limit"

@@ -1,9 +1,10 @@
 ghost use Rattle.std.specs.Prelude.{◌≡◌, ◌<◌, OnOk, OnErr, IfOk, MatchBool};
-ghost use Rattle.plan_text.specs.declared.draft.Draft.{Draft as ThisDraft};
-ghost use Rattle.plan_text.specs.declared.words.Word.TheVariants as word;
+ghost use Rattle.plan_text.specs.Drafts.{plain_draft, plain_word};
+ghost use Rattle.plan_text.specs.Plans.{Draft as PlainDraft};
 ghost use Rattle.plan_text.specs.Plans.{ReadsBehind, Reads, Plans, Lists, Adds, one_more};
 ghost use Rattle.plan_text.specs.Plans.{is_listed, nothing, plan_of};
 ghost use Rattle.plan_text.specs.Steps.{Took, IsWorded};
+ghost use Rattle.plan_text.specs.Words as word;
 
 use crate::fields::{cut, names_script, number_in};
 use crate::plan::{Line, Listed, Plan, Planned, Script};
@@ -64,8 +65,8 @@ fn add_numbers(random: &mut Randoms, numbers: &[u8]) -> Result<bool, NoMemory>
 }
 
 /// Whether a line says nothing: it is empty, or a remark.
-fn passes_over(line: &[u8]) -> bool
-    ensures { MatchBool result ((d : ThisDraft) → Reads d line.now d) (IsWorded line.now) }
+fn is_passed_over(line: &[u8]) -> bool
+    ensures { MatchBool result ((d : PlainDraft) → Reads d line.now d) (IsWorded line.now) }
 {
     match line.split_first() {
         None => true,
@@ -74,7 +75,7 @@ fn passes_over(line: &[u8]) -> bool
 }
 
 /// Whether a script of this name is listed.
-fn lists(scripts: &[Script], name: &[u8]) -> bool
+fn is_listed(scripts: &[Script], name: &[u8]) -> bool
     ensures { result ≡ is_listed name.now scripts.now }
 {
     scripts.iter().any(|script| script.name.bytes() == name)
@@ -83,7 +84,7 @@ fn lists(scripts: &[Script], name: &[u8]) -> bool
 impl Draft {
     /// Nothing was given yet.
     pub fn new(alloc: Global, version: u8) -> Draft
-        ensures { result ≡ nothing version }
+        ensures { plain_draft result ≡ nothing version }
     {
         Draft {
             version,
@@ -98,7 +99,7 @@ impl Draft {
 
     /// The plan of what was given.
     pub fn plan(self) -> Plan
-        ensures { result ≡ plan_of self }
+        ensures { result ≡ plan_of (plain_draft self) }
     {
         let Draft {
             version,
@@ -121,7 +122,8 @@ impl Draft {
     }
 
     fn take_limit(&mut self, rest: &[u8]) -> bool
-        ensures { Took (ReadsBehind word.Limit self.old rest.now) result self.new }
+        ensures { Took (ReadsBehind word.Limit (plain_draft self.old) rest.now) result
+            (plain_draft self.new) }
     {
         match (self.limit, number_in(rest, 1, MOST_INSTRUCTIONS)) {
             (None, Some(limit)) => {
@@ -133,7 +135,8 @@ impl Draft {
     }
 
     fn take_entries(&mut self, rest: &[u8]) -> bool
-        ensures { Took (ReadsBehind word.Entries self.old rest.now) result self.new }
+        ensures { Took (ReadsBehind word.Entries (plain_draft self.old) rest.now) result
+            (plain_draft self.new) }
     {
         match (self.entries, number_in(rest, 1, MOST_ENTRIES)) {
             (None, Some(entries)) => {
@@ -145,7 +148,8 @@ impl Draft {
     }
 
     fn take_until(&mut self, rest: &[u8]) -> bool
-        ensures { Took (ReadsBehind word.Until self.old rest.now) result self.new }
+        ensures { Took (ReadsBehind word.Until (plain_draft self.old) rest.now) result
+            (plain_draft self.new) }
     {
         match (self.until, number_in(rest, 0, LAST_TIME)) {
             (None, Some(until)) => {
@@ -157,17 +161,18 @@ impl Draft {
     }
 
     fn take_random(&mut self, rest: &[u8]) -> Result<bool, NoMemory>
-        ensures { IfOk result (λ took. Took (ReadsBehind word.Random self.old rest.now) took
-            self.new) }
+        ensures { IfOk result (λ took. Took (ReadsBehind word.Random (plain_draft self.old)
+            rest.now) took (plain_draft self.new)) }
     {
         add_numbers(&mut self.random, rest)
     }
 
     fn take_script(&mut self, alloc: Global, name: &[u8], binary: bool) -> Result<bool, NoMemory>
-        ensures { IfOk result (λ took. Took (Lists self.old (record { name = name.now; binary = binary })) took self.new) }
+        ensures { IfOk result (λ took. Took (Lists (plain_draft self.old)
+            (record { name = name.now; binary = binary })) took (plain_draft self.new)) }
     {
         if !names_script(name)
-            || lists(self.scripts.as_slice(), name)
+            || is_listed(self.scripts.as_slice(), name)
             || self.scripts.len() >= MOST_SCRIPTS
         {
             return Ok(false);
@@ -179,7 +184,8 @@ impl Draft {
 
     /// Plans one more line, where there is room.
     fn take_line(&mut self, line: Line) -> Result<bool, NoMemory>
-        ensures { IfOk result (λ took. Took (Plans self.old line) took self.new) }
+        ensures { IfOk result (λ took. Took (Plans (plain_draft self.old) line) took
+            (plain_draft self.new)) }
     {
         if self.events.len() >= MOST_EVENTS {
             return Ok(false);
@@ -189,8 +195,8 @@ impl Draft {
     }
 
     fn take_event(&mut self, alloc: Global, rest: &[u8]) -> Result<bool, NoMemory>
-        ensures { IfOk result (λ took. Took (ReadsBehind word.Event self.old rest.now) took
-            self.new) }
+        ensures { IfOk result (λ took. Took (ReadsBehind word.Event (plain_draft self.old)
+            rest.now) took (plain_draft self.new)) }
     {
         match event_of(alloc, rest)? {
             None => Ok(false),
@@ -199,8 +205,8 @@ impl Draft {
     }
 
     fn take_start(&mut self, alloc: Global, rest: &[u8]) -> Result<bool, NoMemory>
-        ensures { IfOk result (λ took. Took (ReadsBehind word.Start self.old rest.now) took
-            self.new) }
+        ensures { IfOk result (λ took. Took (ReadsBehind word.Start (plain_draft self.old)
+            rest.now) took (plain_draft self.new)) }
     {
         match start_of(alloc, rest)? {
             None => Ok(false),
@@ -209,7 +215,8 @@ impl Draft {
     }
 
     fn take_behind(&mut self, alloc: Global, word: Word, rest: &[u8]) -> Result<bool, NoMemory>
-        ensures { IfOk result (λ took. Took (ReadsBehind word self.old rest.now) took self.new) }
+        ensures { IfOk result (λ took. Took (ReadsBehind (plain_word word) (plain_draft self.old)
+            rest.now) took (plain_draft self.new)) }
     {
         match word {
             Word::Limit => Ok(self.take_limit(rest)),
@@ -226,9 +233,10 @@ impl Draft {
     #[tactic(auto, using(crate::proofs::WordLemmas::taken, crate::proofs::WordLemmas::baffled))]
     /// Goes on by a line, or answers that it has no reading; what is there after that is of no use.
     pub fn take(&mut self, alloc: Global, line: &[u8]) -> Result<bool, NoMemory>
-        ensures { IfOk result (λ took. Took (Reads self.old line.now) took self.new) }
+        ensures { IfOk result (λ took. Took (Reads (plain_draft self.old) line.now) took
+            (plain_draft self.new)) }
     {
-        if passes_over(line) {
+        if is_passed_over(line) {
             return Ok(true);
         }
         match head(line) {

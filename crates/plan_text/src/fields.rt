@@ -46,10 +46,10 @@ pub fn names_script(name: &[u8]) -> bool
 fn are_script_bytes(bytes: &[u8]) -> bool
     ensures { result ≡ list_all is_script_byte bytes.now }
 {
-    bytes.iter().all(|byte| in_script_name(*byte))
+    bytes.iter().all(|byte| is_script_byte(*byte))
 }
 
-fn in_script_name(byte: u8) -> bool
+fn is_script_byte(byte: u8) -> bool
     ensures { result ≡ is_script_byte byte }
 {
     match byte {
@@ -60,7 +60,7 @@ fn in_script_name(byte: u8) -> bool
 
 /// Whether these are 1 to 16 bytes without a space.
 #[tactic(auto, unfolding(crate::specs::Fields::is_label))]
-pub fn labels(label: &[u8]) -> bool
+pub fn is_label(label: &[u8]) -> bool
     ensures { result ≡ is_label label.now }
 {
     !label.is_empty() && label.len() <= MOST_NAME && are_spaceless(label)

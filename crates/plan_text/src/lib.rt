@@ -10,12 +10,14 @@ mod draft;
 pub mod fault;
 mod fields;
 pub mod laws;
+mod lines;
 pub mod plan;
 mod planned;
-mod reading;
+mod reader;
 mod words;
 
 pub use fault::PlanFault;
 pub use fields::names_script;
+pub use lines::next_line;
 pub use plan::{Line, Listed, Plan, Planned, Script};
-pub use reading::{next_line, read_plan};
+pub use reader::read_plan;

@@ -3,7 +3,7 @@ ghost use Rattle.std.specs.Option.{option_map};
 ghost use Rattle.plan_text.specs.Plans.{IsEvent, IsStart, IsFreeStart};
 ghost use Rattle.plan_text.specs.Steps.{Found, number_field, four_fields, dash_fields};
 
-use crate::fields::{cut, labels, names_script, number_in};
+use crate::fields::{cut, is_label, names_script, number_in};
 use crate::plan::Line;
 use nwq_text::read_text;
 use nwq_value::{NoMemory, Text};
@@ -58,7 +58,7 @@ pub fn event_of(alloc: Global, rest: &[u8]) -> Result<Option<Line>, NoMemory>
     let Some((due, nth, label, tag)) = fields(rest) else {
         return Ok(None);
     };
-    if !labels(label) {
+    if !is_label(label) {
         return Ok(None);
     }
     let Some(tag) = read_text(alloc, tag)? else {

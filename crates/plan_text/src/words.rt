@@ -1,5 +1,6 @@
 ghost use Rattle.std.specs.Prelude.{◌≡◌};
 ghost use Rattle.std.specs.Option.{option_map};
+ghost use Rattle.plan_text.specs.Drafts.{plain_word};
 ghost use Rattle.plan_text.specs.Words.{word_named, head_of};
 
 use crate::fields::cut;
@@ -19,7 +20,7 @@ pub enum Word {
 
 #[tactic(auto, unfolding(crate::specs::Words::word_named))]
 fn word_of(word: &[u8]) -> Option<Word>
-    ensures { result ≡ word_named word.now }
+    ensures { option_map plain_word result ≡ word_named word.now }
 {
     if word == b"limit".as_slice() {
         Some(Word::Limit)
@@ -44,7 +45,7 @@ fn word_of(word: &[u8]) -> Option<Word>
 
 /// The word that a line begins with, and what follows the space behind it.
 pub fn head(line: &[u8]) -> Option<(Word, &[u8])>
-    ensures { option_map (λ p. (p.0, p.1.now)) result ≡ head_of line.now }
+    ensures { option_map (λ p. (plain_word p.0, p.1.now)) result ≡ head_of line.now }
 {
     let (word, rest) = cut(line, b' ')?;
     let word = word_of(word)?;

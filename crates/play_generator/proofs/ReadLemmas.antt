@@ -6,10 +6,9 @@ use Rattle.std.proofs.lemmas.List.{append-nil, length-map}
 use Rattle.std.proofs.lemmas.List.FromFn.{length-range_with_len}
 use Rattle.nwq_text.specs.Number.{number_of}
 use Rattle.plan_text.specs.declared.plan.Line.{Line}
-use Rattle.plan_text.specs.declared.draft.Draft.{Draft}
-use Rattle.plan_text.specs.declared.words.Word.TheVariants as word
 use Rattle.plan_text.specs.Fields.{is_label, is_script_name}
-use Rattle.plan_text.specs.Plans.{Lines, none, ended, Reads, says, Comes, whole, more, Gives, headed, HasPlan, IsEvent, nothing}
+use Rattle.plan_text.specs.Words as word
+use Rattle.plan_text.specs.Plans.{Draft, Lines, none, ended, Reads, says, Comes, whole, more, Gives, headed, HasPlan, IsEvent, nothing}
 use Rattle.play_generator.specs.Made.{creatures_of, rounds_of, below, tag_of, event_line, round_lines, lines_text, plan_lines, plan_text}
 use Rattle.play_generator.specs.Reads.{event, round_events, plan_made, PlanIsRead}
 use Rattle.play_generator.proofs.DigitLemmas.{prints, prints_joined, decimal_prints, tag_prints, tag_spells, due_is_read, no_newline, no_return}

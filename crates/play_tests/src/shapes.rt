@@ -154,84 +154,58 @@ fn values_are_pushed(rt: HostRuntime) -> Result<(), Fail> {
     Ok(())
 }
 
+/// Where a copy begins and its size, the cells before it, and those after it where it has a rule.
+type CopyRow = (i32, u16, &'static [u8], Option<&'static [u8]>);
+
+const READS: [CopyRow; 7] = [
+    (-8, 4, b"oti", Some(b"otit")),
+    (-12, 8, b"oti", Some(b"otiot")),
+    (-12, 4, b"ti", None),
+    (-8, 4, b"Bi", None),
+    (-8, 0, b"ti", None),
+    (-4, 8, b"ti", None),
+    (-6, 4, b"ti", None),
+];
+
+const WRITES: [CopyRow; 3] = [
+    (-8, 4, b"ii", Some(b"ii")),
+    (-8, 4, b"ti", None),
+    (-8, 4, b"Bi", None),
+];
+
+/// Whether the instruction leads from these cells to those, or has no rule on them.
+fn leads_to(alloc: Global, op: &Op<'_>, before: &[u8], wanted: Option<&[u8]>) -> bool
+    requires { IsOneStep (plain op.now) }
+{
+    match wanted {
+        None => refuses(alloc, op, before),
+        Some(wanted) => gives(alloc, op, before, wanted),
+    }
+}
+
+fn are_read_as_wanted(alloc: Global) -> bool {
+    for (offset, size, before, wanted) in READS {
+        if !leads_to(alloc, &Op::CpTopSp { offset, size }, before, wanted) {
+            return false;
+        }
+    }
+    true
+}
+
+fn are_written_as_wanted(alloc: Global) -> bool {
+    for (offset, size, before, wanted) in WRITES {
+        if !leads_to(alloc, &Op::CpDownSp { offset, size }, before, wanted) {
+            return false;
+        }
+    }
+    true
+}
+
 #[test]
 fn cells_are_copied(rt: HostRuntime) -> Result<(), Fail> {
     let alloc = rt.alloc();
-    let all = gives(
-        alloc,
-        &Op::CpTopSp {
-            offset: -8,
-            size: 4,
-        },
-        b"oti",
-        b"otit",
-    ) && gives(
-        alloc,
-        &Op::CpTopSp {
-            offset: -12,
-            size: 8,
-        },
-        b"oti",
-        b"otiot",
-    ) && refuses(
-        alloc,
-        &Op::CpTopSp {
-            offset: -12,
-            size: 4,
-        },
-        b"ti",
-    ) && refuses(
-        alloc,
-        &Op::CpTopSp {
-            offset: -8,
-            size: 4,
-        },
-        b"Bi",
-    ) && refuses(
-        alloc,
-        &Op::CpTopSp {
-            offset: -8,
-            size: 0,
-        },
-        b"ti",
-    ) && refuses(
-        alloc,
-        &Op::CpTopSp {
-            offset: -4,
-            size: 8,
-        },
-        b"ti",
-    ) && refuses(
-        alloc,
-        &Op::CpTopSp {
-            offset: -6,
-            size: 4,
-        },
-        b"ti",
-    ) && gives(
-        alloc,
-        &Op::CpDownSp {
-            offset: -8,
-            size: 4,
-        },
-        b"ii",
-        b"ii",
-    ) && refuses(
-        alloc,
-        &Op::CpDownSp {
-            offset: -8,
-            size: 4,
-        },
-        b"ti",
-    ) && refuses(
-        alloc,
-        &Op::CpDownSp {
-            offset: -8,
-            size: 4,
-        },
-        b"Bi",
-    );
-    assert!(rt; all);
+    assert!(rt; are_read_as_wanted(alloc));
+    assert!(rt; are_written_as_wanted(alloc));
     Ok(())
 }
 
@@ -258,89 +232,76 @@ fn ints_are_reckoned(rt: HostRuntime) -> Result<(), Fail> {
     Ok(())
 }
 
+/// The type byte and size of a comparison, the cells before it, and those after it where it has a
+/// rule.
+type CompareRow = (u8, u16, &'static [u8], Option<&'static [u8]>);
+
+const EQUAL: [CompareRow; 7] = [
+    (0x20, 0, b"tii", Some(b"ti")),
+    (0x23, 0, b"tt", Some(b"i")),
+    (0x31, 0, b"vv", Some(b"i")),
+    (0x31, 0, b"ee", None),
+    (0x21, 0, b"ii", None),
+    (0x24, 8, b"otiti", Some(b"oi")),
+    (0x24, 8, b"otiit", None),
+];
+
+const UNEQUAL: [CompareRow; 3] = [
+    (0x22, 0, b"oo", Some(b"i")),
+    (0x30, 0, b"ee", Some(b"i")),
+    (0x24, 0, b"o", Some(b"oi")),
+];
+
+fn are_equal_as_wanted(alloc: Global) -> bool {
+    for (kind, size, before, wanted) in EQUAL {
+        if !leads_to(alloc, &Op::Equal { kind, size }, before, wanted) {
+            return false;
+        }
+    }
+    true
+}
+
+fn are_unequal_as_wanted(alloc: Global) -> bool {
+    for (kind, size, before, wanted) in UNEQUAL {
+        if !leads_to(alloc, &Op::Nequal { kind, size }, before, wanted) {
+            return false;
+        }
+    }
+    true
+}
+
 #[test]
 fn values_are_compared(rt: HostRuntime) -> Result<(), Fail> {
     let alloc = rt.alloc();
-    let all = gives(
-        alloc,
-        &Op::Equal {
-            kind: 0x20,
-            size: 0,
-        },
-        b"tii",
-        b"ti",
-    ) && gives(
-        alloc,
-        &Op::Nequal {
-            kind: 0x22,
-            size: 0,
-        },
-        b"oo",
-        b"i",
-    ) && gives(
-        alloc,
-        &Op::Equal {
-            kind: 0x23,
-            size: 0,
-        },
-        b"tt",
-        b"i",
-    ) && gives(
-        alloc,
-        &Op::Nequal {
-            kind: 0x30,
-            size: 0,
-        },
-        b"ee",
-        b"i",
-    ) && gives(
-        alloc,
-        &Op::Equal {
-            kind: 0x31,
-            size: 0,
-        },
-        b"vv",
-        b"i",
-    ) && refuses(
-        alloc,
-        &Op::Equal {
-            kind: 0x31,
-            size: 0,
-        },
-        b"ee",
-    ) && refuses(
-        alloc,
-        &Op::Equal {
-            kind: 0x21,
-            size: 0,
-        },
-        b"ii",
-    ) && gives(
-        alloc,
-        &Op::Equal {
-            kind: 0x24,
-            size: 8,
-        },
-        b"otiti",
-        b"oi",
-    ) && refuses(
-        alloc,
-        &Op::Equal {
-            kind: 0x24,
-            size: 8,
-        },
-        b"otiit",
-    ) && gives(
-        alloc,
-        &Op::Nequal {
-            kind: 0x24,
-            size: 0,
-        },
-        b"o",
-        b"oi",
-    );
-    assert!(rt; all);
+    assert!(rt; are_equal_as_wanted(alloc));
+    assert!(rt; are_unequal_as_wanted(alloc));
     Ok(())
+}
+
+/// The total, place and size of a DESTRUCT, the cells before it, and those after it where it has a
+/// rule.
+type DestructRow = (u16, u16, u16, &'static [u8], Option<&'static [u8]>);
+
+const DESTRUCTS: [DestructRow; 5] = [
+    (12, 0, 4, b"ioti", Some(b"io")),
+    (12, 4, 8, b"ioti", Some(b"iti")),
+    (4, 0, 0, b"ot", Some(b"o")),
+    (4, 4, 4, b"oti", None),
+    (8, 4, 4, b"Bi", None),
+];
+
+fn are_removed_as_wanted(alloc: Global) -> bool {
+    for (total, offset, size, before, wanted) in DESTRUCTS {
+        let destruct = Op::Destruct {
+            total,
+            offset,
+            size,
+        };
+        if !leads_to(alloc, &destruct, before, wanted) {
+            return false;
+        }
+    }
+    true
 }
 
 #[test]
@@ -350,59 +311,12 @@ fn cells_are_removed(rt: HostRuntime) -> Result<(), Fail> {
         && gives(alloc, &Op::MovSp { offset: 0 }, b"o", b"o")
         && refuses(alloc, &Op::MovSp { offset: 4 }, b"o")
         && refuses(alloc, &Op::MovSp { offset: -8 }, b"Bi")
-        && gives(
-            alloc,
-            &Op::Destruct {
-                total: 12,
-                offset: 0,
-                size: 4,
-            },
-            b"ioti",
-            b"io",
-        )
-        && gives(
-            alloc,
-            &Op::Destruct {
-                total: 12,
-                offset: 4,
-                size: 8,
-            },
-            b"ioti",
-            b"iti",
-        )
-        && gives(
-            alloc,
-            &Op::Destruct {
-                total: 4,
-                offset: 0,
-                size: 0,
-            },
-            b"ot",
-            b"o",
-        )
-        && refuses(
-            alloc,
-            &Op::Destruct {
-                total: 4,
-                offset: 4,
-                size: 4,
-            },
-            b"oti",
-        )
-        && refuses(
-            alloc,
-            &Op::Destruct {
-                total: 8,
-                offset: 4,
-                size: 4,
-            },
-            b"Bi",
-        )
         && gives(alloc, &Op::Jz { offset: 6 }, b"ti", b"t")
         && refuses(alloc, &Op::Jnz { offset: 6 }, b"it")
         && gives(alloc, &Op::Jmp { offset: 6 }, b"ti", b"ti")
         && gives(alloc, &Op::Nop, b"B", b"B");
     assert!(rt; all);
+    assert!(rt; are_removed_as_wanted(alloc));
     Ok(())
 }
 

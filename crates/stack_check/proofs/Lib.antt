@@ -1,4 +1,4 @@
-pub mod Reading
+pub mod SharedLists
 pub mod Walks
 pub mod Heaps
 pub mod Numbers

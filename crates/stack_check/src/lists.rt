@@ -52,7 +52,7 @@ impl<T> Lists<T> {
 
 impl<T: Copy> Lists<T> {
     /// The list of an item on top of a list.
-    #[tactic(auto, using(crate::proofs::Reading::pushing))]
+    #[tactic(auto, using(crate::proofs::SharedLists::pushing))]
     pub fn push(&mut self, below: u32, item: T) -> Result<u32, NoMemory>
         requires inside { below ≤ length self.old }
         ensures reads { IfOk result (λ number. read self.new number ≡ item ∷ read self.old below) }
@@ -71,7 +71,7 @@ impl<T: Copy> Lists<T> {
     }
 
     /// The top of a list, and what lies beneath it.
-    #[tactic(auto, using(crate::proofs::Reading::popping))]
+    #[tactic(auto, using(crate::proofs::SharedLists::popping))]
     pub fn pop(&self, number: u32) -> Option<(T, u32)>
         ensures top { MatchOption result (read self.now number ≡ [])
             (λ top. read self.now number ≡ top.0 ∷ read self.now top.1) }

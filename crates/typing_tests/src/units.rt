@@ -77,7 +77,8 @@ const EXPRESSIONS: [Row; 33] = [
         None,
     ),
     (
-        b"void main() { string s = \"a\" + \"b\"; s += s; int a = s == \"b\"; object o = OBJECT_SELF; a = o != OBJECT_INVALID; }",
+        b"void main() { string s = \"a\" + \"b\"; s += s; int a = s == \"b\"; \
+            object o = OBJECT_SELF; a = o != OBJECT_INVALID; }",
         None,
     ),
     (b"void main() { 1.0; }", Some((FaultKind::RefusedType, 5))),
@@ -254,7 +255,8 @@ const CALLS: [Row; 26] = [
 
 const STRUCTS: [Row; 21] = [
     (
-        b"struct P { int x, y; string s; }; void main() { struct P p; p.x = p.y + 1; p.s += \"a\"; struct P q; p = q; p == q; }",
+        b"struct P { int x, y; string s; }; void main() { struct P p; p.x = p.y + 1; p.s += \"a\"; \
+            struct P q; p = q; p == q; }",
         None,
     ),
     (
@@ -303,7 +305,8 @@ const STRUCTS: [Row; 21] = [
     ),
     (b"int P; struct P { int x; }; void main() {  }", None),
     (
-        b"struct P { int x; }; struct Q { int x; }; void main() { struct P p; struct Q q; p == q; }",
+        b"struct P { int x; }; struct Q { int x; }; \
+            void main() { struct P p; struct Q q; p == q; }",
         Some((FaultKind::Mismatch, 30)),
     ),
     (
@@ -315,11 +318,21 @@ const STRUCTS: [Row; 21] = [
         None,
     ),
     (
-        b"struct P { int a0, a1, a2, a3, a4, a5, a6, a7, a8, a9, a10, a11, a12, a13, a14, a15, a16, a17, a18, a19, a20, a21, a22, a23, a24, a25, a26, a27, a28, a29, a30, a31, a32, a33, a34, a35, a36, a37, a38, a39, a40, a41, a42, a43, a44, a45, a46, a47, a48, a49, a50, a51, a52, a53, a54, a55, a56, a57, a58, a59, a60, a61, a62, a63, z; }; void main() {  }",
+        b"struct P { int a0, a1, a2, a3, a4, a5, a6, a7, a8, a9, a10, a11, a12, a13, a14, \
+            a15, a16, a17, a18, a19, a20, a21, a22, a23, a24, a25, a26, a27, a28, a29, \
+            a30, a31, a32, a33, a34, a35, a36, a37, a38, a39, a40, a41, a42, a43, a44, \
+            a45, a46, a47, a48, a49, a50, a51, a52, a53, a54, a55, a56, a57, a58, a59, \
+            a60, a61, a62, a63, z; }; \
+            void main() {  }",
         Some((FaultKind::Cells, 132)),
     ),
     (
-        b"struct P { int a0, a1, a2, a3, a4, a5, a6, a7, a8, a9, a10, a11, a12, a13, a14, a15, a16, a17, a18, a19, a20, a21, a22, a23, a24, a25, a26, a27, a28, a29, a30, a31, a32, a33, a34, a35, a36, a37, a38, a39, a40, a41, a42, a43, a44, a45, a46, a47, a48, a49, a50, a51, a52, a53, a54, a55, a56, a57, a58, a59, a60, a61, a62, a63; }; void main() {  }",
+        b"struct P { int a0, a1, a2, a3, a4, a5, a6, a7, a8, a9, a10, a11, a12, a13, a14, \
+            a15, a16, a17, a18, a19, a20, a21, a22, a23, a24, a25, a26, a27, a28, a29, \
+            a30, a31, a32, a33, a34, a35, a36, a37, a38, a39, a40, a41, a42, a43, a44, \
+            a45, a46, a47, a48, a49, a50, a51, a52, a53, a54, a55, a56, a57, a58, a59, \
+            a60, a61, a62, a63; }; \
+            void main() {  }",
         None,
     ),
     (
@@ -454,7 +467,8 @@ const NAMES: [Row; 35] = [
 
 const CONSTANTS: [Row; 21] = [
     (
-        b"const int C = 1; const string S = \"s\"; const int D = C; const int E = -1; void main() { C + D; }",
+        b"const int C = 1; const string S = \"s\"; const int D = C; const int E = -1; \
+            void main() { C + D; }",
         None,
     ),
     (

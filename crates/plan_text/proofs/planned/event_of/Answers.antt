@@ -6,8 +6,8 @@ use Rattle.plan_text.proofs.planned.event_of.Goals as goal
 pub returns-in_default : goal.returns-in_default
 returns-in_default c = event_none _ (sym (c.in_default.ensures {u = tt}))
 
-pub returns-then-not-labels : goal.returns-then-not-labels
-returns-then-not-labels c = event_unlabelled _ _ (sym (c.in-Some.ensures {u = tt})) (sym (c.if-not-labels.ensures {u = tt}))
+pub returns-then-not-is_label : goal.returns-then-not-is_label
+returns-then-not-is_label c = event_unlabelled _ _ (sym (c.in-Some.ensures {u = tt})) (sym (c.if-not-is_label.ensures {u = tt}))
 
 pub returns-in_default-2 : goal.returns-in_default-2
 returns-in_default-2 c =
@@ -15,5 +15,5 @@ returns-in_default-2 c =
 
 pub returns : goal.returns
 returns c =
-    event_is _ _ _ _ (sym (c.in-Some.ensures {u = tt})) (sym (c.if-not-labels.ensures {u = tt})) c.in_ok-label.ensures.ok
+    event_is _ _ _ _ (sym (c.in-Some.ensures {u = tt})) (sym (c.if-not-is_label.ensures {u = tt})) c.in_ok-label.ensures.ok
     (subst (ReadsText c.in-Some.tag.now) c.in-Some-2.is c.in_ok-tag.ensures.reads)

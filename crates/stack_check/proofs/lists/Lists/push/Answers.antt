@@ -1,6 +1,6 @@
 use Rattle.std.proofs.Common.{subst}
 use Rattle.stack_check.specs.Shared.{Grows}
-use Rattle.stack_check.proofs.Reading.{grows_one}
+use Rattle.stack_check.proofs.SharedLists.{grows_one}
 use Rattle.stack_check.proofs.lists.Lists.push.Goals as goal
 
 pub returns-clause-grows : goal.returns-clause-grows

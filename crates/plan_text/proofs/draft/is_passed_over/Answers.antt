@@ -1,7 +1,7 @@
 use Rattle.std.proofs.Common.{◌==◌, refl}
 use Rattle.std.proofs.lemmas.List.{nil_from_length}
 use Rattle.plan_text.proofs.WordLemmas.{reads_empty, passed_by}
-use Rattle.plan_text.proofs.draft.passes_over.Goals as goal
+use Rattle.plan_text.proofs.draft.is_passed_over.Goals as goal
 
 pub returns-in-None : goal.returns-in-None
 returns-in-None c d = reads_empty d c.args.line.now (nil_from_length c.args.line.now (c.in-None.ensures {u = tt}).cases)

@@ -1,7 +1,7 @@
 use Rattle.std.proofs.Common.{◌∙◌}
 use Rattle.std.proofs.lemmas.List.{take_rest}
 use Rattle.ncs_code.proofs.Readings.{only_answer, spelled_answer, spelled_at}
-use Rattle.ncs_code.proofs.reading.decode.Goals as goal
+use Rattle.ncs_code.proofs.decoder.decode.Goals as goal
 
 pub returns-clause-found : goal.returns-clause-found
 returns-clause-found c =

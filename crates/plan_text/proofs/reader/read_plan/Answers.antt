@@ -1,6 +1,7 @@
 use Rattle.std.proofs.Common.{sym}
+use Rattle.plan_text.specs.Drafts.{plain_draft}
 use Rattle.plan_text.proofs.LineLemmas.{headless_nothing, headless_other, faulty, has_plan, is_heading, is_other}
-use Rattle.plan_text.proofs.reading.read_plan.Goals as goal
+use Rattle.plan_text.proofs.reader.read_plan.Goals as goal
 
 pub returns-in_default-clause-fault : goal.returns-in_default-clause-fault
 returns-in_default-clause-fault c = headless_nothing c.args.bytes.now (sym (c.in_default.ensures {u = tt}))
@@ -19,5 +20,5 @@ returns-in-Err-clause-fault c =
 pub returns-in-Ok-clause-plan : goal.returns-in-Ok-clause-plan
 returns-in-Ok-clause-plan c =
     let head = is_heading c.in-Some.line.now c.in-Some-version_of.version (sym (c.in-Some-version_of.ensures {u = tt}))
-    in has_plan c.in-Some-version_of.version c.args.bytes.now c.in-Some.line.now c.in-Some.rest.now c.in-Ok.draft c.plan.result (sym (c.in-Some.ensures {u = tt}))
+    in has_plan c.in-Some-version_of.version c.args.bytes.now c.in-Some.line.now c.in-Some.rest.now (plain_draft c.in-Ok.draft) c.plan.result (sym (c.in-Some.ensures {u = tt}))
     head.0 head.1 (c.in-Ok.ensures {u = tt}).plan c.plan.ensures
