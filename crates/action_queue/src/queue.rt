@@ -21,7 +21,6 @@ pub enum Item<X> {
 ///
 /// The mark says that a Turn of the object is posted, or that its `Do` is being run, so that nobody
 /// need post another one. Only `set_busy` changes it.
-#[derive(Drop)]
 pub struct Queue<X> {
     waiting: VecDeque<Item<X>>,
     busy: bool,
@@ -33,6 +32,13 @@ impl<X> Model for Queue<X> {
     ghost Value = { Queued X };
 
     ghost view = { λ q. record { actions = q.waiting.items; busy = q.busy } };
+}
+
+impl<X: Drop> Drop for Queue<X> {
+    fn drop(self) {
+        let Queue { waiting, busy: _ } = self;
+        drop(waiting);
+    }
 }
 
 impl<X: Drop> Queue<X> {

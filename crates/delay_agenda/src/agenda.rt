@@ -17,7 +17,6 @@ use std::marker::Model;
 /// They stand in queues by due time, an ordered map. A post puts its entry into an inbox beside
 /// them, which has room reserved, and the next call that may take memory moves the inbox into the
 /// queues.
-#[derive(Drop)]
 pub struct Agenda<X> {
     queues: BTreeMap<u64, VecDeque<Entry<X>>>,
     inbox: VecDeque<Entry<X>>,
@@ -38,6 +37,18 @@ impl<X> Model for Agenda<X> {
     } };
 
     ghost invariant = { λ a. IsKept a.inbox.items a.queues.entries a.next };
+}
+
+impl<X: Drop> Drop for Agenda<X> {
+    fn drop(self) {
+        let Agenda {
+            queues,
+            inbox,
+            next: _,
+        } = self;
+        drop(queues);
+        drop(inbox);
+    }
 }
 
 impl<X: Drop> Agenda<X> {

@@ -9,9 +9,15 @@ use nwq_value::{Args, NoMemory, Value};
 use std::alloc::Global;
 
 /// The hooks of a program by number.
-#[derive(Drop)]
 pub struct Hooks {
     pub all: Vec<Hook>,
+}
+
+impl Drop for Hooks {
+    fn drop(self) {
+        let Hooks { all } = self;
+        drop(all);
+    }
 }
 
 /// The number of the first hook of this name.

@@ -15,7 +15,6 @@ use std::marker::Model;
 
 /// A file of bytecode whose instructions fill it and lead to beginnings of instructions. Contracts
 /// see it as the list of its instructions, which tells their places and the bytes of the file.
-#[derive(Drop)]
 pub struct Code {
     bytes: Vec<u8>,
     /// For each place: does an instruction begin there?
@@ -33,6 +32,18 @@ impl Model for Code {
     ghost view = { λ c. listing c.bytes.items };
 
     ghost invariant = { λ c. IsLoaded c.bytes.items c.starts.items c.count };
+}
+
+impl Drop for Code {
+    fn drop(self) {
+        let Code {
+            bytes,
+            starts,
+            count: _,
+        } = self;
+        drop(bytes);
+        drop(starts);
+    }
 }
 
 /// The file that these bytes are, which keeps them.

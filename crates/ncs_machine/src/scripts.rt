@@ -3,10 +3,17 @@ use saved_state::Saved;
 use stack_check::Checked;
 
 /// A listed script: its name in lower case, and its code.
-#[derive(Drop)]
 pub struct Loaded {
     pub name: Text,
     pub code: Checked,
+}
+
+impl Drop for Loaded {
+    fn drop(self) {
+        let Loaded { name, code } = self;
+        drop(name);
+        drop(code);
+    }
 }
 
 /// The listed scripts, by their numbers.

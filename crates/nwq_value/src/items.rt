@@ -7,7 +7,7 @@ use std::alloc::Global;
 use std::marker::Model;
 
 /// A plain list that grows at its end. Contracts see it as the list of its items.
-#[derive(Debug, Drop)]
+#[derive(Debug)]
 pub struct Items<T> {
     all: Vec<T>,
 }
@@ -18,6 +18,13 @@ impl<T> Model for Items<T> {
     ghost Value = { List T };
 
     ghost view = { λ a. a.all.items };
+}
+
+impl<T: Drop> Drop for Items<T> {
+    fn drop(self) {
+        let Items { all } = self;
+        drop(all);
+    }
 }
 
 impl<T> Items<T> {

@@ -20,7 +20,6 @@ use std::marker::Model;
 /// Every table keeps this: no two of its names are equal, there are at most 65,535 routines, and
 /// each routine has at most 255 parameters, mentions no struct type, has defaults of its
 /// parameters' types and the role that its name and types give it.
-#[derive(Drop)]
 pub struct Table {
     alloc: Global,
     routines: IndexMap<Vec<u8>, Routine>,
@@ -37,6 +36,18 @@ impl Model for Table {
 
     ghost invariant = { λ t. AreKeyed t.routines.entries
         × IsTable (table_of t.routines.entries t.constants.entries) };
+}
+
+impl Drop for Table {
+    fn drop(self) {
+        let Table {
+            alloc: _,
+            routines,
+            constants,
+        } = self;
+        drop(routines);
+        drop(constants);
+    }
 }
 
 impl Table {

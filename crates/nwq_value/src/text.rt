@@ -9,7 +9,7 @@ use std::marker::Model;
 pub const TEXT_BYTES: usize = 8192;
 
 /// A string value: a list of at most [`TEXT_BYTES`] bytes, of any values.
-#[derive(Debug, Drop)]
+#[derive(Debug)]
 pub struct Text {
     bytes: Vec<u8>,
 }
@@ -23,6 +23,13 @@ impl Model for Text {
     ghost view = { λ a. a.bytes.items };
 
     ghost invariant = { λ a. length a.bytes.items ≤ text_limit };
+}
+
+impl Drop for Text {
+    fn drop(self) {
+        let Text { bytes } = self;
+        drop(bytes);
+    }
 }
 
 /// The first `n` bytes, or all where there are fewer.

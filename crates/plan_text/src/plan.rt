@@ -41,7 +41,6 @@ pub type Listed = Items<Script>;
 pub type Planned = Items<Line>;
 
 /// What a play has besides its area.
-#[derive(Drop)]
 pub struct Plan {
     /// 1 or 2.
     pub version: u8,
@@ -57,4 +56,21 @@ pub struct Plan {
     pub scripts: Listed,
     /// The entries that are due from the start, at most 65,536.
     pub events: Planned,
+}
+
+impl Drop for Plan {
+    fn drop(self) {
+        let Plan {
+            version: _,
+            limit: _,
+            entries: _,
+            until: _,
+            random,
+            scripts,
+            events,
+        } = self;
+        drop(random);
+        drop(scripts);
+        drop(events);
+    }
 }

@@ -12,7 +12,6 @@ use std::marker::Model;
 /// Cells in the order of their places, the lowest first.
 ///
 /// Lists that were made of one another share the pages on which their cells stand.
-#[derive(Drop)]
 pub struct Cells {
     pieces: Vec<Piece>,
     len: usize,
@@ -28,6 +27,13 @@ impl Model for Cells {
     ghost view = { λ c. flat c.pieces.items };
 
     ghost invariant = { λ c. IsRow c.len c.pieces.items };
+}
+
+impl Drop for Cells {
+    fn drop(self) {
+        let Cells { pieces, len: _ } = self;
+        drop(pieces);
+    }
 }
 
 impl Cells {

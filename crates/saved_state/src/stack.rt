@@ -14,7 +14,6 @@ use std::marker::Model;
 /// The cells of a running script, and BP, the place right beneath which its globals lie.
 ///
 /// Places count the cells beneath, from 0 at the bottom.
-#[derive(Drop)]
 pub struct Stack {
     cells: Cells,
     bp: usize,
@@ -27,6 +26,13 @@ impl Model for Stack {
     ghost Value = { StackView };
 
     ghost view = { λ s. record { cells = reverse s.cells; bp = s.bp } };
+}
+
+impl Drop for Stack {
+    fn drop(self) {
+        let Stack { cells, bp: _ } = self;
+        drop(cells);
+    }
 }
 
 impl Stack {

@@ -17,7 +17,6 @@ use std::alloc::Global;
 use std::marker::Model;
 
 /// Code that is well stacked under a header, with a table of shapes that meets the rules.
-#[derive(Drop)]
 pub struct Checked {
     code: Code,
     heap: Heap,
@@ -30,6 +29,15 @@ impl Model for Checked {
     ghost Value = { CheckedCode };
 
     ghost view = { λ c. record { code = c.code; heap = c.heap; facts = c.facts } };
+}
+
+impl Drop for Checked {
+    fn drop(self) {
+        let Checked { code, heap, facts } = self;
+        drop(code);
+        drop(heap);
+        drop(facts);
+    }
 }
 
 /// The code with a table of shapes that meets the rules under this header, or `Unstacked` exactly

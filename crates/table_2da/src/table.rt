@@ -15,7 +15,6 @@ pub type Cells = Items<Bytes>;
 pub type Rows = Items<Cells>;
 
 /// A table: the names of its columns, and its rows of cells.
-#[derive(Drop)]
 pub struct Table2 {
     columns: Cells,
     rows: Rows,
@@ -27,6 +26,14 @@ impl Model for Table2 {
     ghost Value = { PlainTable };
 
     ghost view = { λ t. record { columns = t.columns; rows = t.rows } };
+}
+
+impl Drop for Table2 {
+    fn drop(self) {
+        let Table2 { columns, rows } = self;
+        drop(columns);
+        drop(rows);
+    }
 }
 
 /// Whether two names are equal, whatever the case of their letters.

@@ -8,14 +8,20 @@ use std::alloc::Global;
 use std::marker::Model;
 
 /// A table under its name.
-#[derive(Drop)]
 pub struct Named {
     pub name: Text,
     pub table: Table2,
 }
 
+impl Drop for Named {
+    fn drop(self) {
+        let Named { name, table } = self;
+        drop(name);
+        drop(table);
+    }
+}
+
 /// Tables under their names, in the order in which they were put.
-#[derive(Drop)]
 pub struct Tables {
     all: Items<Named>,
 }
@@ -27,6 +33,13 @@ impl Model for Tables {
     ghost Value = { List Named };
 
     ghost view = { λ t. t.all };
+}
+
+impl Drop for Tables {
+    fn drop(self) {
+        let Tables { all } = self;
+        drop(all);
+    }
 }
 
 /// The table of this name.

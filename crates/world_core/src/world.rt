@@ -33,7 +33,6 @@ use world_rows::{Parts, WorldParts};
 ///
 /// `room` counts the posts that a Turn's end may make without memory. The agenda has at least so
 /// much room.
-#[derive(Drop)]
 pub struct World<X> {
     parts: Parts<X>,
     room: u32,
@@ -53,6 +52,13 @@ impl<X> Model for World<X> {
     ghost view = { λ w. record { world = w.parts.world; room = w.room } };
 
     ghost invariant = { λ w. IsWorld w.parts.world × (w.room ≤ w.parts.posts) × (w.room ≤ 1) };
+}
+
+impl<X: Drop> Drop for World<X> {
+    fn drop(self) {
+        let World { parts, room: _ } = self;
+        drop(parts);
+    }
 }
 
 impl<X: Drop> World<X> {

@@ -29,7 +29,6 @@ use std::marker::Model;
 ///
 /// Lines and entries are told and posted without memory where there is room for them, so a routine
 /// takes all of its room before it changes anything.
-#[derive(Drop)]
 pub struct Parts<X> {
     alloc: Global,
     clock: u64,
@@ -67,6 +66,27 @@ impl<X> Model for Parts<X> {
       posts = p.agenda.room;
       lines = vec_capacity p.trace - length p.trace.items;
     } };
+}
+
+impl<X: Drop> Drop for Parts<X> {
+    fn drop(self) {
+        let Parts {
+            alloc: _,
+            clock: _,
+            area,
+            things,
+            agenda,
+            trace,
+            random,
+            user: _,
+            version: _,
+        } = self;
+        drop(area);
+        drop(things);
+        drop(agenda);
+        drop(trace);
+        drop(random);
+    }
 }
 
 impl<X: Drop> Parts<X> {
@@ -458,6 +478,21 @@ impl<X: Drop> Parts<X> {
     pub fn into_area(self) -> Area
         ensures area { result ≡ self.world.area }
     {
-        self.area
+        let Parts {
+            alloc: _,
+            clock: _,
+            area,
+            things,
+            agenda,
+            trace,
+            random,
+            user: _,
+            version: _,
+        } = self;
+        drop(things);
+        drop(agenda);
+        drop(trace);
+        drop(random);
+        area
     }
 }
