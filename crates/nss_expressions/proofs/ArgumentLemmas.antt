@@ -8,7 +8,7 @@ use Rattle.nss_tree.specs.Readings.{plain_exprs_none, plain_exprs_more}
 use Rattle.nss_typing.specs.declared.fault.Fault.{Fault}
 use Rattle.nss_typing.specs.Nodes.{fine, kept}
 use Rattle.nss_typing.specs.Sight.{Head, Sight}
-use Rattle.nss_expressions.proofs.Faults.{kept_append}
+use Rattle.nss_expressions.specs.Kept.{kept_append}
 use Rattle.nwq_value.specs.declared.engine.Param.{Param}
 use Rattle.nss_typing.specs.declared.expressions.Expression.{Expression}
 use Rattle.nss_typing.specs.Reading.{plain, plain_all}

@@ -1,4 +1,1 @@
-pub mod Faults
 pub mod ArgumentLemmas
-pub mod WalkLemmas
-pub mod RowLemmas

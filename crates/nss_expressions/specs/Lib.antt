@@ -1,3 +1,6 @@
 pub mod Views
 pub mod Arguments
 pub mod Rows
+pub mod Kept
+pub mod RowLaws
+pub mod Walked

@@ -13,7 +13,7 @@
 pub mod call;
 pub mod called;
 pub mod constant;
-#[tactic(auto, using(nss_tree::specs::Readings::plain_cases, crate::proofs::Faults::kept_append))]
+#[tactic(auto, using(nss_tree::specs::Readings::plain_cases, crate::specs::Kept::kept_append))]
 pub mod expression;
 pub mod given;
 pub mod judge;

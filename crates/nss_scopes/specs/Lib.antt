@@ -3,3 +3,4 @@ pub mod Slots
 pub mod Entries
 pub mod Cases
 pub mod Views
+pub mod Laws

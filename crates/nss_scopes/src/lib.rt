@@ -10,6 +10,7 @@
 
 pub mod heads;
 pub mod labels;
+pub mod laws;
 pub mod names;
 pub mod places;
 pub mod sight;

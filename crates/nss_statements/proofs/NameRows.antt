@@ -10,7 +10,7 @@ use Rattle.nss_typing.specs.Sight.{Head, Sight, declared}
 use Rattle.nss_typing.specs.UnitReading.{typed_name, typed_names}
 use Rattle.nss_typing.specs.Verdicts.{after_names, names_faults, names_fine, one_more, value_faults, variable_verdict}
 use Rattle.nss_expressions.specs.Rows.{with_rest}
-use Rattle.nss_expressions.proofs.RowLemmas.{RowLaws, list_begin, list_step, list_end}
+use Rattle.nss_expressions.specs.RowLaws.{RowLaws, mapped_step, rest_begin, rest_end}
 
 pub name_laws : (hs : List Head) (ty : Option Ty) → RowLaws (option_map typed_names) (option_map typed_name) one_more with_rest
     (λ (c : Sight) (d : DeclaredName Expr (List ℕ)). declared c d.name ty)
@@ -20,9 +20,9 @@ pub name_laws : (hs : List Head) (ty : Option Ty) → RowLaws (option_map typed_
     (λ c ds. names_faults hs c ty (plain_names ds))
     (λ c ds. after_names c ty (plain_names ds))
 name_laws hs ty = record {
-  begin = list_begin typed_name;
-  step = list_step typed_name;
-  end = λ all c. list_end typed_name all;
+  begin = rest_begin;
+  step = mapped_step typed_name;
+  end = λ all c. rest_end (option_map typed_names all);
   fine_more = λ c d ds. refl;
   faults_more = λ c d ds. refl;
   faults_none = λ c. refl;

@@ -91,3 +91,8 @@ next_falls xs i x is lt t falls =
 pub on_ok : {A E P Q : Type 0} (r : Result A E) → (P → Q) → OnOk r P → OnOk r Q
 on_ok (Ok a) f h = f h
 on_ok (Err e) f h = tt
+
+-- what is ensured for all, at one of them
+pub on_ok_at : {A B E : Type 0} (r : Result A E) (P : B → Type 0) (b : B) → OnOk r ((x : B) → P x) → OnOk r (P b)
+on_ok_at (Ok a) P b h = h b
+on_ok_at (Err e) P b h = tt

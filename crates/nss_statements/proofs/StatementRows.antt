@@ -1,4 +1,4 @@
--- Statements in a row, and what is in sight once a scope is left.
+-- Statements in a row.
 use Rattle.std.proofs.Common.{◌≡◌, ℕ, List, [], ◌∷◌, length, take, Option, None, Some, refl, sym, ap, ◌∙◌}
 use Rattle.std.specs.Option.{option_map}
 use Rattle.nss_tree.specs.declared.constants.Constant.{Constant}
@@ -24,7 +24,7 @@ use Rattle.nss_scopes.specs.declared.sight.Mark.{Mark}
 use Rattle.nss_scopes.specs.declared.sight.Sight.{Sight as Held}
 use Rattle.nss_scopes.specs.Views.{in_sight, left_by, mark_of}
 use Rattle.nss_expressions.specs.Rows.{and_one, stmts_with_rest}
-use Rattle.nss_expressions.proofs.RowLemmas.{RowLaws}
+use Rattle.nss_expressions.specs.RowLaws.{RowLaws}
 
 joined_more : (xs : TypedStmts) (x : _) (ys : TypedStmts) → joined_stmts (joined_stmts xs (more_stmts x no_stmt)) ys ≡ joined_stmts xs (more_stmts x ys)
 joined_more no_stmt x ys = refl
@@ -76,24 +76,6 @@ stmt_laws hs = record {
   after_more = λ c x xs. ap (afters c) (more x xs);
   after_none = λ c. ap (afters c) none;
 }
-
--- ---- a scope that is left
-
--- what it leaves is what was before, but for the numbers of variables
-pub left_is : (first : NamesStandFirst) (t : EngineTable) (c d : Held) (e a : Sight) → e.names ≡ c.names → e.structs ≡ c.structs → e.seen ≡ c.seen → e.table ≡ t
-    → OnlyAdds e a → in_sight t d ≡ a → in_sight t (left_by (mark_of c) d) ≡ record (in_sight t c) { next = a.next }
-left_is first t c d e a names structs seen table adds is =
-    let kept : take (length c.names) d.names ≡ c.names =
-    ap (λ n. take (length n) d.names) (sym names) ∙ (ap (λ s. take (length e.names) s.names) is ∙ (first e a adds ∙ names)) in
-    let s : d.structs ≡ c.structs = ap (λ x. x.structs) is ∙ (ap (λ x. x.structs) adds.others ∙ structs) in
-    let h : d.seen ≡ c.seen = ap (λ x. x.seen) is ∙ (ap (λ x. x.seen) adds.others ∙ seen) in
-    let n : d.next ≡ a.next = ap (λ x. x.next) is in
-    rw (kept, s, h, n) refl
-
-pub scope_left : (first : NamesStandFirst) (t : EngineTable) (c d l : Held) (m : Mark) (e a : Sight) → e.names ≡ c.names → e.structs ≡ c.structs → e.seen ≡ c.seen → e.table ≡ t
-    → OnlyAdds e a → l ≡ left_by m d → m ≡ mark_of c → in_sight t d ≡ a → in_sight t l ≡ record (in_sight t c) { next = a.next }
-scope_left first t c d l m e a names structs seen table adds leave mark is =
-    ap (in_sight t) (leave ∙ ap (λ k. left_by k d) mark) ∙ left_is first t c d e a names structs seen table adds is
 
 pub stmts_first : (first : List (Stmt Expression Const Ty Variable)) (rest : Option TypedStmts) → first ≡ [] → stmts_with_rest (Some (typed_stmts first)) rest ≡ rest
 stmts_first first rest is = ap (λ xs. stmts_with_rest (Some (typed_stmts xs)) rest) is ∙ stmts_begin rest

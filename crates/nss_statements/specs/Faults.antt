@@ -1,9 +1,9 @@
 -- The fault of a node whose parts are typed.
-use Rattle.std.specs.Prelude.{ℕ, Bool, not, ◌&&◌, Option, None, Some, if◌then◌else◌}
+use Rattle.std.proofs.Common.{◌≡◌, ℕ, Bool, true, false, not, ◌&&◌, Option, None, Some, if◌then◌else◌, refl}
 use Rattle.nss_tree.specs.Statements as tree
 use Rattle.nss_typing.specs.declared.fault.FaultKind.{FaultKind}
 use Rattle.nss_typing.specs.declared.fault.FaultKind.TheVariants.{Mismatch, Cells}
-use Rattle.nss_typing.specs.Nodes.{Rows, row, no_row}
+use Rattle.nss_typing.specs.Nodes.{Rows, Verdict, Fine, Wrong, row, no_row, ruled}
 use Rattle.nss_typing.specs.Rules.{when}
 use Rattle.nss_typing.specs.Types.{is_int}
 use Rattle.nss_typing.specs.Typed.{TypedExpr, TypedStmt, TypedStmts, type_of}
@@ -11,6 +11,16 @@ use Rattle.nss_typing.specs.Typed.{TypedExpr, TypedStmt, TypedStmts, type_of}
 -- of this kind, unless its rule fits
 abbrev pub fault_unless : Bool → FaultKind → Option FaultKind
 fault_unless fits k = if fits then None else Some k
+
+-- the verdict by the fault that is found
+abbrev pub by_fault : {A : Type 0} → Option FaultKind → A → Verdict A
+by_fault None a = Fine a
+by_fault (Some k) a = Wrong k
+
+-- it is that of the rule, whatever is typed
+pub ruled_when : {A : Type 0} (fits : Bool) (k : FaultKind) (a : A) → ruled k (when fits a) ≡ by_fault (fault_unless fits k) a
+ruled_when true k a = refl
+ruled_when false k a = refl
 
 -- a switch, where it is known whether its value's cell passes the limit
 abbrev pub switch_rows_by : Bool → TypedExpr × TypedStmts → Rows

@@ -7,13 +7,13 @@
 //! whole units `nss_types`; the page is docs/TYPES.md.
 #![tactic(auto)]
 
-#[tactic(auto, using(nss_expressions::proofs::Faults::kept_append))]
+#[tactic(auto, using(nss_expressions::specs::Kept::kept_append))]
 pub mod declared;
-#[tactic(auto, using(nss_expressions::proofs::Faults::kept_append))]
+#[tactic(auto, using(nss_expressions::specs::Kept::kept_append))]
 pub mod judge_statement;
-#[tactic(auto, using(nss_expressions::proofs::Faults::kept_append))]
+#[tactic(auto, using(nss_expressions::specs::Kept::kept_append))]
 pub mod label;
 #[tactic(auto, using(nss_tree::specs::Readings::plain_cases))]
 pub mod returns;
-#[tactic(auto, using(nss_expressions::proofs::Faults::kept_append))]
+#[tactic(auto, using(nss_expressions::specs::Kept::kept_append))]
 pub mod statement;

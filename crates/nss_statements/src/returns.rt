@@ -1,15 +1,15 @@
 //! Whether a typed statement returns.
 
 ghost use Rattle.std.specs.Prelude.{◌≡◌, if◌then◌else◌};
-ghost use Rattle.nss_tree.specs.Reading.{tree_of_stmt, tree_of_stmts};
 ghost use Rattle.nss_typing.specs.Returns.{has_break, has_default, have_break, is_default};
 ghost use Rattle.nss_typing.specs.Returns.{is_statement, last_returns, returns, some_returns};
+ghost use Rattle.nss_typing.specs.UnitReading.{typed_stmt, typed_stmts};
 
 use nss_tree::Stmt;
 use nss_typing::TypedStmt;
 
 fn is_default(x: &TypedStmt) -> bool
-    ensures { result ≡ is_default (tree_of_stmt x.now) }
+    ensures { result ≡ is_default (typed_stmt x.now) }
 {
     match x {
         Stmt::Default { .. } => true,
@@ -32,7 +32,7 @@ fn is_default(x: &TypedStmt) -> bool
 
 /// Whether it is a statement, and no label or declaration.
 fn is_statement(x: &TypedStmt) -> bool
-    ensures { result ≡ is_statement (tree_of_stmt x.now) }
+    ensures { result ≡ is_statement (typed_stmt x.now) }
 {
     match x {
         Stmt::Declaration { .. } => false,
@@ -54,7 +54,7 @@ fn is_statement(x: &TypedStmt) -> bool
 }
 
 fn has_default(xs: &[TypedStmt]) -> bool
-    ensures { result ≡ has_default (tree_of_stmts xs.now) }
+    ensures { result ≡ has_default (typed_stmts xs.now) }
 {
     for x in xs {
         if is_default(x) {
@@ -67,7 +67,7 @@ fn has_default(xs: &[TypedStmt]) -> bool
 /// Whether a break in it leaves the loop or the switch that it stands in.
 #[cycle(breaks)]
 fn has_break(x: &TypedStmt) -> bool
-    ensures { result ≡ has_break (tree_of_stmt x.now) }
+    ensures { result ≡ has_break (typed_stmt x.now) }
 {
     match x {
         Stmt::Block { items, .. } => have_break(items),
@@ -94,7 +94,7 @@ fn has_break(x: &TypedStmt) -> bool
 
 #[cycle(breaks)]
 fn have_break(xs: &[TypedStmt]) -> bool
-    ensures { result ≡ have_break (tree_of_stmts xs.now) }
+    ensures { result ≡ have_break (typed_stmts xs.now) }
 {
     for x in xs {
         if has_break(x) {
@@ -107,7 +107,7 @@ fn have_break(xs: &[TypedStmt]) -> bool
 /// Whether each way through it ends with a `return`.
 #[cycle(returns)]
 fn returns(x: &TypedStmt) -> bool
-    ensures { result ≡ returns (tree_of_stmt x.now) }
+    ensures { result ≡ returns (typed_stmt x.now) }
 {
     match x {
         Stmt::Block { items, .. } => some_returns(items),
@@ -137,7 +137,7 @@ fn returns(x: &TypedStmt) -> bool
 /// Whether one of these returns.
 #[cycle(returns)]
 pub fn some_returns(xs: &[TypedStmt]) -> bool
-    ensures { result ≡ some_returns (tree_of_stmts xs.now) }
+    ensures { result ≡ some_returns (typed_stmts xs.now) }
 {
     for x in xs {
         if returns(x) {
@@ -150,7 +150,7 @@ pub fn some_returns(xs: &[TypedStmt]) -> bool
 /// Whether the last statement returns, labels and declarations passed over.
 #[cycle(returns)]
 fn last_returns(xs: &[TypedStmt]) -> bool
-    ensures { result ≡ last_returns (tree_of_stmts xs.now) }
+    ensures { result ≡ last_returns (typed_stmts xs.now) }
 {
     let mut last = false;
     for x in xs {
@@ -162,7 +162,7 @@ fn last_returns(xs: &[TypedStmt]) -> bool
 /// Whether a statement returns, which is known; of a label or declaration, what was told of those
 /// before it.
 fn next_last(x: &TypedStmt, returns: bool, before: bool) -> bool
-    ensures { result ≡ (if is_statement (tree_of_stmt x.now) then returns else before) }
+    ensures { result ≡ (if is_statement (typed_stmt x.now) then returns else before) }
 {
     if is_statement(x) { returns } else { before }
 }

@@ -25,6 +25,7 @@ use nss_expressions::given::Given;
 use nss_expressions::line::line_type;
 use nss_expressions::row::and_last;
 use nss_scopes::Sight;
+use nss_scopes::laws::scopes_are_left;
 use nss_tree::{DeclaredName, Expr, Stmt, TypeName};
 use nss_typing::laws::scopes_only_add;
 use nss_typing::{Expression, Fault, TypedStmt};
@@ -146,6 +147,7 @@ fn in_branch(
         (after (inside (sight_in given.now sight.old)) (plain_stmt branch.now))) }
 {
     scopes_only_add();
+    scopes_are_left();
     let mark = sight.inside();
     let typed = statement(given, sight, least, branch);
     sight.leave(mark);
@@ -171,6 +173,7 @@ fn in_loop(
         (after (looped (sight_in given.now sight.old)) (plain_stmt body.now))) }
 {
     scopes_only_add();
+    scopes_are_left();
     let mark = sight.enter_loop();
     let typed = statement(given, sight, least, body);
     sight.leave(mark);
@@ -197,6 +200,7 @@ fn block(
         (tree.block token (plain_stmts items.now))) }
 {
     scopes_only_add();
+    scopes_are_left();
     let mark = sight.enter();
     let typed = statements(given, sight, least, items);
     sight.leave(mark);
@@ -401,6 +405,7 @@ fn switch(
         (tree.switch token (plain_expr value.now) (plain_stmts body.now))) }
 {
     scopes_only_add();
+    scopes_are_left();
     let value = expression(given, sight, least, false, value)?;
     let crosses = sight.crosses_with(1);
     let mark = sight.enter_switch(given.alloc);

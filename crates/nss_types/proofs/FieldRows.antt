@@ -12,8 +12,7 @@ use Rattle.nss_typing.specs.Typed.{TypedLine}
 use Rattle.nss_typing.specs.Verdicts.{after_fields, after_line, field_added, field_verdict, fields_faults, fields_fine, line_faults, line_fine, lines_faults, lines_fine, one_more}
 use Rattle.nss_scopes.specs.Places.{first_place}
 use Rattle.nss_expressions.specs.Rows.{with_rest}
-use Rattle.nss_expressions.proofs.RowLemmas.{RowLaws}
-use Rattle.nss_types.proofs.ParameterRows.{plain_begin, plain_step, plain_end}
+use Rattle.nss_expressions.specs.RowLaws.{RowLaws, rest_begin, rest_step, rest_end}
 
 pub among_is : (x : List ℕ) (ys : List (List ℕ)) → is_some (first_place x ys) ≡ is_among x ys
 among_is x [] = refl
@@ -32,9 +31,9 @@ pub field_laws : (structs : List Structure) (ty : Option Ty) → RowLaws (λ (o 
     (λ c xs. fields_faults structs c ty xs)
     (λ c xs. after_fields structs c ty xs)
 field_laws structs ty = record {
-  begin = plain_begin;
-  step = plain_step;
-  end = λ all c. plain_end all;
+  begin = rest_begin;
+  step = rest_step;
+  end = λ all c. rest_end all;
   fine_more = λ c x xs. refl;
   faults_more = λ c x xs. refl;
   faults_none = λ c. refl;
@@ -54,9 +53,9 @@ pub line_laws : (structs : List Structure) → RowLaws (λ (o : Option (List Typ
     (λ c ls. lines_faults structs c ls)
     (λ c ls. after_lines structs c ls)
 line_laws structs = record {
-  begin = plain_begin;
-  step = plain_step;
-  end = λ all c. plain_end all;
+  begin = rest_begin;
+  step = rest_step;
+  end = λ all c. rest_end all;
   fine_more = λ c l ls. refl;
   faults_more = λ c l ls. refl;
   faults_none = λ c. refl;

@@ -1,5 +1,5 @@
 -- What is in sight once a function is left.
-use Rattle.std.proofs.Common.{◌≡◌, suc, Bool, true, false, ◌&&◌, List, [], ◌∷◌, ◌++◌, length, Option, None, Some, Result, Ok, Err, is_some, refl, ap, ◌∙◌}
+use Rattle.std.proofs.Common.{append_assoc, ◌≡◌, suc, Bool, true, false, ◌&&◌, List, [], ◌∷◌, ◌++◌, length, Option, None, Some, Result, Ok, Err, is_some, refl, ap, ◌∙◌}
 use Rattle.std.specs.Option.{option_map}
 use Rattle.std.specs.Result.{OnOk}
 use Rattle.nwq_value.specs.Engine.{EngineTable}
@@ -27,14 +27,10 @@ unequal_types (p ∷ ps) (q ∷ qs) h =
     by true = refl
     by false = refl
 
-append_all : (xs ys zs : List Entry) → (xs ++ ys) ++ zs ≡ xs ++ (ys ++ zs)
-append_all [] ys zs = refl
-append_all (x ∷ xs) ys zs = ap (λ l. x ∷ l) (append_all xs ys zs)
-
 adds_both : (e b a : Sight) → OnlyAdds e b → OnlyAdds b a → OnlyAdds e a
 adds_both e b a h k = record {
   more = h.more ++ k.more;
-  names = k.names ∙ (ap (λ n. n ++ k.more) h.names ∙ append_all e.names h.more k.more);
+  names = k.names ∙ (ap (λ n. n ++ k.more) h.names ∙ append_assoc e.names h.more k.more);
   others = k.others ∙ ap {A = Sight} {B = Sight} (λ x. record x { names = a.names; next = a.next; frame = a.frame; labels = a.labels }) h.others;
 }
 

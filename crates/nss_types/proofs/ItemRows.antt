@@ -10,7 +10,7 @@ use Rattle.nss_typing.specs.Sight.{Head, Sight}
 use Rattle.nss_typing.specs.UnitReading.{typed_item, typed_items}
 use Rattle.nss_typing.specs.Verdicts.{after_item, after_items, item_faults, item_fine, items_faults, items_fine, one_more}
 use Rattle.nss_expressions.specs.Rows.{with_rest}
-use Rattle.nss_expressions.proofs.RowLemmas.{RowLaws, list_begin, list_step, list_end}
+use Rattle.nss_expressions.specs.RowLaws.{RowLaws, mapped_step, rest_begin, rest_end}
 
 pub item_laws : (hs : List Head) → RowLaws (option_map typed_items) (option_map typed_item) one_more with_rest
     (λ (c : Sight) (x : Item Expr Constant TypeName (List ℕ)). after_item c (plain_item x))
@@ -20,9 +20,9 @@ pub item_laws : (hs : List Head) → RowLaws (option_map typed_items) (option_ma
     (λ c xs. items_faults hs c (map plain_item xs))
     (λ c xs. after_items c (map plain_item xs))
 item_laws hs = record {
-  begin = list_begin typed_item;
-  step = list_step typed_item;
-  end = λ all c. list_end typed_item all;
+  begin = rest_begin;
+  step = mapped_step typed_item;
+  end = λ all c. rest_end (option_map typed_items all);
   fine_more = λ c x xs. refl;
   faults_more = λ c x xs. refl;
   faults_none = λ c. refl;

@@ -1,4 +1,5 @@
 pub mod ParameterRows
+pub mod JudgedParameter
 pub mod FunctionLemmas
 pub mod FieldRows
 pub mod ItemRows

@@ -7,30 +7,7 @@ use Rattle.nss_typing.specs.Sight.{Sight}
 use Rattle.nss_typing.specs.Typed.{TypedParameter}
 use Rattle.nss_typing.specs.Verdicts.{after_params, constant_faults, late_after, one_more, parameter_declared, parameter_verdict, params_faults, params_fine}
 use Rattle.nss_expressions.specs.Rows.{and_one, with_rest}
-use Rattle.nss_expressions.proofs.RowLemmas.{RowLaws}
-
-module _ {A : Type 0} where
-  append_one : (xs : List A) (x : A) (ys : List A) → (xs ++ x ∷ []) ++ ys ≡ xs ++ x ∷ ys
-  append_one [] x ys = refl
-  append_one (z ∷ xs) x ys = ap (λ l. z ∷ l) (append_one xs x ys)
-
-  append_none : (xs : List A) → xs ++ [] ≡ xs
-  append_none [] = refl
-  append_none (x ∷ xs) = ap (λ l. x ∷ l) (append_none xs)
-
-  pub plain_begin : (rest : Option (List A)) → with_rest (Some []) rest ≡ rest
-  plain_begin None = refl
-  plain_begin (Some ys) = refl
-
-  pub plain_step : (all : Option (List A)) (x : Option A) (rest : Option (List A)) → with_rest (and_one all x) rest ≡ with_rest all (one_more x rest)
-  plain_step None x rest = refl
-  plain_step (Some xs) None rest = refl
-  plain_step (Some xs) (Some x) None = refl
-  plain_step (Some xs) (Some x) (Some ys) = ap Some (append_one xs x ys)
-
-  pub plain_end : (all : Option (List A)) → with_rest all (Some []) ≡ all
-  plain_end None = refl
-  plain_end (Some xs) = ap Some (append_none xs)
+use Rattle.nss_expressions.specs.RowLaws.{RowLaws, rest_begin, rest_step, rest_end}
 
 abbrev late_all : Bool → List SourceParameter → Bool
 late_all late [] = late
@@ -44,9 +21,9 @@ pub param_laws : RowLaws (λ (o : Option (List TypedParameter)). o) (λ (o : Opt
     (λ c ps. params_faults c.0 c.1 ps)
     (λ c ps. (after_params c.0 ps, late_all c.1 ps))
 param_laws = record {
-  begin = plain_begin;
-  step = plain_step;
-  end = λ all c. plain_end all;
+  begin = rest_begin;
+  step = rest_step;
+  end = λ all c. rest_end all;
   fine_more = λ c p ps. refl;
   faults_more = λ c p ps. refl;
   faults_none = λ c. refl;

@@ -17,7 +17,7 @@ use Rattle.nss_typing.specs.Typed.{TypedItem}
 use Rattle.nss_typing.specs.UnitReading.{typed_unit}
 use Rattle.nss_typing.specs.Verdicts.{entry_verdict, heads, items_faults, items_fine, unit_faults, unit_of, unit_typed}
 use Rattle.nss_types.specs.Answers.{IsKeptFault}
-use Rattle.nss_expressions.proofs.Faults.{kept_append}
+use Rattle.nss_expressions.specs.Kept.{kept_append}
 
 -- ---- the function that a script begins with
 

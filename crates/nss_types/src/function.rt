@@ -29,6 +29,7 @@ use nss_expressions::given::Given;
 use nss_expressions::line::{any_type, result_type, type_means};
 use nss_expressions::note::note;
 use nss_expressions::rules::is_void;
+use nss_scopes::laws::scopes_are_left;
 use nss_scopes::{Head, Heads, Meant, Sight, Signature};
 use nss_statements::returns::some_returns;
 use nss_statements::statement::statements;
@@ -365,7 +366,6 @@ fn parts(
         ≡ after_body (after_params (sight_in given.now c.old) ps.now)
         (option_map plain_stmts body.now)) }
 {
-    scopes_only_add();
     let alloc = given.alloc;
     let params = parameters(alloc, given.table, c, least, ps)?;
     let first = first_types(&c.seen, name.bytes());
@@ -431,6 +431,7 @@ pub fn function(
         (unit.function token ty.now name.now ps.now (option_map plain_stmts body.now))) }
 {
     scopes_only_add();
+    scopes_are_left();
     let alloc = given.alloc;
     let outside = Outside {
         meant: type_means(&c.structs, ty),

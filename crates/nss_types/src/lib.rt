@@ -12,13 +12,13 @@
 #![tactic(auto)]
 
 pub mod entry;
-#[tactic(auto, using(nss_expressions::proofs::Faults::kept_append))]
+#[tactic(auto, using(nss_expressions::specs::Kept::kept_append))]
 pub mod field;
-#[tactic(auto, using(nss_expressions::proofs::Faults::kept_append))]
+#[tactic(auto, using(nss_expressions::specs::Kept::kept_append))]
 pub mod function;
-#[tactic(auto, using(nss_expressions::proofs::Faults::kept_append))]
+#[tactic(auto, using(nss_expressions::specs::Kept::kept_append))]
 pub mod item;
-#[tactic(auto, using(nss_expressions::proofs::Faults::kept_append))]
+#[tactic(auto, using(nss_expressions::specs::Kept::kept_append))]
 pub mod parameter;
 pub mod unit;
 

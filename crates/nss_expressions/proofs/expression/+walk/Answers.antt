@@ -10,7 +10,7 @@ use Rattle.nss_typing.specs.Sight.{callee, types_wanted, wanted}
 use Rattle.nss_typing.specs.Verdicts.{all_faults, all_fine, faults, verdict}
 use Rattle.nss_expressions.specs.Views.{called_of, heads_in, sight_in}
 use Rattle.nss_expressions.proofs.ArgumentLemmas.{begin_value, next_value, next_least, end_value, end_least}
-use Rattle.nss_expressions.proofs.WalkLemmas.{one_value, one_least, two_value, two_least, call_least}
+use Rattle.nss_expressions.specs.Walked.{one_value, one_least, two_value, two_least, call_least}
 use Rattle.nss_expressions.proofs.expression.+walk.Goals as goal
 
 pub expression-returns-in_ok-of-in-Member-clause-value : goal.expression-returns-in_ok-of-in-Member-clause-value

@@ -1,5 +1,5 @@
 use Rattle.nss_expressions.specs.Views.{heads_in, sight_in}
-use Rattle.nss_expressions.proofs.RowLemmas.{row_value, row_least, row_sight}
+use Rattle.nss_expressions.specs.RowLaws.{row_value, row_least, row_sight}
 use Rattle.nss_statements.proofs.NameRows.{name_laws}
 use Rattle.nss_statements.proofs.declared.names.Goals as goal
 

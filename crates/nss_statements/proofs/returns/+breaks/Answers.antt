@@ -1,5 +1,5 @@
 use Rattle.std.proofs.Common.{◌≡◌, ◌∙◌, true, false, ap, refl, arith, rules}
-use Rattle.nss_tree.specs.Reading.{tree_of_stmt}
+use Rattle.nss_typing.specs.UnitReading.{typed_stmt}
 use Rattle.nss_tree.specs.Readings.{tree_do_loop, tree_for_loop, tree_if_else, tree_switch, tree_while_loop}
 use Rattle.nss_typing.specs.Returns.{has_break, have_break}
 use Rattle.nss_statements.proofs.ReturnLemmas.{any_end, any_here, any_next, or_else, or_then}
@@ -20,14 +20,14 @@ has_break-returns-in-Switch b c = rw (tree_switch _ _ _ _ c.in-Switch.is) refl
 pub has_break-returns-then-has_break : goal.has_break-returns-then-has_break
 has_break-returns-then-has_break b c =
     let is : c.has_break-in-IfElse.result ≡ true = search rules in
-    rw (tree_if_else _ _ _ _ _ c.in-IfElse.is) (or_then _ _ c.has_break-in-IfElse.result (c.has_break-in-IfElse.ensures ∙ ap (λ y. has_break (tree_of_stmt y)) c.deref-in-IfElse.ensures) is)
+    rw (tree_if_else _ _ _ _ _ c.in-IfElse.is) (or_then _ _ c.has_break-in-IfElse.result (c.has_break-in-IfElse.ensures ∙ ap (λ y. has_break (typed_stmt y)) c.deref-in-IfElse.ensures) is)
 
 pub has_break-returns-else-has_break : goal.has_break-returns-else-has_break
 has_break-returns-else-has_break b c =
     let is : c.has_break-in-IfElse.result ≡ false = search rules in
     rw (tree_if_else _ _ _ _ _ c.in-IfElse.is)
-    (or_else _ _ c.has_break-in-IfElse.result c.has_break-else-has_break.result (c.has_break-in-IfElse.ensures ∙ ap (λ y. has_break (tree_of_stmt y)) c.deref-in-IfElse.ensures) is
-    (c.has_break-else-has_break.ensures ∙ ap (λ y. has_break (tree_of_stmt y)) c.deref-else-has_break.ensures))
+    (or_else _ _ c.has_break-in-IfElse.result c.has_break-else-has_break.result (c.has_break-in-IfElse.ensures ∙ ap (λ y. has_break (typed_stmt y)) c.deref-in-IfElse.ensures) is
+    (c.has_break-else-has_break.ensures ∙ ap (λ y. has_break (typed_stmt y)) c.deref-else-has_break.ensures))
 
 pub have_break-returns-then-has_break : goal.have_break-returns-then-has_break
 have_break-returns-then-has_break b c =

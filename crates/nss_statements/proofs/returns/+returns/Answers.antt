@@ -1,5 +1,5 @@
 use Rattle.std.proofs.Common.{◌≡◌, ◌∙◌, true, false, ap, refl, arith, rules, if◌then◌else◌}
-use Rattle.nss_tree.specs.Reading.{tree_of_stmt, tree_of_stmts}
+use Rattle.nss_typing.specs.UnitReading.{typed_stmt, typed_stmts}
 use Rattle.nss_tree.specs.Readings.{tree_for_loop, tree_if_else, tree_if_only, tree_while_loop}
 use Rattle.nss_typing.specs.Returns.{is_statement, returns, some_returns}
 use Rattle.nss_statements.proofs.ReturnLemmas.{and_else, and_then, any_end, any_here, any_next, last_begin, last_end, last_next}
@@ -18,13 +18,13 @@ pub returns-returns-then-returns : goal.returns-returns-then-returns
 returns-returns-then-returns b c =
     let is : c.returns.result ≡ true = search rules in
     rw (tree_if_else _ _ _ _ _ c.in-IfElse.is)
-    (and_then _ _ c.returns.result c.returns-then-returns.result (c.returns.ensures ∙ ap (λ y. returns (tree_of_stmt y)) c.deref-in-IfElse.ensures) is
-    (c.returns-then-returns.ensures ∙ ap (λ y. returns (tree_of_stmt y)) c.deref-then-returns.ensures))
+    (and_then _ _ c.returns.result c.returns-then-returns.result (c.returns.ensures ∙ ap (λ y. returns (typed_stmt y)) c.deref-in-IfElse.ensures) is
+    (c.returns-then-returns.ensures ∙ ap (λ y. returns (typed_stmt y)) c.deref-then-returns.ensures))
 
 pub returns-returns-else-returns : goal.returns-returns-else-returns
 returns-returns-else-returns b c =
     let is : c.returns.result ≡ false = search rules in
-    rw (tree_if_else _ _ _ _ _ c.in-IfElse.is) (and_else _ _ c.returns.result (c.returns.ensures ∙ ap (λ y. returns (tree_of_stmt y)) c.deref-in-IfElse.ensures) is)
+    rw (tree_if_else _ _ _ _ _ c.in-IfElse.is) (and_else _ _ c.returns.result (c.returns.ensures ∙ ap (λ y. returns (typed_stmt y)) c.deref-in-IfElse.ensures) is)
 
 pub some_returns-returns-then-returns : goal.some_returns-returns-then-returns
 some_returns-returns-then-returns b c =
@@ -40,11 +40,11 @@ pub some_returns-returns : goal.some_returns-returns
 some_returns-returns b c = any_end some_returns returns (λ x xs. refl) c.args.xs.now c.loop-x.x-index _ refl (omega (arith, c.loop-x-test.false)) c.loop-x.invariant
 
 pub last_returns-loop-x-init : goal.last_returns-loop-x-init
-last_returns-loop-x-init b c = last_begin (tree_of_stmts c.args.xs.now)
+last_returns-loop-x-init b c = last_begin (typed_stmts c.args.xs.now)
 
 pub last_returns-loop-x-preserved : goal.last_returns-loop-x-preserved
 last_returns-loop-x-preserved b c =
-    last_next c.args.xs.now c.loop-x.x-index c.x-item.result c.loop-x.last c.next_last-last.result _ c.loop-x-test.true c.x-item.is (c.next_last-last.ensures ∙ ap (λ r. if is_statement (tree_of_stmt c.x-item.result) then r else c.loop-x.last) c.returns.ensures) c.loop-x.invariant
+    last_next c.args.xs.now c.loop-x.x-index c.x-item.result c.loop-x.last c.next_last-last.result _ c.loop-x-test.true c.x-item.is (c.next_last-last.ensures ∙ ap (λ r. if is_statement (typed_stmt c.x-item.result) then r else c.loop-x.last) c.returns.ensures) c.loop-x.invariant
 
 pub last_returns-returns : goal.last_returns-returns
 last_returns-returns b c = last_end c.args.xs.now c.loop-x.x-index c.loop-x.last _ (omega (arith, c.loop-x-test.false)) c.loop-x.invariant

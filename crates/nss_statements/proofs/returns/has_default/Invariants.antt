@@ -1,7 +1,7 @@
 use Rattle.std.proofs.Common.{◌≡◌, drop}
-use Rattle.nss_tree.specs.Reading.{tree_of_stmts}
+use Rattle.nss_typing.specs.UnitReading.{typed_stmts}
 use Rattle.nss_typing.specs.Returns.{has_default}
 use Rattle.nss_statements.proofs.returns.has_default.Given as goal
 
 abbrev pub invariant-loop-x : goal.invariant-loop-x
-invariant-loop-x l = has_default (tree_of_stmts (drop l.x-index l.xs)) ≡ has_default (tree_of_stmts l.xs)
+invariant-loop-x l = has_default (typed_stmts (drop l.x-index l.xs)) ≡ has_default (typed_stmts l.xs)

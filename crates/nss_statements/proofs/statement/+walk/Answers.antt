@@ -13,11 +13,11 @@ use Rattle.nss_typing.specs.UnitReading.{typed_stmt, typed_stmts}
 use Rattle.nss_typing.specs.Verdicts.{after, afters, stmt_faults, stmt_verdict, stmts_faults, stmts_fine, value, value_faults}
 use Rattle.nss_statements.specs.Faults.{switch_rows_by, switch_rule_by}
 use Rattle.nss_expressions.specs.Views.{heads_in, sight_in}
-use Rattle.nss_expressions.proofs.RowLemmas.{row_value, row_least, row_sight, row_end_value, row_end_least, row_end_sight}
+use Rattle.nss_expressions.specs.RowLaws.{row_value, row_least, row_sight, row_end_value, row_end_least, row_end_sight}
 use Rattle.nss_statements.proofs.Nodes.{all_size, block_is, declaration_is, do_is, falls, for_is, if_else_is, if_only_is, next_falls, on_ok, size, switch_is, while_is}
 use Rattle.nss_statements.proofs.SameSight.{same_faults, same_verdict}
-use Rattle.nss_statements.proofs.StatementRows.{scope_left, stmt_laws, stmts_first}
-use Rattle.nss_expressions.proofs.WalkLemmas.{always, answered, four_least, four_value, node_least, node_sight, node_value, three_least, three_value, two_least, two_value}
+use Rattle.nss_statements.proofs.StatementRows.{stmt_laws, stmts_first}
+use Rattle.nss_expressions.specs.Walked.{always, answered, four_least, four_value, node_least, node_sight, node_value, three_least, three_value, two_least, two_value}
 use Rattle.nss_statements.proofs.statement.+walk.Goals as goal
 
 -- ---- a statement that is known
@@ -221,7 +221,7 @@ in_branch-returns t c =
       least = subst (λ k. OnOk c.statement-typed.result (c.statement-typed.new.least ≡ kept c.args.least.now (stmt_faults hs k x))) is c.statement-typed.ensures.least;
       sight =
           on_ok c.statement-typed.result
-          (λ behind. scope_left c.scopes_only_add.ensures.first c.args.given.now.table.now c.args.sight.now c.statement-typed.new.sight c.leave.new.self c.inside-mark.result (inside s) (after (inside s) x)
+          (λ behind. c.scopes_are_left.ensures.left c.args.given.now.table.now c.args.sight.now c.statement-typed.new.sight c.leave.new.self c.inside-mark.result (inside s) (after (inside s) x)
           refl refl refl refl (c.scopes_only_add.ensures.statements (inside s) (more_stmts x no_stmt)) c.leave.ensures.left c.inside-mark.ensures.mark (behind ∙ ap (λ k. after k x) is))
           c.statement-typed.ensures.sight;
     }
@@ -237,7 +237,7 @@ in_loop-returns t c =
       least = subst (λ k. OnOk c.statement-typed.result (c.statement-typed.new.least ≡ kept c.args.least.now (stmt_faults hs k x))) is c.statement-typed.ensures.least;
       sight =
           on_ok c.statement-typed.result
-          (λ behind. scope_left c.scopes_only_add.ensures.first c.args.given.now.table.now c.args.sight.now c.statement-typed.new.sight c.leave.new.self c.enter_loop-mark.result (looped s) (after (looped s) x)
+          (λ behind. c.scopes_are_left.ensures.left c.args.given.now.table.now c.args.sight.now c.statement-typed.new.sight c.leave.new.self c.enter_loop-mark.result (looped s) (after (looped s) x)
           refl refl refl refl (c.scopes_only_add.ensures.statements (looped s) (more_stmts x no_stmt)) c.leave.ensures.left c.enter_loop-mark.ensures.mark (behind ∙ ap (λ k. after k x) is))
           c.statement-typed.ensures.sight;
     }
@@ -254,7 +254,7 @@ block-returns t c =
       value = c.made_block.ensures ∙ ap (λ o. fine (passed (tree.block c.args.token) o)) (c.in_ok-typed.ensures.value ∙ ap (λ k. stmts_fine hs k xs) is);
       least = c.in_ok-typed.ensures.least ∙ ap (λ k. kept c.args.least.now (stmts_faults hs k xs)) is;
       sight =
-          scope_left c.scopes_only_add.ensures.first c.args.given.now.table.now c.args.sight.now c.statements-typed.new.sight c.leave.new.self c.enter-mark.result (entered s) (afters (entered s) xs)
+          c.scopes_are_left.ensures.left c.args.given.now.table.now c.args.sight.now c.statements-typed.new.sight c.leave.new.self c.enter-mark.result (entered s) (afters (entered s) xs)
           refl refl refl refl (c.scopes_only_add.ensures.statements (entered s) xs) c.leave.ensures.left c.enter-mark.ensures.mark (c.in_ok-typed.ensures.sight ∙ ap (λ k. afters k xs) is);
     }
 
@@ -370,7 +370,7 @@ switch-returns t c =
           (sym (ap (λ b. (value_faults hs s e ++ stmts_faults hs (switched s) xs) ++ at c.args.token (asked (switch_rows_by b) (switch_rule_by b c.args.token) (two (value hs s e) (stmts_fine hs (switched s) xs)))) crosses))
           c.in_ok-value.ensures.least (c.in_ok-body.ensures.least ∙ ap (λ k. kept c.expression.new.least (stmts_faults hs k xs)) is) c.judge_switch.ensures.least;
       sight =
-          scope_left c.scopes_only_add.ensures.first c.args.given.now.table.now c.args.sight.now c.statements-body.new.sight c.leave.new.self c.enter_switch-mark.result (switched s) (afters (switched s) xs)
+          c.scopes_are_left.ensures.left c.args.given.now.table.now c.args.sight.now c.statements-body.new.sight c.leave.new.self c.enter_switch-mark.result (switched s) (afters (switched s) xs)
           refl refl refl refl (c.scopes_only_add.ensures.statements (switched s) xs) c.leave.ensures.left c.enter_switch-mark.ensures.mark (c.in_ok-body.ensures.sight ∙ ap (λ k. afters k xs) is);
     }
 

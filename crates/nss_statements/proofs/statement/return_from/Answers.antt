@@ -8,7 +8,7 @@ use Rattle.nss_typing.specs.Rules.{return_rows, return_rule}
 use Rattle.nss_typing.specs.UnitReading.{typed_stmt}
 use Rattle.nss_typing.specs.Verdicts.{stmt_faults, stmt_verdict, value, value_faults}
 use Rattle.nss_expressions.specs.Views.{heads_in, sight_in}
-use Rattle.nss_expressions.proofs.WalkLemmas.{answered, one_least}
+use Rattle.nss_expressions.specs.Walked.{answered, one_least}
 use Rattle.nss_statements.proofs.statement.return_from.Goals as goal
 
 pub returns-clause-value : goal.returns-clause-value

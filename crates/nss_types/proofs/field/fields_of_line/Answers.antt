@@ -1,6 +1,6 @@
 use Rattle.nss_types.specs.Fields.{fields_of}
 use Rattle.nss_types.proofs.FieldRows.{field_laws}
-use Rattle.nss_expressions.proofs.RowLemmas.{row_value, row_least, row_sight}
+use Rattle.nss_expressions.specs.RowLaws.{row_value, row_least, row_sight}
 use Rattle.nss_types.proofs.field.fields_of_line.Goals as goal
 
 pub loop-x-preserved : goal.loop-x-preserved

@@ -1,6 +1,6 @@
 use Rattle.nss_types.specs.Fields.{fields_of}
 use Rattle.nss_types.proofs.FieldRows.{line_laws}
-use Rattle.nss_expressions.proofs.RowLemmas.{row_value, row_least}
+use Rattle.nss_expressions.specs.RowLaws.{row_value, row_least}
 use Rattle.nss_types.proofs.field.lines.Goals as goal
 
 pub loop-l-preserved : goal.loop-l-preserved

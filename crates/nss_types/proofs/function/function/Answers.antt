@@ -11,10 +11,9 @@ use Rattle.nss_scopes.specs.Entries.{head_of, meant_of}
 use Rattle.nss_types.specs.Heads.{head_rule_by}
 use Rattle.nss_expressions.specs.Views.{heads_in, sight_in}
 use Rattle.nss_types.specs.Heads.{typed_head}
-use Rattle.nss_expressions.proofs.Faults.{kept_append}
+use Rattle.nss_expressions.specs.Kept.{kept_append}
 use Rattle.nss_types.proofs.FunctionLemmas.{function_adds, head_is, seen_after, there_is}
-use Rattle.nss_statements.proofs.StatementRows.{scope_left}
-use Rattle.nss_expressions.proofs.WalkLemmas.{two_least, two_value}
+use Rattle.nss_expressions.specs.Walked.{two_least, two_value}
 use Rattle.nss_types.proofs.function.function.Goals as goal
 
 pub returns-in-Ok-clause-value : goal.returns-in-Ok-clause-value
@@ -50,7 +49,7 @@ returns-in-Ok-clause-least c =
 pub returns-in-Ok-clause-sight : goal.returns-in-Ok-clause-sight
 returns-in-Ok-clause-sight c =
     seen_after c.close.result c.args.given.now.table.now c.leave.new.self c.close.new.c (sight_in c.args.given.now c.args.c.now) (after_body (in_body (sight_in c.args.given.now c.args.c.now) c.args.ty.now c.args.ps.now) (option_map plain_stmts c.args.body.now)) (head_of c.in-Ok.walked.declared) (head (sight_in c.args.given.now c.args.c.now) c.args.ty.now c.args.name.now c.args.ps.now (is_some (option_map plain_stmts c.args.body.now)))
-    (scope_left c.scopes_only_add.ensures.first c.args.given.now.table.now c.args.c.now c.parts-walked.new.c c.leave.new.self c.begin-mark.result (in_function (sight_in c.args.given.now c.args.c.now) c.args.ty.now) (after_body (in_body (sight_in c.args.given.now c.args.c.now) c.args.ty.now c.args.ps.now) (option_map plain_stmts c.args.body.now)) refl refl refl refl
+    (c.scopes_are_left.ensures.left c.args.given.now.table.now c.args.c.now c.parts-walked.new.c c.leave.new.self c.begin-mark.result (in_function (sight_in c.args.given.now c.args.c.now) c.args.ty.now) (after_body (in_body (sight_in c.args.given.now c.args.c.now) c.args.ty.now c.args.ps.now) (option_map plain_stmts c.args.body.now)) refl refl refl refl
     (function_adds c.scopes_only_add.ensures.parameters c.scopes_only_add.ensures.statements (in_function (sight_in c.args.given.now c.args.c.now) c.args.ty.now) c.args.ps.now (option_map plain_stmts c.args.body.now)) c.leave.ensures.left c.begin-mark.ensures.mark (c.in-Ok.ensures.sight ∙ ap (λ k. after_body (after_params k c.args.ps.now) (option_map plain_stmts c.args.body.now)) (c.begin-mark.ensures.begun c.args.given.now.table.now ∙ ap (begun (sight_in c.args.given.now c.args.c.now)) c.result_type-ty.ensures)))
     c.close.ensures.sight (c.in-Ok.ensures.declared ∙ (ap {A = Option TypedHead} {B = Head} (λ h. record { called = c.args.name.now; types = option_map signature_of h; has_body = is_some c.args.body.now }) (c.in-Ok.ensures.head ∙ ap fine (head_is c.is_taken_by_other.result (is_taken_by_other (sight_in c.args.given.now c.args.c.now) c.args.name.now) c.is_second.result (is_some (option_map plain_stmts c.args.body.now) && has_body c.args.name.now c.args.c.now.seen)
     (params_fine (sight_in c.args.given.now c.begin-mark.new.self) false c.args.ps.now) (params_fine (in_function (sight_in c.args.given.now c.args.c.now) c.args.ty.now) false c.args.ps.now) (option_map meant_of c.type_means.result) (type_means c.args.c.now.structs c.args.ty.now) (first_types c.args.name.now c.begin-mark.new.self.seen) (first_types c.args.name.now c.args.c.now.seen)

@@ -1,6 +1,6 @@
 use Rattle.nss_expressions.specs.Views.{heads_in, sight_in}
 use Rattle.nss_types.proofs.ItemRows.{item_laws}
-use Rattle.nss_expressions.proofs.RowLemmas.{row_value, row_least, row_sight}
+use Rattle.nss_expressions.specs.RowLaws.{row_value, row_least, row_sight}
 use Rattle.nss_types.proofs.item.items.Goals as goal
 
 pub loop-x-preserved : goal.loop-x-preserved

@@ -3,7 +3,7 @@ use Rattle.nss_typing.specs.Nodes.{at, fine, kept}
 use Rattle.nss_typing.specs.Sight.{crosses_with, is_taken}
 use Rattle.nss_scopes.specs.Entries.{meant_of}
 use Rattle.nss_scopes.specs.Views.{in_sight}
-use Rattle.nss_statements.proofs.Judged.{typed_is}
+use Rattle.nss_types.proofs.JudgedParameter.{typed_is}
 use Rattle.nss_types.proofs.parameter.judge_parameter.Goals as goal
 
 pub returns-in-None-parameter_fault-clause-value : goal.returns-in-None-parameter_fault-clause-value

@@ -1,7 +1,7 @@
 use Rattle.nss_scopes.specs.Views.{in_sight}
 use Rattle.nss_typing.specs.Verdicts.{late_after, parameter_declared}
 use Rattle.nss_types.proofs.ParameterRows.{pair_is, param_laws, params_sight}
-use Rattle.nss_expressions.proofs.RowLemmas.{row_value, row_least}
+use Rattle.nss_expressions.specs.RowLaws.{row_value, row_least}
 use Rattle.nss_types.proofs.parameter.parameters.Goals as goal
 
 pub loop-p-preserved : goal.loop-p-preserved

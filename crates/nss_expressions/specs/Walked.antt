@@ -1,11 +1,11 @@
--- What a node's judgement gives, its parts being walked.
+-- What a node's judgement gives, its parts being walked. Like those of RowLaws these lemmas hold of nodes and parts of every type.
 use Rattle.std.proofs.Common.{◌≡◌, ℕ, List, ◌++◌, Option, Result, Ok, Err, sym, ap, subst, ◌∙◌}
 use Rattle.std.specs.Option.{option_map}
 use Rattle.std.specs.Result.{IfOk, OnOk}
 use Rattle.nwq_value.specs.declared.memory.NoMemory.{NoMemory}
 use Rattle.nss_typing.specs.declared.fault.Fault.{Fault}
 use Rattle.nss_typing.specs.Nodes.{Verdict, fine, at, kept}
-use Rattle.nss_expressions.proofs.Faults.{kept_append}
+use Rattle.nss_expressions.specs.Kept.{kept_append}
 
 -- D is a node, X what is typed, R what code answers, seen as an X
 module _ {D X R : Type 0} (plain : R → X) (V : D → Verdict X) (F : D → List Fault) (n : ℕ) (r : Result (Option R) NoMemory) (e d : D) (node : e ≡ d) where

@@ -1,12 +1,13 @@
--- A loop over the parts of a node, each walked in what the ones before it leave in sight.
+-- A loop over the parts of a node, each walked in what the ones before it leave in sight. These lemmas hold of parts of every type, of
+-- which no clause can speak.
 use Rattle.std.proofs.Common.{◌≡◌, ℕ, ◌+◌, ◌<◌, ◌≤◌, List, [], ◌∷◌, ◌++◌, length, map, drop, get_or, Option, None, Some, refl, sym, ap, ◌∙◌}
-use Rattle.std.proofs.lemmas.List.{at_drop_more, at_drop_all}
+use Rattle.std.proofs.lemmas.List.{append_assoc, append-nil, at_drop_more, at_drop_all, map_push}
 use Rattle.std.specs.Option.{option_map}
 use Rattle.nss_typing.specs.declared.fault.Fault.{Fault}
 use Rattle.nss_typing.specs.Nodes.{kept}
 use Rattle.nss_typing.specs.Verdicts.{one_more}
 use Rattle.nss_expressions.specs.Rows.{and_one, with_rest}
-use Rattle.nss_expressions.proofs.Faults.{kept_append}
+use Rattle.nss_expressions.specs.Kept.{kept_append}
 
 -- C is what is in sight, R a part of the tree, T what code answers, X and XS what is typed: one, and several.
 pub record RowLaws {C R T X XS : Type 0} (V : Option (List T) → Option XS) (v : Option T → Option X) (more : Option X → Option XS → Option XS)
@@ -63,28 +64,30 @@ module _ {C R T X XS : Type 0} {V : Option (List T) → Option XS} {v : Option T
     pub row_end_sight : (whole : C) → After c (drop i rs) ≡ whole → c ≡ whole
     row_end_sight whole so_far = sym (laws.after_none c) ∙ (sym (at_drop_all (After c) rs i le) ∙ so_far)
 
--- ---- lists, each part seen through a function
+-- ---- lists
 
+module _ {A : Type 0} where
+  pub rest_begin : (rest : Option (List A)) → with_rest (Some []) rest ≡ rest
+  rest_begin None = refl
+  rest_begin (Some ys) = refl
+
+  pub rest_step : (all : Option (List A)) (x : Option A) (rest : Option (List A)) → with_rest (and_one all x) rest ≡ with_rest all (one_more x rest)
+  rest_step None x rest = refl
+  rest_step (Some xs) None rest = refl
+  rest_step (Some xs) (Some x) None = refl
+  rest_step (Some xs) (Some x) (Some ys) = ap Some (append_assoc xs (x ∷ []) ys)
+
+  pub rest_end : (all : Option (List A)) → with_rest all (Some []) ≡ all
+  rest_end None = refl
+  rest_end (Some xs) = ap Some (append-nil xs)
+
+-- each part seen through a function
 module _ {T X : Type 0} (f : T → X) where
-  appended_one : (xs : List T) (x : T) (ys : List X) → map f (xs ++ x ∷ []) ++ ys ≡ map f xs ++ f x ∷ ys
-  appended_one [] x ys = refl
-  appended_one (z ∷ xs) x ys = ap (λ l. f z ∷ l) (appended_one xs x ys)
+  mapped_one : (all : Option (List T)) (x : Option T) → option_map (map f) (and_one all x) ≡ and_one (option_map (map f) all) (option_map f x)
+  mapped_one None x = refl
+  mapped_one (Some xs) None = refl
+  mapped_one (Some xs) (Some x) = ap Some (map_push f xs x)
 
-  appended_none : (xs : List T) → map f xs ++ [] ≡ map f xs
-  appended_none [] = refl
-  appended_none (x ∷ xs) = ap (λ l. f x ∷ l) (appended_none xs)
-
-  pub list_begin : (rest : Option (List X)) → with_rest (option_map (map f) (Some [])) rest ≡ rest
-  list_begin None = refl
-  list_begin (Some ys) = refl
-
-  pub list_step : (all : Option (List T)) (x : Option T) (rest : Option (List X))
+  pub mapped_step : (all : Option (List T)) (x : Option T) (rest : Option (List X))
       → with_rest (option_map (map f) (and_one all x)) rest ≡ with_rest (option_map (map f) all) (one_more (option_map f x) rest)
-  list_step None x rest = refl
-  list_step (Some xs) None rest = refl
-  list_step (Some xs) (Some x) None = refl
-  list_step (Some xs) (Some x) (Some ys) = ap Some (appended_one xs x ys)
-
-  pub list_end : (all : Option (List T)) → with_rest (option_map (map f) all) (Some []) ≡ option_map (map f) all
-  list_end None = refl
-  list_end (Some xs) = ap Some (appended_none xs)
+  mapped_step all x rest = ap (λ a. with_rest a rest) (mapped_one all x) ∙ rest_step (option_map (map f) all) (option_map f x) rest
