@@ -14,6 +14,7 @@ use Rattle.engine_table.specs.declared.stage.Stage.TheVariants as stage
 use Rattle.engine_table.specs.Symbols.{placed_all}
 use Rattle.engine_table.specs.Grammar.{structure_of}
 use Rattle.engine_table.specs.Headers.{HasTable, IsRefused, OneHeader, Comes, nothing, function_fault, constant_fault, value_fault, same_const}
+use Rattle.engine_table.specs.Laws.{BuiltInHasTable}
 use Rattle.engine_table.specs.Turns.{turn, run}
 use Rattle.engine_table.proofs.Whole.{right}
 
@@ -37,16 +38,16 @@ table_of computed_are (Some ts) is e = (
 )
 
 -- the built-in header's text has the table of its data
-pub has_table : ComputedAreTokens → HasTable header_text header_table
+pub has_table : ComputedAreTokens → BuiltInHasTable
 has_table computed_are = table_of computed_are (tokens_in 6000 0 header_text) refl computed
 
-none_else : ComputedAreTokens → OneHeader → (f : HeaderFault) → f ≢ NoMemory → IsRefused header_text f → ⊥
-none_else computed_are one f some refused = one.not_both header_text header_table f some (has_table computed_are) refused
+none_else : BuiltInHasTable → OneHeader → (f : HeaderFault) → f ≢ NoMemory → IsRefused header_text f → ⊥
+none_else table one f some refused = one.not_both header_text header_table f some table refused
 
 -- and no fault
-pub only_memory : ComputedAreTokens → OneHeader → (f : HeaderFault) → IsRefused header_text f → f ≡ NoMemory
-only_memory computed_are one NoMemory h = refl
-only_memory computed_are one (Bad p) h = absurd (none_else computed_are one (Bad p) (λ e. cc) h)
-only_memory computed_are one (Header p) h = absurd (none_else computed_are one (Header p) (λ e. cc) h)
-only_memory computed_are one (Twice p) h = absurd (none_else computed_are one (Twice p) (λ e. cc) h)
-only_memory computed_are one (Many p) h = absurd (none_else computed_are one (Many p) (λ e. cc) h)
+pub only_memory : BuiltInHasTable → OneHeader → (f : HeaderFault) → IsRefused header_text f → f ≡ NoMemory
+only_memory table one NoMemory h = refl
+only_memory table one (Bad p) h = absurd (none_else table one (Bad p) (λ e. cc) h)
+only_memory table one (Header p) h = absurd (none_else table one (Header p) (λ e. cc) h)
+only_memory table one (Twice p) h = absurd (none_else table one (Twice p) (λ e. cc) h)
+only_memory table one (Many p) h = absurd (none_else table one (Many p) (λ e. cc) h)

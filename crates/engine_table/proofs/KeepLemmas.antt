@@ -128,7 +128,7 @@ if_keeps : (k : Known) (b : Bool) (a d : Declaration) → (if b then Some a else
 if_keeps k true a d e h = some_keeps k a d e h
 if_keeps k false a d e h = absurd (none-some d e)
 
-made_keeps : (k : Known) (o : Option ℕ) (x : Symbol) (d : Declaration) → defined o x ≡ Some d → KeepsDeclaration k d
+pub made_keeps : (k : Known) (o : Option ℕ) (x : Symbol) (d : Declaration) → defined o x ≡ Some d → KeepsDeclaration k d
 made_keeps k None (symbol.Name n) d e = some_keeps k declaration.Passed d e tt
 made_keeps k (Some c) (symbol.Name n) d e = if_keeps k (nat_lt 1 c) (declaration.TypeWord n) d e tt
 made_keeps k (Some c) (symbol.Word word.Effect) d e = if_keeps k _ declaration.Passed d e tt
@@ -162,7 +162,7 @@ named_keeps k b d p x t h e = absurd (no_turn _ t e)
 
 -- ---- values
 
-params_more : (ps : List Param) (u : Ty) (c : Option Const) → AreParams ps → IsNoStruct u → FitsType c u → AreParams (ps ++ record { ty = u; default = c } ∷ [])
+pub params_more : (ps : List Param) (u : Ty) (c : Option Const) → AreParams ps → IsNoStruct u → FitsType c u → AreParams (ps ++ record { ty = u; default = c } ∷ [])
 params_more [] u c h plain fits = (plain, fits, tt)
 params_more (p ∷ ps) u c h plain fits = (h.0, h.1, params_more ps u c h.2 plain fits)
 
@@ -196,7 +196,7 @@ valued_keeps : (k : Known) (o : Owner) (c : Option Const) (p : ℕ) (x : Symbol)
 valued_keeps k (owner.Constant d) c p x t h e = end_keeps k d c p x t h.0 h.1 h.2 e
 valued_keeps k (owner.Parameter f u) c p x t h e = param_keeps k f u c p x t h.0 h.1 h.2 h.3 e
 
-bounds_of : (c : Option Const) (u : Ty) → FitsType c u → IfSome c IsConstant
+pub bounds_of : (c : Option Const) (u : Ty) → FitsType c u → IfSome c IsConstant
 bounds_of None u fits = tt
 bounds_of (Some c) u fits = fits.1
 
@@ -225,7 +225,7 @@ of_type_type u (Some d) c e = by_test (has_type d u) refl e where
   by_test true is e' = ap const_type (sym (same_Some d c e')) ∙ its_type d u is
   by_test false is e' = absurd (none-some c e')
 
-constant_type : (constants : List Constant) (u : Ty) (x : Symbol) (c : Const) → constant_in constants u x ≡ Some c → const_type c ≡ u
+pub constant_type : (constants : List Constant) (u : Ty) (x : Symbol) (c : Const) → constant_in constants u x ≡ Some c → const_type c ≡ u
 constant_type constants ty.Int (symbol.Int n) c e = ap const_type (sym (same_Some _ c e))
 constant_type constants ty.Text (symbol.Text bytes) c e = ap const_type (sym (same_Some _ c e))
 constant_type constants ty.Object (symbol.Word word.ObjectSelf) c e = ap const_type (sym (same_Some _ c e))
@@ -250,7 +250,7 @@ of_type_is u (Some d) c e = by_test (has_type d u) e where
   by_test false is = absurd (none-some c is)
 
 -- so is one that a token is by itself
-constant_bounds : (constants : List Constant) (u : Ty) (x : Symbol) (c : Const) → AreConstants constants → IsSymbol x → constant_in constants u x ≡ Some c
+pub constant_bounds : (constants : List Constant) (u : Ty) (x : Symbol) (c : Const) → AreConstants constants → IsSymbol x → constant_in constants u x ≡ Some c
     → IsConstant c
 constant_bounds constants ty.Int (symbol.Int n) c all bounds e = subst IsConstant (same_Some _ c e) (sfits_to_z (Fits-of_lt bounds))
 constant_bounds constants ty.Text (symbol.Text bytes) c all bounds e = subst IsConstant (same_Some _ c e) bounds
@@ -259,7 +259,7 @@ constant_bounds constants ty.Object (symbol.Word word.ObjectInvalid) c all bound
 constant_bounds constants u (symbol.Name n) c all bounds e = named_bounds constants n c all (of_type_is u (constant_named n constants) c e)
 constant_bounds constants u x c all bounds e = absurd (none-some c e)
 
-negative_bounds : (n : ℕ) → n < 2 ^ 32 → IsConstant (negative n)
+pub negative_bounds : (n : ℕ) → n < 2 ^ 32 → IsConstant (negative n)
 negative_bounds n bounds =
     subst (FitsSigned w32) (sym (wrapping_neg_is w32 (cast_signed w32 n) (sfits_to_z (Fits-of_lt bounds)))) (SFits-int_wrap w32 (neg_ℤ (cast_signed w32 n)))
 

@@ -1,11 +1,12 @@
-pub mod SymbolLemmas
-pub mod NameLemmas
-pub mod KeepLemmas
-pub mod Progress
-pub mod Prefixes
-pub mod Complete
-pub mod Whole
-pub mod Within
-pub mod TokenLemmas
+mod SymbolLemmas
+mod NameLemmas
+mod KeepLemmas
+mod Progress
+mod Prefixes
+mod Complete
+mod Whole
+mod Within
+mod TokenLemmas
 mod Rows
-pub mod BuiltIn
+mod BuiltIn
+mod Lines

@@ -5,3 +5,4 @@ pub mod Symbols
 pub mod Grammar
 pub mod Headers
 pub mod Turns
+pub mod Laws

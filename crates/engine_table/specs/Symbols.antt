@@ -1,5 +1,6 @@
 -- What the grammar of a header sees of a token.
 use Rattle.std.specs.Prelude.{ℕ, ◌^◌, ◌<◌, ◌≤◌, All, Bool, ◌||◌, ◌==◌, List, [], ◌∷◌, length, take, codes, bytes_eq, if◌then◌else◌}
+use Rattle.std.specs.List.{AllByRecursion}
 use Rattle.nwq_value.specs.Limits.{text_limit}
 use Rattle.nss_lexer.specs.declared.token.Kind.{Kind}
 use Rattle.nss_lexer.specs.declared.token.Kind.TheVariants as kind
@@ -91,3 +92,7 @@ placed_of t = at t.start (symbol_of t)
 abbrev pub placed_all : List Lexeme → List Placed
 placed_all [] = []
 placed_all (t ∷ ts) = placed_of t ∷ placed_all ts
+
+-- each literal of these is within bounds
+abbrev pub AreSymbols : List Placed → Type 0
+AreSymbols xs = AllByRecursion (λ (x : Placed). IsSymbol x.symbol) xs

@@ -13,10 +13,10 @@ ghost use Rattle.engine_table.specs.Turns.{HasTokens, HasTokensUpTo, ended, know
 
 use crate::fault::HeaderFault;
 use crate::known::Known;
-use crate::laws::one_header;
+use crate::laws::{built_in_has_table, one_header};
 use crate::stage::{Stage, Turn};
 use crate::symbol::{Symbol, symbol_of};
-use nss_lexer::laws::{computed_tokens, one_first};
+use nss_lexer::laws::one_first;
 use nss_lexer::{Lexed, Token, next};
 use nwq_value::header::built_in_is_the_header;
 use nwq_value::{BUILT_IN, NoMemory, Table};
@@ -192,7 +192,7 @@ pub fn built_in(alloc: Global) -> Result<Table, NoMemory>
     ensures text { IfOk result (HasTable header_text) }
 {
     built_in_is_the_header();
-    computed_tokens();
+    built_in_has_table();
     one_header();
     match read_header(alloc, BUILT_IN) {
         Ok(table) => Ok(table),

@@ -1,4 +1,3 @@
 mod Growing
 mod Literals
-mod Lines
 mod Tables

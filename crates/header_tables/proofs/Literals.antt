@@ -4,14 +4,14 @@ use Rattle.std.proofs.lemmas.Bool.Decides.{nat_tests}
 use Rattle.std.proofs.lemmas.List.{length-take}
 use Rattle.std.proofs.lemmas.List.Elements.{All-nil, All-cons, All-take, All-drop}
 use Rattle.std.specs.Prelude.{All}
-use Rattle.std.specs.List.{AllByRecursion, list_all}
+use Rattle.std.specs.List.{list_all}
 use Rattle.nwq_value.specs.Limits.{text_limit}
 use Rattle.nss_lexer.specs.declared.token.Kind.{Kind}
 use Rattle.nss_lexer.specs.declared.token.Kind.TheVariants as kind
 use Rattle.nss_lexer.specs.Lexemes.{IsLexeme}
 use Rattle.nss_lexer.specs.Splitting.{Lexeme, IsFirstToken, Splits, whole, broken, token}
 use Rattle.nss_lexer.specs.Strings.{string_value, ValuesAreBytes}
-use Rattle.engine_table.specs.Symbols.{IsSymbol, Placed, symbol_by, symbol_of, placed_all}
+use Rattle.engine_table.specs.Symbols.{IsSymbol, Placed, AreSymbols, symbol_by, symbol_of, placed_all}
 
 abbrev pub IsByte : ℕ → Type 0
 IsByte b = b < 256
@@ -31,10 +31,6 @@ all_bytes (b ∷ bytes) e =
     let both = all_by (nat_lt b 256) (list_all (λ c. nat_lt c 256) bytes) e in All-cons IsByte b bytes (below b 256 both.0) (all_bytes bytes both.1)
 
 -- ---- tokens
-
--- each token is within bounds
-abbrev pub AreSymbols : List Placed → Type 0
-AreSymbols xs = AllByRecursion (λ (x : Placed). IsSymbol x.symbol) xs
 
 module _ (values : ValuesAreBytes) where
   lexeme_bounds : (k : Kind) (text : List ℕ) → IsLexeme k text → All IsByte text → IsSymbol (symbol_by k text)

@@ -2,7 +2,8 @@
 
 ghost use Rattle.header_tables.specs.Laws.{BuiltInIsTable, HeadersHaveTables};
 
-use nss_lexer::laws::{computed_tokens, values_are_bytes};
+use engine_table::laws::{built_in_has_table, clear_lines_are_admissible};
+use nss_lexer::laws::values_are_bytes;
 
 /// The table of a header keeps what every table keeps, where its text is bytes; and so does the
 /// table of the built-in header.
@@ -10,6 +11,7 @@ pub fn headers_have_tables()
     ensures read { HeadersHaveTables }
     ensures built_in { BuiltInIsTable }
 {
-    computed_tokens();
     values_are_bytes();
+    clear_lines_are_admissible();
+    built_in_has_table();
 }

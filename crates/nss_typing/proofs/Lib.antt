@@ -1,12 +1,12 @@
-pub mod FirstKind
-pub mod Right
-pub mod InSight
-pub mod Coverage
-pub mod RightExpressions
-pub mod RightStatements
-pub mod RightItems
-pub mod Least
-pub mod UnitLaws
-pub mod Numbering
-pub mod Adding
+mod FirstKind
+mod Right
+mod InSight
+mod Coverage
+mod RightExpressions
+mod RightStatements
+mod RightItems
+mod Least
+mod UnitLaws
+mod Numbering
+mod Adding
 mod Examples

@@ -6,8 +6,8 @@ use Rattle.nss_typing.specs.Typed.{TypedUnit}
 use Rattle.nss_typing.specs.Nodes.{Among, kept, IsLeast}
 use Rattle.nss_typing.specs.Verdicts.{unit_faults}
 use Rattle.nss_typing.specs.Meaning.{TypesUnit, FaultInUnit}
-use Rattle.nss_typing.specs.Laws.{OneTyped, TypedIsFaultless, FaultlessIsTyped, OneToken, SomeAnswer, VerdictsAreRight, FaultsAreListed, LeastIsKept, NoneKeptIsTyped}
-use Rattle.nss_typing.proofs.RightItems.{right_unit}
+use Rattle.nss_typing.specs.Laws.{OneTyped, TypedIsFaultless, FaultlessIsTyped, OneToken, SomeAnswer, VerdictsAreRight, ItemsAreRight, FaultsAreListed, LeastIsKept, NoneKeptIsTyped}
+use Rattle.nss_typing.proofs.RightItems.{right_item, right_unit}
 use Rattle.nss_typing.proofs.Least.{kept_is, kept_below, kept_none}
 
 pub one_typed : OneTyped
@@ -53,6 +53,9 @@ one_token table u f g h k = le_antisymm (h.least g k.is) (k.least f h.is)
 
 pub verdicts_are_right : VerdictsAreRight
 verdicts_are_right table u t = ((right_unit table u).sound t, (right_unit table u).complete t)
+
+pub items_are_right : ItemsAreRight
+items_are_right hs c i t = ((right_item hs c i).sound t, (right_item hs c i).complete t)
 
 pub faults_are_listed : FaultsAreListed
 faults_are_listed table u f = ((right_unit table u).out f, (right_unit table u).up f)

@@ -1,12 +1,13 @@
 -- What is promised of typing: a unit is typed in one way or at fault, never both, and the functions over the tree find which.
-use Rattle.std.specs.Prelude.{◌≡◌, ◌⊎◌, ◌↔◌, None, Some}
-use Rattle.nss_tree.specs.Source.{SourceTree}
+use Rattle.std.specs.Prelude.{◌≡◌, ◌⊎◌, ◌↔◌, List, None, Some}
+use Rattle.nss_tree.specs.Source.{SourceItem, SourceTree}
 use Rattle.nwq_value.specs.Engine.{EngineTable}
 use Rattle.nss_typing.specs.declared.fault.Fault.{Fault}
-use Rattle.nss_typing.specs.Typed.{TypedUnit}
+use Rattle.nss_typing.specs.Typed.{TypedItem, TypedUnit}
 use Rattle.nss_typing.specs.Nodes.{Among, kept, IsLeast}
-use Rattle.nss_typing.specs.Verdicts.{unit_typed, unit_faults}
-use Rattle.nss_typing.specs.Meaning.{TypesUnit, FaultInUnit}
+use Rattle.nss_typing.specs.Sight.{Head, Sight}
+use Rattle.nss_typing.specs.Verdicts.{item_fine, unit_typed, unit_faults}
+use Rattle.nss_typing.specs.Meaning.{TypesItem, TypesUnit, FaultInUnit}
 
 -- a unit has one typed tree at most
 abbrev pub OneTyped : Type 0
@@ -33,6 +34,10 @@ SomeAnswer = (table : EngineTable) (u : SourceTree) → ((t : TypedUnit) × Type
 -- the typed tree is what the rules give
 abbrev pub VerdictsAreRight : Type 0
 VerdictsAreRight = (table : EngineTable) (u : SourceTree) (t : TypedUnit) → (unit_typed table u ≡ Some t) ↔ TypesUnit table u t
+
+-- so is each item of it, whatever stands in its sight
+abbrev pub ItemsAreRight : Type 0
+ItemsAreRight = (hs : List Head) (c : Sight) (i : SourceItem) (t : TypedItem) → (item_fine hs c i ≡ Some t) ↔ TypesItem hs c i t
 
 -- the list of faults has exactly the nodes at fault
 abbrev pub FaultsAreListed : Type 0

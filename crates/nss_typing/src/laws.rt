@@ -1,8 +1,8 @@
 //! Laws about the definitions, each the contract of a function that does nothing.
 
-ghost use Rattle.nss_typing.specs.Laws.{FaultlessIsTyped, FaultsAreListed, LeastIsKept};
-ghost use Rattle.nss_typing.specs.Laws.{NoneKeptIsTyped, OneToken, OneTyped, SomeAnswer};
-ghost use Rattle.nss_typing.specs.Laws.{TypedIsFaultless, VerdictsAreRight};
+ghost use Rattle.nss_typing.specs.Laws.{FaultlessIsTyped, FaultsAreListed, ItemsAreRight};
+ghost use Rattle.nss_typing.specs.Laws.{LeastIsKept, NoneKeptIsTyped, OneToken, OneTyped};
+ghost use Rattle.nss_typing.specs.Laws.{SomeAnswer, TypedIsFaultless, VerdictsAreRight};
 ghost use Rattle.nss_typing.specs.Numbers.{NumberedInOrder};
 ghost use Rattle.nss_typing.specs.Scopes.{NamesStandFirst, ParametersOnlyAdd, StatementsOnlyAdd};
 
@@ -30,6 +30,11 @@ pub fn verdicts_are_right()
     ensures listed { FaultsAreListed }
     ensures least { LeastIsKept }
     ensures settled { NoneKeptIsTyped }
+{}
+
+/// An item is typed by the functions over the tree as by the rules, whatever stands in its sight.
+pub fn items_are_right()
+    ensures typed { ItemsAreRight }
 {}
 
 /// The variables of a typed unit are numbered in one row from 0, in the order of their tokens.

@@ -1,3 +1,3 @@
-pub mod Counting
-pub mod Nodes
-pub mod Whole
+mod Counting
+mod Nodes
+mod Whole

@@ -1,17 +1,16 @@
 -- A unit that is spelled by tokens has one least fault.
-use Rattle.std.proofs.Common.{◌≡◌, ◌≤◌, ℕ, List, Option, None, Some, refl, ap, subst, ◌∙◌}
+use Rattle.std.proofs.Common.{◌≡◌, ◌≤◌, ℕ, List, Option, None, Some, refl, ap, ◌∙◌}
 use Rattle.std.proofs.Math.Nat.{le_antisymm}
 use Rattle.nwq_value.specs.Engine.{EngineTable}
 use Rattle.nss_tree.specs.Source.{SourceTree}
 use Rattle.nss_symbols.specs.Symbols.{Symbol}
 use Rattle.nss_parser.specs.Sentence.{Parses}
 use Rattle.nss_typing.specs.declared.fault.Fault.{Fault}
-use Rattle.nss_typing.specs.Nodes.{Among, kept, IsLeast}
+use Rattle.nss_typing.specs.Nodes.{kept, IsLeast}
 use Rattle.nss_typing.specs.Sight.{start}
 use Rattle.nss_typing.specs.Verdicts.{entry_verdict, heads, items_faults, unit_faults}
 use Rattle.nss_typing.specs.Meaning.{FaultInUnit}
-use Rattle.nss_typing.specs.Laws.{FaultsAreListed, LeastIsKept}
-use Rattle.nss_typing.proofs.Least.{kept_none}
+use Rattle.nss_typing.specs.Laws.{FaultsAreListed, LeastIsKept, NoneKeptIsTyped, TypedIsFaultless, VerdictsAreRight}
 use Rattle.parsed_faults.specs.Laws.{LeastIsTheKept, OneFaultAtEachToken, OneLeastFault}
 use Rattle.parsed_faults.proofs.Counting.{fault_count, once_is_one, once_with_end}
 use Rattle.parsed_faults.proofs.Nodes.{within_items}
@@ -28,13 +27,14 @@ one_at_each listed table tokens u f g p h k e =
 pub one_least : FaultsAreListed → OneLeastFault
 one_least listed table tokens u f g p h k = one_at_each listed table tokens u f g p h.is k.is (le_antisymm (h.least g k.is) (k.least f h.is))
 
-least_kept : FaultsAreListed → LeastIsKept → (table : EngineTable) (tokens : List Symbol) (u : SourceTree) (f : Fault) → Parses tokens u
-    → IsLeast (FaultInUnit table u) f → kept None (unit_faults table u) ≡ Some f
-least_kept listed least table tokens u f p h = by (kept None (unit_faults table u)) refl
-  where
-    by : (o : Option Fault) → kept None (unit_faults table u) ≡ o → kept None (unit_faults table u) ≡ Some f
-    by None e = absurd (subst (Among f) (kept_none (unit_faults table u) e) ((listed table u f).1 h.is))
-    by (Some g) e = e ∙ ap Some (one_least listed table tokens u g f p (least table u g e) h)
+module _ (typed : VerdictsAreRight) (faultless : TypedIsFaultless) (listed : FaultsAreListed) (least : LeastIsKept) (settled : NoneKeptIsTyped) where
+  least_kept : (table : EngineTable) (tokens : List Symbol) (u : SourceTree) (f : Fault) → Parses tokens u → IsLeast (FaultInUnit table u) f
+      → kept None (unit_faults table u) ≡ Some f
+  least_kept table tokens u f p h = by (kept None (unit_faults table u)) refl
+    where
+      by : (o : Option Fault) → kept None (unit_faults table u) ≡ o → kept None (unit_faults table u) ≡ Some f
+      by None e = let t = settled table u e in absurd (faultless table u t.0 f ((typed table u t.0).0 t.1) h.is)
+      by (Some g) e = e ∙ ap Some (one_least listed table tokens u g f p (least table u g e) h)
 
-pub least_is_the_kept : FaultsAreListed → LeastIsKept → LeastIsTheKept
-least_is_the_kept listed least table tokens u f p = (least table u f, least_kept listed least table tokens u f p)
+  pub least_is_the_kept : LeastIsTheKept
+  least_is_the_kept table tokens u f p = (least table u f, least_kept table tokens u f p)

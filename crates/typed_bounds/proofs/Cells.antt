@@ -21,11 +21,10 @@ use Rattle.nss_typing.specs.Typed.{TypedLine, TypedParameter}
 use Rattle.nss_typing.specs.Sight.{Members, Structure, Sight, Meant, type_means, value_type, declared_type, cells, cells_if, cells_of_members, counted, crosses, cell_limit, crosses_with, is_taken}
 use Rattle.nss_typing.specs.Rules.{Fields, is_among, fields_with, crosses_fields, field_rule, field_rows, default_fits, is_behind, parameter_of, parameter_rule, parameter_rows, params_of}
 use Rattle.nss_typing.specs.Verdicts.{line_type, constant_value, field_added, field_verdict, after_fields, fields_fine, line_of, line_fine, after_line, lines_fine, members_of_line, members_of_lines, parameter_verdict, parameter_declared, late_after, params_fine}
-use Rattle.nss_typing.proofs.Right.{asked_fine, two_is}
 use Rattle.code_emission.specs.Bounds.{IsCell}
 use Rattle.code_emission.specs.Layout.{Structs, cell_types, line_cells, params_cells}
 use Rattle.nss_parser.specs.Sizes.{IsKnownDefault, AreKnownParams}
-use Rattle.typed_bounds.proofs.Lists.{Holds, holds_of, all_last, map_is, then_is, when_is, one_more_is}
+use Rattle.typed_bounds.proofs.Lists.{Holds, holds_of, all_last, map_is, then_is, when_is, one_more_is, two_is, asked_is}
 use Rattle.typed_bounds.proofs.InSight.{IsValue, IsMember, InBounds, line_bounds, value_bounds, declared_bounds, declared_keeps, constant_bounds}
 use Rattle.typed_bounds.proofs.Callees.{AreDefaults, count_defaults}
 use Rattle.typed_bounds.proofs.Expressions.{AreStructs, type_cells}
@@ -74,7 +73,7 @@ fields_count structs s t u [] ys is le e =
     subst (λ zs. FieldsCount structs s t [] (times (cells structs u) zs)) (same_Some [] ys e) (record { within = omega (arith, le); count_is = omega arith })
 fields_count structs s t u (x ∷ xs) ys is le e =
     let m = one_more_is (fine (field_verdict structs s t x)) (fields_fine structs (field_added structs s t x) t xs) ys e in
-    let a = asked_fine (field_rows structs s x) (field_rule structs s x) t m.0 m.2 in
+    let a = asked_is (field_rows structs s x) (field_rule structs s x) t m.0 m.2 in
     let w = when_is (not (is_among x.name s.names) && not (crosses_fields s (cells structs a.0))) x m.0 a.2 in
     let free = (and_parts (not (is_among x.name s.names)) (not (crosses_fields s (cells structs a.0))) w.0).1 in
     let same : a.0 ≡ u = same_Some a.0 u (sym a.1 ∙ is) in
@@ -258,7 +257,7 @@ param_by c p late m v s t h inner le is has e =
 param_keeps : (c : Sight) (late : Bool) (p : SourceParameter) (t : TypedParameter) → InBounds c → IsKnownDefault p.default → c.at_file ≡ false → c.frame ≤ frame_cell_limit
     → fine (parameter_verdict c late p) ≡ Some t → ParamKeeps c p t
 param_keeps c late p t h known inner le e =
-    let a = asked_fine (parameter_rows c late p) (parameter_rule c late p) (two (type_means c.structs p.ty) (if_there (constant_value c) p.default)) t e in
+    let a = asked_is (parameter_rows c late p) (parameter_rule c late p) (two (type_means c.structs p.ty) (if_there (constant_value c) p.default)) t e in
     let q = two_is (type_means c.structs p.ty) (if_there (constant_value c) p.default) a.0 a.1 in
     let s = then_is (parameter_of c late p a.0.1) (value_type a.0.0) t a.2 in
     param_by c p late a.0.0 a.0.1 s.0 t (default_bounds c p.default a.0.1 h known q.1) inner le q.0 s.1 s.2

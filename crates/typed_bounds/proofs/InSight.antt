@@ -20,9 +20,8 @@ use Rattle.nss_typing.specs.Types.{is_void}
 use Rattle.nss_typing.specs.Sight.{Meaning, variable, constant, Entry, Member, Members, Structure, Sight, Meant, IsRefused, IsMissing, Is, find_from, find, entry_means, name_means, struct_means, is_of_struct, type_means, value_type, any_type, declared_type, variable_of, declared}
 use Rattle.nss_typing.specs.Rules.{ConstantMeant, Value, IsFloat, NoName, NoConstant, constant_means, constant_rule, constant_rows, constant_named as as_constant, line_rows}
 use Rattle.nss_typing.specs.Verdicts.{line_type, constant_value, after_names, after, parameter_declared, after_params}
-use Rattle.nss_typing.proofs.Right.{asked_fine}
 use Rattle.nss_parser.specs.Sizes.{IsKnownConstant}
-use Rattle.typed_bounds.proofs.Lists.{Holds, holds_of, all_last, then_is}
+use Rattle.typed_bounds.proofs.Lists.{Holds, holds_of, all_last, then_is, asked_is}
 
 -- neither an action nor one of the types whose values are left out
 abbrev pub IsValue : Ty → Type 0
@@ -125,7 +124,7 @@ typed_constant c k m v h known is gives = ruled_bounds m v (holds_of IsMeantCons
 
 pub constant_bounds : (c : Sight) (k : Written) (v : Const) → InBounds c → IsKnownConstant k → constant_value c k ≡ Some v → IsConstant v
 constant_bounds c k v h known e =
-    let a = asked_fine constant_rows constant_rule (constant_means c k) v e in typed_constant c k a.0 v h known a.1 a.2
+    let a = asked_is constant_rows constant_rule (constant_means c k) v e in typed_constant c k a.0 v h known a.1 a.2
 
 -- ---- types of lines
 
@@ -188,7 +187,7 @@ as_holds P (Some a) h = h a refl
 
 pub line_bounds : (structs : List Structure) (n : TypeName) → Holds IsValue (line_type structs n)
 line_bounds structs n = as_holds IsValue (line_type structs n) (λ t e.
-    let a = asked_fine line_rows value_type (type_means structs n) t e in value_bounds structs n a.0 t a.1 a.2)
+    let a = asked_is line_rows value_type (type_means structs n) t e in value_bounds structs n a.0 t a.1 a.2)
 
 pub declared_bounds : (structs : List Structure) (n : TypeName) → Holds IsValue (declared_type structs n)
 declared_bounds structs n = as_holds IsValue (declared_type structs n) (λ t e.

@@ -11,19 +11,20 @@ use Rattle.nss_tree.specs.declared.constants.TypeName.{TypeName}
 use Rattle.nss_tree.specs.Source.{SourceDeclared, SourceStmts, SourceItem, SourceLine, SourceParameter}
 use Rattle.nss_tree.specs.Units as item
 use Rattle.nss_typing.specs.Types.{same_type}
-use Rattle.nss_typing.specs.Nodes.{fine, two, three, present_if}
-use Rattle.nss_typing.specs.Typed.{TypedStmts, TypedLine, TypedItem}
+use Rattle.nss_typing.specs.Nodes.{fine, two, three, present_if, absent, present}
+use Rattle.nss_typing.specs.Typed.{TypedStmts, TypedLine, TypedParameter, TypedItem}
 use Rattle.nss_typing.specs.Sight.{Structure, Head, Sight, cells_of_members, is_taken, has_struct, type_means, any_type, first_types, callee, declared}
 use Rattle.nss_typing.specs.Rules.{no_fields, struct_rule, struct_rows, constant_name_rule, constant_name_rows, TypedHead, signature_of, may_declare, head_of, head_rule, head_rows, gives, function_rule, function_rows}
 use Rattle.nss_typing.specs.Verdicts.{line_type, constant_line_verdict, constant_value, after_names, names_fine, stmts_fine, lines_fine, struct_verdict, struct_members, no_members, params_fine, in_function, in_body, head_verdict, head, body_fine, constant_parts, constant_name_verdict, constant_item, global_item, constant_meaning, after_item, after_items, item_fine, items_fine}
-use Rattle.nss_typing.proofs.Right.{asked_fine, two_is, three_is}
-use Rattle.nss_typing.proofs.RightStatements.{right_names, right_stmts}
+use Rattle.nss_typing.specs.Meaning.{TypesBody, TypesItem}
+use Rattle.nss_typing.specs.Meaning as rules
+use Rattle.nss_typing.specs.Laws.{ItemsAreRight}
 use Rattle.code_emission.specs.Bounds.{globals_weight, AreItems}
 use Rattle.code_emission.specs.Layout.{Layout, Structs, line_cells, structs_from}
 use Rattle.code_emission.specs.Units.{body_count, functions_labels, globals_labels}
-use Rattle.nss_parser.specs.Sizes.{names_size, body_size, item_size, items_size, IsKnownConstant, IsKnownBody, IsKnownItem, AreKnownItems, AreKnownParams}
+use Rattle.nss_parser.specs.Sizes.{names_size, body_size, item_size, items_size, IsKnownConstant, IsKnownBody, IsKnownItem, AreKnownItems, AreKnownNames, AreKnownParams}
 use Rattle.typed_bounds.proofs.LabelLaws.{names_few}
-use Rattle.typed_bounds.proofs.Lists.{Holds, all_last, map_is, then_is, when_is, one_more_is}
+use Rattle.typed_bounds.proofs.Lists.{Holds, all_last, map_is, then_is, when_is, one_more_is, two_is, three_is, asked_is}
 use Rattle.typed_bounds.proofs.InSight.{IsMeaning, IsEntry, IsMember, IsStructure, InBounds, any_bounds, line_bounds, constant_bounds, names_keep, params_keep, same_keeps, as_holds}
 use Rattle.typed_bounds.proofs.Callees.{IsSignature, IsHead, IsCalled, bodies_in}
 use Rattle.typed_bounds.proofs.Expressions.{AreCells, AreStructs}
@@ -34,7 +35,7 @@ use Rattle.typed_bounds.proofs.Cells.{LinesCount, lines_cells, lines_count, Memb
 
 struct_is : (structs : List Structure) (x : List ℕ) (ls : List SourceLine) (us : List TypedLine) → fine (struct_verdict structs x ls) ≡ Some us → LinesCount structs no_fields us
 struct_is structs x ls us e =
-    let a = asked_fine struct_rows (struct_rule structs x) (lines_fine structs no_fields ls) us e in
+    let a = asked_is struct_rows (struct_rule structs x) (lines_fine structs no_fields ls) us e in
     let w = when_is (not (has_struct x structs)) a.0 us a.2 in
     let room : 0 ≤ struct_cell_limit = omega arith in
     subst (LinesCount structs no_fields) w.1 (lines_count structs no_fields ls a.0 room a.1)
@@ -54,7 +55,7 @@ constant_entry : (c : Sight) (t : TypeName) (x : List ℕ) (k : Written) → InB
     → Holds IsMeaning (option_map constant_meaning (fine (constant_name_verdict c t x k)))
 constant_entry c t x k h known = as_holds IsMeaning (option_map constant_meaning (fine (constant_name_verdict c t x k))) (λ m e.
     let i = map_is constant_meaning (fine (constant_name_verdict c t x k)) m e in
-    let a = asked_fine (constant_name_rows c x) (constant_name_rule c x) (constant_parts c t k) i.0 i.1 in
+    let a = asked_is (constant_name_rows c x) (constant_name_rule c x) (constant_parts c t k) i.0 i.1 in
     let w = when_is (not (is_taken c x) && same_type a.0.0 (const_type a.0.1)) a.0 i.0 a.2 in
     let p = two_is (fine (constant_line_verdict c.structs t)) (constant_value c k) a.0 a.1 in
     subst IsMeaning (ap constant_meaning w.1 ∙ i.2) (constant_bounds c k a.0.1 h known p.1))
@@ -84,7 +85,7 @@ record HeadGood (ps : List SourceParameter) (d : TypedHead) : Type 0 where
 head_good : (c : Sight) (t : TypeName) (x : List ℕ) (ps : List SourceParameter) (b : Bool) (d : TypedHead) → InBounds c → AreKnownParams ps
     → fine (head_verdict c t x ps b) ≡ Some d → HeadGood ps d
 head_good c t x ps b d h known e =
-    let a = asked_fine head_rows (head_rule c x b) (three (params_fine (in_function c t) false ps) (type_means c.structs t) (first_types x c.seen)) d e in
+    let a = asked_is head_rows (head_rule c x b) (three (params_fine (in_function c t) false ps) (type_means c.structs t) (first_types x c.seen)) d e in
     let p = three_is (params_fine (in_function c t) false ps) (type_means c.structs t) (first_types x c.seen) a.0 a.1 in
     let r = then_is (λ s. head_of c x b a.0.2 (record { params = a.0.0; result = s })) (any_type a.0.1) d a.2 in
     let made : TypedHead = record { params = a.0.0; result = r.0 } in
@@ -150,7 +151,7 @@ record FunctionIs (hs : List Head) (c : Sight) (n : ℕ) (t : TypeName) (x : Lis
 function_is : (hs : List Head) (c : Sight) (n : ℕ) (t : TypeName) (x : List ℕ) (ps : List SourceParameter) (body : Option SourceStmts) (u : TypedItem)
     → item_fine hs c (item.function n t x ps body) ≡ Some u → FunctionIs hs c n t x ps body u
 function_is hs c n t x ps body u e =
-    let a = asked_fine function_rows (function_rule n x) (two (fine (head_verdict c t x ps (is_some body))) (body_fine hs (in_body c t ps) body)) u e in
+    let a = asked_is function_rows (function_rule n x) (two (fine (head_verdict c t x ps (is_some body))) (body_fine hs (in_body c t ps) body)) u e in
     let p = two_is (fine (head_verdict c t x ps (is_some body))) (body_fine hs (in_body c t ps) body) a.0 a.1 in
     let w = when_is (gives a.0.0.result a.0.1) (item.function n a.0.0.result x a.0.0.params a.0.1) u a.2 in
     record { declaration = a.0.0; declared_as = p.0; own = a.0.1; own_is = p.1; item_is = w.1 }
@@ -228,28 +229,45 @@ structs_keep hs c ks (item.function n t x ps body ∷ is) ts h known same good e
 
 -- ---- globals and functions
 
-module _ (bodies : ℕ) (l : Layout) (good : AreStructs l.structs) (hs : List Head)
+abbrev function_item : ℕ → Ty → List ℕ → List TypedParameter → Option TypedStmts → TypedItem
+function_item n r x ps body = item.function n r x ps body
+
+same_body : (n m : ℕ) (r s : Ty) (x y : List ℕ) (ps qs : List TypedParameter) (b d : Option TypedStmts) → function_item n r x ps b ≡ function_item m s y qs d → b ≡ d
+same_body n m r s x y ps qs b d e = cc
+
+-- what a function's body is typed as
+body_typed : (hs : List Head) (c : Sight) (n : ℕ) (t : TypeName) (x : List ℕ) (ps : List SourceParameter) (body : Option SourceStmts) (u : TypedItem)
+    → (f : FunctionIs hs c n t x ps body u) → TypesItem hs c (item.function n t x ps body) u → TypesBody hs (in_body c t ps) body f.own
+body_typed hs c n t x ps body u f (rules.TypesItem.function m s y qs b h) =
+    let p = h.typed in
+    let w = when_is (gives p.0.result p.1) (item.function n p.0.result x p.0.params p.1) u h.gives in
+    subst (TypesBody hs (in_body c t ps) body)
+    (same_body n n p.0.result f.declaration.result x x p.0.params f.declaration.params p.1 f.own (w.1 ∙ sym f.item_is)) h.parts.1
+
+module _ (right : ItemsAreRight) (bodies : ℕ) (l : Layout) (good : AreStructs l.structs) (hs : List Head)
     (calls : (table : EngineTable) (x : List ℕ) → IsTable table → Holds (Holds (IsCalled bodies)) (callee hs table x)) where
   function_good : (n : ℕ) (x : List ℕ) (ps : List SourceParameter) (d : TypedHead) (c : Sight) (body : Option SourceStmts) (own : Option TypedStmts) (k : ℕ) (rest : List TypedItem)
-      → HeadGood ps d → InBounds c → c.may_break ≡ false → c.in_loop ≡ false → IsKnownBody body → body_fine hs c body ≡ Some own → length ps + body_size body ≤ token_limit
+      → HeadGood ps d → InBounds c → c.may_break ≡ false → c.in_loop ≡ false → IsKnownBody body → TypesBody hs c body own → length ps + body_size body ≤ token_limit
       → ItemsGood bodies l k rest → ItemsGood bodies l (1 + (length ps + body_size body) + k) (item.function n d.result x d.params own ∷ rest)
-  function_good n x ps d c None own k rest decl h breaks continues known e small g =
-      let a = g.globals in let b = g.few in
-      subst (λ o. ItemsGood bodies l (1 + (length ps + 0) + k) (item.function n d.result x d.params o ∷ rest)) (same_Some None own e)
-      (record { items = g.items; globals = omega (arith, a); few = omega (arith, b) })
-  function_good n x ps d c (Some xs) own k rest decl h breaks continues known e small g =
-      let p = present_is (stmts_fine hs c xs) own e in
-      let s = other_flags bodies l false false c.may_break c.in_loop (body_size (Some xs)) p.0 breaks continues
-      (statements bodies l good hs calls c h known ((right_stmts hs c xs).sound p.0 p.1)) in
+  function_good n x ps d c body own k rest decl h breaks continues known absent small g =
+      let a = g.globals in let b = g.few in record { items = g.items; globals = omega (arith, a); few = omega (arith, b) }
+  function_good n x ps d c body own k rest decl h breaks continues known (present {a = xs} {b = ts} typed) small g =
+      let s = other_flags bodies l false false c.may_break c.in_loop (body_size (Some xs)) ts breaks continues (statements bodies l good hs calls c h known typed) in
       let few = params_few l.structs d.params good decl.params.values in
       let count = decl.params.count_is in
       let w = s.light in let v = s.few in let a = g.globals in let b = g.few in
-      subst (λ o. ItemsGood bodies l (1 + (length ps + body_size (Some xs)) + k) (item.function n d.result x d.params o ∷ rest)) p.2
-      (record {
+      record {
         items = (s.kept, omega (arith, few, count, w, small), g.items);
         globals = omega (arith, a);
         few = omega (arith, b, v);
-      })
+      }
+
+  global_good : (c : Sight) (n : ℕ) (t : TypeName) (ds : List SourceDeclared) (u : TypedItem) (k : ℕ) (rest : List TypedItem) → InBounds c → AreKnownNames ds
+      → TypesItem hs c (item.global n t ds) u → ItemsGood bodies l k rest → ItemsGood bodies l (1 + names_size ds + k) (u ∷ rest)
+  global_good c n t ds u k rest h known (rules.TypesItem.global m s {us = us} line typed) g =
+      let s = names bodies l good hs calls c (line_type c.structs t) (line_bounds c.structs t) h known typed in
+      let a = g.globals in let b = g.few in let w = s.light in let y = names_few us in
+      record { items = (s.kept, g.items); globals = omega (arith, a, w); few = omega (arith, b, w, y) }
 
   item_good : (c : Sight) (i : SourceItem) (u : TypedItem) (k : ℕ) (rest : List TypedItem) → InBounds c → IsKnownItem i → item_fine hs c i ≡ Some u → item_size i ≤ token_limit
       → ItemsGood bodies l k rest → ItemsGood bodies l (item_size i + k) (u ∷ rest)
@@ -261,20 +279,15 @@ module _ (bodies : ℕ) (l : Layout) (good : AreStructs l.structs) (hs : List He
       let i = map_is (constant_item n x) (fine (constant_name_verdict c t x.name w)) u e in
       let a = g.globals in let b = g.few in
       subst (λ v. ItemsGood bodies l (0 + k) (v ∷ rest)) i.2 (record { items = g.items; globals = omega (arith, a); few = omega (arith, b) })
-  item_good c (item.global n t ds) u k rest h known e small g =
-      let i = map_is (global_item n) (two (line_type c.structs t) (names_fine hs c (line_type c.structs t) ds)) u e in
-      let p = two_is (line_type c.structs t) (names_fine hs c (line_type c.structs t) ds) i.0 i.1 in
-      let s = names bodies l good hs calls c (line_type c.structs t) (line_bounds c.structs t) h known ((right_names hs c (line_type c.structs t) ds).sound i.0.1 p.1) in
-      let a = g.globals in let b = g.few in let w = s.light in let y = names_few i.0.1 in
-      subst (λ v. ItemsGood bodies l (1 + names_size ds + k) (v ∷ rest)) i.2
-      (record { items = (s.kept, g.items); globals = omega (arith, a, w); few = omega (arith, b, w, y) })
+  item_good c (item.global n t ds) u k rest h known e small g = global_good c n t ds u k rest h known ((right hs c (item.global n t ds) u).0 e) g
   item_good c (item.function n t x ps body) u k rest h known e small g =
       let f = function_is hs c n t x ps body u e in
       let decl = head_good c t x ps (is_some body) f.declaration h known.0 f.declared_as in
       let same = params_loops (in_function c t) ps in
       subst (λ v. ItemsGood bodies l (1 + (length ps + body_size body) + k) (v ∷ rest)) f.item_is
       (function_good n x ps f.declaration (in_body c t ps) body f.own k rest decl
-      (params_keep (in_function c t) ps (same_keeps c (in_function c t) refl refl refl h)) same.breaks same.continues known.1 f.own_is (omega (arith, small)) g)
+      (params_keep (in_function c t) ps (same_keeps c (in_function c t) refl refl refl h)) same.breaks same.continues known.1
+      (body_typed hs c n t x ps body u f ((right hs c (item.function n t x ps body) u).0 e)) (omega (arith, small)) g)
 
   pub items_good : (c : Sight) (is : List SourceItem) (ts : List TypedItem) → InBounds c → AreKnownItems is → items_fine hs c is ≡ Some ts → items_size is ≤ token_limit
       → ItemsGood bodies l (items_size is) ts

@@ -6,4 +6,4 @@ mod Expressions
 mod Statements
 mod Cells
 mod Items
-pub mod Whole
+mod Whole

@@ -1,8 +1,10 @@
--- Lists and options of which something holds.
-use Rattle.std.proofs.Common.{◌≡◌, ℕ, zero, suc, Bool, true, false, if◌then◌else◌, List, [], ◌∷◌, ◌++◌, Option, None, Some, option_map, slice_get, refl, subst}
+-- Lists and options of which something holds, and what answers were made of.
+use Rattle.std.proofs.Common.{◌≡◌, ℕ, zero, suc, Bool, true, false, if◌then◌else◌, List, [], ◌∷◌, ◌++◌, Option, None, Some, option_map, slice_get, refl, ap, subst}
 use Rattle.std.proofs.lemmas.Option.{same_Some, none-some}
 use Rattle.std.specs.Option.{option_and_then}
 use Rattle.std.specs.List.{AllByRecursion}
+use Rattle.nss_typing.specs.declared.fault.FaultKind.{FaultKind}
+use Rattle.nss_typing.specs.Nodes.{Rows, first_kind, fine, ruled, asked, two, three}
 use Rattle.nss_typing.specs.Verdicts.{one_more}
 use Rattle.nss_typing.specs.Rules.{when}
 
@@ -45,3 +47,24 @@ pub one_more_is : {A : Type 0} (o : Option A) (rest : Option (List A)) (ts : Lis
 one_more_is (Some a) (Some us) ts e = (a, us, refl, refl, same_Some _ _ e)
 one_more_is (Some a) None ts e = absurd (none-some ts e)
 one_more_is None rest ts e = absurd (none-some ts e)
+
+pub two_is : {A B : Type 0} (o : Option A) (p : Option B) (q : A × B) → two o p ≡ Some q → (o ≡ Some q.0) × (p ≡ Some q.1)
+two_is (Some a) (Some b) q e = let h = same_Some _ _ e in (ap (λ r. Some r.0) h, ap (λ r. Some r.1) h)
+two_is (Some a) None q e = absurd (none-some q e)
+two_is None p q e = absurd (none-some q e)
+
+pub three_is : {A B C : Type 0} (o : Option A) (p : Option B) (r : Option C) (q : A × B × C) → three o p r ≡ Some q
+    → (o ≡ Some q.0) × (p ≡ Some q.1) × (r ≡ Some q.2)
+three_is (Some a) (Some b) (Some c) q e = let h = same_Some _ _ e in (ap (λ r. Some r.0) h, ap (λ r. Some r.1) h, ap (λ r. Some r.2) h)
+three_is (Some a) (Some b) None q e = absurd (none-some q e)
+three_is (Some a) None r q e = absurd (none-some q e)
+three_is None p r q e = absurd (none-some q e)
+
+ruled_is : {B : Type 0} (k : FaultKind) (o : Option B) (b : B) → fine (ruled k o) ≡ Some b → o ≡ Some b
+ruled_is k (Some c) b e = e
+ruled_is k None b e = absurd (none-some b e)
+
+pub asked_is : {A B : Type 0} (rows : A → Rows) (rule : A → Option B) (o : Option A) (b : B) → fine (asked rows rule o) ≡ Some b
+    → (a : A) × (o ≡ Some a) × (rule a ≡ Some b)
+asked_is rows rule None b e = absurd (none-some b e)
+asked_is rows rule (Some a) b e = (a, refl, ruled_is (first_kind (rows a)) (rule a) b e)

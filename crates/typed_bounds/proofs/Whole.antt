@@ -15,16 +15,14 @@ use Rattle.nss_typing.specs.Sight.{Head, start, has_body, body_number, first_typ
 use Rattle.nss_typing.specs.Rules.{is_plain, begins, entry_rule, entry_rows}
 use Rattle.nss_typing.specs.Verdicts.{items_fine, heads, entry_verdict, unit_of}
 use Rattle.nss_typing.specs.Typed.{TypedUnit}
-use Rattle.nss_typing.proofs.Right.{asked_fine, two_is}
-use Rattle.nss_typing.proofs.RightItems.{right_unit}
+use Rattle.nss_typing.specs.Laws.{ItemsAreRight, VerdictsAreRight}
 use Rattle.code_emission.specs.Bounds.{AreItems, IsEntry}
 use Rattle.code_emission.specs.Layout.{structs_from, layout_of}
 use Rattle.code_emission.specs.Units.{body_count, has_globals}
-use Rattle.nss_parser.specs.Sizes.{items_size, AreKnownItems}
+use Rattle.nss_parser.specs.Sizes.{items_size, AreKnownItems, EachTreeIsKnown}
 use Rattle.typed_bounds.specs.Laws.{HasCode, EachTypedTreeHasCode, EachTypedUnitHasCode}
-use Rattle.nss_parser.proofs.Trees.{each_tree_is_known}
 use Rattle.typed_bounds.proofs.LabelLaws.{start_few}
-use Rattle.typed_bounds.proofs.Lists.{map_is}
+use Rattle.typed_bounds.proofs.Lists.{map_is, two_is, asked_is}
 use Rattle.typed_bounds.proofs.InSight.{InBounds}
 use Rattle.typed_bounds.proofs.Callees.{IsHead, RolesTell, bodies_in, body_below, callee_bounds}
 use Rattle.typed_bounds.proofs.Expressions.{AreStructs}
@@ -42,16 +40,16 @@ entry_by hs false false e f g is = absurd (none-some e is)
 
 entry_good : (hs : List Head) (e : EntryPoint) → fine (entry_verdict hs) ≡ Some e → IsEntry (bodies_in hs) e
 entry_good hs e is =
-    let a = asked_fine entry_rows (entry_rule hs) no_parts e is in
+    let a = asked_is entry_rows (entry_rule hs) no_parts e is in
     entry_by hs (begins (codes "main") ty.Void hs) (begins (codes "StartingConditional") ty.Int hs) e
     (λ h. begins_below (codes "main") ty.Void hs h) (λ h. begins_below (codes "StartingConditional") ty.Int hs h) a.2
 
 start_bounds : (table : EngineTable) → IsTable table → InBounds (start table)
 start_bounds table h = record { table = h; names = tt; structs = tt }
 
-unit_good : RolesTell → (table : EngineTable) (u : SourceTree) (t : TypedUnit) → IsTable table → AreKnownItems u.items → items_size u.items ≤ token_limit
+unit_good : ItemsAreRight → RolesTell → (table : EngineTable) (u : SourceTree) (t : TypedUnit) → IsTable table → AreKnownItems u.items → items_size u.items ≤ token_limit
     → items_fine (heads table u.items) (start table) u.items ≡ Some t.items → fine (entry_verdict (heads table u.items)) ≡ Some t.entry → HasCode t
-unit_good tell table u t is known small typed entered =
+unit_good right tell table u t is known small typed entered =
     let hs = heads table u.items in
     let h = start_bounds table is in
     let all : AllByRecursion IsHead hs = items_heads (start table) u.items h known tt in
@@ -59,7 +57,7 @@ unit_good tell table u t is known small typed entered =
     let count : bodies_in hs ≡ body_count t.items = omega (arith, all_count) in
     let structs : AreStructs (structs_from [] t.items) = structs_keep hs (start table) [] u.items t.items h known tt tt typed in
     let g : ItemsGood (bodies_in hs) (layout_of t) (items_size u.items) t.items =
-    items_good (bodies_in hs) (layout_of t) structs hs (λ other x kept. callee_bounds tell hs other x all kept) (start table) u.items t.items h known typed small in
+    items_good right (bodies_in hs) (layout_of t) structs hs (λ other x kept. callee_bounds tell hs other x all kept) (start table) u.items t.items h known typed small in
     let a = g.globals in let b = g.few in let d = start_few (has_globals t.items) t.items in
     record {
       bounded = record {
@@ -70,15 +68,14 @@ unit_good tell table u t is known small typed entered =
       few = omega (arith, b, d, small);
     }
 
-pub each_typed_tree_has_code : RolesTell → EachTypedTreeHasCode
-each_typed_tree_has_code tell table u t is known few types =
+pub each_typed_tree_has_code : VerdictsAreRight → ItemsAreRight → RolesTell → EachTypedTreeHasCode
+each_typed_tree_has_code verdicts right tell table u t is known few types =
     let size = known.size in
     let i = map_is unit_of (two (items_fine (heads table u.items) (start table) u.items) (fine (entry_verdict (heads table u.items)))) t
-    ((right_unit table u).complete t types) in
+    ((verdicts table u t).1 types) in
     let p = two_is (items_fine (heads table u.items) (start table) u.items) (fine (entry_verdict (heads table u.items))) i.0 i.1 in
-    subst HasCode i.2 (unit_good tell table u (unit_of i.0) is known.items (omega (arith, size, few)) p.0 p.1)
+    subst HasCode i.2 (unit_good right tell table u (unit_of i.0) is known.items (omega (arith, size, few)) p.0 p.1)
 
-pub each_typed_unit_has_code : RolesTell → EachTypedUnitHasCode
-each_typed_unit_has_code tell tokens table u t few literals is parses types =
-    let count = parses.count in
-    each_typed_tree_has_code tell table u t is (each_tree_is_known tokens u literals parses) (omega (arith, count, few)) types
+pub each_typed_unit_has_code : EachTreeIsKnown → EachTypedTreeHasCode → EachTypedUnitHasCode
+each_typed_unit_has_code known tree tokens table u t few literals is parses types =
+    let count = parses.count in tree table u t is (known tokens u literals parses) (omega (arith, count, few)) types

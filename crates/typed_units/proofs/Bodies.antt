@@ -13,7 +13,8 @@ use Rattle.nwq_value.specs.declared.value.Ty.{Ty}
 use Rattle.nwq_value.specs.declared.engine.Const.{Const}
 use Rattle.nwq_value.specs.declared.engine.Param.{Param}
 use Rattle.nwq_value.specs.Engine.{const_type}
-use Rattle.nss_typing.specs.Nodes.{fine, two, Fits, There, absent, present}
+use Rattle.nss_typing.specs.declared.fault.FaultKind.{FaultKind}
+use Rattle.nss_typing.specs.Nodes.{Rows, first_kind, fine, ruled, asked, two, Fits, There, absent, present}
 use Rattle.nss_typing.specs.Sight.{Head, Sight, Signature, has_body, find_head, types_of_head, first_types, body_number, Meant, type_means, value_type, any_type, declared}
 use Rattle.nss_typing.specs.Types.{is_action, same_type}
 use Rattle.nss_typing.specs.Typed.{TypedStmts, TypedParameter, TypedItem}
@@ -21,8 +22,7 @@ use Rattle.nss_typing.specs.Rules.{when, TypedHead, params_of, signature_of, sam
 use Rattle.nss_typing.specs.Meaning as rules
 use Rattle.nss_typing.specs.Meaning.{TypesParams, TypesHead, TypesItem, TypesItems, ParameterParts, HeadParts, FunctionParts}
 use Rattle.nss_typing.specs.Verdicts.{after_names, after_item, after_items, line_type, in_function, in_body, head, head_verdict, body_fine}
-use Rattle.nss_typing.proofs.Right.{two_is, asked_fine}
-use Rattle.nss_typing.proofs.RightItems.{right_item}
+use Rattle.nss_typing.specs.Laws.{ItemsAreRight}
 use Rattle.source_meaning.specs.Scripts.{Function, functions}
 use Rattle.source_meaning.specs.Fine.{parameter_type}
 use Rattle.typed_units.proofs.Types.{same_type_is, no_action_declared}
@@ -40,6 +40,22 @@ both_are false b h = absurd cc
 pub not_is : (b : Bool) → not b ≡ true → b ≡ false
 not_is false h = refl
 not_is true h = absurd cc
+
+-- ---- verdicts
+
+two_is : {A B : Type 0} (o : Option A) (p : Option B) (q : A × B) → two o p ≡ Some q → (o ≡ Some q.0) × (p ≡ Some q.1)
+two_is (Some a) (Some b) q e = let h = same_Some _ _ e in (ap (λ r. Some r.0) h, ap (λ r. Some r.1) h)
+two_is (Some a) None q e = absurd (none-some q e)
+two_is None p q e = absurd (none-some q e)
+
+ruled_is : {B : Type 0} (k : FaultKind) (o : Option B) (b : B) → fine (ruled k o) ≡ Some b → o ≡ Some b
+ruled_is k (Some c) b e = e
+ruled_is k None b e = absurd (none-some b e)
+
+pub asked_is : {A B : Type 0} (rows : A → Rows) (rule : A → Option B) (o : Option A) (b : B) → fine (asked rows rule o) ≡ Some b
+    → (a : A) × (o ≡ Some a) × (rule a ≡ Some b)
+asked_is rows rule None b e = absurd (none-some b e)
+asked_is rows rule (Some a) b e = (a, refl, ruled_is (first_kind (rows a)) (rule a) b e)
 
 -- ---- signatures
 
@@ -361,7 +377,7 @@ signature_with ps r = record { params = params_of ps; result = r }
 same_function : (n m : ℕ) (r s : Ty) (x y : List ℕ) (ps qs : List TypedParameter) (b d : Option TypedStmts) → function_item n r x ps b ≡ function_item m s y qs d → (r ≡ s) × (ps ≡ qs) × (b ≡ d)
 same_function n m r s x y ps qs b d e = (cc, cc, cc)
 
-module _ (hs : List Head) where
+module _ (right : ItemsAreRight) (hs : List Head) where
   -- a function's declaration
   after_function : (fs : List Function) (c : Sight) (n : ℕ) (t : TypeName) (x : List ℕ) (ps : List SourceParameter) (body : Option SourceStmts) (u : TypedItem) → TypesItem hs c (unit.function n t x ps body) u
       → Fits (FunctionParts hs c t x ps body) (function_rule n x) u → Declared fs c.seen → Declared (fs ++ functions (u ∷ [])) (c.seen ++ head c t x ps (is_some body) ∷ [])
@@ -369,7 +385,7 @@ module _ (hs : List Head) where
       let p = f.typed in
       let own = head_is c t x ps (is_some body) p.0 f.parts.0 in
       let w = when_is (gives p.0.result p.1) (unit.function n p.0.result x p.0.params p.1) u f.gives in
-      let v = asked_fine function_rows (function_rule n x) (two (fine (head_verdict c t x ps (is_some body))) (body_fine hs (in_body c t ps) body)) u ((right_item hs c (unit.function n t x ps body)).complete u h) in
+      let v = asked_is function_rows (function_rule n x) (two (fine (head_verdict c t x ps (is_some body))) (body_fine hs (in_body c t ps) body)) u ((right hs c (unit.function n t x ps body) u).1 h) in
       let a = v.0 in
       let b = two_is (fine (head_verdict c t x ps (is_some body))) (body_fine hs (in_body c t ps) body) a v.1 in
       let z = when_is (gives a.0.result a.1) (unit.function n a.0.result x a.0.params a.1) u v.2 in

@@ -12,6 +12,7 @@ use Rattle.nss_typing.specs.Typed.{TypedParameter}
 use Rattle.nss_typing.specs.Sight.{Head, Signature, has_body, first_types, body_number, start}
 use Rattle.nss_typing.specs.Rules.{when, is_empty, is_plain, begins}
 use Rattle.nss_typing.specs.Verdicts.{heads}
+use Rattle.nss_typing.specs.Laws.{ItemsAreRight}
 use Rattle.source_meaning.specs.Fine.{parameter_type}
 use Rattle.source_meaning.specs.Scripts.{Function, functions}
 use Rattle.typed_units.specs.Laws.{HasEntry, EntriesArePlain}
@@ -60,8 +61,8 @@ module _ (fs : List Function) (hs : List Head) (all : AreBodies fs hs) where
         λ f. conditional_is (body_number (codes "StartingConditional") hs) m Int (entry_of (codes "StartingConditional") Int w.0) (w.1 ∙ f),
       )
 
-pub entries_are_plain : EntriesArePlain
-entries_are_plain table tree u typed m =
+pub entries_are_plain : ItemsAreRight → EntriesArePlain
+entries_are_plain right table tree u typed m =
     let hs = heads table tree.items in
-    let all = after_all hs [] (start table) tree.items u.items typed.items (record { heads = tt; are = λ y s has e. absurd cc; count = refl }) in
+    let all = after_all right hs [] (start table) tree.items u.items typed.items (record { heads = tt; are = λ y s has e. absurd cc; count = refl }) in
     entries (functions u.items) hs all.are u.entry m (begins (codes "main") Void hs) refl typed.entry.gives

@@ -24,7 +24,7 @@ use Rattle.nss_typing.specs.Rules.{no_fields, Fields, struct_rule, gives, TypedH
 use Rattle.nss_typing.specs.Meaning.{TypesNames, TypesFields, TypesLines, TypesParams, TypesItem, TypesItems, FunctionParts}
 use Rattle.nss_typing.specs.Meaning as rules
 use Rattle.nss_typing.specs.Verdicts.{after_names, line_type, struct_verdict, struct_members, constant_meaning, constant_name_verdict, parameter_declared, late_after, after_params, in_function, in_body, after_item}
-use Rattle.nss_typing.proofs.RightItems.{right_item}
+use Rattle.nss_typing.specs.Laws.{ItemsAreRight}
 use Rattle.code_emission.specs.Bounds.{IsCell}
 use Rattle.code_emission.specs.Layout.{Structs, cell_types, cells, line_cells, structs_from, params_cells, names_cells, item_cells, params_positions, names_positions, all_positions, body_positions, item_positions, items_positions, position}
 use Rattle.stack_shape.specs.Calls.{action_count}
@@ -133,13 +133,13 @@ abbrev structure_with : List ℕ → List Structure → Option (List TypedLine) 
 structure_with y ss o = record { called = y; members = option_map (struct_members ss) o }
 
 -- a struct
-struct_seen : (x : Site) (table : EngineTable) (hs : List Head) (scope : List ℕ) (known : Structs) (c : Sight) → Files x table scope c known → (n : ℕ) (y : List ℕ) (ls : List SourceLine) (us : List TypedLine)
+struct_seen : ItemsAreRight → (x : Site) (table : EngineTable) (hs : List Head) (scope : List ℕ) (known : Structs) (c : Sight) → Files x table scope c known → (n : ℕ) (y : List ℕ) (ls : List SourceLine) (us : List TypedLine)
     → TypesItem hs c (unit.structure n y ls) (unit.structure n y us) → Fits (TypesLines c.structs no_fields ls) (struct_rule c.structs y) us → HasField ls
     → Grows (known ++ flat_map (line_cells known) us ∷ []) x.layout.structs → Files x table scope (after_item c (unit.structure n y ls)) (known ++ flat_map (line_cells known) us ∷ [])
-struct_seen x table hs scope known c s n y ls us h f has g =
+struct_seen right x table hs scope known c s n y ls us h f has g =
     let structs = x.layout.structs in
     let verdict = fine (struct_verdict c.structs y ls) in
-    let complete = (right_item hs c (unit.structure n y ls)).complete (unit.structure n y us) h in
+    let complete = (right hs c (unit.structure n y ls) (unit.structure n y us)).1 h in
     let own = flat_map (line_cells known) us in
     let w = when_is _ f.typed us f.gives in
     let lines : TypesLines c.structs no_fields ls us = subst (TypesLines c.structs no_fields ls) w.1 f.parts in
@@ -353,7 +353,8 @@ module _ (x : Site) (table : EngineTable) (kept : IsTable table) (few : (r : Rou
       on k (inl i) = within k i
       on k (inr i) = s.within k i
 
-module _ (x : Site) (table : EngineTable) (kept : IsTable table) (few : (r : Routine) → IsRoutine r → is_callable_role r.role ≡ true → action_count r.params ≤ 1)
+module _ (right : ItemsAreRight) (x : Site) (table : EngineTable) (kept : IsTable table)
+    (few : (r : Routine) → IsRoutine r → is_callable_role r.role ≡ true → action_count r.params ≤ 1)
     (fs : List Function) (hs : List Head) (heads : AreHeads hs) (all : AreBodies fs hs) (made : x.layout.globals ≡ x.bp) where
   function_is : (scope : List ℕ) (known : Structs) (c : Sight) → Files x table scope c known → (g n : ℕ) (t : TypeName) (y : List ℕ) (ps : List SourceParameter) (xs : SourceStmts) (h : TypedHead) (ts : TypedStmts)
       → IsDeclaredHead c t y ps true h → IsMadeBody (Some xs) → rules.TypesStmts hs (in_body c t ps) xs ts → ItemLaid x g (unit.function n h.result y h.params (Some ts))
@@ -398,7 +399,7 @@ module _ (x : Site) (table : EngineTable) (kept : IsTable table) (few : (r : Rou
   bodies_are scope known c s g is ts m (rules.TypesItems.more e {i = unit.structure n y ls} {is = js} {ts = us} (rules.TypesItem.structure k z {us = vs} h) r) all_structs l within f fn there =
       let own = flat_map (line_cells known) vs in
       let grows = grown (known ++ own ∷ []) us in
-      let now = struct_seen x table hs scope known c s n y ls vs (rules.TypesItem.structure k z h) h m.0 (record { more = grows.more; is = sym all_structs ∙ grows.is }) in
+      let now = struct_seen right x table hs scope known c s n y ls vs (rules.TypesItem.structure k z h) h m.0 (record { more = grows.more; is = sym all_structs ∙ grows.is }) in
       bodies_are scope (known ++ own ∷ []) (after_item c (unit.structure n y ls)) now (g + 0) js us m.1 r all_structs (laid_item x g (unit.structure n y vs) us l).1 within f fn there
   bodies_are scope known c s g is ts m (rules.TypesItems.more e {i = unit.constant n t y v} {is = js} {ts = us} (rules.TypesItem.constant k w z o {s = u} {v = b} h) r) all_structs l within f fn there =
       bodies_are scope known (after_item c (unit.constant n t y v)) (constant_seen x table scope known c s n t y v) (g + 0) js us m.1 r all_structs (laid_item x g (unit.constant n u y b) us l).1 within f fn there
@@ -448,7 +449,8 @@ fine_joined x table depth scope (u ∷ us) vs h k =
 same_depth : (x : Site) (table : EngineTable) (g : ℕ) (scope : List ℕ) (us : List TypedName) → AreFineNames table [] (making x) Void (g + 0) scope us → AreFineNames table [] (making x) Void g scope us
 same_depth x table g scope us h = let e : g + 0 ≡ g = omega arith in subst (λ d. AreFineNames table [] (making x) Void d scope us) e h
 
-module _ (x : Site) (table : EngineTable) (kept : IsTable table) (few : (r : Routine) → IsRoutine r → is_callable_role r.role ≡ true → action_count r.params ≤ 1)
+module _ (right : ItemsAreRight) (x : Site) (table : EngineTable) (kept : IsTable table)
+    (few : (r : Routine) → IsRoutine r → is_callable_role r.role ≡ true → action_count r.params ≤ 1)
     (hs : List Head) (heads : AreHeads hs) where
   pub all_globals : (scope : List ℕ) (known : Structs) (c : Sight) → Files x table scope c known → (g : ℕ) (is : List SourceItem) (ts : List TypedItem) → AreMadeItems is → TypesItems hs c is ts → structs_from known ts ≡ x.layout.structs
       → ItemsLaid x g ts → ((n : ℕ) → In n (map number_of (global_names ts)) → In n x.globals) → AreFineNames table [] (making x) Void g scope (global_names ts)
@@ -456,7 +458,7 @@ module _ (x : Site) (table : EngineTable) (kept : IsTable table) (few : (r : Rou
   all_globals scope known c s g is ts m (rules.TypesItems.more e {i = unit.structure n y ls} {is = js} {ts = us} (rules.TypesItem.structure k z {us = vs} h) r) all_structs l within =
       let own = flat_map (line_cells known) vs in
       let grows = grown (known ++ own ∷ []) us in
-      let now = struct_seen x table hs scope known c s n y ls vs (rules.TypesItem.structure k z h) h m.0 (record { more = grows.more; is = sym all_structs ∙ grows.is }) in
+      let now = struct_seen right x table hs scope known c s n y ls vs (rules.TypesItem.structure k z h) h m.0 (record { more = grows.more; is = sym all_structs ∙ grows.is }) in
       same_depth x table g scope (global_names us) (all_globals scope (known ++ own ∷ []) (after_item c (unit.structure n y ls)) now (g + 0) js us m.1 r all_structs (laid_item x g (unit.structure n y vs) us l).1 within)
   all_globals scope known c s g is ts m (rules.TypesItems.more e {i = unit.constant n t y v} {is = js} {ts = us} (rules.TypesItem.constant k w z o {s = u} {v = b} h) r) all_structs l within =
       same_depth x table g scope (global_names us) (all_globals scope known (after_item c (unit.constant n t y v)) (constant_seen x table scope known c s n t y v) (g + 0) js us m.1 r all_structs (laid_item x g (unit.constant n u y b) us l).1 within)

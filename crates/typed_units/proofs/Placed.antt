@@ -16,6 +16,7 @@ use Rattle.nss_typing.specs.Numbers.{items_numbers, item_numbers, numbers_from, 
 use Rattle.nss_typing.specs.declared.places.EntryPoint.{EntryPoint}
 use Rattle.nss_typing.specs.declared.places.EntryPoint.TheVariants.{Main, Conditional}
 use Rattle.nss_typing.specs.Meaning.{TypesUnit}
+use Rattle.nss_typing.specs.Laws.{ItemsAreRight}
 use Rattle.nss_typing.specs.Sight.{Head, start, is_callable_role}
 use Rattle.nss_typing.specs.Typed.{TypedItem, TypedUnit}
 use Rattle.nss_typing.specs.Verdicts.{heads}
@@ -71,7 +72,7 @@ types_by_number u count is =
     let same : count ≡ length (items_types u.items) = sym (types_many u.items ∙ ap length is ∙ length_from 0 count) in
     ap (map (variable_type u)) (is ∙ ap (numbers_from 0) same) ∙ by_index [] (items_types u.items)
 
-module _ (numbered : NumberedInOrder) (positions : PositionsByNumber) (built : BuiltAsHeader) (pures : PureAsHeader) (worlds : WorldIsCallable)
+module _ (right : ItemsAreRight) (numbered : NumberedInOrder) (positions : PositionsByNumber) (built : BuiltAsHeader) (pures : PureAsHeader) (worlds : WorldIsCallable)
     (table : EngineTable) (tokens : List Symbol) (tree : SourceTree) (u : TypedUnit) (kept : IsTable table) (parses : Parses tokens tree) (typed : TypesUnit table tree u)
     (script self : ℕ) (waiting : List Frame) where
   abbrev x : Site
@@ -81,7 +82,7 @@ module _ (numbered : NumberedInOrder) (positions : PositionsByNumber) (built : B
   hs = heads table tree.items
 
   all_declared : Declared (functions u.items) hs
-  all_declared = after_all hs [] (start table) tree.items u.items typed.items (record { heads = tt; are = λ y s has e. absurd cc; count = refl })
+  all_declared = after_all right hs [] (start table) tree.items u.items typed.items (record { heads = tt; are = λ y s has e. absurd cc; count = refl })
 
   few : (r : Routine) → IsRoutine r → is_callable_role r.role ≡ true → action_count r.params ≤ 1
   few = few_actions built pures worlds
@@ -97,23 +98,23 @@ module _ (numbered : NumberedInOrder) (positions : PositionsByNumber) (built : B
   laid = record { places = positions table tree u typed; types = types_by_number u (in_all variables_of tree.items) (numbered table tree u typed) }
 
   pub body_is : (f : ℕ) (fn : Function) → slice_get (functions u.items) f ≡ Some fn → IsBody table (functions u.items) x fn
-  body_is f fn there = bodies_are x table kept few (functions u.items) hs all_declared.heads all_declared.are refl [] [] (start table) at_start 0 tree.items u.items (items_made parses.items) typed.items refl laid (λ n i. i) f fn there
+  body_is f fn there = bodies_are right x table kept few (functions u.items) hs all_declared.heads all_declared.are refl [] [] (start table) at_start 0 tree.items u.items (items_made parses.items) typed.items refl laid (λ n i. i) f fn there
 
   pub globals_fine : AreFineNames table [] (making x) Void 0 [] (global_names u.items)
-  globals_fine = all_globals x table kept few hs all_declared.heads [] [] (start table) at_start 0 tree.items u.items (items_made parses.items) typed.items refl laid (λ n i. i)
+  globals_fine = all_globals right x table kept few hs all_declared.heads [] [] (start table) at_start 0 tree.items u.items (items_made parses.items) typed.items refl laid (λ n i. i)
 
-pub functions_are_placed : NumberedInOrder → PositionsByNumber → FunctionsStand → BuiltAsHeader → PureAsHeader → WorldIsCallable → FunctionsArePlaced
-functions_are_placed numbered positions stand built pures worlds table tokens tree u kept parses typed script self waiting f fn there =
-    let b = body_is numbered positions built pures worlds table tokens tree u kept parses typed script self waiting f fn there in
+pub functions_are_placed : ItemsAreRight → NumberedInOrder → PositionsByNumber → FunctionsStand → BuiltAsHeader → PureAsHeader → WorldIsCallable → FunctionsArePlaced
+functions_are_placed right numbered positions stand built pures worlds table tokens tree u kept parses typed script self waiting f fn there =
+    let b = body_is right numbered positions built pures worlds table tokens tree u kept parses typed script self waiting f fn there in
     let s = stand u f fn there in
     record { label = s.label; stands = s.stands; parameters = b.parameters; fine = b.fine; cells = b.cells }
 
-pub globals_are_fine : NumberedInOrder → PositionsByNumber → BuiltAsHeader → PureAsHeader → WorldIsCallable → GlobalsAreFine
-globals_are_fine numbered positions built pures worlds table tokens tree u kept parses typed script self waiting =
-    globals_fine numbered positions built pures worlds table tokens tree u kept parses typed script self waiting
+pub globals_are_fine : ItemsAreRight → NumberedInOrder → PositionsByNumber → BuiltAsHeader → PureAsHeader → WorldIsCallable → GlobalsAreFine
+globals_are_fine right numbered positions built pures worlds table tokens tree u kept parses typed script self waiting =
+    globals_fine right numbered positions built pures worlds table tokens tree u kept parses typed script self waiting
 
-pub units_are_ready : NumberedInOrder → PositionsByNumber → FunctionsStand → BuiltAsHeader → PureAsHeader → WorldIsCallable → UnitsAreReady
-units_are_ready numbered positions stand built pures worlds table tokens tree u kept parses typed script self waiting = by u.entry refl
+pub units_are_ready : ItemsAreRight → NumberedInOrder → PositionsByNumber → FunctionsStand → BuiltAsHeader → PureAsHeader → WorldIsCallable → UnitsAreReady
+units_are_ready right numbered positions stand built pures worlds table tokens tree u kept parses typed script self waiting = by u.entry refl
   where
     begins_with : (begin : ℕ → EntryPoint) (t : Ty) (entry : ℕ) → u.entry ≡ begin entry → HasEntry (functions u.items) entry t → BeginsWith begin t table u (unit_site script u self waiting)
     begins_with begin t entry is h = record {
@@ -123,10 +124,10 @@ units_are_ready numbered positions stand built pures worlds table tokens tree u 
       is = h.is;
       parameters = h.parameters;
       result = h.result;
-      made = globals_are_fine numbered positions built pures worlds table tokens tree u kept parses typed script self waiting;
-      placed = λ f fn there. functions_are_placed numbered positions stand built pures worlds table tokens tree u kept parses typed script self waiting f fn there;
+      made = globals_are_fine right numbered positions built pures worlds table tokens tree u kept parses typed script self waiting;
+      placed = λ f fn there. functions_are_placed right numbered positions stand built pures worlds table tokens tree u kept parses typed script self waiting f fn there;
     }
 
     by : (e : EntryPoint) → u.entry ≡ e → BeginsWith Main Void table u (unit_site script u self waiting) ⊎ BeginsWith Conditional Int table u (unit_site script u self waiting)
-    by (Main entry) is = inl (begins_with Main Void entry is ((entries_are_plain table tree u typed entry).0 is))
-    by (Conditional entry) is = inr (begins_with Conditional Int entry is ((entries_are_plain table tree u typed entry).1 is))
+    by (Main entry) is = inl (begins_with Main Void entry is ((entries_are_plain right table tree u typed entry).0 is))
+    by (Conditional entry) is = inr (begins_with Conditional Int entry is ((entries_are_plain right table tree u typed entry).1 is))

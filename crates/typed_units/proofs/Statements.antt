@@ -23,7 +23,6 @@ use Rattle.nss_typing.specs.Meaning.{TypesValue, TypesNames, VariableParts, Type
 use Rattle.nss_typing.specs.Meaning as rules
 use Rattle.nss_typing.specs.Verdicts as verdicts
 use Rattle.nss_typing.specs.Verdicts.{line_type, after, afters, after_then, constant_value}
-use Rattle.nss_typing.proofs.Right.{asked_fine}
 use Rattle.code_emission.specs.Layout.{Structs, cells, position, declared_cells, names_positions, positions, all_positions}
 use Rattle.code_emission.specs.Statements.{is_label}
 use Rattle.stack_shape.specs.Calls.{action_count}
@@ -34,7 +33,7 @@ use Rattle.source_meaning.specs.Fine.{IsFine}
 use Rattle.source_meaning.specs.FineStatements.{after_names, after_stmt, DeclaresNothing, HasNoLabels, LabelsStandFirst, IsFineValue, IsFineMaybe, IsFineTest, AreFineNames, IsFineReturn, IsFineStmt, AreFineStmts}
 use Rattle.typed_units.proofs.Grammar.{IsNoDeclaration, IsMade, AreMade}
 use Rattle.typed_units.proofs.Types.{same_type_is, int_is, void_is, IsValueType, declared_is, all_last}
-use Rattle.typed_units.proofs.Bodies.{when_is, both_are, not_is, AreHeads, AreBodies}
+use Rattle.typed_units.proofs.Bodies.{when_is, both_are, not_is, asked_is, AreHeads, AreBodies}
 use Rattle.typed_units.proofs.Expressions.{IsThere, IsMeaning, IsSeen, Sees, expr_fine}
 
 -- ---- as many positions and types as numbers
@@ -299,7 +298,7 @@ module _ (x : Site) (table : EngineTable) (kept : IsTable table) (few : (r : Rou
   -- the type of a line is one that values may have
   pub line_value : (c : Sight) (scope : List ℕ) → Sees x table result file scope c → (t : TypeName) (u : Ty) → line_type c.structs t ≡ Some u → IsValueType x.layout.structs u
   line_value c scope s t u h =
-      let a = asked_fine line_rows value_type (type_means c.structs t) u h in
+      let a = asked_is line_rows value_type (type_means c.structs t) u h in
       (declared_is x.layout.structs c.structs s.structs t a.0 u a.1 a.2).value
 
   return_fine : (scope : List ℕ) (c : Sight) → Sees x table result file scope c → file ≡ false → (r : Ty) → c.result ≡ Some r → (is_void result ≡ false → IsValueType x.layout.structs result)

@@ -3,7 +3,7 @@ ghost use Rattle.typed_units.specs.Laws.{EntriesArePlain, FunctionsArePlaced, Gl
 ghost use Rattle.typed_units.specs.Laws.{UnitsAreReady};
 
 use code_emission::laws::positions_by_number;
-use nss_typing::laws::numbered_in_order;
+use nss_typing::laws::{items_are_right, numbered_in_order};
 use nwq_value::header::roles_tell;
 use source_meaning::functions_stand;
 
@@ -12,6 +12,7 @@ use source_meaning::functions_stand;
 pub fn functions_are_placed()
     ensures placed { FunctionsArePlaced }
 {
+    items_are_right();
     numbered_in_order();
     positions_by_number();
     functions_stand();
@@ -22,6 +23,7 @@ pub fn functions_are_placed()
 pub fn globals_are_fine()
     ensures fine { GlobalsAreFine }
 {
+    items_are_right();
     numbered_in_order();
     positions_by_number();
     roles_tell();
@@ -31,13 +33,16 @@ pub fn globals_are_fine()
 /// `StartingConditional` an int.
 pub fn entries_are_plain()
     ensures plain { EntriesArePlain }
-{}
+{
+    items_are_right();
+}
 
 /// A typed unit is as the laws of its meaning ask of a script: it begins with one of the two entry
 /// functions, its globals are fine, and its functions are placed.
 pub fn units_are_ready()
     ensures ready { UnitsAreReady }
 {
+    items_are_right();
     numbered_in_order();
     positions_by_number();
     functions_stand();

@@ -5,5 +5,5 @@ pub returns : goal.returns
 returns c = record {
   token = one_at_each c.verdicts_are_right.ensures.listed;
   least = one_least c.verdicts_are_right.ensures.listed;
-  kept = least_is_the_kept c.verdicts_are_right.ensures.listed c.verdicts_are_right.ensures.least;
+  kept = let right = c.verdicts_are_right.ensures in least_is_the_kept right.typed c.typed_exactly.ensures.faultless right.listed right.least right.settled;
 }
