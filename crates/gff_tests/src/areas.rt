@@ -5,7 +5,7 @@ ghost use Rattle.std.specs.Prelude.{◌≤◌, IsTrue, length};
 use crate::files::{BASE, changed_file};
 use area_tree::{Area, AreaFault, Var, Vars};
 use gff_bytes::{FILE_BYTES, View};
-use gff_tree::read;
+use gff_read::read;
 use gff_write::write;
 use std::alloc::Global;
 

@@ -2,7 +2,8 @@
 
 use byteorder::{ByteOrder, LittleEndian};
 use gff_bytes::{FILE_BYTES, View};
-use gff_tree::{Gff, read};
+use gff_read::read;
+use gff_tree::Gff;
 use std::alloc::{AllocError, Global};
 
 /// One struct 4294967295 with a BYTE `A` of 7, as the writer has it.

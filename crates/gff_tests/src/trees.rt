@@ -1,6 +1,7 @@
 use crate::files::{BASE, changed};
 use gff_bytes::{FILE_BYTES, OpenFault, Part, View};
-use gff_tree::{Label, TreeFault, read, read_within};
+use gff_read::{TreeFault, read, read_within};
+use gff_tree::Label;
 use std::alloc::Global;
 
 /// What became of reading a file: its letter, a letter for the part, and the number.

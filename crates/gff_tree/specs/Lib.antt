@@ -6,8 +6,3 @@ pub mod Readings
 pub mod Count
 pub mod Code
 pub mod Whole
-pub mod Rows
-pub mod Held
-pub mod Walk
-pub mod Stands
-pub mod Used

@@ -33,7 +33,7 @@ fn contains_zero(text: &[u8]) -> bool
 }
 
 /// The bytes before the first zero byte.
-pub(crate) fn before_zero(raw: &[u8]) -> &[u8]
+pub fn before_zero(raw: &[u8]) -> &[u8]
     ensures text { result.now ≡ label_text raw.now }
     ensures bound { length result.now ≤ length raw.now }
     ensures no_zero { has_zero result.now ≡ false }
@@ -61,11 +61,11 @@ impl Label {
         }
     }
 
-    /// The label of these bytes.
-    pub(crate) fn held(text: &[u8]) -> Label
+    /// The label of these bytes, which are few enough and have no zero byte among them.
+    pub fn held(text: &[u8]) -> Label
         requires bound { length text.now ≤ label_limit }
         requires no_zero { has_zero text.now ≡ false }
-        ensures { result ≡ text.now }
+        ensures same { result ≡ text.now }
     {
         let mut bytes = [0; LABEL_BYTES];
         let len = text.len();
@@ -73,6 +73,7 @@ impl Label {
         Label { bytes, len }
     }
 
+    /// Its bytes.
     pub fn bytes(&self) -> &[u8]
         ensures same { result.now ≡ self.now }
         ensures bound { length self.now ≤ label_limit }

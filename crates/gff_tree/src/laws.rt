@@ -4,12 +4,6 @@ ghost use Rattle.gff_tree.specs.Fields.{ReplacedIsSound, AppendedIsSound, FoundI
 ghost use Rattle.gff_tree.specs.Fields.{ListIsSound, NodeIsItsFields, FieldsAreTheNodes};
 ghost use Rattle.gff_tree.specs.Fields.{ListIsItsNodes, NodesAreTheLists};
 ghost use Rattle.gff_tree.specs.Readings.{NodeReads, ListReads};
-ghost use Rattle.gff_tree.specs.Stands.{OneTree};
-
-/// Bytes stand for one tree at most.
-pub fn one_tree()
-    ensures one { OneTree }
-{}
 
 /// Structs and their lists of fields are one another's, and a struct stays sound where a field of
 /// it is replaced or a new one appended.

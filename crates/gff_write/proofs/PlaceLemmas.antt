@@ -5,7 +5,7 @@ use Rattle.std.proofs.Math.Seq.{drop-append_seam, take-append_seam}
 use Rattle.byteorder.specs.Numbers.{little_number-reads_back, length-bytes_low_first}
 use Rattle.byteorder.specs.Endian.{little_number}
 use Rattle.gff_bytes.specs.File.{word_at}
-use Rattle.gff_tree.specs.Rows.{number_in}
+use Rattle.gff_read.specs.Rows.{number_in}
 use Rattle.gff_write.specs.Flat.{word, wide}
 
 -- these bytes begin at a place

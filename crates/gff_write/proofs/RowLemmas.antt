@@ -9,7 +9,7 @@ use Rattle.gff_bytes.specs.declared.rows.Part.TheVariants as part
 use Rattle.gff_bytes.specs.declared.rows.StructRow.{StructRow}
 use Rattle.gff_bytes.specs.declared.rows.FieldRow.{FieldRow}
 use Rattle.gff_bytes.specs.File.{word_at, start_of, count_of, row_place, struct_row, field_row, label_row, index_at}
-use Rattle.gff_tree.specs.Rows.{field_number}
+use Rattle.gff_read.specs.Rows.{field_number}
 use Rattle.gff_write.specs.declared.flat.Content.{Content}
 use Rattle.gff_write.specs.declared.flat.Content.TheVariants.{Small, Data, Number, Numbers}
 use Rattle.gff_write.specs.declared.flat.Entry.{Entry}

@@ -12,12 +12,12 @@ use Rattle.std.proofs.lemmas.List.{append-nil, drop_at, length-append}
 use Rattle.std.proofs.lemmas.Nat.{le_bytes_4}
 use Rattle.gff_bytes.specs.declared.rows.Part.TheVariants as part
 use Rattle.gff_bytes.specs.File.{data_at, count_of}
-use Rattle.gff_tree.specs.declared.kind.Kind.{Kind}
-use Rattle.gff_tree.specs.declared.kind.Kind.TheVariants as kind
+use Rattle.gff_read.specs.declared.kind.Kind.{Kind}
+use Rattle.gff_read.specs.declared.kind.Kind.TheVariants as kind
 use Rattle.gff_tree.specs.declared.tree.Loc.{Loc}
 use Rattle.gff_tree.specs.declared.tree.LocPart.{LocPart}
-use Rattle.gff_tree.specs.Rows.{number_in, kinds}
-use Rattle.gff_tree.specs.Stands.{CountedStands, PartsStand, LocalizedStands, ScalarStands}
+use Rattle.gff_read.specs.Rows.{number_in, kinds}
+use Rattle.gff_read.specs.Stands.{CountedStands, PartsStand, LocalizedStands, ScalarStands}
 use Rattle.gff_tree.specs.Tree as tree
 use Rattle.gff_tree.specs.Tree.{Scalar, is_sound_scalar}
 use Rattle.gff_write.specs.Flat.{word, wide, counted, named, part_bytes, scalar_kind, scalar_content}

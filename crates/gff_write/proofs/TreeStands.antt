@@ -7,10 +7,10 @@ use Rattle.std.proofs.lemmas.Bool.{le-leb, ne_eqb, cond-true, and_parts, and_fro
 use Rattle.gff_bytes.specs.declared.rows.Part.TheVariants as part
 use Rattle.gff_bytes.specs.declared.rows.StructRow.{StructRow}
 use Rattle.gff_bytes.specs.File.{count_of, list_word}
-use Rattle.gff_tree.specs.declared.kind.Kind.{Kind}
-use Rattle.gff_tree.specs.declared.kind.Kind.TheVariants as kind
-use Rattle.gff_tree.specs.Rows.{PlainShape, PlainRow, Value, One, Many, kinds, field_number}
-use Rattle.gff_tree.specs.Stands.{ShapeStands, WordsStand, RowStands, RowsStand, NodesStand, LeafStands, FieldsStand, NodeStands}
+use Rattle.gff_read.specs.declared.kind.Kind.{Kind}
+use Rattle.gff_read.specs.declared.kind.Kind.TheVariants as kind
+use Rattle.gff_read.specs.Rows.{PlainShape, PlainRow, Value, One, Many, kinds, field_number}
+use Rattle.gff_read.specs.Stands.{ShapeStands, WordsStand, RowStands, RowsStand, NodesStand, LeafStands, FieldsStand, NodeStands}
 use Rattle.gff_tree.specs.Tree.{PlainNode, PlainFields, PlainLeaf, PlainNodes, Struct, NoField, MoreFields, Holds, Child, Children, NoNode, MoreNodes, differ_after, are_distinct, labels_of, is_sound_node, are_sound_fields, is_sound_leaf, are_sound_nodes}
 use Rattle.gff_write.specs.declared.flat.Row.{Row}
 use Rattle.gff_write.specs.Flat.{word, node_count, fields_count, leaf_count, nodes_count, padded, leaf_kind, leaf_content, numbers_from, entries_from, rows_of, rows_below, leaf_rows, list_rows}

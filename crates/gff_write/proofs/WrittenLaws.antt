@@ -9,7 +9,7 @@ use Rattle.gff_bytes.specs.declared.rows.Part.TheVariants as part
 use Rattle.gff_bytes.specs.File.{start_of}
 use Rattle.gff_tree.specs.Tree.{is_sound}
 use Rattle.gff_tree.specs.Whole.{PlainGff}
-use Rattle.gff_tree.specs.Stands.{Stands, OneTree}
+use Rattle.gff_read.specs.Stands.{Stands, OneTree}
 use Rattle.nwq_value.specs.Limits.{file_limit}
 use Rattle.gff_write.specs.declared.fault.WriteFault.{WriteFault}
 use Rattle.gff_write.specs.declared.fault.WriteFault.TheVariants as fault

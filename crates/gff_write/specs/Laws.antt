@@ -7,7 +7,7 @@ use Rattle.gff_tree.specs.Label.{has_zero}
 use Rattle.gff_tree.specs.Tree as tree
 use Rattle.gff_tree.specs.Tree.{Scalar, PlainNode, PlainFields, PlainLeaf, PlainNodes, Struct, NoField, MoreFields, Holds, Child, Children, NoNode, MoreNodes, is_sound}
 use Rattle.gff_tree.specs.Whole.{PlainGff}
-use Rattle.gff_tree.specs.Stands.{Stands}
+use Rattle.gff_read.specs.Stands.{Stands}
 use Rattle.nwq_value.specs.Limits.{file_limit}
 use Rattle.gff_write.specs.File.{written}
 

@@ -2,7 +2,7 @@
 
 ghost use Rattle.std.specs.Prelude.{◌≡◌, ◌++◌, [], length, IfOk, OnOk};
 ghost use Rattle.gff_tree.specs.Whole.{PlainGff, plain_gff};
-ghost use Rattle.gff_tree.specs.Stands.{Stands};
+ghost use Rattle.gff_read.specs.Stands.{Stands};
 ghost use Rattle.gff_tree.specs.Tree.{plain_node};
 ghost use Rattle.gff_write.specs.Flat.{rows_of};
 ghost use Rattle.gff_write.specs.File.{Gives, field_count, row_labels, section_words, header_of};
@@ -17,7 +17,8 @@ use crate::put::put_word;
 use crate::ranges::tree_ranges;
 use crate::sections::{Sections, sections_of};
 use gff_bytes::FILE_BYTES;
-use gff_tree::{Gff, one_tree};
+use gff_read::one_tree;
+use gff_tree::Gff;
 use nwq_value::{Items, NoMemory};
 use std::alloc::Global;
 

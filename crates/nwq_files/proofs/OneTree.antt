@@ -1,8 +1,8 @@
 -- One thing comes of a GFF file.
 use Rattle.std.proofs.Common.{◌≡◌, ℕ, List, Option, Some, None, Result, Err, sym, ap, ◌∙◌}
 use Rattle.gff_bytes.specs.declared.rows.OpenFault.{OpenFault}
-use Rattle.gff_tree.specs.declared.fault.TreeFault.{TreeFault}
-use Rattle.gff_tree.specs.Stands.{OneTree}
+use Rattle.gff_read.specs.declared.fault.TreeFault.{TreeFault}
+use Rattle.gff_read.specs.Stands.{OneTree}
 use Rattle.gff_tree.specs.Whole.{PlainGff}
 use Rattle.nwq_work.specs.declared.flaw.AreaFlaw.{AreaFlaw}
 use Rattle.nwq_work.specs.Outcomes.{IsSure, sure_then, sure_file}

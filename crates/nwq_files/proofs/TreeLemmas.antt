@@ -3,11 +3,11 @@ use Rattle.std.proofs.Common.{◌≡◌, ℕ, inl, List, Some, None, Result, Ok,
 use Rattle.nwq_outside.specs.Outside.{Contents}
 use Rattle.gff_bytes.specs.declared.rows.OpenFault.{OpenFault}
 use Rattle.gff_bytes.specs.File.{open_fault}
-use Rattle.gff_tree.specs.declared.fault.TreeFault.{TreeFault}
-use Rattle.gff_tree.specs.declared.fault.TreeFault.TheVariants as fault
-use Rattle.gff_tree.specs.Rows.{Fails}
-use Rattle.gff_tree.specs.Stands.{Stands}
-use Rattle.gff_tree.specs.Walk as walk
+use Rattle.gff_read.specs.declared.fault.TreeFault.{TreeFault}
+use Rattle.gff_read.specs.declared.fault.TreeFault.TheVariants as fault
+use Rattle.gff_read.specs.Rows.{Fails}
+use Rattle.gff_read.specs.Stands.{Stands}
+use Rattle.gff_read.specs.Walk as walk
 use Rattle.gff_tree.specs.Whole.{PlainGff}
 use Rattle.nwq_work.specs.declared.flaw.AreaFlaw.{AreaFlaw}
 use Rattle.nwq_work.specs.declared.status.Status.{Status}

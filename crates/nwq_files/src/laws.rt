@@ -3,7 +3,7 @@
 ghost use Rattle.nwq_files.specs.Laws.{SureBytes, SureTrees, SureCodes, SureAssemblies};
 ghost use Rattle.nwq_files.specs.Laws.{SureCommands};
 
-use gff_tree::one_tree;
+use gff_read::one_tree;
 use ncs_code::spelling_laws;
 use ncs_file::one_fault;
 use ncs_text::one_answer;

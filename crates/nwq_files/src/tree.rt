@@ -9,7 +9,8 @@ ghost use Rattle.nwq_work.specs.Counts.{Counted, Tallies, Refusing, StopsArea};
 ghost use Rattle.nwq_files.specs.Trees.{open_flaw, tree_flaw, tree_in, tree_named, plain_answer};
 
 use gff_bytes::{OpenFault, View};
-use gff_tree::{Gff, TreeFault, read};
+use gff_read::{TreeFault, read};
+use gff_tree::Gff;
 use nwq_outside::{Files, Sink};
 use nwq_work::{AreaFlaw, Status, read_file, refuse_area};
 use std::alloc::Global;

@@ -12,7 +12,7 @@ use Rattle.ncs_code.specs.Plain.{PlainOp}
 use Rattle.ncs_code.specs.File.{IsCode, file_bytes}
 use Rattle.shape_tables.specs.Rules.{WellStacked}
 use Rattle.gff_tree.specs.Whole.{PlainGff}
-use Rattle.gff_tree.specs.Stands.{Stands}
+use Rattle.gff_read.specs.Stands.{Stands}
 use Rattle.area_tree.specs.Broken.{broken_places}
 use Rattle.area_tree.specs.Area.{PlainArea, area_of}
 use Rattle.plan_text.specs.declared.plan.Plan.{Plan}

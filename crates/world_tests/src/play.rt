@@ -12,7 +12,7 @@ use area_tree::Area;
 use delay_agenda::Kind;
 use engine_table::built_in;
 use gff_bytes::View;
-use gff_tree::read;
+use gff_read::read;
 use hook_table::Hooks;
 use nwq_value::*;
 use std::alloc::Global;

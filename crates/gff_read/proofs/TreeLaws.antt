@@ -1,0 +1,42 @@
+-- A file's tree is read exactly where its bytes stand for it, and they stand for no other.
+use Rattle.std.proofs.Common.{◌≡◌, ◌<◌, ℕ, true, false, List, [], take, replicate, Ok, refl, sym, subst, ◌∙◌, arith}
+use Rattle.std.specs.Prelude.{None}
+use Rattle.gff_bytes.specs.File.{open_fault}
+use Rattle.gff_tree.specs.Tree.{PlainNode, is_sound}
+use Rattle.gff_tree.specs.Whole.{PlainGff}
+use Rattle.gff_read.specs.Walk.{Marks, struct_count, node_at, tree_of}
+use Rattle.gff_read.specs.Stands.{Stands, OneTree}
+use Rattle.gff_read.proofs.Steps.{ok_is}
+use Rattle.gff_read.proofs.WalkLaws.{node_agrees, marked_none}
+use Rattle.gff_tree.specs.Count.{node_count}
+use Rattle.gff_read.proofs.CountLaws.{count_within}
+use Rattle.gff_read.proofs.SoundLaws.{top_sound}
+
+pub read_sound : (bytes : List ℕ) (marks : Marks) (node : PlainNode) (after : Marks) → marks ≡ replicate (struct_count bytes) false → node_at 64 bytes 0 marks ≡ Ok (node, after) → is_sound node ≡ true
+read_sound bytes marks node after is e =
+    let start : node_at 64 bytes 0 (replicate (struct_count bytes) false) ≡ Ok (node, after) = subst (λ (m : Marks). node_at 64 bytes 0 m ≡ Ok (node, after)) is e in
+    let s = (node_agrees bytes 64).sound 0 (replicate (struct_count bytes) false) [] node after (marked_none (struct_count bytes)) start in
+    top_sound bytes 0 node s.0 s.1
+
+pub read_few : (bytes : List ℕ) (marks : Marks) (node : PlainNode) (after : Marks) → marks ≡ replicate (struct_count bytes) false → node_at 64 bytes 0 marks ≡ Ok (node, after) →
+    struct_count bytes < 4294967296 → node_count node < 4294967296
+read_few bytes marks node after is e few =
+    let start : node_at 64 bytes 0 (replicate (struct_count bytes) false) ≡ Ok (node, after) = subst (λ (m : Marks). node_at 64 bytes 0 m ≡ Ok (node, after)) is e in
+    let s = (node_agrees bytes 64).sound 0 (replicate (struct_count bytes) false) [] node after (marked_none (struct_count bytes)) start in
+    omega (arith, few, count_within bytes node s.0 s.1 s.2)
+
+pub stands_read : (bytes : List ℕ) (marks : Marks) (node : PlainNode) (after : Marks) (file_type : List ℕ) → marks ≡ replicate (struct_count bytes) false → node_at 64 bytes 0 marks ≡ Ok (node, after) →
+    open_fault bytes ≡ None → file_type ≡ take 4 bytes → Stands bytes (record { file_type = file_type; top = node })
+stands_read bytes marks node after file_type is e clear typed =
+    let start : node_at 64 bytes 0 (replicate (struct_count bytes) false) ≡ Ok (node, after) = subst (λ (m : Marks). node_at 64 bytes 0 m ≡ Ok (node, after)) is e in
+    let s = (node_agrees bytes 64).sound 0 (replicate (struct_count bytes) false) [] node after (marked_none (struct_count bytes)) start in
+    record { uses = s.0; opens = clear; file_type = typed; top = s.1; distinct = s.2 }
+
+pub tree_is : (bytes : List ℕ) (gff : PlainGff) → Stands bytes gff → tree_of bytes ≡ Ok gff
+unfolding tree_of
+tree_is bytes gff s =
+    let r = (node_agrees bytes 64).complete 0 (replicate (struct_count bytes) false) [] gff.top s.uses (marked_none (struct_count bytes)) s.top s.distinct in
+    rw (r.1, ← s.file_type) refl
+
+pub one_tree : OneTree
+one_tree bytes first second s t = ok_is first second (sym (tree_is bytes first s) ∙ tree_is bytes second t)

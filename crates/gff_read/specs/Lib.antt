@@ -1,0 +1,5 @@
+pub mod Rows
+pub mod Held
+pub mod Walk
+pub mod Stands
+pub mod Used

@@ -1,5 +1,0 @@
-use Rattle.gff_tree.proofs.TreeLaws as laws
-use Rattle.gff_tree.proofs.laws.one_tree.Goals as goal
-
-pub returns : goal.returns
-returns c = record { one = laws.one_tree }

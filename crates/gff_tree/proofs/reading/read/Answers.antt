@@ -1,5 +1,0 @@
-use Rattle.gff_tree.proofs.TreeLaws.{tree_is}
-use Rattle.gff_tree.proofs.reading.read.Goals as goal
-
-pub returns-clause-only : goal.returns-clause-only
-returns-clause-only c gff stands = rw (tree_is c.args.view.now gff stands) at c.read_within.ensures.exact

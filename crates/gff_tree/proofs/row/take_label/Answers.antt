@@ -1,5 +1,0 @@
-use Rattle.gff_tree.proofs.RowLemmas.{inserts_label}
-use Rattle.gff_tree.proofs.row.take_label.Goals as goal
-
-pub returns-then-branch-clause-added : goal.returns-then-branch-clause-added
-returns-then-branch-clause-added c = inserts_label c.args.used.now c.insert.new.self c.before_zero-text.result c.held.result c.held.ensures c.in_ok-insert.ensures.updates
