@@ -1,25 +1,29 @@
 -- An area where one object is changed.
-use Rattle.std.proofs.Common.{◌≡◌, ◌<◌, ◌≤◌, ◌-◌, ℕ, ℤ, zero, suc, cond, List, [], ◌∷◌, map, length, get_or, set, Result, Ok, Err, Vec, refl, sym, ap, subst, ◌∙◌, arith}
+use Rattle.std.proofs.Common.{◌≡◌, true, ◌<◌, ◌≤◌, ◌-◌, ℕ, ℤ, zero, suc, cond, List, [], ◌∷◌, map, length, get_or, set, Result, Ok, Err, Vec, refl, sym, ap, subst, ◌∙◌, arith}
 use Rattle.std.specs.Result.{OnOk, OnErr}
-use Rattle.std.specs.List.{IsDistinct, AllByRecursion}
+use Rattle.std.specs.List.{IsDistinct}
 use Rattle.std.specs.Str.{bytes_eq}
-use Rattle.std.specs.declared.alloc.Global.{Global}
 use Rattle.nwq_value.specs.declared.memory.NoMemory.{NoMemory}
+use Rattle.gff_tree.specs.Tree.{is_sound}
 use Rattle.gff_tree.specs.Whole.{PlainGff}
-use Rattle.area_tree.specs.Variables.{Variable, IntVar, put, same_variable}
-use Rattle.area_tree.specs.Objects.{AreaObject}
-use Rattle.area_tree.specs.Area.{PlainArea, object_at, tagged, changed_at, bare, IsArea}
-use Rattle.area_tree.specs.Index.{Indexes}
+use Rattle.local_variables.specs.Variables.{Variable, IntVar, put, same_variable}
+use Rattle.area_objects.specs.Objects.{AreaObject}
+use Rattle.area_objects.specs.Area.{PlainArea, empty_tree, object_at, tagged, with_vars, changed_at, bare, HaveDistinct, IsArea}
+use Rattle.area_tree.specs.Index.{TagEntries, Indexes}
+
+pub empty_sound : is_sound empty_tree.top ≡ true
+unfolding is_sound
+empty_sound = refl
 
 pub object_read : (objects : List AreaObject) (i : ℕ) (object : AreaObject) → i < length objects → object ≡ get_or objects i object → object_at objects i ≡ object
 object_read [] i object lt is = absurd (omega (arith, lt))
 object_read (o ∷ objects) zero object lt is = sym is
 object_read (o ∷ objects) (suc i) object lt is = object_read objects i object (omega (arith, lt)) is
 
-pub object_changed : (objects : List AreaObject) (i : ℕ) (old new : AreaObject) (change : List Variable → List Variable) → i < length objects → old ≡ get_or objects i old → new ≡ record old { vars = change old.vars } →
+pub object_changed : (objects : List AreaObject) (i : ℕ) (old new : AreaObject) (change : List Variable → List Variable) → i < length objects → old ≡ get_or objects i old → new ≡ with_vars change old →
     set objects i new ≡ changed_at i change objects
 object_changed [] i old new change lt is made = absurd (omega (arith, lt))
-object_changed (o ∷ objects) zero old new change lt is made = ap (λ (x : AreaObject). x ∷ objects) (made ∙ ap (λ (x : AreaObject). record x { vars = change x.vars }) is)
+object_changed (o ∷ objects) zero old new change lt is made = ap (λ (x : AreaObject). x ∷ objects) (made ∙ ap (λ (x : AreaObject). with_vars change x) is)
 object_changed (o ∷ objects) (suc i) old new change lt is made = ap (λ (os : List AreaObject). o ∷ os) (object_changed objects i old new change (omega (arith, lt)) is made)
 
 bare_changed : (objects : List AreaObject) (i : ℕ) (change : List Variable → List Variable) → map bare (changed_at i change objects) ≡ map bare objects
@@ -38,7 +42,7 @@ tagged_changed tag n (o ∷ objects) zero change = refl
 tagged_changed tag n (o ∷ objects) (suc i) change = ap (λ (ns : List ℕ). cond (bytes_eq tag o.tag) (n ∷ ns) ns) (tagged_changed tag (suc n) objects i change)
 
 distinct_changed : (objects : List AreaObject) (i : ℕ) (change : List Variable → List Variable) → ((vars : List Variable) → IsDistinct same_variable vars → IsDistinct same_variable (change vars)) →
-    AllByRecursion (λ object. IsDistinct same_variable object.vars) objects → AllByRecursion (λ object. IsDistinct same_variable object.vars) (changed_at i change objects)
+    HaveDistinct objects → HaveDistinct (changed_at i change objects)
 distinct_changed [] i change keeps all = tt
 distinct_changed (o ∷ objects) zero change keeps all = (keeps o.vars all.0, all.1)
 distinct_changed (o ∷ objects) (suc i) change keeps all = (all.0, distinct_changed objects i change keeps all.1)
@@ -61,11 +65,11 @@ facts_changed tree objects i change keeps area = record {
 abbrev pub Leaves : PlainGff → List AreaObject → List AreaObject → Type 0
 Leaves tree before after = Facts tree after × ((tag : List ℕ) → tagged tag 1 after ≡ tagged tag 1 before)
 
-pub index_left : (entries : List (Vec ℕ Global × List ℕ)) (before after : List AreaObject) → Indexes entries before → ((tag : List ℕ) → tagged tag 1 after ≡ tagged tag 1 before) → Indexes entries after
+pub index_left : (entries : TagEntries) (before after : List AreaObject) → Indexes entries before → ((tag : List ℕ) → tagged tag 1 after ≡ tagged tag 1 before) → Indexes entries after
 index_left entries before after indexes same = λ tag. indexes tag ∙ sym (same tag)
 
 pub object_left : (tree : PlainGff) (objects : List AreaObject) (i : ℕ) (old new : AreaObject) (change : List Variable → List Variable) → ((vars : List Variable) → IsDistinct same_variable vars → IsDistinct same_variable (change vars)) →
-    Facts tree objects → i < length objects → old ≡ get_or objects i old → new ≡ record old { vars = change old.vars } → Leaves tree objects (set objects i new)
+    Facts tree objects → i < length objects → old ≡ get_or objects i old → new ≡ with_vars change old → Leaves tree objects (set objects i new)
 object_left tree objects i old new change keeps area lt is made =
     subst (Leaves tree objects) (sym (object_changed objects i old new change lt is made)) (facts_changed tree objects i change keeps area, λ tag. tagged_changed tag 1 objects i change)
 
@@ -75,12 +79,12 @@ same_left tree objects i old new area lt is made = object_left tree objects i ol
 -- a change that may have found no memory
 pub tried_left : (tree : PlainGff) (objects : List AreaObject) (i : ℕ) (old new : AreaObject) (change : List Variable → List Variable) (r : Result (Unit {0}) NoMemory) →
     ((vars : List Variable) → IsDistinct same_variable vars → IsDistinct same_variable (change vars)) → Facts tree objects → i < length objects → old ≡ get_or objects i old →
-    OnOk r (new ≡ record old { vars = change old.vars }) → OnErr r (new ≡ old) → Leaves tree objects (set objects i new)
+    OnOk r (new ≡ with_vars change old) → OnErr r (new ≡ old) → Leaves tree objects (set objects i new)
 tried_left tree objects i old new change (Ok u) keeps area lt is made same = object_left tree objects i old new change keeps area lt is made
 tried_left tree objects i old new change (Err e) keeps area lt is made same = same_left tree objects i old new area lt is same
 
 pub tried_ok : (tree : PlainGff) (objects : List AreaObject) (i : ℕ) (old new : AreaObject) (change : List Variable → List Variable) (area : PlainArea) (r : Result (Unit {0}) NoMemory) →
-    record { tree = tree; objects = objects } ≡ area → i < length objects → old ≡ get_or objects i old → OnOk r (new ≡ record old { vars = change old.vars }) →
+    record { tree = tree; objects = objects } ≡ area → i < length objects → old ≡ get_or objects i old → OnOk r (new ≡ with_vars change old) →
     OnOk r (record { tree = tree; objects = set objects i new } ≡ record area { objects = changed_at i change area.objects })
 tried_ok tree objects i old new change area (Ok u) view lt is made =
     ap (λ (os : List AreaObject). record { tree = tree; objects = os }) (object_changed objects i old new change lt is made) ∙ ap (λ (a : PlainArea). record a { objects = changed_at i change a.objects }) view
@@ -98,7 +102,7 @@ tried_err tree objects i old new area (Err e) view lt is same =
     unchanged (o ∷ os) (suc k) = ap (λ (rest : List AreaObject). o ∷ rest) (unchanged os k)
 
 pub made_view : (tree : PlainGff) (objects : List AreaObject) (i : ℕ) (old new : AreaObject) (change : List Variable → List Variable) (area : PlainArea) →
-    record { tree = tree; objects = objects } ≡ area → i < length objects → old ≡ get_or objects i old → new ≡ record old { vars = change old.vars } →
+    record { tree = tree; objects = objects } ≡ area → i < length objects → old ≡ get_or objects i old → new ≡ with_vars change old →
     record { tree = tree; objects = set objects i new } ≡ record area { objects = changed_at i change area.objects }
 made_view tree objects i old new change area view lt is made = tried_ok tree objects i old new change area (Ok tt) view lt is made
 
@@ -111,6 +115,6 @@ pub object_seen : (o : ℕ) (tree : PlainGff) (objects : List AreaObject) (area 
 object_seen o tree objects area object view lt is = sym (object_read objects (o - 1) object lt is) ∙ ap (λ (a : PlainArea). object_at a.objects (o - 1)) view
 
 -- a number that was passed on is the one that was given
-pub ok_number : (name : List ℕ) (new old : AreaObject) (m n : ℤ) (r : Result (Unit {0}) NoMemory) → m ≡ n → OnOk r (new ≡ record old { vars = put (IntVar name m) old.vars }) → OnOk r (new ≡ record old { vars = put (IntVar name n) old.vars })
-ok_number name new old m n (Ok u) is made = made ∙ ap (λ (k : ℤ). record old { vars = put (IntVar name k) old.vars }) is
+pub ok_number : (name : List ℕ) (new old : AreaObject) (m n : ℤ) (r : Result (Unit {0}) NoMemory) → m ≡ n → OnOk r (new ≡ with_vars (put (IntVar name m)) old) → OnOk r (new ≡ with_vars (put (IntVar name n)) old)
+ok_number name new old m n (Ok u) is made = made ∙ ap (λ (k : ℤ). with_vars (put (IntVar name k)) old) is
 ok_number name new old m n (Err e) is made = tt

@@ -1,10 +1,3 @@
-pub mod VariableLaws
-pub mod WovenLemmas
-pub mod ReadLemmas
-pub mod TagLemmas
-pub mod BackLemmas
-pub mod SoundLemmas
-pub mod AreaLemmas
-pub mod UnchangedLaws
-pub mod ReadBackLaws
-pub mod OneValueLaws
+mod ReadLemmas
+mod TagLemmas
+mod AreaLemmas

@@ -1,10 +1,2 @@
-pub mod Variables
-pub mod Woven
-pub mod Objects
-pub mod Broken
 pub mod Reading
-pub mod Back
-pub mod Current
-pub mod Area
 pub mod Index
-pub mod Laws

@@ -5,18 +5,17 @@ ghost use Rattle.std.specs.Prelude.{OnOk, OnErr};
 ghost use Rattle.gff_tree.specs.Tree.{plain_node};
 ghost use Rattle.gff_tree.specs.Whole.{plain_gff};
 ghost use Rattle.gff_tree.specs.Count.{node_count};
-ghost use Rattle.area_tree.specs.Variables.{IntVar, TextVar, is_int, is_text, int_named};
-ghost use Rattle.area_tree.specs.Variables.{text_named, put};
-ghost use Rattle.area_tree.specs.Broken.{broken_places, IsFirst};
-ghost use Rattle.area_tree.specs.Area.{area_of, empty_area, tree_back, object, by_tag};
-ghost use Rattle.area_tree.specs.Area.{script_named, changed, IsArea};
+ghost use Rattle.local_variables.specs.Variables.{IntVar, TextVar, is_int, is_text, int_named};
+ghost use Rattle.local_variables.specs.Variables.{text_named, put};
+ghost use Rattle.area_objects.specs.Broken.{broken_places, IsFirst};
+ghost use Rattle.area_objects.specs.Area.{area_of, empty_area, object, by_tag};
+ghost use Rattle.area_objects.specs.Area.{script_named, changed, IsArea};
 
-use crate::back::put_lists;
-use crate::fault::AreaFault;
 use crate::object::{Object, read_objects};
 use crate::tags::{Tags, index, numbers};
-use crate::vars::Vars;
-use gff_tree::{Gff, Node, fields_tell};
+use area_objects::{AreaFault, objects_tell};
+use gff_tree::{Gff, Node};
+use local_variables::{Vars, variables_tell};
 use nwq_value::NoMemory;
 use std::alloc::Global;
 use std::marker::Model;
@@ -33,7 +32,7 @@ impl Model for Area {
     ghost use Rattle.std.specs.Coded.{codes};
     ghost use Rattle.gff_tree.specs.Code.{node_code};
     ghost use Rattle.gff_tree.specs.Whole.{plain_gff};
-    ghost use Rattle.area_tree.specs.Area.{PlainArea, IsArea};
+    ghost use Rattle.area_objects.specs.Area.{PlainArea, IsArea};
     ghost use Rattle.area_tree.specs.Index.{Indexes};
 
     ghost Value = { PlainArea };
@@ -42,7 +41,8 @@ impl Model for Area {
 
     ghost view = { λ a. record { tree = plain_gff a.tree; objects = a.objects.items } };
 
-    ghost invariant = { λ a. IsArea (record { tree = plain_gff a.tree; objects = a.objects.items }) × Indexes a.tags.entries a.objects.items };
+    ghost invariant = { λ a. IsArea (record { tree = plain_gff a.tree; objects = a.objects.items })
+        × Indexes a.tags.entries a.objects.items };
 }
 
 impl Area {
@@ -71,6 +71,7 @@ impl Area {
         // A place that is named is the first that breaks a rule.
         ensures first { IfErr result (λ e. IsFirst e (broken_places (plain_gff tree).top)) }
     {
+        objects_tell();
         match read_objects(alloc, &tree.top) {
             Err(e) => {
                 drop(tree);
@@ -91,25 +92,18 @@ impl Area {
         }
     }
 
-    /// The tree of the way back. The area is dropped on a refusal.
-    pub fn into_tree(self, alloc: Global) -> Result<Gff, NoMemory>
-        ensures tree { IfOk result (λ gff. plain_gff gff ≡ tree_back self) }
+    /// The tree that was read, and the objects as they are now.
+    pub fn into_parts(self) -> (Gff, Vec<Object>)
+        ensures tree { plain_gff result.0 ≡ self.tree }
+        ensures objects { result.1.items ≡ self.objects }
     {
-        fields_tell();
         let Area {
             tree,
             objects,
             tags,
         } = self;
         drop(tags);
-        let Gff { file_type, mut top } = tree;
-        match put_lists(alloc, &objects, &mut top) {
-            Ok(()) => Ok(Gff { file_type, top }),
-            Err(e) => {
-                drop(top);
-                Err(e)
-            }
-        }
+        (tree, objects)
     }
 
     /// How many objects there are.
@@ -175,6 +169,7 @@ impl Area {
         ensures ok { OnOk result (self.new ≡ changed self.old o (put (IntVar name.now v))) }
         ensures err { OnErr result (self.new ≡ self.old) }
     {
+        variables_tell();
         let object = &mut self.objects[o as usize - 1];
         object.set_int(name, v)
     }
@@ -186,6 +181,7 @@ impl Area {
         ensures ok { OnOk result (self.new ≡ changed self.old o (put (TextVar name.now v.now))) }
         ensures err { OnErr result (self.new ≡ self.old) }
     {
+        variables_tell();
         let object = &mut self.objects[o as usize - 1];
         object.set_text(name, v)
     }
@@ -196,6 +192,7 @@ impl Area {
         requires within { o ≤ length self.old.objects }
         ensures gone { self.new ≡ changed self.old o (filter (λ v. not (is_int name.now v))) }
     {
+        variables_tell();
         let object = &mut self.objects[o as usize - 1];
         object.delete_int(name);
     }
@@ -206,6 +203,7 @@ impl Area {
         requires within { o ≤ length self.old.objects }
         ensures gone { self.new ≡ changed self.old o (filter (λ v. not (is_text name.now v))) }
     {
+        variables_tell();
         let object = &mut self.objects[o as usize - 1];
         object.delete_text(name);
     }

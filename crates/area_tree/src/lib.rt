@@ -1,24 +1,19 @@
-//! The area that a GFF tree tells: its objects, their tags, scripts and local variables, and the
-//! way back to a tree.
+//! An area that is read from a GFF tree, and whose objects' variables change.
 //!
-//! The members of five lists of the tree are the objects, numbered from 1. Code reads and changes
-//! their variables; what the tree holds besides stays as it was read, and comes back with the
-//! variables by [`Area::into_tree`]. `specs/Objects.antt` says what a tree tells,
-//! `specs/Broken.antt` at which place one breaks the rules, `specs/Back.antt` what goes back.
-//! Contracts see an [`Area`] as the tree that was read beside the list of the objects. docs/AREA.md
-//! tells the rules and this project's choices.
+//! [`Area::of`] reads the objects that a tree tells, or names the first place at which it breaks
+//! the rules. Objects are numbered from 1; they are found by their tags, and their variables are
+//! read and changed. What the tree holds besides stays as it was read, and [`Area::into_parts`]
+//! gives it back beside the objects.
+//!
+//! What an area is stands in `area_objects`; contracts see an [`Area`] as the tree that was read
+//! beside the list of the objects. `specs/Reading.antt` says what calls that read answer, and
+//! `specs/Index.antt` what the index of tags keeps. docs/AREA.md tells the rules and this project's
+//! choices.
 #![tactic(auto)]
 
 mod area;
-mod back;
-mod fault;
-mod laws;
 mod object;
-mod order;
 mod tags;
-mod vars;
 
 pub use area::Area;
-pub use fault::AreaFault;
-pub use laws::{areas_go_back, variables_stay};
-pub use vars::{Var, Vars};
+pub use object::{Object, Told, list_label, told_by};

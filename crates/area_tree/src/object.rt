@@ -6,19 +6,22 @@ ghost use Rattle.std.specs.Option.{option_map};
 ghost use Rattle.gff_tree.specs.Tree.{plain_node, plain_field, nodes_list};
 ghost use Rattle.gff_tree.specs.Count.{node_count, nodes_count};
 ghost use Rattle.gff_tree.specs.Fields.{fields_of, found};
-ghost use Rattle.area_tree.specs.Variables.{IntVar, TextVar, is_int, is_text, put, variable_of};
-ghost use Rattle.area_tree.specs.Area.{script_named};
-ghost use Rattle.area_tree.specs.Objects.{dword_in, int_in, string_in, int_entry, text_entry};
-ghost use Rattle.area_tree.specs.Objects.{entry_of, variables_in, structs_in, tag_in, with_script};
-ghost use Rattle.area_tree.specs.Objects.{scripts_in, object_of, list_labels, objects_of};
-ghost use Rattle.area_tree.specs.Broken.{IsFirst, at_member, entry_places, with_later};
-ghost use Rattle.area_tree.specs.Broken.{entries_places, tag_places, table_places, member_places};
-ghost use Rattle.area_tree.specs.Broken.{members_places, list_places, broken_places};
+ghost use Rattle.local_variables.specs.Variables.{IntVar, TextVar, is_int, is_text, put};
+ghost use Rattle.local_variables.specs.Variables.{variable_of};
+ghost use Rattle.area_objects.specs.Area.{script_named, with_vars};
+ghost use Rattle.area_objects.specs.Objects.{dword_in, int_in, string_in, int_entry, text_entry};
+ghost use Rattle.area_objects.specs.Objects.{entry_of, variables_in, structs_in, tag_in};
+ghost use Rattle.area_objects.specs.Objects.{with_script, scripts_in, object_of, list_labels};
+ghost use Rattle.area_objects.specs.Objects.{objects_of};
+ghost use Rattle.area_objects.specs.Broken.{IsFirst, at_entry, entry_places, with_later};
+ghost use Rattle.area_objects.specs.Broken.{entries_places, tag_places, table_places};
+ghost use Rattle.area_objects.specs.Broken.{member_places, members_places, list_places};
+ghost use Rattle.area_objects.specs.Broken.{broken_places};
 ghost use Rattle.area_tree.specs.Reading.{Reads, leaf_in, leaves_count, entry_told};
 
-use crate::fault::AreaFault;
-use crate::vars::{Var, Vars};
+use area_objects::AreaFault;
 use gff_tree::{Field, Leaf, Node};
+use local_variables::{Var, Vars};
 use nwq_value::{Items, NoMemory};
 use std::alloc::Global;
 use std::marker::Model;
@@ -32,7 +35,7 @@ pub struct ScriptField {
 }
 
 impl Model for ScriptField {
-    ghost use Rattle.area_tree.specs.Objects.{Script};
+    ghost use Rattle.area_objects.specs.Objects.{Script};
 
     ghost Value = { Script };
 
@@ -48,7 +51,7 @@ pub struct Object {
 }
 
 impl Model for Object {
-    ghost use Rattle.area_tree.specs.Objects.{AreaObject};
+    ghost use Rattle.area_objects.specs.Objects.{AreaObject};
 
     ghost Value = { AreaObject };
 
@@ -75,34 +78,39 @@ impl Object {
         &self.vars
     }
 
-    pub fn set_int(&mut self, name: &[u8], n: i32) -> Result<(), NoMemory>
-        ensures ok { OnOk result (self.new ≡ record self.old { vars = put (IntVar name.now n) self.old.vars }) }
+    /// Gives an int a value, in its place, or puts it last.
+    pub(crate) fn set_int(&mut self, name: &[u8], n: i32) -> Result<(), NoMemory>
+        ensures ok { OnOk result (self.new ≡ with_vars (put (IntVar name.now n)) self.old) }
         ensures err { OnErr result (self.new ≡ self.old) }
     {
         self.vars.set_int(name, n)
     }
 
-    pub fn set_text(&mut self, name: &[u8], text: &[u8]) -> Result<(), NoMemory>
-        ensures ok { OnOk result (self.new ≡ record self.old { vars = put (TextVar name.now text.now) self.old.vars }) }
+    /// Gives a string a value, in its place, or puts it last.
+    pub(crate) fn set_text(&mut self, name: &[u8], text: &[u8]) -> Result<(), NoMemory>
+        ensures ok { OnOk result (self.new ≡ with_vars (put (TextVar name.now text.now)) self.old) }
         ensures err { OnErr result (self.new ≡ self.old) }
     {
         self.vars.set_text(name, text)
     }
 
-    pub fn delete_int(&mut self, name: &[u8])
-        ensures gone { self.new ≡ record self.old { vars = filter (λ v. not (is_int name.now v)) self.old.vars } }
+    /// Takes an int out.
+    pub(crate) fn delete_int(&mut self, name: &[u8])
+        ensures gone { self.new ≡ with_vars (filter (λ v. not (is_int name.now v))) self.old }
     {
         self.vars.delete_int(name);
     }
 
-    pub fn delete_text(&mut self, name: &[u8])
-        ensures gone { self.new ≡ record self.old { vars = filter (λ v. not (is_text name.now v)) self.old.vars } }
+    /// Takes a string out.
+    pub(crate) fn delete_text(&mut self, name: &[u8])
+        ensures gone { self.new ≡ with_vars (filter (λ v. not (is_text name.now v))) self.old }
     {
         self.vars.delete_text(name);
     }
 
-    pub fn put_vars(&mut self, vars: Vars)
-        ensures vars { self.new ≡ record self.old { vars = vars } }
+    /// Gives the object these variables in the place of its own.
+    pub(crate) fn put_vars(&mut self, vars: Vars)
+        ensures vars { self.new ≡ with_vars (λ _. vars) self.old }
     {
         drop(mem::replace(&mut self.vars, vars));
     }
@@ -195,7 +203,7 @@ fn told_text<'a>(name: Option<&'a [u8]>, text: Option<&'a [u8]>) -> Told<'a>
 
 /// What an entry tells: its type is looked at first, and where that isn't read nothing else is.
 pub fn told_by(entry: &Node) -> Told<'_>
-    ensures { entry_told result ≡ entry_of (plain_node entry.now) }
+    ensures told { entry_told result ≡ entry_of (plain_node entry.now) }
 {
     match dword_of(entry.find(b"Type".as_slice())) {
         None => Told::Broken,
@@ -219,9 +227,12 @@ fn add_entry(
     entry: &Node,
     vars: &mut Vars,
 ) -> Result<(), AreaFault>
-    ensures read { OnOk result ((entry_places (record { list = list; member = member; entry = number }) vars.old (entry_of (plain_node entry.now)) ≡ [])
-        × (vars.new ≡ with_later vars.old (entry_of (plain_node entry.now)))) }
-    ensures first { IfErr result (λ e. IsFirst e (entry_places (record { list = list; member = member; entry = number }) vars.old (entry_of (plain_node entry.now)))) }
+    ensures whole { OnOk result (entry_places (at_entry list member number) vars.old
+        (entry_of (plain_node entry.now)) ≡ []) }
+    ensures vars { OnOk result (vars.new
+        ≡ with_later vars.old (entry_of (plain_node entry.now))) }
+    ensures first { IfErr result (λ e. IsFirst e (entry_places (at_entry list member number)
+        vars.old (entry_of (plain_node entry.now)))) }
 {
     let broken = AreaFault::Shape {
         list,
@@ -245,8 +256,9 @@ fn add_entry(
 fn add_entries(list: u8, member: u32, entries: &[Node], vars: &mut Vars) -> Result<(), AreaFault>
     requires few { length entries.now < 4294967296 }
     requires none { vars.old ≡ [] }
-    ensures read { OnOk result ((entries_places list member 1 [] (map plain_node entries.now) ≡ [])
-        × (vars.new ≡ variables_in (map plain_node entries.now))) }
+    ensures whole { OnOk result
+        (entries_places list member 1 [] (map plain_node entries.now) ≡ []) }
+    ensures vars { OnOk result (vars.new ≡ variables_in (map plain_node entries.now)) }
     ensures first { IfErr result (λ e. IsFirst e
         (entries_places list member 1 [] (map plain_node entries.now))) }
 {
@@ -357,8 +369,9 @@ fn add_members(
     objects: &mut Vec<Object>,
 ) -> Result<(), AreaFault>
     requires few { nodes_count (nodes_list nodes.now) < 4294967296 }
-    ensures read { OnOk result ((members_places list 1 (map plain_node nodes.now) ≡ [])
-        × (objects.new.items ≡ objects.old.items ++ map object_of (map plain_node nodes.now))) }
+    ensures whole { OnOk result (members_places list 1 (map plain_node nodes.now) ≡ []) }
+    ensures objects { OnOk result (objects.new.items ≡ objects.old.items
+        ++ map object_of (map plain_node nodes.now)) }
     ensures first { IfErr result (λ e. IsFirst e
         (members_places list 1 (map plain_node nodes.now))) }
 {
@@ -379,9 +392,9 @@ fn add_list(
     objects: &mut Vec<Object>,
 ) -> Result<(), AreaFault>
     requires few { leaves_count (leaf_in leaf) < 4294967296 }
-    ensures read { OnOk result ((list_places list (leaf_in leaf.entry) ≡ [])
-        × (objects.new.items ≡ objects.old.items
-        ++ map object_of (structs_in (leaf_in leaf.entry)))) }
+    ensures whole { OnOk result (list_places list (leaf_in leaf.entry) ≡ []) }
+    ensures objects { OnOk result (objects.new.items ≡ objects.old.items
+        ++ map object_of (structs_in (leaf_in leaf.entry))) }
     ensures first { IfErr result (λ e. IsFirst e (list_places list (leaf_in leaf.entry))) }
 {
     match leaf {
@@ -399,8 +412,8 @@ fn add_list(
 
 /// The label of a list of objects by its number.
 pub fn list_label(list: u8) -> &'static [u8]
-    requires { list < 5 }
-    ensures { drop list list_labels ≡ result.now ∷ drop (list + 1) list_labels }
+    requires known { list < 5 }
+    ensures label { drop list list_labels ≡ result.now ∷ drop (list + 1) list_labels }
 {
     match list {
         0 => b"Creature List".as_slice(),
@@ -415,8 +428,8 @@ pub fn list_label(list: u8) -> &'static [u8]
 fn add_lists(alloc: Global, top: &Node, objects: &mut Vec<Object>) -> Result<(), AreaFault>
     requires few { node_count (plain_node top.now) < 4294967296 }
     requires none { objects.old.items ≡ [] }
-    ensures read { OnOk result ((broken_places (plain_node top.now) ≡ [])
-        × (objects.new.items ≡ objects_of (plain_node top.now))) }
+    ensures whole { OnOk result (broken_places (plain_node top.now) ≡ []) }
+    ensures objects { OnOk result (objects.new.items ≡ objects_of (plain_node top.now)) }
     ensures first { IfErr result (λ e. IsFirst e (broken_places (plain_node top.now))) }
 {
     for list in 0..5 {
@@ -429,8 +442,8 @@ fn add_lists(alloc: Global, top: &Node, objects: &mut Vec<Object>) -> Result<(),
 /// The objects of a tree, or its first broken place.
 pub fn read_objects(alloc: Global, top: &Node) -> Result<Vec<Object>, AreaFault>
     requires few { node_count (plain_node top.now) < 4294967296 }
-    ensures read { IfOk result (λ objects. (broken_places (plain_node top.now) ≡ [])
-        × (objects.items ≡ objects_of (plain_node top.now))) }
+    ensures whole { IfOk result (λ _. broken_places (plain_node top.now) ≡ []) }
+    ensures objects { IfOk result (λ objects. objects.items ≡ objects_of (plain_node top.now)) }
     ensures first { IfErr result (λ e. IsFirst e (broken_places (plain_node top.now))) }
 {
     let mut objects = Vec::new(alloc);

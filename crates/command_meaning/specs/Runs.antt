@@ -4,7 +4,7 @@ use Rattle.nwq_value.specs.Engine.{EngineTable}
 use Rattle.nwq_value.specs.Limits.{default_instruction_limit, default_entry_limit, default_until}
 use Rattle.nwq_outside.specs.Outside.{Contents}
 use Rattle.nss_typing.specs.Typed.{TypedUnit}
-use Rattle.area_tree.specs.Area.{empty_area}
+use Rattle.area_objects.specs.Area.{empty_area}
 use Rattle.saved_state.specs.declared.saved.Saved.{Saved}
 use Rattle.engine_rows.specs.Pure.{CellLookup}
 use Rattle.engine_rows.specs.Trace.{trace_text}

@@ -3,8 +3,8 @@ use Rattle.std.proofs.Common.{◌≡◌, ℕ, ℤ, pos, negsuc, List, [], ◌∷
 use Rattle.std.specs.Prelude.{codes}
 use Rattle.std.specs.Fmt.{digits}
 use Rattle.action_queue.specs.declared.queue.Item.TheVariants.{Do, Wait, Speak}
-use Rattle.area_tree.specs.Area.{PlainArea, object}
-use Rattle.area_tree.specs.Variables.{IntVar, TextVar, int_named}
+use Rattle.area_objects.specs.Area.{PlainArea, object}
+use Rattle.local_variables.specs.Variables.{IntVar, TextVar, int_named}
 use Rattle.delay_agenda.specs.declared.entry.Entry.{Entry}
 use Rattle.delay_agenda.specs.declared.entry.Kind.TheVariants.{Event, Stored, Turn, Unapply}
 use Rattle.nwq_value.specs.Header.{header_routines}

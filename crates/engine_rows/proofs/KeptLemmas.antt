@@ -4,9 +4,9 @@ use Rattle.std.specs.Prelude.{if◌then◌else◌, ◌⊎◌, nat_eq, IsTrue}
 use Rattle.std.specs.List.{AllByRecursion}
 use Rattle.std.proofs.lemmas.Bool.Decides.{nat_tests}
 use Rattle.action_queue.specs.Queued.{Queued}
-use Rattle.area_tree.specs.Area as areas
-use Rattle.area_tree.specs.Objects.{AreaObject}
-use Rattle.area_tree.specs.Variables.{Variable}
+use Rattle.area_objects.specs.Area as areas
+use Rattle.area_objects.specs.Objects.{AreaObject}
+use Rattle.local_variables.specs.Variables.{Variable}
 use Rattle.delay_agenda.specs.Laws.{PostKeeps, CancelKeeps, PutCounts, CancelCounts}
 use Rattle.delay_agenda.specs.Order.{is_before, put_entry}
 use Rattle.delay_agenda.specs.Waiting.{IsAgenda, is_turn_kind, is_turn_of, posted, turn_count, without_turns}

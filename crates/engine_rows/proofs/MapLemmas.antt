@@ -4,7 +4,7 @@ use Rattle.std.specs.Prelude.{if◌then◌else◌, ◌==◌}
 use Rattle.std.specs.Option.{option_map}
 use Rattle.action_queue.specs.Queued.{Queued}
 use Rattle.action_queue.specs.declared.queue.Item.{Item}
-use Rattle.area_tree.specs.Variables.{Variable}
+use Rattle.local_variables.specs.Variables.{Variable}
 use Rattle.delay_agenda.specs.Order.{is_before, put_entry}
 use Rattle.delay_agenda.specs.Waiting.{Waiting, is_turn_kind, is_turn_of, posted, turn_count, without_turns}
 use Rattle.delay_agenda.specs.declared.entry.Entry.{Entry}

@@ -3,9 +3,9 @@ use Rattle.std.proofs.Common.{ℕ, ℤ, pos, List, [], ◌∷◌, Option, None, 
 use Rattle.std.specs.Prelude.{codes}
 use Rattle.std.specs.Option.{option_map}
 use Prim.Native.String.{String}
-use Rattle.area_tree.specs.Area.{PlainArea}
-use Rattle.area_tree.specs.Objects.{AreaObject, Script}
-use Rattle.area_tree.specs.Variables.{Variable, IntVar, TextVar}
+use Rattle.area_objects.specs.Area.{PlainArea}
+use Rattle.area_objects.specs.Objects.{AreaObject, Script}
+use Rattle.local_variables.specs.Variables.{Variable, IntVar, TextVar}
 use Rattle.delay_agenda.specs.declared.entry.Entry.{Entry}
 use Rattle.nwq_value.specs.HeaderTable.{header_table}
 use Rattle.nwq_value.specs.declared.value.Value.{Value}

@@ -5,8 +5,8 @@ use Rattle.std.specs.List.{AllByRecursion, find, list_any}
 use Rattle.std.proofs.lemmas.Bool.Decides.{nat_tests}
 use Rattle.action_queue.specs.declared.queue.Item.{Item}
 use Rattle.action_queue.specs.declared.queue.Item.TheVariants.{Do, Wait, Speak}
-use Rattle.area_tree.specs.Area.{object}
-use Rattle.area_tree.specs.Variables.{Variable}
+use Rattle.area_objects.specs.Area.{object}
+use Rattle.local_variables.specs.Variables.{Variable}
 use Rattle.delay_agenda.specs.Waiting.{turn_count}
 use Rattle.delay_agenda.specs.declared.entry.Kind.TheVariants.{Event, Stored, Turn, Unapply}
 use Rattle.nwq_value.specs.Engine.{EngineTable}

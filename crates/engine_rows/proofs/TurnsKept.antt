@@ -5,7 +5,7 @@ use Rattle.std.specs.List.{AllByRecursion, find, fold}
 use Rattle.std.proofs.lemmas.Bool.Decides.{nat_tests}
 use Rattle.action_queue.specs.declared.queue.Item.{Item}
 use Rattle.action_queue.specs.declared.queue.Item.TheVariants.{Do, Wait, Speak}
-use Rattle.area_tree.specs.Area.{PlainArea}
+use Rattle.area_objects.specs.Area.{PlainArea}
 use Rattle.delay_agenda.specs.Laws.{TakeKeeps}
 use Rattle.delay_agenda.specs.Order.{IsBefore, IsBeforeAll, AreInOrder}
 use Rattle.delay_agenda.specs.Waiting.{IsAgenda, is_turn_kind, is_turn_of, turn_count}

@@ -1,6 +1,6 @@
 -- What is done to two worlds that are alike leaves them so.
 use Rattle.std.specs.Prelude.{◌≡◌, ℕ, ℤ, List, Option}
-use Rattle.area_tree.specs.Area.{PlainArea}
+use Rattle.area_objects.specs.Area.{PlainArea}
 use Rattle.nwq_value.specs.Engine.{EngineTable}
 use Rattle.nwq_value.specs.declared.value.Value.{Value}
 use Rattle.engine_rows.specs.Pure.{CellLookup}

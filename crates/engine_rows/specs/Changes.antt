@@ -3,8 +3,8 @@ use Rattle.std.specs.Prelude.{ℕ, ℤ, ◌+◌, zero, suc, Bool, true, false, �
 use Rattle.std.specs.Ordering.{int_eq}
 use Rattle.action_queue.specs.Queued.{Queued}
 use Rattle.action_queue.specs.declared.queue.Item.{Item}
-use Rattle.area_tree.specs.Area.{changed}
-use Rattle.area_tree.specs.Variables.{Variable}
+use Rattle.area_objects.specs.Area.{changed}
+use Rattle.local_variables.specs.Variables.{Variable}
 use Rattle.delay_agenda.specs.declared.entry.Kind.{Kind}
 use Rattle.delay_agenda.specs.Waiting.{posted, turn_count, without_turns}
 use Rattle.nwq_value.specs.declared.value.Effect.{Effect}

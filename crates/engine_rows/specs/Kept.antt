@@ -1,7 +1,7 @@
 -- What every world keeps, and what each thing that is done to a world leaves of it.
 use Rattle.std.specs.Prelude.{◌≡◌, ℕ, ◌+◌, ◌≤◌, Bool, true, false, List, length, Option, MatchOption, IfSome, IsTrue}
 use Rattle.std.specs.List.{AllByRecursion}
-use Rattle.area_tree.specs.Area.{PlainArea}
+use Rattle.area_objects.specs.Area.{PlainArea}
 use Rattle.delay_agenda.specs.Waiting.{IsAgenda, turn_count}
 use Rattle.delay_agenda.specs.declared.entry.Entry.{Entry}
 use Rattle.delay_agenda.specs.declared.entry.Kind.{Kind}

@@ -4,9 +4,9 @@ use Rattle.std.specs.Prelude.{ℕ, ℤ, pos, negsuc, zero, suc, ◌%◌, ◌+◌
 use Rattle.std.specs.List.{list_any}
 use Rattle.action_queue.specs.declared.queue.Item.{Item}
 use Rattle.action_queue.specs.declared.queue.Item.TheVariants.{Do, Wait, Speak}
-use Rattle.area_tree.specs.Area.{by_tag, object, script_named}
-use Rattle.area_tree.specs.Objects.{Script}
-use Rattle.area_tree.specs.Variables.{Variable, IntVar, TextVar, int_named, text_named, is_int, is_text, put}
+use Rattle.area_objects.specs.Area.{by_tag, object, script_named}
+use Rattle.area_objects.specs.Objects.{Script}
+use Rattle.local_variables.specs.Variables.{Variable, IntVar, TextVar, int_named, text_named, is_int, is_text, put}
 use Rattle.delay_agenda.specs.declared.entry.Kind.TheVariants.{Event, Stored, Turn, Unapply}
 use Rattle.nwq_value.specs.declared.value.Effect.{Effect}
 use Rattle.nwq_value.specs.declared.value.Value.{Value}

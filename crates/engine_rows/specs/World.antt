@@ -1,7 +1,7 @@
 -- The world in which scripts run.
 use Rattle.std.specs.Prelude.{ℕ, ℤ, zero, suc, Bool, false, ◌&&◌, nat_lt, nat_le, List, [], ◌∷◌, length, Option, None, Some, slice_get}
 use Rattle.action_queue.specs.Queued.{Queued}
-use Rattle.area_tree.specs.Area.{PlainArea}
+use Rattle.area_objects.specs.Area.{PlainArea}
 use Rattle.delay_agenda.specs.Waiting.{Waiting}
 use Rattle.engine_rows.specs.declared.data.Stood.{Stood}
 use Rattle.engine_rows.specs.declared.data.Things.{Things}

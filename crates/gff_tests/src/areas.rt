@@ -3,10 +3,13 @@
 ghost use Rattle.std.specs.Prelude.{◌≤◌, IsTrue, length};
 
 use crate::files::{BASE, changed_file};
-use area_tree::{Area, AreaFault, Var, Vars};
+use area_back::into_tree;
+use area_objects::AreaFault;
+use area_tree::Area;
 use gff_bytes::{FILE_BYTES, View};
 use gff_read::read;
 use gff_write::write;
+use local_variables::{Var, Vars};
 use std::alloc::Global;
 
 /// An area of six objects with all five lists, the waypoints' before the doors'.
@@ -126,7 +129,7 @@ fn area_of(alloc: Global, bytes: &[u8]) -> Result<Area, (u8, u32, u32)> {
 
 /// The file of an area.
 fn file_of(alloc: Global, area: Area) -> Option<Vec<u8>> {
-    match area.into_tree(alloc) {
+    match into_tree(alloc, area) {
         Err(_) => None,
         Ok(tree) => write(alloc, &tree).ok(),
     }

@@ -5,8 +5,8 @@ use Rattle.std.specs.List.{AllByRecursion, find, list_any}
 use Rattle.action_queue.specs.Queued.{Queued}
 use Rattle.action_queue.specs.declared.queue.Item.{Item}
 use Rattle.action_queue.specs.declared.queue.Item.TheVariants.{Do, Wait, Speak}
-use Rattle.area_tree.specs.Area.{object}
-use Rattle.area_tree.specs.Variables.{Variable}
+use Rattle.area_objects.specs.Area.{object}
+use Rattle.local_variables.specs.Variables.{Variable}
 use Rattle.delay_agenda.specs.Order.{is_before, put_entry}
 use Rattle.delay_agenda.specs.Waiting.{is_turn_of, without_turns}
 use Rattle.delay_agenda.specs.declared.entry.Entry.{Entry}

@@ -3,10 +3,10 @@ use Rattle.std.proofs.Common.{◌≡◌, ℕ, inl, List, [], ◌∷◌, Some, No
 use Rattle.nwq_outside.specs.Outside.{Contents}
 use Rattle.gff_tree.specs.declared.tree.Gff.{Gff}
 use Rattle.gff_tree.specs.Whole.{PlainGff, plain_gff}
-use Rattle.area_tree.specs.declared.fault.AreaFault.{AreaFault}
-use Rattle.area_tree.specs.declared.fault.AreaFault.TheVariants as fault
-use Rattle.area_tree.specs.Broken.{Place, broken_places, IsFirst}
-use Rattle.area_tree.specs.Area.{PlainArea, area_of}
+use Rattle.area_objects.specs.declared.fault.AreaFault.{AreaFault}
+use Rattle.area_objects.specs.declared.fault.AreaFault.TheVariants as fault
+use Rattle.area_objects.specs.Broken.{Place, broken_places, IsFirst}
+use Rattle.area_objects.specs.Area.{PlainArea, area_of}
 use Rattle.nwq_work.specs.declared.flaw.AreaFlaw.{AreaFlaw}
 use Rattle.nwq_work.specs.declared.status.Status.{Status}
 use Rattle.nwq_work.specs.declared.status.Status.TheVariants.{Memory}

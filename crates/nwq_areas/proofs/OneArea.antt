@@ -5,7 +5,7 @@ use Rattle.gff_tree.specs.Whole.{PlainGff}
 use Rattle.gff_write.specs.declared.fault.WriteFault.{WriteFault}
 use Rattle.gff_write.specs.declared.fault.WriteFault.TheVariants as fault
 use Rattle.gff_write.specs.File.{written, outcome_of}
-use Rattle.area_tree.specs.Broken.{Place, broken_places}
+use Rattle.area_objects.specs.Broken.{Place, broken_places}
 use Rattle.nwq_work.specs.Outcomes.{IsSure, sure_then, sure_writes}
 use Rattle.nwq_files.specs.Trees.{tree_named}
 use Rattle.nwq_files.specs.Laws.{SureTrees}

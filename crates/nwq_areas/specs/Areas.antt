@@ -3,10 +3,10 @@ use Rattle.std.specs.Prelude.{◌≡◌, ℕ, List, [], ◌∷◌, Option, Some,
 use Rattle.nwq_outside.specs.Outside.{Contents}
 use Rattle.gff_tree.specs.Tree.{PlainNode}
 use Rattle.gff_tree.specs.Whole.{PlainGff}
-use Rattle.area_tree.specs.declared.fault.AreaFault.{AreaFault}
-use Rattle.area_tree.specs.declared.fault.AreaFault.TheVariants as fault
-use Rattle.area_tree.specs.Broken.{Place, broken_places}
-use Rattle.area_tree.specs.Area.{PlainArea, area_of}
+use Rattle.area_objects.specs.declared.fault.AreaFault.{AreaFault}
+use Rattle.area_objects.specs.declared.fault.AreaFault.TheVariants as fault
+use Rattle.area_objects.specs.Broken.{Place, broken_places}
+use Rattle.area_objects.specs.Area.{PlainArea, area_of}
 use Rattle.nwq_work.specs.declared.flaw.AreaFlaw.{AreaFlaw}
 use Rattle.nwq_work.specs.declared.flaw.AreaFlaw.TheVariants as flaw
 use Rattle.nwq_work.specs.Refusal.{BadArea}

@@ -6,7 +6,8 @@ ghost use Rattle.nwq_work.specs.Work.{Does};
 ghost use Rattle.nwq_work.specs.Counts.{Counted, Tallies, Refusing, StopsArea};
 ghost use Rattle.nwq_areas.specs.Areas.{area_flaw, area_in, area_named};
 
-use area_tree::{Area, AreaFault};
+use area_objects::AreaFault;
+use area_tree::Area;
 use gff_tree::Gff;
 use nwq_files::read_tree;
 use nwq_outside::{Files, Sink};

@@ -1,10 +1,11 @@
 ghost use Rattle.std.specs.Prelude.{◌≡◌, ℕ, IsTrue, IfErr};
 ghost use Rattle.gff_tree.specs.Whole.{plain_gff};
-ghost use Rattle.area_tree.specs.Area.{tree_back};
+ghost use Rattle.area_back.specs.Back.{tree_back};
 ghost use Rattle.nwq_work.specs.Work.{Does};
 ghost use Rattle.nwq_work.specs.Counts.{Counted, Tallies, KeepsBut, Refusing};
 ghost use Rattle.nwq_areas.specs.Finals.{final_written};
 
+use area_back::into_tree;
 use area_tree::Area;
 use gff_tree::Gff;
 use gff_write::{WriteFault, write};
@@ -62,7 +63,7 @@ pub fn write_area<F: Files, S: Sink>(
         (F.contents files.old) (F.contents files.new) }
     ensures only { IfErr result (Refusing Status.Area) }
 {
-    match area.into_tree(alloc) {
+    match into_tree(alloc, area) {
         Err(NoMemory) => Err(Status::Memory),
         Ok(tree) => write_tree(alloc, name, &tree, files, out),
     }

@@ -3,8 +3,8 @@ use Rattle.std.proofs.Common.{◌≤◌, ◌<◌, ◌+◌, ℕ, zero, suc, Bool,
 use Rattle.std.specs.Prelude.{slice_index, map}
 use Rattle.std.specs.List.{AllByRecursion}
 use Rattle.std.specs.Str.{bytes_eq}
-use Rattle.area_tree.specs.Area.{PlainArea, tagged}
-use Rattle.area_tree.specs.Objects.{AreaObject}
+use Rattle.area_objects.specs.Area.{PlainArea, tagged}
+use Rattle.area_objects.specs.Objects.{AreaObject}
 use Rattle.plan_text.specs.declared.plan.Line.{Line}
 use Rattle.plan_text.specs.declared.plan.Line.TheVariants.{Event, Start, Free}
 use Rattle.nwq_games.specs.Worlds.{object_named, begun_by}

@@ -1,7 +1,8 @@
 -- One thing comes of the play of a plan.
 use Rattle.std.proofs.Common.{ℕ, List}
 use Rattle.nwq_value.specs.Engine.{EngineTable}
-use Rattle.area_tree.specs.Area.{PlainArea, tree_back}
+use Rattle.area_objects.specs.Area.{PlainArea}
+use Rattle.area_back.specs.Back.{tree_back}
 use Rattle.plan_text.specs.declared.plan.Plan.{Plan}
 use Rattle.saved_state.specs.declared.saved.Saved.{Saved}
 use Rattle.engine_rows.specs.Pure.{CellLookup}

@@ -2,7 +2,8 @@
 use Rattle.std.proofs.Common.{◌≡◌, ℕ, inl, inr, List, ◌++◌, Result, Ok, Err, refl, subst, sym, ap, ◌∙◌}
 use Rattle.nwq_outside.specs.Outside.{Contents, TookPrefix}
 use Rattle.gff_tree.specs.Whole.{PlainGff}
-use Rattle.area_tree.specs.Area.{PlainArea, tree_back}
+use Rattle.area_objects.specs.Area.{PlainArea}
+use Rattle.area_back.specs.Back.{tree_back}
 use Rattle.saved_state.specs.declared.saved.Saved.{Saved}
 use Rattle.engine_rows.specs.World.{World}
 use Rattle.machine_step.specs.Machine.{Script}

@@ -3,8 +3,9 @@ use Rattle.std.proofs.Common.{◌≡◌, ℕ, List, [], ◌∷◌, refl}
 use Rattle.std.specs.Prelude.{codes}
 use Rattle.std.specs.Fmt.{digits}
 use Rattle.nwq_value.specs.Engine.{EngineTable}
-use Rattle.area_tree.specs.Area.{PlainArea, empty_tree, empty_area, tree_back}
-use Rattle.area_tree.specs.Objects.{AreaObject}
+use Rattle.area_objects.specs.Area.{PlainArea, empty_tree, empty_area}
+use Rattle.area_back.specs.Back.{tree_back}
+use Rattle.area_objects.specs.Objects.{AreaObject}
 use Rattle.plan_text.specs.declared.plan.Line.{Line}
 use Rattle.plan_text.specs.declared.plan.Line.TheVariants as line
 use Rattle.plan_text.specs.declared.plan.Plan.{Plan}

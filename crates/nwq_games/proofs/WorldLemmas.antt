@@ -2,7 +2,7 @@
 use Rattle.std.proofs.Common.{◌≡◌, ◌≤◌, ◌<◌, ◌+◌, ◌^◌, ℕ, zero, suc, pos, Bool, true, false, List, [], ◌∷◌, length, map, if◌then◌else◌, refl, sym, ap, ◌∙◌, subst, arith}
 use Rattle.std.specs.Prelude.{replicate}
 use Rattle.std.specs.List.{AllByRecursion, fold}
-use Rattle.area_tree.specs.Area.{PlainArea}
+use Rattle.area_objects.specs.Area.{PlainArea}
 use Rattle.delay_agenda.specs.declared.entry.Entry.{Entry}
 use Rattle.delay_agenda.specs.declared.entry.Kind.TheVariants.{Event}
 use Rattle.delay_agenda.specs.Order.{put_entry, is_before}

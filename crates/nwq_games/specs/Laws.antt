@@ -1,7 +1,7 @@
 -- Statements about plays of plans. Each stands on the contract of a function of `laws`.
 use Rattle.std.specs.Prelude.{ℕ, List}
 use Rattle.nwq_value.specs.Engine.{EngineTable}
-use Rattle.area_tree.specs.Area.{PlainArea}
+use Rattle.area_objects.specs.Area.{PlainArea}
 use Rattle.plan_text.specs.declared.plan.Plan.{Plan}
 use Rattle.engine_rows.specs.Pure.{CellLookup}
 use Rattle.machine_step.specs.Machine.{Script}

@@ -1,6 +1,6 @@
 -- The world in which a plan is played: an area with the plan's events and starts.
 use Rattle.std.specs.Prelude.{ℕ, zero, suc, pos, List, [], map}
-use Rattle.area_tree.specs.Area.{PlainArea, object, by_tag, script_named}
+use Rattle.area_objects.specs.Area.{PlainArea, object, by_tag, script_named}
 use Rattle.plan_text.specs.declared.plan.Line.{Line}
 use Rattle.plan_text.specs.declared.plan.Line.TheVariants.{Event, Start, Free}
 use Rattle.plan_text.specs.declared.plan.Plan.{Plan}

@@ -1,7 +1,7 @@
 //! What a play leaves: its area in a file, and the text of its end.
 ghost use Rattle.std.specs.Prelude.{◌≡◌, ℕ, List, IsTrue, IfErr};
 ghost use Rattle.nwq_outside.specs.Outside.{Contents};
-ghost use Rattle.area_tree.specs.Area.{tree_back};
+ghost use Rattle.area_back.specs.Back.{tree_back};
 ghost use Rattle.saved_state.specs.declared.saved.Saved.{Saved as SavedView};
 ghost use Rattle.play_steps.specs.Plays.{PlayEnd, Played as PlayedView};
 ghost use Rattle.ncs_machine.specs.Host.{scripts_of};

@@ -4,8 +4,8 @@ use Rattle.std.proofs.lemmas.List.FromFn.{length-range_with_len}
 use Rattle.gff_tree.specs.Tree.{nodes_in, nodes_from}
 use Rattle.gff_tree.specs.Whole.{PlainGff}
 use Rattle.gff_tree.specs.Count.{node_count, nodes_count}
-use Rattle.area_tree.specs.Area.{PlainArea, area_of}
-use Rattle.area_tree.specs.Broken.{Place, broken_places, members_places}
+use Rattle.area_objects.specs.Area.{PlainArea, area_of}
+use Rattle.area_objects.specs.Broken.{Place, broken_places, members_places}
 use Rattle.play_generator.specs.Made.{below, creature_node, area_tree}
 
 -- ---- the rules

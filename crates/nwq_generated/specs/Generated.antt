@@ -4,7 +4,7 @@ use Rattle.std.specs.FinMap as map
 use Rattle.std.specs.Fmt.{decimal}
 use Rattle.nwq_value.specs.HeaderTable.{header_table}
 use Rattle.nwq_outside.specs.Outside.{Contents}
-use Rattle.area_tree.specs.Area.{PlainArea, area_of}
+use Rattle.area_objects.specs.Area.{PlainArea, area_of}
 use Rattle.ncs_code.specs.Plain.{PlainOp}
 use Rattle.saved_state.specs.declared.saved.Saved.{Saved}
 use Rattle.engine_rows.specs.Pure.{CellLookup}

@@ -1,7 +1,7 @@
 -- Statements about plays made from numbers. Each stands on the contract of a function of `laws`.
 use Rattle.std.specs.Prelude.{◌≡◌, ℕ, []}
 use Rattle.engine_rows.specs.Pure.{CellLookup}
-use Rattle.area_tree.specs.Broken.{broken_places}
+use Rattle.area_objects.specs.Broken.{broken_places}
 use Rattle.play_generator.specs.Made.{area_tree}
 use Rattle.nwq_work.specs.Outcomes.{IsSure}
 use Rattle.nwq_generated.specs.Generated.{generates}

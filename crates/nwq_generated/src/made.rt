@@ -1,11 +1,12 @@
 //! The area and the plan of a made play, as plays take them.
 ghost use Rattle.std.specs.Prelude.{◌≡◌, ◌≤◌, IfOk};
-ghost use Rattle.area_tree.specs.Area.{area_of};
+ghost use Rattle.area_objects.specs.Area.{area_of};
 ghost use Rattle.play_generator.specs.Made.{area_tree, number_limit, play_of};
 ghost use Rattle.plan_text.specs.Plans.{IsPlan};
 ghost use Rattle.nwq_generated.specs.Generated.{plan_of};
 
-use area_tree::{Area, AreaFault};
+use area_objects::AreaFault;
+use area_tree::Area;
 use nwq_value::NoMemory;
 use plan_text::laws::{one_plan, plans_keep};
 use plan_text::{Plan, PlanFault, read_plan};

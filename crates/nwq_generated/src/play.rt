@@ -2,7 +2,7 @@
 ghost use Rattle.std.specs.Prelude.{◌≡◌, ◌≤◌, ◌<◌, ◌^◌, ℕ, List, codes, length, map, IsTrue, IfErr};
 ghost use Rattle.nwq_value.specs.HeaderTable.{header_table};
 ghost use Rattle.nwq_outside.specs.Outside.{Contents};
-ghost use Rattle.area_tree.specs.Area.{PlainArea};
+ghost use Rattle.area_objects.specs.Area.{PlainArea};
 ghost use Rattle.ncs_code.specs.Plain.{PlainOp};
 ghost use Rattle.shape_tables.specs.Laws.{AllMeet};
 ghost use Rattle.shape_tables.specs.Rules.{MeetsRules};

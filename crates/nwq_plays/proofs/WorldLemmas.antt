@@ -3,7 +3,7 @@ use Rattle.std.proofs.Common.{◌≡◌, ℕ, zero, suc, List, [], ◌∷◌, le
 use Rattle.std.specs.Prelude.{take}
 use Rattle.nwq_value.specs.Engine.{EngineTable}
 use Rattle.nwq_value.specs.Limits.{text_limit}
-use Rattle.area_tree.specs.Area.{PlainArea, empty_area}
+use Rattle.area_objects.specs.Area.{PlainArea, empty_area}
 use Rattle.saved_state.specs.declared.saved.Saved.{Saved}
 use Rattle.shape_tables.specs.Rules.{MeetsRules}
 use Rattle.shape_tables.specs.Laws.{AllMeet}

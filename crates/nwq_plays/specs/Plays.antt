@@ -2,7 +2,7 @@
 use Rattle.std.specs.Prelude.{ℕ, List, [], ◌∷◌, take}
 use Rattle.nwq_value.specs.Engine.{EngineTable}
 use Rattle.nwq_value.specs.Limits.{text_limit, default_instruction_limit, default_entry_limit, default_until}
-use Rattle.area_tree.specs.Area.{empty_area}
+use Rattle.area_objects.specs.Area.{empty_area}
 use Rattle.ncs_code.specs.Plain.{PlainOp}
 use Rattle.saved_state.specs.declared.saved.Saved.{Saved}
 use Rattle.engine_rows.specs.Pure.{CellLookup}

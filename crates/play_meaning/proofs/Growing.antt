@@ -5,7 +5,7 @@ use Rattle.std.specs.Option.{option_map, option_and_then}
 use Rattle.std.specs.List.{AllByRecursion, list_any}
 use Rattle.action_queue.specs.declared.queue.Item.{Item}
 use Rattle.action_queue.specs.declared.queue.Item.TheVariants.{Do, Wait, Speak}
-use Rattle.area_tree.specs.Variables.{Variable}
+use Rattle.local_variables.specs.Variables.{Variable}
 use Rattle.nwq_value.specs.Engine.{EngineTable}
 use Rattle.nwq_value.specs.declared.engine.Role.{Role}
 use Rattle.nwq_value.specs.declared.engine.Role.TheVariants as role

@@ -4,7 +4,7 @@ use Rattle.std.specs.Prelude.{codes, ◌==◌, if◌then◌else◌}
 use Rattle.std.specs.Fmt.{digits}
 use Rattle.std.specs.Str.{bytes_eq}
 use Rattle.action_queue.specs.declared.queue.Item.TheVariants.{Do, Speak}
-use Rattle.area_tree.specs.Area.{PlainArea}
+use Rattle.area_objects.specs.Area.{PlainArea}
 use Rattle.delay_agenda.specs.declared.entry.Kind.TheVariants.{Stored}
 use Rattle.nwq_value.specs.declared.value.Value.TheVariants.{Int}
 use Rattle.nwq_text.specs.Escape.{escaped, spelling}

@@ -7,7 +7,7 @@ use Rattle.nss_tree.specs.declared.operators.BinaryOperator.TheVariants as bin
 use Rattle.nss_tree.specs.declared.operators.AssignOperator.TheVariants as asg
 use Rattle.nss_tree.specs.Statements as s
 use Rattle.nss_tree.specs.Units as unit
-use Rattle.area_tree.specs.Area.{PlainArea}
+use Rattle.area_objects.specs.Area.{PlainArea}
 use Rattle.nwq_text.specs.Escape.{escaped, spelling}
 use Rattle.nwq_text.specs.Values.{value_text}
 use Rattle.nwq_value.specs.Header.{header_routines}

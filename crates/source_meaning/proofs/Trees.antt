@@ -8,8 +8,8 @@ use Rattle.nss_tree.specs.declared.operators.AssignOperator.TheVariants as asg
 use Rattle.nss_tree.specs.Statements as s
 use Rattle.nss_tree.specs.Statements.{no_stmt, more_stmts}
 use Rattle.nss_tree.specs.Units as unit
-use Rattle.area_tree.specs.Area.{PlainArea}
-use Rattle.area_tree.specs.Objects.{AreaObject}
+use Rattle.area_objects.specs.Area.{PlainArea}
+use Rattle.area_objects.specs.Objects.{AreaObject}
 use Rattle.nwq_value.specs.HeaderTable.{header_table}
 use Rattle.nwq_value.specs.declared.value.Ty.{Ty}
 use Rattle.nwq_value.specs.declared.value.Ty.TheVariants as t

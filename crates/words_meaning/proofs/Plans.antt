@@ -3,7 +3,7 @@ use Rattle.std.proofs.Common.{inl, inr, ℕ, List, ◌++◌, Result, Ok, Err, sy
 use Rattle.nwq_outside.specs.Outside.{Contents}
 use Rattle.gff_tree.specs.Whole.{PlainGff}
 use Rattle.gff_read.specs.Stands.{Stands}
-use Rattle.area_tree.specs.Area.{PlainArea, area_of}
+use Rattle.area_objects.specs.Area.{PlainArea, area_of}
 use Rattle.plan_text.specs.declared.plan.Plan.{Plan}
 use Rattle.nwq_work.specs.declared.flaw.AreaFlaw.{AreaFlaw}
 use Rattle.nwq_work.specs.declared.flaw.AreaFlaw.TheVariants as flaw

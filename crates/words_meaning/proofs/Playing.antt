@@ -5,7 +5,8 @@ use Rattle.nwq_value.specs.Engine.{EngineTable, IsTable}
 use Rattle.nwq_outside.specs.Outside.{Contents}
 use Rattle.gff_write.specs.declared.fault.WriteFault.{WriteFault}
 use Rattle.gff_write.specs.File.{written, outcome_of}
-use Rattle.area_tree.specs.Area.{PlainArea, tree_back}
+use Rattle.area_objects.specs.Area.{PlainArea}
+use Rattle.area_back.specs.Back.{tree_back}
 use Rattle.engine_rows.specs.Trace.{trace_text}
 use Rattle.play_steps.specs.Plays.{PlayEnd, Done, OutOfEntries, StoppedInside, Paused, Played}
 use Rattle.play_meaning.specs.EndTexts.{source_end_text}

@@ -13,8 +13,8 @@ use Rattle.ncs_code.specs.File.{IsCode, file_bytes}
 use Rattle.shape_tables.specs.Rules.{WellStacked}
 use Rattle.gff_tree.specs.Whole.{PlainGff}
 use Rattle.gff_read.specs.Stands.{Stands}
-use Rattle.area_tree.specs.Broken.{broken_places}
-use Rattle.area_tree.specs.Area.{PlainArea, area_of}
+use Rattle.area_objects.specs.Broken.{broken_places}
+use Rattle.area_objects.specs.Area.{PlainArea, area_of}
 use Rattle.plan_text.specs.declared.plan.Plan.{Plan}
 use Rattle.plan_text.specs.declared.plan.Script.{Script as ScriptLine}
 use Rattle.plan_text.specs.Plans.{HasPlan}

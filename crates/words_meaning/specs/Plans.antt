@@ -4,7 +4,8 @@ use Rattle.std.specs.FinMap as fin_map
 use Rattle.nwq_value.specs.Engine.{EngineTable}
 use Rattle.nwq_outside.specs.Outside.{Contents}
 use Rattle.gff_write.specs.File.{written, outcome_of}
-use Rattle.area_tree.specs.Area.{PlainArea, tree_back}
+use Rattle.area_objects.specs.Area.{PlainArea}
+use Rattle.area_back.specs.Back.{tree_back}
 use Rattle.plan_text.specs.declared.plan.Plan.{Plan}
 use Rattle.machine_step.specs.Machine.{Script}
 use Rattle.engine_rows.specs.Pure.{CellLookup}

@@ -17,7 +17,7 @@ use Rattle.ncs_code.specs.File.{IsCode, file_bytes}
 use Rattle.shape_tables.specs.Rules.{WellStacked}
 use Rattle.gff_tree.specs.Whole.{PlainGff}
 use Rattle.gff_read.specs.Stands.{Stands}
-use Rattle.area_tree.specs.Broken.{Place, broken_places}
+use Rattle.area_objects.specs.Broken.{Place, broken_places}
 use Rattle.plan_text.specs.declared.plan.Script.{Script as ScriptLine}
 use Rattle.plan_text.specs.declared.fault.PlanFault.TheVariants as plan
 use Rattle.plan_text.specs.Plans.{IsFaulty}

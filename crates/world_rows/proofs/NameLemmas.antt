@@ -9,8 +9,8 @@ use Rattle.std.proofs.lemmas.Bool.Decides.{nat_tests}
 use Rattle.nwq_value.specs.Limits.{text_limit}
 use Rattle.gff_tree.specs.Tree.{PlainNode, PlainFields, PlainLeaf, PlainNodes, Scalar, Struct, NoField, MoreFields, Holds, Child, Children, NoNode, MoreNodes, Byte, Char, Word, Short, Dword, Int, Dword64, Int64, Float, Double, Str, Res, Localized, Void, fields_in, nodes_in, labels_of, are_distinct, resource_limit, depth_limit, is_sound, is_sound_node, are_sound_fields, is_sound_leaf, are_sound_nodes}
 use Rattle.gff_tree.specs.Fields.{found}
-use Rattle.area_tree.specs.Objects.{Script, AreaObject, structs_in, scripts_in, with_script, object_of, objects_of, objects_under, list_labels}
-use Rattle.area_tree.specs.Area.{PlainArea, IsArea, bare, object, object_at, script_named, top_of}
+use Rattle.area_objects.specs.Objects.{Script, AreaObject, structs_in, scripts_in, with_script, object_of, objects_of, objects_under, list_labels}
+use Rattle.area_objects.specs.Area.{PlainArea, IsArea, bare, object, object_at, script_named, top_of}
 use Rattle.engine_rows.specs.Rows.{event_script, name_or}
 
 abbrev IsShort : Script → Type 0

@@ -1,6 +1,6 @@
 -- A world put together of what is saved of it.
 use Rattle.std.specs.Prelude.{[], pos}
-use Rattle.area_tree.specs.Area.{PlainArea}
+use Rattle.area_objects.specs.Area.{PlainArea}
 use Rattle.engine_rows.specs.World.{World}
 use Rattle.world_rows.specs.declared.saved.WorldParts.{WorldParts}
 

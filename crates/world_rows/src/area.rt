@@ -1,9 +1,9 @@
 //! What routines read and change of the area's objects. A number without an object has nothing, and
 //! a change of it changes nothing.
 ghost use Rattle.std.specs.Prelude.{◌≡◌, [], filter, not, OnOk, OnErr, pos};
-ghost use Rattle.area_tree.specs.Area.{object};
-ghost use Rattle.area_tree.specs.Variables.{IntVar, TextVar, int_named, is_int, is_text, put};
-ghost use Rattle.area_tree.specs.Variables.{text_named};
+ghost use Rattle.area_objects.specs.Area.{object};
+ghost use Rattle.local_variables.specs.Variables.{IntVar, TextVar, int_named, is_int, is_text, put};
+ghost use Rattle.local_variables.specs.Variables.{text_named};
 ghost use Rattle.engine_rows.specs.Arguments.{int_at, object_at, text_at};
 ghost use Rattle.engine_rows.specs.Rows.{changed_variables, read};
 

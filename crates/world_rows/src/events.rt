@@ -1,6 +1,6 @@
 //! Events that scripts signal.
 ghost use Rattle.std.specs.Prelude.{◌≡◌, ◌<◌, ◌≤◌, ◌+◌, ◌^◌, IfOk, OnOk, OnErr};
-ghost use Rattle.area_tree.specs.Area.{object};
+ghost use Rattle.area_objects.specs.Area.{object};
 ghost use Rattle.engine_rows.specs.Rows.{event_script, name_or, signalled};
 ghost use Rattle.engine_rows.specs.World.{count};
 

@@ -3,7 +3,7 @@ ghost use Rattle.std.specs.Prelude.{◌≡◌, ◌<◌, ◌≤◌, ◌+◌, ◌-
 ghost use Rattle.std.specs.Prelude.{length};
 ghost use Rattle.std.specs.Prelude.{not, pos, slice_get, Some, IfOk, OnOk, OnErr, IsTrue};
 ghost use Rattle.std.specs.List.{remove};
-ghost use Rattle.area_tree.specs.Variables.{IntVar, TextVar, is_int, is_text, put};
+ghost use Rattle.local_variables.specs.Variables.{IntVar, TextVar, is_int, is_text, put};
 ghost use Rattle.delay_agenda.specs.Order.{first_due};
 ghost use Rattle.delay_agenda.specs.Waiting.{turn_count};
 ghost use Rattle.engine_rows.specs.Changes.{told, post, with_busy, with_actions, with_action};

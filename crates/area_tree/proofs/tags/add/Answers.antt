@@ -1,10 +1,10 @@
-use Rattle.area_tree.proofs.TagLemmas.{adds_ok, adds_new}
+use Rattle.area_tree.proofs.TagLemmas.{adds_at, adds_new}
 use Rattle.area_tree.proofs.tags.add.Goals as goal
 
 pub returns-in-Some : goal.returns-in-Some
 returns-in-Some c =
-    adds_ok c.args.tag.now c.args.number c.in-Some.i c.pair_mut-numbers.result.0.now c.pair_mut-numbers.result.1.now c.push.new.self c.args.tags.now.entries c.push.result
-    c.in-Some.ensures.index c.in-Some.ensures.value c.pair_mut-numbers.ensures.value c.push.ensures.ok
+    adds_at c.args.tag.now c.args.number c.in-Some.i c.pair_mut-numbers.result.0.now c.pair_mut-numbers.result.1.now c.push.new.self c.args.tags.now.entries c.push.result
+    c.in-Some.ensures.index c.pair_mut-numbers.ensures.value c.push.ensures.ok
 
 pub returns-in_ok-insert-in-None : goal.returns-in_ok-insert-in-None
 returns-in_ok-insert-in-None c =

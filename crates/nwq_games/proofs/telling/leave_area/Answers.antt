@@ -1,5 +1,5 @@
 use Rattle.std.proofs.Common.{refl}
-use Rattle.area_tree.specs.Area.{tree_back}
+use Rattle.area_back.specs.Back.{tree_back}
 use Rattle.nwq_work.specs.Counts.{Counted}
 use Rattle.nwq_games.proofs.TellLemmas.{left_told, not_left, counted_on}
 use Rattle.nwq_games.proofs.telling.leave_area.Goals as goal

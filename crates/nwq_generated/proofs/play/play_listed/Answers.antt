@@ -1,5 +1,5 @@
 use Rattle.std.proofs.Common.{map, ap, ◌∙◌}
-use Rattle.area_tree.specs.Area.{area_of}
+use Rattle.area_objects.specs.Area.{area_of}
 use Rattle.play_generator.specs.Made.{Play, area_tree}
 use Rattle.world_core.specs.Calls.{cells_of}
 use Rattle.ncs_machine.specs.Host.{scripts_of}

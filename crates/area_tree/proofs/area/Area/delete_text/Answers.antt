@@ -1,13 +1,12 @@
 use Rattle.std.proofs.Common.{◌-◌, ap, filter, not}
 use Rattle.gff_tree.specs.Whole.{plain_gff}
-use Rattle.area_tree.specs.Variables.{is_text}
-use Rattle.area_tree.proofs.VariableLaws.{filter_distinct}
+use Rattle.local_variables.specs.Variables.{is_text}
 use Rattle.area_tree.proofs.AreaLemmas.{place_of, index_left, object_left, made_view}
 use Rattle.area_tree.proofs.area.Area.delete_text.Goals as goal
 
 pub invariant_of-self : goal.invariant_of-self
 invariant_of-self c =
-    let l = object_left (plain_gff c.self.inside.tree) c.self.inside.objects.items (c.args.o - 1) c.index_mut-object.result.now c.delete_text.new.self (filter (λ v. not (is_text c.args.name.now v))) (filter_distinct (λ v. not (is_text c.args.name.now v))) c.self.invariant.0
+    let l = object_left (plain_gff c.self.inside.tree) c.self.inside.objects.items (c.args.o - 1) c.index_mut-object.result.now c.delete_text.new.self (filter (λ v. not (is_text c.args.name.now v))) (c.variables_tell.ensures.filter (λ v. not (is_text c.args.name.now v))) c.self.invariant.0
     (place_of c.args.o c.self.inside.objects.items c.args.self.now.objects (ap (λ a. a.objects) c.self.view_is) c.requires.first c.requires.within) c.index_mut-object.ensures.value c.delete_text.ensures.gone in
     (l.0, index_left c.self.inside.tags.entries c.self.inside.objects.items _ c.self.invariant.1 l.1)
 

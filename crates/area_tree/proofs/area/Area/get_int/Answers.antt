@@ -2,7 +2,7 @@ use Rattle.std.proofs.Common.{◌∙◌, ap}
 use Rattle.std.specs.Int.{w32}
 use Rattle.std.proofs.lemmas.Int.{to_z-of_z}
 use Rattle.gff_tree.specs.Whole.{plain_gff}
-use Rattle.area_tree.specs.Variables.{int_named}
+use Rattle.local_variables.specs.Variables.{int_named}
 use Rattle.area_tree.proofs.AreaLemmas.{place_of, object_seen}
 use Rattle.area_tree.proofs.area.Area.get_int.Goals as goal
 

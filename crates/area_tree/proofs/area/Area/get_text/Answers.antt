@@ -1,6 +1,6 @@
 use Rattle.std.proofs.Common.{◌∙◌, ap}
 use Rattle.gff_tree.specs.Whole.{plain_gff}
-use Rattle.area_tree.specs.Variables.{text_named}
+use Rattle.local_variables.specs.Variables.{text_named}
 use Rattle.area_tree.proofs.AreaLemmas.{place_of, object_seen}
 use Rattle.area_tree.proofs.area.Area.get_text.Goals as goal
 

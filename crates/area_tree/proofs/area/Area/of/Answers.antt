@@ -1,17 +1,16 @@
 use Rattle.std.proofs.Common.{◌≡◌, length, map, sym, ap, subst, arith}
 use Rattle.gff_tree.specs.Whole.{plain_gff}
-use Rattle.area_tree.specs.Area.{bare}
+use Rattle.area_objects.specs.Area.{bare, HaveDistinct}
 use Rattle.area_tree.specs.Index.{Indexes}
-use Rattle.area_tree.proofs.SoundLemmas.{AreDistinct, objects_distinct}
 use Rattle.area_tree.proofs.area.Area.of.Goals as goal
 
 pub invariant_of-result : goal.invariant_of-result
 invariant_of-result c = (
   record {
     sound = c.args.tree.sound;
-    whole = c.in-Ok.ensures.read.0;
-    same = ap (map bare) c.in-Ok.ensures.read.1;
-    distinct = subst AreDistinct (sym c.in-Ok.ensures.read.1) (objects_distinct (plain_gff c.args.tree).top c.in-Ok.ensures.read.0);
+    whole = c.in-Ok.ensures.whole;
+    same = ap (map bare) c.in-Ok.ensures.objects;
+    distinct = subst HaveDistinct (sym c.in-Ok.ensures.objects) (c.objects_tell.ensures.objects (plain_gff c.args.tree).top c.in-Ok.ensures.whole);
     few = let same : length c.deref.result.now ≡ length c.in-Ok.objects.items = ap length c.deref.ensures.value in omega (arith, same, c.in-Ok-index.ensures.few);
   },
   subst (Indexes c.in-Ok-index.tags.entries) c.deref.ensures.value c.in-Ok-index.ensures.indexes,

@@ -2,14 +2,13 @@ use Rattle.std.specs.Int.{w32}
 use Rattle.std.proofs.lemmas.Int.{to_z-of_z}
 use Rattle.std.proofs.Common.{◌-◌, ap}
 use Rattle.gff_tree.specs.Whole.{plain_gff}
-use Rattle.area_tree.specs.Variables.{IntVar, put}
-use Rattle.area_tree.proofs.VariableLaws.{put_distinct}
+use Rattle.local_variables.specs.Variables.{IntVar, put}
 use Rattle.area_tree.proofs.AreaLemmas.{place_of, index_left, tried_left, tried_ok, tried_err, ok_number}
 use Rattle.area_tree.proofs.area.Area.set_int.Goals as goal
 
 pub invariant_of-self : goal.invariant_of-self
 invariant_of-self c =
-    let l = tried_left (plain_gff c.self.inside.tree) c.self.inside.objects.items (c.args.o - 1) c.index_mut-object.result.now c.set_int.new.self _ c.set_int.result (put_distinct _) c.self.invariant.0
+    let l = tried_left (plain_gff c.self.inside.tree) c.self.inside.objects.items (c.args.o - 1) c.index_mut-object.result.now c.set_int.new.self _ c.set_int.result (c.variables_tell.ensures.put _) c.self.invariant.0
     (place_of c.args.o c.self.inside.objects.items c.args.self.now.objects (ap (λ a. a.objects) c.self.view_is) c.requires.first c.requires.within) c.index_mut-object.ensures.value c.set_int.ensures.ok c.set_int.ensures.err in
     (l.0, index_left c.self.inside.tags.entries c.self.inside.objects.items _ c.self.invariant.1 l.1)
 

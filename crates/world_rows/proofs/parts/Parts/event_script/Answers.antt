@@ -1,6 +1,6 @@
 use Rattle.std.proofs.Common.{◌∙◌, ap, List, ℕ}
 use Rattle.std.specs.Prelude.{codes}
-use Rattle.area_tree.specs.Area.{PlainArea, object, script_named}
+use Rattle.area_objects.specs.Area.{PlainArea, object, script_named}
 use Rattle.engine_rows.specs.Rows.{name_or}
 use Rattle.world_rows.proofs.parts.Parts.event_script.Goals as goal
 

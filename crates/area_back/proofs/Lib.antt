@@ -1,0 +1,5 @@
+mod BackLemmas
+mod SoundLemmas
+mod UnchangedLaws
+mod ReadBackLaws
+mod OneValueLaws

@@ -1,0 +1,4 @@
+pub mod Objects
+pub mod Broken
+pub mod Area
+pub mod Laws

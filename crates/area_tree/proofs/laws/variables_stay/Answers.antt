@@ -1,5 +1,0 @@
-use Rattle.area_tree.proofs.OneValueLaws.{put_is_found, dropped_is_gone}
-use Rattle.area_tree.proofs.laws.variables_stay.Goals as goal
-
-pub returns : goal.returns
-returns c = record { put = put_is_found; dropped = dropped_is_gone }

@@ -1,9 +1,0 @@
-use Rattle.std.proofs.Common.{◌∙◌, Some, None}
-use Rattle.area_tree.proofs.WovenLemmas.{text_read}
-use Rattle.area_tree.proofs.vars.Vars.text.Goals as goal
-
-pub returns-in-Some : goal.returns-in-Some
-returns-in-Some c = record { value = c.as_slice.ensures.items ∙ text_read c.args.name.now (Some c.in-Some.text.now) c.self.inside.order.items c.self.inside.ints.entries c.self.inside.texts.entries c.args.self.now c.self.view_is c.self.invariant c.in-Some.ensures.value }
-
-pub returns-in-None : goal.returns-in-None
-returns-in-None c = record { value = text_read c.args.name.now None c.self.inside.order.items c.self.inside.ints.entries c.self.inside.texts.entries c.args.self.now c.self.view_is c.self.invariant c.in-None.ensures.value }

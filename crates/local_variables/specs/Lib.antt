@@ -1,0 +1,3 @@
+pub mod Variables
+pub mod Woven
+pub mod Laws
