@@ -17,7 +17,7 @@ use Rattle.nwq_work.specs.Work.{Work, Gives, Refused, Ends, Writes, Puts, Finds,
 use Rattle.nwq_sources.specs.Units.{PlainScript, UnitFate, Whole, Lacks, Exceeds, Faulty, IsUnitFate, whole, unit_by, unit_of}
 use Rattle.nwq_scripts.specs.Typings.{TypingFate, Whole as IsTyped, Faulty as Misfits, IsTypingFate, whole as typed, typing_by, typed_in}
 use Rattle.nwq_scripts.specs.Files.{file_by, file_in, compiled_in, compiled_named}
-use Rattle.nwq_plays.specs.Plays.{plays_file}
+use Rattle.plan_plays.specs.Scripts.{plays_file}
 use Rattle.command_meaning.specs.Units.{IsUnitOf}
 use Rattle.command_meaning.specs.Scripts.{HoldBytes, IsScript, ScriptsHaveUnits, EndsCompiling, PlaysScript, ScriptsPlayUnits}
 use Rattle.command_meaning.proofs.Gathered.{unit_known}

@@ -10,13 +10,13 @@ use Rattle.code_emission.specs.Laws.{FileIsCode}
 use Rattle.emitted_shapes.specs.Laws.{UnitsAreWellStacked}
 use Rattle.typed_bounds.specs.Laws.{EachTypedUnitHasCode}
 use Rattle.nwq_files.specs.Codes.{Whole, whole, code_by, code_in}
-use Rattle.nwq_checks.specs.Checks.{CheckFate, Passes as PassesCheck, Unstacked, IsCheckFate, passes, unstacked, check_by, checked_in}
+use Rattle.nwq_checks.specs.Checks.{CheckFate, Passes as PassesCheck, Unstacked, IsCheckFate, passes, unstacked, check_by, checked_in, loaded_in}
 use Rattle.nwq_work.specs.declared.status.Status.{Status}
 use Rattle.nwq_work.specs.Work.{Work, then, Stays, IsCut, Does, Finished}
 use Rattle.nwq_work.specs.Parts.{cut_here}
 use Rattle.nwq_work.specs.Outcomes.{IsSure}
-use Rattle.nwq_plays.specs.Plays.{loaded_in, plays_code, plays_file}
-use Rattle.nwq_plays.specs.Laws.{SurePlays}
+use Rattle.plan_plays.specs.Scripts.{plays_code, plays_file}
+use Rattle.plan_plays.specs.Laws.{SurePlays}
 use Rattle.engine_rows.specs.Pure.{CellLookup}
 use Rattle.command_meaning.specs.Units.{code_of, Passes, UnitsAreWellTyped, UnitsPass}
 use Rattle.command_meaning.specs.Files.{FilesPlayTheirCode}

@@ -6,7 +6,7 @@ use Rattle.engine_rows.specs.World.{World}
 use Rattle.engine_rows.specs.Alike.{Alike}
 use Rattle.module_player.specs.CodePlays.{code_runner, code_play}
 use Rattle.ncs_machine.specs.Host.{host}
-use Rattle.nwq_plays.specs.Plays.{host_of}
+use Rattle.plan_plays.specs.Plays.{host_of}
 use Rattle.source_meaning.specs.Evaluation.{Deferred}
 use Rattle.source_meaning.specs.Scripts.{Listed, Setting}
 use Rattle.source_meaning.specs.Plays.{source_play}

@@ -23,7 +23,9 @@ use Rattle.play_meaning.specs.PlaysRun.{SourcePlaysEnd, CodePlaysEnd}
 use Rattle.play_meaning.specs.TypedScripts.{TypedScriptsAreReady}
 use Rattle.nwq_work.specs.declared.status.Status.{Status}
 use Rattle.nwq_work.specs.Work.{IsCut, Does, Finished}
-use Rattle.nwq_plays.specs.Plays.{start_of, first_world, listed, host_of, tells, plays_code}
+use Rattle.plan_worlds.specs.Worlds.{start_of, first_world}
+use Rattle.plan_plays.specs.Plays.{host_of}
+use Rattle.plan_plays.specs.Scripts.{listed, tells, plays_code}
 use Rattle.command_meaning.specs.Units.{code_of, IsUnitOf, TablesAnswerInTypes}
 use Rattle.command_meaning.specs.Files.{FilesPlayTheirCode, FilesAreNotRefused}
 use Rattle.command_meaning.specs.Runs.{setting_of, source_world, source_played, code_played, sure_steps, answer_by, TellsMeaning, FewStepsEndAsMeant, UnstoppedRunsEndAsMeant, StoppedRunsBeginAsMeant}

@@ -9,7 +9,8 @@ use Rattle.module_player.specs.CodePlays.{code_end_text}
 use Rattle.nwq_work.specs.declared.status.Status.{Status}
 use Rattle.nwq_work.specs.declared.status.Status.TheVariants.{Code}
 use Rattle.nwq_work.specs.Work.{IsCut, Does, Finished}
-use Rattle.nwq_plays.specs.Plays.{ends_by, tells}
+use Rattle.plan_plays.specs.Plays.{ends_by}
+use Rattle.plan_plays.specs.Scripts.{tells}
 use Rattle.command_meaning.specs.Runs.{answer_by}
 
 ended : (e : PlayEnd) (c c' : Contents) (t t' : List ℕ) (r : Result Finished Status) → (IsCut r → ⊥) → Does (ends_by e) c t r c' t'

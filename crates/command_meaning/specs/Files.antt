@@ -9,7 +9,7 @@ use Rattle.engine_rows.specs.Pure.{CellLookup}
 use Rattle.nwq_work.specs.declared.status.Status.{Status}
 use Rattle.nwq_work.specs.declared.status.Status.TheVariants.{Code}
 use Rattle.nwq_work.specs.Work.{Does, Finished}
-use Rattle.nwq_plays.specs.Plays.{plays_code, plays_file}
+use Rattle.plan_plays.specs.Scripts.{plays_code, plays_file}
 use Rattle.command_meaning.specs.Units.{code_of, IsUnitOf}
 
 -- A typed unit's file, under the name of its script, was loaded, checked and played, from these contents and taken bytes on.

@@ -21,7 +21,9 @@ use Rattle.play_meaning.specs.EndTexts.{source_end_text}
 use Rattle.nwq_work.specs.declared.status.Status.{Status}
 use Rattle.nwq_work.specs.declared.status.Status.TheVariants.{Limit}
 use Rattle.nwq_work.specs.Work.{IsCut, Finished}
-use Rattle.nwq_plays.specs.Plays.{text_name, start_of, first_world, listed, host_of, played}
+use Rattle.plan_worlds.specs.Worlds.{text_name, start_of, first_world}
+use Rattle.plan_plays.specs.Plays.{host_of}
+use Rattle.plan_plays.specs.Scripts.{listed, played}
 use Rattle.command_meaning.specs.Units.{code_of}
 use Rattle.command_meaning.specs.Files.{PlaysFile}
 

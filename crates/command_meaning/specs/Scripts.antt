@@ -11,7 +11,7 @@ use Rattle.nwq_work.specs.declared.status.Status.{Status}
 use Rattle.nwq_work.specs.Work.{Does, Finished, then}
 use Rattle.nwq_sources.specs.Units.{PlainScript, Whole, IsUnitFate}
 use Rattle.nwq_scripts.specs.Files.{compiled_named}
-use Rattle.nwq_plays.specs.Plays.{plays_file}
+use Rattle.plan_plays.specs.Scripts.{plays_file}
 use Rattle.command_meaning.specs.Units.{IsUnitOf}
 use Rattle.command_meaning.specs.Files.{PlaysFile}
 

@@ -9,7 +9,7 @@ use code_emission::laws::file_is_code;
 use emitted_shapes::{typed_units_fit, units_are_well_stacked};
 use ncs_code::size_laws;
 use nss_lexer::laws::values_are_bytes;
-use nwq_plays::laws::one_code;
+use plan_plays::laws::one_code;
 use play_meaning::{code_plays_end, end_texts_agree, source_plays_end, typed_scripts_are_ready};
 use saved_state::Saved;
 use shape_tables::tables_type_execute_script;

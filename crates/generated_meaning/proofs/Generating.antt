@@ -15,8 +15,8 @@ use Rattle.nwq_work.specs.declared.status.Status.{Status}
 use Rattle.nwq_work.specs.declared.status.Status.TheVariants.{Memory}
 use Rattle.nwq_work.specs.Work.{then, IsCut, Does, Finished}
 use Rattle.nwq_work.specs.Parts.{cut_here}
-use Rattle.nwq_plays.specs.Plays.{loaded_in}
-use Rattle.nwq_plays.specs.Laws.{SureLoaded}
+use Rattle.nwq_checks.specs.Checks.{loaded_in}
+use Rattle.nwq_checks.specs.Laws.{SureLoaded}
 use Rattle.nwq_games.specs.Games.{plays_plan}
 use Rattle.nwq_generated.specs.Generated.{SourceFate, Whole, Faulty, IsSourceFate, whole, faulty, source_by, source_compiled, plan_of, made_area, plays_made, checks_made, generates}
 use Rattle.command_meaning.specs.Units.{code_of, IsUnitOf, UnitsPass}

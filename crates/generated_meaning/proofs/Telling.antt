@@ -14,7 +14,7 @@ use Rattle.play_meaning.specs.Together.{PlaysAlike}
 use Rattle.play_generator.specs.Made.{creatures_of, rounds_of}
 use Rattle.nwq_work.specs.declared.status.Status.{Status}
 use Rattle.nwq_work.specs.Work.{IsCut, Does, Finished}
-use Rattle.nwq_plays.specs.Plays.{ends_by}
+use Rattle.plan_plays.specs.Plays.{ends_by}
 use Rattle.nwq_generated.specs.Generated.{made_line, summary, tells, plays_made}
 use Rattle.command_meaning.specs.Units.{code_of}
 use Rattle.command_meaning.specs.Runs.{answer_by}

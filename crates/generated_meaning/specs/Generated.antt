@@ -20,7 +20,7 @@ use Rattle.nwq_work.specs.declared.status.Status.{Status}
 use Rattle.nwq_work.specs.declared.status.Status.TheVariants.{Script, Limit}
 use Rattle.nwq_work.specs.Refusal.{Refusal, line_of}
 use Rattle.nwq_work.specs.Work.{IsCut, Does, Finished}
-use Rattle.nwq_plays.specs.Plays.{host_of}
+use Rattle.plan_plays.specs.Plays.{host_of}
 use Rattle.nwq_generated.specs.Generated.{files_with, made_line, summary, plan_of, made_area, generates}
 use Rattle.command_meaning.specs.Runs.{answer_by}
 use Rattle.plan_meaning.specs.Plans.{listing_of, source_plan_played, code_plan_played}

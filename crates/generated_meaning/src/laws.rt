@@ -4,7 +4,7 @@ ghost use Rattle.generated_meaning.specs.Generated.{GeneratesMean};
 
 use command_meaning::{scripts_play_units, units_pass};
 use header_tables::headers_have_tables;
-use nwq_plays::laws::one_code;
+use nwq_checks::laws::one_check;
 use parsed_faults::laws::one_least_fault;
 use plan_meaning::plans_play_as_meant;
 
@@ -17,6 +17,6 @@ pub fn generates_mean()
     scripts_play_units();
     one_least_fault();
     headers_have_tables();
-    one_code();
+    one_check();
     plans_play_as_meant();
 }

@@ -5,10 +5,10 @@ use Rattle.ncs_code.specs.Plain.{PlainOp}
 use Rattle.nwq_work.specs.Outcomes.{IsSure, sure_then, sure_puts}
 use Rattle.nwq_sources.specs.Headers.{table_of}
 use Rattle.nwq_sources.specs.Laws.{SureTables}
-use Rattle.nwq_files.specs.Codes.{code_named}
-use Rattle.nwq_files.specs.Laws.{SureCodes}
-use Rattle.nwq_checks.specs.Checks.{CheckFate, Passes, Unstacked, IsCheckFate, passes, unstacked, check_by, checked_in, checked_named, passed_line, puts_passed, checks_under, checks}
-use Rattle.nwq_checks.specs.Laws.{SureOps, SureChecked, SureChecks}
+use Rattle.nwq_files.specs.Codes.{code_in, code_named}
+use Rattle.nwq_files.specs.Laws.{SureBytes, SureCodes}
+use Rattle.nwq_checks.specs.Checks.{CheckFate, Passes, Unstacked, IsCheckFate, passes, unstacked, check_by, checked_in, checked_named, loaded_in, passed_line, puts_passed, checks_under, checks}
+use Rattle.nwq_checks.specs.Laws.{SureOps, SureLoaded, SureChecked, SureChecks}
 
 module _ (header : EngineTable) (ops : List PlainOp) where
   one_fate : {a b : CheckFate} → IsCheckFate header ops a → IsCheckFate header ops b → a ≡ b
@@ -24,6 +24,10 @@ sure_by name ops Unstacked = tt
 pub sure_ops : SureOps
 unfolding checked_in
 sure_ops header name ops = (λ c a b p q. one_fate header ops p q, sure_by name ops)
+
+pub sure_loaded : SureBytes → SureLoaded
+unfolding loaded_in
+sure_loaded codes header name bytes = sure_then (code_in name bytes) (checked_in header name) (codes name bytes) (sure_ops header name)
 
 pub sure_checked : SureCodes → SureChecked
 unfolding checked_named

@@ -12,7 +12,7 @@ use Rattle.nwq_work.specs.Counts.{StopsSource}
 use Rattle.nwq_work.specs.Refusal.{BadCode}
 use Rattle.nwq_work.specs.Work.{Work, Gives, Refused, Finds, then, Finished, puts}
 use Rattle.nwq_sources.specs.Headers.{table_of}
-use Rattle.nwq_files.specs.Codes.{code_named}
+use Rattle.nwq_files.specs.Codes.{code_in, code_named}
 
 -- what comes of a check: some table of shapes meets the rules, or none does
 pub data CheckFate : Type 0 where
@@ -34,6 +34,10 @@ checked_in header name ops = Finds (λ (c : Contents) fate. IsCheckFate header o
 -- the instructions of the file of this name, checked under a header
 unfoldable pub checked_named : EngineTable → List ℕ → Work (List PlainOp)
 checked_named header name = then (code_named name) (checked_in header name)
+
+-- the bytes of the file of this name are its instructions, which are checked under a header
+unfoldable pub loaded_in : EngineTable → List ℕ → List ℕ → Work (List PlainOp)
+loaded_in header name bytes = then (code_in name bytes) (checked_in header name)
 
 -- ---- the command
 

@@ -1,10 +1,7 @@
-mod BeginLemmas
 mod FileLemmas
-mod ObjectLemmas
 mod OneGame
 mod PlayLemmas
 mod Steps
 mod StopLemmas
 mod TellLemmas
-mod WorldLemmas
 mod Worked

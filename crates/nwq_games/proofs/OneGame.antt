@@ -20,8 +20,9 @@ use Rattle.nwq_areas.specs.Plans.{plan_named}
 use Rattle.nwq_areas.specs.Laws.{SureAreas, SurePlans, SureFinals}
 use Rattle.nwq_listings.specs.Listings.{scripts_listed}
 use Rattle.nwq_listings.specs.Laws.{SureListed}
-use Rattle.nwq_games.specs.Worlds.{plan_world}
-use Rattle.nwq_games.specs.Games.{played, ends_by, tells, plays_plan, plays_area, plays_scripts, plays_under, plays as plays_files}
+use Rattle.plan_worlds.specs.Worlds.{plan_world}
+use Rattle.plan_plays.specs.Plays.{played}
+use Rattle.nwq_games.specs.Games.{ends_by, tells, plays_plan, plays_area, plays_scripts, plays_under, plays as plays_files}
 use Rattle.nwq_games.specs.Laws.{SureGames, SurePlays}
 
 sure_end : SureFinals → (ending : PlayEnd) (to : List ℕ) (area : PlainArea) (text : List ℕ) → IsSure (ends_by ending to area text)

@@ -1,11 +1,10 @@
--- What lines of plans begin, and what a plan's play comes to, computed.
+-- What plays that run no script come to, computed.
 use Rattle.std.proofs.Common.{◌≡◌, ℕ, List, [], ◌∷◌, refl}
 use Rattle.std.specs.Prelude.{codes}
 use Rattle.std.specs.Fmt.{digits}
 use Rattle.nwq_value.specs.Engine.{EngineTable}
-use Rattle.area_objects.specs.Area.{PlainArea, empty_tree, empty_area}
 use Rattle.area_back.specs.Back.{tree_back}
-use Rattle.area_objects.specs.Objects.{AreaObject}
+use Rattle.area_objects.specs.Area.{empty_area}
 use Rattle.plan_text.specs.declared.plan.Line.{Line}
 use Rattle.plan_text.specs.declared.plan.Line.TheVariants as line
 use Rattle.plan_text.specs.declared.plan.Plan.{Plan}
@@ -18,38 +17,7 @@ use Rattle.module_player.specs.CodePlays.{code_runner}
 use Rattle.nwq_work.specs.declared.status.Status.TheVariants.{Limit}
 use Rattle.nwq_work.specs.Work.{Puts, Ends, then, puts}
 use Rattle.nwq_areas.specs.Finals.{final_written}
-use Rattle.nwq_games.specs.Worlds.{begun_by}
 use Rattle.nwq_games.specs.Games.{plays_plan}
-
--- ---- lines, over an area whose one creature is tagged `guard`, with the heartbeat `tick`
-
-abbrev guard : AreaObject
-guard = record { tag = codes "guard"; vars = []; scripts = record { label = codes "ScriptHeartbeat"; name = codes "tick" } ∷ [] }
-
-abbrev guarded : PlainArea
-guarded = record { tree = empty_tree; objects = guard ∷ [] }
-
-heartbeat : begun_by guarded (line.Event 6000 0 (codes "ScriptHeartbeat") (codes "guard")) ≡ record { due = 6000; object = 1; script = codes "tick" }
-heartbeat = refl
-
--- a field that isn't there names no script, and an object that isn't there is none
-no_field : begun_by guarded (line.Event 0 0 (codes "ScriptDeath") (codes "guard")) ≡ record { due = 0; object = 1; script = [] }
-no_field = refl
-
-no_event : begun_by guarded (line.Event 0 1 (codes "ScriptHeartbeat") (codes "guard")) ≡ record { due = 0; object = 0; script = [] }
-no_event = refl
-
--- a start keeps its script, also where its object isn't there
-start : begun_by guarded (line.Start 0 0 (codes "a") (codes "guard")) ≡ record { due = 0; object = 1; script = codes "a" }
-start = refl
-
-no_start : begun_by guarded (line.Start 0 0 (codes "a") (codes "ghost")) ≡ record { due = 0; object = 0; script = codes "a" }
-no_start = refl
-
-free_start : begun_by guarded (line.Free 5 (codes "p")) ≡ record { due = 5; object = 0; script = codes "p" }
-free_start = refl
-
--- ---- plays that run no script
 
 abbrev plan : List Line → Plan
 plan events = record { version = 1; limit = 7; entries = 1; until = 60000; random = []; scripts = []; events = events }

@@ -7,25 +7,18 @@ use Rattle.plan_text.specs.declared.plan.Plan.{Plan}
 use Rattle.saved_state.specs.declared.saved.Saved.{Saved}
 use Rattle.engine_rows.specs.Pure.{CellLookup}
 use Rattle.engine_rows.specs.Trace.{trace_text}
-use Rattle.engine_rows.specs.World.{World}
 use Rattle.machine_step.specs.Machine.{Script}
 use Rattle.play_steps.specs.Plays.{PlayEnd, Done, OutOfEntries, StoppedInside, Paused, Played}
-use Rattle.module_player.specs.CodePlays.{code_play, code_end_text}
+use Rattle.module_player.specs.CodePlays.{code_end_text}
 use Rattle.nwq_work.specs.declared.status.Status.TheVariants.{Limit}
 use Rattle.nwq_work.specs.Work.{Work, Ends, Puts, then, Finished, puts}
 use Rattle.nwq_sources.specs.Headers.{table_of}
 use Rattle.nwq_areas.specs.Areas.{area_named}
 use Rattle.nwq_areas.specs.Finals.{final_written}
 use Rattle.nwq_areas.specs.Plans.{plan_named}
-use Rattle.nwq_plays.specs.Plays.{host_of}
 use Rattle.nwq_listings.specs.Listings.{scripts_listed}
-use Rattle.nwq_games.specs.Worlds.{plan_world}
-
--- ---- the play
-
--- the play of listed scripts from a world on, with the limits of a plan
-abbrev pub played : CellLookup → EngineTable → Plan → List Script → World Saved → Played Saved
-played cell header plan scripts w = code_play (host_of cell header scripts) plan.limit plan.entries plan.until w
+use Rattle.plan_worlds.specs.Worlds.{plan_world}
+use Rattle.plan_plays.specs.Plays.{played}
 
 -- ---- what is told and written
 

@@ -1,4 +1,3 @@
-pub mod Worlds
 pub mod Games
 pub mod Tellings
 pub mod Laws

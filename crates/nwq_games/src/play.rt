@@ -9,7 +9,6 @@ ghost use Rattle.nwq_work.specs.Counts.{Counted, Tallies, KeepsBut};
 ghost use Rattle.nwq_games.specs.Games.{plays_plan};
 ghost use Rattle.nwq_games.specs.Tellings.{StopsGame};
 
-use crate::lines::play_lines;
 use crate::telling::tell_end;
 use area_tree::Area;
 use hook_table::Hooks;
@@ -17,6 +16,7 @@ use ncs_machine::Scripts;
 use nwq_outside::{Files, Sink};
 use nwq_value::Table;
 use nwq_work::Status;
+use plan_plays::play_lines;
 use plan_text::Plan;
 use std::alloc::Global;
 

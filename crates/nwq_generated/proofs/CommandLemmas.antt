@@ -10,7 +10,7 @@ use Rattle.nwq_work.specs.declared.status.Status.{Status}
 use Rattle.nwq_work.specs.Work.{Does, Finished}
 use Rattle.nwq_work.specs.Counts.{Counts, Tallies}
 use Rattle.nwq_work.specs.Parts.{then_ok}
-use Rattle.nwq_plays.specs.Plays.{loaded_in}
+use Rattle.nwq_checks.specs.Checks.{loaded_in}
 use Rattle.nwq_generated.specs.Generated.{source_compiled, plays_made, checks_made, generates}
 
 module _ (cell : CellLookup) (n : ℕ) (r : Result Finished Status) (c : Contents) (t t1 t2 : List ℕ) where

@@ -13,10 +13,11 @@ use Rattle.nwq_work.specs.Work.{IsCut}
 use Rattle.nwq_work.specs.Outcomes.{IsSure, Agrees, agree, sure_then}
 use Rattle.nwq_scripts.specs.Files.{compiled_named}
 use Rattle.nwq_scripts.specs.Laws.{SureCompiled}
-use Rattle.nwq_plays.specs.Plays.{loaded_in, listed, ends_by}
-use Rattle.nwq_plays.specs.Laws.{SureLoaded}
-use Rattle.nwq_games.specs.Games.{played}
-use Rattle.nwq_games.specs.Worlds.{plan_world}
+use Rattle.nwq_checks.specs.Checks.{loaded_in}
+use Rattle.nwq_checks.specs.Laws.{SureLoaded}
+use Rattle.plan_worlds.specs.Worlds.{plan_world}
+use Rattle.plan_plays.specs.Plays.{ends_by, played}
+use Rattle.plan_plays.specs.Scripts.{listed}
 use Rattle.nwq_generated.specs.Generated.{files_with, Compiles, SourceFate, Whole, Faulty, IsSourceFate, whole, faulty, source_by, source_compiled, plan_of, made_area, tells, plays_made, checks_made, generates}
 use Rattle.nwq_generated.specs.Laws.{SureGenerated}
 

@@ -15,9 +15,9 @@ use Rattle.nwq_work.specs.declared.status.Status.TheVariants.{Memory, Limit}
 use Rattle.nwq_work.specs.Work.{Does, CutsShort, Finished}
 use Rattle.nwq_work.specs.Counts.{Refusing}
 use Rattle.nwq_work.specs.Parts.{cut_here}
-use Rattle.nwq_plays.specs.Plays.{listed}
-use Rattle.nwq_games.specs.Games.{played}
-use Rattle.nwq_games.specs.Worlds.{plan_world}
+use Rattle.plan_worlds.specs.Worlds.{plan_world}
+use Rattle.plan_plays.specs.Plays.{played}
+use Rattle.plan_plays.specs.Scripts.{listed}
 use Rattle.nwq_generated.specs.Generated.{plan_of, made_area, tells, plays_made}
 
 -- ---- a play that is cut

@@ -15,7 +15,7 @@ use Rattle.nwq_work.specs.declared.status.Status.{Status}
 use Rattle.nwq_work.specs.declared.status.Status.TheVariants.{Limit}
 use Rattle.nwq_work.specs.Work.{Does, CutsShort, Finished}
 use Rattle.nwq_work.specs.Counts.{Counts, Tallies, TalliesEnd, Refusing}
-use Rattle.nwq_plays.specs.Plays.{ends_by}
+use Rattle.plan_plays.specs.Plays.{ends_by}
 use Rattle.nwq_generated.specs.Generated.{counted, line_count, made_line, summary, tells}
 
 -- ---- the first line

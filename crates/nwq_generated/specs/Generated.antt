@@ -18,9 +18,10 @@ use Rattle.nwq_work.specs.declared.status.Status.{Status}
 use Rattle.nwq_work.specs.declared.status.Status.TheVariants.{Script, Code, Limit, Fault, Memory}
 use Rattle.nwq_work.specs.Work.{Work, Gives, Ends, Puts, Finds, then, CutsShort, Does, Finished}
 use Rattle.nwq_scripts.specs.Files.{compiled_named}
-use Rattle.nwq_plays.specs.Plays.{loaded_in, listed, ends_by}
-use Rattle.nwq_games.specs.Games.{played}
-use Rattle.nwq_games.specs.Worlds.{plan_world}
+use Rattle.nwq_checks.specs.Checks.{loaded_in}
+use Rattle.plan_worlds.specs.Worlds.{plan_world}
+use Rattle.plan_plays.specs.Plays.{ends_by, played}
+use Rattle.plan_plays.specs.Scripts.{listed}
 
 -- ---- the source
 

@@ -2,7 +2,7 @@
 
 ghost use Rattle.nwq_generated.specs.Laws.{AreasAreWhole, SureGenerated};
 
-use nwq_plays::laws::one_code;
+use nwq_checks::laws::one_check;
 use nwq_scripts::laws::one_script;
 
 /// One thing comes of a number.
@@ -10,7 +10,7 @@ pub fn one_generated()
     ensures generated { SureGenerated }
 {
     one_script();
-    one_code();
+    one_check();
 }
 
 /// The area that is made breaks no rule of areas.

@@ -14,10 +14,10 @@ ghost use Rattle.nwq_generated.specs.Generated.{counted, line_count, made_line, 
 
 use module_player::{Played, put_end_line};
 use nwq_outside::Sink;
-use nwq_plays::ending_of;
 use nwq_text::put_count;
 use nwq_value::NoMemory;
 use nwq_work::{Status, put};
+use plan_plays::ending_of;
 use std::alloc::Global;
 
 /// How many creatures are made from a number.

@@ -7,7 +7,7 @@ use Rattle.nwq_work.specs.declared.status.Status.{Status}
 use Rattle.nwq_work.specs.Work.{Does, Finished, writes}
 use Rattle.nwq_work.specs.Counts.{Counts, Tallies}
 use Rattle.nwq_work.specs.Parts.{then_ok, then_err}
-use Rattle.nwq_plays.specs.Plays.{loaded_in}
+use Rattle.nwq_checks.specs.Checks.{loaded_in}
 use Rattle.nwq_listings.specs.Listings.{writes_loaded}
 
 module _ (header : EngineTable) (file written bytes : List ℕ) (c c1 : Contents) (t : List ℕ) (same : written ≡ bytes) where

@@ -6,9 +6,8 @@ use Rattle.plan_text.specs.declared.plan.Script.{Script as ScriptLine}
 use Rattle.machine_step.specs.Machine.{Script}
 use Rattle.nwq_work.specs.Outcomes.{IsSure, sure_then, sure_writes}
 use Rattle.nwq_work.specs.Work.{Gives, writes}
-use Rattle.nwq_checks.specs.Laws.{SureChecked}
-use Rattle.nwq_plays.specs.Plays.{loaded_in}
-use Rattle.nwq_plays.specs.Laws.{SureLoaded}
+use Rattle.nwq_checks.specs.Checks.{loaded_in}
+use Rattle.nwq_checks.specs.Laws.{SureChecked, SureLoaded}
 use Rattle.nwq_scripts.specs.Files.{code_name, compiled_named}
 use Rattle.nwq_scripts.specs.Laws.{SureCompiled}
 use Rattle.nwq_listings.specs.Listings.{writes_loaded, source_named, code_by, playable, script_in, lists_on, scripts_listed}

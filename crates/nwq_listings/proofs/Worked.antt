@@ -9,8 +9,7 @@ use Rattle.plan_text.specs.declared.plan.Script.{Script as ScriptLine}
 use Rattle.nwq_work.specs.declared.status.Status.TheVariants.{Missing}
 use Rattle.nwq_work.specs.Work.{Does, Writes, file_named, writes}
 use Rattle.nwq_files.specs.Codes.{code_named}
-use Rattle.nwq_checks.specs.Checks.{checked_named}
-use Rattle.nwq_plays.specs.Plays.{loaded_in}
+use Rattle.nwq_checks.specs.Checks.{checked_named, loaded_in}
 use Rattle.nwq_listings.specs.Listings.{writes_loaded, script_in, lists_on, scripts_listed}
 
 -- a plan that lists nothing

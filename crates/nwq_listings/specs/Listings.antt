@@ -10,9 +10,8 @@ use Rattle.nwq_work.specs.declared.status.Status.{Status}
 use Rattle.nwq_work.specs.declared.status.Status.TheVariants.{Code}
 use Rattle.nwq_work.specs.Counts.{StopsSource}
 use Rattle.nwq_work.specs.Work.{Work, Gives, then, Finished, writes}
-use Rattle.nwq_checks.specs.Checks.{checked_named}
+use Rattle.nwq_checks.specs.Checks.{checked_named, loaded_in}
 use Rattle.nwq_scripts.specs.Files.{code_name, compiled_named}
-use Rattle.nwq_plays.specs.Plays.{loaded_in}
 
 -- ---- the code of one script
 

@@ -12,9 +12,8 @@ ghost use Rattle.nwq_listings.specs.Listings.{writes_loaded, source_named, code_
 ghost use Rattle.nwq_listings.specs.Listings.{IsOwnFile, StopsListing, script_answer};
 
 use ncs_machine::Loaded;
-use nwq_checks::read_checked;
+use nwq_checks::{load_checked, read_checked};
 use nwq_outside::{Files, Sink};
-use nwq_plays::load_checked;
 use nwq_scripts::{code_name, read_compiled};
 use nwq_value::{Items, NoMemory, Table};
 use nwq_work::{Status, write_file};

@@ -3,7 +3,6 @@
 ghost use Rattle.nwq_listings.specs.Laws.{SureListed};
 
 use nwq_checks::laws::one_check;
-use nwq_plays::laws::one_code;
 use nwq_scripts::laws::one_script;
 
 /// What the files hold decides what comes of the scripts that a plan lists.
@@ -12,5 +11,4 @@ pub fn one_listing()
 {
     one_script();
     one_check();
-    one_code();
 }

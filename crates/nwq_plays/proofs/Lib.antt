@@ -1,4 +1,3 @@
-mod OneCode
 mod PlayLemmas
 mod Steps
 mod TellLemmas

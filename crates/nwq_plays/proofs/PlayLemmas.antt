@@ -13,7 +13,8 @@ use Rattle.nwq_work.specs.declared.status.Status.TheVariants.{Memory}
 use Rattle.nwq_work.specs.Work.{Does, CutsShort, Finished}
 use Rattle.nwq_work.specs.Counts.{Refusing}
 use Rattle.nwq_work.specs.Parts.{cut_here}
-use Rattle.nwq_plays.specs.Plays.{first_world, listed, played, tells, plays_code}
+use Rattle.plan_worlds.specs.Worlds.{first_world}
+use Rattle.plan_plays.specs.Scripts.{listed, played, tells, plays_code}
 use Rattle.nwq_plays.specs.Tellings.{StopsPlay}
 use Rattle.nwq_plays.proofs.WorldLemmas.{first_fits, first_quiet, first_next}
 

@@ -1,3 +1,1 @@
-pub mod Plays
 pub mod Tellings
-pub mod Laws

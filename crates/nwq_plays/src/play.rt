@@ -11,18 +11,19 @@ ghost use Rattle.ncs_machine.specs.Host.{scripts_of, tables_of};
 ghost use Rattle.ncs_machine.specs.Stored.{StatesFit};
 ghost use Rattle.nwq_work.specs.Work.{Does};
 ghost use Rattle.nwq_work.specs.Counts.{Counted, Tallies, Refusing};
-ghost use Rattle.nwq_plays.specs.Plays.{listed, played, tells, plays_code, plays_file};
+ghost use Rattle.plan_plays.specs.Scripts.{listed, played, tells, plays_code, plays_file};
 ghost use Rattle.nwq_plays.specs.Tellings.{StopsPlay};
 
-use crate::load::load_checked;
-use crate::telling::{tell_end, told_whole};
-use crate::world::{first_world, list_one};
+use crate::telling::tell_end;
 use hook_table::Hooks;
 use module_player::play;
 use ncs_machine::Scripts;
+use nwq_checks::load_checked;
 use nwq_outside::Sink;
 use nwq_value::{NoMemory, Table};
 use nwq_work::Status;
+use plan_plays::{list_one, told_whole};
+use plan_worlds::first_world;
 use saved_state::Saved;
 use stack_check::Checked;
 use std::alloc::Global;
@@ -137,7 +138,7 @@ fn play_code<S: Sink>(
 }
 
 /// Loads the bytes of the file of a compiled script, checks its code and plays it.
-#[tactic(auto, using(crate::proofs::Steps::steps, crate::proofs::PlayLemmas::stops), unfolding(crate::specs::Plays::plays_file))]
+#[tactic(auto, using(crate::proofs::Steps::steps, crate::proofs::PlayLemmas::stops), unfolding(plan_plays::specs::Scripts::plays_file))]
 pub fn play_file<S: Sink>(
     alloc: Global,
     table: &Table,

@@ -1,84 +1,25 @@
 //! The text at the end of a play, and the status that comes of it.
-ghost use Rattle.std.specs.Prelude.{◌≡◌, ◌≢◌, ℕ, List, IsTrue, IfOk, IfErr};
+ghost use Rattle.std.specs.Prelude.{◌≡◌, ℕ, IsTrue, IfOk, IfErr};
 ghost use Rattle.nwq_outside.specs.Outside.{Contents};
 ghost use Rattle.saved_state.specs.declared.saved.Saved.{Saved as SavedView};
-ghost use Rattle.engine_rows.specs.World.{World as WorldView};
-ghost use Rattle.play_steps.specs.Plays.{PlayEnd, Played as PlayedView};
+ghost use Rattle.play_steps.specs.Plays.{Played as PlayedView};
 ghost use Rattle.ncs_machine.specs.Host.{scripts_of};
-ghost use Rattle.module_player.specs.Answers.{EndsAs, WherePlayed, TakesTrace, CountsPlay};
 ghost use Rattle.module_player.specs.CodePlays.{code_end_text};
 ghost use Rattle.module_player.specs.EndTexts.{HasText, IsEnding};
-ghost use Rattle.module_player.specs.declared.played.How.TheVariants as variant;
 ghost use Rattle.nwq_work.specs.Work.{Does, CutsShort};
 ghost use Rattle.nwq_work.specs.Parts.{PutsWhole};
 ghost use Rattle.nwq_work.specs.Counts.{Counted, Tallies, Refusing};
-ghost use Rattle.nwq_plays.specs.Plays.{ends_by, tells_end};
-ghost use Rattle.nwq_plays.specs.Tellings.{cut_of, TakesText};
+ghost use Rattle.plan_plays.specs.Scripts.{tells_end};
 
-use module_player::{How, Played, end_text};
+use module_player::{Played, end_text};
 use ncs_machine::Scripts;
 use nwq_outside::Sink;
 use nwq_value::NoMemory;
 use nwq_work::{Status, put};
+use plan_plays::ending_of;
 use saved_state::Saved;
 use std::alloc::Global;
 use world_core::World;
-
-/// The status of a play that was cut short.
-fn cut_of(how: How) -> Option<Status>
-    ensures status { result ≡ cut_of how }
-{
-    match how {
-        How::Done => None,
-        How::InstrStop => None,
-        How::EntryStop => None,
-        How::Pause => None,
-        How::Fault => Some(Status::Fault),
-        How::NoMemory => Some(Status::Memory),
-    }
-}
-
-/// The answer of a play that was told whole, or the status of one that was cut short.
-pub fn told_whole(played: Played) -> Result<Played, Status>
-    requires whole { played.how ≢ variant.Pause }
-    ensures told { IfOk result (λ answer. HasText answer.how) }
-    // What the answer tells where the play wasn't cut short holds of a whole one.
-    ensures ending { (p : PlayedView SavedView) → (w : WorldView SavedView) →
-        EndsAs played.how p.ending →
-        WherePlayed played.how (played.entries ≡ p.last.entries) →
-        WherePlayed played.how (played.instructions ≡ p.last.count) →
-        WherePlayed played.how (w ≡ p.last.world) →
-        IfOk result (λ answer. IsEnding answer p w) }
-    ensures trace { (text before after : List ℕ) → TakesTrace played.how text before after →
-        TakesText text before result after }
-    ensures counts { (before now faults absences longs : ℕ) → CountsPlay played.how before now →
-        Tallies result (Counted faults absences longs before)
-        (Counted faults absences longs now) }
-    ensures only { IfErr result CutsShort }
-{
-    match cut_of(played.how) {
-        Some(status) => Err(status),
-        None => Ok(played),
-    }
-}
-
-/// How a command ends whose play ended so.
-#[tactic(auto, using(crate::proofs::TellLemmas::endings))]
-pub fn ending_of(how: How) -> Result<(), Status>
-    requires told { HasText how }
-    ensures ends { (ending : PlayEnd) → EndsAs how ending → (c : Contents) → (t : List ℕ) →
-        Does (ends_by ending) c t result c t }
-    ensures only { IfErr result (λ status. status ≡ Status.Limit) }
-{
-    match how {
-        How::Done => Ok(()),
-        How::InstrStop => Err(Status::Limit),
-        How::EntryStop => Err(Status::Limit),
-        How::Pause => unreachable!(),
-        How::Fault => unreachable!(),
-        How::NoMemory => unreachable!(),
-    }
-}
 
 /// The text at the end of a play.
 fn text_of(

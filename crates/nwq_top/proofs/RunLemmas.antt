@@ -5,7 +5,7 @@ use Rattle.nwq_outside.specs.Outside.{Contents}
 use Rattle.engine_rows.specs.Pure.{CellLookup}
 use Rattle.nwq_work.specs.declared.status.Status.{Status}
 use Rattle.nwq_work.specs.Work.{Does, Finished}
-use Rattle.nwq_plays.specs.Plays.{plays_file}
+use Rattle.plan_plays.specs.Scripts.{plays_file}
 
 pub same_play : (cell : CellLookup) (header : EngineTable) (a b file code bytes items : List ℕ) (r : Result Finished Status) (c : Contents) (t t' : List ℕ)
     → a ≡ b → file ≡ code → bytes ≡ items → Does (plays_file cell header a file bytes) c t r c t' → Does (plays_file cell header b code items) c t r c t'

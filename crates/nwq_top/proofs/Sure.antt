@@ -5,8 +5,8 @@ use Rattle.engine_rows.specs.Pure.{CellLookup}
 use Rattle.nwq_work.specs.Outcomes.{IsSure, agree, prefixes, sure_then}
 use Rattle.nwq_checks.specs.Laws.{SureChecks}
 use Rattle.nwq_files.specs.Laws.{SureCommands}
-use Rattle.nwq_plays.specs.Plays.{plays_file}
-use Rattle.nwq_plays.specs.Laws.{SurePlays}
+use Rattle.plan_plays.specs.Scripts.{plays_file}
+use Rattle.plan_plays.specs.Laws.{SurePlays}
 use Rattle.nwq_games.specs.Laws.{SurePlays as SureGames}
 use Rattle.nwq_generated.specs.Laws.{SureGenerated}
 use Rattle.nwq_scripts.specs.Files.{code_name, compiled_named}

@@ -10,7 +10,7 @@ use Rattle.nwq_sources.specs.Headers.{table_of}
 use Rattle.nwq_checks.specs.Checks.{checks}
 use Rattle.nwq_files.specs.Commands.{shows_tree, disassembles, assembles}
 use Rattle.nwq_scripts.specs.Files.{code_name, compiled_named, compiles}
-use Rattle.nwq_plays.specs.Plays.{plays_file}
+use Rattle.plan_plays.specs.Scripts.{plays_file}
 use Rattle.nwq_games.specs.Games.{plays}
 use Rattle.nwq_generated.specs.Generated.{generates}
 use Rattle.nwq_games.specs.Tellings.{IsGameFile}

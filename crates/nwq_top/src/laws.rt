@@ -8,10 +8,10 @@ use nwq_checks::laws::one_check;
 use nwq_files::laws::one_file;
 use nwq_games::laws::one_game;
 use nwq_generated::laws::one_generated;
-use nwq_plays::laws::one_code;
 use nwq_scripts::laws::one_script;
 use nwq_sources::laws::one_source;
 use nwq_tables::laws::one_set_of_tables;
+use plan_plays::laws::one_code;
 use words_meaning::{compiles_mean, plays_mean, runs_mean};
 
 /// A command that isn't cut has one outcome, and one that is cut has put a prefix of what it puts

@@ -5,7 +5,7 @@ ghost use Rattle.world_core.specs.Calls.{cells_of, AreServing};
 ghost use Rattle.nwq_work.specs.Work.{Does};
 ghost use Rattle.nwq_work.specs.Counts.{Counted, Tallies};
 ghost use Rattle.nwq_scripts.specs.Files.{code_name};
-ghost use Rattle.nwq_plays.specs.Plays.{plays_file};
+ghost use Rattle.plan_plays.specs.Scripts.{plays_file};
 ghost use Rattle.nwq_plays.specs.Tellings.{StopsPlay};
 ghost use Rattle.nwq_top.specs.Command.{runs_under, runs};
 ghost use Rattle.nwq_top.specs.Endings.{StopsRun};

@@ -23,10 +23,9 @@ use Rattle.nwq_work.specs.declared.status.Status.{Status}
 use Rattle.nwq_work.specs.Work.{Gives, then, Stays, Does, writes}
 use Rattle.nwq_work.specs.Outcomes.{IsSure}
 use Rattle.nwq_files.specs.Codes.{Whole, whole, code_by as code_found, code_in}
-use Rattle.nwq_checks.specs.Checks.{CheckFate, Passes as PassesCheck, Unstacked, IsCheckFate, passes, unstacked, check_by, checked_in}
+use Rattle.nwq_checks.specs.Checks.{CheckFate, Passes as PassesCheck, Unstacked, IsCheckFate, passes, unstacked, check_by, checked_in, loaded_in}
 use Rattle.nwq_scripts.specs.Files.{code_name, compiled_named}
-use Rattle.nwq_plays.specs.Plays.{loaded_in}
-use Rattle.nwq_plays.specs.Laws.{SureLoaded}
+use Rattle.nwq_checks.specs.Laws.{SureLoaded}
 use Rattle.nwq_listings.specs.Listings.{writes_loaded, source_named, code_by, playable, script_in, lists_on, scripts_listed}
 use Rattle.command_meaning.specs.Units.{code_of, Passes, UnitsPass}
 use Rattle.command_meaning.specs.Scripts.{HoldBytes, IsScript}

@@ -22,8 +22,8 @@ use Rattle.play_meaning.specs.PlaysRun.{SourcePlaysEnd, CodePlaysEnd}
 use Rattle.play_meaning.specs.TypedScripts.{TypedScriptsAreReady}
 use Rattle.nwq_work.specs.declared.status.Status.{Status}
 use Rattle.nwq_work.specs.Work.{Puts, Does, Finished}
-use Rattle.nwq_plays.specs.Plays.{host_of}
-use Rattle.nwq_games.specs.Worlds.{begun_by, plan_world}
+use Rattle.plan_plays.specs.Plays.{host_of}
+use Rattle.plan_worlds.specs.Worlds.{begun_by, plan_world}
 use Rattle.nwq_games.specs.Games.{ends_by, tells, plays_plan}
 use Rattle.command_meaning.specs.Units.{TablesAnswerInTypes}
 use Rattle.plan_meaning.specs.Plans.{listing_of, source_plan_world, source_plan_played, code_plan_played, tells_source, FewStepsPlayAsMeant, UnstoppedPlansPlayAsMeant, StoppedPlansBeginAsMeant}

@@ -22,9 +22,9 @@ use Rattle.play_meaning.specs.EndTexts.{source_end_text}
 use Rattle.nwq_work.specs.declared.status.Status.{Status}
 use Rattle.nwq_work.specs.declared.status.Status.TheVariants.{Limit}
 use Rattle.nwq_work.specs.Work.{Work, Ends, Puts, Does, Finished}
-use Rattle.nwq_plays.specs.Plays.{host_of}
-use Rattle.nwq_games.specs.Worlds.{begun_by, plan_world}
-use Rattle.nwq_games.specs.Games.{played, ends_by, plays_plan}
+use Rattle.plan_plays.specs.Plays.{host_of, played}
+use Rattle.plan_worlds.specs.Worlds.{begun_by, plan_world}
+use Rattle.nwq_games.specs.Games.{ends_by, plays_plan}
 use Rattle.command_meaning.specs.Units.{IsUnitOf}
 
 -- ---- the play of listed sources

@@ -4,7 +4,7 @@ ghost use Rattle.plan_meaning.specs.Plans.{FewStepsPlayAsMeant, StoppedPlansBegi
 ghost use Rattle.plan_meaning.specs.Plans.{UnstoppedPlansPlayAsMeant};
 
 use command_meaning::{tables_answer_in_types, units_pass};
-use nwq_plays::laws::one_code;
+use nwq_checks::laws::one_check;
 use play_meaning::{code_plays_end, end_texts_agree, source_plays_end, typed_scripts_are_ready};
 use source_meaning::entries_stay_alike;
 
@@ -13,7 +13,7 @@ pub fn plans_list_units()
     ensures listed { PlansListUnits }
 {
     units_pass();
-    one_code();
+    one_check();
 }
 
 /// A plan whose scripts are typed units is played as their sources mean, its final area among it:

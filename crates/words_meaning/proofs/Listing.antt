@@ -26,11 +26,10 @@ use Rattle.nwq_work.specs.Parts.{then_ok, then_err}
 use Rattle.nwq_work.specs.Outcomes.{agree}
 use Rattle.nwq_files.specs.Codes.{code_in}
 use Rattle.nwq_files.specs.Codes as code
-use Rattle.nwq_checks.specs.Checks.{checked_in, checked_named}
+use Rattle.nwq_checks.specs.Checks.{checked_in, checked_named, loaded_in}
 use Rattle.nwq_checks.specs.Checks as check
 use Rattle.nwq_scripts.specs.Files.{code_name, compiled_named}
-use Rattle.nwq_plays.specs.Plays.{loaded_in}
-use Rattle.nwq_plays.specs.Laws.{SureLoaded}
+use Rattle.nwq_checks.specs.Laws.{SureLoaded}
 use Rattle.nwq_listings.specs.Listings.{writes_loaded, source_named, code_by, playable, script_in, lists_on}
 use Rattle.command_meaning.specs.Units.{code_of, Passes, UnitsPass}
 use Rattle.command_meaning.specs.Scripts.{HoldBytes, ScriptsHaveUnits}

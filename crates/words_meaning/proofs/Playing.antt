@@ -29,7 +29,7 @@ use Rattle.nwq_areas.specs.Plans.{plan_named}
 use Rattle.nwq_areas.specs.Areas.{area_named}
 use Rattle.nwq_areas.specs.Finals.{final_by, final_written}
 use Rattle.nwq_areas.specs.Laws.{SurePlans, SureAreas}
-use Rattle.nwq_plays.specs.Laws.{SureLoaded}
+use Rattle.nwq_checks.specs.Laws.{SureLoaded}
 use Rattle.nwq_listings.specs.Listings.{lists_on, scripts_listed}
 use Rattle.nwq_listings.specs.Laws.{SureListed}
 use Rattle.nwq_games.specs.Games.{ends_by, plays_plan, plays_area, plays_scripts, plays_under, plays}

@@ -17,8 +17,9 @@ use Rattle.nwq_sources.specs.Laws.{SureTables}
 use Rattle.nwq_files.specs.Commands.{writes_and_puts}
 use Rattle.nwq_scripts.specs.Files.{code_name, compiled_named, compiled_line, writes_code, compiles_under, compiles}
 use Rattle.nwq_scripts.specs.Laws.{SureCompiled}
-use Rattle.nwq_plays.specs.Plays.{plays_file}
-use Rattle.nwq_plays.specs.Laws.{SureLoaded, SurePlays}
+use Rattle.plan_plays.specs.Scripts.{plays_file}
+use Rattle.nwq_checks.specs.Laws.{SureLoaded}
+use Rattle.plan_plays.specs.Laws.{SurePlays}
 use Rattle.command_meaning.specs.Units.{UnitsPass}
 use Rattle.command_meaning.specs.Files.{PlaysFile}
 use Rattle.play_steps.specs.Plays.{Done, StoppedInside}

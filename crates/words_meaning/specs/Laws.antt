@@ -13,7 +13,7 @@ use Rattle.nwq_work.specs.Work.{then, IsCut, Does, Finished}
 use Rattle.nwq_sources.specs.Headers.{table_of}
 use Rattle.nwq_sources.specs.Units.{PlainScript, Whole, IsUnitFate}
 use Rattle.nwq_scripts.specs.Files.{code_name, compiled_named, compiles}
-use Rattle.nwq_plays.specs.Plays.{plays_file}
+use Rattle.plan_plays.specs.Scripts.{plays_file}
 use Rattle.nwq_games.specs.Games.{plays}
 use Rattle.words_meaning.specs.Reading.{AreBytes}
 use Rattle.words_meaning.specs.Runs.{MeansRun, MeansCompile}

@@ -5,13 +5,14 @@ ghost use Rattle.words_meaning.specs.Laws.{CompilesMean, OneFaultRefuses, PlaysM
 use command_meaning::{runs_end_as_meant, scripts_play_units, units_pass};
 use header_tables::headers_have_tables;
 use nwq_areas::laws::one_area;
+use nwq_checks::laws::one_check;
 use nwq_games::laws::one_game;
 use nwq_listings::laws::one_listing;
-use nwq_plays::laws::one_code;
 use nwq_scripts::laws::one_script;
 use nwq_sources::laws::one_source;
 use parsed_faults::laws::one_least_fault;
 use plan_meaning::plans_play_as_meant;
+use plan_plays::laws::one_code;
 
 /// Whatever does the work of `run` is refused where the header or the script is, and else tells
 /// what the script's source means.
@@ -24,6 +25,7 @@ pub fn runs_mean()
     headers_have_tables();
     one_source();
     one_script();
+    one_check();
     one_code();
     runs_end_as_meant();
 }
@@ -39,7 +41,7 @@ pub fn compiles_mean()
     headers_have_tables();
     one_source();
     one_script();
-    one_code();
+    one_check();
 }
 
 /// Whatever does the work of `play` is refused for the first of its files that is, and else tells
@@ -52,7 +54,7 @@ pub fn plays_mean()
     one_least_fault();
     headers_have_tables();
     one_source();
-    one_code();
+    one_check();
     one_area();
     one_listing();
     one_game();

@@ -1,9 +1,9 @@
 use Rattle.std.proofs.Common.{map}
 use Rattle.world_core.specs.Calls.{cells_of}
 use Rattle.ncs_machine.specs.Host.{scripts_of}
-use Rattle.nwq_games.specs.Games.{played}
-use Rattle.nwq_games.specs.Worlds.{plan_world}
 use Rattle.nwq_work.specs.Counts.{Counted}
+use Rattle.plan_worlds.specs.Worlds.{plan_world}
+use Rattle.plan_plays.specs.Plays.{played}
 use Rattle.nwq_games.proofs.PlayLemmas.{trace_whole}
 use Rattle.nwq_games.proofs.TellLemmas.{counted_on}
 use Rattle.nwq_games.proofs.play.play_plan.Goals as goal

@@ -2,8 +2,8 @@ use Rattle.std.proofs.Common.{◌++◌, map, refl, ap, ◌∙◌}
 use Rattle.engine_rows.specs.Trace.{trace_text}
 use Rattle.world_core.specs.Calls.{cells_of}
 use Rattle.ncs_machine.specs.Host.{scripts_of}
-use Rattle.nwq_games.specs.Games.{played}
-use Rattle.nwq_games.specs.Worlds.{plan_world}
+use Rattle.plan_plays.specs.Plays.{played}
+use Rattle.plan_worlds.specs.Worlds.{plan_world}
 use Rattle.nwq_generated.proofs.play.play_over.Goals as goal
 
 pub returns-clause-does : goal.returns-clause-does

@@ -1,8 +1,7 @@
 use Rattle.std.proofs.Common.{subst}
 use Rattle.nwq_work.specs.Counts.{Counted}
 use Rattle.nwq_work.specs.Work.{Does}
-use Rattle.nwq_checks.specs.Checks.{plain_answer}
-use Rattle.nwq_plays.specs.Plays.{loaded_in}
+use Rattle.nwq_checks.specs.Checks.{loaded_in, plain_answer}
 use Rattle.nwq_listings.proofs.CodeLemmas.{written_loaded, counted_on}
 use Rattle.nwq_listings.proofs.code.write_loaded.Goals as goal
 

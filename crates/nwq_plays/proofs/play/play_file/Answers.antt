@@ -2,7 +2,8 @@ use Rattle.std.proofs.Common.{map, subst}
 use Rattle.world_core.specs.Calls.{cells_of}
 use Rattle.nwq_work.specs.Counts.{Counted, Tallies}
 use Rattle.nwq_work.specs.Parts.{then_ok}
-use Rattle.nwq_plays.specs.Plays.{loaded_in, plays_code, plays_file}
+use Rattle.nwq_checks.specs.Checks.{loaded_in}
+use Rattle.plan_plays.specs.Scripts.{plays_code, plays_file}
 use Rattle.nwq_plays.proofs.play.play_file.Goals as goal
 
 pub returns-in-Ok-clause-does : goal.returns-in-Ok-clause-does

@@ -3,7 +3,7 @@ use Rattle.engine_rows.specs.Trace.{trace_text}
 use Rattle.world_core.specs.Calls.{cells_of}
 use Rattle.ncs_machine.specs.Host.{scripts_of}
 use Rattle.nwq_work.specs.Counts.{Counted, Tallies}
-use Rattle.nwq_plays.specs.Plays.{played}
+use Rattle.plan_plays.specs.Scripts.{played}
 use Rattle.nwq_plays.proofs.TellLemmas.{trace_cut, trace_whole}
 use Rattle.nwq_plays.proofs.play.play_world.Goals as goal
 

@@ -1,0 +1,5 @@
+mod LineLemmas
+mod ListLemmas
+mod OneCode
+mod TellLemmas
+mod WorldLemmas

@@ -1,0 +1,4 @@
+pub mod Plays
+pub mod Scripts
+pub mod Tellings
+pub mod Laws
