@@ -1,5 +1,5 @@
 -- A script that is compiled has a typed unit, of which its file is.
-use Rattle.std.proofs.Common.{◌≡◌, ◌≤◌, ◌⊎◌, inl, inr, ℕ, List, ◌++◌, length, Bool, true, false, nat_lt, Result, Ok, Err, None, subst, ap, refl, arith}
+use Rattle.std.proofs.Common.{◌≡◌, ◌≤◌, ◌⊎◌, inl, inr, ℕ, List, length, Bool, true, false, nat_lt, Result, Ok, None, subst, ap, refl, arith}
 use Rattle.std.proofs.lemmas.Bool.Decides.{nat_tests}
 use Rattle.std.specs.FinMap as fin_map
 use Rattle.nwq_value.specs.Limits.{file_limit}
@@ -12,8 +12,9 @@ use Rattle.nss_include.specs.declared.file.Source.{Source}
 use Rattle.code_emission.specs.Units.{unit_file}
 use Rattle.engine_rows.specs.Pure.{CellLookup}
 use Rattle.nwq_work.specs.declared.status.Status.{Status}
-use Rattle.nwq_work.specs.Refusal.{status_of}
-use Rattle.nwq_work.specs.Work.{Work, Gives, Refused, Ends, Writes, Puts, Finds, then, Stays, Does, Finished}
+use Rattle.nwq_work.specs.Work.{then, Stays, Does, Finished}
+use Rattle.nwq_work.specs.Parts.{value_or}
+use Rattle.nwq_work.specs.Sequences.{Parts, ends_first, goes_on, parts}
 use Rattle.nwq_sources.specs.Units.{PlainScript, UnitFate, Whole, Lacks, Exceeds, Faulty, IsUnitFate, whole, unit_by, unit_of}
 use Rattle.nwq_scripts.specs.Typings.{TypingFate, Whole as IsTyped, Faulty as Misfits, IsTypingFate, whole as typed, typing_by, typed_in}
 use Rattle.nwq_scripts.specs.Files.{file_by, file_in, compiled_in, compiled_named}
@@ -33,74 +34,13 @@ gathered values header c name u held script types (whole _ unit nest parses) =
 pub scripts_have_units : ValuesAreBytes → ScriptsHaveUnits
 scripts_have_units values header c name u held h = gathered values header c name u held h.script h.types h.is
 
--- ---- answers
-
-abbrev pub value_or : {A : Type 0} → A → Result A Status → A
-value_or other (Ok a) = a
-value_or other (Err status) = other
-
--- ---- two parts of a work
-
--- the first part ended, or it gave a value and the second part was done
-pub record EndsFirst {A B : Type 0} (w : Work A) (c : Contents) (t : List ℕ) (r : Result B Status) (c' : Contents) (t' : List ℕ) : Type 1 where
-  pub status : Status
-  pub is : r ≡ Err status
-  pub does : Does w c t (Err status) c' t'
-
-pub record GoesOn {A B : Type 0} (w : Work A) (f : A → Work B) (c : Contents) (t : List ℕ) (r : Result B Status) (c' : Contents) (t' : List ℕ) : Type 1 where
-  pub value : A
-  pub between : Contents
-  pub taken : List ℕ
-  pub first : Does w c t (Ok value) between taken
-  pub second : Does (f value) between taken r c' t'
-
-pub data Parts {A B : Type 0} (w : Work A) (f : A → Work B) (c : Contents) (t : List ℕ) (r : Result B Status) (c' : Contents) (t' : List ℕ) : Type 1 where
-  ends_first : EndsFirst w c t r c' t' → Parts w f c t r c' t'
-  goes_on : GoesOn w f c t r c' t' → Parts w f c t r c' t'
-
-pub parts : {A B : Type 0} (w : Work A) (f : A → Work B) (c c' : Contents) (t t' : List ℕ) (r : Result B Status) → Does (then w f) c t r c' t' → Parts w f c t r c' t'
-parts (Gives a) f c c' t t' r does = goes_on (record { value = a; between = c; taken = t; first = (inl refl, (refl, refl)); second = does })
-parts (Refused refusal) f c c' t t' r (inl i, s) = ends_first (record { status = status_of refusal; is = i.0; does = (inl (refl, i.1), s) })
-parts (Refused refusal) f c c' t t' (Ok b) (inr cut, s) = absurd cut.0
-parts (Refused refusal) f c c' t t' (Err e) (inr cut, s) = ends_first (record { status = e; is = refl; does = (inr cut, s) })
-parts (Ends status) f c c' t t' r (inl i, s) = ends_first (record { status = status; is = i; does = (inl refl, s) })
-parts (Ends status) f c c' t t' (Ok b) (inr cut, s) = absurd cut
-parts (Ends status) f c c' t t' (Err e) (inr cut, s) = ends_first (record { status = e; is = refl; does = (inr cut, s) })
-parts (Writes name bytes rest) f c c' t t' (Ok b) (inl cut) = absurd cut.0
-parts (Writes name bytes rest) f c c' t t' (Err e) (inl cut) = ends_first (record { status = e; is = refl; does = inl cut })
-parts (Writes name bytes rest) f c c' t t' r (inr does) = written (parts rest f (fin_map.insert c name bytes) c' t t' r does)
-  where
-    written : Parts rest f (fin_map.insert c name bytes) t r c' t' → Parts (Writes name bytes rest) f c t r c' t'
-    written (ends_first h) = ends_first (record { status = h.status; is = h.is; does = inr h.does })
-    written (goes_on h) = goes_on (record { value = h.value; between = h.between; taken = h.taken; first = inr h.first; second = h.second })
-parts (Puts text rest) f c c' t t' (Ok b) (inl cut) = absurd cut.0
-parts (Puts text rest) f c c' t t' (Err e) (inl cut) = ends_first (record { status = e; is = refl; does = inl cut })
-parts (Puts text rest) f c c' t t' r (inr does) = put (parts rest f c c' (t ++ text) t' r does)
-  where
-    put : Parts rest f c (t ++ text) r c' t' → Parts (Puts text rest) f c t r c' t'
-    put (ends_first h) = ends_first (record { status = h.status; is = h.is; does = inr h.does })
-    put (goes_on h) = goes_on (record { value = h.value; between = h.between; taken = h.taken; first = inr h.first; second = h.second })
-parts (Finds P next) f c c' t t' (Ok b) (inl cut) = absurd cut.0
-parts (Finds P next) f c c' t t' (Err e) (inl cut) = ends_first (record { status = e; is = refl; does = inl cut })
-parts (Finds P next) f c c' t t' r (inr h) = found (parts (next h.found) f c c' t t' r h.goes)
-  where
-    found : Parts (next h.found) f c t r c' t' → Parts (Finds P next) f c t r c' t'
-    found (ends_first k) = ends_first (record { status = k.status; is = k.is; does = inr (record { found = h.found; is = h.is; goes = k.does }) })
-    found (goes_on k) = goes_on (record {
-      value = k.value;
-      between = k.between;
-      taken = k.taken;
-      first = inr (record { found = h.found; is = h.is; goes = k.first });
-      second = k.second;
-    })
-
 -- ---- a script's file
 
-pub record Compiled (header : EngineTable) (c : Contents) (name bytes : List ℕ) : Type 0 where
-  pub unit : TypedUnit
-  pub is : IsScript header c name unit
-  pub bytes_are : bytes ≡ unit_file unit
-  pub small : length (unit_file unit) ≤ file_limit
+record Compiled (header : EngineTable) (c : Contents) (name bytes : List ℕ) : Type 0 where
+  unit : TypedUnit
+  is : IsScript header c name unit
+  bytes_are : bytes ≡ unit_file unit
+  small : length (unit_file unit) ≤ file_limit
 
 module _ (header : EngineTable) (c : Contents) (name bytes : List ℕ) (t : List ℕ) (c' : Contents) (t' : List ℕ) where
   abbrev Makes : Type 0
@@ -139,7 +79,7 @@ module _ (header : EngineTable) (c : Contents) (name bytes : List ℕ) (t : List
   made_by (Faulty why spot) is (inl refused, s) = absurd cc
   made_by (Faulty why spot) is (inr cut, s) = absurd cut.0
 
-  pub compiled : Does (compiled_named header name) c t (Ok bytes) c' t' → Makes
+  compiled : Does (compiled_named header name) c t (Ok bytes) c' t' → Makes
   unfolding compiled_named unit_of
   compiled (inl cut) = absurd cut.0
   compiled (inr h) = made_by h.found h.is h.goes

@@ -1,5 +1,5 @@
 -- What `run` prints and answers is what the source means.
-use Rattle.std.proofs.Common.{arith, ◌≡◌, ◌≤◌, ◌*◌, ℕ, zero, suc, List, [], ◌∷◌, ◌++◌, Some, slice_get, Result, sym, subst, ap, ap₂, ◌∙◌}
+use Rattle.std.proofs.Common.{arith, ◌≡◌, ◌≤◌, ◌*◌, ℕ, zero, suc, List, [], ◌∷◌, ◌++◌, Result, sym, subst, ap, ap₂, ◌∙◌}
 use Rattle.nwq_value.specs.Engine.{EngineTable, IsTable}
 use Rattle.nwq_value.specs.Limits.{default_instruction_limit, default_entry_limit, default_until}
 use Rattle.nwq_outside.specs.Outside.{Contents}
@@ -15,22 +15,19 @@ use Rattle.source_meaning.specs.Evaluation.{Deferred}
 use Rattle.source_meaning.specs.Scripts.{Listed, Setting}
 use Rattle.source_meaning.specs.Ledger.{step_cost}
 use Rattle.source_meaning.specs.Carries.{Carries}
-use Rattle.source_meaning.specs.Executing.{IsHostOf}
 use Rattle.source_meaning.specs.StayAlike.{EntriesKeepAlike}
 use Rattle.play_meaning.specs.Together.{PlayEnds, PlayStops, PlaysAlike}
-use Rattle.play_meaning.specs.EndTexts.{source_end_text, EndTextsAgree}
-use Rattle.play_meaning.specs.PlaysRun.{SourcePlaysEnd, CodePlaysEnd}
-use Rattle.play_meaning.specs.TypedScripts.{TypedScriptsAreReady}
+use Rattle.play_meaning.specs.EndTexts.{source_end_text}
 use Rattle.nwq_work.specs.declared.status.Status.{Status}
 use Rattle.nwq_work.specs.Work.{IsCut, Does, Finished}
 use Rattle.plan_worlds.specs.Worlds.{start_of, first_world}
 use Rattle.plan_plays.specs.Plays.{host_of}
 use Rattle.plan_plays.specs.Scripts.{listed, tells, plays_code}
-use Rattle.command_meaning.specs.Units.{code_of, IsUnitOf, TablesAnswerInTypes}
+use Rattle.command_meaning.specs.Units.{code_of, IsUnitOf}
 use Rattle.command_meaning.specs.Files.{FilesPlayTheirCode, FilesAreNotRefused}
 use Rattle.command_meaning.specs.Runs.{setting_of, source_world, source_played, code_played, sure_steps, answer_by, TellsMeaning, FewStepsEndAsMeant, UnstoppedRunsEndAsMeant, StoppedRunsBeginAsMeant}
+use Rattle.command_meaning.specs.ListedPlays.{AreUnitsOf, ListedPlaysEnd, ListedPlaysStop, ListedTextsAgree}
 use Rattle.command_meaning.proofs.Telling.{Told, told, not_refused}
-use Rattle.command_meaning.proofs.Playing.{hosts, listed_end, listed_stop}
 
 -- ---- what the play of code tells
 
@@ -50,15 +47,12 @@ files_are_not_refused plays cell header name u c t r c' t' h refused =
 
 -- ---- where the plays are alike
 
-meant : EndTextsAgree → (cell : CellLookup) (header : EngineTable) (name : List ℕ) (u : TypedUnit) (code : Played Saved) (source : Played Deferred)
+meant : ListedTextsAgree → (cell : CellLookup) (header : EngineTable) (name : List ℕ) (u : TypedUnit) (code : Played Saved) (source : Played Deferred)
     (c : Contents) (t : List ℕ) (r : Result Finished Status) (c' : Contents) (t' : List ℕ) → PlaysAlike (Carries (setting_of cell header name u)) code source
     → Told (listed name (code_of u)) code c t r c' t' → TellsMeaning (setting_of cell header name u) code source c t r c' t'
 meant texts cell header name u code source c t r c' t' alike k =
     let s : Setting = setting_of cell header name u in
-    let host = host_of cell header (listed name (code_of u)) in
-    let of : IsHostOf host s = hosts s in
-    let text : code_end_text (listed name (code_of u)) code ≡ source_end_text s code.last.count source =
-    ap (λ scripts. code_end_text scripts code) (sym of.scripts) ∙ texts s host of code source alike in
+    let text : code_end_text (listed name (code_of u)) code ≡ source_end_text s code.last.count source = texts s code source alike in
     record {
       alike = alike;
       taken = k.taken ∙ ap (λ (told : List ℕ). t ++ told) (ap₂ (λ (a b : List ℕ). a ++ b) (ap trace_text alike.trace) text);
@@ -68,46 +62,46 @@ meant texts cell header name u code source c t r c' t' alike k =
 
 -- ---- the one listed unit
 
-of_one : (header : EngineTable) (one : Listed) → IsUnitOf header one.unit → (script : ℕ) (l : Listed) → slice_get (one ∷ []) script ≡ Some l → IsUnitOf header l.unit
+of_one : (header : EngineTable) (one : Listed) → IsUnitOf header one.unit → AreUnitsOf header (one ∷ [])
 of_one header one unit zero l is = let same : one ≡ l = cc in subst (λ (k : Listed). IsUnitOf header k.unit) same unit
 of_one header one unit (suc n) l is = absurd cc
 
 enough : step_cost * sure_steps ≤ default_instruction_limit
 enough = omega arith
 
-module _ (plays : FilesPlayTheirCode) (answers : TablesAnswerInTypes) (ready : TypedScriptsAreReady) (texts : EndTextsAgree) (keep : EntriesKeepAlike) where
+module _ (plays : FilesPlayTheirCode) (texts : ListedTextsAgree) (keep : EntriesKeepAlike) where
   module _ (cell : CellLookup) (header : EngineTable) (name : List ℕ) (u : TypedUnit) (table : IsTable header) (unit : IsUnitOf header u) where
     begins_alike : Alike (Carries (setting_of cell header name u)) (first_world name) (source_world name)
     begins_alike = (keep (setting_of cell header name u)).new empty_area [] (start_of name ∷ []) 2
 
-    units : (script : ℕ) (l : Listed) → slice_get (setting_of cell header name u).scripts script ≡ Some l → IsUnitOf header l.unit
+    units : AreUnitsOf header (setting_of cell header name u).scripts
     units = of_one header _ unit
 
-    run_ends : SourcePlaysEnd → PlayEnds (Carries (setting_of cell header name u)) (code_played cell header name u) (source_played cell header name u sure_steps)
+    run_ends : ListedPlaysEnd → PlayEnds (Carries (setting_of cell header name u)) (code_played cell header name u) (source_played cell header name u sure_steps)
     unfolding code_played source_played
     run_ends ends =
-        listed_end answers ready (setting_of cell header name u) table units ends sure_steps default_instruction_limit default_entry_limit default_until enough
+        ends (setting_of cell header name u) table units sure_steps default_instruction_limit default_entry_limit default_until enough
         (first_world name) (source_world name) begins_alike
 
-    run_stops : CodePlaysEnd → PlayStops (Carries (setting_of cell header name u)) (code_runner (host_of cell header (listed name (code_of u))) default_instruction_limit)
+    run_stops : ListedPlaysStop → PlayStops (Carries (setting_of cell header name u)) (code_runner (host_of cell header (listed name (code_of u))) default_instruction_limit)
         default_until default_instruction_limit (code_played cell header name u) (source_played cell header name u default_instruction_limit)
     unfolding code_played source_played
     run_stops stops =
-        listed_stop answers ready (setting_of cell header name u) table units stops default_instruction_limit default_entry_limit default_until
+        stops (setting_of cell header name u) table units default_instruction_limit default_entry_limit default_until
         (first_world name) (source_world name) begins_alike
 
-  pub few_steps_end_as_meant : SourcePlaysEnd → FewStepsEndAsMeant
+  pub few_steps_end_as_meant : ListedPlaysEnd → FewStepsEndAsMeant
   few_steps_end_as_meant ends cell header name u c t r c' t' h whole goes =
       meant texts cell header name u (code_played cell header name u) (source_played cell header name u sure_steps) c t r c' t'
       (run_ends cell header name u h.table h.unit ends goes) (code_told cell header name u c t r c' t' whole (plays cell header name u c t r c' t' h))
 
-  pub unstopped_runs_end_as_meant : CodePlaysEnd → UnstoppedRunsEndAsMeant
+  pub unstopped_runs_end_as_meant : ListedPlaysStop → UnstoppedRunsEndAsMeant
   unstopped_runs_end_as_meant stops cell header name u c t r c' t' h whole goes =
       let so = run_stops cell header name u h.table h.unit stops in
       meant texts cell header name u (code_played cell header name u) (source_played cell header name u default_instruction_limit) c t r c' t'
       (so.ends goes) (code_told cell header name u c t r c' t' whole (plays cell header name u c t r c' t' h))
 
-  pub stopped_runs_begin_as_meant : CodePlaysEnd → StoppedRunsBeginAsMeant
+  pub stopped_runs_begin_as_meant : ListedPlaysStop → StoppedRunsBeginAsMeant
   stopped_runs_begin_as_meant stops cell header name u c t r c' t' h whole stopped =
       let so = run_stops cell header name u h.table h.unit stops in
       let k = code_told cell header name u c t r c' t' whole (plays cell header name u c t r c' t' h) in

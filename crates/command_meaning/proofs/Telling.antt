@@ -9,20 +9,18 @@ use Rattle.module_player.specs.CodePlays.{code_end_text}
 use Rattle.nwq_work.specs.declared.status.Status.{Status}
 use Rattle.nwq_work.specs.declared.status.Status.TheVariants.{Code}
 use Rattle.nwq_work.specs.Work.{IsCut, Does, Finished}
-use Rattle.plan_plays.specs.Plays.{ends_by}
 use Rattle.plan_plays.specs.Scripts.{tells}
-use Rattle.command_meaning.specs.Runs.{answer_by}
+use Rattle.command_meaning.specs.Runs.{answer_by, EndsAreAnswered}
 
-ended : (e : PlayEnd) (c c' : Contents) (t t' : List ℕ) (r : Result Finished Status) → (IsCut r → ⊥) → Does (ends_by e) c t r c' t'
-    → (r ≡ answer_by e) × ((c' ≡ c) × (t' ≡ t))
-ended Done c c' t t' r whole (inl is, s) = (is, s)
-ended OutOfEntries c c' t t' r whole (inl is, s) = (is, s)
-ended StoppedInside c c' t t' r whole (inl is, s) = (is, s)
-ended Paused c c' t t' r whole (inl is, s) = (is, s)
-ended Done c c' t t' r whole (inr cut, s) = absurd (whole cut)
-ended OutOfEntries c c' t t' r whole (inr cut, s) = absurd (whole cut)
-ended StoppedInside c c' t t' r whole (inr cut, s) = absurd (whole cut)
-ended Paused c c' t t' r whole (inr cut, s) = absurd (whole cut)
+pub ends_are_answered : EndsAreAnswered
+ends_are_answered Done c t r c' t' whole (inl is, s) = (is, s)
+ends_are_answered OutOfEntries c t r c' t' whole (inl is, s) = (is, s)
+ends_are_answered StoppedInside c t r c' t' whole (inl is, s) = (is, s)
+ends_are_answered Paused c t r c' t' whole (inl is, s) = (is, s)
+ends_are_answered Done c t r c' t' whole (inr cut, s) = absurd (whole cut)
+ends_are_answered OutOfEntries c t r c' t' whole (inr cut, s) = absurd (whole cut)
+ends_are_answered StoppedInside c t r c' t' whole (inr cut, s) = absurd (whole cut)
+ends_are_answered Paused c t r c' t' whole (inr cut, s) = absurd (whole cut)
 
 -- its trace and the text of its end were put, and its answer is as it ends
 pub record Told (scripts : List Script) (p : Played Saved) (c : Contents) (t : List ℕ) (r : Result Finished Status) (c' : Contents) (t' : List ℕ) : Type 0 where
@@ -35,7 +33,7 @@ pub told : (scripts : List Script) (p : Played Saved) (c : Contents) (t : List �
 told scripts p c t r c' t' whole (inl cut) = absurd (whole cut.0)
 told scripts p c t r c' t' whole (inr (inl cut)) = absurd (whole cut.0)
 told scripts p c t r c' t' whole (inr (inr goes)) =
-    let e = ended p.ending c c' ((t ++ trace_text p.last.trace) ++ code_end_text scripts p) t' r whole goes in
+    let e = ends_are_answered p.ending c ((t ++ trace_text p.last.trace) ++ code_end_text scripts p) r c' t' whole goes in
     record { taken = e.1.1 ∙ append_assoc t (trace_text p.last.trace) (code_end_text scripts p); answer = e.0; contents = e.1.0 }
 
 -- no play ends with the status of refused code

@@ -2,3 +2,4 @@ pub mod Units
 pub mod Files
 pub mod Runs
 pub mod Scripts
+pub mod ListedPlays

@@ -20,9 +20,9 @@ use Rattle.play_meaning.specs.Together.{Begins, PlaysAlike, StoppedAt}
 use Rattle.play_meaning.specs.EndTexts.{source_end_text}
 use Rattle.nwq_work.specs.declared.status.Status.{Status}
 use Rattle.nwq_work.specs.declared.status.Status.TheVariants.{Limit}
-use Rattle.nwq_work.specs.Work.{IsCut, Finished}
+use Rattle.nwq_work.specs.Work.{Stays, IsCut, Does, Finished}
 use Rattle.plan_worlds.specs.Worlds.{text_name, start_of, first_world}
-use Rattle.plan_plays.specs.Plays.{host_of}
+use Rattle.plan_plays.specs.Plays.{host_of, ends_by}
 use Rattle.plan_plays.specs.Scripts.{listed, played}
 use Rattle.command_meaning.specs.Units.{code_of}
 use Rattle.command_meaning.specs.Files.{PlaysFile}
@@ -57,6 +57,12 @@ answer_by Done = Ok tt
 answer_by OutOfEntries = Err Limit
 answer_by StoppedInside = Err Limit
 answer_by Paused = Ok tt
+
+-- so each end of a play is answered that isn't cut
+abbrev pub EndsAreAnswered : Type 0
+EndsAreAnswered =
+    (e : PlayEnd) (c : Contents) (t : List ℕ) (r : Result Finished Status) (c' : Contents) (t' : List ℕ) → (IsCut r → ⊥) → Does (ends_by e) c t r c' t'
+    → (r ≡ answer_by e) × Stays c c' t t'
 
 -- The lines that a play of source tells were put, and then the text of its end, with the number of instructions that were made: at least one
 -- and at most 16 for each of its steps. The answer is as the play ends, and no file has changed.

@@ -1,7 +1,9 @@
 //! Laws about the work of commands, each the contract of a function that does nothing.
 ghost use Rattle.command_meaning.specs.Files.{FilesAreNotRefused, FilesPlayTheirCode};
-ghost use Rattle.command_meaning.specs.Runs.{FewStepsEndAsMeant, StoppedRunsBeginAsMeant};
-ghost use Rattle.command_meaning.specs.Runs.{UnstoppedRunsEndAsMeant};
+ghost use Rattle.command_meaning.specs.ListedPlays.{ListedPlaysEnd, ListedPlaysStop};
+ghost use Rattle.command_meaning.specs.ListedPlays.{ListedTextsAgree};
+ghost use Rattle.command_meaning.specs.Runs.{EndsAreAnswered, FewStepsEndAsMeant};
+ghost use Rattle.command_meaning.specs.Runs.{StoppedRunsBeginAsMeant, UnstoppedRunsEndAsMeant};
 ghost use Rattle.command_meaning.specs.Scripts.{ScriptsHaveUnits, ScriptsPlayUnits};
 ghost use Rattle.command_meaning.specs.Units.{TablesAnswerInTypes, UnitsAreWellTyped, UnitsPass};
 
@@ -59,6 +61,26 @@ pub fn tables_answer_in_types()
     tables_type_execute_script();
 }
 
+/// The code of listed typed units and their sources are played alike, from worlds that are alike:
+/// where the entries of the sources end in few steps, and in any case where no entry of the code is
+/// stopped. Where one is, its lines are a beginning. Plays that are alike have one text at the end.
+pub fn listed_units_play_alike()
+    ensures end { ListedPlaysEnd }
+    ensures stop { ListedPlaysStop }
+    ensures texts { ListedTextsAgree }
+{
+    tables_answer_in_types();
+    typed_scripts_are_ready();
+    source_plays_end();
+    code_plays_end();
+    end_texts_agree();
+}
+
+/// A command answers as its play ends, where it isn't cut.
+pub fn ends_are_answered()
+    ensures answered { EndsAreAnswered }
+{}
+
 /// The play of a typed unit's file is told as its source means, with the end that the source has:
 /// where each entry of the source ends in 8,192 steps, and in any case where no entry of the code
 /// was stopped. Where one was, exactly as many instructions were made in it as an entry may take,
@@ -69,11 +91,7 @@ pub fn runs_end_as_meant()
     ensures stopped { StoppedRunsBeginAsMeant }
 {
     files_play_their_code();
-    tables_answer_in_types();
-    typed_scripts_are_ready();
-    source_plays_end();
-    code_plays_end();
-    end_texts_agree();
+    listed_units_play_alike();
     entries_stay_alike();
 }
 

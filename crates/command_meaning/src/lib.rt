@@ -13,6 +13,6 @@
 mod laws;
 
 pub use laws::{
-    files_play_their_code, runs_end_as_meant, scripts_play_units, tables_answer_in_types,
-    units_are_well_typed, units_pass,
+    ends_are_answered, files_play_their_code, listed_units_play_alike, runs_end_as_meant,
+    scripts_play_units, tables_answer_in_types, units_are_well_typed, units_pass,
 };

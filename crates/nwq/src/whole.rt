@@ -2,7 +2,7 @@ ghost use Rattle.std.specs.Prelude.{◌≡◌, ◌≤◌, [], map, IsTrue, IfOk}
 ghost use Rattle.hook_table.specs.Standard.{function_numbered, IsAnswer};
 ghost use Rattle.nwq_work.specs.Work.{IsCut, Does, ending};
 ghost use Rattle.nwq_work.specs.Counts.{Counted, Tallies, KeepsBut};
-ghost use Rattle.words_meaning.specs.Reading.{AreBytes};
+ghost use Rattle.nwq_work.specs.Reading.{AreBytes};
 ghost use Rattle.nwq_top.specs.Words.{form_of};
 ghost use Rattle.nwq_top.specs.Command.{work_with, whole_work, MayWrite};
 ghost use Rattle.nwq_top.specs.Endings.{ComesOf};

@@ -1,81 +1,22 @@
 -- The work that reads tables, and the tables that are there.
-use Rattle.std.proofs.Common.{arith, ◌≡◌, inl, inr, Bool, true, false, ℕ, ◌<◌, ◌≤◌, nat_lt, List, [], ◌∷◌, ◌++◌, length, Option, Some, None, Result, Ok, Err, sym, refl, subst, ap, ◌∙◌, append_assoc}
-use Rattle.std.proofs.lemmas.Bool.Decides.{nat_tests}
+use Rattle.std.proofs.Common.{◌≡◌, inl, inr, ℕ, List, [], ◌∷◌, ◌++◌, Option, Some, None, Result, Ok, Err, sym, refl, subst, ap, ◌∙◌, append_assoc}
 use Rattle.std.proofs.lemmas.List.{append-nil}
-use Rattle.std.specs.FinMap as fin_map
-use Rattle.nwq_value.specs.Limits.{file_limit}
 use Rattle.nwq_outside.specs.Outside.{Contents}
 use Rattle.table_2da.specs.declared.tables.Named.{Named}
 use Rattle.table_2da.specs.Table.{PlainTable}
 use Rattle.nwq_work.specs.declared.flaw.AreaFlaw.TheVariants as flaw
 use Rattle.nwq_work.specs.declared.status.Status.{Status}
-use Rattle.nwq_work.specs.Refusal.{Refusal, Absent, TooLong, BadArea, line_of, status_of}
-use Rattle.nwq_work.specs.Work.{Gives, Does, by_size, bytes_of, file_named}
+use Rattle.nwq_work.specs.Refusal.{Refusal, BadArea, line_of, status_of}
+use Rattle.nwq_work.specs.Work.{Gives, Does, file_named}
 use Rattle.nwq_work.specs.Parts.{then_ok, then_err}
+use Rattle.nwq_work.specs.Reading.{IsRead, IsUnread}
+use Rattle.nwq_work.specs.Comes.{Came, gave, stopped, cut, gives_does, refused_does, given_comes, refusal_comes, then_comes, read_does, unread_does, file_comes}
 use Rattle.nwq_tables.specs.Lists as lists
 use Rattle.nwq_tables.specs.Lists.{names_in, names_listed}
 use Rattle.nwq_tables.specs.Tables as tables_of
 use Rattle.nwq_tables.specs.Tables.{table_file, table_in, table_of, with_table, one_more, all_behind, tables_listed, tables_given}
-use Rattle.words_meaning.specs.Reading.{IsRead, IsUnread, absent, long}
-use Rattle.words_meaning.proofs.Coming.{Came, gave, stopped, cut, gives_does, refused_does, given_comes, refusal_comes, then_comes}
 use Rattle.nwq_top.specs.GivenTables as given
 use Rattle.nwq_top.specs.GivenTables.{ReadsList, RefusesList, ReadsTable, RefusesTable, HasTables, RefusesTables, GivesTables, RefusesGiven}
-
--- ---- a file
-
-is_small : (n : ℕ) → n ≤ file_limit → nat_lt file_limit n ≡ false
-is_small n small = by_test (nat_lt file_limit n) refl
-  where
-    by_test : (b : Bool) → nat_lt file_limit n ≡ b → b ≡ false
-    by_test true e = let more : file_limit < n = grind (arith, nat_tests) in absurd (omega (arith, more, small))
-    by_test false e = refl
-
-is_large : (n : ℕ) → file_limit < n → nat_lt file_limit n ≡ true
-is_large n large = by_test (nat_lt file_limit n) refl
-  where
-    by_test : (b : Bool) → nat_lt file_limit n ≡ b → b ≡ true
-    by_test true e = refl
-    by_test false e = let less : n ≤ file_limit = grind (arith, nat_tests) in absurd (omega (arith, less, large))
-
-module _ (c : Contents) (t : List ℕ) (name : List ℕ) where
-  size_does : (b : Bool) (bytes : List ℕ) → b ≡ false → Does (by_size b name bytes) c t (Ok bytes) c t
-  size_does true bytes e = absurd cc
-  size_does false bytes e = gives_does bytes c t
-
-  size_refuses : (b : Bool) (bytes : List ℕ) → b ≡ true → Does (by_size b name bytes) c t (Err (status_of (TooLong name))) c (t ++ line_of (TooLong name))
-  size_refuses true bytes e = refused_does (TooLong name) c t
-  size_refuses false bytes e = absurd cc
-
-  read_does : (bytes : List ℕ) → IsRead c name bytes → Does (file_named name) c t (Ok bytes) c t
-  unfolding file_named
-  read_does bytes h =
-      inr (record { found = Some bytes; is = sym h.held; goes = size_does (nat_lt file_limit (length bytes)) bytes (is_small (length bytes) h.small) })
-
-  unread_does : (why : Refusal) → IsUnread c name why → Does (file_named name) c t (Err (status_of why)) c (t ++ line_of why)
-  unfolding file_named
-  unread_does why (absent none) = inr (record { found = None; is = sym none; goes = refused_does (Absent name) c t })
-  unread_does why (long bytes held large) =
-      inr (record { found = Some bytes; is = sym held; goes = size_refuses (nat_lt file_limit (length bytes)) bytes (is_large (length bytes) large) })
-
-  module _ (r : Result (List ℕ) Status) (c' : Contents) (t' : List ℕ) where
-    abbrev FileComes : Type 0
-    FileComes = Came (IsRead c name) (IsUnread c name) c t r c' t'
-
-    size_comes : (bytes : List ℕ) → fin_map.get c name ≡ Some bytes → (b : Bool) → nat_lt file_limit (length bytes) ≡ b → Does (by_size b name bytes) c t r c' t'
-        → FileComes
-    size_comes bytes held true e does =
-        refusal_comes (IsRead c name) (IsUnread c name) c t r c' t' (TooLong name) (long bytes held (grind (arith, nat_tests))) does
-    size_comes bytes held false e does =
-        given_comes (IsRead c name) (IsUnread c name) c t r c' t' bytes (record { held = held; small = grind (arith, nat_tests) }) does
-
-    content_comes : (content : Option (List ℕ)) → content ≡ fin_map.get c name → Does (bytes_of name content) c t r c' t' → FileComes
-    content_comes None is does = refusal_comes (IsRead c name) (IsUnread c name) c t r c' t' (Absent name) (absent (sym is)) does
-    content_comes (Some bytes) is does = size_comes bytes (sym is) (nat_lt file_limit (length bytes)) refl does
-
-    file_comes : Does (file_named name) c t r c' t' → FileComes
-    unfolding file_named
-    file_comes (inl x) = cut x.0
-    file_comes (inr h) = content_comes h.found h.is h.goes
 
 -- ---- the list
 

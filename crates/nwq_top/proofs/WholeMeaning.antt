@@ -3,28 +3,21 @@ use Rattle.std.proofs.Common.{ℕ, List, ◌++◌, Result, Ok, Err, ap, ◌∙�
 use Rattle.nwq_outside.specs.Outside.{Contents}
 use Rattle.table_2da.specs.Look.{cell_of}
 use Rattle.nwq_work.specs.declared.status.Status.{Status}
-use Rattle.nwq_work.specs.Refusal.{Refusal, NoForm, Absent, TooLong, At, BadCode, BadArea, line_of, status_of}
-use Rattle.nwq_work.specs.Work.{then, CutsShort, IsCut, Does, Finished}
+use Rattle.nwq_work.specs.Refusal.{Refusal, line_of, status_of}
+use Rattle.nwq_work.specs.Work.{then, IsCut, Does, Finished}
+use Rattle.nwq_work.specs.Parts.{status_or}
 use Rattle.nwq_work.specs.Outcomes.{agree}
+use Rattle.nwq_work.specs.Sequences.{then_known}
+use Rattle.nwq_work.specs.Reading.{AreBytes}
+use Rattle.nwq_work.specs.Comes.{refusal_not_cut, Follows, follows, ends, cuts, then_follows}
 use Rattle.nwq_tables.specs.Tables.{tables_given}
 use Rattle.nwq_tables.specs.Laws.{SureTables}
-use Rattle.words_meaning.specs.Reading.{AreBytes}
 use Rattle.words_meaning.specs.Refusing.{IsRefused}
-use Rattle.words_meaning.proofs.Coming.{status_or, Follows, follows, ends, cuts, then_follows, then_known}
 use Rattle.nwq_top.specs.Words.{Form, list_of}
 use Rattle.nwq_top.specs.Command.{work_with, whole_work}
 use Rattle.nwq_top.specs.GivenTables.{GivesTables, RefusesGiven, TablesCome, refused, accepted}
 use Rattle.nwq_top.specs.Meaning.{MeansWhole, WorkMeans, WholeMeans}
 use Rattle.nwq_top.proofs.GivenTables.{given_do, given_refuse, given_come}
-
--- no refusal is a cut
-not_cut : (why : Refusal) → CutsShort (status_of why) → ⊥
-not_cut NoForm x = x
-not_cut (Absent name) x = x
-not_cut (TooLong name) x = x
-not_cut (At name line place cause) x = x
-not_cut (BadCode name flaw) x = x
-not_cut (BadArea name flaw) x = x
 
 module _ (works : WorkMeans) (sure : SureTables) (form : Form) (c : Contents) (t : List ℕ) (r : Result Finished Status) (c' : Contents) (t' : List ℕ)
     (held : AreBytes c) (whole : IsCut r → ⊥) where
@@ -39,12 +32,12 @@ module _ (works : WorkMeans) (sure : SureTables) (form : Form) (c : Contents) (t
   -- what is refused is refused for one cause
   refused_so : (why : Refusal) → RefusesGiven c (list_of form) why → Goes → IsRefused why c t r c' t'
   refused_so why is (follows tables gives does) =
-      let same = agree (tables_given (list_of form)) (sure (list_of form)) (Ok tables) (Err (status_of why)) c c c t t (t ++ line_of why) (λ x. x) (not_cut why)
+      let same = agree (tables_given (list_of form)) (sure (list_of form)) (Ok tables) (Err (status_of why)) c c c t t (t ++ line_of why) (λ x. x) (refusal_not_cut why)
       (given_do c t (list_of form) tables gives) (given_refuse c t (list_of form) why is) in
       let apart = same.answer in absurd cc
   refused_so why is (ends other so e p q) =
       let same = agree (tables_given (list_of form)) (sure (list_of form)) (Err (status_of other)) (Err (status_of why)) c c c t (t ++ line_of other) (t ++ line_of why)
-      (not_cut other) (not_cut why) (given_refuse c t (list_of form) other so) (given_refuse c t (list_of form) why is) in
+      (refusal_not_cut other) (refusal_not_cut why) (given_refuse c t (list_of form) other so) (given_refuse c t (list_of form) why is) in
       record { answer = e ∙ ap Err (ap (status_or (status_of why)) same.answer); taken = q ∙ same.taken; contents = p }
   refused_so why is (cuts x) = absurd (whole x)
 

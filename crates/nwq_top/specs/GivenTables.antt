@@ -7,9 +7,9 @@ use Rattle.table_2da.specs.Grammar.{HasTable, IsFaulty}
 use Rattle.table_2da.specs.Table.{PlainTable}
 use Rattle.nwq_work.specs.declared.flaw.AreaFlaw.TheVariants as flaw
 use Rattle.nwq_work.specs.Refusal.{Refusal, BadArea}
+use Rattle.nwq_work.specs.Reading.{IsRead, IsUnread}
 use Rattle.nwq_tables.specs.Lists.{HasNames, HasBadLine}
 use Rattle.nwq_tables.specs.Tables.{table_file}
-use Rattle.words_meaning.specs.Reading.{IsRead, IsUnread}
 
 -- ---- the list
 

@@ -8,11 +8,11 @@ use Rattle.play_generator.specs.Made.{number_limit}
 use Rattle.nwq_work.specs.declared.status.Status.{Status}
 use Rattle.nwq_work.specs.Refusal.{Refusal}
 use Rattle.nwq_work.specs.Work.{IsCut, Does, Finished}
-use Rattle.words_meaning.specs.Reading.{AreBytes}
+use Rattle.nwq_work.specs.Reading.{AreBytes}
 use Rattle.words_meaning.specs.Refusing.{IsRefused}
 use Rattle.words_meaning.specs.Runs.{MeansRun, MeansCompile}
-use Rattle.words_meaning.specs.Plans.{MeansPlay}
-use Rattle.generated_meaning.specs.Generated.{MeansGenerate}
+use Rattle.words_meaning.specs.Plays.{MeansPlay}
+use Rattle.words_meaning.specs.Generated.{MeansGenerate}
 use Rattle.nwq_top.specs.Words.{Form, Run, Compile, Tree, Check, Disassemble, Assemble, Play, Generate, NoForm, list_of}
 use Rattle.nwq_top.specs.Command.{work_of, whole_work}
 use Rattle.nwq_top.specs.GivenTables.{GivesTables, RefusesGiven, TablesCome}

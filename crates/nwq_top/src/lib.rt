@@ -4,9 +4,8 @@
 //! `run_all` of `nwq` calls. What a command does is a [`Work`](../../nwq_work/specs/Work.antt), a
 //! function of the form of its words (`specs/Command.antt`), and the clause `does` says that the
 //! call did it. The clause `means` says what that is in the words of the language: `words_meaning`
-//! and `generated_meaning` have the definitions, and the laws by which the one follows from the
-//! other. The parts of that work that read sources are `nwq_sources`', and its commands over other
-//! files `nwq_files`'.
+//! has the definitions, and the laws by which the one follows from the other. The parts of that
+//! work that read sources are `nwq_sources`', and its commands over other files `nwq_files`'.
 //!
 //! The tables that its scripts look cells up in are [`nwq_tables`]', which comes first: the tables
 //! are read, hooks are made with them, and `nwq_main` is handed these hooks and the same words.
@@ -25,7 +24,7 @@ ghost use Rattle.std.specs.Prelude.{map, string_bytes, IsTrue};
 ghost use Rattle.world_core.specs.Calls.{cells_of, AreServing};
 ghost use Rattle.nwq_work.specs.Work.{IsCut, Does, ending};
 ghost use Rattle.nwq_work.specs.Counts.{Counted, Tallies, KeepsBut};
-ghost use Rattle.words_meaning.specs.Reading.{AreBytes};
+ghost use Rattle.nwq_work.specs.Reading.{AreBytes};
 ghost use Rattle.nwq_top.specs.Words.{form_of};
 ghost use Rattle.nwq_top.specs.Command.{work_of, MayWrite};
 ghost use Rattle.nwq_top.specs.Endings.{ComesOf};

@@ -5,7 +5,7 @@ ghost use Rattle.nwq_work.specs.Counts.{Counted, Tallies, KeepsBut, StopsArea};
 ghost use Rattle.nwq_tables.specs.Tables.{tables_given};
 ghost use Rattle.nwq_top.specs.Words.{form_of, list_of};
 ghost use Rattle.nwq_top.specs.Command.{work_of, MayWrite};
-ghost use Rattle.words_meaning.specs.Reading.{AreBytes};
+ghost use Rattle.nwq_work.specs.Reading.{AreBytes};
 ghost use Rattle.nwq_top.specs.Endings.{ComesOf};
 ghost use Rattle.nwq_top.specs.Meaning.{Means};
 ghost use Rattle.nwq_top.specs.Program.{status_number, status_numbered, words_of, usage_line};

@@ -4,3 +4,6 @@ pub mod Work
 pub mod Counts
 pub mod Parts
 pub mod Outcomes
+pub mod Sequences
+pub mod Reading
+pub mod Comes

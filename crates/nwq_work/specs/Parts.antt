@@ -22,11 +22,11 @@ Refuses refusal t answer t' =
 
 -- ---- answers are told apart
 
-abbrev value_or : {A : Type 0} → A → Result A Status → A
+abbrev pub value_or : {A : Type 0} → A → Result A Status → A
 value_or other (Ok a) = a
 value_or other (Err status) = other
 
-abbrev status_or : {A : Type 0} → Status → Result A Status → Status
+abbrev pub status_or : {A : Type 0} → Status → Result A Status → Status
 status_or other (Ok a) = other
 status_or other (Err status) = status
 
@@ -46,10 +46,10 @@ ok_same a b e = ap (value_or a) e
 err_same : {A : Type 0} (d e : Status) → IsStatus {A = A} (Err d) e → d ≡ e
 err_same d e p = ap (status_or d) p
 
-ok_not_err : {A : Type 0} (a : A) (e : Status) → IsStatus {A = A} (Ok a) e → ⊥
+pub ok_not_err : {A : Type 0} (a : A) (e : Status) → IsStatus {A = A} (Ok a) e → ⊥
 ok_not_err a e p = subst GaveValue p tt
 
-err_not_ok : {A : Type 0} (a : A) (e : Status) → IsValue {A = A} (Err e) a → ⊥
+pub err_not_ok : {A : Type 0} (a : A) (e : Status) → IsValue {A = A} (Err e) a → ⊥
 err_not_ok a e p = subst GaveValue (sym p) tt
 
 -- ---- the lemmas

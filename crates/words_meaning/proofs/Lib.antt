@@ -1,7 +1,11 @@
-pub mod Coming
-mod Reading
-pub mod Sources
-pub mod Listing
-mod Plans
+mod Headers
+mod Sources
+mod Listing
+mod ListedUnits
+mod SourcePlans
+mod PlansAndAreas
 mod Running
 mod Playing
+mod MadeSource
+mod MadeTelling
+mod Generating

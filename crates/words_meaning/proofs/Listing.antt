@@ -22,23 +22,23 @@ use Rattle.source_meaning.specs.Executing.{script_of}
 use Rattle.nwq_work.specs.declared.status.Status.{Status}
 use Rattle.nwq_work.specs.Refusal.{Refusal, line_of, status_of}
 use Rattle.nwq_work.specs.Work.{Gives, IsCut, Does, writes}
-use Rattle.nwq_work.specs.Parts.{then_ok, then_err}
+use Rattle.nwq_work.specs.Parts.{value_or, status_or, then_ok, then_err}
 use Rattle.nwq_work.specs.Outcomes.{agree}
+use Rattle.nwq_work.specs.Sequences.{Parts, ends_first, goes_on, parts}
+use Rattle.nwq_work.specs.Comes.{Came, gave, stopped, cut, gives_does, Follows, follows, ends, cuts, then_follows}
 use Rattle.nwq_files.specs.Codes.{code_in}
 use Rattle.nwq_files.specs.Codes as code
-use Rattle.nwq_checks.specs.Checks.{checked_in, checked_named, loaded_in}
+use Rattle.nwq_checks.specs.Checks.{checked_in, loaded_in}
 use Rattle.nwq_checks.specs.Checks as check
 use Rattle.nwq_scripts.specs.Files.{code_name, compiled_named}
 use Rattle.nwq_checks.specs.Laws.{SureLoaded}
 use Rattle.nwq_listings.specs.Listings.{writes_loaded, source_named, code_by, playable, script_in, lists_on}
 use Rattle.command_meaning.specs.Units.{code_of, Passes, UnitsPass}
 use Rattle.command_meaning.specs.Scripts.{HoldBytes, ScriptsHaveUnits}
-use Rattle.command_meaning.proofs.Compiling.{Parts, ends_first, goes_on, parts}
 use Rattle.words_meaning.specs.Accepting.{Compiles, HasCode, with_file, HasLine, HasScripts, HasSources}
 use Rattle.words_meaning.specs.Accepting as accepting
 use Rattle.words_meaning.specs.Refusing.{RefusesSource, RefusesBinary, RefusesLine, RefusesScripts, here, later}
 use Rattle.words_meaning.specs.Refusing as refusing
-use Rattle.words_meaning.proofs.Coming.{value_or, status_or, Came, gave, stopped, cut, gives_does, Follows, follows, ends, cuts, then_follows}
 use Rattle.words_meaning.proofs.Sources.{IsMade, source_does, source_refuses, source_comes, binary_does, binary_refuses, binary_comes}
 
 -- ---- source texts stay bytes where a file of bytecode is written

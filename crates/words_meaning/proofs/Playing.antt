@@ -1,5 +1,5 @@
 -- What `play` does.
-use Rattle.std.proofs.Common.{◌≡◌, ℕ, zero, suc, List, [], ◌++◌, map, Some, slice_get, Result, Ok, Err, sym, subst, ap, ◌∙◌, inl, inr, append_assoc}
+use Rattle.std.proofs.Common.{◌≡◌, ℕ, List, [], ◌++◌, map, Result, Ok, Err, sym, subst, ap, ◌∙◌, inl, inr, append_assoc}
 use Rattle.std.specs.FinMap as fin_map
 use Rattle.nwq_value.specs.Engine.{EngineTable, IsTable}
 use Rattle.nwq_outside.specs.Outside.{Contents}
@@ -12,7 +12,6 @@ use Rattle.play_steps.specs.Plays.{PlayEnd, Done, OutOfEntries, StoppedInside, P
 use Rattle.play_meaning.specs.EndTexts.{source_end_text}
 use Rattle.source_meaning.specs.Evaluation.{Deferred}
 use Rattle.plan_text.specs.declared.plan.Plan.{Plan}
-use Rattle.plan_text.specs.declared.plan.Script.{Script as ScriptLine}
 use Rattle.machine_step.specs.Machine.{Script}
 use Rattle.engine_rows.specs.Pure.{CellLookup}
 use Rattle.source_meaning.specs.Scripts.{Listed, Setting}
@@ -22,7 +21,10 @@ use Rattle.header_tables.specs.Laws.{HeadersHaveTables, BuiltInIsTable}
 use Rattle.nwq_work.specs.declared.status.Status.{Status}
 use Rattle.nwq_work.specs.Refusal.{Refusal, line_of, status_of}
 use Rattle.nwq_work.specs.Work.{Puts, then, puts, writes, IsCut, Does, Finished}
-use Rattle.nwq_work.specs.Parts.{then_ok, then_err}
+use Rattle.nwq_work.specs.Parts.{value_or, then_ok, then_err}
+use Rattle.nwq_work.specs.Sequences.{Parts, ends_first, goes_on, parts, then_known}
+use Rattle.nwq_work.specs.Reading.{AreBytes}
+use Rattle.nwq_work.specs.Comes.{refusal_not_cut, Follows, follows, ends, cuts, then_follows}
 use Rattle.nwq_sources.specs.Headers.{table_of}
 use Rattle.nwq_sources.specs.Laws.{SureTables}
 use Rattle.nwq_areas.specs.Plans.{plan_named}
@@ -34,31 +36,19 @@ use Rattle.nwq_listings.specs.Listings.{lists_on, scripts_listed}
 use Rattle.nwq_listings.specs.Laws.{SureListed}
 use Rattle.nwq_games.specs.Games.{ends_by, plays_plan, plays_area, plays_scripts, plays_under, plays}
 use Rattle.nwq_games.specs.Laws.{SurePlays}
-use Rattle.command_meaning.specs.Units.{IsUnitOf, UnitsPass}
-use Rattle.command_meaning.specs.Scripts.{HoldBytes, ScriptsHaveUnits}
-use Rattle.command_meaning.proofs.Compiling.{Parts, ends_first, goes_on, parts}
-use Rattle.plan_meaning.specs.Plans.{listing_of, source_plan_played, code_plan_played, PlaysSources, FewStepsPlayAsMeant, UnstoppedPlansPlayAsMeant, StoppedPlansBeginAsMeant}
-use Rattle.words_meaning.specs.Reading.{AreBytes}
-use Rattle.words_meaning.specs.Accepting.{HasHeader, HasSources, with_file, ReadsPlan, ReadsArea}
+use Rattle.command_meaning.specs.Units.{UnitsPass}
+use Rattle.command_meaning.specs.Scripts.{ScriptsHaveUnits}
+use Rattle.words_meaning.specs.SourcePlans.{listing_of, source_plan_played, code_plan_played, PlaysSources, FewStepsPlayAsMeant, UnstoppedPlansPlayAsMeant, StoppedPlansBeginAsMeant}
+use Rattle.words_meaning.specs.Accepting.{HasHeader, ReadsPlan, ReadsArea}
 use Rattle.words_meaning.specs.Accepting as accepting
 use Rattle.words_meaning.specs.Refusing.{RefusesHeader, RefusesPlan, RefusesArea, IsRefused}
-use Rattle.words_meaning.specs.Plans.{AcceptsPlay, AcceptsSources, RefusesPlay, of_plan, of_header, of_script, of_area, PlayComes, refused, accepted, IsDone, MeansSources}
+use Rattle.words_meaning.specs.Plays.{AcceptsPlay, AcceptsSources, RefusesPlay, of_plan, of_header, of_script, of_area, PlayComes, refused, accepted, IsDone, MeansSources}
 use Rattle.words_meaning.specs.Laws.{PlaysMean}
-use Rattle.words_meaning.proofs.Coming.{value_or, Follows, follows, ends, cuts, then_follows, then_known}
-use Rattle.words_meaning.proofs.Reading.{header_does, header_refuses, header_comes, is_table}
-use Rattle.words_meaning.proofs.Plans.{plan_does, plan_refuses, plan_comes, area_does, area_refuses, area_comes}
-use Rattle.words_meaning.proofs.Listing.{scripts_do, scripts_refuse, Listings, all_listed, one_refused, scripts_come, are_scripts, still_bytes}
-use Rattle.words_meaning.proofs.Running.{not_stopped, source_bytes, as_refused, not_cut}
-
--- each listed unit is that of a script
-are_units : ScriptsHaveUnits → (header : EngineTable) (lines : List ScriptLine) (c d : Contents) (listed : List Listed) → HoldBytes c → HasSources header lines c listed d
-    → (n : ℕ) (l : Listed) → slice_get listed n ≡ Some l → IsUnitOf header l.unit
-are_units units header lines c d listed held (accepting.none _) n l is = absurd cc
-are_units units header lines c d listed held (accepting.more line rest _ _ unit others e h hs) zero l is =
-    let same : record { name = line.name; unit = unit } ≡ l = cc in
-    subst (λ (x : Listed). IsUnitOf header x.unit) same (units header c line.name unit held h.script)
-are_units units header lines c d listed held (accepting.more line rest _ _ unit others e h hs) (suc n) l is =
-    are_units units header rest (with_file c line.name unit) d others (still_bytes c line.name unit held) hs n l is
+use Rattle.words_meaning.proofs.Headers.{header_does, header_refuses, header_comes, is_table}
+use Rattle.words_meaning.proofs.PlansAndAreas.{plan_does, plan_refuses, plan_comes, area_does, area_refuses, area_comes}
+use Rattle.words_meaning.proofs.Listing.{scripts_do, scripts_refuse, Listings, all_listed, one_refused, scripts_come, are_scripts}
+use Rattle.words_meaning.proofs.ListedUnits.{listed_units}
+use Rattle.words_meaning.proofs.Running.{not_stopped, source_bytes, as_refused}
 
 module _ (pass : UnitsPass) (units : ScriptsHaveUnits) (least : LeastIsTheKept) (reads : HeadersHaveTables) (own : BuiltInIsTable)
     (plans : SurePlans) (tables : SureTables) (loaded : SureLoaded) (lists : SureListed) (areas : SureAreas) (games : SurePlays) where
@@ -152,7 +142,7 @@ module _ (pass : UnitsPass) (units : ScriptsHaveUnits) (least : LeastIsTheKept) 
 
     play_refused : (why : Refusal) (left : Contents) → RefusesPlay header area plan c why left → Does (plays cell header area plan to) c t r c' t' → IsRefused why left t r c' t'
     play_refused why left is does =
-        as_refused (plays cell header area plan to) (games cell header area plan to) why c left c' t t' r whole (not_cut why) (could_refuse why left is) does
+        as_refused (plays cell header area plan to) (games cell header area plan to) why c left c' t t' r whole (refusal_not_cut why) (could_refuse why left is) does
 
     -- ---- where it is accepted
 
@@ -205,7 +195,7 @@ module _ (pass : UnitsPass) (units : ScriptsHaveUnits) (least : LeastIsTheKept) 
         record { reads_plan = h.reads_plan; has_header = h.has_header; lists = are_scripts table p.scripts c left listed h.lists; reads_area = h.reads_area } in
         let played : PlaysSources cell table a p listed to left t r c' t' = record {
           table = kept;
-          units = are_units units table p.scripts c left listed (source_bytes c held) h.lists;
+          units = λ n l is. let one = listed_units table units p.scripts c left listed (source_bytes c held) h.lists n l is in one.unit;
           does = play_goes cell header area plan to c t r c' t' held whole table p (map script_of listed) a left all does;
         } in
         record {

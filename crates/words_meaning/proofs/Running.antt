@@ -8,10 +8,13 @@ use Rattle.code_emission.specs.Units.{unit_file}
 use Rattle.parsed_faults.specs.Laws.{LeastIsTheKept}
 use Rattle.header_tables.specs.Laws.{HeadersHaveTables, BuiltInIsTable}
 use Rattle.nwq_work.specs.declared.status.Status.{Status}
-use Rattle.nwq_work.specs.Refusal.{Refusal, NoForm, Absent, TooLong, At, BadCode, BadArea, line_of, status_of}
+use Rattle.nwq_work.specs.Refusal.{Refusal, line_of, status_of}
 use Rattle.nwq_work.specs.Work.{Work, then, IsCut, Does, Finished, puts, writes}
 use Rattle.nwq_work.specs.Parts.{then_ok, then_err}
 use Rattle.nwq_work.specs.Outcomes.{IsSure, agree, sure_then, sure_writes, sure_puts}
+use Rattle.nwq_work.specs.Sequences.{then_known}
+use Rattle.nwq_work.specs.Reading.{AreBytes}
+use Rattle.nwq_work.specs.Comes.{refusal_not_cut, Follows, follows, ends, cuts, then_follows}
 use Rattle.nwq_sources.specs.Headers.{table_of}
 use Rattle.nwq_sources.specs.Laws.{SureTables}
 use Rattle.nwq_files.specs.Commands.{writes_and_puts}
@@ -25,13 +28,11 @@ use Rattle.command_meaning.specs.Files.{PlaysFile}
 use Rattle.play_steps.specs.Plays.{Done, StoppedInside}
 use Rattle.command_meaning.specs.Runs.{answer_by, FewStepsEndAsMeant, UnstoppedRunsEndAsMeant, StoppedRunsBeginAsMeant}
 use Rattle.command_meaning.specs.Scripts.{HoldBytes, ScriptsHaveUnits}
-use Rattle.words_meaning.specs.Reading.{AreBytes}
 use Rattle.words_meaning.specs.Accepting.{HasHeader}
 use Rattle.words_meaning.specs.Refusing.{RefusesHeader, RefusesSource, IsRefused}
 use Rattle.words_meaning.specs.Runs.{AcceptsScript, RefusesScript, of_header, of_source, ScriptComes, refused, accepted, IsCompiled}
 use Rattle.words_meaning.specs.Laws.{RunsMean, CompilesMean}
-use Rattle.words_meaning.proofs.Coming.{Follows, follows, ends, cuts, then_follows, then_known}
-use Rattle.words_meaning.proofs.Reading.{header_does, header_refuses, header_comes, is_table}
+use Rattle.words_meaning.proofs.Headers.{header_does, header_refuses, header_comes, is_table}
 use Rattle.words_meaning.proofs.Sources.{IsMade, source_does, source_refuses, source_comes}
 use Rattle.words_meaning.proofs.Listing.{compiles as compiles_so}
 
@@ -48,15 +49,6 @@ pub as_refused : (w : Work Finished) → IsSure w → (why : Refusal) (c d c' : 
 as_refused w sure why c d c' t t' r whole plain could does =
     let same = agree w sure r (Err (status_of why)) c c' d t t' (t ++ line_of why) whole plain does could in
     record { answer = same.answer; taken = same.taken; contents = same.contents }
-
--- no refusal is a cut
-pub not_cut : (why : Refusal) → IsCut {A = Finished} (Err (status_of why)) → ⊥
-not_cut NoForm x = x
-not_cut (Absent name) x = x
-not_cut (TooLong name) x = x
-not_cut (At name line place cause) x = x
-not_cut (BadCode name flaw) x = x
-not_cut (BadArea name flaw) x = x
 
 -- ---- a script is compiled, and something is done with its file
 
@@ -99,7 +91,7 @@ module _ (pass : UnitsPass) (units : ScriptsHaveUnits) (least : LeastIsTheKept) 
     pub script_refused : (why : Refusal) → RefusesScript header script c why
         → Does (then (table_of header) (λ table. then (compiled_named table script) (next table))) c t r c' t' → IsRefused why c t r c' t'
     script_refused why is does =
-        as_refused (then (table_of header) (λ table. then (compiled_named table script) (next table))) sure_work why c c c' t t' r whole (not_cut why) (could_refuse why is) does
+        as_refused (then (table_of header) (λ table. then (compiled_named table script) (next table))) sure_work why c c c' t t' r whole (refusal_not_cut why) (could_refuse why is) does
 
     pub script_goes : (table : EngineTable) (unit : TypedUnit) → AcceptsScript header script c table unit
         → Does (then (table_of header) (λ x. then (compiled_named x script) (next x))) c t r c' t' → Does (next table (unit_file unit)) c t r c' t'

@@ -1,5 +1,5 @@
 -- Scripts that are compiled or refused, and files of bytecode that are checked.
-use Rattle.std.proofs.Common.{arith, ◌≡◌, ◌↔◌, ◌≤◌, inl, inr, Bool, true, false, ℕ, nat_lt, List, ◌++◌, length, Some, None, Result, Ok, Err, sym, subst, ap, refl}
+use Rattle.std.proofs.Common.{arith, ◌≡◌, ◌↔◌, ◌≤◌, inl, inr, Bool, true, false, ℕ, nat_lt, List, ◌++◌, length, Some, None, Result, Ok, Err, sym, subst, ap, refl, le-ltb, lt-ltb}
 use Rattle.std.proofs.lemmas.Bool.Decides.{nat_tests}
 use Rattle.std.specs.FinMap as fin_map
 use Rattle.nwq_value.specs.Limits.{file_limit}
@@ -22,6 +22,8 @@ use Rattle.nwq_work.specs.declared.status.Status.{Status}
 use Rattle.nwq_work.specs.Refusal.{Refusal, Absent, TooLong, BadCode, line_of, status_of}
 use Rattle.nwq_work.specs.Work.{Refused, then, Does, file_named}
 use Rattle.nwq_work.specs.Parts.{then_ok, then_err}
+use Rattle.nwq_work.specs.Reading.{IsRead, IsUnread}
+use Rattle.nwq_work.specs.Comes.{Came, cut, gives_does, refused_does, given_comes, refusal_comes, then_comes, read_does, unread_does, file_comes}
 use Rattle.nwq_sources.specs.Units.{PlainScript, UnitFate, Whole, Lacks, Exceeds, Faulty, IsUnitFate, grammar_symbols, unit_by, unit_of, at_spot, at_token, spot_of}
 use Rattle.nwq_sources.specs.Units as units
 use Rattle.nwq_sources.specs.Laws.{SureUnits}
@@ -33,13 +35,10 @@ use Rattle.nwq_scripts.specs.Typings.{cause_of, TypingFate, IsTypingFate, typing
 use Rattle.nwq_scripts.specs.Typings as typing
 use Rattle.nwq_scripts.specs.Files.{file_by, file_in, compiled_in, compiled_named}
 use Rattle.command_meaning.specs.Scripts.{IsScript}
-use Rattle.words_meaning.specs.Reading.{IsRead, IsUnread}
 use Rattle.words_meaning.specs.Accepting.{HasCode}
 use Rattle.words_meaning.specs.Refusing.{RefusesSource, lacks, exceeds, faulty, untyped, large, RefusesBinary}
 use Rattle.words_meaning.specs.Refusing as refusing
 use Rattle.words_meaning.specs.Laws.{OneFaultRefuses}
-use Rattle.words_meaning.proofs.Coming.{Came, cut, gives_does, refused_does, given_comes, refusal_comes, then_comes}
-use Rattle.words_meaning.proofs.Reading.{is_small, is_large, read_does, unread_does, file_comes}
 
 -- ---- the fault for which a source is refused
 
@@ -95,7 +94,7 @@ module _ (header : EngineTable) (c : Contents) (t : List ℕ) (name : List ℕ) 
         goes = inr (record {
           found = typing.Whole unit;
           is = typing.whole unit h.types;
-          goes = file_does h.script.files (nat_lt file_limit (length (unit_file unit))) (unit_file unit) (is_small (length (unit_file unit)) small);
+          goes = file_does h.script.files (nat_lt file_limit (length (unit_file unit))) (unit_file unit) (le-ltb file_limit (length (unit_file unit)) small);
         });
       })
 
@@ -122,7 +121,7 @@ module _ (header : EngineTable) (c : Contents) (t : List ℕ) (name : List ℕ) 
         goes = inr (record {
           found = typing.Whole unit;
           is = typing.whole unit types;
-          goes = file_refuses script.files (nat_lt file_limit (length (unit_file unit))) (unit_file unit) (is_large (length (unit_file unit)) more);
+          goes = file_refuses script.files (nat_lt file_limit (length (unit_file unit))) (unit_file unit) (lt-ltb file_limit (length (unit_file unit)) more);
         });
       })
 

@@ -5,6 +5,7 @@ use Rattle.nwq_value.specs.Limits.{file_limit}
 use Rattle.nwq_value.specs.Engine.{EngineTable}
 use Rattle.nwq_value.specs.HeaderTable.{header_table}
 use Rattle.nwq_outside.specs.Outside.{Contents}
+use Rattle.nwq_work.specs.Reading.{IsRead}
 use Rattle.engine_table.specs.Headers.{HasTable}
 use Rattle.nss_typing.specs.Typed.{TypedUnit}
 use Rattle.code_emission.specs.Units.{unit_file}
@@ -24,7 +25,6 @@ use Rattle.nwq_scripts.specs.Files.{code_name}
 use Rattle.nwq_listings.specs.Listings.{playable}
 use Rattle.command_meaning.specs.Units.{code_of, Passes}
 use Rattle.command_meaning.specs.Scripts.{IsScript}
-use Rattle.words_meaning.specs.Reading.{IsRead}
 
 -- ---- headers
 

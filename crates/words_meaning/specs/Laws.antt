@@ -1,6 +1,6 @@
 -- What the work of words means, where the files hold bytes and the work isn't cut, and that typing refuses a source at one fault. Each stands
 -- on the contract of a function of `laws`.
-use Rattle.std.specs.Prelude.{◌≡◌, ℕ, List, Result}
+use Rattle.std.specs.Prelude.{◌≡◌, ◌≤◌, ℕ, List, Result}
 use Rattle.std.specs.FinMap as fin_map
 use Rattle.nwq_value.specs.Engine.{EngineTable}
 use Rattle.nwq_outside.specs.Outside.{Contents}
@@ -8,16 +8,19 @@ use Rattle.nss_typing.specs.declared.fault.Fault.{Fault}
 use Rattle.nss_typing.specs.Nodes.{IsLeast}
 use Rattle.nss_typing.specs.Meaning.{FaultInUnit}
 use Rattle.engine_rows.specs.Pure.{CellLookup}
+use Rattle.play_generator.specs.Made.{number_limit}
 use Rattle.nwq_work.specs.declared.status.Status.{Status}
 use Rattle.nwq_work.specs.Work.{then, IsCut, Does, Finished}
+use Rattle.nwq_work.specs.Reading.{AreBytes}
 use Rattle.nwq_sources.specs.Headers.{table_of}
 use Rattle.nwq_sources.specs.Units.{PlainScript, Whole, IsUnitFate}
 use Rattle.nwq_scripts.specs.Files.{code_name, compiled_named, compiles}
 use Rattle.plan_plays.specs.Scripts.{plays_file}
 use Rattle.nwq_games.specs.Games.{plays}
-use Rattle.words_meaning.specs.Reading.{AreBytes}
+use Rattle.nwq_generated.specs.Generated.{generates}
 use Rattle.words_meaning.specs.Runs.{MeansRun, MeansCompile}
-use Rattle.words_meaning.specs.Plans.{MeansPlay}
+use Rattle.words_meaning.specs.Plays.{MeansPlay}
+use Rattle.words_meaning.specs.Generated.{MeansGenerate}
 
 -- a header is read, a script compiled under it, and its file, which isn't written, is played
 abbrev pub RunsMean : Type 0
@@ -37,6 +40,12 @@ abbrev pub PlaysMean : Type 0
 PlaysMean =
     (cell : CellLookup) (header area plan to : List ℕ) (c : Contents) (t : List ℕ) (r : Result Finished Status) (c' : Contents) (t' : List ℕ) → AreBytes c → (IsCut r → ⊥)
     → Does (plays cell header area plan to) c t r c' t' → MeansPlay cell header area plan to c t r c' t'
+
+-- a play is made from a number, compiled and played
+abbrev pub GeneratesMean : Type 0
+GeneratesMean =
+    (cell : CellLookup) (n : ℕ) (c : Contents) (t : List ℕ) (r : Result Finished Status) (c' : Contents) (t' : List ℕ) → n ≤ number_limit → (IsCut r → ⊥)
+    → Does (generates cell n) c t r c' t' → MeansGenerate cell n c t r c' t'
 
 -- two least faults of a source are one, with its token and its kind, and so is the script that has them
 abbrev pub OneFaultRefuses : Type 0

@@ -1,6 +1,8 @@
-pub mod Reading
 pub mod Accepting
 pub mod Refusing
+pub mod ListedUnits
+pub mod SourcePlans
 pub mod Runs
-pub mod Plans
+pub mod Plays
+pub mod Generated
 pub mod Laws

@@ -31,6 +31,7 @@ use Rattle.nwq_work.specs.declared.flaw.CodeFlaw.TheVariants as code
 use Rattle.nwq_work.specs.declared.status.Status.{Status}
 use Rattle.nwq_work.specs.Refusal.{Refusal, Absent, TooLong, At, BadCode, BadArea, line_of, status_of}
 use Rattle.nwq_work.specs.Work.{Finished}
+use Rattle.nwq_work.specs.Reading.{IsRead, IsUnread}
 use Rattle.nwq_sources.specs.Headers as headers
 use Rattle.nwq_sources.specs.Headers.{IsHeaderFate}
 use Rattle.nwq_sources.specs.Units as units
@@ -42,7 +43,6 @@ use Rattle.nwq_files.specs.Trees.{IsTreeFate}
 use Rattle.nwq_areas.specs.Areas.{place_flaw}
 use Rattle.nwq_scripts.specs.Files.{code_name}
 use Rattle.nwq_scripts.specs.Typings.{cause_of}
-use Rattle.words_meaning.specs.Reading.{IsRead, IsUnread}
 use Rattle.words_meaning.specs.Accepting.{HasLine}
 
 -- the line of a refusal was put and its status answered, and the files hold this

@@ -1,8 +1,14 @@
 //! Laws about the work of words, each the contract of a function that does nothing.
 
-ghost use Rattle.words_meaning.specs.Laws.{CompilesMean, OneFaultRefuses, PlaysMean, RunsMean};
+ghost use Rattle.words_meaning.specs.Laws.{CompilesMean, GeneratesMean, OneFaultRefuses};
+ghost use Rattle.words_meaning.specs.Laws.{PlaysMean, RunsMean};
+ghost use Rattle.words_meaning.specs.ListedUnits.{PlansListUnits};
+ghost use Rattle.words_meaning.specs.SourcePlans.{FewStepsPlayAsMeant, StoppedPlansBeginAsMeant};
+ghost use Rattle.words_meaning.specs.SourcePlans.{UnstoppedPlansPlayAsMeant};
 
-use command_meaning::{runs_end_as_meant, scripts_play_units, units_pass};
+use command_meaning::{
+    ends_are_answered, listed_units_play_alike, runs_end_as_meant, scripts_play_units, units_pass,
+};
 use header_tables::headers_have_tables;
 use nwq_areas::laws::one_area;
 use nwq_checks::laws::one_check;
@@ -11,8 +17,31 @@ use nwq_listings::laws::one_listing;
 use nwq_scripts::laws::one_script;
 use nwq_sources::laws::one_source;
 use parsed_faults::laws::one_least_fault;
-use plan_meaning::plans_play_as_meant;
 use plan_plays::laws::one_code;
+use source_meaning::entries_stay_alike;
+
+/// What is listed of a plan of sources is the code of their units.
+pub fn plans_list_units()
+    ensures listed { PlansListUnits }
+{
+    units_pass();
+    scripts_play_units();
+    one_check();
+    one_least_fault();
+}
+
+/// A plan whose scripts are typed units is played as their sources mean, its final area among it:
+/// where each entry of the sources ends in so many steps that 16 times as many instructions are
+/// within the plan's limit, and in any case where no entry of the code was stopped. Where one was,
+/// what is told is a beginning of what the sources mean, and no area is left.
+pub fn plans_play_as_meant()
+    ensures few { FewStepsPlayAsMeant }
+    ensures unstopped { UnstoppedPlansPlayAsMeant }
+    ensures stopped { StoppedPlansBeginAsMeant }
+{
+    listed_units_play_alike();
+    entries_stay_alike();
+}
 
 /// Whatever does the work of `run` is refused where the header or the script is, and else tells
 /// what the script's source means.
@@ -58,6 +87,20 @@ pub fn plays_mean()
     one_area();
     one_listing();
     one_game();
+    plans_play_as_meant();
+}
+
+/// Whatever does the work of `generate` refuses the source that is made, or tells of its play what
+/// the source means.
+pub fn generates_mean()
+    ensures means { GeneratesMean }
+{
+    units_pass();
+    scripts_play_units();
+    one_least_fault();
+    headers_have_tables();
+    one_check();
+    ends_are_answered();
     plans_play_as_meant();
 }
 

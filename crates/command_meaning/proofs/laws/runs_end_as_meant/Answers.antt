@@ -4,12 +4,10 @@ use Rattle.command_meaning.proofs.laws.runs_end_as_meant.Goals as goal
 pub returns : goal.returns
 returns c =
     let plays = c.files_play_their_code.ensures.plays in
-    let answers = c.tables_answer_in_types.ensures.typed in
-    let ready = c.typed_scripts_are_ready.ensures.ready in
-    let texts = c.end_texts_agree.ensures.agree in
+    let texts = c.listed_units_play_alike.ensures.texts in
     let keep = c.entries_stay_alike.ensures.alike in
     record {
-      few = few_steps_end_as_meant plays answers ready texts keep c.source_plays_end.ensures.end;
-      unstopped = unstopped_runs_end_as_meant plays answers ready texts keep c.code_plays_end.ensures.end;
-      stopped = stopped_runs_begin_as_meant plays answers ready texts keep c.code_plays_end.ensures.end;
+      few = few_steps_end_as_meant plays texts keep c.listed_units_play_alike.ensures.end;
+      unstopped = unstopped_runs_end_as_meant plays texts keep c.listed_units_play_alike.ensures.stop;
+      stopped = stopped_runs_begin_as_meant plays texts keep c.listed_units_play_alike.ensures.stop;
     }

@@ -5,7 +5,7 @@ use Rattle.nss_typing.specs.Typed.{TypedUnit}
 use Rattle.saved_state.specs.declared.saved.Saved.{Saved}
 use Rattle.engine_rows.specs.Pure.{CellLookup}
 use Rattle.engine_rows.specs.Trace.{trace_text}
-use Rattle.play_steps.specs.Plays.{PlayEnd, Done, OutOfEntries, StoppedInside, Paused, Played}
+use Rattle.play_steps.specs.Plays.{Played}
 use Rattle.play_steps.specs.EndText.{end_line}
 use Rattle.source_meaning.specs.Evaluation.{Deferred}
 use Rattle.source_meaning.specs.Scripts.{Setting}
@@ -14,23 +14,11 @@ use Rattle.play_meaning.specs.Together.{PlaysAlike}
 use Rattle.play_generator.specs.Made.{creatures_of, rounds_of}
 use Rattle.nwq_work.specs.declared.status.Status.{Status}
 use Rattle.nwq_work.specs.Work.{IsCut, Does, Finished}
-use Rattle.plan_plays.specs.Plays.{ends_by}
 use Rattle.nwq_generated.specs.Generated.{made_line, summary, tells, plays_made}
 use Rattle.command_meaning.specs.Units.{code_of}
-use Rattle.command_meaning.specs.Runs.{answer_by}
-use Rattle.plan_meaning.specs.Plans.{code_plan_played}
-use Rattle.generated_meaning.specs.Generated.{code_made, source_summary}
-
-ended : (e : PlayEnd) (c c' : Contents) (t t' : List ℕ) (r : Result Finished Status) → (IsCut r → ⊥) → Does (ends_by e) c t r c' t'
-    → (r ≡ answer_by e) × (c' ≡ c) × (t' ≡ t)
-ended Done c c' t t' r whole (inl is, s) = (is, s.0, s.1)
-ended OutOfEntries c c' t t' r whole (inl is, s) = (is, s.0, s.1)
-ended StoppedInside c c' t t' r whole (inl is, s) = (is, s.0, s.1)
-ended Paused c c' t t' r whole (inl is, s) = (is, s.0, s.1)
-ended Done c c' t t' r whole (inr x, s) = absurd (whole x)
-ended OutOfEntries c c' t t' r whole (inr x, s) = absurd (whole x)
-ended StoppedInside c c' t t' r whole (inr x, s) = absurd (whole x)
-ended Paused c c' t t' r whole (inr x, s) = absurd (whole x)
+use Rattle.command_meaning.specs.Runs.{answer_by, EndsAreAnswered}
+use Rattle.words_meaning.specs.SourcePlans.{code_plan_played}
+use Rattle.words_meaning.specs.Generated.{code_made, source_summary}
 
 -- its summary was put, and its answer is as it ends
 pub record Told (n : ℕ) (p : Played Saved) (c : Contents) (t : List ℕ) (r : Result Finished Status) (c' : Contents) (t' : List ℕ) : Type 0 where
@@ -38,16 +26,16 @@ pub record Told (n : ℕ) (p : Played Saved) (c : Contents) (t : List ℕ) (r : 
   pub answer : r ≡ answer_by p.ending
   pub contents : c' ≡ c
 
-told : (n : ℕ) (p : Played Saved) (c : Contents) (t : List ℕ) (r : Result Finished Status) (c' : Contents) (t' : List ℕ) → (IsCut r → ⊥)
+told : EndsAreAnswered → (n : ℕ) (p : Played Saved) (c : Contents) (t : List ℕ) (r : Result Finished Status) (c' : Contents) (t' : List ℕ) → (IsCut r → ⊥)
     → Does (tells n p) c t r c' t' → Told n p c t r c' t'
-told n p c t r c' t' whole (inl x) = absurd (whole x.0)
-told n p c t r c' t' whole (inr does) =
-    let e = ended p.ending c c' (t ++ summary n p) t' r whole does in record { taken = e.2; answer = e.0; contents = e.1 }
+told answered n p c t r c' t' whole (inl x) = absurd (whole x.0)
+told answered n p c t r c' t' whole (inr does) =
+    let e = answered p.ending c (t ++ summary n p) r c' t' whole does in record { taken = e.1.1; answer = e.0; contents = e.1.0 }
 
-pub made_told : (cell : CellLookup) (n : ℕ) (unit : TypedUnit) (c : Contents) (t : List ℕ) (r : Result Finished Status) (c' : Contents) (t' : List ℕ)
+pub made_told : EndsAreAnswered → (cell : CellLookup) (n : ℕ) (unit : TypedUnit) (c : Contents) (t : List ℕ) (r : Result Finished Status) (c' : Contents) (t' : List ℕ)
     → (IsCut r → ⊥) → Does (plays_made cell n (code_of unit)) c t r c' t' → Told n (code_made cell n unit) c t r c' t'
 unfolding plays_made code_plan_played
-made_told cell n unit c t r c' t' whole does = told n (code_made cell n unit) c t r c' t' whole does
+made_told answered cell n unit c t r c' t' whole does = told answered n (code_made cell n unit) c t r c' t' whole does
 
 -- the summaries of plays that are alike are one, but for the number of instructions
 pub same_summary : (s : Setting) (n : ℕ) (code : Played Saved) (source : Played Deferred) → PlaysAlike (Carries s) code source

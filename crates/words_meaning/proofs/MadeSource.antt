@@ -16,7 +16,7 @@ use Rattle.std.specs.Fmt.{decimal}
 use Rattle.nss_include.specs.Names.{file_name}
 use Rattle.play_generator.specs.Made.{ended, lines_text, source_lines, source_text, creatures_of, play_of}
 use Rattle.command_meaning.specs.Scripts.{HoldBytes}
-use Rattle.generated_meaning.specs.Generated.{made_files}
+use Rattle.words_meaning.specs.Generated.{made_files}
 
 abbrev IsByte : ℕ → Type 0
 IsByte b = b < 256

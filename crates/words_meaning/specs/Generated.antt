@@ -15,15 +15,15 @@ use Rattle.source_meaning.specs.Ledger.{step_cost}
 use Rattle.source_meaning.specs.Carries.{Carries}
 use Rattle.source_meaning.specs.Executing.{script_of}
 use Rattle.play_meaning.specs.Together.{Begins, PlaysAlike, StoppedAt}
-use Rattle.play_generator.specs.Made.{number_limit, creatures_of, rounds_of, play_of}
+use Rattle.play_generator.specs.Made.{creatures_of, rounds_of, play_of}
 use Rattle.nwq_work.specs.declared.status.Status.{Status}
 use Rattle.nwq_work.specs.declared.status.Status.TheVariants.{Script, Limit}
 use Rattle.nwq_work.specs.Refusal.{Refusal, line_of}
-use Rattle.nwq_work.specs.Work.{IsCut, Does, Finished}
+use Rattle.nwq_work.specs.Work.{Finished}
 use Rattle.plan_plays.specs.Plays.{host_of}
-use Rattle.nwq_generated.specs.Generated.{files_with, made_line, summary, plan_of, made_area, generates}
+use Rattle.nwq_generated.specs.Generated.{files_with, made_line, summary, plan_of, made_area}
 use Rattle.command_meaning.specs.Runs.{answer_by}
-use Rattle.plan_meaning.specs.Plans.{listing_of, source_plan_played, code_plan_played}
+use Rattle.words_meaning.specs.SourcePlans.{listing_of, source_plan_played, code_plan_played}
 use Rattle.words_meaning.specs.Accepting.{Compiles}
 use Rattle.words_meaning.specs.Refusing.{RefusesSource}
 
@@ -91,7 +91,3 @@ pub record IsRefusedMade (why : Refusal) (c : Contents) (t : List ℕ) (r : Resu
 pub data MeansGenerate (cell : CellLookup) (n : ℕ) (c : Contents) (t : List ℕ) (r : Result Finished Status) (c' : Contents) (t' : List ℕ) : Type 0 where
   refused : (why : Refusal) → RefusesSource header_table (made_files n) (codes "beat") why → IsRefusedMade why c t r c' t' → MeansGenerate cell n c t r c' t'
   accepted : (unit : TypedUnit) → Compiles header_table (made_files n) (codes "beat") unit → MeansMade cell n unit c t r c' t' → MeansGenerate cell n c t r c' t'
-
-abbrev pub GeneratesMean : Type 0
-GeneratesMean = (cell : CellLookup) (n : ℕ) (c : Contents) (t : List ℕ) (r : Result Finished Status) (c' : Contents) (t' : List ℕ) → n ≤ number_limit → (IsCut r → ⊥)
-    → Does (generates cell n) c t r c' t' → MeansGenerate cell n c t r c' t'

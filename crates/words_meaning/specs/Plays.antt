@@ -19,7 +19,7 @@ use Rattle.nwq_work.specs.declared.status.Status.{Status}
 use Rattle.nwq_work.specs.Refusal.{Refusal}
 use Rattle.nwq_work.specs.Work.{Finished, Does}
 use Rattle.nwq_games.specs.Games.{plays_plan}
-use Rattle.plan_meaning.specs.Plans.{listing_of, source_plan_played, code_plan_played, DoesMeaning, DoesBeginning}
+use Rattle.words_meaning.specs.SourcePlans.{listing_of, source_plan_played, code_plan_played, DoesMeaning, DoesBeginning}
 use Rattle.words_meaning.specs.Accepting.{HasHeader, HasScripts, HasSources, ReadsPlan, ReadsArea}
 use Rattle.words_meaning.specs.Refusing.{RefusesPlan, RefusesHeader, RefusesScripts, RefusesArea, IsRefused}
 

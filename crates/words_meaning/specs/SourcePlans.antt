@@ -1,5 +1,5 @@
 -- What a plan of sources plays is what the sources mean.
-use Rattle.std.specs.Prelude.{◌≡◌, ◌≢◌, ◌≤◌, ℕ, ◌*◌, List, map, Some, slice_get, Result}
+use Rattle.std.specs.Prelude.{◌≡◌, ◌≢◌, ◌≤◌, ℕ, ◌*◌, List, map, Result}
 use Rattle.nwq_value.specs.Engine.{EngineTable, IsTable}
 use Rattle.nwq_outside.specs.Outside.{Contents}
 use Rattle.area_objects.specs.Area.{PlainArea}
@@ -25,7 +25,7 @@ use Rattle.nwq_work.specs.Work.{Work, Ends, Puts, Does, Finished}
 use Rattle.plan_plays.specs.Plays.{host_of, played}
 use Rattle.plan_worlds.specs.Worlds.{begun_by, plan_world}
 use Rattle.nwq_games.specs.Games.{ends_by, plays_plan}
-use Rattle.command_meaning.specs.Units.{IsUnitOf}
+use Rattle.command_meaning.specs.ListedPlays.{AreUnitsOf}
 
 -- ---- the play of listed sources
 
@@ -57,7 +57,7 @@ tells_source to s count p = Puts (trace_text p.last.trace) (ends_by p.ending to 
 pub record PlaysSources (cell : CellLookup) (header : EngineTable) (area : PlainArea) (plan : Plan) (scripts : List Listed) (to : List ℕ)
     (c : Contents) (t : List ℕ) (r : Result Finished Status) (c' : Contents) (t' : List ℕ) : Type 0 where
   pub table : IsTable header
-  pub units : (script : ℕ) (l : Listed) → slice_get scripts script ≡ Some l → IsUnitOf header l.unit
+  pub units : AreUnitsOf header scripts
   pub does : Does (plays_plan cell header area plan (map script_of scripts) to) c t r c' t'
 
 -- The work of the source's play was done, and at least one and at most 16 instructions were made for each step.

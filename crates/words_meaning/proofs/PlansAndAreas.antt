@@ -11,18 +11,17 @@ use Rattle.nwq_work.specs.declared.status.Status.{Status}
 use Rattle.nwq_work.specs.Refusal.{Refusal, BadArea, line_of, status_of}
 use Rattle.nwq_work.specs.Work.{Gives, Does, file_named}
 use Rattle.nwq_work.specs.Parts.{then_ok, then_err}
+use Rattle.nwq_work.specs.Reading.{IsRead, IsUnread}
+use Rattle.nwq_work.specs.Comes.{Came, cut, gives_does, refused_does, given_comes, refusal_comes, then_comes, read_does, unread_does, file_comes}
 use Rattle.nwq_files.specs.Trees as trees
 use Rattle.nwq_files.specs.Trees.{tree_in, tree_named}
 use Rattle.nwq_areas.specs.Plans as plans
 use Rattle.nwq_areas.specs.Plans.{plan_in, plan_named}
 use Rattle.nwq_areas.specs.Areas as areas
 use Rattle.nwq_areas.specs.Areas.{area_in, area_named, place_flaw}
-use Rattle.words_meaning.specs.Reading.{IsRead, IsUnread}
 use Rattle.words_meaning.specs.Accepting.{ReadsPlan, ReadsArea}
 use Rattle.words_meaning.specs.Refusing.{RefusesPlan, RefusesArea}
 use Rattle.words_meaning.specs.Refusing as refusing
-use Rattle.words_meaning.proofs.Coming.{Came, cut, gives_does, refused_does, given_comes, refusal_comes, then_comes}
-use Rattle.words_meaning.proofs.Reading.{read_does, unread_does, file_comes}
 
 -- ---- a plan
 

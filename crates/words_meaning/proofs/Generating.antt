@@ -1,5 +1,5 @@
 -- What `generate` does.
-use Rattle.std.proofs.Common.{arith, ◌≡◌, inl, inr, ℕ, zero, suc, List, [], ◌∷◌, ◌++◌, Some, slice_get, codes, Result, Ok, Err, refl, subst, ap, ◌∙◌}
+use Rattle.std.proofs.Common.{arith, ◌≡◌, inl, inr, ℕ, zero, suc, List, [], ◌∷◌, ◌++◌, codes, Result, Ok, Err, refl, subst, ap, ◌∙◌}
 use Rattle.nwq_value.specs.Engine.{EngineTable}
 use Rattle.nwq_value.specs.HeaderTable.{header_table}
 use Rattle.nwq_outside.specs.Outside.{Contents}
@@ -14,29 +14,32 @@ use Rattle.play_generator.specs.Made.{play_of}
 use Rattle.nwq_work.specs.declared.status.Status.{Status}
 use Rattle.nwq_work.specs.declared.status.Status.TheVariants.{Memory}
 use Rattle.nwq_work.specs.Work.{then, IsCut, Does, Finished}
-use Rattle.nwq_work.specs.Parts.{cut_here}
+use Rattle.nwq_work.specs.Parts.{value_or, cut_here}
+use Rattle.nwq_work.specs.Sequences.{then_known}
+use Rattle.nwq_work.specs.Comes.{Came, gave, stopped, cut}
 use Rattle.nwq_checks.specs.Checks.{loaded_in}
 use Rattle.nwq_checks.specs.Laws.{SureLoaded}
 use Rattle.nwq_games.specs.Games.{plays_plan}
 use Rattle.nwq_generated.specs.Generated.{SourceFate, Whole, Faulty, IsSourceFate, whole, faulty, source_by, source_compiled, plan_of, made_area, plays_made, checks_made, generates}
 use Rattle.command_meaning.specs.Units.{code_of, IsUnitOf, UnitsPass}
-use Rattle.command_meaning.specs.Runs.{answer_by}
+use Rattle.command_meaning.specs.ListedPlays.{AreUnitsOf}
+use Rattle.command_meaning.specs.Runs.{answer_by, EndsAreAnswered}
 use Rattle.command_meaning.specs.Scripts.{HoldBytes, ScriptsHaveUnits}
-use Rattle.plan_meaning.specs.Plans.{PlaysSources, FewStepsPlayAsMeant, UnstoppedPlansPlayAsMeant, StoppedPlansBeginAsMeant, listing_of}
+use Rattle.words_meaning.specs.SourcePlans.{PlaysSources, FewStepsPlayAsMeant, UnstoppedPlansPlayAsMeant, StoppedPlansBeginAsMeant, listing_of}
 use Rattle.words_meaning.specs.Accepting.{Compiles}
 use Rattle.words_meaning.specs.Refusing.{RefusesSource}
-use Rattle.words_meaning.proofs.Coming.{value_or, Came, gave, stopped, cut, then_known}
 use Rattle.words_meaning.proofs.Sources.{IsMade, source_comes}
 use Rattle.words_meaning.proofs.Listing.{compiles, loaded_does}
-use Rattle.generated_meaning.specs.Generated.{made_files, beat_of, source_made, code_made, MeansMade, MeansGenerate, refused, accepted, GeneratesMean}
-use Rattle.generated_meaning.proofs.Source.{made_bytes}
-use Rattle.generated_meaning.proofs.Telling.{Told, made_told, same_summary}
+use Rattle.words_meaning.specs.Generated.{made_files, beat_of, source_made, code_made, MeansMade, MeansGenerate, refused, accepted}
+use Rattle.words_meaning.specs.Laws.{GeneratesMean}
+use Rattle.words_meaning.proofs.MadeSource.{made_bytes}
+use Rattle.words_meaning.proofs.MadeTelling.{Told, made_told, same_summary}
 
-the_unit : (header : EngineTable) (unit : TypedUnit) → IsUnitOf header unit → (n : ℕ) (l : Listed) → slice_get (beat_of unit) n ≡ Some l → IsUnitOf header l.unit
+the_unit : (header : EngineTable) (unit : TypedUnit) → IsUnitOf header unit → AreUnitsOf header (beat_of unit)
 the_unit header unit h zero l is = let same : record { name = codes "beat"; unit = unit } ≡ l = cc in subst (λ (x : Listed). IsUnitOf header x.unit) same h
 the_unit header unit h (suc n) l is = absurd cc
 
-module _ (pass : UnitsPass) (units : ScriptsHaveUnits) (least : LeastIsTheKept) (own : BuiltInIsTable) (sure : SureLoaded)
+module _ (pass : UnitsPass) (units : ScriptsHaveUnits) (least : LeastIsTheKept) (own : BuiltInIsTable) (sure : SureLoaded) (answered : EndsAreAnswered)
     (few : FewStepsPlayAsMeant) (unstopped : UnstoppedPlansPlayAsMeant) (ended : StoppedPlansBeginAsMeant) where
   module _ (cell : CellLookup) (n : ℕ) (held : HoldBytes (made_files n)) (c : Contents) (t : List ℕ) (r : Result Finished Status) (c' : Contents) (t' : List ℕ)
       (uncut : IsCut r → ⊥) where
@@ -51,7 +54,7 @@ module _ (pass : UnitsPass) (units : ScriptsHaveUnits) (least : LeastIsTheKept) 
 
     meant : (unit : TypedUnit) → Compiles header_table (made_files n) (codes "beat") unit → Does (plays_made cell n (code_of unit)) c t r c' t' → MeansMade cell n unit c t r c' t'
     meant unit h does =
-        let told : Told n (code_made cell n unit) c t r c' t' = made_told cell n unit c t r c' t' uncut does in
+        let told : Told n (code_made cell n unit) c t r c' t' = made_told answered cell n unit c t r c' t' uncut does in
         let s = listing_of cell header_table (beat_of unit) in
         record {
           few = λ k large goes.

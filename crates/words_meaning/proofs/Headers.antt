@@ -1,79 +1,19 @@
--- Files and headers that are read.
-use Rattle.std.proofs.Common.{arith, ◌≡◌, inl, inr, Bool, true, false, ℕ, ◌<◌, ◌≤◌, nat_lt, List, ◌++◌, length, Option, Some, None, Result, Ok, Err, codes, bytes_eq, sym, refl}
-use Rattle.std.proofs.lemmas.Bool.Decides.{nat_tests}
-use Rattle.std.specs.FinMap as fin_map
-use Rattle.nwq_value.specs.Limits.{file_limit}
+-- Headers that are read.
+use Rattle.std.proofs.Common.{◌≡◌, inl, inr, Bool, true, false, ℕ, List, ◌++◌, Result, Ok, Err, codes, bytes_eq, refl}
 use Rattle.nwq_value.specs.Engine.{EngineTable, IsTable}
 use Rattle.nwq_value.specs.HeaderTable.{header_table}
 use Rattle.nwq_text.specs.Line.{line_number}
 use Rattle.nwq_outside.specs.Outside.{Contents}
 use Rattle.header_tables.specs.Laws.{HeadersHaveTables, BuiltInIsTable}
 use Rattle.nwq_work.specs.declared.status.Status.{Status}
-use Rattle.nwq_work.specs.Refusal.{Refusal, Absent, TooLong, At, line_of, status_of}
-use Rattle.nwq_work.specs.Work.{Does, by_size, bytes_of, file_named}
+use Rattle.nwq_work.specs.Refusal.{Refusal, At, line_of, status_of}
+use Rattle.nwq_work.specs.Work.{Does, file_named}
 use Rattle.nwq_work.specs.Parts.{then_ok, then_err}
+use Rattle.nwq_work.specs.Reading.{AreBytes, IsRead, IsUnread}
+use Rattle.nwq_work.specs.Comes.{Came, cut, gives_does, refused_does, given_comes, refusal_comes, then_comes, read_does, unread_does, file_comes}
 use Rattle.nwq_sources.specs.Headers.{HeaderFate, Whole, Faulty, IsHeaderFate, whole, table_by, table_in, table_named, table_unless, table_of}
-use Rattle.words_meaning.specs.Reading.{AreBytes, IsRead, IsUnread, absent, long}
 use Rattle.words_meaning.specs.Accepting.{HasHeader, built_in, read}
 use Rattle.words_meaning.specs.Refusing.{RefusesHeader, unread, faulty}
-use Rattle.words_meaning.proofs.Coming.{Came, cut, gives_does, refused_does, given_comes, refusal_comes, then_comes}
-
--- ---- a file
-
-pub is_small : (n : ℕ) → n ≤ file_limit → nat_lt file_limit n ≡ false
-is_small n small = by_test (nat_lt file_limit n) refl
-  where
-    by_test : (b : Bool) → nat_lt file_limit n ≡ b → b ≡ false
-    by_test true e = let more : file_limit < n = grind (arith, nat_tests) in absurd (omega (arith, more, small))
-    by_test false e = refl
-
-pub is_large : (n : ℕ) → file_limit < n → nat_lt file_limit n ≡ true
-is_large n large = by_test (nat_lt file_limit n) refl
-  where
-    by_test : (b : Bool) → nat_lt file_limit n ≡ b → b ≡ true
-    by_test true e = refl
-    by_test false e = let less : n ≤ file_limit = grind (arith, nat_tests) in absurd (omega (arith, less, large))
-
-module _ (c : Contents) (t : List ℕ) (name : List ℕ) where
-  size_does : (b : Bool) (bytes : List ℕ) → b ≡ false → Does (by_size b name bytes) c t (Ok bytes) c t
-  size_does true bytes e = absurd cc
-  size_does false bytes e = gives_does bytes c t
-
-  size_refuses : (b : Bool) (bytes : List ℕ) → b ≡ true → Does (by_size b name bytes) c t (Err (status_of (TooLong name))) c (t ++ line_of (TooLong name))
-  size_refuses true bytes e = refused_does (TooLong name) c t
-  size_refuses false bytes e = absurd cc
-
-  pub read_does : (bytes : List ℕ) → IsRead c name bytes → Does (file_named name) c t (Ok bytes) c t
-  unfolding file_named
-  read_does bytes h =
-      inr (record { found = Some bytes; is = sym h.held; goes = size_does (nat_lt file_limit (length bytes)) bytes (is_small (length bytes) h.small) })
-
-  pub unread_does : (why : Refusal) → IsUnread c name why → Does (file_named name) c t (Err (status_of why)) c (t ++ line_of why)
-  unfolding file_named
-  unread_does why (absent none) = inr (record { found = None; is = sym none; goes = refused_does (Absent name) c t })
-  unread_does why (long bytes held large) =
-      inr (record { found = Some bytes; is = sym held; goes = size_refuses (nat_lt file_limit (length bytes)) bytes (is_large (length bytes) large) })
-
-  module _ (r : Result (List ℕ) Status) (c' : Contents) (t' : List ℕ) where
-    abbrev Comes : Type 0
-    Comes = Came (IsRead c name) (IsUnread c name) c t r c' t'
-
-    size_comes : (bytes : List ℕ) → fin_map.get c name ≡ Some bytes → (b : Bool) → nat_lt file_limit (length bytes) ≡ b → Does (by_size b name bytes) c t r c' t' → Comes
-    size_comes bytes held true e does =
-        refusal_comes (IsRead c name) (IsUnread c name) c t r c' t' (TooLong name) (long bytes held (grind (arith, nat_tests))) does
-    size_comes bytes held false e does =
-        given_comes (IsRead c name) (IsUnread c name) c t r c' t' bytes (record { held = held; small = grind (arith, nat_tests) }) does
-
-    content_comes : (content : Option (List ℕ)) → content ≡ fin_map.get c name → Does (bytes_of name content) c t r c' t' → Comes
-    content_comes None is does = refusal_comes (IsRead c name) (IsUnread c name) c t r c' t' (Absent name) (absent (sym is)) does
-    content_comes (Some bytes) is does = size_comes bytes (sym is) (nat_lt file_limit (length bytes)) refl does
-
-    pub file_comes : Does (file_named name) c t r c' t' → Comes
-    unfolding file_named
-    file_comes (inl x) = cut x.0
-    file_comes (inr h) = content_comes h.found h.is h.goes
-
--- ---- a header
 
 module _ (c : Contents) (t : List ℕ) (word : List ℕ) where
   unless_built : (b : Bool) → b ≡ true → Does (table_unless b word) c t (Ok header_table) c t

@@ -1,0 +1,44 @@
+-- The plays of listed typed units, of their code and of their source, from worlds that are alike.
+use Rattle.std.specs.Prelude.{◌≡◌, ◌≤◌, ℕ, ◌*◌, List, map, Some, slice_get}
+use Rattle.nwq_value.specs.Engine.{EngineTable, IsTable}
+use Rattle.saved_state.specs.declared.saved.Saved.{Saved}
+use Rattle.engine_rows.specs.World.{World}
+use Rattle.engine_rows.specs.Alike.{Alike}
+use Rattle.play_steps.specs.Plays.{Played}
+use Rattle.module_player.specs.CodePlays.{code_runner, code_play, code_end_text}
+use Rattle.source_meaning.specs.Evaluation.{Deferred}
+use Rattle.source_meaning.specs.Scripts.{Listed, Setting}
+use Rattle.source_meaning.specs.Plays.{source_play}
+use Rattle.source_meaning.specs.Ledger.{MachineHost, step_cost}
+use Rattle.source_meaning.specs.Carries.{Carries}
+use Rattle.source_meaning.specs.Executing.{script_of}
+use Rattle.play_meaning.specs.Together.{PlayEnds, PlayStops, PlaysAlike}
+use Rattle.play_meaning.specs.EndTexts.{source_end_text}
+use Rattle.plan_plays.specs.Plays.{host_of}
+use Rattle.command_meaning.specs.Units.{IsUnitOf}
+
+-- each listed unit is typed under the header
+abbrev pub AreUnitsOf : EngineTable → List Listed → Type 0
+AreUnitsOf header scripts = (script : ℕ) (l : Listed) → slice_get scripts script ≡ Some l → IsUnitOf header l.unit
+
+-- the machine that has the code of all that is listed
+abbrev pub machine_of : Setting → MachineHost
+machine_of s = host_of s.tables s.table (map script_of s.scripts)
+
+-- Where each entry of the sources ends in n steps, the code ends as they do, with 16 instructions for each of these.
+abbrev pub ListedPlaysEnd : Type 0
+ListedPlaysEnd =
+    (s : Setting) → IsTable s.table → AreUnitsOf s.table s.scripts → (n limit entries until : ℕ) → step_cost * n ≤ limit
+    → (w : World Saved) (v : World Deferred) → Alike (Carries s) w v
+    → PlayEnds (Carries s) (code_play (machine_of s) limit entries until w) (source_play s n entries until v)
+
+-- Where no entry of the code is stopped, it ends as the sources do, whose entries may take as many steps. Where one is, it tells a beginning.
+abbrev pub ListedPlaysStop : Type 0
+ListedPlaysStop =
+    (s : Setting) → IsTable s.table → AreUnitsOf s.table s.scripts → (limit entries until : ℕ) → (w : World Saved) (v : World Deferred) → Alike (Carries s) w v
+    → PlayStops (Carries s) (code_runner (machine_of s) limit) until limit (code_play (machine_of s) limit entries until w) (source_play s limit entries until v)
+
+-- Plays that are alike have one text of their end, with the number of instructions that the code made.
+abbrev pub ListedTextsAgree : Type 0
+ListedTextsAgree = (s : Setting) (code : Played Saved) (source : Played Deferred) → PlaysAlike (Carries s) code source
+    → code_end_text (map script_of s.scripts) code ≡ source_end_text s code.last.count source

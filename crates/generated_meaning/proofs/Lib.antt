@@ -1,3 +1,0 @@
-mod Source
-mod Telling
-mod Generating
