@@ -11,7 +11,7 @@ use Rattle.nwq_work.specs.Counts.{StopsArea, Counts, Tallies, TalliesEnd}
 use Rattle.nwq_work.specs.Parts.{then_ok, then_err}
 use Rattle.nwq_tables.specs.Tables.{tables_given}
 use Rattle.table_2da.specs.Look.{cell_of}
-use Rattle.nwq_top.specs.Words.{Form, Run, Compile, Tree, Check, Disassemble, Assemble, Play, Generate, NoForm, list_of}
+use Rattle.command_words.specs.Words.{Form, Run, Compile, Tree, Check, Disassemble, Assemble, Play, Generate, NoForm, list_of}
 use Rattle.nwq_top.specs.Command.{work_of, work_with, whole_work}
 use Rattle.nwq_top.specs.Endings.{ComesOf}
 use Rattle.nwq_top.specs.Program.{TellsUsage}

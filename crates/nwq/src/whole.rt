@@ -3,7 +3,7 @@ ghost use Rattle.hook_table.specs.Standard.{function_numbered, IsAnswer};
 ghost use Rattle.nwq_work.specs.Work.{IsCut, Does, ending};
 ghost use Rattle.nwq_work.specs.Counts.{Counted, Tallies, KeepsBut};
 ghost use Rattle.nwq_work.specs.Reading.{AreBytes};
-ghost use Rattle.nwq_top.specs.Words.{form_of};
+ghost use Rattle.command_words.specs.Words.{form_of};
 ghost use Rattle.nwq_top.specs.Command.{work_with, whole_work, MayWrite};
 ghost use Rattle.nwq_top.specs.Endings.{ComesOf};
 ghost use Rattle.nwq_top.specs.Meaning.{MeansWhole};

@@ -2,9 +2,7 @@ mod EndingLemmas
 mod GivenTables
 mod Meaning
 mod Rows
-mod RunLemmas
 mod Sure
 mod WordLemmas
-mod Steps
 mod Usage
 mod WholeMeaning

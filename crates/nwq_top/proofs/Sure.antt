@@ -1,38 +1,23 @@
 -- The work of each form of words has one outcome.
 use Rattle.std.proofs.Common.{ℕ, List}
-use Rattle.nwq_value.specs.Engine.{EngineTable}
 use Rattle.engine_rows.specs.Pure.{CellLookup}
 use Rattle.nwq_work.specs.Outcomes.{IsSure, agree, prefixes, sure_then}
 use Rattle.nwq_checks.specs.Laws.{SureChecks}
 use Rattle.nwq_files.specs.Laws.{SureCommands}
-use Rattle.plan_plays.specs.Scripts.{plays_file}
-use Rattle.plan_plays.specs.Laws.{SurePlays}
+use Rattle.nwq_runs.specs.Laws.{SureRuns}
 use Rattle.nwq_games.specs.Laws.{SurePlays as SureGames}
 use Rattle.nwq_generated.specs.Laws.{SureGenerated}
-use Rattle.nwq_scripts.specs.Files.{code_name, compiled_named}
-use Rattle.nwq_scripts.specs.Laws.{SureCompiled, SureCompiles}
-use Rattle.nwq_sources.specs.Headers.{table_of}
-use Rattle.nwq_sources.specs.Laws.{SureTables}
+use Rattle.nwq_scripts.specs.Laws.{SureCompiles}
 use Rattle.nwq_tables.specs.Tables.{tables_given}
 use Rattle.nwq_tables.specs.Laws.{SureTables as SureGiven}
 use Rattle.table_2da.specs.Look.{cell_of}
-use Rattle.nwq_top.specs.Words.{Form, Run, Compile, Tree, Check, Disassemble, Assemble, Play, Generate, NoForm, list_of}
-use Rattle.nwq_top.specs.Command.{runs_under, runs, work_of, work_with, whole_work}
+use Rattle.command_words.specs.Words.{Form, Run, Compile, Tree, Check, Disassemble, Assemble, Play, Generate, NoForm, list_of}
+use Rattle.nwq_top.specs.Command.{work_of, work_with, whole_work}
 use Rattle.nwq_top.specs.Laws.{OneOutcome, Prefixes, OneWhole, WholePrefixes}
 
-module _ (tables : SureTables) (files : SureCommands) (checks : SureChecks) (scripts : SureCompiled) (compiled : SureCompiles) (plays : SurePlays) (games : SureGames) (made : SureGenerated) where
-  sure_under : (cell : CellLookup) (script : List ℕ) (header : EngineTable) → IsSure (runs_under cell script header)
-  unfolding runs_under
-  sure_under cell script header =
-      sure_then (compiled_named header script) (plays_file cell header script (code_name script)) (scripts header script)
-      (λ bytes. plays cell header script (code_name script) bytes)
-
-  sure_runs : (cell : CellLookup) (header script : List ℕ) → IsSure (runs cell header script)
-  unfolding runs
-  sure_runs cell header script = sure_then (table_of header) (runs_under cell script) (tables header) (sure_under cell script)
-
+module _ (files : SureCommands) (checks : SureChecks) (compiled : SureCompiles) (ran : SureRuns) (games : SureGames) (made : SureGenerated) where
   sure_work : (cell : CellLookup) (form : Form) → IsSure (work_of cell form)
-  sure_work cell (Run header script) = sure_runs cell header script
+  sure_work cell (Run header script) = ran cell header script
   sure_work cell (Compile header script) = compiled header script
   sure_work cell (Tree file) = files.tree file
   sure_work cell (Check header file) = checks header file

@@ -13,7 +13,7 @@ use Rattle.nwq_work.specs.Comes.{refusal_not_cut, Follows, follows, ends, cuts, 
 use Rattle.nwq_tables.specs.Tables.{tables_given}
 use Rattle.nwq_tables.specs.Laws.{SureTables}
 use Rattle.words_meaning.specs.Refusing.{IsRefused}
-use Rattle.nwq_top.specs.Words.{Form, list_of}
+use Rattle.command_words.specs.Words.{Form, list_of}
 use Rattle.nwq_top.specs.Command.{work_with, whole_work}
 use Rattle.nwq_top.specs.GivenTables.{GivesTables, RefusesGiven, TablesCome, refused, accepted}
 use Rattle.nwq_top.specs.Meaning.{MeansWhole, WorkMeans, WholeMeans}

@@ -1,17 +1,12 @@
--- Words as lists of bytes, and the work of equal words.
-use Rattle.std.proofs.Common.{◌≡◌, ℕ, ◌||◌, List, [], ◌∷◌, map, String, Global, string_bytes, Result, refl, sym, ap, subst}
-use Rattle.std.specs.List.{list_any}
+-- The work of equal words.
+use Rattle.std.proofs.Common.{◌≡◌, ℕ, List, map, String, Global, string_bytes, Result, sym, subst}
 use Rattle.nwq_outside.specs.Outside.{Contents}
 use Rattle.engine_rows.specs.Pure.{CellLookup}
 use Rattle.nwq_work.specs.declared.status.Status.{Status}
 use Rattle.nwq_work.specs.Work.{Does, ending, Finished}
 use Rattle.nwq_generated.specs.Generated.{generates}
-use Rattle.nwq_top.specs.Words.{Form, Generate, is_option, form_of}
+use Rattle.command_words.specs.Words.{Form, Generate, form_of}
 use Rattle.nwq_top.specs.Command.{work_of}
-
-pub any_dashed : (words : List (String Global)) → list_any is_option (map string_bytes words) ≡ list_any (λ word. is_option (string_bytes word)) words
-any_dashed [] = refl
-any_dashed (word ∷ words) = ap (λ b. is_option (string_bytes word) || b) (any_dashed words)
 
 pub same_work : (cell : CellLookup) (words all : List (String Global)) (told status : Status) (c c' : Contents) (t t' : List ℕ) → words ≡ all → told ≡ status
     → Does (work_of cell (form_of (map string_bytes words))) c t (ending told) c' t' → Does (work_of cell (form_of (map string_bytes all))) c t (ending status) c' t'

@@ -1,28 +1,19 @@
 -- What each form of words does: the seed of the main theorem.
 use Rattle.std.specs.Prelude.{◌≡◌, ℕ, List}
-use Rattle.nwq_value.specs.Engine.{EngineTable}
 use Rattle.table_2da.specs.Look.{cell_of}
 use Rattle.table_2da.specs.declared.tables.Named.{Named}
 use Rattle.engine_rows.specs.Pure.{CellLookup}
 use Rattle.nwq_work.specs.Refusal as refusal
 use Rattle.nwq_work.specs.Work.{Work, Refused, then, Finished}
-use Rattle.nwq_sources.specs.Headers.{table_of}
 use Rattle.nwq_checks.specs.Checks.{checks}
 use Rattle.nwq_files.specs.Commands.{shows_tree, disassembles, assembles}
-use Rattle.nwq_scripts.specs.Files.{code_name, compiled_named, compiles}
-use Rattle.plan_plays.specs.Scripts.{plays_file}
+use Rattle.nwq_scripts.specs.Files.{code_name, compiles}
+use Rattle.nwq_runs.specs.Runs.{runs}
 use Rattle.nwq_games.specs.Games.{plays}
 use Rattle.nwq_generated.specs.Generated.{generates}
 use Rattle.nwq_games.specs.Tellings.{IsGameFile}
 use Rattle.nwq_tables.specs.Tables.{tables_given}
-use Rattle.nwq_top.specs.Words.{Form, Run, Compile, Tree, Check, Disassemble, Assemble, Play, Generate, NoForm, list_of}
-
--- a script is compiled under a header, and its file, which isn't written, is played
-unfoldable pub runs_under : CellLookup → List ℕ → EngineTable → Work Finished
-runs_under cell script header = then (compiled_named header script) (plays_file cell header script (code_name script))
-
-unfoldable pub runs : CellLookup → List ℕ → List ℕ → Work Finished
-runs cell header script = then (table_of header) (runs_under cell script)
+use Rattle.command_words.specs.Words.{Form, Run, Compile, Tree, Check, Disassemble, Assemble, Play, Generate, NoForm, list_of}
 
 -- the work of each form of words, where cells of tables are looked up so
 abbrev pub work_of : CellLookup → Form → Work Finished

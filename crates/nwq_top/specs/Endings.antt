@@ -1,25 +1,20 @@
 -- Which statuses can come of which form of words.
 use Rattle.std.specs.Prelude.{Result, Ok, Err}
 use Rattle.nwq_work.specs.declared.status.Status.{Status}
-use Rattle.nwq_work.specs.declared.status.Status.TheVariants.{Done, Words, Limit, Fault, Memory}
+use Rattle.nwq_work.specs.declared.status.Status.TheVariants.{Done, Words, Fault, Memory}
 use Rattle.nwq_work.specs.Work.{Finished}
 use Rattle.nwq_work.specs.Counts.{StopsSource, StopsCode, StopsArea}
 use Rattle.nwq_checks.specs.Checks.{StopsCheck}
+use Rattle.nwq_runs.specs.Runs.{StopsRun}
 use Rattle.nwq_games.specs.Tellings.{StopsGame}
 use Rattle.nwq_generated.specs.Generated.{StopsGenerate}
-use Rattle.nwq_top.specs.Words.{Form, Run, Compile, Tree, Check, Disassemble, Assemble, Play, Generate, NoForm}
+use Rattle.command_words.specs.Words.{Form, Run, Compile, Tree, Check, Disassemble, Assemble, Play, Generate, NoForm}
 
 abbrev pub EndsWords : Status → Type 0
 EndsWords Words = Unit {0}
 EndsWords Fault = Unit {0}
 EndsWords Memory = Unit {0}
 EndsWords _ = ⊥
-
--- What stops a run: its header or script, the check of its compiled file, or a limit that ended its play. The check passes every compiled file
--- where files tell bytes (`Means`); here nothing is asked of files, so `Code` stands in the table.
-abbrev pub StopsRun : Status → Type 0
-StopsRun Limit = Unit {0}
-StopsRun status = StopsCheck status
 
 abbrev pub EndsRun : Status → Type 0
 EndsRun Done = Unit {0}

@@ -5,7 +5,7 @@ use Rattle.nwq_outside.specs.Outside.{Contents}
 use Rattle.nwq_work.specs.declared.status.Status.{Status}
 use Rattle.nwq_work.specs.Work.{IsCut, Does, Finished}
 use Rattle.nwq_work.specs.Outcomes.{Agrees, IsPrefix}
-use Rattle.nwq_top.specs.Words.{Form}
+use Rattle.command_words.specs.Words.{Form}
 use Rattle.nwq_top.specs.Command.{work_of, whole_work}
 
 -- What a command does by the files and the bytes taken, where it isn't cut, is one thing: its answer, what it leaves, what it puts.

@@ -1,4 +1,3 @@
-pub mod Words
 pub mod Command
 pub mod Endings
 pub mod Program

@@ -13,7 +13,7 @@ use Rattle.words_meaning.specs.Refusing.{IsRefused}
 use Rattle.words_meaning.specs.Runs.{MeansRun, MeansCompile}
 use Rattle.words_meaning.specs.Plays.{MeansPlay}
 use Rattle.words_meaning.specs.Generated.{MeansGenerate}
-use Rattle.nwq_top.specs.Words.{Form, Run, Compile, Tree, Check, Disassemble, Assemble, Play, Generate, NoForm, list_of}
+use Rattle.command_words.specs.Words.{Form, Run, Compile, Tree, Check, Disassemble, Assemble, Play, Generate, NoForm, list_of}
 use Rattle.nwq_top.specs.Command.{work_of, whole_work}
 use Rattle.nwq_top.specs.GivenTables.{GivesTables, RefusesGiven, TablesCome}
 

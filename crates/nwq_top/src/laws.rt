@@ -7,10 +7,9 @@ use nwq_checks::laws::one_check;
 use nwq_files::laws::one_file;
 use nwq_games::laws::one_game;
 use nwq_generated::laws::one_generated;
+use nwq_runs::laws::one_run;
 use nwq_scripts::laws::one_script;
-use nwq_sources::laws::one_source;
 use nwq_tables::laws::one_set_of_tables;
-use plan_plays::laws::one_code;
 use words_meaning::{compiles_mean, generates_mean, plays_mean, runs_mean};
 
 /// A command that isn't cut has one outcome, and one that is cut has put a prefix of what it puts
@@ -21,11 +20,10 @@ pub fn one_outcome()
     ensures whole { OneWhole }
     ensures whole_prefixes { WholePrefixes }
 {
-    one_source();
     one_file();
     one_script();
     one_check();
-    one_code();
+    one_run();
     one_game();
     one_generated();
     one_set_of_tables();

@@ -16,16 +16,14 @@
 mod command;
 pub mod laws;
 mod program;
-mod run;
 mod tables;
-mod words;
 
 ghost use Rattle.std.specs.Prelude.{map, string_bytes, IsTrue};
 ghost use Rattle.world_core.specs.Calls.{cells_of, AreServing};
 ghost use Rattle.nwq_work.specs.Work.{IsCut, Does, ending};
 ghost use Rattle.nwq_work.specs.Counts.{Counted, Tallies, KeepsBut};
 ghost use Rattle.nwq_work.specs.Reading.{AreBytes};
-ghost use Rattle.nwq_top.specs.Words.{form_of};
+ghost use Rattle.command_words.specs.Words.{form_of};
 ghost use Rattle.nwq_top.specs.Command.{work_of, MayWrite};
 ghost use Rattle.nwq_top.specs.Endings.{ComesOf};
 ghost use Rattle.nwq_top.specs.Meaning.{Means};

@@ -3,7 +3,7 @@ ghost use Rattle.world_core.specs.Calls.{cells_of, AreServing};
 ghost use Rattle.nwq_work.specs.Work.{IsCut, Does, ending};
 ghost use Rattle.nwq_work.specs.Counts.{Counted, Tallies, KeepsBut, StopsArea};
 ghost use Rattle.nwq_tables.specs.Tables.{tables_given};
-ghost use Rattle.nwq_top.specs.Words.{form_of, list_of};
+ghost use Rattle.command_words.specs.Words.{form_of, list_of};
 ghost use Rattle.nwq_top.specs.Command.{work_of, MayWrite};
 ghost use Rattle.nwq_work.specs.Reading.{AreBytes};
 ghost use Rattle.nwq_top.specs.Endings.{ComesOf};

@@ -2,9 +2,9 @@ ghost use Rattle.std.specs.Prelude.{◌≡◌, [], map, string_bytes, None, Ok, 
 ghost use Rattle.nwq_work.specs.Work.{Does};
 ghost use Rattle.nwq_work.specs.Counts.{Counted, Tallies, StopsArea};
 ghost use Rattle.nwq_tables.specs.Tables.{tables_given};
-ghost use Rattle.nwq_top.specs.Words.{form_of, list_of};
+ghost use Rattle.command_words.specs.Words.{form_of, list_of};
 
-use crate::words::list_in;
+use command_words::list_in;
 use nwq_outside::{Files, Sink};
 use nwq_tables::read_tables;
 use nwq_work::Status;

@@ -1,6 +1,6 @@
 use Rattle.std.proofs.Common.{[], subst}
 use Rattle.nwq_work.specs.Counts.{KeepsBut}
-use Rattle.nwq_top.specs.Words.{form_of}
+use Rattle.command_words.specs.Words.{form_of}
 use Rattle.nwq_top.specs.Command.{MayWrite}
 use Rattle.nwq_top.specs.Program.{status_numbered, words_of}
 use Rattle.nwq.proofs.EndLemmas.{none_refused, refusal_comes}

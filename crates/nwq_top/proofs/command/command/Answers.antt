@@ -1,6 +1,6 @@
 use Rattle.std.proofs.Common.{map, string_bytes}
 use Rattle.world_core.specs.Calls.{cells_of}
-use Rattle.nwq_top.specs.Words.{form_of}
+use Rattle.command_words.specs.Words.{form_of}
 use Rattle.nwq_top.proofs.WordLemmas.{made_work}
 use Rattle.nwq_top.proofs.command.command.Goals as goal
 

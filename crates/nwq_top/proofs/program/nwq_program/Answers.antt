@@ -1,7 +1,7 @@
 use Rattle.std.proofs.Common.{List, String, Global, map, drop, string_bytes, sym, subst}
 use Rattle.world_core.specs.Calls.{cells_of}
 use Rattle.nwq_work.specs.Counts.{KeepsBut}
-use Rattle.nwq_top.specs.Words.{form_of}
+use Rattle.command_words.specs.Words.{form_of}
 use Rattle.nwq_top.specs.Command.{MayWrite}
 use Rattle.nwq_top.specs.Program.{status_numbered}
 use Rattle.nwq_top.proofs.Meaning.{same_meaning}

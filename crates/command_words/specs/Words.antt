@@ -5,8 +5,8 @@ use Rattle.std.specs.Option.{option_map}
 use Rattle.nwq_text.specs.Number.{number_of}
 use Rattle.plan_text.specs.Fields.{is_script_name}
 use Rattle.play_generator.specs.Made.{number_limit}
-use Rattle.nwq_top.specs.declared.words.Command.{Command}
-use Rattle.nwq_top.specs.declared.words.Command.TheVariants as command
+use Rattle.command_words.specs.declared.words.Command.{Command}
+use Rattle.command_words.specs.declared.words.Command.TheVariants as command
 
 pub data Form : Type 0 where
   Run : (header script : List ℕ) → Form  -- the header is a file's name, or `-` for the built-in one

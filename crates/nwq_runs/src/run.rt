@@ -7,8 +7,7 @@ ghost use Rattle.nwq_work.specs.Counts.{Counted, Tallies};
 ghost use Rattle.nwq_scripts.specs.Files.{code_name};
 ghost use Rattle.plan_plays.specs.Scripts.{plays_file};
 ghost use Rattle.nwq_plays.specs.Tellings.{StopsPlay};
-ghost use Rattle.nwq_top.specs.Command.{runs_under, runs};
-ghost use Rattle.nwq_top.specs.Endings.{StopsRun};
+ghost use Rattle.nwq_runs.specs.Runs.{runs_under, runs, StopsRun};
 
 use hook_table::Hooks;
 use nwq_outside::{Files, Sink};
@@ -54,7 +53,7 @@ fn play_compiled<S: Sink>(
 }
 
 /// Plays one start entry of the script of this name under a header.
-#[tactic(auto, using(crate::proofs::Steps::steps, crate::proofs::EndingLemmas::runs_stop), unfolding(crate::specs::Command::runs_under))]
+#[tactic(auto, using(crate::proofs::Steps::steps, crate::proofs::StopLemmas::runs_stop), unfolding(crate::specs::Runs::runs_under))]
 fn run_under<F: Files, S: Sink>(
     alloc: Global,
     table: &Table,
@@ -82,7 +81,7 @@ fn run_under<F: Files, S: Sink>(
 }
 
 /// Plays one start entry of the script of this name, under the header that a word names.
-#[tactic(auto, using(crate::proofs::Steps::steps, crate::proofs::EndingLemmas::runs_stop), unfolding(crate::specs::Command::runs))]
+#[tactic(auto, using(crate::proofs::Steps::steps, crate::proofs::StopLemmas::runs_stop), unfolding(crate::specs::Runs::runs))]
 pub fn run<F: Files, S: Sink>(
     alloc: Global,
     header: &str,

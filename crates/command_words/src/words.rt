@@ -2,9 +2,9 @@ ghost use Rattle.std.specs.Prelude.{◌≡◌, map, string_bytes, bytes_eq};
 ghost use Rattle.std.specs.List.{list_any};
 ghost use Rattle.std.specs.Option.{option_map};
 ghost use Rattle.nwq_text.specs.Number.{number_of};
-ghost use Rattle.nwq_top.specs.Words.{is_option, command_form, generate_form, one_word_form};
-ghost use Rattle.nwq_top.specs.Words.{two_word_form, run_form, compile_form, play_form};
-ghost use Rattle.nwq_top.specs.Words.{form_of, list_of, IsCommand};
+ghost use Rattle.command_words.specs.Words.{is_option, command_form, generate_form, one_word_form};
+ghost use Rattle.command_words.specs.Words.{two_word_form, run_form, compile_form, play_form};
+ghost use Rattle.command_words.specs.Words.{form_of, list_of, IsCommand};
 
 use nwq_text::read_number;
 use plan_text::names_script;

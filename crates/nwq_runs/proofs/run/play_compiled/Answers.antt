@@ -1,8 +1,8 @@
 use Rattle.std.proofs.Common.{map, ◌∙◌}
 use Rattle.world_core.specs.Calls.{cells_of}
 use Rattle.nwq_scripts.specs.Files.{code_name}
-use Rattle.nwq_top.proofs.RunLemmas.{same_play}
-use Rattle.nwq_top.proofs.run.play_compiled.Goals as goal
+use Rattle.nwq_runs.proofs.RunLemmas.{same_play}
+use Rattle.nwq_runs.proofs.run.play_compiled.Goals as goal
 
 pub returns-in-Ok-clause-does : goal.returns-in-Ok-clause-does
 returns-in-Ok-clause-does g c = λ tells d.

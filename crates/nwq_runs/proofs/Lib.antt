@@ -1,0 +1,4 @@
+mod OneRun
+mod RunLemmas
+mod Steps
+mod StopLemmas
