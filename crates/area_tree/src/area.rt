@@ -21,7 +21,6 @@ use std::alloc::Global;
 use std::marker::Model;
 
 /// The tree that was read, and what its objects are now. Objects are numbered from 1.
-#[derive(Drop)]
 pub struct Area {
     tree: Gff,
     objects: Vec<Object>,
@@ -43,6 +42,19 @@ impl Model for Area {
 
     ghost invariant = { λ a. IsArea (record { tree = plain_gff a.tree; objects = a.objects.items })
         × Indexes a.tags.entries a.objects.items };
+}
+
+impl Drop for Area {
+    fn drop(self) {
+        let Area {
+            tree,
+            objects,
+            tags,
+        } = self;
+        drop(tree);
+        drop(objects);
+        drop(tags);
+    }
 }
 
 impl Area {

@@ -43,7 +43,6 @@ impl Model for ScriptField {
 }
 
 /// One object of an area.
-#[derive(Drop)]
 pub struct Object {
     tag: Items<u8>,
     vars: Vars,
@@ -56,6 +55,15 @@ impl Model for Object {
     ghost Value = { AreaObject };
 
     ghost view = { λ o. record { tag = o.tag; vars = o.vars; scripts = o.scripts.items } };
+}
+
+impl Drop for Object {
+    fn drop(self) {
+        let Object { tag, vars, scripts } = self;
+        drop(tag);
+        drop(vars);
+        drop(scripts);
+    }
 }
 
 impl Object {

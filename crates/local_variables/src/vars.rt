@@ -24,7 +24,6 @@ pub enum Var<'a> {
 
 /// The variables of one object in their order, no two of one type and name. Contracts see the list
 /// of them.
-#[derive(Drop)]
 pub struct Vars {
     alloc: Global,
     order: Vec<Place>,
@@ -44,6 +43,20 @@ impl Model for Vars {
 
     ghost invariant = { λ v. AreKept v.order.items (map int_var v.ints.entries)
         (map text_var v.texts.entries) };
+}
+
+impl Drop for Vars {
+    fn drop(self) {
+        let Vars {
+            alloc: _,
+            order,
+            ints,
+            texts,
+        } = self;
+        drop(order);
+        drop(ints);
+        drop(texts);
+    }
 }
 
 /// Puts an int behind those of the map, and last in the order.
