@@ -20,7 +20,7 @@ pub fn one_file()
 
 /// The positions of a typed unit's variables stand in the order of their numbers.
 pub fn positions_by_number()
-    ensures { PositionsByNumber }
+    ensures positions { PositionsByNumber }
 {
     numbered_in_order();
 }

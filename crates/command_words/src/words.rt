@@ -182,7 +182,7 @@ fn command_by(words: &[String]) -> Command<'_>
 /// The command that these words are.
 #[tactic(auto, using(crate::proofs::WordLemmas::any_dashed))]
 pub fn command_of(words: &[String]) -> Command<'_>
-    ensures { IsCommand result (form_of (map string_bytes words.now)) }
+    ensures command { IsCommand result (form_of (map string_bytes words.now)) }
 {
     if has_dashed(words) {
         Command::NoForm
@@ -193,7 +193,7 @@ pub fn command_of(words: &[String]) -> Command<'_>
 
 /// The list of tables that these words give.
 pub fn list_in(words: &[String]) -> Option<&str>
-    ensures { option_map (λ name. name.now) result ≡ list_of (form_of (map string_bytes words.now)) }
+    ensures list { option_map (λ name. name.now) result ≡ list_of (form_of (map string_bytes words.now)) }
 {
     match command_of(words) {
         Command::Play { list, .. } => list,

@@ -1,10 +1,10 @@
 -- What a clear line declares, a table may take.
-use Rattle.std.proofs.Common.{◌≡◌, ◌≤◌, ◌<◌, Bool, false, List, [], ◌∷◌, ◌++◌, length, Option, Some, None, refl, arith, length-append}
+use Rattle.std.proofs.Common.{◌≤◌, Bool, false, List, [], ◌∷◌, ◌++◌, length, Option, refl, arith, length-append}
 use Rattle.nwq_value.specs.declared.value.Ty.{Ty}
 use Rattle.nwq_value.specs.declared.engine.Const.{Const}
 use Rattle.nwq_value.specs.declared.engine.Param.{Param}
 use Rattle.nwq_value.specs.Limits.{parameter_limit}
-use Rattle.nwq_value.specs.Engine.{Constant, AreConstants, IsNoStruct, FitsType, AreParams}
+use Rattle.nwq_value.specs.Engine.{AreConstants, IsNoStruct, FitsType, AreParams}
 use Rattle.engine_table.specs.Known.{Known}
 use Rattle.engine_table.specs.declared.declaration.Declared.{Declared}
 use Rattle.engine_table.specs.declared.declaration.Declaration.{Declaration}

@@ -8,7 +8,7 @@ pub const HEADER_BYTES: usize = 13;
 /// What a file of so many bytes begins with: `NCS V1.0`, the byte 0x42 and its length.
 #[tactic(auto, unfolding(crate::specs::Spelling::four))]
 pub fn header(length: u32) -> [u8; HEADER_BYTES]
-    ensures { result ≡ magic ++ four length }
+    ensures header { result ≡ magic ++ four length }
 {
     let [a, b, c, d] = length.to_be_bytes();
     [

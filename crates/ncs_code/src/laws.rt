@@ -4,27 +4,27 @@ ghost use Rattle.ncs_code.specs.Laws.{SizeLaws, SpellingLaws};
 /// No spelling begins another, where an instruction is spelled there is no fault, and what is
 /// spelled in a row is read again.
 pub fn spelling_laws()
-    ensures { SpellingLaws }
+    ensures spelling { SpellingLaws }
 {}
 
 /// The sizes that places are counted with are lengths of spellings, and add up.
 pub fn size_laws()
-    ensures { SizeLaws }
+    ensures sizes { SizeLaws }
 {}
 
 /// An instruction begins at the length that a file of the instructions before it has.
 pub fn place_laws()
-    ensures { PlaceLaws }
+    ensures places { PlaceLaws }
 {}
 
 /// A file has one first instruction at most that leads badly.
 pub fn one_first_bad()
-    ensures { OneFirstBad }
+    ensures one { OneFirstBad }
 {}
 
 /// A jump over the distance between two places leads from the one to the other.
 pub fn distance_leads()
-    ensures { DistanceLeads }
+    ensures leads { DistanceLeads }
 {}
 
 /// Each instruction has one of the opcodes, and those have different names.

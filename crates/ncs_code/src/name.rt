@@ -200,7 +200,7 @@ fn has_name(code: u8, name: &[u8]) -> bool
 /// The opcode of the instructions with this name.
 
 pub fn opcode_named(name: &[u8]) -> Option<u8>
-    ensures { IsNamed name.now result }
+    ensures opcode { IsNamed name.now result }
 {
     for code in CPDOWNSP..=NOP {
         if has_name(code, name) {

@@ -64,7 +64,7 @@ fn routine_called<'u>(table: &'u Table, name: &[u8]) -> Option<Called<'u>>
 
 /// What a call of this name calls, maybe nothing; `None` where that declaration isn't typed.
 pub fn callee<'u>(given: &Given<'u>, name: &[u8]) -> Option<Option<Called<'u>>>
-    ensures { option_map (option_map called_of) result
+    ensures callee { option_map (option_map called_of) result
         ≡ callee (heads_in given.now) given.now.table.now name.now }
 {
     match given.heads.body(name) {
@@ -81,7 +81,7 @@ pub fn callee<'u>(given: &Given<'u>, name: &[u8]) -> Option<Option<Called<'u>>>
 
 /// The parameters that are wanted, where there are any.
 pub fn types_wanted<'u>(called: Option<Option<Called<'u>>>) -> &'u [Param]
-    ensures { result.now ≡ types_wanted (option_map (option_map called_of) called.entry) }
+    ensures wanted { result.now ≡ types_wanted (option_map (option_map called_of) called.entry) }
 {
     match called {
         Some(Some(called)) => called.params,
@@ -92,7 +92,7 @@ pub fn types_wanted<'u>(called: Option<Option<Called<'u>>>) -> &'u [Param]
 
 /// Whether an argument stands where an action is taken.
 pub fn takes_action(params: &[Param]) -> bool
-    ensures { result ≡ takes_action params.now }
+    ensures test { result ≡ takes_action params.now }
 {
     match params {
         [] => false,
@@ -102,7 +102,7 @@ pub fn takes_action(params: &[Param]) -> bool
 
 /// The parameters behind the first.
 pub fn others(params: &[Param]) -> &[Param]
-    ensures { result.now ≡ others params.now }
+    ensures others { result.now ≡ others params.now }
 {
     match params {
         [] => params,
@@ -112,7 +112,7 @@ pub fn others(params: &[Param]) -> &[Param]
 
 /// Whether such a call may not stand in a global's first value.
 pub fn is_barred(as_action: bool, called: &Called<'_>) -> bool
-    ensures { result ≡ is_barred as_action (called_of called.now) }
+    ensures test { result ≡ is_barred as_action (called_of called.now) }
 {
     matches!(called.callee, Callee::Unit(_)) || (as_action && is_void(called.result))
 }
@@ -141,7 +141,7 @@ pub fn filled(
     count: usize,
     params: &[Param],
 ) -> Result<Option<Items<Const>>, NoMemory>
-    ensures { IfOk result (λ r. r ≡ defaults_behind count params.now) }
+    ensures filled { IfOk result (λ r. r ≡ defaults_behind count params.now) }
 {
     if count > params.len() {
         return Ok(None);

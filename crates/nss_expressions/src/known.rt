@@ -36,7 +36,7 @@ fn of_meaning(meaning: &Meaning) -> Known<'_>
 
 /// What a name means, maybe nothing; `None` where its declaration isn't typed.
 pub fn name_means<'a>(table: &'a Table, c: &'a Sight, name: &[u8]) -> Option<Option<Known<'a>>>
-    ensures { option_map (option_map known_of) result
+    ensures meaning { option_map (option_map known_of) result
         ≡ name_means (in_sight table.now c.now) name.now }
 {
     match c.names.find(name) {

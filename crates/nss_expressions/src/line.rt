@@ -18,7 +18,7 @@ use nwq_value::Ty;
 
 /// What a type as it is written means; `None` where it is a struct that isn't typed.
 pub fn type_means(structs: &Structs, ty: &TypeName) -> Option<Meant>
-    ensures { option_map meant_of result ≡ type_means structs.now ty.now }
+    ensures meaning { option_map meant_of result ≡ type_means structs.now ty.now }
 {
     match ty {
         TypeName::Void => Some(Meant::Is(Ty::Void)),
@@ -39,7 +39,7 @@ pub fn type_means(structs: &Structs, ty: &TypeName) -> Option<Meant>
 
 /// The type of a value that may be declared with it.
 pub fn value_type(meant: Meant) -> Option<Ty>
-    ensures { result ≡ value_type (meant_of meant) }
+    ensures typed { result ≡ value_type (meant_of meant) }
 {
     match meant {
         Meant::Is(Ty::Void) => None,
@@ -51,7 +51,7 @@ pub fn value_type(meant: Meant) -> Option<Ty>
 
 /// The type of a function's result.
 pub fn any_type(meant: Meant) -> Option<Ty>
-    ensures { result ≡ any_type (meant_of meant) }
+    ensures typed { result ≡ any_type (meant_of meant) }
 {
     match meant {
         Meant::Is(ty) => Some(ty),
@@ -75,7 +75,7 @@ fn constant_type(meant: Meant) -> Option<Ty>
 
 /// The type of what a line declares, or of a parameter.
 pub fn declared_type(structs: &Structs, ty: &TypeName) -> Option<Ty>
-    ensures { result ≡ declared_type structs.now ty.now }
+    ensures typed { result ≡ declared_type structs.now ty.now }
 {
     match type_means(structs, ty) {
         Some(meant) => value_type(meant),
@@ -85,7 +85,7 @@ pub fn declared_type(structs: &Structs, ty: &TypeName) -> Option<Ty>
 
 /// The type of a function's result as it is written.
 pub fn result_type(structs: &Structs, ty: &TypeName) -> Option<Ty>
-    ensures { result ≡ result_type structs.now ty.now }
+    ensures typed { result ≡ result_type structs.now ty.now }
 {
     match type_means(structs, ty) {
         Some(meant) => any_type(meant),

@@ -10,7 +10,7 @@ pub fn and_last<T: Drop>(
     all: Option<Items<T>>,
     one: Option<T>,
 ) -> Result<Option<Items<T>>, NoMemory>
-    ensures { IfOk result (λ r. r ≡ and_one all one) }
+    ensures row { IfOk result (λ r. r ≡ and_one all one) }
 {
     match all {
         Some(mut all) => match one {

@@ -10,26 +10,26 @@ use nss_typing::rules::same_type;
 use nwq_value::Ty;
 
 pub fn is_int(ty: Ty) -> bool
-    ensures { result ≡ is_int ty }
+    ensures test { result ≡ is_int ty }
 {
     matches!(ty, Ty::Int)
 }
 
 pub fn is_void(ty: Ty) -> bool
-    ensures { result ≡ is_void ty }
+    ensures test { result ≡ is_void ty }
 {
     matches!(ty, Ty::Void)
 }
 
 pub fn is_action(ty: Ty) -> bool
-    ensures { result ≡ is_action ty }
+    ensures test { result ≡ is_action ty }
 {
     matches!(ty, Ty::Action)
 }
 
 /// Whether the operator writes what it stands before.
 pub fn is_step(operator: PrefixOperator) -> bool
-    ensures { result ≡ is_step operator }
+    ensures test { result ≡ is_step operator }
 {
     matches!(
         operator,
@@ -39,7 +39,7 @@ pub fn is_step(operator: PrefixOperator) -> bool
 
 /// The type of an assignment of a value of the second type to a place of the first one.
 pub fn assigned_type(operator: AssignOperator, place: Ty, value: Ty) -> Option<Ty>
-    ensures { result ≡ assigned_type operator place value }
+    ensures typed { result ≡ assigned_type operator place value }
 {
     match operator {
         AssignOperator::Set => {
@@ -64,7 +64,7 @@ pub fn assigned_type(operator: AssignOperator, place: Ty, value: Ty) -> Option<T
 /// The place of a variable. Globals are local in the first value of a global, where they are still
 /// being made.
 pub fn place_of(at_file: bool, number: u32, is_local: bool) -> Place
-    ensures { result ≡ place_of at_file number is_local }
+    ensures place { result ≡ place_of at_file number is_local }
 {
     if at_file || is_local {
         Place::Local(number)

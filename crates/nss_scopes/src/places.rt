@@ -31,7 +31,7 @@ impl Model for Places {
 
 /// The item at a place.
 pub fn item_at<T>(all: &[T], at: usize) -> Option<&T>
-    ensures { option_copied result ≡ slice_get all.now at }
+    ensures item { option_copied result ≡ slice_get all.now at }
 {
     all.get(at)
 }

@@ -65,7 +65,7 @@ pub struct Mark {
 /// So many cells more, counted to one past the limit.
 pub fn counted(limit: u32, before: u32, more: u32) -> u32
     requires limit { limit ≤ 4000 }
-    ensures { result ≡ counted limit before more }
+    ensures count { result ≡ counted limit before more }
 {
     if before > limit || more > limit {
         return limit + 1;
@@ -76,7 +76,7 @@ pub fn counted(limit: u32, before: u32, more: u32) -> u32
 
 /// Whether the limit is passed here, and wasn't before.
 pub fn crosses(limit: u32, before: u32, now: u32) -> bool
-    ensures { result ≡ crosses limit before now }
+    ensures test { result ≡ crosses limit before now }
 {
     before <= limit && limit < now
 }

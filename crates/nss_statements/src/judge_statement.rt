@@ -28,7 +28,7 @@ use std::alloc::Global;
 
 /// A block of these.
 pub fn made_block(token: u32, items: Option<Items<TypedStmt>>) -> Option<TypedStmt>
-    ensures { option_map typed_stmt result
+    ensures made { option_map typed_stmt result
         ≡ fine (passed (tree.block token) (option_map typed_stmts items)) }
 {
     match items {
@@ -39,7 +39,7 @@ pub fn made_block(token: u32, items: Option<Items<TypedStmt>>) -> Option<TypedSt
 
 /// A statement of this expression.
 pub fn made_expression(token: u32, value: Option<Expression>) -> Option<TypedStmt>
-    ensures { option_map typed_stmt result
+    ensures made { option_map typed_stmt result
         ≡ fine (passed (tree.expression token) (option_map plain value)) }
 {
     match value {
@@ -54,7 +54,7 @@ pub fn made_declaration(
     ty: Option<Ty>,
     names: Option<Items<TypedName>>,
 ) -> Option<TypedStmt>
-    ensures { option_map typed_stmt result
+    ensures made { option_map typed_stmt result
         ≡ fine (passed (declaration_of token) (two ty (option_map typed_names names))) }
 {
     match ty {

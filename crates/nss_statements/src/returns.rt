@@ -137,7 +137,7 @@ fn returns(x: &TypedStmt) -> bool
 /// Whether one of these returns.
 #[cycle(returns)]
 pub fn some_returns(xs: &[TypedStmt]) -> bool
-    ensures { result ≡ some_returns (typed_stmts xs.now) }
+    ensures test { result ≡ some_returns (typed_stmts xs.now) }
 {
     for x in xs {
         if returns(x) {

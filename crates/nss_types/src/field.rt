@@ -263,7 +263,7 @@ pub fn struct_members(
     structs: &Structs,
     ls: &[TypedLine],
 ) -> Result<Members, NoMemory>
-    ensures { IfOk result (λ m. members_of m ≡ struct_members structs.now ls.now) }
+    ensures members { IfOk result (λ m. members_of m ≡ struct_members structs.now ls.now) }
 {
     let mut members = Members {
         fields: Items::new(alloc),

@@ -81,7 +81,7 @@ fn agrees(first: Option<&Signature>, head: &TypedHead) -> bool
 /// The types of the first declaration of a function, maybe no declaration; `None` where it isn't
 /// typed.
 pub fn first_types<'a>(seen: &'a Heads, name: &[u8]) -> Option<Option<&'a Signature>>
-    ensures { option_map (option_map (λ s. signature_of s.now)) result
+    ensures signature { option_map (option_map (λ s. signature_of s.now)) result
         ≡ first_types name.now seen.now }
 {
     match seen.find(name) {
@@ -366,6 +366,7 @@ fn parts(
         ≡ after_body (after_params (sight_in given.now c.old) ps.now)
         (option_map plain_stmts body.now)) }
 {
+    scopes_only_add();
     let alloc = given.alloc;
     let params = parameters(alloc, given.table, c, least, ps)?;
     let first = first_types(&c.seen, name.bytes());

@@ -8,7 +8,7 @@ ghost use Rattle.nss_typing.specs.Scopes.{NamesStandFirst, ParametersOnlyAdd, St
 
 /// A unit has one typed tree at most.
 pub fn one_typed()
-    ensures { OneTyped }
+    ensures one { OneTyped }
 {}
 
 /// A unit is typed exactly where none of its nodes is at fault.
@@ -39,7 +39,7 @@ pub fn items_are_right()
 
 /// The variables of a typed unit are numbered in one row from 0, in the order of their tokens.
 pub fn numbered_in_order()
-    ensures { NumberedInOrder }
+    ensures numbered { NumberedInOrder }
 {}
 
 /// Statements and parameters only add to what stands in sight, so the names before them are found

@@ -8,7 +8,7 @@ use nwq_value::Ty;
 
 /// Whether two types are one.
 pub fn same_type(left: Ty, right: Ty) -> bool
-    ensures { result ≡ same_type left right }
+    ensures test { result ≡ same_type left right }
 {
     match (left, right) {
         (Ty::Void, Ty::Void) => true,
@@ -26,7 +26,7 @@ pub fn same_type(left: Ty, right: Ty) -> bool
 
 /// Whether two values of this type are compared by `==` and `!=`.
 pub fn is_compared(ty: Ty) -> bool
-    ensures { result ≡ is_compared ty }
+    ensures test { result ≡ is_compared ty }
 {
     match ty {
         Ty::Int | Ty::Text | Ty::Object | Ty::Effect | Ty::Event | Ty::Struct(_) => true,
@@ -36,7 +36,7 @@ pub fn is_compared(ty: Ty) -> bool
 
 /// The type of an operation with two operands of these types.
 pub fn binary_type(operator: BinaryOperator, left: Ty, right: Ty) -> Option<Ty>
-    ensures { result ≡ binary_type operator left right }
+    ensures typed { result ≡ binary_type operator left right }
 {
     match operator {
         BinaryOperator::Add => match (left, right) {

@@ -6,6 +6,6 @@
 #![tactic(auto)]
 
 pub mod laws;
-mod run;
+mod runs;
 
-pub use run::run;
+pub use runs::run;

@@ -106,7 +106,7 @@ pub fn read_compiled<F: Files, S: Sink>(
 
 /// The name of a script's file of bytecode.
 pub fn code_name(alloc: Global, script: &str) -> Result<String, NoMemory>
-    ensures { IfOk result (λ name. string_bytes name ≡ code_name script.now) }
+    ensures named { IfOk result (λ name. string_bytes name ≡ code_name script.now) }
 {
     let mut name = String::new(alloc);
     name.push_str(script)?;

@@ -64,7 +64,7 @@ pub fn refuse_token<S: Sink>(
     cause: Cause,
     out: &mut S,
 ) -> Status
-    requires { 0 < length unit.now.files }
+    requires files { 0 < length unit.now.files }
     ensures does { IsTrue S.tells →
         Refuses (at_spot cause (spot_at unit.now.files unit.now.tokens i))
         (S.taken out.old) result (S.taken out.new) }
@@ -82,7 +82,7 @@ pub fn refuse_token<S: Sink>(
 /// Refuses a unit at the end of the script's own file.
 #[tactic(auto, using(crate::proofs::UnitLemmas::cut_refuses))]
 pub fn refuse_end<S: Sink>(alloc: Global, unit: &Unit, cause: Cause, out: &mut S) -> Status
-    requires { 0 < length unit.now.files }
+    requires files { 0 < length unit.now.files }
     ensures does { IsTrue S.tells → Refuses (at_spot cause (spot_of unit.now.files None))
         (S.taken out.old) result (S.taken out.new) }
     ensures counts { (faults absences longs : ℕ) → TalliesEnd result

@@ -50,7 +50,7 @@ pub enum Cause {
 impl Cause {
     /// The word that is printed for the cause.
     pub fn word(self) -> &'static str
-        ensures { result.now ≡ cause_word self }
+        ensures word { result.now ≡ cause_word self }
     {
         match self {
             Cause::Bad => "bad",

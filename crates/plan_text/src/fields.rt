@@ -38,7 +38,7 @@ pub fn number_in(digits: &[u8], low: u64, high: u64) -> Option<u64>
 /// Whether these are 1 to 16 of the characters a to z, 0 to 9 and `_`.
 #[tactic(auto, unfolding(crate::specs::Fields::is_script_name))]
 pub fn names_script(name: &[u8]) -> bool
-    ensures { result ≡ is_script_name name.now }
+    ensures test { result ≡ is_script_name name.now }
 {
     !name.is_empty() && name.len() <= MOST_NAME && are_script_bytes(name)
 }

@@ -9,7 +9,7 @@ use std::alloc::Global;
 /// The tokens of a text, up to its first bad place.
 #[tactic(auto, using(crate::proofs::TokenLaws::token_is, crate::proofs::TokenLaws::all_push))]
 pub fn tokens_of<'a>(alloc: Global, source: &'a [u8]) -> Result<Vec<Token<'a>>, NoMemory>
-    requires { length source.now ≤ SOURCE_BYTES }
+    requires small { length source.now ≤ SOURCE_BYTES }
     ensures tokens { IfOk result (λ all. AllByRecursion IsToken all.items) }
     ensures count { IfOk result (λ all. length all.items ≤ length source.now) }
 {

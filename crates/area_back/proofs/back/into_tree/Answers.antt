@@ -15,4 +15,4 @@ invariant_of-result c =
       found_sound = c.fields_tell.ensures.found;
       list_sound = c.fields_tell.ensures.list_sound;
     } in
-    record { sound = ap is_sound c.in-Ok.ensures ∙ back_sound laws c.deref.result.now (plain_node c.into_parts.result.0.top) c.into_parts.result.0.sound }
+    record { sound = ap is_sound c.in-Ok.ensures ∙ back_sound laws c.deref.result.now (plain_node c.into_parts-tree.result.0.top) c.into_parts-tree.result.0.sound }

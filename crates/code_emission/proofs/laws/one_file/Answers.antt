@@ -3,4 +3,4 @@ use Rattle.code_emission.specs.Units.{unit_file}
 use Rattle.code_emission.proofs.laws.one_file.Goals as goal
 
 pub returns : goal.returns
-returns c = record { one = λ table u s t f g. ap unit_file (c.one_typed.ensures table u s t f g) }
+returns c = record { one = λ table u s t f g. ap unit_file (c.one_typed.ensures.one table u s t f g) }

@@ -2,4 +2,4 @@ use Rattle.ncs_code.proofs.Places.{distance_leads}
 use Rattle.ncs_code.proofs.laws.distance_leads.Goals as goal
 
 pub returns : goal.returns
-returns c = distance_leads
+returns c = record { leads = distance_leads }

@@ -18,12 +18,12 @@ loop-line-preserved c =
           let seen = met c.args.kept.now c.loop-line.line-index _ _ w.in-Instruction.is c.loop-line-test.true in
           let file = ap (λ v. v.items) w.file-is ∙ w.in_ok-extend_from_slice-in-Instruction.ensures.items ∙ ap (λ (t : List ℕ). c.loop-line.file.items ++ t) w.split_at.ensures.front in
           let rest = ap (λ r. r.now) w.rest-is ∙ w.split_at.ensures.back in
-          moved _ _ _ _ _ _ _ _ _ (put_op c.size_laws.ensures.op _ _ _ _ _ _ _ _ w.in-Instruction.count c.loop-line.invariant seen) file rest
+          moved _ _ _ _ _ _ _ _ _ (put_op c.size_laws.ensures.sizes.op _ _ _ _ _ _ _ _ w.in-Instruction.count c.loop-line.invariant seen) file rest
       | in-Jump+in_ok-put_jump-in-Jump w ↦
           let seen = met c.args.kept.now c.loop-line.line-index _ _ w.in-Jump.is c.loop-line-test.true in
           let place = w.unwrap_or-place.ensures ∙ place_known _ c.args.size _ _ c.args.places.now w.in-Jump.label c.requires.fits c.requires.placed in
           let file = ap (λ v. v.items) w.file-is ∙ w.in_ok-put_jump-in-Jump.ensures in
-          moved _ _ _ _ _ _ _ _ _ (put_jump_line c.size_laws.ensures.op _ _ _ _ _ _ _ _ w.in-Jump.jump w.in-Jump.label _ c.loop-line.invariant seen place) file (ap (λ r. r.now) w.rest-is)
+          moved _ _ _ _ _ _ _ _ _ (put_jump_line c.size_laws.ensures.sizes.op _ _ _ _ _ _ _ _ w.in-Jump.jump w.in-Jump.label _ c.loop-line.invariant seen place) file (ap (λ r. r.now) w.rest-is)
       | in-Label w ↦
           let seen = met c.args.kept.now c.loop-line.line-index _ _ w.in-Label.is c.loop-line-test.true in
           moved _ _ _ _ _ _ _ _ _ (put_label _ _ _ _ _ _ _ _ _ c.loop-line.invariant seen) (ap (λ v. v.items) w.file-is) (ap (λ r. r.now) w.rest-is)

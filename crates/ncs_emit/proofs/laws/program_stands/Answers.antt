@@ -5,4 +5,4 @@ pub returns-clause-size : goal.returns-clause-size
 returns-clause-size c = program_size
 
 pub returns-clause-stands : goal.returns-clause-stands
-returns-clause-stands c = program_stands c.place_laws.ensures.begins c.size_laws.ensures.add c.distance_leads.ensures
+returns-clause-stands c = program_stands c.place_laws.ensures.places.begins c.size_laws.ensures.sizes.add c.distance_leads.ensures.leads

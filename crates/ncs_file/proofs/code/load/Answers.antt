@@ -7,4 +7,4 @@ invariant_of-result c =
 
 pub returns-clause-loaded : goal.returns-clause-loaded
 returns-clause-loaded c =
-    is_file c.size_laws.ensures _ _ _ _ _ c.as_slice-2.ensures.value c.as_slice-3.ensures.value c.in_ok-starts.ensures.scanned c.in_ok-test_targets.ensures c.requires.size
+    is_file c.size_laws.ensures.sizes _ _ _ _ _ c.as_slice-2.ensures.value c.as_slice-3.ensures.value c.in_ok-starts.ensures.scanned c.in_ok-test_targets.ensures c.requires.size

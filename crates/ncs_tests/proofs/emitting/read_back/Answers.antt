@@ -4,7 +4,7 @@ use Rattle.ncs_tests.proofs.emitting.read_back.Goals as goal
 
 pub load-requires : goal.load-requires
 load-requires c = record {
-  size = omega (arith, ap length c.in-Ok.ensures.file, c.size_laws.ensures.file (program c.args.out.lines), c.in-Ok.ensures.bounded);
+  size = omega (arith, ap length c.in-Ok.ensures.file, c.size_laws.ensures.sizes.file (program c.args.out.lines), c.in-Ok.ensures.bounded);
 }
 
 pub want_of_memory-requires : goal.want_of_memory-requires

@@ -20,7 +20,7 @@ loop-line-preserved c =
     let puts = rw c.in-Some-2.is at (c.in_ok-added.ensures {u = tt}).puts
     in let few = rw c.in-Some-2.is at (c.in_ok-added.ensures {u = tt}).few
     in let step : SoFar c.args.text.now c.in-Some.after.now c.args.stop c.forget_large.new.body.items (c.loop-line.size + c.in-Some-2.added) (c.loop-line.number + 1)
-    = goes_on c.size_laws.ensures c.args.text.now c.loop-line.rest.now c.in-Some.line.now c.in-Some.after.now c.loop-line.body.items c.put_line.new.out.items
+    = goes_on c.size_laws.ensures.sizes c.args.text.now c.loop-line.rest.now c.in-Some.line.now c.in-Some.after.now c.loop-line.body.items c.put_line.new.out.items
     c.forget_large.new.body.items c.args.stop c.loop-line.size c.loop-line.number c.in-Some-2.added
     c.loop-line.invariant c.if-size-stop.false (sym (c.in-Some.ensures {u = tt})) puts few
     (λ h. c.forget_large.ensures (subst (λ n. c.loop-line.size + n ≤ file_limit) (sym c.from-size.ensures) h))

@@ -8,4 +8,4 @@ returns-in-Err-clause-whole c op is_op e = c.in-Err.ensures.only op [] is_op (e 
 pub returns-else-size-bytes-clause-whole : goal.returns-else-size-bytes-clause-whole
 returns-else-size-bytes-clause-whole c op is_op e =
     let same = c.in-Ok.ensures.only op [] is_op (e ∙ sym (append-nil (spelling op)))
-    in c.if-size-bytes.false (same.1 ∙ c.size_laws.ensures.op op ∙ sym (ap length e))
+    in c.if-size-bytes.false (same.1 ∙ c.size_laws.ensures.sizes.op op ∙ sym (ap length e))

@@ -14,7 +14,7 @@ returns-then-not-first_takes c =
 pub loop-x-preserved : goal.loop-x-preserved
 loop-x-preserved c =
     let yes : c.first_takes.result ≡ true = search rules in
-    ap (all_taken (plain_all (drop (c.loop-x.x-index + 1) c.args.xs.now))) c.others-rest.ensures
+    ap (all_taken (plain_all (drop (c.loop-x.x-index + 1) c.args.xs.now))) c.others-rest.ensures.others
     ∙ (sym (ap (λ b. b && all_taken (plain_all (drop (c.loop-x.x-index + 1) c.args.xs.now)) (others c.loop-x.rest.now)) (sym c.first_takes.ensures ∙ yes))
     ∙ (sym (all_taken_at c.args.xs.now c.loop-x.x-index c.x-item.result c.loop-x.rest.now c.loop-x-test.true c.x-item.is) ∙ c.loop-x.invariant))
 

@@ -3,7 +3,7 @@ use Rattle.nss_typing.specs.Readings.{plain_call, plain_member, plain_prefix, pl
 use Rattle.nss_expressions.proofs.call.is_void_call.Goals as goal
 
 pub returns-in-Call : goal.returns-in-Call
-returns-in-Call c = rw (plain_call _ _ _ _ _ c.in-Call.is) c.is_void.ensures
+returns-in-Call c = rw (plain_call _ _ _ _ _ c.in-Call.is) c.is_void.ensures.test
 
 pub returns-in-Member : goal.returns-in-Member
 returns-in-Member c = rw (plain_member _ _ _ _ c.in-Member.is) refl

@@ -104,8 +104,8 @@ expression-returns-in_ok-xs-in-Call-clause-value t c =
     (plain_call _ _ _ _ c.in-Call.is ∙ ap (λ y. call c.in-Call.token c.in-Call.name (plain_exprs y)) (sym c.deref.ensures.value))
     (λ x y. asked (call_rows c.args.c.now.at_file c.args.as_action) (call_rule c.args.c.now.at_file c.args.as_action) (two x y)) (option_map plain_all c.in_ok-xs-in-Call.xs) (all_fine (heads_in c.args.given.now) (sight_in c.args.given.now c.args.c.now) (wanted (heads_in c.args.given.now) c.args.given.now.table.now c.in-Call.name) (plain_exprs c.deref.result.now))
     (option_map (option_map called_of) c.callee-called.result) (callee (heads_in c.args.given.now) c.args.given.now.table.now c.in-Call.name)
-    (c.in_ok-xs-in-Call.ensures.value ∙ ap (λ ps. all_fine (heads_in c.args.given.now) (sight_in c.args.given.now c.args.c.now) ps (plain_exprs c.deref.result.now)) (c.types_wanted.ensures ∙ ap types_wanted (c.callee-called.ensures ∙ ap (callee (heads_in c.args.given.now) c.args.given.now.table.now) c.bytes-in-Call.ensures.same)))
-    (c.callee-called.ensures ∙ ap (callee (heads_in c.args.given.now) c.args.given.now.table.now) c.bytes-in-Call.ensures.same) refl c.judge_call.ensures.value
+    (c.in_ok-xs-in-Call.ensures.value ∙ ap (λ ps. all_fine (heads_in c.args.given.now) (sight_in c.args.given.now c.args.c.now) ps (plain_exprs c.deref.result.now)) (c.types_wanted.ensures.wanted ∙ ap types_wanted (c.callee-called.ensures.callee ∙ ap (callee (heads_in c.args.given.now) c.args.given.now.table.now) c.bytes-in-Call.ensures.same)))
+    (c.callee-called.ensures.callee ∙ ap (callee (heads_in c.args.given.now) c.args.given.now.table.now) c.bytes-in-Call.ensures.same) refl c.judge_call.ensures.value
 
 pub expression-returns-in_ok-xs-in-Call-clause-least : goal.expression-returns-in_ok-xs-in-Call-clause-least
 expression-returns-in_ok-xs-in-Call-clause-least t c =
@@ -115,9 +115,9 @@ expression-returns-in_ok-xs-in-Call-clause-least t c =
     (λ x y. asked (call_rows c.args.c.now.at_file c.args.as_action) (call_rule c.args.c.now.at_file c.args.as_action) (two x y)) (option_map plain_all c.in_ok-xs-in-Call.xs) (all_fine (heads_in c.args.given.now) (sight_in c.args.given.now c.args.c.now) (wanted (heads_in c.args.given.now) c.args.given.now.table.now c.in-Call.name) (plain_exprs c.deref.result.now))
     (option_map (option_map called_of) c.callee-called.result) (callee (heads_in c.args.given.now) c.args.given.now.table.now c.in-Call.name)
     c.args.least.now c.arguments.new.least c.judge_call.new.least (all_faults (heads_in c.args.given.now) (sight_in c.args.given.now c.args.c.now) (wanted (heads_in c.args.given.now) c.args.given.now.table.now c.in-Call.name) (plain_exprs c.deref.result.now))
-    (c.in_ok-xs-in-Call.ensures.value ∙ ap (λ ps. all_fine (heads_in c.args.given.now) (sight_in c.args.given.now c.args.c.now) ps (plain_exprs c.deref.result.now)) (c.types_wanted.ensures ∙ ap types_wanted (c.callee-called.ensures ∙ ap (callee (heads_in c.args.given.now) c.args.given.now.table.now) c.bytes-in-Call.ensures.same)))
-    (c.callee-called.ensures ∙ ap (callee (heads_in c.args.given.now) c.args.given.now.table.now) c.bytes-in-Call.ensures.same) refl
-    (c.in_ok-xs-in-Call.ensures.least ∙ ap (λ ps. kept c.args.least.now (all_faults (heads_in c.args.given.now) (sight_in c.args.given.now c.args.c.now) ps (plain_exprs c.deref.result.now))) (c.types_wanted.ensures ∙ ap types_wanted (c.callee-called.ensures ∙ ap (callee (heads_in c.args.given.now) c.args.given.now.table.now) c.bytes-in-Call.ensures.same))) c.judge_call.ensures.least
+    (c.in_ok-xs-in-Call.ensures.value ∙ ap (λ ps. all_fine (heads_in c.args.given.now) (sight_in c.args.given.now c.args.c.now) ps (plain_exprs c.deref.result.now)) (c.types_wanted.ensures.wanted ∙ ap types_wanted (c.callee-called.ensures.callee ∙ ap (callee (heads_in c.args.given.now) c.args.given.now.table.now) c.bytes-in-Call.ensures.same)))
+    (c.callee-called.ensures.callee ∙ ap (callee (heads_in c.args.given.now) c.args.given.now.table.now) c.bytes-in-Call.ensures.same) refl
+    (c.in_ok-xs-in-Call.ensures.least ∙ ap (λ ps. kept c.args.least.now (all_faults (heads_in c.args.given.now) (sight_in c.args.given.now c.args.c.now) ps (plain_exprs c.deref.result.now))) (c.types_wanted.ensures.wanted ∙ ap types_wanted (c.callee-called.ensures.callee ∙ ap (callee (heads_in c.args.given.now) c.args.given.now.table.now) c.bytes-in-Call.ensures.same))) c.judge_call.ensures.least
 
 pub arguments-loop-e-init : goal.arguments-loop-e-init
 arguments-loop-e-init t c =
@@ -126,10 +126,10 @@ arguments-loop-e-init t c =
 pub arguments-loop-e-preserved : goal.arguments-loop-e-preserved
 arguments-loop-e-preserved t c = (
   next_value (heads_in c.args.given.now) (sight_in c.args.given.now c.args.c.now) c.args.es.now c.loop-e.e-index c.e-item.result c.loop-e.rest.now c.others-rest.result.now c.takes_action.result c.loop-e-test.true c.e-item.is
-      c.takes_action.ensures c.others-rest.ensures (option_map plain_all c.loop-e.all) (option_map plain_all c.in_ok-all.all) (option_map plain c.in_ok-one.one) _
+      c.takes_action.ensures.test c.others-rest.ensures.others (option_map plain_all c.loop-e.all) (option_map plain_all c.in_ok-all.all) (option_map plain c.in_ok-one.one) _
       c.in_ok-one.ensures.value c.in_ok-all.ensures c.loop-e.invariant.0,
   next_least (heads_in c.args.given.now) (sight_in c.args.given.now c.args.c.now) c.args.es.now c.loop-e.e-index c.e-item.result c.loop-e.rest.now c.others-rest.result.now c.takes_action.result c.loop-e-test.true c.e-item.is
-      c.takes_action.ensures c.others-rest.ensures c.loop-e.least c.expression.new.least _ c.in_ok-one.ensures.least c.loop-e.invariant.1,
+      c.takes_action.ensures.test c.others-rest.ensures.others c.loop-e.least c.expression.new.least _ c.in_ok-one.ensures.least c.loop-e.invariant.1,
 )
 
 pub arguments-returns-clause-value : goal.arguments-returns-clause-value

@@ -29,7 +29,7 @@ returns-returns-else-returns b c =
 pub some_returns-returns-then-returns : goal.some_returns-returns-then-returns
 some_returns-returns-then-returns b c =
     let is : c.returns.result ≡ true = search rules in
-    any_here some_returns returns (λ x xs. refl) c.args.xs.now c.loop-x.x-index c.x-item.result c.returns.result _ c.loop-x-test.true c.x-item.is c.returns.ensures is c.loop-x.invariant
+    record { test = any_here some_returns returns (λ x xs. refl) c.args.xs.now c.loop-x.x-index c.x-item.result c.returns.result _ c.loop-x-test.true c.x-item.is c.returns.ensures is c.loop-x.invariant }
 
 pub some_returns-loop-x-preserved : goal.some_returns-loop-x-preserved
 some_returns-loop-x-preserved b c =
@@ -37,7 +37,7 @@ some_returns-loop-x-preserved b c =
     any_next some_returns returns (λ x xs. refl) c.args.xs.now c.loop-x.x-index c.x-item.result c.returns.result _ c.loop-x-test.true c.x-item.is c.returns.ensures is c.loop-x.invariant
 
 pub some_returns-returns : goal.some_returns-returns
-some_returns-returns b c = any_end some_returns returns (λ x xs. refl) c.args.xs.now c.loop-x.x-index _ refl (omega (arith, c.loop-x-test.false)) c.loop-x.invariant
+some_returns-returns b c = record { test = any_end some_returns returns (λ x xs. refl) c.args.xs.now c.loop-x.x-index _ refl (omega (arith, c.loop-x-test.false)) c.loop-x.invariant }
 
 pub last_returns-loop-x-init : goal.last_returns-loop-x-init
 last_returns-loop-x-init b c = last_begin (typed_stmts c.args.xs.now)

@@ -251,7 +251,7 @@ block-returns t c =
     let xs = plain_stmts c.args.items.now in
     let is = c.enter-mark.ensures.entered c.args.given.now.table.now in
     record {
-      value = c.made_block.ensures ∙ ap (λ o. fine (passed (tree.block c.args.token) o)) (c.in_ok-typed.ensures.value ∙ ap (λ k. stmts_fine hs k xs) is);
+      value = c.made_block.ensures.made ∙ ap (λ o. fine (passed (tree.block c.args.token) o)) (c.in_ok-typed.ensures.value ∙ ap (λ k. stmts_fine hs k xs) is);
       least = c.in_ok-typed.ensures.least ∙ ap (λ k. kept c.args.least.now (stmts_faults hs k xs)) is;
       sight =
           c.scopes_are_left.ensures.left c.args.given.now.table.now c.args.sight.now c.statements-typed.new.sight c.leave.new.self c.enter-mark.result (entered s) (afters (entered s) xs)
@@ -386,7 +386,7 @@ statements-loop-one-init t c =
 pub statements-loop-one-preserved : goal.statements-loop-one-preserved
 statements-loop-one-preserved t c = (
   row_value (stmt_laws (heads_in c.args.given.now)) c.args.statements.now c.loop-one.one-index _ c.one-item.result c.loop-one-test.true c.one-item.is (sight_in c.args.given.now c.loop-one.sight)
-      (sight_in c.args.given.now c.statement.new.sight) c.in_ok-typed.ensures.sight c.loop-one.all c.in_ok-all.all c.in_ok-typed.typed _ c.in_ok-typed.ensures.value c.in_ok-all.ensures c.loop-one.invariant.0,
+      (sight_in c.args.given.now c.statement.new.sight) c.in_ok-typed.ensures.sight c.loop-one.all c.in_ok-all.all c.in_ok-typed.typed _ c.in_ok-typed.ensures.value c.in_ok-all.ensures.row c.loop-one.invariant.0,
   row_least (stmt_laws (heads_in c.args.given.now)) c.args.statements.now c.loop-one.one-index _ c.one-item.result c.loop-one-test.true c.one-item.is (sight_in c.args.given.now c.loop-one.sight)
       (sight_in c.args.given.now c.statement.new.sight) c.in_ok-typed.ensures.sight c.loop-one.least c.statement.new.least _ c.in_ok-typed.ensures.least c.loop-one.invariant.1,
   row_sight (stmt_laws (heads_in c.args.given.now)) c.args.statements.now c.loop-one.one-index _ c.one-item.result c.loop-one-test.true c.one-item.is (sight_in c.args.given.now c.loop-one.sight)

@@ -5,18 +5,18 @@ use Rattle.nwq_files.proofs.OneCommand.{sure_commands}
 use Rattle.nwq_files.proofs.laws.one_file.Goals as goal
 
 pub returns-clause-bytes : goal.returns-clause-bytes
-returns-clause-bytes c = sure_bytes c.spelling_laws.ensures c.one_fault.ensures.one c.one_fault.ensures.none
+returns-clause-bytes c = sure_bytes c.spelling_laws.ensures.spelling c.one_fault.ensures.one c.one_fault.ensures.none
 
 pub returns-clause-trees : goal.returns-clause-trees
 returns-clause-trees c = sure_trees c.one_tree.ensures.one
 
 pub returns-clause-codes : goal.returns-clause-codes
-returns-clause-codes c = sure_codes (sure_bytes c.spelling_laws.ensures c.one_fault.ensures.one c.one_fault.ensures.none)
+returns-clause-codes c = sure_codes (sure_bytes c.spelling_laws.ensures.spelling c.one_fault.ensures.one c.one_fault.ensures.none)
 
 pub returns-clause-assemblies : goal.returns-clause-assemblies
 returns-clause-assemblies c = sure_assemblies c.one_answer.ensures.one
 
 pub returns-clause-commands : goal.returns-clause-commands
 returns-clause-commands c =
-    sure_commands (sure_trees c.one_tree.ensures.one) (sure_codes (sure_bytes c.spelling_laws.ensures c.one_fault.ensures.one c.one_fault.ensures.none))
+    sure_commands (sure_trees c.one_tree.ensures.one) (sure_codes (sure_bytes c.spelling_laws.ensures.spelling c.one_fault.ensures.one c.one_fault.ensures.none))
     (sure_assemblies c.one_answer.ensures.one)

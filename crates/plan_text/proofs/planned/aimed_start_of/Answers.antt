@@ -7,7 +7,7 @@ pub returns-in_default : goal.returns-in_default
 returns-in_default c = start_none _ (sym (c.in_default.ensures {u = tt}))
 
 pub returns-then-not-names_script : goal.returns-then-not-names_script
-returns-then-not-names_script c = start_unnamed _ _ (sym (c.in-Some.ensures {u = tt})) (sym (c.if-not-names_script.ensures {u = tt}))
+returns-then-not-names_script c = start_unnamed _ _ (sym (c.in-Some.ensures {u = tt})) (sym (c.if-not-names_script.ensures.test))
 
 pub returns-in_default-2 : goal.returns-in_default-2
 returns-in_default-2 c =
@@ -15,5 +15,5 @@ returns-in_default-2 c =
 
 pub returns : goal.returns
 returns c =
-    start_is _ _ _ _ (sym (c.in-Some.ensures {u = tt})) (sym (c.if-not-names_script.ensures {u = tt})) c.in_ok-name.ensures.ok
+    start_is _ _ _ _ (sym (c.in-Some.ensures {u = tt})) (sym (c.if-not-names_script.ensures.test)) c.in_ok-name.ensures.ok
     (subst (ReadsText c.in-Some.tag.now) c.in-Some-2.is c.in_ok-tag.ensures.reads)

@@ -6,7 +6,7 @@ pub returns-in_default : goal.returns-in_default
 returns-in_default c = free_none _ (sym (c.in_default.ensures {u = tt}))
 
 pub returns-then-not-names_script : goal.returns-then-not-names_script
-returns-then-not-names_script c = free_unnamed _ _ (sym (c.in-Some.ensures {u = tt})) (sym (c.if-not-names_script.ensures {u = tt}))
+returns-then-not-names_script c = free_unnamed _ _ (sym (c.in-Some.ensures {u = tt})) (sym (c.if-not-names_script.ensures.test))
 
 pub returns : goal.returns
-returns c = free_is _ _ _ (sym (c.in-Some.ensures {u = tt})) (sym (c.if-not-names_script.ensures {u = tt})) c.in_ok-name.ensures.ok
+returns c = free_is _ _ _ (sym (c.in-Some.ensures {u = tt})) (sym (c.if-not-names_script.ensures.test)) c.in_ok-name.ensures.ok

@@ -8,7 +8,7 @@ pub returns-in-Some : goal.returns-in-Some
 returns-in-Some c = record {
   found =
       lent_map head_of c.item_at.result
-      ∙ (ap (option_map head_of) (c.item_at.ensures ∙ ap (λ hs. slice_get hs c.in-Some.at) c.deref.ensures.value)
+      ∙ (ap (option_map head_of) (c.item_at.ensures.item ∙ ap (λ hs. slice_get hs c.in-Some.at) c.deref.ensures.value)
       ∙ head_is c.args.name.now c.self.inside.all.items c.self.inside.places c.self.inside.bodies c.args.self.now (Some c.in-Some.at) c.self.invariant c.self.view_is c.in-Some.ensures.first);
 }
 

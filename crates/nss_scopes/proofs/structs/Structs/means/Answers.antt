@@ -5,14 +5,14 @@ use Rattle.nss_scopes.proofs.structs.Structs.means.Goals as goal
 pub returns-in-Some-item_at : goal.returns-in-Some-item_at
 returns-in-Some-item_at c = record {
   means = c.number_means.ensures ∙ means_found c.args.name.now c.self.inside.all.items c.self.inside.places c.args.self.now c.self.invariant c.self.view_is
-      c.in-Some.at c.in-Some-item_at.structure.now c.in-Some.ensures.first (c.in-Some-item_at.ensures ∙ ap (λ ss. slice_get ss c.in-Some.at) c.deref.ensures.value);
+      c.in-Some.at c.in-Some-item_at.structure.now c.in-Some.ensures.first (c.in-Some-item_at.ensures.item ∙ ap (λ ss. slice_get ss c.in-Some.at) c.deref.ensures.value);
 }
 
 pub returns-in-None-item_at : goal.returns-in-None-item_at
 returns-in-None-item_at c = record {
   means =
       let below = is_within c.args.name.now c.self.inside.all.items c.self.inside.places c.args.self.now c.self.invariant c.self.view_is c.in-Some.at c.in-Some.ensures.first in
-      let there = c.in-None-item_at.ensures ∙ ap (λ ss. slice_get ss c.in-Some.at) c.deref.ensures.value in
+      let there = c.in-None-item_at.ensures.item ∙ ap (λ ss. slice_get ss c.in-Some.at) c.deref.ensures.value in
       absurd (nothing_there c.self.inside.all.items c.in-Some.at below there);
 }
 
