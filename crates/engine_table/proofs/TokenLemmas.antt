@@ -17,97 +17,55 @@ use Rattle.engine_table.specs.Headers.{Fails, Comes, HasTable, IsFaulty, IsRefus
 use Rattle.engine_table.specs.Turns.{Next, known_of, turn_at, ended, run_by, run, Leads, Follows, Answers, KeepsStage, HasTokens, HasTokensUpTo}
 use Rattle.engine_table.proofs.Whole.{right, IsClash, clash_is}
 
-abbrev pub OneFirst : Type 0
-OneFirst = (bytes : List ℕ) (file at : ℕ) (x y : First) → IsFirst bytes file at x → IsFirst bytes file at y → x ≡ y
-
 -- ---- the search for a bad byte
 
-pub record SomeTokens (bytes : List ℕ) (ending : Option ℕ) : Type 0 where
+pub record SomeTokens (bytes : List ℕ) (from : ℕ) (ending : Option ℕ) : Type 0 where
   pub tokens : List Lexeme
-  pub are : Splits bytes 0 0 tokens ending
+  pub are : Splits bytes 0 from tokens ending
 
 -- whatever tokens come from here on, the text has tokens that end so
-pub record IsPassed (bytes : List ℕ) (at : ℕ) : Type 0 where
+pub record IsPassed (bytes : List ℕ) (from at : ℕ) : Type 0 where
   pub within : at ≤ length bytes
-  pub leads : (ts : List Lexeme) (ending : Option ℕ) → Splits bytes 0 at ts ending → SomeTokens bytes ending
+  pub leads : (ts : List Lexeme) (ending : Option ℕ) → Splits bytes 0 at ts ending → SomeTokens bytes from ending
 
-pub passed_none : (bytes : List ℕ) → IsPassed bytes 0
-passed_none bytes = record { within = omega arith; leads = λ ts ending s. record { tokens = ts; are = s } }
+pub passed_none : (bytes : List ℕ) (from : ℕ) → from ≤ length bytes → IsPassed bytes from from
+passed_none bytes from within = record { within = within; leads = λ ts ending s. record { tokens = ts; are = s } }
 
-pub passed_more : (bytes : List ℕ) (at : ℕ) (t : Lexeme) → IsPassed bytes at → IsFirst bytes 0 at (Found t) → IsPassed bytes t.end
-passed_more bytes at t so first = record { within = first.within; leads = λ ts ending s. so.leads (t ∷ ts) ending (token at t ts ending first s) }
+pub passed_more : (bytes : List ℕ) (from at : ℕ) (t : Lexeme) → IsPassed bytes from at → IsFirst bytes 0 at (Found t) → IsPassed bytes from t.end
+passed_more bytes from at t so first = record { within = first.within; leads = λ ts ending s. so.leads (t ∷ ts) ending (token at t ts ending first s) }
 
-pub passed_all : (bytes : List ℕ) (at : ℕ) → IsPassed bytes at → IsFirst bytes 0 at AtEnd → HasTokens bytes
-passed_all bytes at so first = let some = so.leads [] None (whole at first) in record { tokens = some.tokens; are = some.are }
+pub passed_all : (bytes : List ℕ) (from at : ℕ) → IsPassed bytes from at → IsFirst bytes 0 at AtEnd → HasTokens bytes from
+passed_all bytes from at so first = let some = so.leads [] None (whole at first) in record { tokens = some.tokens; are = some.are }
 
-pub passed_bad : (bytes : List ℕ) (at place : ℕ) → IsPassed bytes at → IsFirst bytes 0 at (BadAt place) → HasTokensUpTo bytes place
-passed_bad bytes at place so first = let some = so.leads [] (Some place) (broken at place first) in record { tokens = some.tokens; are = some.are }
+pub passed_bad : (bytes : List ℕ) (from at place : ℕ) → IsPassed bytes from at → IsFirst bytes 0 at (BadAt place) → HasTokensUpTo bytes from place
+passed_bad bytes from at place so first = let some = so.leads [] (Some place) (broken at place first) in record { tokens = some.tokens; are = some.are }
 
 pub falls : (bytes : List ℕ) (at : ℕ) (t : Lexeme) → IsFirst bytes 0 at (Found t) → length bytes - t.end < length bytes - at
 falls bytes at t first = omega (arith, first.from, first.some, first.within)
 
--- ---- the tokens that are left
-
-pub record IsNext (bytes : List ℕ) (left : List Lexeme) (t : Lexeme) : Type 0 where
-  pub rest : List Lexeme
-  pub same : left ≡ t ∷ rest
-  pub split : Splits bytes 0 t.end rest None
-
-found_end : (t : Lexeme) → Found t ≡ AtEnd → ⊥
-found_end t e = cc
-
-found_same : (t u : Lexeme) → Found t ≡ Found u → t ≡ u
-found_same t u e = cc
-
-bad_found : (p : ℕ) (t : Lexeme) → BadAt p ≡ Found t → ⊥
-bad_found p t e = cc
-
-bad_end : (p : ℕ) → BadAt p ≡ AtEnd → ⊥
-bad_end p e = cc
-
-next_in : OneFirst → (bytes : List ℕ) (at : ℕ) (left : List Lexeme) (ending : Option ℕ) (t : Lexeme) → ending ≡ None → Splits bytes 0 at left ending
-    → IsFirst bytes 0 at (Found t) → IsNext bytes left t
-next_in one bytes at left ending t none (whole a h) first = absurd (found_end t (one bytes 0 at (Found t) AtEnd first h))
-next_in one bytes at left ending t none (broken a p h) first = absurd (none-some p (sym none))
-next_in one bytes at left ending t none (token a u us e h rest) first =
-    let same : u ≡ t = found_same u t (one bytes 0 at (Found u) (Found t) h first) in
-    record {
-      rest = us;
-      same = ap (λ (z : Lexeme). z ∷ us) same;
-      split = subst (λ (z : Option ℕ). Splits bytes 0 t.end us z) none (subst (λ (z : Lexeme). Splits bytes 0 z.end us e) same rest);
-    }
-
-end_in : OneFirst → (bytes : List ℕ) (at : ℕ) (left : List Lexeme) (ending : Option ℕ) → Splits bytes 0 at left ending → IsFirst bytes 0 at AtEnd → left ≡ []
-end_in one bytes at left ending (whole a h) first = refl
-end_in one bytes at left ending (broken a p h) first = refl
-end_in one bytes at left ending (token a u us e h rest) first = absurd (found_end u (one bytes 0 at (Found u) AtEnd h first))
-
-bad_in : OneFirst → (bytes : List ℕ) (at : ℕ) (left : List Lexeme) (ending : Option ℕ) (p : ℕ) → ending ≡ None → Splits bytes 0 at left ending → IsFirst bytes 0 at (BadAt p) → ⊥
-bad_in one bytes at left ending p none (whole a h) first = bad_end p (one bytes 0 at (BadAt p) AtEnd first h)
-bad_in one bytes at left ending p none (broken a q h) first = none-some q (sym none)
-bad_in one bytes at left ending p none (token a u us e h rest) first = bad_found p u (one bytes 0 at (BadAt p) (Found u) first h)
-
 -- ---- reading
 
--- all that is left, read from here on, comes to what the whole text comes to
+-- with these tokens left, the text has tokens that come to what these come to from here on
+pub record ReadsOn (bytes : List ℕ) (r : Reader) (left : List Lexeme) (ending : Option ℕ) : Type 0 where
+  pub all : List Lexeme
+  pub are : Splits bytes 0 0 all ending
+  pub same : run (length bytes) nothing stage.Start (placed_all all) ≡ run (length bytes) (known_of r.known) r.stage (placed_all left)
+
+-- whatever tokens are left, the text has tokens that come to what these come to
 pub record IsRead (bytes : List ℕ) (at : ℕ) (r : Reader) : Type 0 where
   pub within : at ≤ length bytes
-  pub left : List Lexeme
-  pub split : Splits bytes 0 at left None
-  pub all : List Lexeme
-  pub tokens : AreTokens bytes 0 all
-  pub same : run (length bytes) nothing stage.Start (placed_all all) ≡ run (length bytes) (known_of r.known) r.stage (placed_all left)
+  pub leads : (left : List Lexeme) (ending : Option ℕ) → Splits bytes 0 at left ending → ReadsOn bytes r left ending
   pub keeps : KeepsStage (known_of r.known) r.stage
 
-pub read_none : (bytes : List ℕ) (r : Reader) → HasTokens bytes → (known_of r.known) ≡ nothing → r.stage ≡ stage.Start → IsRead bytes 0 r
-read_none bytes r has known start = record {
+pub read_none : (bytes : List ℕ) (r : Reader) → (known_of r.known) ≡ nothing → r.stage ≡ stage.Start → IsRead bytes 0 r
+read_none bytes r known start = record {
   within = omega arith;
-  left = has.tokens;
-  split = has.are;
-  all = has.tokens;
-  tokens = has.are;
-  same = ap (λ (z : Known). run (length bytes) z stage.Start (placed_all has.tokens)) (sym known)
-      ∙ ap (λ (z : Stage). run (length bytes) (known_of r.known) z (placed_all has.tokens)) (sym start);
+  leads = λ left ending split. record {
+    all = left;
+    are = split;
+    same = ap (λ (z : Known). run (length bytes) z stage.Start (placed_all left)) (sym known)
+        ∙ ap (λ (z : Stage). run (length bytes) (known_of r.known) z (placed_all left)) (sym start);
+  };
   keeps = subst (KeepsStage (known_of r.known)) (sym start) tt;
 }
 
@@ -121,20 +79,17 @@ unfolding run
 followed end k s x xs k' s' f =
     ap (λ (z : Next). run_by z (λ n. run end k n xs) (λ g. run end (after k g) stage.Start xs)) f.is ∙ led end k xs f.what k' s' f.leads
 
-pub read_more : OneFirst → (bytes : List ℕ) (at : ℕ) (r next : Reader) (t : Lexeme) → IsRead bytes at r → IsFirst bytes 0 at (Found t)
+pub read_more : (bytes : List ℕ) (at : ℕ) (r next : Reader) (t : Lexeme) → IsRead bytes at r → IsFirst bytes 0 at (Found t)
     → Follows (known_of r.known) r.stage (placed_of t) (known_of next.known) next.stage → KeepsStage (known_of next.known) next.stage → IsRead bytes t.end next
-read_more one bytes at r next t so first follows keeps =
-    let there = next_in one bytes at so.left None t refl so.split first in
-    record {
-      within = first.within;
-      left = there.rest;
-      split = there.split;
-      all = so.all;
-      tokens = so.tokens;
-      same = so.same ∙ ap (λ (z : List Lexeme). run (length bytes) (known_of r.known) r.stage (placed_all z)) there.same
-          ∙ followed (length bytes) (known_of r.known) r.stage (placed_of t) (placed_all there.rest) (known_of next.known) next.stage follows;
-      keeps = keeps;
-    }
+read_more bytes at r next t so first follows keeps = record {
+  within = first.within;
+  leads = λ left ending split. let on = so.leads (t ∷ left) ending (token at t left ending first split) in record {
+    all = on.all;
+    are = on.are;
+    same = on.same ∙ followed (length bytes) (known_of r.known) r.stage (placed_of t) (placed_all left) (known_of next.known) next.stage follows;
+  };
+  keeps = keeps;
+}
 
 -- ---- what is answered
 
@@ -173,42 +128,45 @@ answer_err bytes all f are e =
     refused_by bytes f (fails_fault (length bytes) nothing f (placed_all all) fails) (all, are, fails)
 
 -- a text that ends here
-pub read_all_ok : OneFirst → (bytes : List ℕ) (at : ℕ) (r : Reader) (result : Result EngineTable HeaderFault) → IsRead bytes at r → IsFirst bytes 0 at AtEnd
+pub read_all_ok : (bytes : List ℕ) (at : ℕ) (r : Reader) (result : Result EngineTable HeaderFault) → IsRead bytes at r → IsFirst bytes 0 at AtEnd
     → result ≡ ended (length bytes) (known_of r.known) r.stage → IfOk result (HasTable bytes)
 unfolding run
-read_all_ok one bytes at r (Ok table) so first is =
-    answer_ok bytes so.all table so.tokens
-    (so.same ∙ ap (λ (z : List Lexeme). run (length bytes) (known_of r.known) r.stage (placed_all z)) (end_in one bytes at so.left None so.split first) ∙ sym is)
-read_all_ok one bytes at r (Err f) so first is = tt
+read_all_ok bytes at r (Ok table) so first is = let on = so.leads [] None (whole at first) in answer_ok bytes on.all table on.are (on.same ∙ sym is)
+read_all_ok bytes at r (Err f) so first is = tt
 
-pub read_all_err : OneFirst → (bytes : List ℕ) (at : ℕ) (r : Reader) (result : Result EngineTable HeaderFault) → IsRead bytes at r → IsFirst bytes 0 at AtEnd
+pub read_all_err : (bytes : List ℕ) (at : ℕ) (r : Reader) (result : Result EngineTable HeaderFault) → IsRead bytes at r → IsFirst bytes 0 at AtEnd
     → result ≡ ended (length bytes) (known_of r.known) r.stage → IfErr result (IsRefused bytes)
 unfolding run
-read_all_err one bytes at r (Ok table) so first is = tt
-read_all_err one bytes at r (Err f) so first is =
-    answer_err bytes so.all f so.tokens
-    (so.same ∙ ap (λ (z : List Lexeme). run (length bytes) (known_of r.known) r.stage (placed_all z)) (end_in one bytes at so.left None so.split first) ∙ sym is)
+read_all_err bytes at r (Ok table) so first is = tt
+read_all_err bytes at r (Err f) so first is = let on = so.leads [] None (whole at first) in answer_err bytes on.all f on.are (on.same ∙ sym is)
 
-broken_at : OneFirst → (bytes : List ℕ) (at : ℕ) (r : Reader) (t : Lexeme) (f : HeaderFault) → IsRead bytes at r → IsFirst bytes 0 at (Found t)
-    → turn_at (known_of r.known) r.stage (placed_of t) ≡ Err f → IsRefused bytes f
+-- a bad byte
+pub read_bad : (bytes : List ℕ) (at place : ℕ) (r : Reader) → IsRead bytes at r → IsFirst bytes 0 at (BadAt place) → IsRefused bytes (Bad place)
+read_bad bytes at place r so first = let on = so.leads [] (Some place) (broken at place first) in (on.all, on.are)
+
+-- a bad byte behind a token at which it breaks
+pub read_bad_behind : (bytes : List ℕ) (at place : ℕ) (r : Reader) (t : Lexeme) → IsRead bytes at r → IsFirst bytes 0 at (Found t)
+    → HasTokensUpTo bytes t.end place → IsRefused bytes (Bad place)
+read_bad_behind bytes at place r t so first has =
+    let on = so.leads (t ∷ has.tokens) (Some place) (token at t has.tokens (Some place) first has.are) in (on.all, on.are)
+
+broken_at : (bytes : List ℕ) (at : ℕ) (r : Reader) (t : Lexeme) (f : HeaderFault) → IsRead bytes at r → IsFirst bytes 0 at (Found t)
+    → HasTokens bytes t.end → turn_at (known_of r.known) r.stage (placed_of t) ≡ Err f → IsRefused bytes f
 unfolding run
-broken_at one bytes at r t f so first e =
-    let there = next_in one bytes at so.left None t refl so.split first in
-    answer_err bytes so.all f so.tokens
-    (so.same ∙ ap (λ (z : List Lexeme). run (length bytes) (known_of r.known) r.stage (placed_all z)) there.same
-    ∙ ap (λ (z : Next). run_by z (λ n. run (length bytes) (known_of r.known) n (placed_all there.rest)) (λ g. run (length bytes) (after (known_of r.known) g) stage.Start (placed_all there.rest))) e)
+broken_at bytes at r t f so first has e =
+    let on = so.leads (t ∷ has.tokens) None (token at t has.tokens None first has.are) in
+    let rest = placed_all has.tokens in
+    answer_err bytes on.all f on.are
+    (on.same ∙ ap (λ (z : Next). run_by z (λ n. run (length bytes) (known_of r.known) n rest) (λ g. run (length bytes) (after (known_of r.known) g) stage.Start rest)) e)
 
--- a token at which it breaks
-pub read_broken : OneFirst → (bytes : List ℕ) (at : ℕ) (r : Reader) (t : Lexeme) (f : HeaderFault) → IsRead bytes at r → IsFirst bytes 0 at (Found t)
-    → Answers (turn_at (known_of r.known) r.stage (placed_of t)) (Err f) → IsRefused bytes f
-read_broken one bytes at r t (Bad p) so first e = broken_at one bytes at r t (Bad p) so first e
-read_broken one bytes at r t (Header p) so first e = broken_at one bytes at r t (Header p) so first e
-read_broken one bytes at r t (Twice p) so first e = broken_at one bytes at r t (Twice p) so first e
-read_broken one bytes at r t (Many p) so first e = broken_at one bytes at r t (Many p) so first e
-read_broken one bytes at r t NoMemory so first e = tt
-
-pub never_bad : OneFirst → (bytes : List ℕ) (at p : ℕ) (r : Reader) → IsRead bytes at r → IsFirst bytes 0 at (BadAt p) → ⊥
-never_bad one bytes at p r so first = bad_in one bytes at so.left None p refl so.split first
+-- a token at which it breaks, with no bad byte behind it
+pub read_broken : (bytes : List ℕ) (at : ℕ) (r : Reader) (t : Lexeme) (f : HeaderFault) → IsRead bytes at r → IsFirst bytes 0 at (Found t)
+    → HasTokens bytes t.end → Answers (turn_at (known_of r.known) r.stage (placed_of t)) (Err f) → IsRefused bytes f
+read_broken bytes at r t (Bad p) so first has e = broken_at bytes at r t (Bad p) so first has e
+read_broken bytes at r t (Header p) so first has e = broken_at bytes at r t (Header p) so first has e
+read_broken bytes at r t (Twice p) so first has e = broken_at bytes at r t (Twice p) so first has e
+read_broken bytes at r t (Many p) so first has e = broken_at bytes at r t (Many p) so first has e
+read_broken bytes at r t NoMemory so first has e = tt
 
 -- ---- each text has an answer
 

@@ -23,7 +23,7 @@ use Rattle.engine_table.specs.declared.stage.Stage.{Stage}
 use Rattle.engine_table.specs.declared.stage.Stage.TheVariants as stage
 use Rattle.engine_table.specs.declared.stage.Turn.{Turn}
 use Rattle.engine_table.specs.declared.stage.Turn.TheVariants.{Goes, Gives}
-use Rattle.nss_lexer.specs.Splitting.{Lexeme, AreTokens, AreTokensUpTo}
+use Rattle.nss_lexer.specs.Splitting.{Lexeme, Splits}
 use Rattle.engine_table.specs.Symbols.{Placed}
 use Rattle.engine_table.specs.declared.known.Known.{Known as KnownInCode}
 use Rattle.engine_table.specs.Known.{Known}
@@ -272,11 +272,11 @@ pub record Follows (k : Known) (s : Stage) (x : Placed) (k' : Known) (s' : Stage
   pub is : turn_at k s x ≡ Ok what
   pub leads : Leads k what k' s'
 
--- the text has tokens, to its end or up to a bad byte
-pub record HasTokens (bytes : List ℕ) : Type 0 where
+-- the text has tokens from a place on, to its end or up to a bad byte
+pub record HasTokens (bytes : List ℕ) (from : ℕ) : Type 0 where
   pub tokens : List Lexeme
-  pub are : AreTokens bytes 0 tokens
+  pub are : Splits bytes 0 from tokens None
 
-pub record HasTokensUpTo (bytes : List ℕ) (place : ℕ) : Type 0 where
+pub record HasTokensUpTo (bytes : List ℕ) (from place : ℕ) : Type 0 where
   pub tokens : List Lexeme
-  pub are : AreTokensUpTo bytes 0 tokens place
+  pub are : Splits bytes 0 from tokens (Some place)

@@ -16,7 +16,6 @@ use crate::known::Known;
 use crate::laws::{built_in_has_table, one_header};
 use crate::stage::{Stage, Turn};
 use crate::symbol::{Symbol, symbol_of};
-use nss_lexer::laws::one_first;
 use nss_lexer::{Lexed, Token, next};
 use nwq_value::header::built_in_is_the_header;
 use nwq_value::{BUILT_IN, NoMemory, Table};
@@ -120,12 +119,13 @@ impl Reader {
     }
 }
 
-/// The first place of the text where no token, blank or closed comment begins.
-fn first_bad(bytes: &[u8]) -> Option<u32>
-    requires { length bytes.now ≤ file_limit }
-    ensures { MatchOption result (HasTokens bytes.now) (HasTokensUpTo bytes.now) }
+/// The first place of the text, from this one on, where no token, blank or closed comment begins.
+fn first_bad(bytes: &[u8], from: u32) -> Option<u32>
+    requires size { length bytes.now ≤ file_limit }
+    requires within { from ≤ length bytes.now }
+    ensures { MatchOption result (HasTokens bytes.now from) (HasTokensUpTo bytes.now from) }
 {
-    let mut at = 0;
+    let mut at = from;
     loop {
         match next(bytes, 0, at) {
             Lexed::End => return None,
@@ -135,29 +135,31 @@ fn first_bad(bytes: &[u8]) -> Option<u32>
     }
 }
 
-/// The table of a text without bad bytes.
-fn read_tokens(alloc: Global, bytes: &[u8]) -> Result<Table, HeaderFault>
+/// The table of a text, or its first fault: a bad byte comes before all else, wherever it stands.
+fn read_lines(alloc: Global, bytes: &[u8]) -> Result<Table, HeaderFault>
     requires size { length bytes.now ≤ file_limit }
-    requires tokens { HasTokens bytes.now }
     ensures table { IfOk result (HasTable bytes.now) }
     ensures refused { IfErr result (IsRefused bytes.now) }
 {
-    one_first();
     let mut reader = Reader::new(alloc);
     let mut at = 0;
     loop {
         match next(bytes, 0, at) {
             Lexed::End => return reader.finish(bytes.len() as u32),
-            Lexed::Bad(_) => unreachable!(),
-            Lexed::Token(token) => {
-                match reader.read(alloc, &token) {
-                    Err(fault) => {
-                        drop(reader);
-                        return Err(fault);
-                    }
-                    Ok(()) => at = token.end,
-                }
+            Lexed::Bad(place) => {
+                drop(reader);
+                return Err(HeaderFault::Bad(place));
             }
+            Lexed::Token(token) => match reader.read(alloc, &token) {
+                Err(fault) => {
+                    drop(reader);
+                    return match first_bad(bytes, token.end) {
+                        Some(place) => Err(HeaderFault::Bad(place)),
+                        None => Err(fault),
+                    };
+                }
+                Ok(()) => at = token.end,
+            },
         }
     }
 }
@@ -169,10 +171,7 @@ pub fn read_header(alloc: Global, bytes: &[u8]) -> Result<Table, HeaderFault>
     ensures refused { IfErr result (IsRefused bytes.now) }
     ensures within { IfErr result (IsWithin (length bytes.now)) }
 {
-    match first_bad(bytes) {
-        Some(place) => Err(HeaderFault::Bad(place)),
-        None => read_tokens(alloc, bytes),
-    }
+    read_lines(alloc, bytes)
 }
 
 /// The one fault that the built-in header can have.
