@@ -5,3 +5,4 @@ pub mod RangeLemmas
 pub mod Tests
 pub mod FrameLemmas
 pub mod TakeLemmas
+pub mod OperationLemmas

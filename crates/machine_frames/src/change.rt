@@ -6,6 +6,7 @@ ghost use Rattle.ncs_code.specs.File.{jump_place};
 ghost use Rattle.nwq_value.specs.Limits.{file_limit};
 ghost use Rattle.machine_step.specs.Act.{cells_after, is_division, place_after};
 ghost use Rattle.machine_step.specs.Cells.{zero_on_top};
+ghost use Rattle.machine_frames.specs.Operations.{operation_of};
 
 use crate::operation::{Binary, Unary};
 use crate::ranges::{
@@ -84,11 +85,50 @@ pub fn place_after(op: &Op<'_>, at: u32, size: u32, stack: &Stack) -> u32
     }
 }
 
+/// The operation of an instruction that is for two ints alone, behind its type byte.
+fn operation(op: &Op<'_>) -> Option<(u8, Binary)>
+    ensures operation { result ≡ operation_of (plain op.now) }
+{
+    match op {
+        Op::LogAnd => Some((0x20, Binary::LogAnd)),
+        Op::LogOr => Some((0x20, Binary::LogOr)),
+        Op::IncOr => Some((0x20, Binary::IncOr)),
+        Op::ExcOr => Some((0x20, Binary::ExcOr)),
+        Op::BoolAnd => Some((0x20, Binary::BoolAnd)),
+        Op::Geq { kind } => Some((*kind, Binary::Geq)),
+        Op::Gt { kind } => Some((*kind, Binary::Gt)),
+        Op::Lt { kind } => Some((*kind, Binary::Lt)),
+        Op::Leq { kind } => Some((*kind, Binary::Leq)),
+        Op::ShLeft => Some((0x20, Binary::ShLeft)),
+        Op::ShRight => Some((0x20, Binary::ShRight)),
+        Op::UshRight => Some((0x20, Binary::UshRight)),
+        Op::Sub { kind } => Some((*kind, Binary::Sub)),
+        Op::Mul { kind } => Some((*kind, Binary::Mul)),
+        Op::Div { kind } => Some((*kind, Binary::Div)),
+        Op::Mod => Some((0x20, Binary::Mod)),
+        _ => None,
+    }
+}
+
 /// The cells after an instruction, in a script that runs with the object `own` as self.
-#[tactic(auto, using(crate::proofs::RangeLemmas::reach_lemmas), unfolding(machine_step::specs::Act::cells_after))]
+#[tactic(auto, using(crate::proofs::OperationLemmas::operation_lemmas))]
 pub fn change(alloc: Global, stack: &mut Stack, op: &Op<'_>, own: u32) -> Result<(), NoMemory>
     requires case { cells_after (plain op.now) own stack.old ≢ None }
     requires divisor { (is_division (plain op.now) && zero_on_top stack.old.cells) ≡ false }
+    ensures cells { OnOk result (cells_after (plain op.now) own stack.old ≡ Some stack.new.cells) }
+    ensures bp { OnOk result (stack.new.bp ≡ stack.old.bp) }
+{
+    match operation(op) {
+        Some((kind, operation)) => kind_ints(stack, kind, operation),
+        None => change_otherwise(alloc, stack, op, own),
+    }
+}
+
+/// The same of an instruction that isn't for two ints alone.
+#[tactic(auto, using(crate::proofs::RangeLemmas::reach_lemmas), unfolding(machine_step::specs::Act::cells_after))]
+fn change_otherwise(alloc: Global, stack: &mut Stack, op: &Op<'_>, own: u32) -> Result<(), NoMemory>
+    requires case { cells_after (plain op.now) own stack.old ≢ None }
+    requires other { operation_of (plain op.now) ≡ None }
     ensures cells { OnOk result (cells_after (plain op.now) own stack.old ≡ Some stack.new.cells) }
     ensures bp { OnOk result (stack.new.bp ≡ stack.old.bp) }
 {
@@ -97,26 +137,9 @@ pub fn change(alloc: Global, stack: &mut Stack, op: &Op<'_>, own: u32) -> Result
         Op::RsAdd { kind } => push_start(alloc, stack, *kind),
         Op::CpTopSp { offset, size } => push_range(alloc, stack, range_at(*offset, *size)),
         Op::Const(lit) => push_literal(alloc, stack, own, lit),
-        Op::Action { .. } => unreachable!(),
-        Op::LogAnd => two_ints(stack, Binary::LogAnd),
-        Op::LogOr => two_ints(stack, Binary::LogOr),
-        Op::IncOr => two_ints(stack, Binary::IncOr),
-        Op::ExcOr => two_ints(stack, Binary::ExcOr),
-        Op::BoolAnd => two_ints(stack, Binary::BoolAnd),
         Op::Equal { kind, size } => compare(stack, *kind, *size, false),
         Op::Nequal { kind, size } => compare(stack, *kind, *size, true),
-        Op::Geq { kind } => kind_ints(stack, *kind, Binary::Geq),
-        Op::Gt { kind } => kind_ints(stack, *kind, Binary::Gt),
-        Op::Lt { kind } => kind_ints(stack, *kind, Binary::Lt),
-        Op::Leq { kind } => kind_ints(stack, *kind, Binary::Leq),
-        Op::ShLeft => two_ints(stack, Binary::ShLeft),
-        Op::ShRight => two_ints(stack, Binary::ShRight),
-        Op::UshRight => two_ints(stack, Binary::UshRight),
         Op::Add { kind } => add(alloc, stack, *kind),
-        Op::Sub { kind } => kind_ints(stack, *kind, Binary::Sub),
-        Op::Mul { kind } => kind_ints(stack, *kind, Binary::Mul),
-        Op::Div { kind } => kind_ints(stack, *kind, Binary::Div),
-        Op::Mod => two_ints(stack, Binary::Mod),
         Op::Neg { kind } => negate(stack, *kind),
         Op::Comp => one_int(stack, Unary::Comp),
         Op::MovSp { offset } => {
@@ -124,12 +147,10 @@ pub fn change(alloc: Global, stack: &mut Stack, op: &Op<'_>, own: u32) -> Result
             Ok(())
         }
         Op::Jmp { .. } => Ok(()),
-        Op::Jsr { .. } => unreachable!(),
         Op::Jz { .. } => {
             drop_int(stack);
             Ok(())
         }
-        Op::Retn => unreachable!(),
         Op::Destruct {
             total,
             offset,
@@ -158,9 +179,7 @@ pub fn change(alloc: Global, stack: &mut Stack, op: &Op<'_>, own: u32) -> Result
             let range = bp_range(stack, *offset, 4);
             change_int(stack, range, Unary::Inc)
         }
-        Op::SaveBp => unreachable!(),
-        Op::RestoreBp => unreachable!(),
-        Op::StoreState { .. } => unreachable!(),
         Op::Nop => Ok(()),
+        _ => unreachable!(),
     }
 }
