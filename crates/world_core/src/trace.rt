@@ -132,7 +132,6 @@ fn put_line(out: &mut Vec<u8>, line: &Line) -> Result<(), NoMemory>
     Ok(())
 }
 
-#[tactic(auto, using(crate::proofs::TraceLemmas::one_more_line, crate::proofs::TakenBack::taken_back, crate::proofs::TakenBack::taken_back_after))]
 fn put_lines(out: &mut Vec<u8>, lines: &[Line]) -> Result<(), NoMemory>
     ensures ok { OnOk result (out.new.items ≡ out.old.items ++ flat_map line_text lines.now) }
     ensures err { OnErr result (take (length out.old.items) out.new.items ≡ out.old.items) }
