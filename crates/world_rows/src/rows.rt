@@ -1,6 +1,6 @@
 //! The rows: what a routine of each number does.
 ghost use Rattle.std.specs.Prelude.{◌≡◌, ◌<◌, ◌≤◌, ◌+◌, ◌^◌, ◌⊎◌, ◌≢◌, IfOk, OnErr, None, Some, Ok};
-ghost use Rattle.std.specs.Prelude.{IsErr, MatchResult, Option};
+ghost use Rattle.std.specs.Prelude.{IsErr, MatchResult, Option, ℕ};
 ghost use Rattle.nwq_value.specs.declared.value.Value.TheVariants as value;
 ghost use Rattle.engine_rows.specs.AlikeLaws.{call};
 ghost use Rattle.engine_rows.specs.Kept.{IsWorld};
@@ -65,7 +65,7 @@ impl<X: Drop> Parts<X> {
             6 | 7 | 10 => self.stored_row(number, caller, args, action),
             14..=22 => {
                 drop(action);
-                let answer = self.area_row(number, caller, &args);
+                let answer = self.area_row(number, &args);
                 drop(args);
                 answer
             }
@@ -75,7 +75,7 @@ impl<X: Drop> Parts<X> {
             }
             _ => {
                 drop(action);
-                self.effect_row(number, caller, args)
+                self.effect_row(number, args)
             }
         }
     }
@@ -166,10 +166,10 @@ impl<X: Drop> Parts<X> {
 
     /// What is read and changed of the area's objects.
     #[tactic(auto, unfolding(crate::specs::Row::does))]
-    fn area_row(&mut self, number: u16, caller: u32, args: &Args) -> Result<Option<Value>, NoMemory>
+    fn area_row(&mut self, number: u16, args: &Args) -> Result<Option<Value>, NoMemory>
         requires first { 14 ≤ number }
         requires last { number ≤ 22 }
-        ensures ok { (action : Option X) → IfOk result (λ value.
+        ensures ok { (caller : ℕ) (action : Option X) → IfOk result (λ value.
             record { value = value; world = self.new.world }
             ≡ does number (call caller args.now action) self.old.world) }
         ensures err { OnErr result (self.new.world ≡ self.old.world) }
@@ -200,19 +200,14 @@ impl<X: Drop> Parts<X> {
 
     /// Effects and events. A number without a routine does nothing.
     #[tactic(auto, unfolding(crate::specs::Row::does))]
-    fn effect_row(
-        &mut self,
-        number: u16,
-        caller: u32,
-        args: Args,
-    ) -> Result<Option<Value>, NoMemory>
+    fn effect_row(&mut self, number: u16, args: Args) -> Result<Option<Value>, NoMemory>
         requires first { 23 ≤ number }
         requires world { IsWorld self.old.world }
         requires room { 1 ≤ self.old.posts }
         requires line { 1 ≤ self.old.lines }
         requires few { self.old.world.agenda.next < 2 ^ 63 }
         requires early { self.old.world.clock < 2 ^ 62 }
-        ensures ok { (action : Option X) → IfOk result (λ value.
+        ensures ok { (caller : ℕ) (action : Option X) → IfOk result (λ value.
             record { value = value; world = self.new.world }
             ≡ does number (call caller args action) self.old.world) }
         ensures err { OnErr result (self.new.world ≡ self.old.world) }
