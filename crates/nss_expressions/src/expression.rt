@@ -1,7 +1,8 @@
 //! The walk over an expression.
 
-ghost use Rattle.std.specs.Prelude.{◌≡◌, IfOk, OnOk};
+ghost use Rattle.std.specs.Prelude.{◌≡◌, false, IfOk, OnOk};
 ghost use Rattle.std.specs.Option.{option_map};
+ghost use Rattle.nss_tree.specs.Expressions as tree;
 ghost use Rattle.nss_tree.specs.Reading.{plain_expr, plain_exprs};
 ghost use Rattle.nss_typing.specs.Nodes.{fine, kept};
 ghost use Rattle.nss_typing.specs.Reading.{plain, plain_all};
@@ -18,9 +19,9 @@ use crate::judge::{
 use crate::known::name_means;
 use crate::note::note;
 use nss_scopes::Sight;
-use nss_tree::Expr;
+use nss_tree::{AssignOperator, BinaryOperator, Expr, PostfixOperator, PrefixOperator};
 use nss_typing::{Expression, Fault, FaultKind};
-use nwq_value::{Const, Items, NoMemory, Param};
+use nwq_value::{Const, Items, NoMemory, Param, Text};
 
 /// The typed expression, if it has one; the least fault of its nodes and of what was kept before is
 /// kept. `as_action` says that it stands where an action is taken.
@@ -58,51 +59,172 @@ pub fn expression(
         Expr::Call {
             token,
             name,
-            arguments: es,
-        } => {
-            let called = callee(given, name.bytes());
-            let xs = arguments(given, c, least, types_wanted(called), es)?;
-            judge_call(alloc, least, *token, c.at_file, as_action, xs, called)
-        }
-        Expr::Member { token, of, name } => {
-            let of = expression(given, c, least, false, of)?;
-            judge_member(alloc, least, *token, &c.structs, of, name.bytes())
-        }
+            arguments,
+        } => call(given, c, least, as_action, *token, name, arguments),
+        Expr::Member { token, of, name } => member(given, c, least, *token, of, name),
         Expr::Prefix {
             token,
             operator,
             of,
-        } => {
-            let of = expression(given, c, least, false, of)?;
-            judge_prefix(alloc, least, *token, *operator, of)
-        }
+        } => prefix(given, c, least, *token, *operator, of),
         Expr::Postfix {
             token,
             operator,
             of,
-        } => {
-            let of = expression(given, c, least, false, of)?;
-            judge_postfix(alloc, least, *token, *operator, of)
-        }
+        } => postfix(given, c, least, *token, *operator, of),
         Expr::Binary {
             token,
             operator,
             left,
             right,
-        } => {
-            let left = expression(given, c, least, false, left)?;
-            let right = expression(given, c, least, false, right)?;
-            judge_binary(alloc, least, *token, *operator, left, right)
-        }
+        } => binary(given, c, least, *token, *operator, left, right),
         Expr::Assign {
             token,
             operator,
             place,
             value,
-        } => {
-            let place = expression(given, c, least, false, place)?;
-            let value = expression(given, c, least, false, value)?;
-            judge_assign(alloc, least, *token, *operator, place, value)
+        } => assign(given, c, least, *token, *operator, place, value),
+    }
+}
+
+/// A call.
+#[cycle(walk)]
+fn call(
+    given: &Given<'_>,
+    c: &Sight,
+    least: &mut Option<Fault>,
+    as_action: bool,
+    token: u32,
+    name: &Text,
+    es: &[Expr],
+) -> Result<Option<Expression>, NoMemory>
+    ensures value { IfOk result (λ r. option_map plain r
+        ≡ fine (verdict (heads_in given.now) (sight_in given.now c.now) as_action
+        (tree.call token name.now (plain_exprs es.now)))) }
+    ensures least { OnOk result (least.new ≡ kept least.old
+        (faults (heads_in given.now) (sight_in given.now c.now) as_action
+        (tree.call token name.now (plain_exprs es.now)))) }
+{
+    let called = callee(given, name.bytes());
+    let xs = arguments(given, c, least, types_wanted(called), es)?;
+    judge_call(given.alloc, least, token, c.at_file, as_action, xs, called)
+}
+
+/// A member of a value.
+#[cycle(walk)]
+fn member(
+    given: &Given<'_>,
+    c: &Sight,
+    least: &mut Option<Fault>,
+    token: u32,
+    of: &Expr,
+    name: &Text,
+) -> Result<Option<Expression>, NoMemory>
+    ensures value { IfOk result (λ r. option_map plain r
+        ≡ fine (verdict (heads_in given.now) (sight_in given.now c.now) false
+        (tree.member token (plain_expr of.now) name.now))) }
+    ensures least { OnOk result (least.new ≡ kept least.old
+        (faults (heads_in given.now) (sight_in given.now c.now) false
+        (tree.member token (plain_expr of.now) name.now))) }
+{
+    let of = expression(given, c, least, false, of)?;
+    judge_member(given.alloc, least, token, &c.structs, of, name.bytes())
+}
+
+/// An operator before a value.
+#[cycle(walk)]
+fn prefix(
+    given: &Given<'_>,
+    c: &Sight,
+    least: &mut Option<Fault>,
+    token: u32,
+    operator: PrefixOperator,
+    of: &Expr,
+) -> Result<Option<Expression>, NoMemory>
+    ensures value { IfOk result (λ r. option_map plain r
+        ≡ fine (verdict (heads_in given.now) (sight_in given.now c.now) false
+        (tree.prefix token operator (plain_expr of.now)))) }
+    ensures least { OnOk result (least.new ≡ kept least.old
+        (faults (heads_in given.now) (sight_in given.now c.now) false
+        (tree.prefix token operator (plain_expr of.now)))) }
+{
+    let of = expression(given, c, least, false, of)?;
+    judge_prefix(given.alloc, least, token, operator, of)
+}
+
+/// An operator behind a value.
+#[cycle(walk)]
+fn postfix(
+    given: &Given<'_>,
+    c: &Sight,
+    least: &mut Option<Fault>,
+    token: u32,
+    operator: PostfixOperator,
+    of: &Expr,
+) -> Result<Option<Expression>, NoMemory>
+    ensures value { IfOk result (λ r. option_map plain r
+        ≡ fine (verdict (heads_in given.now) (sight_in given.now c.now) false
+        (tree.postfix token operator (plain_expr of.now)))) }
+    ensures least { OnOk result (least.new ≡ kept least.old
+        (faults (heads_in given.now) (sight_in given.now c.now) false
+        (tree.postfix token operator (plain_expr of.now)))) }
+{
+    let of = expression(given, c, least, false, of)?;
+    judge_postfix(given.alloc, least, token, operator, of)
+}
+
+/// An operator between two values.
+#[cycle(walk)]
+fn binary(
+    given: &Given<'_>,
+    c: &Sight,
+    least: &mut Option<Fault>,
+    token: u32,
+    operator: BinaryOperator,
+    left: &Expr,
+    right: &Expr,
+) -> Result<Option<Expression>, NoMemory>
+    ensures value { IfOk result (λ r. option_map plain r
+        ≡ fine (verdict (heads_in given.now) (sight_in given.now c.now) false
+        (tree.binary token operator (plain_expr left.now) (plain_expr right.now)))) }
+    ensures least { OnOk result (least.new ≡ kept least.old
+        (faults (heads_in given.now) (sight_in given.now c.now) false
+        (tree.binary token operator (plain_expr left.now) (plain_expr right.now)))) }
+{
+    let left = expression(given, c, least, false, left)?;
+    match expression(given, c, least, false, right) {
+        Ok(right) => judge_binary(given.alloc, least, token, operator, left, right),
+        Err(error) => {
+            drop(left);
+            Err(error)
+        }
+    }
+}
+
+/// An assignment of a value to a place.
+#[cycle(walk)]
+fn assign(
+    given: &Given<'_>,
+    c: &Sight,
+    least: &mut Option<Fault>,
+    token: u32,
+    operator: AssignOperator,
+    place: &Expr,
+    value: &Expr,
+) -> Result<Option<Expression>, NoMemory>
+    ensures value { IfOk result (λ r. option_map plain r
+        ≡ fine (verdict (heads_in given.now) (sight_in given.now c.now) false
+        (tree.assign token operator (plain_expr place.now) (plain_expr value.now)))) }
+    ensures least { OnOk result (least.new ≡ kept least.old
+        (faults (heads_in given.now) (sight_in given.now c.now) false
+        (tree.assign token operator (plain_expr place.now) (plain_expr value.now)))) }
+{
+    let place = expression(given, c, least, false, place)?;
+    match expression(given, c, least, false, value) {
+        Ok(value) => judge_assign(given.alloc, least, token, operator, place, value),
+        Err(error) => {
+            drop(place);
+            Err(error)
         }
     }
 }

@@ -1,123 +1,204 @@
-use Rattle.std.proofs.Common.{◌∙◌, false, arith, sym, ap, refl}
+use Rattle.std.proofs.Common.{◌≡◌, ◌∙◌, ◌+◌, false, arith, sym, ap, refl}
 use Rattle.std.specs.Option.{option_map}
-use Rattle.nss_tree.specs.Expressions.{call, member, prefix, postfix, binary, assign}
+use Rattle.nss_tree.specs.Expressions as tree
 use Rattle.nss_tree.specs.Reading.{plain_expr, plain_exprs}
 use Rattle.nss_tree.specs.Readings.{plain_call, plain_member, plain_prefix, plain_postfix, plain_binary, plain_assign}
 use Rattle.nss_typing.specs.Nodes.{asked, fine, kept, two}
 use Rattle.nss_typing.specs.Reading.{plain, plain_all}
 use Rattle.nss_typing.specs.Rules.{call_rows, call_rule, member_rows, member_rule, prefix_rows, prefix_rule, postfix_rows, postfix_rule, binary_rows, binary_rule, assign_rows, assign_rule}
 use Rattle.nss_typing.specs.Sight.{callee, types_wanted, wanted}
-use Rattle.nss_typing.specs.Verdicts.{all_faults, all_fine, faults, verdict}
+use Rattle.nss_typing.specs.Verdicts.{all_faults, all_fine, faults, value, value_faults, verdict}
 use Rattle.nss_expressions.specs.Views.{called_of, heads_in, sight_in}
 use Rattle.nss_expressions.proofs.ArgumentLemmas.{begin_value, next_value, next_least, end_value, end_least}
-use Rattle.nss_expressions.specs.Walked.{one_value, one_least, two_value, two_least, call_least}
+use Rattle.nss_expressions.proofs.Nodes.{all_size, assign_is, binary_is, call_is, falls, member_is, next_falls, postfix_is, prefix_is, size}
+use Rattle.nss_expressions.specs.Walked.{one_value, one_least, two_value, two_least, call_least, node_value, node_least}
 use Rattle.nss_expressions.proofs.expression.+walk.Goals as goal
 
-pub expression-returns-in_ok-of-in-Member-clause-value : goal.expression-returns-in_ok-of-in-Member-clause-value
-expression-returns-in_ok-of-in-Member-clause-value t c =
-    one_value plain (verdict (heads_in c.args.given.now) (sight_in c.args.given.now c.args.c.now) c.args.as_action) (faults (heads_in c.args.given.now) (sight_in c.args.given.now c.args.c.now) c.args.as_action) c.in-Member.token c.judge_member.result (plain_expr c.args.e.now)
-    (member c.in-Member.token (plain_expr c.deref-in-Member.result.now) c.in-Member.name)
-    (plain_member _ _ _ _ c.in-Member.is ∙ ap (λ y. member c.in-Member.token (plain_expr y) c.in-Member.name) (sym c.deref-in-Member.ensures))
-    (asked member_rows (member_rule c.args.c.now.structs c.in-Member.name)) (option_map plain c.in_ok-of-in-Member.of)
-    (fine (verdict (heads_in c.args.given.now) (sight_in c.args.given.now c.args.c.now) false (plain_expr c.deref-in-Member.result.now))) c.in_ok-of-in-Member.ensures.value refl (rw c.bytes-in-Member.ensures.same at c.judge_member.ensures.value)
+-- ---- an expression that is known
 
-pub expression-returns-in_ok-of-in-Prefix-clause-value : goal.expression-returns-in_ok-of-in-Prefix-clause-value
-expression-returns-in_ok-of-in-Prefix-clause-value t c =
-    one_value plain (verdict (heads_in c.args.given.now) (sight_in c.args.given.now c.args.c.now) c.args.as_action) (faults (heads_in c.args.given.now) (sight_in c.args.given.now c.args.c.now) c.args.as_action) c.in-Prefix.token c.judge_prefix.result (plain_expr c.args.e.now)
-    (prefix c.in-Prefix.token c.in-Prefix.operator (plain_expr c.deref-in-Prefix.result.now))
-    (plain_prefix _ _ _ _ c.in-Prefix.is ∙ ap (λ y. prefix c.in-Prefix.token c.in-Prefix.operator (plain_expr y)) (sym c.deref-in-Prefix.ensures))
-    (asked (prefix_rows c.in-Prefix.operator) (prefix_rule c.in-Prefix.operator)) (option_map plain c.in_ok-of-in-Prefix.of)
-    (fine (verdict (heads_in c.args.given.now) (sight_in c.args.given.now c.args.c.now) false (plain_expr c.deref-in-Prefix.result.now))) c.in_ok-of-in-Prefix.ensures.value refl c.judge_prefix.ensures.value
+pub expression-call-requires : goal.expression-call-requires
+expression-call-requires t c = (falls _ (tree.call c.in-Call.token c.in-Call.name (plain_exprs c.deref.result.now)) t (all_size (plain_exprs c.deref.result.now) + 1) (call_is _ _ _ _ _ (plain_call _ _ _ _ c.in-Call.is) c.deref.ensures.value) c.decreases (omega arith), tt)
 
-pub expression-returns-in_ok-of-in-Prefix-clause-least : goal.expression-returns-in_ok-of-in-Prefix-clause-least
-expression-returns-in_ok-of-in-Prefix-clause-least t c =
-    one_least plain (verdict (heads_in c.args.given.now) (sight_in c.args.given.now c.args.c.now) c.args.as_action) (faults (heads_in c.args.given.now) (sight_in c.args.given.now c.args.c.now) c.args.as_action) c.in-Prefix.token c.judge_prefix.result (plain_expr c.args.e.now)
-    (prefix c.in-Prefix.token c.in-Prefix.operator (plain_expr c.deref-in-Prefix.result.now))
-    (plain_prefix _ _ _ _ c.in-Prefix.is ∙ ap (λ y. prefix c.in-Prefix.token c.in-Prefix.operator (plain_expr y)) (sym c.deref-in-Prefix.ensures))
-    (asked (prefix_rows c.in-Prefix.operator) (prefix_rule c.in-Prefix.operator)) (option_map plain c.in_ok-of-in-Prefix.of)
-    (fine (verdict (heads_in c.args.given.now) (sight_in c.args.given.now c.args.c.now) false (plain_expr c.deref-in-Prefix.result.now))) c.args.least.now c.expression-in-Prefix.new.least c.judge_prefix.new.least (faults (heads_in c.args.given.now) (sight_in c.args.given.now c.args.c.now) false (plain_expr c.deref-in-Prefix.result.now))
-    c.in_ok-of-in-Prefix.ensures.value refl c.in_ok-of-in-Prefix.ensures.least c.judge_prefix.ensures.least
+pub expression-returns-in-Call : goal.expression-returns-in-Call
+expression-returns-in-Call t c =
+    let hs = heads_in c.args.given.now in
+    let s = sight_in c.args.given.now c.args.c.now in
+    let b = c.args.as_action in
+    let node = call_is _ _ _ _ _ (plain_call _ _ _ _ c.in-Call.is) c.deref.ensures.value in
+    record {
+      value = node_value plain (verdict hs s b) (faults hs s b) c.in-Call.token c.call.result _ _ node c.call.ensures.value;
+      least = node_least plain (verdict hs s b) (faults hs s b) c.in-Call.token c.call.result _ _ node _ _ c.call.ensures.least;
+    }
 
-pub expression-returns-in_ok-of-in-Postfix-clause-value : goal.expression-returns-in_ok-of-in-Postfix-clause-value
-expression-returns-in_ok-of-in-Postfix-clause-value t c =
-    one_value plain (verdict (heads_in c.args.given.now) (sight_in c.args.given.now c.args.c.now) c.args.as_action) (faults (heads_in c.args.given.now) (sight_in c.args.given.now c.args.c.now) c.args.as_action) c.in-Postfix.token c.judge_postfix.result (plain_expr c.args.e.now)
-    (postfix c.in-Postfix.token c.in-Postfix.operator (plain_expr c.deref-in-Postfix.result.now))
-    (plain_postfix _ _ _ _ c.in-Postfix.is ∙ ap (λ y. postfix c.in-Postfix.token c.in-Postfix.operator (plain_expr y)) (sym c.deref-in-Postfix.ensures))
-    (asked postfix_rows (postfix_rule c.in-Postfix.operator)) (option_map plain c.in_ok-of-in-Postfix.of)
-    (fine (verdict (heads_in c.args.given.now) (sight_in c.args.given.now c.args.c.now) false (plain_expr c.deref-in-Postfix.result.now))) c.in_ok-of-in-Postfix.ensures.value refl c.judge_postfix.ensures.value
+pub expression-member-requires : goal.expression-member-requires
+expression-member-requires t c = (falls _ (tree.member c.in-Member.token (plain_expr c.deref-in-Member.result.now) c.in-Member.name) t (size (plain_expr c.deref-in-Member.result.now) + 1) (member_is _ _ _ _ _ (plain_member _ _ _ _ c.in-Member.is) c.deref-in-Member.ensures) c.decreases (omega arith), tt)
 
-pub expression-returns-in_ok-of-in-Postfix-clause-least : goal.expression-returns-in_ok-of-in-Postfix-clause-least
-expression-returns-in_ok-of-in-Postfix-clause-least t c =
-    one_least plain (verdict (heads_in c.args.given.now) (sight_in c.args.given.now c.args.c.now) c.args.as_action) (faults (heads_in c.args.given.now) (sight_in c.args.given.now c.args.c.now) c.args.as_action) c.in-Postfix.token c.judge_postfix.result (plain_expr c.args.e.now)
-    (postfix c.in-Postfix.token c.in-Postfix.operator (plain_expr c.deref-in-Postfix.result.now))
-    (plain_postfix _ _ _ _ c.in-Postfix.is ∙ ap (λ y. postfix c.in-Postfix.token c.in-Postfix.operator (plain_expr y)) (sym c.deref-in-Postfix.ensures))
-    (asked postfix_rows (postfix_rule c.in-Postfix.operator)) (option_map plain c.in_ok-of-in-Postfix.of)
-    (fine (verdict (heads_in c.args.given.now) (sight_in c.args.given.now c.args.c.now) false (plain_expr c.deref-in-Postfix.result.now))) c.args.least.now c.expression-in-Postfix.new.least c.judge_postfix.new.least (faults (heads_in c.args.given.now) (sight_in c.args.given.now c.args.c.now) false (plain_expr c.deref-in-Postfix.result.now))
-    c.in_ok-of-in-Postfix.ensures.value refl c.in_ok-of-in-Postfix.ensures.least c.judge_postfix.ensures.least
+pub expression-returns-in-Member : goal.expression-returns-in-Member
+expression-returns-in-Member t c =
+    let hs = heads_in c.args.given.now in
+    let s = sight_in c.args.given.now c.args.c.now in
+    let b = c.args.as_action in
+    let node = member_is _ _ _ _ _ (plain_member _ _ _ _ c.in-Member.is) c.deref-in-Member.ensures in
+    record {
+      value = node_value plain (verdict hs s b) (faults hs s b) c.in-Member.token c.member.result _ _ node c.member.ensures.value;
+      least = node_least plain (verdict hs s b) (faults hs s b) c.in-Member.token c.member.result _ _ node _ _ c.member.ensures.least;
+    }
 
-pub expression-returns-in_ok-right-in-Binary-clause-value : goal.expression-returns-in_ok-right-in-Binary-clause-value
-expression-returns-in_ok-right-in-Binary-clause-value t c =
-    two_value plain (verdict (heads_in c.args.given.now) (sight_in c.args.given.now c.args.c.now) c.args.as_action) (faults (heads_in c.args.given.now) (sight_in c.args.given.now c.args.c.now) c.args.as_action) c.in-Binary.token c.judge_binary.result (plain_expr c.args.e.now)
-    (binary c.in-Binary.token c.in-Binary.operator (plain_expr c.deref-in-Binary.result.now) (plain_expr c.deref-in-Binary-2.result.now))
-    (plain_binary _ _ _ _ _ c.in-Binary.is ∙ (ap (λ x. binary c.in-Binary.token c.in-Binary.operator (plain_expr x) (plain_expr c.in-Binary.right.value)) (sym c.deref-in-Binary.ensures)
-    ∙ ap (λ y. binary c.in-Binary.token c.in-Binary.operator (plain_expr c.deref-in-Binary.result.now) (plain_expr y)) (sym c.deref-in-Binary-2.ensures)))
-    (λ x y. asked binary_rows (binary_rule c.in-Binary.operator) (two x y)) (option_map plain c.in_ok-left-in-Binary.left) (fine (verdict (heads_in c.args.given.now) (sight_in c.args.given.now c.args.c.now) false (plain_expr c.deref-in-Binary.result.now)))
-    (option_map plain c.in_ok-right-in-Binary.right) (fine (verdict (heads_in c.args.given.now) (sight_in c.args.given.now c.args.c.now) false (plain_expr c.deref-in-Binary-2.result.now)))
-    c.in_ok-left-in-Binary.ensures.value c.in_ok-right-in-Binary.ensures.value refl c.judge_binary.ensures.value
+pub expression-prefix-requires : goal.expression-prefix-requires
+expression-prefix-requires t c = (falls _ (tree.prefix c.in-Prefix.token c.in-Prefix.operator (plain_expr c.deref-in-Prefix.result.now)) t (size (plain_expr c.deref-in-Prefix.result.now) + 1) (prefix_is _ _ _ _ _ (plain_prefix _ _ _ _ c.in-Prefix.is) c.deref-in-Prefix.ensures) c.decreases (omega arith), tt)
 
-pub expression-returns-in_ok-right-in-Binary-clause-least : goal.expression-returns-in_ok-right-in-Binary-clause-least
-expression-returns-in_ok-right-in-Binary-clause-least t c =
-    two_least plain (verdict (heads_in c.args.given.now) (sight_in c.args.given.now c.args.c.now) c.args.as_action) (faults (heads_in c.args.given.now) (sight_in c.args.given.now c.args.c.now) c.args.as_action) c.in-Binary.token c.judge_binary.result (plain_expr c.args.e.now)
-    (binary c.in-Binary.token c.in-Binary.operator (plain_expr c.deref-in-Binary.result.now) (plain_expr c.deref-in-Binary-2.result.now))
-    (plain_binary _ _ _ _ _ c.in-Binary.is ∙ (ap (λ x. binary c.in-Binary.token c.in-Binary.operator (plain_expr x) (plain_expr c.in-Binary.right.value)) (sym c.deref-in-Binary.ensures)
-    ∙ ap (λ y. binary c.in-Binary.token c.in-Binary.operator (plain_expr c.deref-in-Binary.result.now) (plain_expr y)) (sym c.deref-in-Binary-2.ensures)))
-    (λ x y. asked binary_rows (binary_rule c.in-Binary.operator) (two x y)) (option_map plain c.in_ok-left-in-Binary.left) (fine (verdict (heads_in c.args.given.now) (sight_in c.args.given.now c.args.c.now) false (plain_expr c.deref-in-Binary.result.now)))
-    (option_map plain c.in_ok-right-in-Binary.right) (fine (verdict (heads_in c.args.given.now) (sight_in c.args.given.now c.args.c.now) false (plain_expr c.deref-in-Binary-2.result.now)))
-    c.args.least.now c.expression-in-Binary.new.least c.expression-in-Binary-2.new.least c.judge_binary.new.least (faults (heads_in c.args.given.now) (sight_in c.args.given.now c.args.c.now) false (plain_expr c.deref-in-Binary.result.now)) (faults (heads_in c.args.given.now) (sight_in c.args.given.now c.args.c.now) false (plain_expr c.deref-in-Binary-2.result.now))
-    c.in_ok-left-in-Binary.ensures.value c.in_ok-right-in-Binary.ensures.value refl c.in_ok-left-in-Binary.ensures.least c.in_ok-right-in-Binary.ensures.least c.judge_binary.ensures.least
+pub expression-returns-in-Prefix : goal.expression-returns-in-Prefix
+expression-returns-in-Prefix t c =
+    let hs = heads_in c.args.given.now in
+    let s = sight_in c.args.given.now c.args.c.now in
+    let b = c.args.as_action in
+    let node = prefix_is _ _ _ _ _ (plain_prefix _ _ _ _ c.in-Prefix.is) c.deref-in-Prefix.ensures in
+    record {
+      value = node_value plain (verdict hs s b) (faults hs s b) c.in-Prefix.token c.prefix.result _ _ node c.prefix.ensures.value;
+      least = node_least plain (verdict hs s b) (faults hs s b) c.in-Prefix.token c.prefix.result _ _ node _ _ c.prefix.ensures.least;
+    }
 
-pub expression-returns-in_ok-value-in-Assign-clause-value : goal.expression-returns-in_ok-value-in-Assign-clause-value
-expression-returns-in_ok-value-in-Assign-clause-value t c =
-    two_value plain (verdict (heads_in c.args.given.now) (sight_in c.args.given.now c.args.c.now) c.args.as_action) (faults (heads_in c.args.given.now) (sight_in c.args.given.now c.args.c.now) c.args.as_action) c.in-Assign.token c.judge_assign.result (plain_expr c.args.e.now)
-    (assign c.in-Assign.token c.in-Assign.operator (plain_expr c.deref-in-Assign.result.now) (plain_expr c.deref-in-Assign-2.result.now))
-    (plain_assign _ _ _ _ _ c.in-Assign.is ∙ (ap (λ x. assign c.in-Assign.token c.in-Assign.operator (plain_expr x) (plain_expr c.in-Assign.value.value)) (sym c.deref-in-Assign.ensures)
-    ∙ ap (λ y. assign c.in-Assign.token c.in-Assign.operator (plain_expr c.deref-in-Assign.result.now) (plain_expr y)) (sym c.deref-in-Assign-2.ensures)))
-    (λ x y. asked assign_rows (assign_rule c.in-Assign.operator) (two x y)) (option_map plain c.in_ok-place-in-Assign.place) (fine (verdict (heads_in c.args.given.now) (sight_in c.args.given.now c.args.c.now) false (plain_expr c.deref-in-Assign.result.now)))
-    (option_map plain c.in_ok-value-in-Assign.value) (fine (verdict (heads_in c.args.given.now) (sight_in c.args.given.now c.args.c.now) false (plain_expr c.deref-in-Assign-2.result.now)))
-    c.in_ok-place-in-Assign.ensures.value c.in_ok-value-in-Assign.ensures.value refl c.judge_assign.ensures.value
+pub expression-postfix-requires : goal.expression-postfix-requires
+expression-postfix-requires t c = (falls _ (tree.postfix c.in-Postfix.token c.in-Postfix.operator (plain_expr c.deref-in-Postfix.result.now)) t (size (plain_expr c.deref-in-Postfix.result.now) + 1) (postfix_is _ _ _ _ _ (plain_postfix _ _ _ _ c.in-Postfix.is) c.deref-in-Postfix.ensures) c.decreases (omega arith), tt)
 
-pub expression-returns-in_ok-value-in-Assign-clause-least : goal.expression-returns-in_ok-value-in-Assign-clause-least
-expression-returns-in_ok-value-in-Assign-clause-least t c =
-    two_least plain (verdict (heads_in c.args.given.now) (sight_in c.args.given.now c.args.c.now) c.args.as_action) (faults (heads_in c.args.given.now) (sight_in c.args.given.now c.args.c.now) c.args.as_action) c.in-Assign.token c.judge_assign.result (plain_expr c.args.e.now)
-    (assign c.in-Assign.token c.in-Assign.operator (plain_expr c.deref-in-Assign.result.now) (plain_expr c.deref-in-Assign-2.result.now))
-    (plain_assign _ _ _ _ _ c.in-Assign.is ∙ (ap (λ x. assign c.in-Assign.token c.in-Assign.operator (plain_expr x) (plain_expr c.in-Assign.value.value)) (sym c.deref-in-Assign.ensures)
-    ∙ ap (λ y. assign c.in-Assign.token c.in-Assign.operator (plain_expr c.deref-in-Assign.result.now) (plain_expr y)) (sym c.deref-in-Assign-2.ensures)))
-    (λ x y. asked assign_rows (assign_rule c.in-Assign.operator) (two x y)) (option_map plain c.in_ok-place-in-Assign.place) (fine (verdict (heads_in c.args.given.now) (sight_in c.args.given.now c.args.c.now) false (plain_expr c.deref-in-Assign.result.now)))
-    (option_map plain c.in_ok-value-in-Assign.value) (fine (verdict (heads_in c.args.given.now) (sight_in c.args.given.now c.args.c.now) false (plain_expr c.deref-in-Assign-2.result.now)))
-    c.args.least.now c.expression-in-Assign.new.least c.expression-in-Assign-2.new.least c.judge_assign.new.least (faults (heads_in c.args.given.now) (sight_in c.args.given.now c.args.c.now) false (plain_expr c.deref-in-Assign.result.now)) (faults (heads_in c.args.given.now) (sight_in c.args.given.now c.args.c.now) false (plain_expr c.deref-in-Assign-2.result.now))
-    c.in_ok-place-in-Assign.ensures.value c.in_ok-value-in-Assign.ensures.value refl c.in_ok-place-in-Assign.ensures.least c.in_ok-value-in-Assign.ensures.least c.judge_assign.ensures.least
+pub expression-returns-in-Postfix : goal.expression-returns-in-Postfix
+expression-returns-in-Postfix t c =
+    let hs = heads_in c.args.given.now in
+    let s = sight_in c.args.given.now c.args.c.now in
+    let b = c.args.as_action in
+    let node = postfix_is _ _ _ _ _ (plain_postfix _ _ _ _ c.in-Postfix.is) c.deref-in-Postfix.ensures in
+    record {
+      value = node_value plain (verdict hs s b) (faults hs s b) c.in-Postfix.token c.postfix.result _ _ node c.postfix.ensures.value;
+      least = node_least plain (verdict hs s b) (faults hs s b) c.in-Postfix.token c.postfix.result _ _ node _ _ c.postfix.ensures.least;
+    }
 
-pub expression-returns-in_ok-xs-in-Call-clause-value : goal.expression-returns-in_ok-xs-in-Call-clause-value
-expression-returns-in_ok-xs-in-Call-clause-value t c =
-    two_value plain (verdict (heads_in c.args.given.now) (sight_in c.args.given.now c.args.c.now) c.args.as_action) (faults (heads_in c.args.given.now) (sight_in c.args.given.now c.args.c.now) c.args.as_action) c.in-Call.token c.judge_call.result (plain_expr c.args.e.now)
-    (call c.in-Call.token c.in-Call.name (plain_exprs c.deref.result.now))
-    (plain_call _ _ _ _ c.in-Call.is ∙ ap (λ y. call c.in-Call.token c.in-Call.name (plain_exprs y)) (sym c.deref.ensures.value))
-    (λ x y. asked (call_rows c.args.c.now.at_file c.args.as_action) (call_rule c.args.c.now.at_file c.args.as_action) (two x y)) (option_map plain_all c.in_ok-xs-in-Call.xs) (all_fine (heads_in c.args.given.now) (sight_in c.args.given.now c.args.c.now) (wanted (heads_in c.args.given.now) c.args.given.now.table.now c.in-Call.name) (plain_exprs c.deref.result.now))
-    (option_map (option_map called_of) c.callee-called.result) (callee (heads_in c.args.given.now) c.args.given.now.table.now c.in-Call.name)
-    (c.in_ok-xs-in-Call.ensures.value ∙ ap (λ ps. all_fine (heads_in c.args.given.now) (sight_in c.args.given.now c.args.c.now) ps (plain_exprs c.deref.result.now)) (c.types_wanted.ensures.wanted ∙ ap types_wanted (c.callee-called.ensures.callee ∙ ap (callee (heads_in c.args.given.now) c.args.given.now.table.now) c.bytes-in-Call.ensures.same)))
-    (c.callee-called.ensures.callee ∙ ap (callee (heads_in c.args.given.now) c.args.given.now.table.now) c.bytes-in-Call.ensures.same) refl c.judge_call.ensures.value
+pub expression-binary-requires : goal.expression-binary-requires
+expression-binary-requires t c = (falls _ (tree.binary c.in-Binary.token c.in-Binary.operator (plain_expr c.deref-in-Binary.result.now) (plain_expr c.deref-in-Binary-2.result.now)) t (size (plain_expr c.deref-in-Binary.result.now) + size (plain_expr c.deref-in-Binary-2.result.now) + 1) (binary_is _ _ _ _ _ _ _ (plain_binary _ _ _ _ _ c.in-Binary.is) c.deref-in-Binary.ensures c.deref-in-Binary-2.ensures) c.decreases (omega arith), tt)
 
-pub expression-returns-in_ok-xs-in-Call-clause-least : goal.expression-returns-in_ok-xs-in-Call-clause-least
-expression-returns-in_ok-xs-in-Call-clause-least t c =
-    call_least plain (verdict (heads_in c.args.given.now) (sight_in c.args.given.now c.args.c.now) c.args.as_action) (faults (heads_in c.args.given.now) (sight_in c.args.given.now c.args.c.now) c.args.as_action) c.in-Call.token c.judge_call.result (plain_expr c.args.e.now)
-    (call c.in-Call.token c.in-Call.name (plain_exprs c.deref.result.now))
-    (plain_call _ _ _ _ c.in-Call.is ∙ ap (λ y. call c.in-Call.token c.in-Call.name (plain_exprs y)) (sym c.deref.ensures.value))
-    (λ x y. asked (call_rows c.args.c.now.at_file c.args.as_action) (call_rule c.args.c.now.at_file c.args.as_action) (two x y)) (option_map plain_all c.in_ok-xs-in-Call.xs) (all_fine (heads_in c.args.given.now) (sight_in c.args.given.now c.args.c.now) (wanted (heads_in c.args.given.now) c.args.given.now.table.now c.in-Call.name) (plain_exprs c.deref.result.now))
-    (option_map (option_map called_of) c.callee-called.result) (callee (heads_in c.args.given.now) c.args.given.now.table.now c.in-Call.name)
-    c.args.least.now c.arguments.new.least c.judge_call.new.least (all_faults (heads_in c.args.given.now) (sight_in c.args.given.now c.args.c.now) (wanted (heads_in c.args.given.now) c.args.given.now.table.now c.in-Call.name) (plain_exprs c.deref.result.now))
-    (c.in_ok-xs-in-Call.ensures.value ∙ ap (λ ps. all_fine (heads_in c.args.given.now) (sight_in c.args.given.now c.args.c.now) ps (plain_exprs c.deref.result.now)) (c.types_wanted.ensures.wanted ∙ ap types_wanted (c.callee-called.ensures.callee ∙ ap (callee (heads_in c.args.given.now) c.args.given.now.table.now) c.bytes-in-Call.ensures.same)))
-    (c.callee-called.ensures.callee ∙ ap (callee (heads_in c.args.given.now) c.args.given.now.table.now) c.bytes-in-Call.ensures.same) refl
-    (c.in_ok-xs-in-Call.ensures.least ∙ ap (λ ps. kept c.args.least.now (all_faults (heads_in c.args.given.now) (sight_in c.args.given.now c.args.c.now) ps (plain_exprs c.deref.result.now))) (c.types_wanted.ensures.wanted ∙ ap types_wanted (c.callee-called.ensures.callee ∙ ap (callee (heads_in c.args.given.now) c.args.given.now.table.now) c.bytes-in-Call.ensures.same))) c.judge_call.ensures.least
+pub expression-returns-in-Binary : goal.expression-returns-in-Binary
+expression-returns-in-Binary t c =
+    let hs = heads_in c.args.given.now in
+    let s = sight_in c.args.given.now c.args.c.now in
+    let b = c.args.as_action in
+    let node = binary_is _ _ _ _ _ _ _ (plain_binary _ _ _ _ _ c.in-Binary.is) c.deref-in-Binary.ensures c.deref-in-Binary-2.ensures in
+    record {
+      value = node_value plain (verdict hs s b) (faults hs s b) c.in-Binary.token c.binary.result _ _ node c.binary.ensures.value;
+      least = node_least plain (verdict hs s b) (faults hs s b) c.in-Binary.token c.binary.result _ _ node _ _ c.binary.ensures.least;
+    }
+
+pub expression-assign-requires : goal.expression-assign-requires
+expression-assign-requires t c = (falls _ (tree.assign c.in-Assign.token c.in-Assign.operator (plain_expr c.deref-in-Assign.result.now) (plain_expr c.deref-in-Assign-2.result.now)) t (size (plain_expr c.deref-in-Assign.result.now) + size (plain_expr c.deref-in-Assign-2.result.now) + 1) (assign_is _ _ _ _ _ _ _ (plain_assign _ _ _ _ _ c.in-Assign.is) c.deref-in-Assign.ensures c.deref-in-Assign-2.ensures) c.decreases (omega arith), tt)
+
+pub expression-returns-in-Assign : goal.expression-returns-in-Assign
+expression-returns-in-Assign t c =
+    let hs = heads_in c.args.given.now in
+    let s = sight_in c.args.given.now c.args.c.now in
+    let b = c.args.as_action in
+    let node = assign_is _ _ _ _ _ _ _ (plain_assign _ _ _ _ _ c.in-Assign.is) c.deref-in-Assign.ensures c.deref-in-Assign-2.ensures in
+    record {
+      value = node_value plain (verdict hs s b) (faults hs s b) c.in-Assign.token c.assign.result _ _ node c.assign.ensures.value;
+      least = node_least plain (verdict hs s b) (faults hs s b) c.in-Assign.token c.assign.result _ _ node _ _ c.assign.ensures.least;
+    }
+
+-- ---- each kind of expression
+
+pub call-returns : goal.call-returns
+call-returns t c =
+    let hs = heads_in c.args.given.now in
+    let s = sight_in c.args.given.now c.args.c.now in
+    let b = c.args.as_action in
+    let es = plain_exprs c.args.es.now in
+    let d = tree.call c.args.token c.args.name.now es in
+    let named = c.callee-called.ensures.callee ∙ ap (callee hs c.args.given.now.table.now) c.bytes.ensures.same in
+    let for_these = c.types_wanted.ensures.wanted ∙ ap types_wanted named in
+    let xs = c.in_ok-xs.ensures.value ∙ ap (λ ps. all_fine hs s ps es) for_these in
+    record {
+      value =
+          two_value plain (verdict hs s b) (faults hs s b) c.args.token c.judge_call.result d d refl (λ x y. asked (call_rows c.args.c.now.at_file b) (call_rule c.args.c.now.at_file b) (two x y)) (option_map plain_all c.in_ok-xs.xs) (all_fine hs s (wanted hs c.args.given.now.table.now c.args.name.now) es)
+          (option_map (option_map called_of) c.callee-called.result) (callee hs c.args.given.now.table.now c.args.name.now) xs named refl c.judge_call.ensures.value;
+      least =
+          call_least plain (verdict hs s b) (faults hs s b) c.args.token c.judge_call.result d d refl (λ x y. asked (call_rows c.args.c.now.at_file b) (call_rule c.args.c.now.at_file b) (two x y)) (option_map plain_all c.in_ok-xs.xs) (all_fine hs s (wanted hs c.args.given.now.table.now c.args.name.now) es)
+          (option_map (option_map called_of) c.callee-called.result) (callee hs c.args.given.now.table.now c.args.name.now) c.args.least.now c.arguments.new.least c.judge_call.new.least (all_faults hs s (wanted hs c.args.given.now.table.now c.args.name.now) es)
+          xs named refl (c.in_ok-xs.ensures.least ∙ ap (λ ps. kept c.args.least.now (all_faults hs s ps es)) for_these) c.judge_call.ensures.least;
+    }
+
+pub member-returns : goal.member-returns
+member-returns t c =
+    let hs = heads_in c.args.given.now in
+    let s = sight_in c.args.given.now c.args.c.now in
+    let e = plain_expr c.args.of.now in
+    let d = tree.member c.args.token e c.args.name.now in
+    record {
+      value = one_value plain (verdict hs s false) (faults hs s false) c.args.token c.judge_member.result d d refl (asked member_rows (member_rule c.args.c.now.structs c.args.name.now)) (option_map plain c.in_ok-of.of) (value hs s e) c.in_ok-of.ensures.value refl (rw c.bytes.ensures.same at c.judge_member.ensures.value);
+      least =
+          one_least plain (verdict hs s false) (faults hs s false) c.args.token c.judge_member.result d d refl (asked member_rows (member_rule c.args.c.now.structs c.args.name.now)) (option_map plain c.in_ok-of.of) (value hs s e) c.args.least.now c.expression.new.least c.judge_member.new.least (value_faults hs s e)
+          c.in_ok-of.ensures.value refl c.in_ok-of.ensures.least (rw c.bytes.ensures.same at c.judge_member.ensures.least);
+    }
+
+pub prefix-returns : goal.prefix-returns
+prefix-returns t c =
+    let hs = heads_in c.args.given.now in
+    let s = sight_in c.args.given.now c.args.c.now in
+    let e = plain_expr c.args.of.now in
+    let d = tree.prefix c.args.token c.args.operator e in
+    record {
+      value = one_value plain (verdict hs s false) (faults hs s false) c.args.token c.judge_prefix.result d d refl (asked (prefix_rows c.args.operator) (prefix_rule c.args.operator)) (option_map plain c.in_ok-of.of) (value hs s e) c.in_ok-of.ensures.value refl c.judge_prefix.ensures.value;
+      least =
+          one_least plain (verdict hs s false) (faults hs s false) c.args.token c.judge_prefix.result d d refl (asked (prefix_rows c.args.operator) (prefix_rule c.args.operator)) (option_map plain c.in_ok-of.of) (value hs s e) c.args.least.now c.expression.new.least c.judge_prefix.new.least (value_faults hs s e)
+          c.in_ok-of.ensures.value refl c.in_ok-of.ensures.least c.judge_prefix.ensures.least;
+    }
+
+pub postfix-returns : goal.postfix-returns
+postfix-returns t c =
+    let hs = heads_in c.args.given.now in
+    let s = sight_in c.args.given.now c.args.c.now in
+    let e = plain_expr c.args.of.now in
+    let d = tree.postfix c.args.token c.args.operator e in
+    record {
+      value = one_value plain (verdict hs s false) (faults hs s false) c.args.token c.judge_postfix.result d d refl (asked postfix_rows (postfix_rule c.args.operator)) (option_map plain c.in_ok-of.of) (value hs s e) c.in_ok-of.ensures.value refl c.judge_postfix.ensures.value;
+      least =
+          one_least plain (verdict hs s false) (faults hs s false) c.args.token c.judge_postfix.result d d refl (asked postfix_rows (postfix_rule c.args.operator)) (option_map plain c.in_ok-of.of) (value hs s e) c.args.least.now c.expression.new.least c.judge_postfix.new.least (value_faults hs s e)
+          c.in_ok-of.ensures.value refl c.in_ok-of.ensures.least c.judge_postfix.ensures.least;
+    }
+
+pub binary-returns-in-Ok : goal.binary-returns-in-Ok
+binary-returns-in-Ok t c =
+    let hs = heads_in c.args.given.now in
+    let s = sight_in c.args.given.now c.args.c.now in
+    let a = plain_expr c.args.left.now in
+    let b = plain_expr c.args.right.now in
+    let d = tree.binary c.args.token c.args.operator a b in
+    record {
+      value =
+          two_value plain (verdict hs s false) (faults hs s false) c.args.token c.judge_binary.result d d refl (λ x y. asked binary_rows (binary_rule c.args.operator) (two x y)) (option_map plain c.in_ok-left.left) (value hs s a) (option_map plain c.in-Ok.right) (value hs s b)
+          c.in_ok-left.ensures.value c.in-Ok.ensures.value refl c.judge_binary.ensures.value;
+      least =
+          two_least plain (verdict hs s false) (faults hs s false) c.args.token c.judge_binary.result d d refl (λ x y. asked binary_rows (binary_rule c.args.operator) (two x y)) (option_map plain c.in_ok-left.left) (value hs s a) (option_map plain c.in-Ok.right) (value hs s b)
+          c.args.least.now c.expression.new.least c.expression-2.new.least c.judge_binary.new.least (value_faults hs s a) (value_faults hs s b)
+          c.in_ok-left.ensures.value c.in-Ok.ensures.value refl c.in_ok-left.ensures.least c.in-Ok.ensures.least c.judge_binary.ensures.least;
+    }
+
+pub assign-returns-in-Ok : goal.assign-returns-in-Ok
+assign-returns-in-Ok t c =
+    let hs = heads_in c.args.given.now in
+    let s = sight_in c.args.given.now c.args.c.now in
+    let a = plain_expr c.args.place.now in
+    let b = plain_expr c.args.value.now in
+    let d = tree.assign c.args.token c.args.operator a b in
+    record {
+      value =
+          two_value plain (verdict hs s false) (faults hs s false) c.args.token c.judge_assign.result d d refl (λ x y. asked assign_rows (assign_rule c.args.operator) (two x y)) (option_map plain c.in_ok-place.place) (value hs s a) (option_map plain c.in-Ok.value) (value hs s b)
+          c.in_ok-place.ensures.value c.in-Ok.ensures.value refl c.judge_assign.ensures.value;
+      least =
+          two_least plain (verdict hs s false) (faults hs s false) c.args.token c.judge_assign.result d d refl (λ x y. asked assign_rows (assign_rule c.args.operator) (two x y)) (option_map plain c.in_ok-place.place) (value hs s a) (option_map plain c.in-Ok.value) (value hs s b)
+          c.args.least.now c.expression.new.least c.expression-2.new.least c.judge_assign.new.least (value_faults hs s a) (value_faults hs s b)
+          c.in_ok-place.ensures.value c.in-Ok.ensures.value refl c.in_ok-place.ensures.least c.in-Ok.ensures.least c.judge_assign.ensures.least;
+    }
+
+-- ---- arguments
+
+pub arguments-expression-requires : goal.arguments-expression-requires
+arguments-expression-requires t c = (next_falls c.args.es.now c.loop-e.e-index c.e-item.result c.e-item.is c.loop-e-test.true t c.decreases, tt)
 
 pub arguments-loop-e-init : goal.arguments-loop-e-init
 arguments-loop-e-init t c =

@@ -1,11 +1,12 @@
-use Rattle.std.proofs.Common.{◌≡◌, drop}
+use Rattle.std.proofs.Common.{◌≡◌, ◌+◌, drop}
 use Rattle.std.specs.Option.{option_map}
-use Rattle.nss_tree.specs.Reading.{plain_exprs}
+use Rattle.nss_tree.specs.Reading.{plain_expr, plain_exprs}
 use Rattle.nss_typing.specs.Nodes.{kept}
 use Rattle.nss_typing.specs.Reading.{plain_all}
 use Rattle.nss_typing.specs.Verdicts.{all_faults, all_fine}
 use Rattle.nss_expressions.specs.Arguments.{with_others}
 use Rattle.nss_expressions.specs.Views.{heads_in, sight_in}
+use Rattle.nss_expressions.proofs.Nodes.{all_size, size}
 use Rattle.nss_expressions.proofs.expression.+walk.Given as goal
 
 abbrev pub invariant-arguments-loop-e : goal.invariant-arguments-loop-e
@@ -14,3 +15,27 @@ invariant-arguments-loop-e l =
     ≡ all_fine (heads_in l.given) (sight_in l.given l.c) l.params (plain_exprs l.es))
     × (kept l.least (all_faults (heads_in l.given) (sight_in l.given l.c) l.rest (plain_exprs (drop l.e-index l.es)))
     ≡ kept l.initial.least (all_faults (heads_in l.given) (sight_in l.given l.c) l.params (plain_exprs l.es)))
+
+abbrev pub decreases-expression : goal.decreases-expression
+decreases-expression l = size (plain_expr l.e.now)
+
+abbrev pub decreases-arguments : goal.decreases-arguments
+decreases-arguments l = all_size (plain_exprs l.es.now)
+
+abbrev pub decreases-call : goal.decreases-call
+decreases-call l = all_size (plain_exprs l.es.now) + 1
+
+abbrev pub decreases-member : goal.decreases-member
+decreases-member l = size (plain_expr l.of.now) + 1
+
+abbrev pub decreases-prefix : goal.decreases-prefix
+decreases-prefix l = size (plain_expr l.of.now) + 1
+
+abbrev pub decreases-postfix : goal.decreases-postfix
+decreases-postfix l = size (plain_expr l.of.now) + 1
+
+abbrev pub decreases-binary : goal.decreases-binary
+decreases-binary l = size (plain_expr l.left.now) + size (plain_expr l.right.now) + 1
+
+abbrev pub decreases-assign : goal.decreases-assign
+decreases-assign l = size (plain_expr l.place.now) + size (plain_expr l.value.now) + 1
