@@ -1,6 +1,6 @@
 //! Items of a unit, and what stands in sight behind each.
 
-ghost use Rattle.std.specs.Prelude.{◌≡◌, ◌&&◌, not, IfOk, OnOk, map};
+ghost use Rattle.std.specs.Prelude.{◌≡◌, ◌++◌, ◌∷◌, ◌&&◌, [], not, IfOk, OnOk, map};
 ghost use Rattle.std.specs.Option.{option_map};
 ghost use Rattle.nss_tree.specs.Reading.{plain_item, plain_names};
 ghost use Rattle.nss_tree.specs.Units as unit;
@@ -12,7 +12,8 @@ ghost use Rattle.nss_typing.specs.UnitReading.{typed_item, typed_items, typed_na
 ghost use Rattle.nss_typing.specs.Verdicts.{after_item, after_items, constant_item};
 ghost use Rattle.nss_typing.specs.Verdicts.{constant_meaning, global_item, item_faults, item_fine};
 ghost use Rattle.nss_typing.specs.Verdicts.{items_faults, items_fine, lines_faults, lines_fine};
-ghost use Rattle.nss_typing.specs.Verdicts.{struct_members};
+ghost use Rattle.nss_typing.specs.Verdicts.{constant_faults, constant_line_verdict};
+ghost use Rattle.nss_typing.specs.Verdicts.{constant_name_verdict, struct_members, struct_verdict};
 ghost use Rattle.nss_scopes.specs.Entries.{members_of};
 ghost use Rattle.nss_scopes.specs.Slots.{meaning_of};
 ghost use Rattle.nss_scopes.specs.Views.{in_sight};
@@ -26,7 +27,7 @@ use nss_expressions::given::Given;
 use nss_expressions::line::{constant_line_type, line_type};
 use nss_expressions::note::note;
 use nss_expressions::row::and_last;
-use nss_scopes::{Meaning, Members, Places, Sight, Structs};
+use nss_scopes::{Meaning, Members, Names, Places, Sight, Structs};
 use nss_statements::declared::names;
 use nss_tree::{Constant, DeclaredName, FieldLine, Identifier, Item, TypeName};
 use nss_typing::rules::same_type;
@@ -107,6 +108,44 @@ fn struct_lines(
     typed
 }
 
+/// The lines of a struct of this name, if it is typed.
+fn typed_struct(
+    alloc: Global,
+    structs: &Structs,
+    least: &mut Option<Fault>,
+    token: u32,
+    name: &Text,
+    ls: &[FieldLine],
+) -> Result<Option<Items<TypedLine>>, NoMemory>
+    ensures value { IfOk result (λ r. r ≡ fine (struct_verdict structs.now name.now ls.now)) }
+    ensures least { OnOk result (least.new ≡ kept least.old
+        (lines_faults structs.now no_fields ls.now
+        ++ at token (struct_verdict structs.now name.now ls.now))) }
+{
+    let typed = struct_lines(alloc, least, structs, ls)?;
+    Ok(judge_struct(least, token, structs, name, typed))
+}
+
+/// Declares a struct, typed or not, and gives its name back.
+fn declare_struct(
+    alloc: Global,
+    structs: &mut Structs,
+    name: &Text,
+    lines: &Option<Items<TypedLine>>,
+) -> Result<Text, NoMemory>
+    ensures name { IfOk result (λ r. r ≡ name.now) }
+    ensures structs { OnOk result (structs.new ≡ structs.old ++ record {
+      called = name.now;
+      members = option_map (struct_members structs.old) lines.now;
+    } ∷ []) }
+{
+    let called = name.copy(alloc)?;
+    let own = name.copy(alloc)?;
+    let members = members_if(alloc, structs, lines)?;
+    structs.push(alloc, called, members)?;
+    Ok(own)
+}
+
 /// A struct; it is declared behind it.
 fn structure(
     given: &Given<'_>,
@@ -125,14 +164,14 @@ fn structure(
     ensures sight { OnOk result (sight_in given.now c.new
         ≡ after_item (sight_in given.now c.old) (unit.structure token name.now ls.now)) }
 {
-    let alloc = given.alloc;
-    let called = name.copy(alloc)?;
-    let own = name.copy(alloc)?;
-    let typed = struct_lines(alloc, least, &c.structs, ls)?;
-    let typed = judge_struct(least, token, &c.structs, name, typed);
-    let members = members_if(alloc, &c.structs, &typed)?;
-    c.structs.push(alloc, called, members)?;
-    Ok(made_struct(token, own, typed))
+    let typed = typed_struct(given.alloc, &c.structs, least, token, name, ls)?;
+    match declare_struct(given.alloc, &mut c.structs, name, &typed) {
+        Ok(own) => Ok(made_struct(token, own, typed)),
+        Err(error) => {
+            drop(typed);
+            Err(error)
+        }
+    }
 }
 
 /// The fault of a constant's name, if it has one.
@@ -210,6 +249,51 @@ fn made_constant(token: u32, name: Identifier, typed: Option<(Ty, Const)>) -> Op
     }
 }
 
+/// The type and the value of a const line's name, if they are typed.
+fn typed_constant(
+    given: &Given<'_>,
+    c: &Sight,
+    least: &mut Option<Fault>,
+    token: u32,
+    ty: &TypeName,
+    name: &Identifier,
+    value: &Constant,
+) -> Result<Option<(Ty, Const)>, NoMemory>
+    ensures value { IfOk result (λ r. r ≡ fine
+        (constant_name_verdict (sight_in given.now c.now) ty.now name.now.name value.now)) }
+    ensures least { OnOk result (least.new ≡ kept least.old
+        ((at token (constant_line_verdict (sight_in given.now c.now).structs ty.now)
+        ++ constant_faults (sight_in given.now c.now) value.now) ++ at name.now.token
+        (constant_name_verdict (sight_in given.now c.now) ty.now name.now.name value.now))) }
+{
+    let ty = constant_line_type(least, token, &c.structs, ty);
+    let value = constant(given.alloc, given.table, c, least, value)?;
+    Ok(judge_constant(given.table, c, least, name, ty, value))
+}
+
+/// Declares a constant, typed or not, and gives its name back.
+fn declare_constant(
+    alloc: Global,
+    names: &mut Names,
+    name: &Identifier,
+    typed: &Option<(Ty, Const)>,
+) -> Result<Identifier, NoMemory>
+    ensures name { IfOk result (λ r. r ≡ name.now) }
+    ensures names { OnOk result (names.new ≡ names.old ++ record {
+      called = name.now.name;
+      means = option_map constant_meaning typed.now;
+    } ∷ []) }
+{
+    let called = name.name.copy(alloc)?;
+    let own = name.name.copy(alloc)?;
+    let means = constant_means(alloc, typed)?;
+    names.declare(alloc, called, means)?;
+    Ok(Identifier {
+        token: name.token,
+        name: own,
+    })
+}
+
 /// A const line; its name is in sight behind it.
 fn const_line(
     given: &Given<'_>,
@@ -229,19 +313,14 @@ fn const_line(
     ensures sight { OnOk result (sight_in given.now c.new ≡ after_item (sight_in given.now c.old)
         (unit.constant token ty.now name.now value.now)) }
 {
-    let alloc = given.alloc;
-    let called = name.name.copy(alloc)?;
-    let own = name.name.copy(alloc)?;
-    let ty = constant_line_type(least, token, &c.structs, ty);
-    let value = constant(alloc, given.table, c, least, value)?;
-    let typed = judge_constant(given.table, c, least, name, ty, value);
-    let means = constant_means(alloc, &typed)?;
-    c.names.declare(alloc, called, means)?;
-    let own = Identifier {
-        token: name.token,
-        name: own,
-    };
-    Ok(made_constant(token, own, typed))
+    let typed = typed_constant(given, c, least, token, ty, name, value)?;
+    match declare_constant(given.alloc, &mut c.names, name, &typed) {
+        Ok(own) => Ok(made_constant(token, own, typed)),
+        Err(error) => {
+            drop(typed);
+            Err(error)
+        }
+    }
 }
 
 fn made_global(token: u32, ty: Option<Ty>, names: Option<Items<TypedName>>) -> Option<TypedItem>

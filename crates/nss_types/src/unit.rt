@@ -7,7 +7,9 @@ ghost use Rattle.nss_typing.specs.Meaning.{TypesUnit};
 ghost use Rattle.nss_typing.specs.Nodes.{kept, two};
 ghost use Rattle.nss_typing.specs.Sight.{start};
 ghost use Rattle.nss_typing.specs.UnitReading.{typed_items, typed_unit};
-ghost use Rattle.nss_typing.specs.Verdicts.{heads, items_faults, items_fine, unit_of};
+ghost use Rattle.nss_typing.specs.Verdicts.{after_items, heads, items_faults, items_fine};
+ghost use Rattle.nss_typing.specs.Verdicts.{unit_of};
+ghost use Rattle.nss_scopes.specs.Views.{in_sight};
 ghost use Rattle.nss_types.specs.Answers.{IsFaultOf, IsKeptFault};
 
 use crate::entry::judge_entry;
@@ -19,6 +21,7 @@ use nss_typing::laws::verdicts_are_right;
 use nss_typing::{EntryPoint, Fault, Typed, TypedItem};
 use nwq_value::{Items, NoMemory, Table};
 use std::alloc::Global;
+use std::mem;
 
 /// Why a unit isn't typed.
 #[derive(Clone, Copy, Debug, PartialEq, Eq)]
@@ -28,35 +31,39 @@ pub enum TypeFault {
     NoMemory,
 }
 
-/// The declarations of a unit's functions. The walk over its items finds them, whatever it knows of
-/// them before.
+/// The declarations that are seen behind these items, whatever is known of them before. They are
+/// taken out of what is in sight.
+fn seen_behind(
+    alloc: Global,
+    table: &Table,
+    known: &Heads,
+    c: &mut Sight,
+    xs: &[Item],
+) -> Result<Heads, NoMemory>
+    ensures { IfOk result (λ h. h
+        ≡ (after_items (in_sight table.now c.old) (map plain_item xs.now)).seen) }
+{
+    let given = Given {
+        alloc,
+        table,
+        heads: known,
+    };
+    let mut ignored = None;
+    let typed = items(&given, c, &mut ignored, xs)?;
+    drop(typed);
+    Ok(mem::replace(&mut c.seen, Heads::new(alloc)))
+}
+
+/// The declarations of a unit's functions. The walk over its items finds them.
 fn declarations(alloc: Global, table: &Table, xs: &[Item]) -> Result<Heads, NoMemory>
     ensures { IfOk result (λ h. h ≡ heads table.now (map plain_item xs.now)) }
 {
     let none = Heads::new(alloc);
-    let given = Given {
-        alloc,
-        table,
-        heads: &none,
-    };
     let mut c = Sight::start(alloc);
-    let mut ignored = None;
-    match items(&given, &mut c, &mut ignored, xs) {
-        Ok(typed) => {
-            drop(typed);
-            Ok(seen(c))
-        }
-        Err(error) => {
-            drop(c);
-            Err(error)
-        }
-    }
-}
-
-fn seen(c: Sight) -> Heads
-    ensures { result ≡ c.seen }
-{
-    c.seen
+    let seen = seen_behind(alloc, table, &none, &mut c, xs);
+    drop(c);
+    drop(none);
+    seen
 }
 
 /// The typed items of a unit whose functions are declared so.
@@ -109,18 +116,34 @@ fn made(
     }
 }
 
-fn answer(alloc: Global, table: &Table, tree: &Tree) -> Result<Result<Typed, Fault>, NoMemory>
+/// The typed unit or its least fault, where its functions are declared so.
+fn answer_by(
+    alloc: Global,
+    table: &Table,
+    declared: &Heads,
+    tree: &Tree,
+) -> Result<Result<Typed, Fault>, NoMemory>
+    requires declared { declared.now ≡ heads table.now (map plain_item tree.now.items) }
     ensures typed { IfOk result (λ r. IfOk r
         (λ t. TypesUnit table.now (plain_tree tree.now) (typed_unit t))) }
     ensures fault { IfOk result (λ r. IfErr r (IsKeptFault table.now (plain_tree tree.now))) }
 {
     verdicts_are_right();
-    let xs = tree.items.as_slice();
-    let heads = declarations(alloc, table, xs)?;
     let mut least = None;
-    let items = typed_items_of(alloc, table, &heads, &mut least, xs)?;
-    let entry = judge_entry(&mut least, tree.count, &heads);
+    let items = typed_items_of(alloc, table, declared, &mut least, tree.items.as_slice())?;
+    let entry = judge_entry(&mut least, tree.count, declared);
     Ok(made(least, items, entry))
+}
+
+fn answer(alloc: Global, table: &Table, tree: &Tree) -> Result<Result<Typed, Fault>, NoMemory>
+    ensures typed { IfOk result (λ r. IfOk r
+        (λ t. TypesUnit table.now (plain_tree tree.now) (typed_unit t))) }
+    ensures fault { IfOk result (λ r. IfErr r (IsKeptFault table.now (plain_tree tree.now))) }
+{
+    let declared = declarations(alloc, table, tree.items.as_slice())?;
+    let answered = answer_by(alloc, table, &declared, tree);
+    drop(declared);
+    answered
 }
 
 /// The typed tree of a unit, which the rules give it, or its least fault. The tree is dropped.

@@ -1,8 +1,8 @@
-use Rattle.std.proofs.Common.{◌∙◌, ap, map}
+use Rattle.std.proofs.Common.{◌≡◌, map, subst}
+use Rattle.std.specs.Result.{IfOk}
 use Rattle.nss_tree.specs.Reading.{plain_item}
 use Rattle.nss_typing.specs.Verdicts.{after_items}
 use Rattle.nss_types.proofs.unit.declarations.Goals as goal
 
-pub returns-in-Ok : goal.returns-in-Ok
-returns-in-Ok c =
-    c.seen.ensures ∙ (ap (λ x. x.seen) c.in-Ok.ensures.sight ∙ ap (λ k. (after_items k (map plain_item c.args.xs.now)).seen) (c.start-c.ensures.start c.args.table.now))
+pub returns : goal.returns
+returns c = subst (λ k. IfOk c.seen_behind-seen.result (λ h. h ≡ (after_items k (map plain_item c.args.xs.now)).seen)) (c.start-c.ensures.start c.args.table.now) c.seen_behind-seen.ensures
