@@ -247,8 +247,13 @@ fn if_only(
         (tree.if_only token (plain_expr condition.now) (plain_stmt then.now))) }
 {
     let condition = expression(given, sight, least, false, condition)?;
-    let then = in_branch(given, sight, least, then);
-    judge_if(given.alloc, least, token, condition, then?)
+    match in_branch(given, sight, least, then) {
+        Ok(then) => judge_if(given.alloc, least, token, condition, then),
+        Err(error) => {
+            drop(condition);
+            Err(error)
+        }
+    }
 }
 
 /// An `if` with `else`.
@@ -276,12 +281,17 @@ fn if_else(
         (plain_stmt otherwise.now))) }
 {
     let condition = expression(given, sight, least, false, condition)?;
-    let then = in_branch(given, sight, least, then)?;
-    match in_branch(given, sight, least, otherwise) {
-        Ok(otherwise) => judge_if_else(given.alloc, least, token, condition, then, otherwise),
+    match in_branch(given, sight, least, then) {
+        Ok(then) => match in_branch(given, sight, least, otherwise) {
+            Ok(otherwise) => judge_if_else(given.alloc, least, token, condition, then, otherwise),
+            Err(error) => {
+                drop(condition);
+                drop(then);
+                Err(error)
+            }
+        },
         Err(error) => {
             drop(condition);
-            drop(then);
             Err(error)
         }
     }
@@ -308,8 +318,13 @@ fn while_loop(
         (tree.while_loop token (plain_expr condition.now) (plain_stmt body.now))) }
 {
     let condition = expression(given, sight, least, false, condition)?;
-    let body = in_loop(given, sight, least, body);
-    judge_while(given.alloc, least, token, condition, body?)
+    match in_loop(given, sight, least, body) {
+        Ok(body) => judge_while(given.alloc, least, token, condition, body),
+        Err(error) => {
+            drop(condition);
+            Err(error)
+        }
+    }
 }
 
 /// A `do`.
@@ -411,7 +426,13 @@ fn switch(
     let mark = sight.enter_switch(given.alloc);
     let body = statements(given, sight, least, body);
     sight.leave(mark);
-    Ok(judge_switch(least, token, crosses, value, body?))
+    match body {
+        Ok(body) => Ok(judge_switch(least, token, crosses, value, body)),
+        Err(error) => {
+            drop(value);
+            Err(error)
+        }
+    }
 }
 
 /// A `return`.
@@ -459,13 +480,24 @@ fn for_head(
         (option_map plain_expr step.now))) }
 {
     let start = value_there(given, sight, least, start)?;
-    let condition = value_there(given, sight, least, condition)?;
-    let step = value_there(given, sight, least, step)?;
-    Ok(ForHead {
-        start,
-        condition,
-        step,
-    })
+    match value_there(given, sight, least, condition) {
+        Ok(condition) => match value_there(given, sight, least, step) {
+            Ok(step) => Ok(ForHead {
+                start,
+                condition,
+                step,
+            }),
+            Err(error) => {
+                drop(start);
+                drop(condition);
+                Err(error)
+            }
+        },
+        Err(error) => {
+            drop(start);
+            Err(error)
+        }
+    }
 }
 
 fn declaration(

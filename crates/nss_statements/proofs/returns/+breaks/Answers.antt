@@ -1,9 +1,33 @@
 use Rattle.std.proofs.Common.{◌≡◌, ◌∙◌, true, false, ap, refl, arith, rules}
 use Rattle.nss_typing.specs.UnitReading.{typed_stmt}
-use Rattle.nss_tree.specs.Readings.{tree_do_loop, tree_for_loop, tree_if_else, tree_switch, tree_while_loop}
+use Rattle.nss_tree.specs.Readings.{tree_break_off, tree_case_label, tree_continue_on, tree_declaration, tree_default_label, tree_do_loop, tree_empty, tree_expression, tree_for_loop, tree_if_else, tree_return_from, tree_switch, tree_while_loop}
 use Rattle.nss_typing.specs.Returns.{has_break, have_break}
 use Rattle.nss_statements.proofs.ReturnLemmas.{any_end, any_here, any_next, or_else, or_then}
 use Rattle.nss_statements.proofs.returns.+breaks.Goals as goal
+
+pub has_break-returns-in-Break : goal.has_break-returns-in-Break
+has_break-returns-in-Break b c = rw (tree_break_off _ _ c.in-Break.is) refl
+
+pub has_break-returns-in-Empty : goal.has_break-returns-in-Empty
+has_break-returns-in-Empty b c = rw (tree_empty _ _ c.in-Empty.is) refl
+
+pub has_break-returns-in-Expression : goal.has_break-returns-in-Expression
+has_break-returns-in-Expression b c = rw (tree_expression _ _ _ c.in-Expression.is) refl
+
+pub has_break-returns-in-Continue : goal.has_break-returns-in-Continue
+has_break-returns-in-Continue b c = rw (tree_continue_on _ _ c.in-Continue.is) refl
+
+pub has_break-returns-in-Return : goal.has_break-returns-in-Return
+has_break-returns-in-Return b c = rw (tree_return_from _ _ _ c.in-Return.is) refl
+
+pub has_break-returns-in-Declaration : goal.has_break-returns-in-Declaration
+has_break-returns-in-Declaration b c = rw (tree_declaration _ _ _ _ c.in-Declaration.is) refl
+
+pub has_break-returns-in-Case : goal.has_break-returns-in-Case
+has_break-returns-in-Case b c = rw (tree_case_label _ _ _ c.in-Case.is) refl
+
+pub has_break-returns-in-Default : goal.has_break-returns-in-Default
+has_break-returns-in-Default b c = rw (tree_default_label _ _ c.in-Default.is) refl
 
 pub has_break-returns-in-While : goal.has_break-returns-in-While
 has_break-returns-in-While b c = rw (tree_while_loop _ _ _ _ c.in-While.is) refl

@@ -1,9 +1,33 @@
 use Rattle.std.proofs.Common.{◌≡◌, ◌∙◌, true, false, ap, refl, arith, rules, if◌then◌else◌}
 use Rattle.nss_typing.specs.UnitReading.{typed_stmt, typed_stmts}
-use Rattle.nss_tree.specs.Readings.{tree_for_loop, tree_if_else, tree_if_only, tree_while_loop}
+use Rattle.nss_tree.specs.Readings.{tree_break_off, tree_case_label, tree_continue_on, tree_declaration, tree_default_label, tree_empty, tree_expression, tree_for_loop, tree_if_else, tree_if_only, tree_return_from, tree_while_loop}
 use Rattle.nss_typing.specs.Returns.{is_statement, returns, some_returns}
 use Rattle.nss_statements.proofs.ReturnLemmas.{and_else, and_then, any_end, any_here, any_next, last_begin, last_end, last_next}
 use Rattle.nss_statements.proofs.returns.+returns.Goals as goal
+
+pub returns-returns-in-Return : goal.returns-returns-in-Return
+returns-returns-in-Return b c = rw (tree_return_from _ _ _ c.in-Return.is) refl
+
+pub returns-returns-in-Empty : goal.returns-returns-in-Empty
+returns-returns-in-Empty b c = rw (tree_empty _ _ c.in-Empty.is) refl
+
+pub returns-returns-in-Expression : goal.returns-returns-in-Expression
+returns-returns-in-Expression b c = rw (tree_expression _ _ _ c.in-Expression.is) refl
+
+pub returns-returns-in-Break : goal.returns-returns-in-Break
+returns-returns-in-Break b c = rw (tree_break_off _ _ c.in-Break.is) refl
+
+pub returns-returns-in-Continue : goal.returns-returns-in-Continue
+returns-returns-in-Continue b c = rw (tree_continue_on _ _ c.in-Continue.is) refl
+
+pub returns-returns-in-Declaration : goal.returns-returns-in-Declaration
+returns-returns-in-Declaration b c = rw (tree_declaration _ _ _ _ c.in-Declaration.is) refl
+
+pub returns-returns-in-Case : goal.returns-returns-in-Case
+returns-returns-in-Case b c = rw (tree_case_label _ _ _ c.in-Case.is) refl
+
+pub returns-returns-in-Default : goal.returns-returns-in-Default
+returns-returns-in-Default b c = rw (tree_default_label _ _ c.in-Default.is) refl
 
 pub returns-returns-in-If : goal.returns-returns-in-If
 returns-returns-in-If b c = rw (tree_if_only _ _ _ _ c.in-If.is) refl

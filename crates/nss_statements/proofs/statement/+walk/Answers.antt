@@ -258,56 +258,56 @@ block-returns t c =
           refl refl refl refl (c.scopes_only_add.ensures.statements (entered s) xs) c.leave.ensures.left c.enter-mark.ensures.mark (c.in_ok-typed.ensures.sight ∙ ap (λ k. afters k xs) is);
     }
 
-pub if_only-returns : goal.if_only-returns
-if_only-returns t c =
+pub if_only-returns-in-Ok : goal.if_only-returns-in-Ok
+if_only-returns-in-Ok t c =
     let hs = heads_in c.args.given.now in
     let s = sight_in c.args.given.now c.args.sight.now in
     let e = plain_expr c.args.condition.now in
     let a = plain_stmt c.args.then.now in
     let d = tree.if_only c.args.token e a in
     record {
-      value = two_value typed_stmt (stmt_verdict hs s) (stmt_faults hs s) c.args.token c.judge_if.result d d refl (λ x y. asked if_rows (if_rule c.args.token) (two x y)) (option_map plain c.in_ok-condition.condition) (value hs s e) (option_map typed_stmt c.in_ok-then.field-0) (fine (stmt_verdict hs (inside s) a)) c.in_ok-condition.ensures.value c.in_ok-then.ensures.value refl c.judge_if.ensures.value;
+      value = two_value typed_stmt (stmt_verdict hs s) (stmt_faults hs s) c.args.token c.judge_if.result d d refl (λ x y. asked if_rows (if_rule c.args.token) (two x y)) (option_map plain c.in_ok-condition.condition) (value hs s e) (option_map typed_stmt c.in-Ok.then) (fine (stmt_verdict hs (inside s) a)) c.in_ok-condition.ensures.value c.in-Ok.ensures.value refl c.judge_if.ensures.value;
       least =
-          two_least typed_stmt (stmt_verdict hs s) (stmt_faults hs s) c.args.token c.judge_if.result d d refl (λ x y. asked if_rows (if_rule c.args.token) (two x y)) (option_map plain c.in_ok-condition.condition) (value hs s e) (option_map typed_stmt c.in_ok-then.field-0) (fine (stmt_verdict hs (inside s) a)) c.args.least.now c.expression.new.least c.in_branch-then.new.least c.judge_if.new.least (value_faults hs s e) (stmt_faults hs (inside s) a)
-          c.in_ok-condition.ensures.value c.in_ok-then.ensures.value refl c.in_ok-condition.ensures.least c.in_ok-then.ensures.least c.judge_if.ensures.least;
-      sight = always c.judge_if.result c.in_ok-then.ensures.sight;
+          two_least typed_stmt (stmt_verdict hs s) (stmt_faults hs s) c.args.token c.judge_if.result d d refl (λ x y. asked if_rows (if_rule c.args.token) (two x y)) (option_map plain c.in_ok-condition.condition) (value hs s e) (option_map typed_stmt c.in-Ok.then) (fine (stmt_verdict hs (inside s) a)) c.args.least.now c.expression.new.least c.in_branch.new.least c.judge_if.new.least (value_faults hs s e) (stmt_faults hs (inside s) a)
+          c.in_ok-condition.ensures.value c.in-Ok.ensures.value refl c.in_ok-condition.ensures.least c.in-Ok.ensures.least c.judge_if.ensures.least;
+      sight = always c.judge_if.result c.in-Ok.ensures.sight;
     }
 
-pub while_loop-returns : goal.while_loop-returns
-while_loop-returns t c =
+pub while_loop-returns-in-Ok : goal.while_loop-returns-in-Ok
+while_loop-returns-in-Ok t c =
     let hs = heads_in c.args.given.now in
     let s = sight_in c.args.given.now c.args.sight.now in
     let e = plain_expr c.args.condition.now in
     let a = plain_stmt c.args.body.now in
     let d = tree.while_loop c.args.token e a in
     record {
-      value = two_value typed_stmt (stmt_verdict hs s) (stmt_faults hs s) c.args.token c.judge_while.result d d refl (λ x y. asked if_rows (while_rule c.args.token) (two x y)) (option_map plain c.in_ok-condition.condition) (value hs s e) (option_map typed_stmt c.in_ok-body.field-0) (fine (stmt_verdict hs (looped s) a)) c.in_ok-condition.ensures.value c.in_ok-body.ensures.value refl c.judge_while.ensures.value;
+      value = two_value typed_stmt (stmt_verdict hs s) (stmt_faults hs s) c.args.token c.judge_while.result d d refl (λ x y. asked if_rows (while_rule c.args.token) (two x y)) (option_map plain c.in_ok-condition.condition) (value hs s e) (option_map typed_stmt c.in-Ok.body) (fine (stmt_verdict hs (looped s) a)) c.in_ok-condition.ensures.value c.in-Ok.ensures.value refl c.judge_while.ensures.value;
       least =
-          two_least typed_stmt (stmt_verdict hs s) (stmt_faults hs s) c.args.token c.judge_while.result d d refl (λ x y. asked if_rows (while_rule c.args.token) (two x y)) (option_map plain c.in_ok-condition.condition) (value hs s e) (option_map typed_stmt c.in_ok-body.field-0) (fine (stmt_verdict hs (looped s) a)) c.args.least.now c.expression.new.least c.in_loop-body.new.least c.judge_while.new.least (value_faults hs s e) (stmt_faults hs (looped s) a)
-          c.in_ok-condition.ensures.value c.in_ok-body.ensures.value refl c.in_ok-condition.ensures.least c.in_ok-body.ensures.least c.judge_while.ensures.least;
-      sight = always c.judge_while.result c.in_ok-body.ensures.sight;
+          two_least typed_stmt (stmt_verdict hs s) (stmt_faults hs s) c.args.token c.judge_while.result d d refl (λ x y. asked if_rows (while_rule c.args.token) (two x y)) (option_map plain c.in_ok-condition.condition) (value hs s e) (option_map typed_stmt c.in-Ok.body) (fine (stmt_verdict hs (looped s) a)) c.args.least.now c.expression.new.least c.in_loop.new.least c.judge_while.new.least (value_faults hs s e) (stmt_faults hs (looped s) a)
+          c.in_ok-condition.ensures.value c.in-Ok.ensures.value refl c.in_ok-condition.ensures.least c.in-Ok.ensures.least c.judge_while.ensures.least;
+      sight = always c.judge_while.result c.in-Ok.ensures.sight;
     }
 
-pub if_else-returns-in-Ok : goal.if_else-returns-in-Ok
-if_else-returns-in-Ok t c =
+pub if_else-returns-in-Ok-in_branch : goal.if_else-returns-in-Ok-in_branch
+if_else-returns-in-Ok-in_branch t c =
     let hs = heads_in c.args.given.now in
     let s = sight_in c.args.given.now c.args.sight.now in
     let e = plain_expr c.args.condition.now in
     let a = plain_stmt c.args.then.now in
     let b = plain_stmt c.args.otherwise.now in
     let between = left s (after (inside s) a) in
-    let is = c.in_ok-then.ensures.sight in
+    let is = c.in-Ok.ensures.sight in
     let d = tree.if_else c.args.token e a b in
     record {
       value =
-          three_value typed_stmt (stmt_verdict hs s) (stmt_faults hs s) c.args.token c.judge_if_else.result d d refl (λ x y z. asked if_else_rows (if_else_rule c.args.token) (three x y z)) (option_map plain c.in_ok-condition.condition) (value hs s e) (option_map typed_stmt c.in_ok-then.then) (fine (stmt_verdict hs (inside s) a)) (option_map typed_stmt c.in-Ok.otherwise) (fine (stmt_verdict hs (inside between) b))
-          c.in_ok-condition.ensures.value c.in_ok-then.ensures.value (c.in-Ok.ensures.value ∙ ap (λ k. fine (stmt_verdict hs (inside k) b)) is) refl c.judge_if_else.ensures.value;
+          three_value typed_stmt (stmt_verdict hs s) (stmt_faults hs s) c.args.token c.judge_if_else.result d d refl (λ x y z. asked if_else_rows (if_else_rule c.args.token) (three x y z)) (option_map plain c.in_ok-condition.condition) (value hs s e) (option_map typed_stmt c.in-Ok.then) (fine (stmt_verdict hs (inside s) a)) (option_map typed_stmt c.in-Ok-in_branch.otherwise) (fine (stmt_verdict hs (inside between) b))
+          c.in_ok-condition.ensures.value c.in-Ok.ensures.value (c.in-Ok-in_branch.ensures.value ∙ ap (λ k. fine (stmt_verdict hs (inside k) b)) is) refl c.judge_if_else.ensures.value;
       least =
-          three_least typed_stmt (stmt_verdict hs s) (stmt_faults hs s) c.args.token c.judge_if_else.result d d refl (λ x y z. asked if_else_rows (if_else_rule c.args.token) (three x y z)) (option_map plain c.in_ok-condition.condition) (value hs s e) (option_map typed_stmt c.in_ok-then.then) (fine (stmt_verdict hs (inside s) a)) (option_map typed_stmt c.in-Ok.otherwise) (fine (stmt_verdict hs (inside between) b))
-          c.args.least.now c.expression.new.least c.in_branch.new.least c.in_branch-2.new.least c.judge_if_else.new.least (value_faults hs s e) (stmt_faults hs (inside s) a) (stmt_faults hs (inside between) b)
-          c.in_ok-condition.ensures.value c.in_ok-then.ensures.value (c.in-Ok.ensures.value ∙ ap (λ k. fine (stmt_verdict hs (inside k) b)) is) refl c.in_ok-condition.ensures.least c.in_ok-then.ensures.least
-          (c.in-Ok.ensures.least ∙ ap (λ k. kept c.in_branch.new.least (stmt_faults hs (inside k) b)) is) c.judge_if_else.ensures.least;
-      sight = always c.judge_if_else.result (c.in-Ok.ensures.sight ∙ ap (λ k. left k (after (inside k) b)) is);
+          three_least typed_stmt (stmt_verdict hs s) (stmt_faults hs s) c.args.token c.judge_if_else.result d d refl (λ x y z. asked if_else_rows (if_else_rule c.args.token) (three x y z)) (option_map plain c.in_ok-condition.condition) (value hs s e) (option_map typed_stmt c.in-Ok.then) (fine (stmt_verdict hs (inside s) a)) (option_map typed_stmt c.in-Ok-in_branch.otherwise) (fine (stmt_verdict hs (inside between) b))
+          c.args.least.now c.expression.new.least c.in_branch.new.least c.in_branch-in-Ok.new.least c.judge_if_else.new.least (value_faults hs s e) (stmt_faults hs (inside s) a) (stmt_faults hs (inside between) b)
+          c.in_ok-condition.ensures.value c.in-Ok.ensures.value (c.in-Ok-in_branch.ensures.value ∙ ap (λ k. fine (stmt_verdict hs (inside k) b)) is) refl c.in_ok-condition.ensures.least c.in-Ok.ensures.least
+          (c.in-Ok-in_branch.ensures.least ∙ ap (λ k. kept c.in_branch.new.least (stmt_faults hs (inside k) b)) is) c.judge_if_else.ensures.least;
+      sight = always c.judge_if_else.result (c.in-Ok-in_branch.ensures.sight ∙ ap (λ k. left k (after (inside k) b)) is);
     }
 
 pub do_loop-returns-in-Ok : goal.do_loop-returns-in-Ok
@@ -348,8 +348,8 @@ for_loop-returns-in-Ok t c =
       sight = always c.judge_for.result c.in-Ok.ensures.sight;
     }
 
-pub switch-returns : goal.switch-returns
-switch-returns t c =
+pub switch-returns-in-Ok : goal.switch-returns-in-Ok
+switch-returns-in-Ok t c =
     let hs = heads_in c.args.given.now in
     let s = sight_in c.args.given.now c.args.sight.now in
     let e = plain_expr c.args.value.now in
@@ -360,18 +360,18 @@ switch-returns t c =
     let d = tree.switch c.args.token e xs in
     record {
       value =
-          two_value typed_stmt (stmt_verdict hs s) (stmt_faults hs s) c.args.token (answered c.judge_switch.result) d d refl (λ x y. asked (switch_rows_by known) (switch_rule_by known c.args.token) (two x y)) (option_map plain c.in_ok-value.value) (value hs s e) (option_map typed_stmts c.in_ok-body.field-0) (stmts_fine hs (switched s) xs)
-          c.in_ok-value.ensures.value (c.in_ok-body.ensures.value ∙ ap (λ k. stmts_fine hs k xs) is)
+          two_value typed_stmt (stmt_verdict hs s) (stmt_faults hs s) c.args.token (answered c.judge_switch.result) d d refl (λ x y. asked (switch_rows_by known) (switch_rule_by known c.args.token) (two x y)) (option_map plain c.in_ok-value.value) (value hs s e) (option_map typed_stmts c.in-Ok.body) (stmts_fine hs (switched s) xs)
+          c.in_ok-value.ensures.value (c.in-Ok.ensures.value ∙ ap (λ k. stmts_fine hs k xs) is)
           (sym (ap (λ b. asked (switch_rows_by b) (switch_rule_by b c.args.token) (two (value hs s e) (stmts_fine hs (switched s) xs))) crosses)) c.judge_switch.ensures.value;
       least =
-          two_least typed_stmt (stmt_verdict hs s) (stmt_faults hs s) c.args.token (answered c.judge_switch.result) d d refl (λ x y. asked (switch_rows_by known) (switch_rule_by known c.args.token) (two x y)) (option_map plain c.in_ok-value.value) (value hs s e) (option_map typed_stmts c.in_ok-body.field-0) (stmts_fine hs (switched s) xs)
+          two_least typed_stmt (stmt_verdict hs s) (stmt_faults hs s) c.args.token (answered c.judge_switch.result) d d refl (λ x y. asked (switch_rows_by known) (switch_rule_by known c.args.token) (two x y)) (option_map plain c.in_ok-value.value) (value hs s e) (option_map typed_stmts c.in-Ok.body) (stmts_fine hs (switched s) xs)
           c.args.least.now c.expression.new.least c.statements-body.new.least c.judge_switch.new.least (value_faults hs s e) (stmts_faults hs (switched s) xs)
-          c.in_ok-value.ensures.value (c.in_ok-body.ensures.value ∙ ap (λ k. stmts_fine hs k xs) is)
+          c.in_ok-value.ensures.value (c.in-Ok.ensures.value ∙ ap (λ k. stmts_fine hs k xs) is)
           (sym (ap (λ b. (value_faults hs s e ++ stmts_faults hs (switched s) xs) ++ at c.args.token (asked (switch_rows_by b) (switch_rule_by b c.args.token) (two (value hs s e) (stmts_fine hs (switched s) xs)))) crosses))
-          c.in_ok-value.ensures.least (c.in_ok-body.ensures.least ∙ ap (λ k. kept c.expression.new.least (stmts_faults hs k xs)) is) c.judge_switch.ensures.least;
+          c.in_ok-value.ensures.least (c.in-Ok.ensures.least ∙ ap (λ k. kept c.expression.new.least (stmts_faults hs k xs)) is) c.judge_switch.ensures.least;
       sight =
           c.scopes_are_left.ensures.left c.args.given.now.table.now c.args.sight.now c.statements-body.new.sight c.leave.new.self c.enter_switch-mark.result (switched s) (afters (switched s) xs)
-          refl refl refl refl (c.scopes_only_add.ensures.statements (switched s) xs) c.leave.ensures.left c.enter_switch-mark.ensures.mark (c.in_ok-body.ensures.sight ∙ ap (λ k. afters k xs) is);
+          refl refl refl refl (c.scopes_only_add.ensures.statements (switched s) xs) c.leave.ensures.left c.enter_switch-mark.ensures.mark (c.in-Ok.ensures.sight ∙ ap (λ k. afters k xs) is);
     }
 
 -- ---- statements in a row
