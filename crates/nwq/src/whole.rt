@@ -1,4 +1,4 @@
-ghost use Rattle.std.specs.Prelude.{◌≡◌, ◌≤◌, [], map, IsTrue, IfOk};
+ghost use Rattle.std.specs.Prelude.{◌≡◌, ◌≤◌, [], map, IsTrue, IfOk, OnErr};
 ghost use Rattle.hook_table.specs.Standard.{function_numbered, IsAnswer};
 ghost use Rattle.nwq_work.specs.Work.{IsCut, Does, ending};
 ghost use Rattle.nwq_work.specs.Counts.{Counted, Tallies, KeepsBut};
@@ -8,7 +8,6 @@ ghost use Rattle.nwq_top.specs.Command.{work_with, whole_work, MayWrite};
 ghost use Rattle.nwq_top.specs.Endings.{ComesOf};
 ghost use Rattle.nwq_top.specs.Meaning.{MeansWhole};
 ghost use Rattle.nwq_top.specs.Program.{status_number, status_numbered, words_of, TellsUsage};
-ghost use Rattle.nwq.specs.Ending.{end_number};
 
 use hook_table::{Call, Hooks, cell_call};
 use nwq_hooks::{all_are_put, call_function, put_cell_hook, put_hook};
@@ -23,9 +22,10 @@ use table_2da::Tables;
 pub(crate) const WANT_OF_MEMORY: u8 = 8;
 
 /// Makes the hooks, of which the tenth looks cells up in these tables, and does what the words say
-/// with them. Where there is no memory for the hooks, nothing is done.
-#[tactic(auto, using(nwq_work::specs::Parts::cut_here, crate::proofs::EndLemmas::memory_comes, crate::proofs::EndLemmas::same_cells))]
-fn run_with<F: Files, S: Sink, E: Sink>(
+/// with them: the number with which the program ends. Where there is no memory for the hooks,
+/// nothing is done.
+#[tactic(auto, using(crate::proofs::EndLemmas::same_cells))]
+fn run_hooked<F: Files, S: Sink, E: Sink>(
     alloc: Global,
     all: &[String],
     tables: Tables,
@@ -33,21 +33,24 @@ fn run_with<F: Files, S: Sink, E: Sink>(
     out: &mut S,
     err: &mut E,
 ) -> Result<u8, NoMemory>
-    ensures number { status_number (status_numbered (end_number result)) ≡ end_number result }
-    ensures does { IsTrue F.tells → IsTrue S.tells →
+    ensures number { IfOk result (λ number. status_number (status_numbered number) ≡ number) }
+    ensures does { IfOk result (λ number. IsTrue F.tells → IsTrue S.tells →
         Does (work_with (form_of (words_of all.now)) tables)
-        (F.contents files.old) (S.taken out.old)
-        (ending (status_numbered (end_number result)))
-        (F.contents files.new) (S.taken out.new) }
-    ensures counts { Tallies (ending (status_numbered (end_number result)))
+        (F.contents files.old) (S.taken out.old) (ending (status_numbered number))
+        (F.contents files.new) (S.taken out.new)) }
+    ensures counts { IfOk result (λ number. Tallies (ending (status_numbered number))
         (Counted (F.faults files.old) (F.absences files.old) (F.longs files.old) (S.faults out.old))
         (Counted (F.faults files.new) (F.absences files.new)
-        (F.longs files.new) (S.faults out.new)) }
-    ensures names { KeepsBut (MayWrite (form_of (words_of all.now)))
-        (F.contents files.old) (F.contents files.new) }
-    ensures only { ComesOf (form_of (words_of all.now)) (status_numbered (end_number result)) }
-    ensures usage { IsTrue E.tells →
-        TellsUsage (status_numbered (end_number result)) (E.taken err.old) (E.taken err.new) }
+        (F.longs files.new) (S.faults out.new))) }
+    ensures names { IfOk result (λ _. KeepsBut (MayWrite (form_of (words_of all.now)))
+        (F.contents files.old) (F.contents files.new)) }
+    ensures only { IfOk result (λ number.
+        ComesOf (form_of (words_of all.now)) (status_numbered number)) }
+    ensures usage { IfOk result (λ number. IsTrue E.tells →
+        TellsUsage (status_numbered number) (E.taken err.old) (E.taken err.new)) }
+    ensures files { OnErr result (files.new ≡ files.old) }
+    ensures out { OnErr result (out.new ≡ out.old) }
+    ensures err { OnErr result (err.new ≡ err.old) }
 {
     let own = tables.copy(alloc)?;
     let mut hooks = Hooks::new(alloc);
@@ -72,6 +75,38 @@ fn run_with<F: Files, S: Sink, E: Sink>(
     put_cell_hook(alloc, &mut hooks, cells, tables)?;
     all_are_put(&hooks);
     Ok(nwq_program(alloc, all, files, out, err, &hooks))
+}
+
+/// Does what the words say with hooks that look cells up in these tables: the number with which the
+/// program ends.
+#[tactic(auto, using(nwq_work::specs::Parts::cut_here, crate::proofs::EndLemmas::memory_comes))]
+fn run_with<F: Files, S: Sink, E: Sink>(
+    alloc: Global,
+    all: &[String],
+    tables: Tables,
+    files: &mut F,
+    out: &mut S,
+    err: &mut E,
+) -> u8
+    ensures number { status_number (status_numbered result) ≡ result }
+    ensures does { IsTrue F.tells → IsTrue S.tells →
+        Does (work_with (form_of (words_of all.now)) tables)
+        (F.contents files.old) (S.taken out.old) (ending (status_numbered result))
+        (F.contents files.new) (S.taken out.new) }
+    ensures counts { Tallies (ending (status_numbered result))
+        (Counted (F.faults files.old) (F.absences files.old) (F.longs files.old) (S.faults out.old))
+        (Counted (F.faults files.new) (F.absences files.new)
+        (F.longs files.new) (S.faults out.new)) }
+    ensures names { KeepsBut (MayWrite (form_of (words_of all.now)))
+        (F.contents files.old) (F.contents files.new) }
+    ensures only { ComesOf (form_of (words_of all.now)) (status_numbered result) }
+    ensures usage { IsTrue E.tells →
+        TellsUsage (status_numbered result) (E.taken err.old) (E.taken err.new) }
+{
+    match run_hooked(alloc, all, tables, files, out, err) {
+        Err(NoMemory) => WANT_OF_MEMORY,
+        Ok(number) => number,
+    }
 }
 
 /// Reads the tables that the words give, and does what the words say with hooks that look cells up
@@ -100,10 +135,7 @@ fn run_in_order<F: Files, S: Sink, E: Sink>(
 {
     match program_tables(alloc, all, files, out) {
         Err(number) => number,
-        Ok(tables) => match run_with(alloc, all, tables, files, out, err) {
-            Err(NoMemory) => WANT_OF_MEMORY,
-            Ok(number) => number,
-        },
+        Ok(tables) => run_with(alloc, all, tables, files, out, err),
     }
 }
 

@@ -11,7 +11,7 @@ returns-in-Err-clause-only g c =
     refusal_comes (form_of (words_of c.args.all.now)) (status_numbered c.in-Err.number) (λ list. none_refused c.in-Err.number [] (c.in-Err.ensures.none list))
     c.in-Err.ensures.only
 
-pub returns-in-Err-run_with-clause-names : goal.returns-in-Err-run_with-clause-names
-returns-in-Err-run_with-clause-names g c =
+pub returns-in-Ok-clause-names : goal.returns-in-Ok-clause-names
+returns-in-Ok-clause-names g c =
     subst (λ contents. KeepsBut (MayWrite (form_of (words_of c.args.all.now))) contents (g.F.Files.contents c.run_with.new.files)) c.program_tables.ensures.same
     c.run_with.ensures.names
