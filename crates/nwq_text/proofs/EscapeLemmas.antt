@@ -1,5 +1,5 @@
-use Rattle.std.proofs.Common.{◌≡◌, ℕ, ◌+◌, ◌*◌, ◌/◌, ◌%◌, ◌<◌, ◌≤◌, Bool, true, false, List, [], ◌∷◌, ◌++◌, length, get_or, take, Option, Some, None, refl, sym, ap, ◌∙◌, arith, ◌≢◌, length-append, append_assoc, append-nil}
-use Rattle.std.proofs.lemmas.List.{take_more, flat_map_more, take_all, append_cancel_left, append_cancel_right}
+use Rattle.std.proofs.Common.{◌≡◌, ℕ, ◌+◌, ◌*◌, ◌/◌, ◌%◌, ◌<◌, ◌≤◌, Bool, true, false, List, [], ◌∷◌, ◌++◌, length, take, Option, Some, None, refl, sym, ap, ◌∙◌, arith, ◌≢◌, length-append, append_assoc, append-nil}
+use Rattle.std.proofs.lemmas.List.{flat_map_more, take_all, append_cancel_left, append_cancel_right}
 use Rattle.std.proofs.lemmas.Bool.Decides.{nat_tests}
 use Rattle.std.proofs.lemmas.Option.{cond_some, some_pair_parts, none-some}
 use Rattle.std.specs.List.{flat_map}
@@ -12,12 +12,6 @@ pub between : (before spelled first second third : List ℕ) → first ≡ befor
     → third ≡ before ++ (34 ∷ spelled ++ 34 ∷ [])
 between before spelled first second third a b c =
     rw (c, b, a, append_assoc before (34 ∷ []) spelled, append_assoc before (34 ∷ spelled) (34 ∷ [])) refl
-
--- one more byte was appended in its spelling
-pub one_more : (spell : ℕ → List ℕ) (before bytes now : List ℕ) (i b : ℕ) → i < length bytes → b ≡ get_or bytes i 0
-    → now ≡ (before ++ flat_map spell (take i bytes)) ++ spell b → now ≡ before ++ flat_map spell (take (i + 1) bytes)
-one_more spell before bytes now i b h is e =
-    e ∙ flat_map_more spell before (take i bytes) b ∙ ap (λ x. before ++ flat_map spell (take i bytes ++ x ∷ [])) is ∙ ap (λ xs. before ++ flat_map spell xs) (sym (take_more bytes i 0 h))
 
 digit_read : (d : ℕ) → d < 16 → hex_value (hex_digit d) ≡ Some d
 digit_read d h = grind (arith, nat_tests)

@@ -1,4 +1,4 @@
+mod Appended
 mod EscapeLemmas
 mod NumberLemmas
 mod TakenBack
-mod ValueLemmas

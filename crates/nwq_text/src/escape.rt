@@ -97,7 +97,6 @@ fn unescaped(alloc: Global, in_quotes: bool, text: &[u8]) -> Result<Option<Vec<u
     Ok(Some(bytes))
 }
 
-#[tactic(auto, using(crate::proofs::EscapeLemmas::one_more, crate::proofs::TakenBack::taken_back))]
 /// Appends the spellings of these bytes. A prefix of them may stand there after `NoMemory`.
 fn put_spellings(out: &mut Vec<u8>, in_quotes: bool, text: &[u8]) -> Result<(), NoMemory>
     ensures ok { OnOk result (out.new.items ≡ out.old.items
@@ -171,12 +170,9 @@ fn between_quotes(text: &[u8]) -> Option<&[u8]>
     ensures { MatchOption result ((inner : List ℕ) → text.now ≢ 34 ∷ inner ++ 34 ∷ [])
         (λ inner. text.now ≡ 34 ∷ inner.now ++ 34 ∷ []) }
 {
-    let (first, rest) = text.split_first()?;
-    let (last, inner) = rest.split_last()?;
-    if *first == b'"' && *last == b'"' {
-        Some(inner)
-    } else {
-        None
+    match text {
+        [b'"', inner @ .., b'"'] => Some(inner),
+        _ => None,
     }
 }
 
@@ -210,8 +206,9 @@ fn behind_backslash(in_quotes: bool, text: &[u8]) -> Option<(u8, &[u8])>
 fn behind_x(in_quotes: bool, text: &[u8]) -> Option<(u8, &[u8])>
     ensures { option_map (λ front. (front.0, front.1.now)) result ≡ after_x in_quotes text.now }
 {
-    let (high, rest) = text.split_first()?;
-    let (low, rest) = rest.split_first()?;
+    let [high, low, rest @ ..] = text else {
+        return None;
+    };
     let byte = 16 * hex_value_of(*high)? + hex_value_of(*low)?;
     match byte {
         b'"' if in_quotes => Some((byte, rest)),

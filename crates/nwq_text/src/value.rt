@@ -122,16 +122,24 @@ fn put_ints(out: &mut Vec<u8>, ints: &[i32]) -> Result<(), NoMemory>
     put_further_ints(out, rest)
 }
 
-#[tactic(auto, using(crate::proofs::ValueLemmas::one_more_parted, crate::proofs::TakenBack::taken_back, crate::proofs::TakenBack::taken_back_after))]
 fn put_further_ints(out: &mut Vec<u8>, ints: &[i32]) -> Result<(), NoMemory>
     ensures ok { OnOk result (out.new.items ≡ out.old.items
         ++ flat_map (λ n. 44 ∷ signed_decimal n) ints.now) }
     ensures err { OnErr result (take (length out.old.items) out.new.items ≡ out.old.items) }
 {
     for n in ints {
-        out.push(b',')?;
-        put_number(out, i64::from(*n))?;
+        put_further_int(out, *n)?;
     }
+    Ok(())
+}
+
+#[tactic(auto, using(crate::proofs::TakenBack::taken_back))]
+fn put_further_int(out: &mut Vec<u8>, n: i32) -> Result<(), NoMemory>
+    ensures ok { OnOk result (out.new.items ≡ out.old.items ++ 44 ∷ signed_decimal n) }
+    ensures err { OnErr result (take (length out.old.items) out.new.items ≡ out.old.items) }
+{
+    out.push(b',')?;
+    put_number(out, i64::from(n))?;
     Ok(())
 }
 
@@ -147,15 +155,23 @@ fn put_values(out: &mut Vec<u8>, values: &[Value]) -> Result<(), NoMemory>
     put_further_values(out, rest)
 }
 
-#[tactic(auto, using(crate::proofs::ValueLemmas::one_more_parted, crate::proofs::TakenBack::taken_back, crate::proofs::TakenBack::taken_back_after))]
 fn put_further_values(out: &mut Vec<u8>, values: &[Value]) -> Result<(), NoMemory>
     ensures ok { OnOk result (out.new.items ≡ out.old.items
         ++ flat_map (λ value. 44 ∷ value_text value) values.now) }
     ensures err { OnErr result (take (length out.old.items) out.new.items ≡ out.old.items) }
 {
     for value in values {
-        out.push(b',')?;
-        put_value(out, value)?;
+        put_further_value(out, value)?;
     }
+    Ok(())
+}
+
+#[tactic(auto, using(crate::proofs::TakenBack::taken_back))]
+fn put_further_value(out: &mut Vec<u8>, value: &Value) -> Result<(), NoMemory>
+    ensures ok { OnOk result (out.new.items ≡ out.old.items ++ 44 ∷ value_text value.now) }
+    ensures err { OnErr result (take (length out.old.items) out.new.items ≡ out.old.items) }
+{
+    out.push(b',')?;
+    put_value(out, value)?;
     Ok(())
 }
