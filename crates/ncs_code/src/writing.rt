@@ -178,55 +178,33 @@ impl Op<'_> {
         // What is known of every instruction: its fields fit their bytes.
         ensures fits { Fits (plain self.now) }
     {
+        let (code, kind) = (self.opcode(), self.kind());
         match *self {
-            Op::CpDownSp { offset, size } => put_copy(out, CPDOWNSP, offset, size),
-            Op::RsAdd { kind } => put_bare(out, RSADD, kind),
-            Op::CpTopSp { offset, size } => put_copy(out, CPTOPSP, offset, size),
+            Op::CpDownSp { offset, size }
+            | Op::CpTopSp { offset, size }
+            | Op::CpDownBp { offset, size }
+            | Op::CpTopBp { offset, size } => put_copy(out, code, offset, size),
             Op::Const(lit) => put_lit(out, lit),
             Op::Action { routine, count } => put_call(out, routine, count),
-            Op::LogAnd => put_bare(out, LOGAND, 0x20),
-            Op::LogOr => put_bare(out, LOGOR, 0x20),
-            Op::IncOr => put_bare(out, INCOR, 0x20),
-            Op::ExcOr => put_bare(out, EXCOR, 0x20),
-            Op::BoolAnd => put_bare(out, BOOLAND, 0x20),
-            Op::Equal { kind, size } => put_comparison(out, EQUAL, kind, size),
-            Op::Nequal { kind, size } => put_comparison(out, NEQUAL, kind, size),
-            Op::Geq { kind } => put_bare(out, GEQ, kind),
-            Op::Gt { kind } => put_bare(out, GT, kind),
-            Op::Lt { kind } => put_bare(out, LT, kind),
-            Op::Leq { kind } => put_bare(out, LEQ, kind),
-            Op::ShLeft => put_bare(out, SHLEFT, 0x20),
-            Op::ShRight => put_bare(out, SHRIGHT, 0x20),
-            Op::UshRight => put_bare(out, USHRIGHT, 0x20),
-            Op::Add { kind } => put_bare(out, ADD, kind),
-            Op::Sub { kind } => put_bare(out, SUB, kind),
-            Op::Mul { kind } => put_bare(out, MUL, kind),
-            Op::Div { kind } => put_bare(out, DIV, kind),
-            Op::Mod => put_bare(out, MOD, 0x20),
-            Op::Neg { kind } => put_bare(out, NEG, kind),
-            Op::Comp => put_bare(out, COMP, 0x03),
-            Op::MovSp { offset } => put_offset(out, MOVSP, 0x00, offset),
-            Op::Jmp { offset } => put_offset(out, JMP, 0x00, offset),
-            Op::Jsr { offset } => put_offset(out, JSR, 0x00, offset),
-            Op::Jz { offset } => put_offset(out, JZ, 0x00, offset),
-            Op::Retn => put_bare(out, RETN, 0x00),
+            Op::Equal { size, .. } | Op::Nequal { size, .. } => {
+                put_comparison(out, code, kind, size)
+            }
+            Op::MovSp { offset }
+            | Op::Jmp { offset }
+            | Op::Jsr { offset }
+            | Op::Jz { offset }
+            | Op::Jnz { offset }
+            | Op::DecISp { offset }
+            | Op::IncISp { offset }
+            | Op::DecIBp { offset }
+            | Op::IncIBp { offset } => put_offset(out, code, kind, offset),
             Op::Destruct {
                 total,
                 offset,
                 size,
             } => put_destruct(out, total, offset, size),
-            Op::Not => put_bare(out, NOT, 0x03),
-            Op::DecISp { offset } => put_offset(out, DECISP, 0x03, offset),
-            Op::IncISp { offset } => put_offset(out, INCISP, 0x03, offset),
-            Op::Jnz { offset } => put_offset(out, JNZ, 0x00, offset),
-            Op::CpDownBp { offset, size } => put_copy(out, CPDOWNBP, offset, size),
-            Op::CpTopBp { offset, size } => put_copy(out, CPTOPBP, offset, size),
-            Op::DecIBp { offset } => put_offset(out, DECIBP, 0x03, offset),
-            Op::IncIBp { offset } => put_offset(out, INCIBP, 0x03, offset),
-            Op::SaveBp => put_bare(out, SAVEBP, 0x00),
-            Op::RestoreBp => put_bare(out, RESTOREBP, 0x00),
             Op::StoreState { globals, locals } => put_state(out, globals, locals),
-            Op::Nop => put_bare(out, NOP, 0x00),
+            _ => put_bare(out, code, kind),
         }
     }
 }
