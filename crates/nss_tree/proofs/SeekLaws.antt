@@ -1,20 +1,21 @@
 -- Going over nodes, part by part.
-use Rattle.std.proofs.Common.{◌≡◌, ◌∙◌, ◌<◌, ◌≤◌, ◌+◌, ap, sym, refl, subst, Box, Global, ℕ, zero, suc, length, drop, get_or, map, add-one, List, [], ◌∷◌, ◌++◌, slice_get}
+use Rattle.std.proofs.Common.{◌≡◌, ◌∙◌, ◌<◌, ◌≤◌, ◌+◌, ap, sym, refl, subst, Box, Global, ℕ, zero, suc, length, drop, get_or, map, add-one, List, [], ◌∷◌, ◌++◌, slice_get, Option}
 use Rattle.nss_tree.specs.declared.places.Seek.{Seek}
 use Rattle.nss_tree.specs.declared.places.Seek.TheVariants.{Ahead, Found}
 use Rattle.std.proofs.Math.Seq.{drop-cons}
 use Rattle.std.proofs.lemmas.List.{drop_all}
+use Rattle.std.specs.Option.{option_map}
 use Rattle.nss_tree.specs.declared.expressions.Expr.{Expr}
 use Rattle.nss_tree.specs.declared.expressions.Expr.TheViews as expr
 use Rattle.nss_tree.specs.declared.statements.Stmt.TheViews as stmt
 use Rattle.nss_tree.specs.declared.operators.BinaryOperator.{BinaryOperator}
 use Rattle.nss_tree.specs.declared.operators.AssignOperator.{AssignOperator}
-use Rattle.nss_tree.specs.Readings.{plain_assign, plain_binary, tree_if_else}
+use Rattle.nss_tree.specs.Readings.{plain_assign, plain_binary, tree_do_loop, tree_for_loop, tree_if_else, tree_if_only, tree_while_loop}
 use Rattle.nss_tree.specs.declared.statements.DeclaredName.{DeclaredName}
 use Rattle.nss_tree.specs.declared.statements.Stmt.{Stmt}
 use Rattle.nss_tree.specs.declared.units.Item.{Item}
 use Rattle.nss_tree.specs.declared.units.Tree.{Tree}
-use Rattle.nss_tree.specs.Places.{places, places_declared, places_each, places_expr, places_exprs, places_item, places_stmt, places_stmts}
+use Rattle.nss_tree.specs.Places.{places, places_declared, places_each, places_expr, places_exprs, places_if, places_item, places_stmt, places_stmts}
 use Rattle.nss_tree.specs.Reading.{plain_expr, plain_exprs, plain_item, plain_name, plain_names, plain_stmt, plain_stmts, plain_tree, tree_of_stmts}
 use Rattle.nss_tree.specs.declared.constants.Constant.{Constant}
 use Rattle.nss_tree.specs.declared.constants.TypeName.{TypeName}
@@ -68,6 +69,28 @@ assign_sought the n o x y s a b c is = two _ _ _ n s a b c (ap places_expr (plai
 pub if_else_sought : (the : Stmt Expr Constant TypeName (List ℕ)) (n : ℕ) (x : Expr) (y z : Box (Stmt Expr Constant TypeName (List ℕ)) Global) (s a b c d : Seek) → the ≡ stmt.IfElse n x y z → a ≡ passed n s
     → b ≡ sought (places_expr (plain_expr x)) a → c ≡ sought (places_stmt (plain_stmt y.value)) b → d ≡ sought (places_stmt (plain_stmt z.value)) c → d ≡ sought (places_stmt (plain_stmt the)) s
 if_else_sought the n x y z s a b c d is = three _ _ _ _ n s a b c d (ap (λ s. places_stmt (map_stmt plain_expr s)) (tree_if_else the n x y z is))
+
+pub if_sought : (the : Stmt Expr Constant TypeName (List ℕ)) (n : ℕ) (x : Expr) (y : Box (Stmt Expr Constant TypeName (List ℕ)) Global) (s a b c : Seek) → the ≡ stmt.If n x y → a ≡ passed n s
+    → b ≡ sought (places_expr (plain_expr x)) a → c ≡ sought (places_stmt (plain_stmt y.value)) b → c ≡ sought (places_stmt (plain_stmt the)) s
+if_sought the n x y s a b c is = two _ _ _ n s a b c (ap (λ s. places_stmt (map_stmt plain_expr s)) (tree_if_only the n x y is))
+
+pub while_sought : (the : Stmt Expr Constant TypeName (List ℕ)) (n : ℕ) (x : Expr) (y : Box (Stmt Expr Constant TypeName (List ℕ)) Global) (s a b c : Seek) → the ≡ stmt.While n x y → a ≡ passed n s
+    → b ≡ sought (places_expr (plain_expr x)) a → c ≡ sought (places_stmt (plain_stmt y.value)) b → c ≡ sought (places_stmt (plain_stmt the)) s
+while_sought the n x y s a b c is = two _ _ _ n s a b c (ap (λ s. places_stmt (map_stmt plain_expr s)) (tree_while_loop the n x y is))
+
+pub do_sought : (the : Stmt Expr Constant TypeName (List ℕ)) (n : ℕ) (y : Box (Stmt Expr Constant TypeName (List ℕ)) Global) (x : Expr) (s a b c : Seek) → the ≡ stmt.Do n y x → a ≡ passed n s
+    → b ≡ sought (places_stmt (plain_stmt y.value)) a → c ≡ sought (places_expr (plain_expr x)) b → c ≡ sought (places_stmt (plain_stmt the)) s
+do_sought the n y x s a b c is = two _ _ _ n s a b c (ap (λ s. places_stmt (map_stmt plain_expr s)) (tree_do_loop the n y x is))
+
+pub for_sought : (the : Stmt Expr Constant TypeName (List ℕ)) (n : ℕ) (x y z : Option Expr) (body : Box (Stmt Expr Constant TypeName (List ℕ)) Global) (s a b c d e : Seek) → the ≡ stmt.For n x y z body → a ≡ passed n s
+    → b ≡ sought (places_if places_expr (option_map plain_expr x)) a → c ≡ sought (places_if places_expr (option_map plain_expr y)) b
+    → d ≡ sought (places_if places_expr (option_map plain_expr z)) c → e ≡ sought (places_stmt (plain_stmt body.value)) d
+    → e ≡ sought (places_stmt (plain_stmt the)) s
+for_sought the n x y z body s a b c d e is a-is b-is c-is d-is e-is =
+    let last = places_stmt (plain_stmt body.value) in
+    let third = places_if places_expr (option_map plain_expr z) in
+    three _ _ _ (third ++ last) n s a b c e (ap (λ s. places_stmt (map_stmt plain_expr s)) (tree_for_loop the n x y z body is)) a-is b-is c-is
+    (e-is ∙ ap (sought last) d-is ∙ sym (sought_append third last c))
 
 -- the lists of a tree, each by the nodes of one member
 pub exprs_each : (xs : List Expr) → places_exprs (plain_exprs xs) ≡ places_each (λ x. places_expr (plain_expr x)) xs
