@@ -58,6 +58,10 @@ three : (all xs ys zs : List ℕ) (n : ℕ) (s a b c d : Seek) → all ≡ n ∷
 three all xs ys zs n s a b c d all-is a-is b-is c-is d-is =
     two all xs (ys ++ zs) n s a b d all-is a-is b-is (d-is ∙ (ap (sought zs) c-is ∙ sym (sought_append ys zs b)))
 
+pub one_sought : (the : Expr) (xs : List ℕ) (n : ℕ) (s a b : Seek) → places_expr (plain_expr the) ≡ n ∷ xs → a ≡ passed n s → b ≡ sought xs a
+    → b ≡ sought (places_expr (plain_expr the)) s
+one_sought the xs n s a b all-is a-is b-is = one xs n s a b a-is b-is ∙ ap (λ z. sought z s) (sym all-is)
+
 pub binary_sought : (the : Expr) (n : ℕ) (o : BinaryOperator) (x y : Box Expr Global) (s a b c : Seek) → the ≡ expr.Binary n o x y → a ≡ passed n s
     → b ≡ sought (places_expr (plain_expr x.value)) a → c ≡ sought (places_expr (plain_expr y.value)) b → c ≡ sought (places_expr (plain_expr the)) s
 binary_sought the n o x y s a b c is = two _ _ _ n s a b c (ap places_expr (plain_binary the n o x y is))
