@@ -35,7 +35,6 @@ use nss_typing::{Expression, TypedStmt};
 use nwq_value::NoMemory;
 
 #[cycle(statement)]
-#[tactic(auto, using(nss_tree::specs::Readings::plain_cases))]
 pub(crate) fn statement(
     out: &mut Emitter,
     layout: &Layout,

@@ -22,7 +22,6 @@ use nss_typing::{Expression, TypedStmt};
 use nwq_value::{Const, NoMemory};
 
 /// Whether a statement is a label of a switch.
-#[tactic(auto, using(nss_tree::specs::Readings::plain_cases))]
 pub(crate) fn is_label(stmt: &TypedStmt) -> bool
     ensures { result ≡ code.is_label (typed_stmt stmt.now) }
 {
@@ -46,7 +45,6 @@ pub(crate) fn is_label(stmt: &TypedStmt) -> bool
 }
 
 /// Whether a statement is the label where no case fits.
-#[tactic(auto, using(nss_tree::specs::Readings::plain_cases))]
 fn is_default(stmt: &TypedStmt) -> bool
     ensures { result ≡ code.is_default (typed_stmt stmt.now) }
 {

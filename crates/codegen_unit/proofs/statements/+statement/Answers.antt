@@ -1,6 +1,6 @@
 use Rattle.std.proofs.Common.{◌≡◌, ◌∙◌, ◌+◌, ap, refl, arith, ℕ}
 use Rattle.std.specs.Option.{option_map}
-use Rattle.nss_tree.specs.Readings.{tree_case_label, tree_default_label, tree_do_loop, tree_empty, tree_for_loop, tree_if_else, tree_if_only, tree_switch, tree_while_loop}
+use Rattle.nss_tree.specs.Readings.{tree_block, tree_break_off, tree_case_label, tree_continue_on, tree_declaration, tree_default_label, tree_do_loop, tree_empty, tree_expression, tree_for_loop, tree_if_else, tree_if_only, tree_return_from, tree_switch, tree_while_loop}
 use Rattle.nss_tree.specs.Statements.{map_stmt}
 use Rattle.ncs_emit.specs.Labelled.{LabelledCode}
 use Rattle.nss_typing.specs.Reading.{plain}
@@ -8,7 +8,7 @@ use Rattle.nss_typing.specs.UnitReading.{typed_stmt, typed_stmts}
 use Rattle.code_emission.specs.Expressions.{labels}
 use Rattle.code_emission.specs.Statements as code
 use Rattle.codegen_unit.specs.Ready.{plain_exits}
-use Rattle.codegen_unit.proofs.Arms.{body_of_switch_ready, do_is, do_parts, for_is, for_parts, if_else_is, if_else_parts, if_only_is, if_only_parts, falls_row, all_size, known_code, known_none, plain_in_switch, switch_is, switch_parts, while_is, while_parts}
+use Rattle.codegen_unit.proofs.Arms.{block_is, block_parts, body_of_switch_ready, break_leads, continue_leads, declaration_is, do_is, do_parts, effect_part, for_is, for_parts, if_else_is, if_else_parts, if_only_is, if_only_parts, falls_row, all_size, known_code, known_lines, known_none, names_part, plain_in_switch, return_part, small, switch_is, switch_parts, while_is, while_parts}
 use Rattle.codegen_unit.proofs.Choosing.{choice_open, close_open, for_open, switch_code}
 use Rattle.codegen_unit.proofs.InRow.{cells_done, cells_step, code_done, code_step, next_falls, next_few, next_ready, open_after, open_at, open_known, rest_ready, stmts_few, switch_few}
 use Rattle.codegen_unit.proofs.statements.+statement.Goals as goal
@@ -37,6 +37,72 @@ statement-switch-requires t c = switch_parts _ _ _ t _ _ _ _ _ (switch_is _ _ _ 
 pub statement-returns-in-IfElse : goal.statement-returns-in-IfElse
 statement-returns-in-IfElse t c =
     known_code _ _ _ _ _ _ _ (if_else_is _ _ _ _ _ _ _ (tree_if_else _ _ _ _ _ c.in-IfElse.is) c.deref-in-IfElse.ensures c.deref-in-IfElse-2.ensures) _ c.if_else.ensures
+
+pub statement-block-requires : goal.statement-block-requires
+statement-block-requires t c = block_parts _ _ _ t _ _ _ _ (block_is _ _ _ _ (tree_block _ _ _ c.in-Block.is) c.as_slice.ensures.value) c.decreases c.requires.ready
+
+pub statement-emit_effect-requires : goal.statement-emit_effect-requires
+statement-emit_effect-requires t c = record { ready = effect_part _ _ _ t _ _ _ _ (ap (map_stmt plain) (tree_expression _ _ _ c.in-Expression.is)) c.requires.ready }
+
+pub statement-emit_leave-requires-clause-small : goal.statement-emit_leave-requires-clause-small
+statement-emit_leave-requires-clause-small t c = small _ _ _ t _ _ c.requires.ready
+
+pub statement-emit_leave-requires-clause-leads : goal.statement-emit_leave-requires-clause-leads
+statement-emit_leave-requires-clause-leads t c = break_leads _ _ _ t _ _ _ (ap (map_stmt plain) (tree_break_off _ _ c.in-Break.is)) c.requires.ready
+
+pub statement-emit_leave-requires-clause-made : goal.statement-emit_leave-requires-clause-made
+statement-emit_leave-requires-clause-made t c = c.requires.ready.break_made
+
+pub statement-emit_leave-requires-in-Continue-clause-small : goal.statement-emit_leave-requires-in-Continue-clause-small
+statement-emit_leave-requires-in-Continue-clause-small t c = small _ _ _ t _ _ c.requires.ready
+
+pub statement-emit_leave-requires-in-Continue-clause-leads : goal.statement-emit_leave-requires-in-Continue-clause-leads
+statement-emit_leave-requires-in-Continue-clause-leads t c = continue_leads _ _ _ t _ _ _ (ap (map_stmt plain) (tree_continue_on _ _ c.in-Continue.is)) c.requires.ready
+
+pub statement-emit_leave-requires-in-Continue-clause-made : goal.statement-emit_leave-requires-in-Continue-clause-made
+statement-emit_leave-requires-in-Continue-clause-made t c = c.requires.ready.continue_made
+
+pub statement-emit_return-requires-clause-ready : goal.statement-emit_return-requires-clause-ready
+statement-emit_return-requires-clause-ready t c = return_part _ _ _ t _ _ _ _ (ap (map_stmt plain) (tree_return_from _ _ _ c.in-Return.is)) c.requires.ready
+
+pub statement-emit_return-requires-clause-small : goal.statement-emit_return-requires-clause-small
+statement-emit_return-requires-clause-small t c = small _ _ _ t _ _ c.requires.ready
+
+pub statement-emit_names-requires : goal.statement-emit_names-requires
+statement-emit_names-requires t c = record { ready = names_part _ _ _ t _ _ _ _ _ (declaration_is _ _ _ _ _ (tree_declaration _ _ _ _ c.in-Declaration.is) c.as_slice-in-Declaration.ensures.items) c.requires.ready }
+
+pub statement-returns-in-Block : goal.statement-returns-in-Block
+statement-returns-in-Block t c = known_code _ _ _ _ _ _ _ (block_is _ _ _ _ (tree_block _ _ _ c.in-Block.is) c.as_slice.ensures.value) _ c.block.ensures
+
+pub statement-returns-in-Expression : goal.statement-returns-in-Expression
+statement-returns-in-Expression t c = known_code _ _ _ _ _ _ _ (ap (map_stmt plain) (tree_expression _ _ _ c.in-Expression.is)) _ c.emit_effect.ensures
+
+pub statement-returns-in-If : goal.statement-returns-in-If
+statement-returns-in-If t c = known_code _ _ _ _ _ _ _ (if_only_is _ _ _ _ _ (tree_if_only _ _ _ _ c.in-If.is) c.deref.ensures) _ c.if_only.ensures
+
+pub statement-returns-in-While : goal.statement-returns-in-While
+statement-returns-in-While t c = known_code _ _ _ _ _ _ _ (while_is _ _ _ _ _ (tree_while_loop _ _ _ _ c.in-While.is) c.deref-in-While.ensures) _ c.while_loop.ensures
+
+pub statement-returns-in-Do : goal.statement-returns-in-Do
+statement-returns-in-Do t c = known_code _ _ _ _ _ _ _ (do_is _ _ _ _ _ (tree_do_loop _ _ _ _ c.in-Do.is) c.deref-in-Do.ensures) _ c.do_loop.ensures
+
+pub statement-returns-in-For : goal.statement-returns-in-For
+statement-returns-in-For t c = known_code _ _ _ _ _ _ _ (for_is _ _ _ _ _ _ _ (tree_for_loop _ _ _ _ _ _ c.in-For.is) c.deref-in-For.ensures) _ c.for_loop.ensures
+
+pub statement-returns-in-Switch : goal.statement-returns-in-Switch
+statement-returns-in-Switch t c = known_code _ _ _ _ _ _ _ (switch_is _ _ _ _ _ (tree_switch _ _ _ _ c.in-Switch.is) c.as_slice-in-Switch.ensures.value) _ c.switch.ensures
+
+pub statement-returns-in-Return : goal.statement-returns-in-Return
+statement-returns-in-Return t c = known_code _ _ _ _ _ _ _ (ap (map_stmt plain) (tree_return_from _ _ _ c.in-Return.is)) _ c.emit_return.ensures
+
+pub statement-returns-in-Declaration : goal.statement-returns-in-Declaration
+statement-returns-in-Declaration t c = known_code _ _ _ _ _ _ _ (declaration_is _ _ _ _ _ (tree_declaration _ _ _ _ c.in-Declaration.is) c.as_slice-in-Declaration.ensures.items) _ c.emit_names.ensures
+
+pub statement-returns-in-Break : goal.statement-returns-in-Break
+statement-returns-in-Break t c = known_lines _ _ _ _ _ _ _ (ap (map_stmt plain) (tree_break_off _ _ c.in-Break.is)) _ refl c.emit_leave.ensures
+
+pub statement-returns-in-Continue : goal.statement-returns-in-Continue
+statement-returns-in-Continue t c = known_lines _ _ _ _ _ _ _ (ap (map_stmt plain) (tree_continue_on _ _ c.in-Continue.is)) _ refl c.emit_leave-in-Continue.ensures
 
 pub statement-returns-in-Empty : goal.statement-returns-in-Empty
 statement-returns-in-Empty t c = known_none _ c.args.layout.now (plain_exits c.args.exits) c.args.depth _ _ (ap (map_stmt plain) (tree_empty _ _ c.in-Empty.is)) refl refl
