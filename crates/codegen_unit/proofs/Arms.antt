@@ -18,7 +18,7 @@ use Rattle.nss_typing.specs.UnitReading.{typed_names, typed_stmt, typed_stmts}
 use Rattle.code_emission.specs.Bounds.{depth_limit, weight, some_weight, stmt_weight, IsExpr, IsSome, IsStmt, AreStmts}
 use Rattle.code_emission.specs.Layout.{Layout}
 use Rattle.code_emission.specs.Expressions.{labels}
-use Rattle.code_emission.specs.Statements.{Exits, in_switch, some_labels, count_labels, stmt_labels, emit_stmt}
+use Rattle.code_emission.specs.Statements.{Exits, in_loop, in_switch, some_labels, count_labels, stmt_labels, emit_stmt}
 use Rattle.codegen_expr.specs.Emitted.{IsReady, extended}
 use Rattle.codegen_unit.specs.declared.exits.Target.{Target}
 use Rattle.codegen_unit.specs.declared.exits.Exits as code
@@ -288,6 +288,11 @@ switch_is the i x xs ys is same = ap (map_stmt plain) is ∙ ap (λ zs. s.switch
 
 pub declaration_is : (the : Stmt Expression Const Ty Variable) (i : ℕ) (y : Ty) (xs ys : List (DeclaredName Expression Variable)) → tree_of_stmt the ≡ s.declaration i y xs → ys ≡ xs → typed_stmt the ≡ s.declaration i y (typed_names ys)
 declaration_is the i y xs ys is same = ap (map_stmt plain) is ∙ ap (λ zs. s.declaration i y (typed_names zs)) (sym same)
+
+pub plain_in_loop : (e : code.Exits) (next end d : ℕ) → e.break_to ≡ Some (record { label = end; depth = d }) → e.continue_to ≡ Some (record { label = next; depth = d }) → plain_exits e ≡ in_loop next end d
+plain_in_loop e next end d breaks continues =
+    ap (λ t. record { break_to = label_of t; break_depth = depth_of t; continue_to = label_of e.continue_to; continue_depth = depth_of e.continue_to }) breaks
+    ∙ ap (λ t. record { break_to = end; break_depth = d; continue_to = label_of t; continue_depth = depth_of t }) continues
 
 pub plain_in_switch : (e around : code.Exits) (label d : ℕ) → e.break_to ≡ Some (record { label = label; depth = d }) → e.continue_to ≡ around.continue_to → plain_exits e ≡ in_switch label d (plain_exits around)
 plain_in_switch e around label d breaks continues =

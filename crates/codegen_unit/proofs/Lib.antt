@@ -5,3 +5,4 @@ pub mod Arms
 pub mod InRow
 pub mod Choosing
 pub mod Listed
+pub mod Returns

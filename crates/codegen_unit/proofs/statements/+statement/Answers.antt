@@ -8,9 +8,10 @@ use Rattle.nss_typing.specs.UnitReading.{typed_stmt, typed_stmts}
 use Rattle.code_emission.specs.Expressions.{labels}
 use Rattle.code_emission.specs.Statements as code
 use Rattle.codegen_unit.specs.Ready.{plain_exits}
-use Rattle.codegen_unit.proofs.Arms.{block_is, block_parts, body_of_switch_ready, break_leads, continue_leads, declaration_is, do_is, do_parts, effect_part, for_is, for_parts, if_else_is, if_else_parts, if_only_is, if_only_parts, falls_row, all_size, known_code, known_lines, known_none, names_part, plain_in_switch, return_part, small, switch_is, switch_parts, while_is, while_parts}
+use Rattle.codegen_unit.proofs.Arms.{block_is, block_parts, body_of_switch_ready, break_leads, continue_leads, declaration_is, do_is, do_parts, effect_part, for_is, for_parts, if_else_is, if_else_parts, if_only_is, if_only_parts, falls_row, all_size, known_code, known_lines, known_none, names_part, plain_in_loop, plain_in_switch, return_part, small, switch_is, switch_parts, while_is, while_parts}
 use Rattle.codegen_unit.proofs.Choosing.{choice_open, close_open, for_open, switch_code}
 use Rattle.codegen_unit.proofs.InRow.{cells_done, cells_step, code_done, code_step, next_falls, next_few, next_ready, open_after, open_at, open_known, rest_ready, stmts_few, switch_few}
+use Rattle.codegen_unit.proofs.Returns.{block_code, do_code, for_code, if_else_code, if_only_code, while_code}
 use Rattle.codegen_unit.proofs.statements.+statement.Goals as goal
 
 -- ---- from a statement to its parts
@@ -168,6 +169,37 @@ statements-returns-clause-depth t c = cells_done c.args.layout.now c.args.stmts.
 
 pub block-drop_cells-requires : goal.block-drop_cells-requires
 block-drop_cells-requires t c = record { small = omega (arith, c.in_ok-behind.ensures.depth, stmts_few _ _ _ _ _ c.requires.ready) }
+
+-- ---- the code of a statement by its parts
+
+pub block-returns : goal.block-returns
+block-returns t c =
+    block_code c.args.layout.now c.args.depth c.args.out.now _ (plain_exits c.args.exits) (typed_stmts c.args.items.now) _ _ _ c.in_ok-behind.ensures.code (omega (arith, c.in_ok-behind.ensures.depth)) c.drop_cells.ensures.ok
+
+pub if_only-returns : goal.if_only-returns
+if_only-returns t c =
+    if_only_code c.args.layout.now c.args.depth c.args.out.now (plain_exits c.args.exits) (plain c.args.condition.now) (typed_stmt c.args.then.now) c.in_ok-end.end _ _ _ _ _ c.in_ok-end.ensures.number c.in_ok-end.ensures.made c.in_ok-emit_expr.ensures.ok
+    c.in_ok-jump.ensures.ok c.in_ok-statement.ensures c.place.ensures.placed
+
+pub if_else-returns : goal.if_else-returns
+if_else-returns t c =
+    if_else_code c.args.layout.now c.args.depth c.args.out.now (plain_exits c.args.exits) (plain c.args.condition.now) (typed_stmt c.args.then.now) (typed_stmt c.args.otherwise.now) c.in_ok-other.other _ _ _ _ _ _ _ _ c.in_ok-other.ensures.first c.in_ok-other.ensures.made
+    c.in_ok-emit_expr.ensures.ok c.in_ok-jump.ensures.ok c.in_ok-statement.ensures c.in_ok-jump-2.ensures.ok c.place.ensures.placed c.in_ok-statement-2.ensures c.place-2.ensures.placed
+
+pub while_loop-returns : goal.while_loop-returns
+while_loop-returns t c =
+    while_code c.args.layout.now c.args.depth c.args.out.now (plain_exits c.in_loop-exits.result) (plain c.args.condition.now) (typed_stmt c.args.body.now) c.in_ok-next.next _ _ _ _ _ _ _ c.in_ok-next.ensures.first (plain_in_loop c.in_loop-exits.result _ _ _ c.in_loop-exits.ensures.breaks c.in_loop-exits.ensures.continues) c.in_ok-next.ensures.made
+    c.place.ensures.placed c.in_ok-emit_expr.ensures.ok c.in_ok-jump.ensures.ok c.in_ok-statement.ensures c.in_ok-jump-2.ensures.ok c.place-2.ensures.placed
+
+pub do_loop-returns : goal.do_loop-returns
+do_loop-returns t c =
+    do_code c.args.layout.now c.args.depth c.args.out.now (plain_exits c.in_loop-exits.result) (typed_stmt c.args.body.now) (plain c.args.condition.now) c.in_ok-top.top _ _ _ _ _ _ _ c.in_ok-top.ensures.first (plain_in_loop c.in_loop-exits.result _ _ _ c.in_loop-exits.ensures.breaks c.in_loop-exits.ensures.continues) c.in_ok-top.ensures.made
+    c.place.ensures.placed c.in_ok-statement.ensures c.place-2.ensures.placed c.in_ok-emit_expr.ensures.ok c.in_ok-jump.ensures.ok c.place-3.ensures.placed
+
+pub for_loop-returns : goal.for_loop-returns
+for_loop-returns t c =
+    for_code c.args.layout.now c.args.depth c.args.out.now (plain_exits c.in_loop-exits.result) (option_map plain c.args.start.now) (option_map plain c.args.condition.now) (option_map plain c.args.step.now) (typed_stmt c.args.body.now) c.in_ok-top.top _ _ _ _ _ _
+    c.in_ok-top.ensures.first (plain_in_loop c.in_loop-exits.result _ _ _ c.in_loop-exits.ensures.breaks c.in_loop-exits.ensures.continues) c.in_ok-top.ensures.made c.in_ok-emit_evaluated.ensures c.in_ok-emit_turn.ensures c.in_ok-statement.ensures c.in_ok-emit_again.ensures c.place.ensures.placed
 
 -- ---- a `for`, and a switch
 
