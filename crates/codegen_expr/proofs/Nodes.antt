@@ -1,5 +1,5 @@
 -- The code of nodes in parts, and labelled code that grows part by part.
-use Rattle.std.proofs.Common.{◌≡◌, ◌<◌, ◌+◌, ℕ, pos, List, [], ◌∷◌, ◌++◌, Option, Some, None, Result, Ok, Err, length, drop, get_or, arith, refl, ap, sym, ◌∙◌, append_assoc}
+use Rattle.std.proofs.Common.{◌≡◌, ◌<◌, ◌+◌, ℕ, pos, true, List, [], ◌∷◌, ◌++◌, Option, Some, None, Result, Ok, Err, length, drop, get_or, arith, refl, ap, sym, ◌∙◌, append_assoc}
 use Rattle.std.specs.Option.{option_map}
 use Rattle.std.specs.Result.{OnOk}
 use Rattle.std.proofs.lemmas.List.{append-nil, at_drop_more}
@@ -15,7 +15,7 @@ use Rattle.nss_typing.specs.Reading.{plain}
 use Rattle.nss_typing.specs.Typed.{TypedExpr, TypedExprs, more_typed, literal, name, call, member, prefix, postfix, binary, assign}
 use Rattle.code_emission.specs.Layout.{Layout}
 use Rattle.code_emission.specs.Operations.{bytes_of, constant, int_constant, top_again}
-use Rattle.code_emission.specs.Expressions.{Home, home, moved, read, labels, all_labels, constants, member_code, prefix_code, WhereTrue, binary_code, emit, emit_all, is_captured, argument_labels, argument_code, arguments_cells}
+use Rattle.code_emission.specs.Expressions.{Home, home, moved, read, labels, all_labels, constants, member_code, prefix_code, WhereFalse, WhereTrue, binary_code, emit, emit_all, is_captured, argument_labels, argument_code, arguments_cells}
 use Rattle.codegen_expr.specs.Emitted.{extended}
 use Rattle.codegen_expr.specs.Parts.{prefix_before, prefix_behind}
 
@@ -102,6 +102,12 @@ known_code r before after l d the x lines n is code count put =
     on_ok r put (λ e. e ∙ (ap (λ ys. extended before ys n) (sym (ap (emit l before.labels d) is ∙ code))
     ∙ ap (extended before (emit l before.labels d (plain the))) (sym (ap labels is ∙ count))))
 
+-- the same where its node takes no label
+pub known_lines : {T E : Type 0} (r : Result T E) (before after : LabelledCode) (l : Layout) (d : ℕ) (the : Expression) (x : TypedExpr) (lines : List Line) → plain the ≡ x → emit l before.labels d x ≡ lines → labels x ≡ 0
+    → OnOk r (after ≡ record before { lines = before.lines ++ lines }) → OnOk r (after ≡ extended before (emit l before.labels d (plain the)) (labels (plain the)))
+known_lines r before after l d the x lines is code count put =
+    known_code r before after l d the x lines 0 is code count (on_ok r put (λ e. e ∙ both_same _ _ _ _ refl (omega arith)))
+
 pub member_read_code : {T E : Type 0} (r : Result T E) (before after : LabelledCode) (l : Layout) (d total offset count : ℕ) (x : TypedExpr) (value : List Line) (op : PlainOp) (h : Home)
     → Some h ≡ option_map (moved offset) (home l x) → op ≡ read l d count h → OnOk r (after ≡ record before { lines = before.lines ++ Instruction op ∷ [] })
     → OnOk r (after ≡ extended before (member_code l d total offset count (home l x) value) (labels x))
@@ -155,3 +161,42 @@ or_code l x y op d1 d2 d3 other end c0 c1 c2 c3 c4 c5 c6 c7 o-is e-is e1 e2 e3 e
     (e6 ∙ ap (λ (c : LabelledCode). record c { lines = c.lines ++ Instruction op ∷ [] })
     (e5 ∙ ap (λ c. extended c (emit l c.labels d2 y) (labels y)) (e4 ∙ ap (λ (c : LabelledCode). record c { lines = c.lines ++ top_again ∷ JumpTo Jz other ∷ int_constant (pos 1) ∷ Instruction op ∷ JumpTo Jmp end ∷ Label other ∷ [] }) f3)))
     ∙ both_same _ _ _ _ (rw (o, g, d) (simp append_assoc refl)) (omega arith))
+
+pub and_code : (l : Layout) (x y : TypedExpr) (op : PlainOp) (d1 d2 d3 end : ℕ) (c0 c1 c2 c3 c4 c5 c6 c7 : LabelledCode) → end ≡ c0.labels → c1 ≡ record c0 { labels = c0.labels + 1 }
+    → c2 ≡ extended c1 (emit l c1.labels d1 x) (labels x) → c3 ≡ record c2 { lines = c2.lines ++ top_again ∷ [] } → c4 ≡ record c3 { lines = c3.lines ++ JumpTo Jz end ∷ [] }
+    → d2 ≡ d3 → c5 ≡ extended c4 (emit l c4.labels d2 y) (labels y) → c6 ≡ record c5 { lines = c5.lines ++ Instruction op ∷ [] }
+    → c7 ≡ record c6 { lines = c6.lines ++ Label end ∷ [] }
+    → c7 ≡ extended c0 (binary_code c0.labels WhereFalse op (emit l (c0.labels + 1) d1 x) (emit l (c0.labels + 1 + labels x) d3 y)) (1 + labels x + labels y)
+and_code l x y op d1 d2 d3 end c0 c1 c2 c3 c4 c5 c6 c7 o e1 e2 e3 e4 d e5 e6 e7 =
+    e7 ∙ (ap (λ (c : LabelledCode). record c { lines = c.lines ++ Label end ∷ [] })
+    (e6 ∙ ap (λ (c : LabelledCode). record c { lines = c.lines ++ Instruction op ∷ [] })
+    (e5 ∙ ap (λ c. extended c (emit l c.labels d2 y) (labels y))
+    (e4 ∙ ap (λ (c : LabelledCode). record c { lines = c.lines ++ JumpTo Jz end ∷ [] })
+    (e3 ∙ ap (λ (c : LabelledCode). record c { lines = c.lines ++ top_again ∷ [] })
+    (e2 ∙ ap (λ c. extended c (emit l c.labels d1 x) (labels x)) e1)))))
+    ∙ both_same _ _ _ _ (rw (o, d) (simp append_assoc refl)) (omega arith))
+
+pub assign_code : {T E : Type 0} (r : Result T E) (c0 c1 c2 c3 c4 : LabelledCode) (first value change last first-is value-is last-is : List Line) (n : ℕ)
+    → c1 ≡ record c0 { lines = c0.lines ++ first } → c2 ≡ extended c1 value n → c3 ≡ record c2 { lines = c2.lines ++ change }
+    → first ≡ first-is → value ≡ value-is → last ≡ last-is → OnOk r (c4 ≡ record c3 { lines = c3.lines ++ last })
+    → OnOk r (c4 ≡ extended c0 (first-is ++ (value-is ++ (change ++ last-is))) n)
+assign_code r c0 c1 c2 c3 c4 first value change last first-is value-is last-is n e1 e2 e3 f v w put =
+    on_ok r put (λ e. e
+    ∙ (ap (λ (c : LabelledCode). record c { lines = c.lines ++ last })
+    (e3 ∙ ap (λ (c : LabelledCode). record c { lines = c.lines ++ change })
+    (e2 ∙ ap (λ c. extended c value n) e1))
+    ∙ both_same _ _ _ _ (rw (f, v, w) (simp append_assoc refl)) refl))
+
+pub captured_code : (l : Layout) (x : TypedExpr) (d end : ℕ) (line : Line) (c0 c1 c2 c3 c4 c5 c6 : LabelledCode) → end ≡ c0.labels → is_captured x ≡ true → line ≡ Instruction (ops.StoreState (bytes_of l.globals) (bytes_of d))
+    → c1 ≡ record c0 { labels = c0.labels + 1 } → c2 ≡ record c1 { lines = c1.lines ++ line ∷ [] } → c3 ≡ record c2 { lines = c2.lines ++ JumpTo Jmp end ∷ [] }
+    → c4 ≡ extended c3 (emit l c3.labels d x) (labels x) → c5 ≡ record c4 { lines = c4.lines ++ Instruction ops.Retn ∷ [] } → c6 ≡ record c5 { lines = c5.lines ++ Label end ∷ [] }
+    → c6 ≡ extended c0 (argument_code l c0.labels d (is_captured x) (emit l (c0.labels + argument_labels (is_captured x)) d x)) (argument_labels (is_captured x) + labels x)
+captured_code l x d end line c0 c1 c2 c3 c4 c5 c6 o is w e1 e2 e3 e4 e5 e6 =
+    let put : c6 ≡ extended c0 (argument_code l c0.labels d true (emit l (c0.labels + 1) d x)) (1 + labels x) =
+    e6 ∙ (ap (λ (c : LabelledCode). record c { lines = c.lines ++ Label end ∷ [] })
+    (e5 ∙ ap (λ (c : LabelledCode). record c { lines = c.lines ++ Instruction ops.Retn ∷ [] })
+    (e4 ∙ ap (λ c. extended c (emit l c.labels d x) (labels x))
+    (e3 ∙ ap (λ (c : LabelledCode). record c { lines = c.lines ++ JumpTo Jmp end ∷ [] })
+    (e2 ∙ ap (λ (c : LabelledCode). record c { lines = c.lines ++ line ∷ [] }) e1))))
+    ∙ both_same _ _ _ _ (rw (o, w) (simp append_assoc refl)) (omega arith)) in
+    put ∙ ap (λ b. extended c0 (argument_code l c0.labels d b (emit l (c0.labels + argument_labels b) d x)) (argument_labels b + labels x)) (sym is)

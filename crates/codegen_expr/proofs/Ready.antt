@@ -211,6 +211,20 @@ postfix_parts n l d t the ty o x y is same falls ready =
     let w : weight (plain the) ≡ struct_cell_limit + weight (plain y) = ap weight e in
     (omega arith, postfix_ready n l d ty o (plain y) (same_ready n l d the (postfix ty o (plain y)) e ready))
 
+pub member_is_of : (the : Expression) (ty : Ty) (x y : Expression) (offset : ℕ) → plain the ≡ member ty (plain x) offset → y ≡ x → plain the ≡ member ty (plain y) offset
+member_is_of the ty x y offset is same = is ∙ ap (λ z. member ty (plain z) offset) (sym same)
+
+pub prefix_is_of : (the : Expression) (ty : Ty) (o : PrefixOperator) (x y : Expression) → plain the ≡ prefix ty o (plain x) → y ≡ x → plain the ≡ prefix ty o (plain y)
+prefix_is_of the ty o x y is same = is ∙ ap (λ z. prefix ty o (plain z)) (sym same)
+
+pub postfix_is_of : (the : Expression) (ty : Ty) (o : PostfixOperator) (x y : Expression) → plain the ≡ postfix ty o (plain x) → y ≡ x → plain the ≡ postfix ty o (plain y)
+postfix_is_of the ty o x y is same = is ∙ ap (λ z. postfix ty o (plain z)) (sym same)
+
+pub call_is_of : (the : Expression) (ty : Ty) (f : Callee) (xs given : List Expression) (ks filled : List Const) → plain the ≡ call ty f (plain_all xs) ks → given ≡ xs → filled ≡ ks
+    → plain the ≡ call ty f (plain_all given) filled
+call_is_of the ty f xs given ks filled is same same-filled =
+    is ∙ (ap (λ zs. call ty f (plain_all zs) ks) (sym same) ∙ ap (λ zs. call ty f (plain_all given) zs) (sym same-filled))
+
 pub binary_is_of : (the : Expression) (ty : Ty) (o : BinaryOperator) (x y left right : Expression) → plain the ≡ binary ty o (plain x) (plain y) → left ≡ x → right ≡ y
     → plain the ≡ binary ty o (plain left) (plain right)
 binary_is_of the ty o x y left right is e f =

@@ -55,7 +55,6 @@ pub fn emit_expr(
 }
 
 #[cycle(emit)]
-#[tactic(auto, using(nss_typing::specs::Readings::known))]
 fn expression(
     out: &mut Emitter,
     layout: &Layout,

@@ -1,7 +1,7 @@
 use Rattle.std.proofs.Common.{◌≡◌, ◌∙◌, ◌+◌, ap, sym, refl, arith, length}
 use Rattle.std.specs.Option.{option_map}
 use Rattle.nss_typing.specs.Reading.{plain, plain_all}
-use Rattle.nss_typing.specs.Readings.{plain_assign, plain_binary, plain_call, plain_member, plain_postfix, plain_prefix}
+use Rattle.nss_typing.specs.Readings.{plain_assign, plain_binary, plain_call, plain_literal, plain_member, plain_name, plain_postfix, plain_prefix}
 use Rattle.nss_typing.specs.Typed.{type_of}
 use Rattle.nss_typing.specs.Types.{is_void}
 use Rattle.ncs_emit.specs.Labelled.{LabelledCode}
@@ -9,8 +9,8 @@ use Rattle.code_emission.specs.Bounds.{weight, all_weight}
 use Rattle.code_emission.specs.Layout.{cells}
 use Rattle.code_emission.specs.Expressions as code
 use Rattle.codegen_expr.specs.Parts.{plain_home, plain_shortcut}
-use Rattle.codegen_expr.proofs.Nodes.{arguments_step, call_code, extended_none, known_code, member_read_code, or_code}
-use Rattle.codegen_expr.proofs.Ready.{argument_falls, argument_ready, assign_is_of, assign_parts, at_labels, binary_is_of, binary_parts, call_parts, called_ready, captured_ready, counted, falls_arguments, falls_both, falls_first, falls_one, falls_second, member_parts, next_left, none_left, plain_ready, postfix_parts, prefix_parts, ready_few, ready_fits, short_first, short_second}
+use Rattle.codegen_expr.proofs.Nodes.{and_code, arguments_step, assign_code, call_code, captured_code, extended_none, known_code, known_lines, member_read_code, or_code}
+use Rattle.codegen_expr.proofs.Ready.{argument_falls, argument_ready, assign_is_of, assign_parts, at_labels, binary_is_of, binary_parts, call_is_of, call_parts, called_ready, captured_ready, counted, falls_arguments, falls_both, falls_first, falls_one, falls_second, member_is_of, member_parts, name_type, next_left, none_left, plain_ready, postfix_is_of, postfix_parts, prefix_is_of, prefix_parts, ready_few, ready_fits, same_ready, short_first, short_second, small_depth}
 use Rattle.codegen_expr.proofs.expressions.+emit.Goals as goal
 
 -- ---- from an expression to its node
@@ -34,6 +34,33 @@ expression-binary-requires t c =
 pub expression-assign-requires : goal.expression-assign-requires
 expression-assign-requires t c =
     assign_parts _ _ _ t _ _ _ _ _ (assign_is_of _ _ _ _ _ _ _ (plain_assign _ _ _ _ _ c.in-Assign.is) c.deref-in-Assign.ensures c.deref-in-Assign-2.ensures) c.decreases c.requires.ready
+
+pub expression-emit_name-requires-clause-deep : goal.expression-emit_name-requires-clause-deep
+expression-emit_name-requires-clause-deep t c = small_depth _ _ _ _ c.requires.ready
+
+pub expression-emit_name-requires-clause-globals : goal.expression-emit_name-requires-clause-globals
+expression-emit_name-requires-clause-globals t c = c.requires.ready.globals
+
+pub expression-emit_name-requires-clause-is_type : goal.expression-emit_name-requires-clause-is_type
+expression-emit_name-requires-clause-is_type t c = name_type (same_ready _ _ _ _ _ (plain_name _ _ _ c.in-Name.is) c.requires.ready)
+
+pub expression-returns-in-Literal : goal.expression-returns-in-Literal
+expression-returns-in-Literal t c = known_lines _ _ _ _ _ _ _ _ (plain_literal _ _ c.in-Literal.is) refl refl c.emit_constant.ensures.ok
+
+pub expression-returns-in-Name : goal.expression-returns-in-Name
+expression-returns-in-Name t c = known_lines _ _ _ _ _ _ _ _ (plain_name _ _ _ c.in-Name.is) refl refl c.emit_name.ensures
+
+pub expression-returns-in-Call : goal.expression-returns-in-Call
+expression-returns-in-Call t c = known_code _ _ _ _ _ _ _ _ _ (call_is_of _ _ _ _ _ _ _ (plain_call _ _ _ _ _ c.in-Call.is) c.as_slice.ensures.value c.as_slice-in-Call.ensures.items) refl refl c.call.ensures
+
+pub expression-returns-in-Member : goal.expression-returns-in-Member
+expression-returns-in-Member t c = known_code _ _ _ _ _ _ _ _ _ (member_is_of _ _ _ _ _ (plain_member _ _ _ _ c.in-Member.is) c.deref.ensures) refl refl c.member.ensures
+
+pub expression-returns-in-Prefix : goal.expression-returns-in-Prefix
+expression-returns-in-Prefix t c = known_code _ _ _ _ _ _ _ _ _ (prefix_is_of _ _ _ _ _ (plain_prefix _ _ _ _ c.in-Prefix.is) c.deref-in-Prefix.ensures) refl refl c.prefix.ensures
+
+pub expression-returns-in-Postfix : goal.expression-returns-in-Postfix
+expression-returns-in-Postfix t c = known_code _ _ _ _ _ _ _ _ _ (postfix_is_of _ _ _ _ _ (plain_postfix _ _ _ _ c.in-Postfix.is) c.deref-in-Postfix.ensures) refl refl c.postfix.ensures
 
 pub expression-returns-in-Binary : goal.expression-returns-in-Binary
 expression-returns-in-Binary t c =
@@ -139,6 +166,25 @@ pub or_else-returns : goal.or_else-returns
 or_else-returns t c =
     or_code c.args.layout.now (plain c.args.left.now) (plain c.args.right.now) _ c.args.depth _ (c.args.depth + cells c.args.layout.now.structs (type_of (plain c.args.left.now))) _ _ _ _ _ _ _ _ _ _ c.in_ok-other.ensures.number c.in_ok-end.ensures.number c.in_ok-other.ensures.made c.in_ok-end.ensures.made c.in_ok-expression.ensures
     c.in_ok-skip_right.ensures (ap (λ n. c.args.depth + n) (c.cells.ensures.cells ∙ ap (cells c.args.layout.now.structs) c.ty.ensures.ty)) c.in_ok-expression-2.ensures c.in_ok-op.ensures.ok c.place.ensures.placed
+
+pub and_then-returns : goal.and_then-returns
+and_then-returns t c =
+    and_code c.args.layout.now (plain c.args.left.now) (plain c.args.right.now) _ c.args.depth _ (c.args.depth + cells c.args.layout.now.structs (type_of (plain c.args.left.now))) c.in_ok-end.end _ _ _ _ _ _ _ _ c.in_ok-end.ensures.number c.in_ok-end.ensures.made c.in_ok-expression.ensures
+    c.in_ok-emit_top_again.ensures.ok c.in_ok-jump.ensures.ok (ap (λ n. c.args.depth + n) (c.cells.ensures.cells ∙ ap (cells c.args.layout.now.structs) c.ty.ensures.ty)) c.in_ok-expression-2.ensures c.in_ok-op.ensures.ok c.place.ensures.placed
+
+pub assign-returns : goal.assign-returns
+assign-returns t c =
+    let count = cells c.args.layout.now.structs c.args.ty in
+    let home = code.home c.args.layout.now (plain c.args.place.now) in
+    assign_code _ c.args.out.now _ _ _ _ _ _ _ _ (code.read_first (code.is_set c.args.operator) (code.at_home (code.read c.args.layout.now c.args.depth count) home))
+    (code.emit c.args.layout.now c.args.out.now.labels (c.args.depth + code.cells_first (code.is_set c.args.operator) count) (plain c.args.value.now))
+    (code.at_home (code.write c.args.layout.now (c.args.depth + count) count) home) _ c.in_ok-first.ensures.lines c.in_ok-expression.ensures c.in_ok-combine.ensures
+    (simp (c.in_ok-home.ensures, c.cells-count.ensures.cells) refl) (simp (c.in_ok-first.ensures.lines, c.in_ok-first.ensures.cells, c.cells-count.ensures.cells) refl) (simp (c.in_ok-home.ensures, c.cells-count.ensures.cells) refl) c.emit_write.ensures
+
+pub argument-returns : goal.argument-returns
+argument-returns t c =
+    captured_code c.args.layout.now (plain c.args.given.now) c.args.depth c.in_ok-end.end _ _ _ _ _ _ _ _ c.in_ok-end.ensures.number (ap is_void (sym c.ty.ensures.ty) ∙ (sym c.is_void.ensures ∙ c.if-not-is_void.false)) (simp c.globals.ensures.globals refl)
+    c.in_ok-end.ensures.made c.in_ok-op.ensures.ok c.in_ok-jump.ensures.ok c.in_ok-expression.ensures c.in_ok-op-2.ensures.ok c.place.ensures.placed
 
 -- ---- calls
 
