@@ -3,6 +3,7 @@ use Rattle.std.proofs.Common.{◌≡◌, ◌<◌, ◌≤◌, ◌+◌, ℕ, List,
 use Rattle.std.specs.Result.{OnOk}
 use Rattle.std.proofs.lemmas.List.{append-nil, at_drop_more, drop_all}
 use Rattle.nss_tree.specs.declared.statements.Stmt.{Stmt}
+use Rattle.nss_tree.specs.declared.units.Item.{Item}
 use Rattle.nss_tree.specs.Reading.{tree_of_stmt, tree_of_stmts}
 use Rattle.nss_tree.specs.Readings.{stmts_more}
 use Rattle.nss_tree.specs.Statements.{PlainStmt, map_stmt, map_stmts}
@@ -11,12 +12,21 @@ use Rattle.nwq_value.specs.declared.engine.Const.{Const}
 use Rattle.nss_typing.specs.declared.expressions.Expression.{Expression}
 use Rattle.nss_typing.specs.declared.places.Variable.{Variable}
 use Rattle.nss_typing.specs.Reading.{plain}
-use Rattle.nss_typing.specs.UnitReading.{typed_stmt, typed_stmts}
-use Rattle.code_emission.specs.Layout.{Structs, declared_cells, positions, all_positions}
+use Rattle.nss_typing.specs.Typed.{TypedItem}
+use Rattle.nss_typing.specs.UnitReading.{typed_item, typed_items, typed_stmt, typed_stmts}
+use Rattle.code_emission.specs.Layout.{Structs, declared_cells, positions, all_positions, structs_from}
 
 -- the next member
 next : {X Y : Type 0} (F : List X → Y) (xs : List X) (i : ℕ) (x : X) → x ≡ get_or xs i x → i < length xs → F (drop i xs) ≡ F (x ∷ drop (i + 1) xs)
 next F xs i x is lt = at_drop_more F xs i x lt ∙ ap (λ y. F (y ∷ drop (i + 1) xs)) (sym is)
+
+-- ---- structs
+
+pub structs_step : (xs : List (Item Expression Const Ty Variable)) (i : ℕ) (x : Item Expression Const Ty Variable) (now after end : Structs) → x ≡ get_or xs i x → i < length xs
+    → ((rest : List TypedItem) → structs_from now (typed_item x ∷ rest) ≡ structs_from after rest)
+    → structs_from now (typed_items (drop i xs)) ≡ end → structs_from after (typed_items (drop (i + 1) xs)) ≡ end
+structs_step xs i x now after end is lt put before =
+    sym (put (typed_items (drop (i + 1) xs))) ∙ (sym (next (λ ys. structs_from now (typed_items ys)) xs i x is lt) ∙ before)
 
 -- ---- statements
 

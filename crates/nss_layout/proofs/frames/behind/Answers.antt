@@ -1,5 +1,5 @@
 use Rattle.std.proofs.Common.{refl}
-use Rattle.nss_tree.specs.Readings.{tree_block, tree_do_loop, tree_for_loop, tree_if_else, tree_if_only, tree_switch, tree_while_loop}
+use Rattle.nss_tree.specs.Readings.{tree_block, tree_break_off, tree_case_label, tree_continue_on, tree_default_label, tree_do_loop, tree_empty, tree_expression, tree_for_loop, tree_if_else, tree_if_only, tree_return_from, tree_switch, tree_while_loop}
 use Rattle.nss_layout.proofs.Loops.{known_behind}
 use Rattle.nss_layout.proofs.frames.behind.Goals as goal
 
@@ -23,3 +23,24 @@ returns-in-For c = known_behind _ _ _ _ (tree_for_loop _ _ _ _ _ _ c.in-For.is) 
 
 pub returns-in-Switch : goal.returns-in-Switch
 returns-in-Switch c = known_behind _ _ _ _ (tree_switch _ _ _ _ c.in-Switch.is) refl
+
+pub returns-in-Case : goal.returns-in-Case
+returns-in-Case c = known_behind _ _ _ _ (tree_case_label _ _ _ c.in-Case.is) refl
+
+pub returns-in-Default : goal.returns-in-Default
+returns-in-Default c = known_behind _ _ _ _ (tree_default_label _ _ c.in-Default.is) refl
+
+pub returns-in-Empty : goal.returns-in-Empty
+returns-in-Empty c = known_behind _ _ _ _ (tree_empty _ _ c.in-Empty.is) refl
+
+pub returns-in-Expression : goal.returns-in-Expression
+returns-in-Expression c = known_behind _ _ _ _ (tree_expression _ _ _ c.in-Expression.is) refl
+
+pub returns-in-Break : goal.returns-in-Break
+returns-in-Break c = known_behind _ _ _ _ (tree_break_off _ _ c.in-Break.is) refl
+
+pub returns-in-Continue : goal.returns-in-Continue
+returns-in-Continue c = known_behind _ _ _ _ (tree_continue_on _ _ c.in-Continue.is) refl
+
+pub returns-in-Return : goal.returns-in-Return
+returns-in-Return c = known_behind _ _ _ _ (tree_return_from _ _ _ c.in-Return.is) refl
