@@ -1,8 +1,9 @@
 //! What the fields of a tree hold, as the file has it.
 
-ghost use Rattle.std.specs.Prelude.{◌≡◌, ◌++◌, length, IfOk};
+ghost use Rattle.std.specs.Prelude.{◌≡◌, ◌++◌, length, IfOk, OnOk};
 ghost use Rattle.std.specs.List.{flat_map};
 ghost use Rattle.gff_tree.specs.Tree.{plain_leaf, nodes_list, fields_list};
+ghost use Rattle.gff_write.specs.declared.flat.Content.TheVariants.{Data, Numbers};
 ghost use Rattle.gff_write.specs.Flat.{word, wide, counted, named, part_bytes, localized_bytes};
 ghost use Rattle.gff_write.specs.Flat.{leaf_kind, leaf_content, numbers_from, padded, entries_from};
 
@@ -13,58 +14,81 @@ use gff_tree::{Field, LABEL_BYTES, Label, Leaf, Loc, Node, readings_tell};
 use nwq_value::{Items, NoMemory};
 use std::alloc::Global;
 
-fn counted_bytes(alloc: Global, text: &[u8]) -> Result<Items<u8>, NoMemory>
-    ensures { IfOk result (λ bytes. bytes ≡ counted text.now) }
+fn counted_data(alloc: Global, text: &[u8]) -> Result<Content, NoMemory>
+    ensures { IfOk result (λ content. content ≡ Data (counted text.now)) }
 {
     let mut bytes = Items::new(alloc);
     put_counted(&mut bytes, text)?;
-    Ok(bytes)
+    Ok(Content::Data(bytes))
 }
 
-fn wide_bytes(alloc: Global, n: u64) -> Result<Items<u8>, NoMemory>
-    ensures { IfOk result (λ bytes. bytes ≡ wide n) }
+fn wide_data(alloc: Global, n: u64) -> Result<Content, NoMemory>
+    ensures { IfOk result (λ content. content ≡ Data (wide n)) }
 {
     let mut bytes = Items::new(alloc);
     put_wide(&mut bytes, n)?;
-    Ok(bytes)
+    Ok(Content::Data(bytes))
+}
+
+fn copied_data(alloc: Global, bytes: &[u8]) -> Result<Content, NoMemory>
+    ensures { IfOk result (λ content. content ≡ Data bytes.now) }
+{
+    Ok(Content::Data(Items::of_slice(alloc, bytes)?))
 }
 
 /// The name of a resource behind its length.
-fn named_bytes(alloc: Global, name: &[u8]) -> Result<Items<u8>, NoMemory>
-    ensures { IfOk result (λ bytes. bytes ≡ named name.now) }
+fn named_data(alloc: Global, name: &[u8]) -> Result<Content, NoMemory>
+    ensures { IfOk result (λ content. content ≡ Data (named name.now)) }
 {
     let mut bytes = Items::new(alloc);
     bytes.push((name.len() % 256) as u8)?;
     bytes.extend(name)?;
-    Ok(bytes)
+    Ok(Content::Data(bytes))
 }
 
-/// A localized string, which follows its total size.
-fn body_bytes(alloc: Global, loc: &Loc) -> Result<Items<u8>, NoMemory>
-    ensures { IfOk result (λ bytes. bytes ≡ word loc.now.str_ref ++ word (length loc.now.parts)
-        ++ flat_map part_bytes loc.now.parts) }
+/// Puts a localized string last, without its total size.
+fn put_localized(bytes: &mut Items<u8>, loc: &Loc) -> Result<(), NoMemory>
+    ensures { OnOk result (bytes.new ≡ bytes.old ++ word loc.now.str_ref
+        ++ word (length loc.now.parts) ++ flat_map part_bytes loc.now.parts) }
 {
-    let mut bytes = Items::new(alloc);
-    put_word(&mut bytes, u64::from(loc.str_ref))?;
-    put_word(&mut bytes, loc.parts.len() as u64)?;
+    put_word(bytes, u64::from(loc.str_ref))?;
+    put_word(bytes, loc.parts.len() as u64)?;
     for part in loc.parts.as_slice() {
-        put_word(&mut bytes, u64::from(part.id.cast_unsigned()))?;
-        put_counted(&mut bytes, part.text.as_slice())?;
+        put_word(bytes, u64::from(part.id.cast_unsigned()))?;
+        put_counted(bytes, part.text.as_slice())?;
     }
-    Ok(bytes)
+    Ok(())
 }
 
-/// The numbers of a list's structs, from a number on.
-fn numbers(alloc: Global, nodes: &[Node], first: u64) -> Result<Items<u64>, NoMemory>
-    ensures { IfOk result (λ numbers. numbers ≡ numbers_from first (nodes_list nodes.now)) }
+/// A localized string behind its total size.
+fn localized_data(alloc: Global, loc: &Loc) -> Result<Content, NoMemory>
+    ensures { IfOk result (λ content. content ≡ Data (localized_bytes loc.now)) }
 {
-    let mut numbers = Items::new(alloc);
+    let mut body = Items::new(alloc);
+    put_localized(&mut body, loc)?;
+    counted_data(alloc, body.as_slice())
+}
+
+/// Puts the numbers of a list's structs last, from a number on.
+fn put_numbers(numbers: &mut Items<u64>, nodes: &[Node], first: u64) -> Result<(), NoMemory>
+    ensures { OnOk result (numbers.new ≡ numbers.old
+        ++ numbers_from first (nodes_list nodes.now)) }
+{
     let mut next = first;
     for node in nodes {
         numbers.push(next)?;
         next = sum(next, count_node(node)?)?;
     }
-    Ok(numbers)
+    Ok(())
+}
+
+fn numbered(alloc: Global, nodes: &[Node], first: u64) -> Result<Content, NoMemory>
+    ensures { IfOk result (λ content. content ≡ Numbers (numbers_from first
+        (nodes_list nodes.now))) }
+{
+    let mut numbers = Items::new(alloc);
+    put_numbers(&mut numbers, nodes, first)?;
+    Ok(Content::Numbers(numbers))
 }
 
 fn kind_of(leaf: &Leaf) -> u32
@@ -102,19 +126,16 @@ fn content_of(alloc: Global, leaf: &Leaf, first: u64) -> Result<Content, NoMemor
         Leaf::Short(n) => Ok(Content::Small(u32::from(n.cast_unsigned()))),
         Leaf::Dword(n) => Ok(Content::Small(*n)),
         Leaf::Int(n) => Ok(Content::Small(n.cast_unsigned())),
-        Leaf::Dword64(n) => Ok(Content::Data(wide_bytes(alloc, *n)?)),
-        Leaf::Int64(n) => Ok(Content::Data(wide_bytes(alloc, n.cast_unsigned())?)),
+        Leaf::Dword64(n) => wide_data(alloc, *n),
+        Leaf::Int64(n) => wide_data(alloc, n.cast_unsigned()),
         Leaf::Float(bits) => Ok(Content::Small(u32::from_le_bytes(*bits))),
-        Leaf::Double(bits) => Ok(Content::Data(Items::of_slice(alloc, bits.as_slice())?)),
-        Leaf::Str(text) => Ok(Content::Data(counted_bytes(alloc, text.as_slice())?)),
-        Leaf::Res(name) => Ok(Content::Data(named_bytes(alloc, name.as_slice())?)),
-        Leaf::Loc(loc) => {
-            let body = body_bytes(alloc, loc)?;
-            Ok(Content::Data(counted_bytes(alloc, body.as_slice())?))
-        }
-        Leaf::Void(bytes) => Ok(Content::Data(counted_bytes(alloc, bytes.as_slice())?)),
+        Leaf::Double(bits) => copied_data(alloc, bits.as_slice()),
+        Leaf::Str(text) => counted_data(alloc, text.as_slice()),
+        Leaf::Res(name) => named_data(alloc, name.as_slice()),
+        Leaf::Loc(loc) => localized_data(alloc, loc),
+        Leaf::Void(bytes) => counted_data(alloc, bytes.as_slice()),
         Leaf::Struct(_) => Ok(Content::Number(first)),
-        Leaf::List(nodes) => Ok(Content::Numbers(numbers(alloc, nodes, first)?)),
+        Leaf::List(nodes) => numbered(alloc, nodes, first),
     }
 }
 
@@ -128,11 +149,16 @@ pub fn filled(label: &Label) -> [u8; 16]
     row
 }
 
-/// The fields of a struct, whose structs have the numbers from `first` on.
-pub fn entries(alloc: Global, fields: &[Field], first: u64) -> Result<Items<Entry>, NoMemory>
-    ensures { IfOk result (λ entries. entries ≡ entries_from first (fields_list fields.now)) }
+/// Puts the fields of a struct last, whose structs have the numbers from `first` on.
+pub fn put_fields(
+    alloc: Global,
+    entries: &mut Items<Entry>,
+    fields: &[Field],
+    first: u64,
+) -> Result<(), NoMemory>
+    ensures { OnOk result (entries.new ≡ entries.old
+        ++ entries_from first (fields_list fields.now)) }
 {
-    let mut entries = Items::new(alloc);
     let mut next = first;
     for field in fields {
         let content = content_of(alloc, &field.leaf, next)?;
@@ -143,5 +169,5 @@ pub fn entries(alloc: Global, fields: &[Field], first: u64) -> Result<Items<Entr
         })?;
         next = sum(next, count_leaf(&field.leaf)?)?;
     }
-    Ok(entries)
+    Ok(())
 }

@@ -5,7 +5,7 @@ ghost use Rattle.gff_tree.specs.Tree.{plain_node, plain_leaf};
 ghost use Rattle.gff_write.specs.Flat.{rows_of, leaf_rows};
 
 use crate::count::sum;
-use crate::encode::entries;
+use crate::encode::put_fields;
 use crate::flat::Row;
 use gff_tree::{Leaf, Node, readings_tell};
 use nwq_value::{Items, NoMemory};
@@ -18,7 +18,8 @@ pub fn flatten_node(alloc: Global, node: &Node, rows: &mut Items<Row>) -> Result
 {
     readings_tell();
     let first = sum(rows.len() as u64, 1)?;
-    let fields = entries(alloc, &node.fields, first)?;
+    let mut fields = Items::new(alloc);
+    put_fields(alloc, &mut fields, &node.fields, first)?;
     rows.push(Row {
         kind: node.kind,
         fields,

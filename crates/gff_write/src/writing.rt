@@ -41,32 +41,32 @@ fn count_fields(rows: &[Row]) -> Result<u64, NoMemory>
     Ok(total)
 }
 
-/// The header of a file with these sections.
+/// Puts the header of a file with these sections last.
 #[tactic(auto, unfolding(crate::specs::File::header_of))]
-fn header(
-    alloc: Global,
+fn put_header(
+    out: &mut Items<u8>,
     file_type: &[u8; 4],
     s: &Sections,
     structs: u64,
     fields: u64,
     labels: u64,
-) -> Result<Items<u8>, NoMemory>
-    ensures { IfOk result (λ header. header ≡ header_of file_type.now s.now structs fields labels) }
+) -> Result<(), NoMemory>
+    ensures { OnOk result (out.new
+        ≡ out.old ++ header_of file_type.now s.now structs fields labels) }
 {
     let field_place = sum(56, s.structs.len() as u64)?;
     let label_place = sum(field_place, s.fields.len() as u64)?;
     let data_place = sum(label_place, s.labels.len() as u64)?;
     let index_place = sum(data_place, s.data_bytes.len() as u64)?;
     let list_place = sum(index_place, s.indices.len() as u64)?;
-    let mut out = Items::of_slice(alloc, file_type.as_slice())?;
+    out.extend(file_type.as_slice())?;
     out.extend(b"V3.2".as_slice())?;
-    put_section(&mut out, 56, structs)?;
-    put_section(&mut out, field_place, fields)?;
-    put_section(&mut out, label_place, labels)?;
-    put_section(&mut out, data_place, s.data_bytes.len() as u64)?;
-    put_section(&mut out, index_place, s.indices.len() as u64)?;
-    put_section(&mut out, list_place, s.lists.len() as u64)?;
-    Ok(out)
+    put_section(out, 56, structs)?;
+    put_section(out, field_place, fields)?;
+    put_section(out, label_place, labels)?;
+    put_section(out, data_place, s.data_bytes.len() as u64)?;
+    put_section(out, index_place, s.indices.len() as u64)?;
+    put_section(out, list_place, s.lists.len() as u64)
 }
 
 /// Puts the six sections behind the header.
@@ -93,7 +93,8 @@ fn joined(
     ensures { IfOk result (λ bytes. bytes ≡ header_of file_type.now s.now structs fields labels
         ++ body_of s.now) }
 {
-    let mut out = header(alloc, file_type, s, structs, fields, labels)?;
+    let mut out = Items::new(alloc);
+    put_header(&mut out, file_type, s, structs, fields, labels)?;
     put_body(&mut out, s)?;
     Ok(out)
 }

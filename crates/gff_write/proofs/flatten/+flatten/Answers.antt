@@ -30,7 +30,7 @@ flatten_node-returns t c =
     let all : c.loop-field.rows ++ [] ≡ c.push.new.self ++ rows_below (length c.push.new.self) (fields_list c.deref-field-items.result.now) = rw none at c.loop-field.invariant in
     let first : c.in_ok-first.first ≡ length c.args.rows.now + 1 = c.in_ok-first.ensures ∙ ap (λ n. n + 1) c.len.ensures.len in
     let same = c.deref.ensures.value ∙ sym c.deref-field-items.ensures.value in
-    let read : c.in_ok-fields.fields ≡ entries_from (length c.args.rows.now + 1) (fields_list c.deref-field-items.result.now) =
-    c.in_ok-fields.ensures ∙ (ap (λ n. entries_from n (fields_list c.deref.result.now)) first ∙ ap (λ fs. entries_from (length c.args.rows.now + 1) (fields_list fs)) same) in
+    let read : c.put_fields.new.entries ≡ entries_from (length c.args.rows.now + 1) (fields_list c.deref-field-items.result.now) =
+    (rw c.new-fields.ensures.empty at c.in_ok-put_fields.ensures) ∙ (ap (λ n. entries_from n (fields_list c.deref.result.now)) first ∙ ap (λ fs. entries_from (length c.args.rows.now + 1) (fields_list fs)) same) in
     node_done c.args.rows.now c.push.new.self c.loop-field.rows c.args.node.now _ _ c.deref-field-items.result.now
     (sym (append-nil c.loop-field.rows) ∙ all) c.in_ok-push.ensures.ok read (c.readings_tell.ensures.node c.args.node.now ∙ ap (λ fs. Struct (out-Node c.args.node.now).kind (fields_list fs)) (sym c.deref-field-items.ensures.value))

@@ -1,0 +1,7 @@
+use Rattle.std.proofs.Common.{◌≡◌, ◌++◌, drop}
+use Rattle.gff_tree.specs.Tree.{fields_list}
+use Rattle.gff_write.specs.Flat.{entries_from}
+use Rattle.gff_write.proofs.encode.put_fields.Given as goal
+
+abbrev pub invariant-loop-field : goal.invariant-loop-field
+invariant-loop-field l = l.entries ++ entries_from l.next (fields_list (drop l.field-index l.fields)) ≡ l.fn.entries ++ entries_from l.first (fields_list l.fields)
