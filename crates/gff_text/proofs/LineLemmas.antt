@@ -10,7 +10,7 @@ use Rattle.std.specs.List.{flat_map}
 use Rattle.std.proofs.lemmas.List.{append-nil}
 use Rattle.gff_tree.specs.declared.tree.Field.{Field}
 use Rattle.gff_tree.specs.declared.tree.Node.{Node}
-use Rattle.gff_tree.specs.Tree.{PlainNode, PlainLeaf, Children, plain_node, plain_leaf, fields_list, nodes_in, nodes_from, nodes_list}
+use Rattle.gff_tree.specs.Tree.{PlainNode, PlainFields, PlainLeaf, Struct, Children, plain_node, plain_leaf, fields_list, nodes_in, nodes_from, nodes_list}
 use Rattle.nwq_text.specs.Escape.{escaped}
 use Rattle.gff_text.specs.Text.{line, leaf_text, struct_lines, field_lines, lines_below, list_lines}
 
@@ -35,6 +35,15 @@ one_field depth fields i field out lined now whole lt is before first grown =
     let at : out ++ (own ++ (below ++ rest)) ≡ whole = subst (λ (fs : List Field). out ++ field_lines depth (fields_list fs) ≡ whole) (next_item fields i field lt is) before in
     ap (λ (o : List ℕ). o ++ rest) (grown ∙ ap (λ (o : List ℕ). o ++ below) first)
     ∙ (append_assoc (out ++ own) below rest ∙ (append_assoc out own (below ++ rest) ∙ at))
+
+-- a struct's line and all its fields
+pub struct_done : (old lined now : List ℕ) (depth below kind : ℕ) (node : PlainNode) (fields : PlainFields) → now ≡ lined ++ field_lines below fields →
+    lined ≡ old ++ line depth (codes "struct " ++ decimal kind) → below ≡ depth + 2 → node ≡ Struct kind fields → now ≡ old ++ struct_lines depth node
+struct_done old lined now depth below kind node fields walked first lower made =
+    let own = line depth (codes "struct " ++ decimal kind) in
+    walked
+    ∙ (ap (λ (k : ℕ). lined ++ field_lines k fields) lower
+    ∙ (ap (λ (o : List ℕ). o ++ field_lines (depth + 2) fields) first ∙ (append_assoc old own (field_lines (depth + 2) fields) ∙ ap (λ (n : PlainNode). old ++ struct_lines depth n) (sym made))))
 
 -- one more struct
 pub one_struct : (depth : ℕ) (nodes : List Node) (i : ℕ) (node : Node) (out now whole : List ℕ) → i < length nodes → node ≡ get_or nodes i node → out ++ list_lines depth (nodes_list (drop i nodes)) ≡ whole →

@@ -65,7 +65,6 @@ fn put_part(out: &mut Vec<u8>, depth: usize, part: &LocPart) -> Result<(), NoMem
     Ok(())
 }
 
-#[tactic(auto, using(crate::proofs::LineLemmas::one_more))]
 fn put_parts(out: &mut Vec<u8>, depth: usize, parts: &[LocPart]) -> Result<(), NoMemory>
     ensures { OnOk result (out.new.items ≡ out.old.items ++ flat_map (part_line depth) parts.now) }
 {
