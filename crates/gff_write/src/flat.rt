@@ -1,28 +1,34 @@
-//! The tree as a list of its structs in preorder.
+//! The tree as a list of its structs in preorder, as `specs/File.antt` speaks of it.
 
 use nwq_value::Items;
 
-/// What the third number of a field's row tells: a value, bytes of the field data, the number of a
-/// struct, or the numbers of a list's structs.
+/// What a field holds, by what the third number of its row tells.
 #[derive(Drop)]
 pub enum Content {
+    /// The number itself: a value of at most four bytes.
     Small(u32),
+    /// The place of these bytes in the field data.
     Data(Items<u8>),
+    /// The number of a struct, in preorder.
     Number(u64),
+    /// The place, in the list indices, of the numbers of these structs behind their count.
     Numbers(Items<u64>),
 }
 
-/// A field: its label filled up with zero bytes, the number of its type, and what it holds.
+/// A field.
 #[derive(Drop)]
 pub struct Entry {
+    /// Its label, filled up with zero bytes.
     pub label: [u8; 16],
+    /// The number of its type, 0 to 15.
     pub kind: u32,
     pub content: Content,
 }
 
-/// A struct: its type and its fields.
+/// A struct.
 #[derive(Drop)]
 pub struct Row {
+    /// Its type, as the tree gives it.
     pub kind: u32,
     pub fields: Items<Entry>,
 }

@@ -12,7 +12,7 @@ use crate::put::put_word;
 use nwq_value::{Items, NoMemory};
 use std::alloc::Global;
 
-/// The six sections.
+/// The bytes of the six sections behind the header, in this order.
 #[derive(Drop)]
 pub struct Sections {
     pub structs: Items<u8>,

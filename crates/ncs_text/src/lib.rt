@@ -1,7 +1,8 @@
 //! NCS bytecode as text, both ways: a disassembler and an assembler.
 //!
 //! A line of the text stands for one instruction: its name, its type byte as two hexadecimal
-//! digits, and its arguments, each behind a space; a jump names the place that it leads to.
+//! digits, and its arguments ([`Argument`]), each behind a space; a jump names the place that it
+//! leads to.
 //! `specs/Assembly.antt` says which instructions the lines of a text stand for, by the bytes of
 //! their spellings (`ncs_code`), and `specs/Listing.antt` has the text of a file.
 //!
@@ -20,6 +21,7 @@ mod lines;
 mod number;
 mod putting;
 
+pub use argument::Argument;
 pub use assembler::assemble;
 pub use disassembler::disassemble;
 pub use fault::AsmFault;

@@ -17,5 +17,6 @@ pub mod token;
 pub mod unquote;
 
 pub use lexer::next;
+pub use scan::Scanned;
 pub use token::{Kind, Lexed, SOURCE_BYTES, Token};
 pub use unquote::literal;
