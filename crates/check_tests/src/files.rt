@@ -1,8 +1,7 @@
 use engine_table::built_in;
-use ncs_code::FILE_BYTES;
 use ncs_file::load;
 use ncs_text::assemble;
-use nwq_value::{NoMemory, Table};
+use nwq_value::{FILE_BYTES, NoMemory, Table};
 use stack_check::{CheckFault, check};
 use std::alloc::Global;
 
@@ -16,13 +15,13 @@ pub enum Verdict {
 }
 
 fn verdict_of(alloc: Global, table: &Table, text: &[u8]) -> Verdict {
-    if text.len() > FILE_BYTES as usize {
+    if text.len() > FILE_BYTES {
         return Verdict::Other;
     }
     match assemble(alloc, text) {
         Err(_) => Verdict::Other,
         Ok(file) => {
-            if file.len() > FILE_BYTES as usize {
+            if file.len() > FILE_BYTES {
                 return Verdict::Other;
             }
             match load(alloc, file) {

@@ -1,9 +1,8 @@
 //! Captured states against the table of the file that stores them.
 use engine_table::built_in;
-use ncs_code::FILE_BYTES;
 use ncs_file::load;
 use ncs_text::assemble;
-use nwq_value::{NoMemory, Text, Value};
+use nwq_value::{FILE_BYTES, NoMemory, Text, Value};
 use saved_state::{Cell, Cells, Saved};
 use stack_check::{Checked, check};
 use std::alloc::Global;
@@ -50,13 +49,13 @@ const EMPTY: &[u8] = b"STORE_STATE 10 0 0\nJMP 00 @31\nRETN 00\nRETN 00\n";
 
 fn checked(alloc: Global, text: &[u8]) -> Result<Option<Checked>, NoMemory> {
     let table = built_in(alloc)?;
-    if text.len() > FILE_BYTES as usize {
+    if text.len() > FILE_BYTES {
         return Ok(None);
     }
     match assemble(alloc, text) {
         Err(_) => Ok(None),
         Ok(file) => {
-            if file.len() > FILE_BYTES as usize {
+            if file.len() > FILE_BYTES {
                 return Ok(None);
             }
             match load(alloc, file) {

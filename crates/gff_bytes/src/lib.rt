@@ -11,4 +11,4 @@ pub mod rows;
 pub mod view;
 
 pub use rows::{FieldRow, OpenFault, Part, Range, StructRow};
-pub use view::{FILE_BYTES, View};
+pub use view::View;

@@ -10,9 +10,6 @@ use crate::rows::{FieldRow, OpenFault, Part, Range, StructRow};
 use byteorder::{ByteOrder, LittleEndian};
 use std::marker::Model;
 
-/// How many bytes a file has at most.
-pub const FILE_BYTES: usize = 16_777_216;
-
 /// How many bytes the header has.
 const HEADER_BYTES: usize = 56;
 

@@ -6,10 +6,11 @@ use crate::files::{BASE, changed_file};
 use area_back::into_tree;
 use area_objects::AreaFault;
 use area_tree::Area;
-use gff_bytes::{FILE_BYTES, View};
+use gff_bytes::View;
 use gff_read::read;
 use gff_write::write;
 use local_variables::{Var, Vars};
+use nwq_value::FILE_BYTES;
 use std::alloc::Global;
 
 /// An area of six objects with all five lists, the waypoints' before the doors'.

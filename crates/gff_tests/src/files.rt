@@ -1,9 +1,10 @@
 //! Files that several tests read.
 
 use byteorder::{ByteOrder, LittleEndian};
-use gff_bytes::{FILE_BYTES, View};
+use gff_bytes::View;
 use gff_read::read;
 use gff_tree::Gff;
+use nwq_value::FILE_BYTES;
 use std::alloc::{AllocError, Global};
 
 /// One struct 4294967295 with a BYTE `A` of 7, as the writer has it.

@@ -1,7 +1,8 @@
 use crate::files::{BASE, changed};
-use gff_bytes::{FILE_BYTES, OpenFault, Part, View};
+use gff_bytes::{OpenFault, Part, View};
 use gff_read::{TreeFault, read, read_within};
 use gff_tree::Label;
+use nwq_value::FILE_BYTES;
 use std::alloc::Global;
 
 /// What became of reading a file: its letter, a letter for the part, and the number.

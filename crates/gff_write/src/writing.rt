@@ -16,10 +16,9 @@ use crate::labels::{Labels, label_table};
 use crate::put::put_word;
 use crate::ranges::tree_ranges;
 use crate::sections::{Sections, sections_of};
-use gff_bytes::FILE_BYTES;
 use gff_read::one_tree;
 use gff_tree::Gff;
-use nwq_value::{Items, NoMemory};
+use nwq_value::{FILE_BYTES, Items, NoMemory};
 use std::alloc::Global;
 
 /// Puts the offset and the count of a section last.

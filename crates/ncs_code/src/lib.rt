@@ -32,6 +32,3 @@ pub use instruction::{Lit, Op};
 pub use laws::{distance_leads, one_first_bad, one_name, place_laws, size_laws, spelling_laws};
 pub use leading::jump_place;
 pub use name::opcode_named;
-
-/// How many bytes a file of bytecode has at most.
-pub const FILE_BYTES: u32 = 16_777_216;

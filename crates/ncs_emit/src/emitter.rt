@@ -13,8 +13,8 @@ use crate::fault::EmitFault;
 use crate::finishing::{places_of, put_lines};
 use crate::jump::Jump;
 use crate::line::Kept;
-use ncs_code::{FILE_BYTES, Op, header, size_laws, spelling_laws};
-use nwq_value::NoMemory;
+use ncs_code::{Op, header, size_laws, spelling_laws};
+use nwq_value::{FILE_BYTES, NoMemory};
 use std::alloc::Global;
 use std::marker::Model;
 

@@ -10,9 +10,9 @@ ghost use Rattle.ncs_text.specs.Steps.{HasCode, IsPassed, IsWhole};
 use crate::fault::AsmFault;
 use crate::lines::line_at;
 use crate::putting::put_line;
-use ncs_code::{FILE_BYTES, HEADER_BYTES, header, one_name, place_laws, size_laws, spelling_laws};
+use ncs_code::{HEADER_BYTES, header, one_name, place_laws, size_laws, spelling_laws};
 use ncs_file::{LoadFault, load};
-use nwq_value::NoMemory;
+use nwq_value::{FILE_BYTES, NoMemory};
 use std::alloc::Global;
 
 /// What the lines of a text stand for, as far as they were read.

@@ -18,5 +18,5 @@ pub mod unquote;
 
 pub use lexer::next;
 pub use scan::Scanned;
-pub use token::{Kind, Lexed, SOURCE_BYTES, Token};
+pub use token::{Kind, Lexed, Token};
 pub use unquote::literal;

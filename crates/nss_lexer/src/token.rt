@@ -1,6 +1,3 @@
-/// How many bytes a source file has at most.
-pub const SOURCE_BYTES: usize = 16_777_216;
-
 /// What a token is.
 #[derive(Clone, Copy, Debug, PartialEq, Eq)]
 pub enum Kind {

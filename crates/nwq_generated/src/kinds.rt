@@ -3,8 +3,8 @@ ghost use Rattle.std.specs.Prelude.{◌≡◌, [], true, IfOk};
 ghost use Rattle.nwq_outside.specs.Outside.{next};
 ghost use Rattle.nwq_generated.specs.Generated.{files_with};
 
-use nwq_outside::{Done, FILE_BYTES, Files, MemFiles, Read, Sink};
-use nwq_value::{Items, NoMemory};
+use nwq_outside::{Done, Files, MemFiles, Read, Sink};
+use nwq_value::{FILE_BYTES, Items, NoMemory};
 use std::alloc::Global;
 
 /// The next number of a count, which stays at the greatest one.

@@ -1,9 +1,6 @@
 ghost use Rattle.std.specs.Prelude.{◌≡◌};
 ghost use Rattle.nwq_outside.specs.Outside.{next};
 
-/// How many bytes a file has at most.
-pub const FILE_BYTES: usize = 16_777_216;
-
 /// The answer to a read.
 #[derive(Drop)]
 pub enum Read {
@@ -13,7 +10,7 @@ pub enum Read {
     Missing,
     /// The outside failed.
     Failed,
-    /// The content has more than [`FILE_BYTES`] bytes.
+    /// The content has more than [`nwq_value::FILE_BYTES`] bytes.
     Long,
     NoMemory,
 }

@@ -14,7 +14,7 @@ pub mod memory;
 pub mod real;
 pub mod traits;
 
-pub use answer::{Done, FILE_BYTES, Read};
+pub use answer::{Done, Read};
 pub use memory::{MemFiles, MemSink};
 pub use real::{RealFiles, RealSink};
 pub use traits::{Files, Sink};

@@ -5,9 +5,9 @@ ghost use Rattle.std.specs.FinMap as map;
 ghost use Rattle.nwq_outside.specs.Outside.{ReadsContent, IsFileSize, KeepsOthers};
 ghost use Rattle.nwq_outside.specs.Memory.{contents_of};
 
-use crate::answer::{Done, FILE_BYTES, Read, raised};
+use crate::answer::{Done, Read, raised};
 use crate::traits::{Files, Sink};
-use nwq_value::{Items, NoMemory};
+use nwq_value::{FILE_BYTES, Items, NoMemory};
 use std::alloc::Global;
 use std::collections::BTreeMap;
 use std::marker::Model;

@@ -1,8 +1,9 @@
 ghost use Rattle.std.specs.Prelude.{◌≡◌, [], false};
 ghost use Rattle.std.specs.FinMap as map;
 
-use crate::answer::{Done, FILE_BYTES, Read, raised};
+use crate::answer::{Done, Read, raised};
 use crate::traits::{Files, Sink};
+use nwq_value::FILE_BYTES;
 use std::alloc::Global;
 use std::fs::File;
 use std::io::{self, ErrorKind, Read as _, Write};

@@ -29,3 +29,6 @@ pub use roles::role_of;
 pub use table::Table;
 pub use text::Text;
 pub use value::{Args, Effect, Ints, Randoms, Ty, Tys, Value, start_of};
+
+/// How many bytes a file of any kind has at most: one that is read, and one that is written.
+pub const FILE_BYTES: usize = 16_777_216;

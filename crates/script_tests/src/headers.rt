@@ -1,12 +1,11 @@
 use engine_table::{HeaderFault, built_in, read_header};
-use nss_lexer::SOURCE_BYTES;
-use nwq_value::{Const, NoMemory, Param, Role, Table, Ty};
+use nwq_value::{Const, FILE_BYTES, NoMemory, Param, Role, Table, Ty};
 use std::alloc::Global;
 use std::test::Fail;
 
 /// The fault of a text, or `NoMemory` where it is a header.
 fn fault_of(alloc: Global, text: &[u8]) -> HeaderFault {
-    if text.len() > SOURCE_BYTES {
+    if text.len() > FILE_BYTES {
         return HeaderFault::NoMemory;
     }
     match read_header(alloc, text) {
@@ -17,7 +16,7 @@ fn fault_of(alloc: Global, text: &[u8]) -> HeaderFault {
 
 /// The table of a text, where it is a header.
 fn table_of(alloc: Global, text: &[u8]) -> Option<Table> {
-    if text.len() > SOURCE_BYTES {
+    if text.len() > FILE_BYTES {
         return None;
     }
     match read_header(alloc, text) {

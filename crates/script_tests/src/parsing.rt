@@ -1,12 +1,12 @@
-use nss_lexer::SOURCE_BYTES;
 use nss_parser::{ParseFault, parse};
 use nss_tree::{Expr, Item, Stmt, Tree};
+use nwq_value::FILE_BYTES;
 use std::alloc::Global;
 use test_units::tokens_of;
 
 /// The tree of a script, which is short.
 fn tree_of(alloc: Global, source: &[u8]) -> Result<Tree, ParseFault> {
-    if source.len() > SOURCE_BYTES {
+    if source.len() > FILE_BYTES {
         return Err(ParseFault::NoMemory);
     }
     let tokens = tokens_of(alloc, source)?;

@@ -1,11 +1,11 @@
-use nss_lexer::{Kind, Lexed, SOURCE_BYTES, literal, next};
-use nwq_value::{NoMemory, Text};
+use nss_lexer::{Kind, Lexed, literal, next};
+use nwq_value::{FILE_BYTES, NoMemory, Text};
 use std::alloc::Global;
 use std::test::Fail;
 
 /// The first token's kind and span, or the bad place.
 fn seen(bytes: &[u8]) -> (Option<Kind>, u32, u32) {
-    if bytes.len() > SOURCE_BYTES {
+    if bytes.len() > FILE_BYTES {
         return (None, 0, 0);
     }
     match next(bytes, 0, 0) {
@@ -60,7 +60,7 @@ fn nothing_begins_at_a_bad_place(rt: HostRuntime) {
 
 /// What the string at the front stands for, or the empty text.
 fn value(alloc: Global, bytes: &[u8]) -> Result<Text, NoMemory> {
-    if bytes.len() > SOURCE_BYTES {
+    if bytes.len() > FILE_BYTES {
         return Ok(Text::empty(alloc));
     }
     match next(bytes, 0, 0) {

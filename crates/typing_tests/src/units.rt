@@ -1,12 +1,11 @@
 //! Small units, each with its least fault or none.
 
 use engine_table::{built_in, read_header};
-use nss_lexer::SOURCE_BYTES;
 use nss_parser::parse;
 use nss_tree::Tree;
 use nss_types::{TypeFault, type_unit};
 use nss_typing::{Fault, FaultKind};
-use nwq_value::{NoMemory, Table};
+use nwq_value::{FILE_BYTES, NoMemory, Table};
 use std::alloc::Global;
 use std::test::Fail;
 use test_units::tokens_of;
@@ -16,7 +15,7 @@ pub type Row = (&'static [u8], Option<(FaultKind, u32)>);
 
 /// The tree of a unit, which is short.
 fn tree_of(alloc: Global, source: &[u8]) -> Option<Tree> {
-    if source.len() > SOURCE_BYTES {
+    if source.len() > FILE_BYTES {
         return None;
     }
     match tokens_of(alloc, source) {
@@ -61,7 +60,7 @@ pub fn first_unlike_built_in(alloc: Global, rows: &[Row]) -> Result<u32, NoMemor
 
 /// The same under a header of these lines.
 pub fn first_unlike_under(alloc: Global, header: &[u8], rows: &[Row]) -> Option<u32> {
-    if header.len() > SOURCE_BYTES {
+    if header.len() > FILE_BYTES {
         return None;
     }
     match read_header(alloc, header) {
