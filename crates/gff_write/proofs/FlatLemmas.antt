@@ -66,3 +66,21 @@ pub indices_step : (before now : List ℕ) (first next k j : ℕ) (whole : List 
 indices_step before now first next k j whole so more grown up =
     let at : before ++ (word first ++ words_up (first + 1) j) ≡ whole = subst (λ (i : ℕ). before ++ words_up first i ≡ whole) more so in
     ap (λ (n : ℕ). now ++ words_up n j) up ∙ (ap (λ (bs : List ℕ). bs ++ words_up (first + 1) j) grown ∙ (append_assoc before (word first) (words_up (first + 1) j) ∙ at))
+
+-- one more field is counted
+pub field_counted : (total now : ℕ) (items : List Field) (i : ℕ) (item : Field) (whole : ℕ) → i < length items → item ≡ get_or items i item →
+    total + fields_count (fields_list (drop i items)) ≡ whole → now ≡ total + leaf_count (plain_leaf item.leaf) → now + fields_count (fields_list (drop (i + 1) items)) ≡ whole
+field_counted total now items i item whole lt is before grown =
+    let next : drop i items ≡ item ∷ drop (i + 1) items = rw (add-one, drop-cons items i item) (ap (λ (f : Field). f ∷ drop (suc i) items) (sym is)) in
+    let at : total + (leaf_count (plain_leaf item.leaf) + fields_count (fields_list (drop (i + 1) items))) ≡ whole =
+    subst (λ (fs : List Field). total + fields_count (fields_list fs) ≡ whole) next before in
+    omega (arith, at, grown)
+
+-- one more struct of a list is counted
+pub node_counted : (total now : ℕ) (items : List Node) (i : ℕ) (item : Node) (whole : ℕ) → i < length items → item ≡ get_or items i item →
+    total + nodes_count (nodes_list (drop i items)) ≡ whole → now ≡ total + node_count (plain_node item) → now + nodes_count (nodes_list (drop (i + 1) items)) ≡ whole
+node_counted total now items i item whole lt is before grown =
+    let next : drop i items ≡ item ∷ drop (i + 1) items = rw (add-one, drop-cons items i item) (ap (λ (n : Node). n ∷ drop (suc i) items) (sym is)) in
+    let at : total + (node_count (plain_node item) + nodes_count (nodes_list (drop (i + 1) items))) ≡ whole =
+    subst (λ (ns : List Node). total + nodes_count (nodes_list ns) ≡ whole) next before in
+    omega (arith, at, grown)
