@@ -19,7 +19,7 @@ use nwq_work::{Status, refuse_form};
 use std::alloc::Global;
 
 /// Does the command that the words are.
-#[tactic(auto, using(nwq_work::specs::Parts::refused))]
+#[tactic(auto)]
 pub fn command<F: Files, S: Sink>(
     alloc: Global,
     words: &[String],
