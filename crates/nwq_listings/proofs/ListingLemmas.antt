@@ -123,5 +123,3 @@ pub named_at : (lines : List ScriptLine) (i : ℕ) (line d : ScriptLine) → Are
 named_at [] i line d all lt is = absurd (omega (arith, lt))
 named_at (l ∷ lines) zero line d all lt is = subst (λ (x : ScriptLine). IsTrue (is_script_name x.name)) (sym is) all.0
 named_at (l ∷ lines) (suc i) line d all lt is = named_at lines i line d all.2 (omega (arith, lt)) is
-
-pub ruleset listings = (begins, stops, cut_on, is_done, keeps_on, named_at)

@@ -17,7 +17,7 @@ use plan_text::Script;
 use std::alloc::Global;
 
 /// Reads the scripts of these lines, one after the other, and puts each last.
-#[tactic(auto, using(crate::proofs::ListingLemmas::listings))]
+#[tactic(auto)]
 fn list_on<F: Files, S: Sink>(
     alloc: Global,
     table: &Table,
