@@ -80,6 +80,4 @@ pub has_some : (files : List Source) (script : List ℕ) → HasScript files scr
 has_some [] script h = absurd h
 has_some (file ∷ files) script h = omega arith
 
-pub ruleset gathered = (lacks_does, exceeds_does, bad_does, many_does, include_does, cut_does)
-
 pub ruleset parsed = (nested_does, syntax_does, cut_does)

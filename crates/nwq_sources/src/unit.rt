@@ -97,7 +97,7 @@ pub fn refuse_end<S: Sink>(alloc: Global, unit: &Unit, cause: Cause, out: &mut S
 }
 
 /// Refuses a script that has no unit.
-#[tactic(auto, using(crate::proofs::UnitLemmas::gathered))]
+#[tactic(auto)]
 fn refuse_gather<S: Sink>(alloc: Global, fault: GatherFault, out: &mut S) -> Status
     ensures does { IsTrue S.tells → (c : Contents) (name : List ℕ) →
         Gathers (fin_map.get c) name (Err fault) →
