@@ -209,5 +209,3 @@ executes_follow scripts e n count r m mid now a w v listed other case call other
     let p = executes_parts e n count r m.running mid.running a listed other case call in
     subst (λ o. IfSome o (λ act. followed (host scripts e) (state m w) act ≡ Goes (state now v))) (sym p.1)
     (ap Goes (executed_same (host scripts e) p.0.name p.0.target mid.running (state m w) (state mid w) (sym (ap (λ (f : Frames). f.waiting) others)) refl ∙ is e p.0.name p.0.target p.0.are))
-
-pub ruleset call_lemmas = (call_case, call_listed, call_typed, asks_follow, executes_both, executes_follow)

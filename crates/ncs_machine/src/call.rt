@@ -90,7 +90,7 @@ impl Machine {
     }
 
     /// ACTION, of this size.
-    #[tactic(auto, using(crate::proofs::Calls::call_lemmas))]
+    #[tactic(auto, using(crate::proofs::Calls::call_listed))]
     pub(crate) fn call_engine(
         &mut self,
         alloc: Global,

@@ -1,6 +1,6 @@
 use Rattle.std.proofs.Common.{[], sym, ◌∙◌}
 use Rattle.ncs_machine.specs.Host.{scripts_of}
-use Rattle.ncs_machine.proofs.Calls.{asks_follow, call_typed, executes_follow}
+use Rattle.ncs_machine.proofs.Calls.{asks_follow, call_case, call_typed, executes_both, executes_follow}
 use Rattle.ncs_machine.proofs.machine.Machine.call_engine.Goals as goal
 
 pub returns-in_ok-execute_named-in-Some-clause-called : goal.returns-in_ok-execute_named-in-Some-clause-called
@@ -21,3 +21,12 @@ pub ask-requires-clause-types : goal.ask-requires-clause-types
 ask-requires-clause-types g c =
     call_typed (record { table = c.args.table.now; cell = λ name column row. [] }) c.args.number c.args.count c.in-Some.routine.now c.args.self.now.running c.take.new.self.running c.in_ok-args-in-Some.args
     (sym c.in-Some.ensures.entry) c.in_ok-args-in-Some.ensures.call
+
+pub take-requires-clause-case : goal.take-requires-clause-case
+take-requires-clause-case g c =
+    call_case c.args.table.now c.args.number c.args.count c.in-Some.routine.now c.args.self.now.running (sym c.in-Some.ensures.entry) c.requires.case
+
+pub execute_named-requires-clause-both : goal.execute_named-requires-clause-both
+execute_named-requires-clause-both g c =
+    executes_both (record { table = c.args.table.now; cell = λ name column row. [] }) c.args.number c.args.count c.in-Some.routine.now c.args.self.now.running c.take.new.self.running c.in_ok-args-in-Some.args
+    (sym c.in-Some.ensures.entry) (sym c.executes-other_script.ensures.test ∙ c.if-other_script.true) c.requires.case c.in_ok-args-in-Some.ensures.call
