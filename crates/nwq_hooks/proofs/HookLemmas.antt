@@ -1,5 +1,5 @@
 -- The functions by number, and the hooks that stand for them.
-use Rattle.std.proofs.Common.{◌≡◌, ℕ, zero, suc, ◌+◌, ◌≤◌, List, [], ◌∷◌, ◌++◌, take, Some, refl, sym, ap, subst, ◌∙◌, arith}
+use Rattle.std.proofs.Common.{◌≡◌, ℕ, zero, suc, ◌+◌, ◌≤◌, List, [], ◌∷◌, ◌++◌, length, take, Some, Result, Ok, Err, OnOk, refl, sym, ap, subst, ◌∙◌, arith}
 use Rattle.std.specs.List.{slice_get}
 use Rattle.nwq_value.specs.Limits.{text_limit}
 use Rattle.nwq_value.specs.declared.value.Ty.{Ty}
@@ -8,7 +8,7 @@ use Rattle.table_2da.specs.declared.tables.Named.{Named}
 use Rattle.hook_table.specs.Served.{AreFirst, FirstGrow}
 use Rattle.hook_table.specs.Standard.{standard, function_numbered, pure_named, IsAnswer}
 use Rattle.hook_table.specs.declared.hook.Known.{Known}
-use Rattle.world_core.specs.Calls.{tables_of_hook, AreServing}
+use Rattle.world_core.specs.Calls.{tables_of, tables_of_hook, AreServing}
 
 -- a function's name is no longer than a text
 pub name_kept : (n : ℕ) → take text_limit (function_numbered n).name ≡ (function_numbered n).name
@@ -55,3 +55,28 @@ same_answer tables name same gives type args v none named gives_so answer = reco
   value = ap (λ t. pure_named t name args) none ∙ (ap (λ m. pure_named [] m args) named ∙ answer.value);
   ty = answer.ty ∙ sym gives_so;
 }
+
+-- an answer of the same function over the same tables
+pub like_answer : (tables : List Named) (name same : List ℕ) (gives type : Ty) (args : List Value) (v : Value) → name ≡ same → gives ≡ type
+    → IsAnswer tables same type args v → IsAnswer tables name gives args v
+like_answer tables name same gives type args v named gives_so answer =
+    subst (λ n. IsAnswer tables n gives args v) (sym named) (subst (λ t. IsAnswer tables same t args v) (sym gives_so) answer)
+
+-- the hook that is put behind so many is found by their number
+at_last : (old : List Known) (h : Known) (n : ℕ) → length old ≡ n → slice_get (old ++ h ∷ []) n ≡ Some h
+at_last [] h zero count = refl
+at_last [] h (suc n) count = absurd (omega (arith, count))
+at_last (x ∷ old) h zero count = absurd (omega (arith, count))
+at_last (x ∷ old) h (suc n) count = at_last old h n (omega (arith, count))
+
+-- with the tenth hook there are ten, and the tables are its own
+module _ {A E : Type 0} where
+  pub cell_first : (law : FirstGrow) (r : Result A E) (old new : List Known) (h : Known) → AreFirst 9 old → OnOk r (new ≡ old ++ h ∷ [])
+      → h.name ≡ (function_numbered 9).name → h.params ≡ (function_numbered 9).params → h.result ≡ (function_numbered 9).result → OnOk r (AreFirst 10 new)
+  cell_first law (Ok done) old new h first is name params result = next_first law 9 old new h (omega arith) first is name params result
+  cell_first law (Err e) old new h first is name params result = tt
+
+  pub cell_tables : (r : Result A E) (old new : List Known) (h : Known) (tables : List Named) → AreFirst 9 old → OnOk r (new ≡ old ++ h ∷ [])
+      → h.tables ≡ tables → OnOk r (tables_of new ≡ tables)
+  cell_tables (Ok done) old new h tables first is same = ap tables_of is ∙ (ap tables_of_hook (at_last old h 9 first.count) ∙ same)
+  cell_tables (Err e) old new h tables first is same = tt

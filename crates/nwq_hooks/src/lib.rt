@@ -109,7 +109,7 @@ pub fn put_hook(alloc: Global, hooks: &mut Hooks, n: u8, call: Call) -> Result<(
 /// Puts the hook of the function that looks cells up last, the tenth, where there are tables. The
 /// closure owns a copy of them, and the hook keeps the tables themselves. After `NoMemory` it is
 /// dropped.
-#[tactic(auto, using(crate::proofs::HookLemmas::next_first, crate::proofs::HookLemmas::name_kept))]
+#[tactic(auto)]
 pub fn put_cell_hook(
     alloc: Global,
     hooks: &mut Hooks,
