@@ -36,8 +36,6 @@ module _ (header : EngineTable) (name : List ℕ) (ops : List PlainOp) (c : Cont
   pub check_cut : (t : List ℕ) → Does (checked_in header name ops) c t (Err Memory) c t
   check_cut t = cut_here (checked_in header name ops) Memory c c t t tt refl refl
 
-pub ruleset checked = (passes_does, unstacked_does, check_cut)
-
 pub source_stops : (status : Status) → StopsSource status → StopsCheck status
 source_stops Done h = h
 source_stops Words h = h

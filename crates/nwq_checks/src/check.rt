@@ -19,7 +19,7 @@ use stack_check::{CheckFault, Checked, check};
 use std::alloc::Global;
 
 /// Checks the code of the file of this name under a header.
-#[tactic(auto, using(crate::proofs::CheckLemmas::checked))]
+#[tactic(auto)]
 pub fn check_code<S: Sink>(
     alloc: Global,
     table: &Table,
