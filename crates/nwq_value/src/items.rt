@@ -7,7 +7,6 @@ use std::alloc::Global;
 use std::marker::Model;
 
 /// A plain list that grows at its end. Contracts see it as the list of its items.
-#[derive(Debug)]
 pub struct Items<T> {
     all: Vec<T>,
 }

@@ -91,9 +91,16 @@ impl Table {
         }) }
         ensures err { OnErr result (self.new ≡ self.old) }
     {
-        let name = Vec::from_slice(self.alloc, name.bytes())?;
-        self.constants.insert(name, value)?;
-        Ok(())
+        match self.constants.insert(name.into_bytes(), value) {
+            Ok(old) => {
+                drop(old);
+                Ok(())
+            }
+            Err(back) => {
+                drop(back);
+                Err(NoMemory)
+            }
+        }
     }
 
     /// How many routines there are.

@@ -9,7 +9,6 @@ use std::marker::Model;
 pub const TEXT_BYTES: usize = 8192;
 
 /// A string value: a list of at most [`TEXT_BYTES`] bytes, of any values.
-#[derive(Debug)]
 pub struct Text {
     bytes: Vec<u8>,
 }
@@ -65,6 +64,14 @@ impl Text {
         ensures bound { length self.now ≤ text_limit }
     {
         self.bytes.as_slice()
+    }
+
+    /// The vector of the bytes, which takes no memory.
+    pub(crate) fn into_bytes(self) -> Vec<u8>
+        ensures same { result.items ≡ self }
+    {
+        let Text { bytes } = self;
+        bytes
     }
 
     /// An equal text.
