@@ -22,6 +22,9 @@ IsBytes-take n bytes h i =
 pub taken_back : {A : Type 0} (xs ys : List A) → take (length xs) (xs ++ ys) ≡ xs
 taken_back xs ys = take-append_seam xs ys
 
+pub taken_back_to : {A : Type 0} (n : ℕ) (xs ys zs : List A) → n ≡ length xs → zs ≡ xs ++ ys → take n zs ≡ xs
+taken_back_to n xs ys zs size is = ap (take n) is ∙ ap (λ m. take m (xs ++ ys)) size ∙ taken_back xs ys
+
 -- the front item and what is left of a rest
 next : (xs : List ℕ) (i j : ℕ) → j ≡ i + 1 → i < length xs → drop i xs ≡ get_or xs i 0 ∷ drop j xs
 next xs i j is lt = rw is (drop_more xs i 0 lt)
