@@ -600,3 +600,8 @@ first_key (p ∷ ps) (Some k) queues key =
 pub ruleset first_facts = (first_there, first_head, first_left)
 
 pub ruleset left_facts = (left_start, left_none, left_found)
+
+-- the entry of a queue of one
+pub only_front : {A : Type 0} (x : A) (rest all : List A) → all ≡ x ∷ rest → length all ≡ 1 → all ≡ x ∷ []
+only_front x [] all is one = is
+only_front x (y ∷ rest) all is one = absurd (omega (arith, one, ap length is))
