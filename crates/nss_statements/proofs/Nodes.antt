@@ -1,7 +1,7 @@
 -- A statement of the source that is known, with its parts as code reaches them; how large it is; and the scope of a statement that is left.
-use Rattle.std.proofs.Common.{◌≡◌, ◌<◌, ◌≤◌, ◌+◌, ℕ, zero, suc, List, [], ◌∷◌, length, drop, get_or, Option, Result, Ok, Err, arith, sym, ap, subst, ◌∙◌}
+use Rattle.std.proofs.Common.{◌≡◌, ◌<◌, ◌≤◌, ◌+◌, ℕ, zero, suc, List, [], ◌∷◌, length, drop, get_or, Option, Result, Ok, Err, arith, sym, true≢false, ap, subst, ◌∙◌}
 use Rattle.std.specs.Option.{option_map}
-use Rattle.std.specs.Result.{OnOk}
+use Rattle.std.specs.Result.{IsErr, OnOk}
 use Rattle.std.proofs.lemmas.List.{at_drop_more}
 use Rattle.nss_tree.specs.declared.constants.Constant.{Constant}
 use Rattle.nss_tree.specs.declared.constants.TypeName.{TypeName}
@@ -96,3 +96,9 @@ on_ok (Err e) f h = tt
 pub on_ok_at : {A B E : Type 0} (r : Result A E) (P : B → Type 0) (b : B) → OnOk r ((x : B) → P x) → OnOk r (P b)
 on_ok_at (Ok a) P b h = h b
 on_ok_at (Err e) P b h = tt
+
+-- ---- what holds of an error
+
+pub err_on : {A E : Type 0} (r : Result A E) (P : Type 0) → IsErr r → OnOk r P
+err_on (Ok a) P h = absurd (true≢false (sym h))
+err_on (Err e) P h = tt

@@ -1,6 +1,7 @@
 use Rattle.std.proofs.Common.{◌≡◌, ◌∙◌, ◌++◌, ◌+◌, arith, false, sym, ap, refl, subst, Some}
 use Rattle.std.specs.Option.{option_map}
 use Rattle.std.specs.Result.{IfOk, OnOk}
+use Rattle.std.proofs.lemmas.Result.{IfOk-from_err}
 use Rattle.nss_tree.specs.Reading.{plain_expr, plain_stmt, plain_stmts}
 use Rattle.nss_tree.specs.Readings.{tree_block, tree_break_off, tree_case_label, tree_continue_on, tree_declaration, tree_default_label, tree_do_loop, tree_empty, tree_expression, tree_for_loop, tree_if_else, tree_if_only, tree_return_from, tree_switch, tree_while_loop}
 use Rattle.nss_tree.specs.Statements as tree
@@ -14,7 +15,7 @@ use Rattle.nss_typing.specs.Verdicts.{after, afters, stmt_faults, stmt_verdict, 
 use Rattle.nss_statements.specs.Faults.{switch_rows_by, switch_rule_by}
 use Rattle.nss_expressions.specs.Views.{heads_in, sight_in}
 use Rattle.nss_expressions.specs.RowLaws.{row_value, row_least, row_sight, row_end_value, row_end_least, row_end_sight}
-use Rattle.nss_statements.proofs.Nodes.{all_size, block_is, declaration_is, do_is, falls, for_is, if_else_is, if_only_is, next_falls, on_ok, size, switch_is, while_is}
+use Rattle.nss_statements.proofs.Nodes.{all_size, block_is, declaration_is, do_is, err_on, falls, for_is, if_else_is, if_only_is, next_falls, on_ok, size, switch_is, while_is}
 use Rattle.nss_statements.proofs.SameSight.{same_faults, same_verdict}
 use Rattle.nss_statements.proofs.StatementRows.{stmt_laws, stmts_first}
 use Rattle.nss_expressions.specs.Walked.{always, answered, four_least, four_value, node_least, node_sight, node_value, three_least, three_value, two_least, two_value}
@@ -404,3 +405,112 @@ statements-returns-clause-least t c =
 pub statements-returns-clause-sight : goal.statements-returns-clause-sight
 statements-returns-clause-sight t c =
     row_end_sight (stmt_laws (heads_in c.args.given.now)) c.args.statements.now c.loop-one.one-index (omega (arith, c.loop-one-test.false)) (sight_in c.args.given.now c.loop-one.sight) _ c.loop-one.invariant.2
+
+-- ---- from a part to its own part
+
+pub block-statements-typed-requires : goal.block-statements-typed-requires
+block-statements-typed-requires t c = (omega (arith, c.decreases), tt)
+
+pub do_loop-in_loop-requires : goal.do_loop-in_loop-requires
+do_loop-in_loop-requires t c = (omega (arith, c.decreases), tt)
+
+pub for_loop-in_loop-requires : goal.for_loop-in_loop-requires
+for_loop-in_loop-requires t c = (omega (arith, c.decreases), tt)
+
+pub if_else-in_branch-requires : goal.if_else-in_branch-requires
+if_else-in_branch-requires t c = (omega (arith, c.decreases), tt)
+
+pub if_else-in_branch-requires-in-Ok : goal.if_else-in_branch-requires-in-Ok
+if_else-in_branch-requires-in-Ok t c = (omega (arith, c.decreases), tt)
+
+pub if_only-in_branch-requires : goal.if_only-in_branch-requires
+if_only-in_branch-requires t c = (omega (arith, c.decreases), tt)
+
+pub in_branch-statement-typed-requires : goal.in_branch-statement-typed-requires
+in_branch-statement-typed-requires t c = (omega (arith, c.decreases), tt)
+
+pub in_loop-statement-typed-requires : goal.in_loop-statement-typed-requires
+in_loop-statement-typed-requires t c = (omega (arith, c.decreases), tt)
+
+pub switch-statements-body-requires : goal.switch-statements-body-requires
+switch-statements-body-requires t c = (omega (arith, c.decreases), tt)
+
+pub while_loop-in_loop-requires : goal.while_loop-in_loop-requires
+while_loop-in_loop-requires t c = (omega (arith, c.decreases), tt)
+
+-- ---- where memory is short
+
+pub block-returns-in_err-typed : goal.block-returns-in_err-typed
+block-returns-in_err-typed t c =
+    let r = c.from_residual.result in
+    let h = c.from_residual.ensures.0 in
+    record { value = IfOk-from_err r _ h; least = err_on r _ h; sight = err_on r _ h }
+
+pub do_loop-returns-in_err-body : goal.do_loop-returns-in_err-body
+do_loop-returns-in_err-body t c =
+    let r = c.from_residual.result in
+    let h = c.from_residual.ensures.0 in
+    record { value = IfOk-from_err r _ h; least = err_on r _ h; sight = err_on r _ h }
+
+pub for_loop-returns-in_err-head : goal.for_loop-returns-in_err-head
+for_loop-returns-in_err-head t c =
+    let r = c.from_residual.result in
+    let h = c.from_residual.ensures.0 in
+    record { value = IfOk-from_err r _ h; least = err_on r _ h; sight = err_on r _ h }
+
+pub if_else-returns-in_err-condition : goal.if_else-returns-in_err-condition
+if_else-returns-in_err-condition t c =
+    let r = c.from_residual.result in
+    let h = c.from_residual.ensures.0 in
+    record { value = IfOk-from_err r _ h; least = err_on r _ h; sight = err_on r _ h }
+
+pub if_only-returns-in_err-condition : goal.if_only-returns-in_err-condition
+if_only-returns-in_err-condition t c =
+    let r = c.from_residual.result in
+    let h = c.from_residual.ensures.0 in
+    record { value = IfOk-from_err r _ h; least = err_on r _ h; sight = err_on r _ h }
+
+pub switch-returns-in_err-value : goal.switch-returns-in_err-value
+switch-returns-in_err-value t c =
+    let r = c.from_residual.result in
+    let h = c.from_residual.ensures.0 in
+    record { value = IfOk-from_err r _ h; least = err_on r _ h; sight = err_on r _ h }
+
+pub while_loop-returns-in_err-condition : goal.while_loop-returns-in_err-condition
+while_loop-returns-in_err-condition t c =
+    let r = c.from_residual.result in
+    let h = c.from_residual.ensures.0 in
+    record { value = IfOk-from_err r _ h; least = err_on r _ h; sight = err_on r _ h }
+
+pub statements-returns-in_err-typed : goal.statements-returns-in_err-typed
+statements-returns-in_err-typed t c =
+    let r = c.from_residual.result in
+    let h = c.from_residual.ensures.0 in
+    record { value = IfOk-from_err r _ h; least = err_on r _ h; sight = err_on r _ h }
+
+pub statements-returns-in_err-all : goal.statements-returns-in_err-all
+statements-returns-in_err-all t c =
+    let r = c.from_residual-in_err-all.result in
+    let h = c.from_residual-in_err-all.ensures.0 in
+    record { value = IfOk-from_err r _ h; least = err_on r _ h; sight = err_on r _ h }
+
+pub do_loop-returns-in-Err : goal.do_loop-returns-in-Err
+do_loop-returns-in-Err t c = record { value = tt; least = tt; sight = tt }
+
+pub for_loop-returns-in-Err : goal.for_loop-returns-in-Err
+for_loop-returns-in-Err t c = record { value = tt; least = tt; sight = tt }
+
+pub if_else-returns-in-Err-in_branch : goal.if_else-returns-in-Err-in_branch
+if_else-returns-in-Err-in_branch t c = record { value = tt; least = tt; sight = tt }
+
+pub if_else-returns-in-Err : goal.if_else-returns-in-Err
+if_else-returns-in-Err t c = record { value = tt; least = tt; sight = tt }
+
+pub if_only-returns-in-Err : goal.if_only-returns-in-Err
+if_only-returns-in-Err t c = record { value = tt; least = tt; sight = tt }
+
+pub switch-returns-in-Err : goal.switch-returns-in-Err
+switch-returns-in-Err t c = record { value = tt; least = tt; sight = tt }
+
+pub while_loop-returns-in-Err : goal.while_loop-returns-in-Err
+while_loop-returns-in-Err t c = record { value = tt; least = tt; sight = tt }
