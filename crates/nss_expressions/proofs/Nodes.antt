@@ -1,5 +1,6 @@
 -- An expression of the source that is known, with its parts as code reaches them, and how large it is, so that the walk ends.
-use Rattle.std.proofs.Common.{◌≡◌, ◌<◌, ◌≤◌, ◌+◌, ℕ, zero, suc, List, [], ◌∷◌, length, drop, get_or, arith, sym, ap, subst, ◌∙◌}
+use Rattle.std.proofs.Common.{◌≡◌, ◌<◌, ◌≤◌, ◌+◌, ℕ, zero, suc, List, [], ◌∷◌, length, drop, get_or, Result, Ok, Err, arith, sym, true≢false, ap, subst, ◌∙◌}
+use Rattle.std.specs.Result.{IsErr, OnOk}
 use Rattle.std.proofs.lemmas.List.{at_drop_more}
 use Rattle.nss_tree.specs.declared.expressions.Expr.{Expr}
 use Rattle.nss_tree.specs.declared.operators.AssignOperator.{AssignOperator}
@@ -69,3 +70,9 @@ next_falls xs i x is lt t falls =
     at_drop_more (λ ys. all_size (plain_exprs ys)) xs i x lt
     ∙ (ap (λ y. all_size (plain_exprs (y ∷ drop (i + 1) xs))) (sym is) ∙ ap all_size (plain_exprs_more x (drop (i + 1) xs))) in
     omega (arith, next, drop_size xs i)
+
+-- ---- what holds of an error
+
+pub err_on : {A E : Type 0} (r : Result A E) (P : Type 0) → IsErr r → OnOk r P
+err_on (Ok a) P h = absurd (true≢false (sym h))
+err_on (Err e) P h = tt

@@ -1,17 +1,18 @@
-use Rattle.std.proofs.Common.{◌≡◌, ◌∙◌, ◌+◌, false, arith, sym, ap, refl}
+use Rattle.std.proofs.Common.{[], None, Some, ◌≡◌, ◌∙◌, ◌+◌, false, arith, sym, ap, refl}
 use Rattle.std.specs.Option.{option_map}
+use Rattle.std.proofs.lemmas.Result.{IfOk-from_err}
 use Rattle.nss_tree.specs.Expressions as tree
 use Rattle.nss_tree.specs.Reading.{plain_expr, plain_exprs}
-use Rattle.nss_tree.specs.Readings.{plain_call, plain_member, plain_prefix, plain_postfix, plain_binary, plain_assign}
+use Rattle.nss_tree.specs.Readings.{plain_call, plain_float, plain_member, plain_name, plain_object_invalid, plain_object_self, plain_prefix, plain_postfix, plain_binary, plain_assign}
 use Rattle.nss_typing.specs.Nodes.{asked, fine, kept, two}
 use Rattle.nss_typing.specs.Reading.{plain, plain_all}
-use Rattle.nss_typing.specs.Rules.{call_rows, call_rule, member_rows, member_rule, prefix_rows, prefix_rule, postfix_rows, postfix_rule, binary_rows, binary_rule, assign_rows, assign_rule}
-use Rattle.nss_typing.specs.Sight.{callee, types_wanted, wanted}
+use Rattle.nss_typing.specs.Rules.{call_rows, call_rule, member_rows, member_rule, name_rows, name_rule, prefix_rows, prefix_rule, postfix_rows, postfix_rule, binary_rows, binary_rule, assign_rows, assign_rule}
+use Rattle.nss_typing.specs.Sight.{callee, name_means, types_wanted, wanted}
 use Rattle.nss_typing.specs.Verdicts.{all_faults, all_fine, faults, value, value_faults, verdict}
 use Rattle.nss_expressions.specs.Views.{called_of, heads_in, sight_in}
 use Rattle.nss_expressions.proofs.ArgumentLemmas.{begin_value, next_value, next_least, end_value, end_least}
-use Rattle.nss_expressions.proofs.Nodes.{all_size, assign_is, binary_is, call_is, falls, member_is, next_falls, postfix_is, prefix_is, size}
-use Rattle.nss_expressions.specs.Walked.{one_value, one_least, two_value, two_least, call_least, node_value, node_least}
+use Rattle.nss_expressions.proofs.Nodes.{all_size, assign_is, binary_is, call_is, err_on, falls, member_is, next_falls, postfix_is, prefix_is, size}
+use Rattle.nss_expressions.specs.Walked.{answered, one_value, one_least, two_value, two_least, call_least, node_value, node_least}
 use Rattle.nss_expressions.proofs.expression.+walk.Goals as goal
 
 -- ---- an expression that is known
@@ -220,3 +221,136 @@ arguments-returns-clause-value t c =
 pub arguments-returns-clause-least : goal.arguments-returns-clause-least
 arguments-returns-clause-least t c =
     end_least (heads_in c.args.given.now) (sight_in c.args.given.now c.args.c.now) c.args.es.now c.loop-e.e-index c.loop-e.rest.now c.loop-e.least _ (omega (arith, c.loop-e-test.false)) c.loop-e.invariant.1
+
+-- ---- from a part to its own part
+
+pub call-arguments-requires : goal.call-arguments-requires
+call-arguments-requires t c = (omega (arith, c.decreases), tt)
+
+pub member-expression-requires : goal.member-expression-requires
+member-expression-requires t c = (omega (arith, c.decreases), tt)
+
+pub prefix-expression-requires : goal.prefix-expression-requires
+prefix-expression-requires t c = (omega (arith, c.decreases), tt)
+
+pub postfix-expression-requires : goal.postfix-expression-requires
+postfix-expression-requires t c = (omega (arith, c.decreases), tt)
+
+pub binary-expression-requires : goal.binary-expression-requires
+binary-expression-requires t c = (omega (arith, c.decreases), tt)
+
+pub binary-expression-requires-2 : goal.binary-expression-requires-2
+binary-expression-requires-2 t c = (omega (arith, c.decreases), tt)
+
+pub assign-expression-requires : goal.assign-expression-requires
+assign-expression-requires t c = (omega (arith, c.decreases), tt)
+
+pub assign-expression-requires-2 : goal.assign-expression-requires-2
+assign-expression-requires-2 t c = (omega (arith, c.decreases), tt)
+
+-- ---- where memory is short
+
+pub call-returns-in_err-xs : goal.call-returns-in_err-xs
+call-returns-in_err-xs t c =
+    let r = c.from_residual.result in
+    let h = c.from_residual.ensures.0 in
+    record { value = IfOk-from_err r _ h; least = err_on r _ h }
+
+pub member-returns-in_err-of : goal.member-returns-in_err-of
+member-returns-in_err-of t c =
+    let r = c.from_residual.result in
+    let h = c.from_residual.ensures.0 in
+    record { value = IfOk-from_err r _ h; least = err_on r _ h }
+
+pub prefix-returns-in_err-of : goal.prefix-returns-in_err-of
+prefix-returns-in_err-of t c =
+    let r = c.from_residual.result in
+    let h = c.from_residual.ensures.0 in
+    record { value = IfOk-from_err r _ h; least = err_on r _ h }
+
+pub postfix-returns-in_err-of : goal.postfix-returns-in_err-of
+postfix-returns-in_err-of t c =
+    let r = c.from_residual.result in
+    let h = c.from_residual.ensures.0 in
+    record { value = IfOk-from_err r _ h; least = err_on r _ h }
+
+pub binary-returns-in_err-left : goal.binary-returns-in_err-left
+binary-returns-in_err-left t c =
+    let r = c.from_residual.result in
+    let h = c.from_residual.ensures.0 in
+    record { value = IfOk-from_err r _ h; least = err_on r _ h }
+
+pub assign-returns-in_err-place : goal.assign-returns-in_err-place
+assign-returns-in_err-place t c =
+    let r = c.from_residual.result in
+    let h = c.from_residual.ensures.0 in
+    record { value = IfOk-from_err r _ h; least = err_on r _ h }
+
+pub arguments-returns-in_err-one : goal.arguments-returns-in_err-one
+arguments-returns-in_err-one t c =
+    let r = c.from_residual.result in
+    let h = c.from_residual.ensures.0 in
+    record { value = IfOk-from_err r _ h; least = err_on r _ h }
+
+pub arguments-returns-in_err-all : goal.arguments-returns-in_err-all
+arguments-returns-in_err-all t c =
+    let r = c.from_residual-in_err-all.result in
+    let h = c.from_residual-in_err-all.ensures.0 in
+    record { value = IfOk-from_err r _ h; least = err_on r _ h }
+
+pub binary-returns-in-Err : goal.binary-returns-in-Err
+binary-returns-in-Err t c = record { value = tt; least = tt }
+
+pub assign-returns-in-Err : goal.assign-returns-in-Err
+assign-returns-in-Err t c = record { value = tt; least = tt }
+
+-- ---- an expression without parts
+
+pub expression-returns-in-ObjectSelf : goal.expression-returns-in-ObjectSelf
+expression-returns-in-ObjectSelf t c =
+    let hs = heads_in c.args.given.now in
+    let s = sight_in c.args.given.now c.args.c.now in
+    let b = c.args.as_action in
+    let node = plain_object_self _ _ c.in-ObjectSelf.is in
+    let r = answered (Some c.literal-in-ObjectSelf.result) in
+    record {
+      value = node_value plain (verdict hs s b) (faults hs s b) 0 r _ _ node (ap Some c.literal-in-ObjectSelf.ensures.made);
+      least = node_least plain (verdict hs s b) (faults hs s b) 0 r _ _ node c.args.least.now c.args.least.now refl;
+    }
+
+pub expression-returns-in-ObjectInvalid : goal.expression-returns-in-ObjectInvalid
+expression-returns-in-ObjectInvalid t c =
+    let hs = heads_in c.args.given.now in
+    let s = sight_in c.args.given.now c.args.c.now in
+    let b = c.args.as_action in
+    let node = plain_object_invalid _ _ c.in-ObjectInvalid.is in
+    let r = answered (Some c.literal-in-ObjectInvalid.result) in
+    record {
+      value = node_value plain (verdict hs s b) (faults hs s b) 0 r _ _ node (ap Some c.literal-in-ObjectInvalid.ensures.made);
+      least = node_least plain (verdict hs s b) (faults hs s b) 0 r _ _ node c.args.least.now c.args.least.now refl;
+    }
+
+pub expression-returns-in-Float : goal.expression-returns-in-Float
+expression-returns-in-Float t c =
+    let hs = heads_in c.args.given.now in
+    let s = sight_in c.args.given.now c.args.c.now in
+    let b = c.args.as_action in
+    let node = plain_float _ _ c.in-Float.is in
+    let r = answered None in
+    record {
+      value = node_value plain (verdict hs s b) (faults hs s b) 0 r _ _ node refl;
+      least = node_least plain (verdict hs s b) (faults hs s b) 0 r _ _ node c.args.least.now c.note.new.least c.note.ensures.kept;
+    }
+
+pub expression-returns-in-Name : goal.expression-returns-in-Name
+expression-returns-in-Name t c =
+    let hs = heads_in c.args.given.now in
+    let s = sight_in c.args.given.now c.args.c.now in
+    let b = c.args.as_action in
+    let node = plain_name _ _ _ c.in-Name.is in
+    let is = c.name_means-means.ensures.meaning ∙ ap (name_means s) c.bytes.ensures.same in
+    let r = c.judge_name.result in
+    record {
+      value = one_value plain (verdict hs s b) (faults hs s b) c.in-Name.token r _ _ node (asked name_rows (name_rule s.at_file)) _ _ is refl c.judge_name.ensures.value;
+      least = one_least plain (verdict hs s b) (faults hs s b) c.in-Name.token r _ _ node (asked name_rows (name_rule s.at_file)) _ _ c.args.least.now c.args.least.now c.judge_name.new.least [] is refl refl c.judge_name.ensures.least;
+    }
