@@ -1,4 +1,4 @@
-use Rattle.std.proofs.Common.{◌≡◌, ℕ, ◌+◌, ◌<◌, ◌≤◌, Bool, true, false, nat_lt, nat_le, List, [], ◌∷◌, ◌++◌, length, Option, Some, None, IsSomeAnd, IsTrue, take, refl, sym, ap, subst, ◌∙◌, arith, append_assoc, append-nil, length-append, lit<, zero, suc, get_or, map as list_map, ◌&&◌, codes}
+use Rattle.std.proofs.Common.{◌≡◌, ℕ, ◌+◌, ◌<◌, ◌≤◌, Bool, true, false, nat_lt, nat_le, List, [], ◌∷◌, ◌++◌, length, Option, Some, None, IsSomeAnd, IsTrue, take, refl, sym, ap, subst, ◌∙◌, arith, append_assoc, append-nil, length-append, lit<, zero, suc, get_or, map as list_map, ◌&&◌, codes, Err}
 use Rattle.std.proofs.lemmas.Bool.Decides.{nat_tests}
 use Rattle.std.proofs.lemmas.Option.{same_Some, none-some}
 use Rattle.std.proofs.lemmas.List.{take_all, length-map}
@@ -25,9 +25,10 @@ use Rattle.nss_include.specs.Units.{Lookup, reading_fault, is_among, source, Hav
 use Rattle.nss_include.specs.Walks.{Walks, step_fault, ends, fails, gives, again, breaks_off, includes}
 use Rattle.nss_include.specs.View.{lexeme_of, bytes_of}
 use Rattle.nss_include.proofs.PieceLemmas.{reads, of_file}
-use Rattle.nss_include.proofs.UnitLemmas.{bytes_stay, all_map, distinct_more}
-use Rattle.nss_include.specs.Gather.{HoldsFiles, Claims}
-use Rattle.nss_include.specs.Progress.{Rest, closed, stops, goes, Ends, Leads, Stops, HasStep, Explains, ExplainsRead, IsReadFault, Includes, IsOpen, IsReady, Begins, ComesTo, Extends, reopened}
+use Rattle.nss_include.proofs.UnitLemmas.{bytes_stay, all_map, all_push, distinct_more}
+use Rattle.nwq_outside.specs.Outside.{FileCounts}
+use Rattle.nss_include.specs.Gather.{HoldsFiles, Claims, CountsGathered}
+use Rattle.nss_include.specs.Progress.{Rest, closed, stops, goes, Ends, Leads, Stops, HasStep, Explains, ExplainsRead, IsReadFault, Opened, Includes, IsOpen, IsReady, IsOwnFault, Begins, ComesTo, Extends, RunSoFar, Advances, StopsBy, Halts, passed, reopened}
 
 -- an open file at a place
 abbrev pub file_at : ℕ → ℕ → Open
@@ -366,34 +367,171 @@ pub has_step : (r : Gatherer) (here : Open) (s : Step) (bytes : List ℕ) → op
     → IsStep bytes here.file here.at s → IsWithin bytes here.file s → HasStep r here s
 has_step r here s bytes h is within = has_step_by r here s bytes (slice_get r.unit.files here.file) refl h is within
 
--- what a reading has come to
-pub record RunSoFar (tells : Bool) (outside : Lookup) (first now : Gatherer) : Type 0 where
-  pub ready : IsReady now
-  pub leads : (lookup : Lookup) → HoldsFiles lookup now.unit.files → Leads lookup first now
-  pub keeps : (lookup : Lookup) → HoldsFiles lookup now.unit.files → HoldsFiles lookup first.unit.files
-  pub holds : IsTrue tells → HoldsFiles outside first.unit.files → HoldsFiles outside now.unit.files
-  pub grows : Extends first.unit.files now.unit.files
-
 pub extends_more : (files more most : List Source) → Extends files more → Extends more most → Extends files most
 extends_more files more most (xs, is) (ys, so) = (xs ++ ys, so ∙ ap (λ fs. fs ++ ys) is ∙ append_assoc files xs ys)
 
 pub run-more : (tells : Bool) (outside : Lookup) (first now popped new : Gatherer) (here : Open) → RunSoFar tells outside first now
-    → now ≡ reopened here popped → IsReady new
-    → ((lookup : Lookup) → HoldsFiles lookup new.unit.files → Leads lookup (reopened here popped) new)
-    → ((lookup : Lookup) → HoldsFiles lookup new.unit.files → HoldsFiles lookup popped.unit.files)
-    → (IsTrue tells → HoldsFiles outside popped.unit.files → HoldsFiles outside new.unit.files)
-    → Extends popped.unit.files new.unit.files → RunSoFar tells outside first new
-run-more tells outside first now popped new here so is ready leads keeps holds grows =
-    let files : now.unit.files ≡ popped.unit.files = ap (λ r. r.unit.files) is
+    → now ≡ reopened here popped → RunSoFar tells outside (reopened here popped) new → RunSoFar tells outside first new
+run-more tells outside first now popped new here so is on =
+    let next : RunSoFar tells outside now new = subst (λ r. RunSoFar tells outside r new) (sym is) on
     in record {
-      ready = ready;
+      ready = next.ready;
       leads = λ lookup held tokens last total ending e.
-          so.leads lookup (subst (HoldsFiles lookup) (sym files) (keeps lookup held)) tokens last total ending
-          (subst (λ r. Ends lookup r tokens last total ending) (sym is) (leads lookup held tokens last total ending e));
-      keeps = λ lookup held. so.keeps lookup (subst (HoldsFiles lookup) (sym files) (keeps lookup held));
-      holds = λ told held. holds told (subst (HoldsFiles outside) files (so.holds told held));
-      grows = extends_more first.unit.files now.unit.files new.unit.files so.grows (subst (λ fs. Extends fs new.unit.files) (sym files) grows);
+          so.leads lookup (next.keeps lookup held) tokens last total ending (next.leads lookup held tokens last total ending e);
+      keeps = λ lookup held. so.keeps lookup (next.keeps lookup held);
+      holds = λ told held. next.holds told (so.holds told held);
+      grows = extends_more first.unit.files now.unit.files new.unit.files so.grows next.grows;
     }
+
+-- ---- steps
+
+-- the end of a file
+pub advances-ends : (tells : Bool) (outside : Lookup) (old : Gatherer) (here : Open) → IsReady (reopened here old) → HasStep old here step.Ends
+    → Advances tells outside (reopened here old) old
+advances-ends tells outside old here ready h = record {
+  so = record {
+    ready = record { places = ready.places.1; few = ready.few; counted = ready.counted; paid = ready.paid; distinct = ready.distinct };
+    leads = λ lookup held. leads-ends old here h lookup;
+    keeps = λ lookup held. held;
+    holds = λ told held. held;
+    grows = ([], sym (append-nil old.unit.files));
+  };
+  falls = omega arith;
+}
+
+-- a token
+pub advances-gives : (old new : Gatherer) (here : Open) (span : Span) → IsReady (reopened here old) → HasStep old here (step.Gives span)
+    → old.count < token_limit
+    → new.unit ≡ record { files = old.unit.files; tokens = old.unit.tokens ++ lexeme_of old.unit.files span ∷ [] }
+    → new.stack ≡ file_at here.file span.end ∷ old.stack → new.count ≡ old.count + 1 → (tells : Bool) (outside : Lookup)
+    → Advances tells outside (reopened here old) new
+advances-gives old new here span ready h room unit stack count tells outside =
+    let on : Gatherer = record {
+      unit = record { files = old.unit.files; tokens = old.unit.tokens ++ lexeme_of old.unit.files span ∷ [] };
+      stack = file_at here.file span.end ∷ old.stack;
+      count = old.count + 1;
+    }
+    in let is : new ≡ on = ap (λ u. record { unit = u; stack = new.stack; count = new.count }) unit
+        ∙ ap (λ s. record { unit = on.unit; stack = s; count = new.count }) stack
+        ∙ ap (λ n. record { unit = on.unit; stack = on.stack; count = n }) count
+    in let longer = length-append old.unit.tokens (lexeme_of old.unit.files span ∷ [])
+    in let place : span.end ≤ length (bytes_of (slice_get old.unit.files here.file))
+    = subst (λ o. span.end ≤ length (bytes_of o)) (sym h.is) h.within.2
+    in let made : Advances tells outside (reopened here old) on = record {
+      so = record {
+        ready = record {
+          places = (record { file = ready.places.0.file; place = place }, ready.places.1);
+          few = omega (arith, room);
+          counted = omega (arith, longer, ready.counted);
+          paid = omega (arith, ready.paid);
+          distinct = ready.distinct;
+        };
+        leads = λ lookup held. leads-gives old on here span h room refl refl refl lookup;
+        keeps = λ lookup held. held;
+        holds = λ told held. held;
+        grows = ([], sym (append-nil old.unit.files));
+      };
+      falls = omega (arith, room);
+    }
+    in subst (λ r. Advances tells outside (reopened here old) r) (sym is) made
+
+-- an include of a file that is in the unit
+pub advances-again : (tells : Bool) (outside : Lookup) (old new : Gatherer) (here : Open) (hash : ℕ) (name : List ℕ) (after : ℕ)
+    → IsReady (reopened here old) → HasStep old here (step.Mentions hash name after) → old.count + 3 ≤ token_limit
+    → is_among old.unit.files (file_name name) ≡ true → new ≡ passed old here after → Advances tells outside (reopened here old) new
+advances-again tells outside old new here hash name after ready h room known is =
+    let made : Advances tells outside (reopened here old) (passed old here after) = record {
+      so = record {
+        ready = record {
+          places = (record { file = ready.places.0.file; place = place-behind old here hash name after h }, ready.places.1);
+          few = room;
+          counted = omega (arith, ready.counted);
+          paid = omega (arith, ready.paid);
+          distinct = ready.distinct;
+        };
+        leads = λ lookup held. leads-again old (passed old here after) here hash name after h room known refl refl refl lookup;
+        keeps = λ lookup held. held;
+        holds = λ told held. held;
+        grows = ([], sym (append-nil old.unit.files));
+      };
+      falls = omega (arith, room);
+    }
+    in subst (λ r. Advances tells outside (reopened here old) r) (sym is) made
+
+holds-first : (lookup : Lookup) (files more : List Source) → HoldsFiles lookup (files ++ more) → HoldsFiles lookup files
+holds-first lookup [] more h = tt
+holds-first lookup (f ∷ files) more h = (h.0, holds-first lookup files more h.1)
+
+-- an include of a file that is new to the unit
+pub advances-include : (tells : Bool) (outside : Lookup) (old new : Gatherer) (here : Open) (hash : ℕ) (name : List ℕ) (after : ℕ)
+    → IsReady (reopened here old) → HasStep old here (step.Mentions hash name after) → old.count + 3 ≤ token_limit → (given : List ℕ)
+    → given ≡ file_name name → is_among old.unit.files given ≡ false → Includes old new here given after
+    → (IsTrue tells → Opened outside old.unit new.unit given) → Advances tells outside (reopened here old) new
+advances-include tells outside old new here hash name after ready h room given is alone i holds =
+    let more : List Source = source given i.opens.bytes ∷ []
+    in let files : new.unit.files ≡ old.unit.files ++ more = ap (λ u. u.files) i.opens.is
+    in record {
+      so = record {
+        ready = ready-includes old new here given after ready i (place-behind old here hash name after h) room alone;
+        leads = leads-include old new here hash name after h room (ap (is_among old.unit.files) (sym is) ∙ alone) given is i;
+        keeps = λ lookup held. holds-first lookup old.unit.files more (subst (HoldsFiles lookup) files held);
+        holds = λ told held.
+            let o = holds told
+            in subst (HoldsFiles outside) (sym (ap (λ u. u.files) o.0.is))
+            (all_push (λ f. outside f.name ≡ Some f.bytes) old.unit.files (source given o.0.bytes) held o.1);
+        grows = (more, files);
+      };
+      falls = omega (arith, i.count, ap length i.stack, room);
+    }
+
+-- want of memory
+pub halts-memory : (tells : Bool) (outside : Lookup) (r : Gatherer) → Halts tells outside r NoMemory
+halts-memory tells outside r = record { stops = tt; told = λ told. tt }
+
+pub halts-breaks : (tells : Bool) (outside : Lookup) (r : Gatherer) (here : Open) (place : ℕ) (h : HasStep r here (step.Breaks place)) (spot : Spot)
+    → option_map (λ f. spot_in f place) (slice_get r.unit.files here.file) ≡ Some spot → Halts tells outside (reopened here r) (Bad spot)
+halts-breaks tells outside r here place h spot is = record { stops = λ lookup e. stops-breaks r here place h spot is lookup; told = λ told. tt }
+
+pub halts-misses : (tells : Bool) (outside : Lookup) (r : Gatherer) (here : Open) (place : ℕ) (h : HasStep r here (step.Misses place)) (spot : Spot)
+    → option_map (λ f. spot_in f place) (slice_get r.unit.files here.file) ≡ Some spot → Halts tells outside (reopened here r) (Include spot)
+halts-misses tells outside r here place h spot is = record { stops = λ lookup e. stops-misses r here place h spot is lookup; told = λ told. tt }
+
+pub halts-mentions : (tells : Bool) (outside : Lookup) (r : Gatherer) (here : Open) (hash : ℕ) (name : List ℕ) (after : ℕ)
+    (h : HasStep r here (step.Mentions hash name after)) (spot : Spot) → token_limit < r.count + 3
+    → option_map (λ f. spot_in f hash) (slice_get r.unit.files here.file) ≡ Some spot → Halts tells outside (reopened here r) (Tokens spot)
+halts-mentions tells outside r here hash name after h spot full is = record {
+  stops = λ lookup e. stops-mentions r here hash name after h spot full is lookup;
+  told = λ told. tt;
+}
+
+-- a fault that is neither of the files nor of a directive
+pub halts-own : (tells : Bool) (outside : Lookup) (r : Gatherer) (fault : GatherFault) → IsOwnFault fault → StopsBy r fault → Halts tells outside r fault
+halts-own tells outside r (Tokens spot) own halted = record { stops = halted; told = λ told. tt }
+halts-own tells outside r NoMemory own _ = record { stops = tt; told = λ told. tt }
+halts-own tells outside r (Missing name) own _ = absurd own
+halts-own tells outside r (Long name) own _ = absurd own
+halts-own tells outside r Fault own _ = absurd own
+halts-own tells outside r (Bad spot) own _ = absurd own
+halts-own tells outside r (Include spot) own _ = absurd own
+
+pub counts-own : (A : Type 0) (fault : GatherFault) (counts : FileCounts) → IsOwnFault fault → CountsGathered {A = A} (Err fault) counts counts
+counts-own A (Tokens spot) counts own = (refl, refl, refl)
+counts-own A NoMemory counts own = (refl, refl, refl)
+counts-own A (Missing name) counts own = absurd own
+counts-own A (Long name) counts own = absurd own
+counts-own A Fault counts own = absurd own
+counts-own A (Bad spot) counts own = absurd own
+counts-own A (Include spot) counts own = absurd own
+
+-- a fault of reading an include
+pub halts-include : (tells : Bool) (outside : Lookup) (r : Gatherer) (here : Open) (hash : ℕ) (name : List ℕ) (after : ℕ)
+    (h : HasStep r here (step.Mentions hash name after)) → r.count + 3 ≤ token_limit → (given : List ℕ) → given ≡ file_name name
+    → is_among r.unit.files given ≡ false → (fault : GatherFault) → IsReadFault given fault
+    → (IsTrue tells → ExplainsRead outside given fault) → Halts tells outside (reopened here r) fault
+halts-include tells outside r here hash name after h room given is alone fault cut explains = record {
+  stops = stops-include r here hash name after h room (ap (is_among r.unit.files) (sym is) ∙ alone) given is fault cut;
+  told = λ told. explains-include outside given name is h.within.2 fault cut (explains told);
+}
 
 claims-map : (fault : GatherFault) (P Q : Type 0) → Claims fault P → (P → Q) → Claims fault Q
 claims-map (Missing name) P Q p f = f p

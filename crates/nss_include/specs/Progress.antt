@@ -1,6 +1,6 @@
 -- A unit while it is read: the files that are open, the innermost first, and what is left to come of them. No public contract
 -- names this.
-use Rattle.std.specs.Prelude.{◌≡◌, ℕ, ◌+◌, ◌-◌, ◌*◌, ◌<◌, ◌≤◌, List, [], ◌∷◌, ◌++◌, length, slice_get, take, Option, Some, None, IsSomeAnd}
+use Rattle.std.specs.Prelude.{◌≡◌, ℕ, ◌+◌, ◌-◌, ◌*◌, ◌<◌, ◌≤◌, Bool, IsTrue, List, [], ◌∷◌, ◌++◌, length, slice_get, take, Option, Some, None, IsSomeAnd}
 use Rattle.std.specs.List.{AllByRecursion}
 use Rattle.nwq_value.specs.Limits.{file_limit, text_limit, token_limit}
 use Rattle.nss_lexer.specs.Splitting.{Lexeme}
@@ -14,6 +14,7 @@ use Rattle.nss_include.specs.Names.{file_name}
 use Rattle.nss_include.specs.Steps.{IsStep, IsWithin}
 use Rattle.nss_include.specs.Units.{Lookup, source, HaveDistinctNames}
 use Rattle.nss_include.specs.View.{Gathered, bytes_of}
+use Rattle.nss_include.specs.Gather.{HoldsFiles, Claims}
 use Rattle.nss_include.specs.Walks.{Walks}
 
 -- what is left to come of open files: up to the end of all, or up to a fault
@@ -151,3 +152,25 @@ pub record Begins (r : Gatherer) (script : List ℕ) : Type 0 where
   pub unit : r.unit ≡ record { files = source (file_name script) bytes ∷ []; tokens = [] }
   pub stack : r.stack ≡ record { file = 0; at = 0 } ∷ []
   pub count : r.count ≡ 0
+
+-- what a reading has come to, where files are told or not
+pub record RunSoFar (tells : Bool) (outside : Lookup) (first now : Gatherer) : Type 0 where
+  pub ready : IsReady now
+  pub leads : (lookup : Lookup) → HoldsFiles lookup now.unit.files → Leads lookup first now
+  pub keeps : (lookup : Lookup) → HoldsFiles lookup now.unit.files → HoldsFiles lookup first.unit.files
+  pub holds : IsTrue tells → HoldsFiles outside first.unit.files → HoldsFiles outside now.unit.files
+  pub grows : Extends first.unit.files now.unit.files
+
+-- a reading came on by a step
+pub record Advances (tells : Bool) (outside : Lookup) (old new : Gatherer) : Type 0 where
+  pub so : RunSoFar tells outside old new
+  pub falls : steps_left new < steps_left old
+
+-- a reading stops with this fault, whatever the files are that explain it
+abbrev pub StopsBy : Gatherer → GatherFault → Type 0
+StopsBy r fault = Claims fault ((lookup : Lookup) → Explains lookup fault → Stops lookup r fault)
+
+-- and where files are told, they explain it
+pub record Halts (tells : Bool) (outside : Lookup) (r : Gatherer) (fault : GatherFault) : Type 0 where
+  pub stops : StopsBy r fault
+  pub told : IsTrue tells → Explains outside fault

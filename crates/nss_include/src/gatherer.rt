@@ -1,4 +1,4 @@
-ghost use Rattle.std.specs.Prelude.{◌≡◌, ◌<◌, ◌≤◌, ◌+◌, length, OnOk, OnErr, IfOk, IfErr, IsTrue};
+ghost use Rattle.std.specs.Prelude.{◌≡◌, ◌<◌, ◌≤◌, ◌+◌, Bool, length, OnOk, OnErr, IfOk, IfErr, IsTrue};
 ghost use Rattle.std.specs.FinMap as map;
 ghost use Rattle.std.specs.String.{string_bytes};
 ghost use Rattle.std.specs.Str.{IsUtf8};
@@ -83,13 +83,12 @@ pub struct Gatherer {
 impl Gatherer {
     ghost use Rattle.nss_include.specs.Progress.{
       HasStep,
-      Stops,
       Ends,
-      Leads,
-      Explains,
       IsReady,
+      Advances,
+      StopsBy,
+      Halts,
       reopened,
-      steps_left,
       passed,
       Includes,
     };
@@ -98,14 +97,10 @@ impl Gatherer {
     fn give(&mut self, alloc: Global, here: Open, span: Span) -> Result<(), GatherFault>
         requires ready { IsReady (reopened here self.old) }
         requires step { HasStep self.old here (step.Gives span) }
-        ensures ready { OnOk result (IsReady self.new) }
-        ensures leads { OnOk result ((lookup : Lookup)
-            → Leads lookup (reopened here self.old) self.new) }
-        ensures falls { OnOk result (steps_left self.new < steps_left (reopened here self.old)) }
-        ensures files { self.new.unit.files ≡ self.old.unit.files }
+        ensures advances { OnOk result ((tells : Bool) (outside : Lookup)
+            → Advances tells outside (reopened here self.old) self.new) }
         ensures own { IfErr result IsOwnFault }
-        ensures stops { IfErr result (λ fault. Claims fault ((lookup : Lookup)
-            → Stops lookup (reopened here self.old) fault)) }
+        ensures stops { IfErr result (StopsBy (reopened here self.old)) }
     {
         if self.count == MOST_TOKENS {
             return Err(GatherFault::Tokens(self.unit.spot(alloc, here.file, span.start)?));
@@ -176,20 +171,10 @@ impl Gatherer {
     ) -> Result<(), GatherFault>
         requires ready { IsReady (reopened here self.old) }
         requires step { HasStep self.old here (step.Mentions hash name.now after) }
-        ensures ready { OnOk result (IsReady self.new) }
-        ensures leads { OnOk result ((lookup : Lookup)
-            → HoldsFiles lookup self.new.unit.files
-            → Leads lookup (reopened here self.old) self.new) }
-        ensures keeps { OnOk result ((lookup : Lookup)
-            → HoldsFiles lookup self.new.unit.files → HoldsFiles lookup self.old.unit.files) }
-        ensures grows { OnOk result (Extends self.old.unit.files self.new.unit.files) }
-        ensures falls { OnOk result (steps_left self.new < steps_left (reopened here self.old)) }
-        ensures holds { IsTrue F.tells → OnOk result (HoldsFiles
-            (map.get (F.contents files.old)) self.old.unit.files → HoldsFiles
-            (map.get (F.contents files.old)) self.new.unit.files) }
-        ensures stops { IfErr result (λ fault. Claims fault ((lookup : Lookup)
-            → Explains lookup fault → Stops lookup (reopened here self.old) fault)) }
-        ensures told { IsTrue F.tells → IfErr result (Explains (map.get (F.contents files.old))) }
+        ensures advances { OnOk result (Advances F.tells
+            (map.get (F.contents files.old)) (reopened here self.old) self.new) }
+        ensures halts { IfErr result (Halts F.tells
+            (map.get (F.contents files.old)) (reopened here self.old)) }
         ensures same { F.contents files.new ≡ F.contents files.old }
         ensures counts { CountsGathered result
             (file_counts (F.faults files.old) (F.absences files.old) (F.longs files.old))
@@ -228,20 +213,10 @@ impl Gatherer {
         here: Open,
     ) -> Result<(), GatherFault>
         requires { IsReady (reopened here self.old) }
-        ensures ready { OnOk result (IsReady self.new) }
-        ensures leads { OnOk result ((lookup : Lookup)
-            → HoldsFiles lookup self.new.unit.files
-            → Leads lookup (reopened here self.old) self.new) }
-        ensures keeps { OnOk result ((lookup : Lookup)
-            → HoldsFiles lookup self.new.unit.files → HoldsFiles lookup self.old.unit.files) }
-        ensures grows { OnOk result (Extends self.old.unit.files self.new.unit.files) }
-        ensures falls { OnOk result (steps_left self.new < steps_left (reopened here self.old)) }
-        ensures holds { IsTrue F.tells → OnOk result (HoldsFiles
-            (map.get (F.contents files.old)) self.old.unit.files → HoldsFiles
-            (map.get (F.contents files.old)) self.new.unit.files) }
-        ensures stops { IfErr result (λ fault. Claims fault ((lookup : Lookup)
-            → Explains lookup fault → Stops lookup (reopened here self.old) fault)) }
-        ensures told { IsTrue F.tells → IfErr result (Explains (map.get (F.contents files.old))) }
+        ensures advances { OnOk result (Advances F.tells
+            (map.get (F.contents files.old)) (reopened here self.old) self.new) }
+        ensures halts { IfErr result (Halts F.tells
+            (map.get (F.contents files.old)) (reopened here self.old)) }
         ensures same { F.contents files.new ≡ F.contents files.old }
         ensures counts { CountsGathered result
             (file_counts (F.faults files.old) (F.absences files.old) (F.longs files.old))

@@ -2,9 +2,8 @@ use Rattle.std.proofs.Common.{◌≡◌, List, ◌∷◌, ap, subst, ◌∙◌}
 use Rattle.std.specs.FinMap as map
 use Rattle.nss_include.specs.declared.opened.Open.{Open}
 use Rattle.nss_include.specs.declared.gatherer.Gatherer.{Gatherer}
-use Rattle.nss_include.specs.Gather.{HoldsFiles}
 use Rattle.nss_include.specs.Units.{Lookup}
-use Rattle.nss_include.specs.Progress.{Explains}
+use Rattle.nss_include.specs.Progress.{Explains, RunSoFar}
 use Rattle.nss_include.proofs.ProgressLemmas.{run-more, run-stops, run-whole}
 use Rattle.nss_include.proofs.gatherer.Gatherer.run.Goals as goal
 
@@ -15,10 +14,8 @@ loop-here-preserved g c =
     in let outside : map.get (g.F.Files.contents c.loop-here.files) ≡ map.get (g.F.Files.contents c.args.files.now) = ap map.get c.loop-here.invariant.1
     in (
       run-more _ _ c.args.self.now c.loop-here.self (at c.pop.new.self) c.advance.new.self c.in-Some.here c.loop-here.invariant.0 is
-          c.in-Ok.ensures.ready c.in-Ok.ensures.leads c.in-Ok.ensures.keeps
-          (λ told. subst (λ (o : Lookup). HoldsFiles o c.loop-here.self.unit.files → HoldsFiles o c.advance.new.self.unit.files) outside
-          (c.in-Ok.ensures.holds told))
-          c.in-Ok.ensures.grows,
+          (subst (λ (o : Lookup). RunSoFar g.F.Files.tells o (at (c.in-Some.here ∷ c.pop.new.self)) c.advance.new.self) outside
+          c.in-Ok.ensures.advances.so),
       c.in-Ok.ensures.same ∙ c.loop-here.invariant.1,
       c.in-Ok.ensures.counts.0 ∙ c.loop-here.invariant.2,
       c.in-Ok.ensures.counts.1 ∙ c.loop-here.invariant.3,
@@ -31,7 +28,7 @@ returns-in-Err-clause-stops g c = λ told held.
     in let is : c.loop-here.self ≡ at (c.in-Some.here ∷ c.pop.new.self) = ap at (c.in-Some.ensures {u = tt})
     in let outside : map.get (g.F.Files.contents c.loop-here.files) ≡ map.get (g.F.Files.contents c.args.files.now) = ap map.get c.loop-here.invariant.1
     in run-stops _ _ c.args.self.now c.loop-here.self (at c.pop.new.self) c.in-Some.here c.in-Err.fault c.loop-here.invariant.0 is told held
-    c.in-Err.ensures.stops (subst (λ (o : Lookup). Explains o c.in-Err.fault) outside (c.in-Err.ensures.told told))
+    c.in-Err.ensures.halts.stops (subst (λ (o : Lookup). Explains o c.in-Err.fault) outside (c.in-Err.ensures.halts.told told))
 
 pub returns-clause-whole : goal.returns-clause-whole
 returns-clause-whole g c = run-whole _ _ _ c.loop-here.self c.loop-here.invariant.0 c.in_default.ensures.0

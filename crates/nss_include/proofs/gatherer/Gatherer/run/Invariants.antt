@@ -1,7 +1,6 @@
 use Rattle.std.proofs.Common.{◌≡◌}
 use Rattle.std.specs.FinMap as map
-use Rattle.nss_include.specs.Progress.{steps_left}
-use Rattle.nss_include.proofs.ProgressLemmas.{RunSoFar}
+use Rattle.nss_include.specs.Progress.{RunSoFar, steps_left}
 use Rattle.nss_include.proofs.gatherer.Gatherer.run.Given as goal
 
 abbrev pub invariant-loop-here : goal.invariant-loop-here
