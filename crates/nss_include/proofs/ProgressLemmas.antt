@@ -23,12 +23,12 @@ use Rattle.nss_include.specs.Names.{file_name, is_include_name, spot_in}
 use Rattle.nss_include.specs.Steps.{IsStep, IsWithin, lexeme_in}
 use Rattle.nss_include.specs.Units.{Lookup, reading_fault, is_among, source, HaveDistinctNames, IsUnit, unread, is_read}
 use Rattle.nss_include.specs.Walks.{Walks, step_fault, ends, fails, gives, again, breaks_off, includes}
-use Rattle.nss_include.specs.View.{lexeme_of, bytes_of}
+use Rattle.nss_include.specs.View.{Gathered, lexeme_of, bytes_of}
 use Rattle.nss_include.proofs.PieceLemmas.{reads, of_file}
 use Rattle.nss_include.proofs.UnitLemmas.{bytes_stay, all_map, all_push, distinct_more}
 use Rattle.nwq_outside.specs.Outside.{FileCounts}
 use Rattle.nss_include.specs.Gather.{HoldsFiles, Claims, CountsGathered}
-use Rattle.nss_include.specs.Progress.{Rest, closed, stops, goes, Ends, Leads, Stops, HasStep, Explains, ExplainsRead, IsReadFault, Opened, Includes, IsOpen, IsReady, IsOwnFault, Begins, ComesTo, Extends, RunSoFar, Advances, StopsBy, Halts, passed, reopened}
+use Rattle.nss_include.specs.Progress.{Rest, closed, stops, goes, Ends, Leads, Stops, HasStep, Explains, ExplainsRead, IsReadFault, Reads, ReadFails, Includes, IsOpen, IsReady, IsOwnFault, Begins, ComesTo, Extends, RunSoFar, Advances, StopsBy, Halts, passed, reopened}
 
 -- an open file at a place
 abbrev pub file_at : ℕ → ℕ → Open
@@ -306,11 +306,11 @@ open_stays files more here h = record {
   place = subst (λ bytes. here.at ≤ length bytes) (sym (bytes_stay files more here.file h.file)) h.place;
 }
 
-pub ready-includes : (old new : Gatherer) (here : Open) (name : List ℕ) (after : ℕ) → IsReady (reopened here old) → Includes old new here name after
+pub ready-includes : (tells : Bool) (outside : Lookup) (old new : Gatherer) (here : Open) (name : List ℕ) (after : ℕ) → IsReady (reopened here old) → Includes tells outside old new here name after
     → after ≤ length (bytes_of (slice_get old.unit.files here.file)) → old.count + 3 ≤ token_limit → is_among old.unit.files name ≡ false → IsReady new
-ready-includes old new here name after ready i place room alone =
-    let more = source name i.opens.bytes ∷ []
-    in let files : new.unit.files ≡ old.unit.files ++ more = ap (λ u. u.files) i.opens.is
+ready-includes tells outside old new here name after ready i place room alone =
+    let more = source name i.reads.opens.bytes ∷ []
+    in let files : new.unit.files ≡ old.unit.files ++ more = ap (λ u. u.files) i.reads.opens.is
     in let grown : length new.unit.files ≡ length old.unit.files + 1 = ap length files ∙ length-append old.unit.files more
     in let behind : IsOpen old.unit.files (file_at here.file after) = record { file = ready.places.0.file; place = place }
     in record {
@@ -323,9 +323,9 @@ ready-includes old new here name after ready i place room alone =
             ),
           ));
       few = omega (arith, i.count, room);
-      counted = omega (arith, ap (λ u. length u.tokens) i.opens.is, i.count, ready.counted);
+      counted = omega (arith, ap (λ u. length u.tokens) i.reads.opens.is, i.count, ready.counted);
       paid = omega (arith, i.count, grown, ready.paid);
-      distinct = subst HaveDistinctNames (sym files) (distinct_more old.unit.files name i.opens.bytes alone ready.distinct);
+      distinct = subst HaveDistinctNames (sym files) (distinct_more old.unit.files name i.reads.opens.bytes alone ready.distinct);
     }
 
 -- behind a directive one is inside the file
@@ -339,15 +339,15 @@ holds-last lookup [] name bytes h = h.0
 holds-last lookup (f ∷ files) name bytes h = holds-last lookup files name bytes h.1
 
 -- an include of a file that is new to the unit leads on
-pub leads-include : (old new : Gatherer) (here : Open) (hash : ℕ) (name : List ℕ) (after : ℕ) (h : HasStep old here (step.Mentions hash name after))
+pub leads-include : (tells : Bool) (outside : Lookup) (old new : Gatherer) (here : Open) (hash : ℕ) (name : List ℕ) (after : ℕ) (h : HasStep old here (step.Mentions hash name after))
     → old.count + 3 ≤ token_limit → is_among old.unit.files (file_name name) ≡ false → (given : List ℕ) → given ≡ file_name name
-    → Includes old new here given after → (lookup : Lookup) → HoldsFiles lookup new.unit.files → Leads lookup (reopened here old) new
-leads-include old new here hash name after h room new_file given is i lookup holds =
-    let unit : new.unit ≡ record { files = old.unit.files ++ source (file_name name) i.opens.bytes ∷ []; tokens = old.unit.tokens }
-    = i.opens.is ∙ ap (λ n. record { files = old.unit.files ++ source n i.opens.bytes ∷ []; tokens = old.unit.tokens }) is
-    in let read : lookup (file_name name) ≡ Some i.opens.bytes
-    = holds-last lookup old.unit.files (file_name name) i.opens.bytes (subst (HoldsFiles lookup) (ap (λ u. u.files) unit) holds)
-    in leads-includes old new here hash name after h i.opens.bytes room new_file i.opens.size unit i.stack i.count lookup read
+    → Includes tells outside old new here given after → (lookup : Lookup) → HoldsFiles lookup new.unit.files → Leads lookup (reopened here old) new
+leads-include tells outside old new here hash name after h room new_file given is i lookup holds =
+    let unit : new.unit ≡ record { files = old.unit.files ++ source (file_name name) i.reads.opens.bytes ∷ []; tokens = old.unit.tokens }
+    = i.reads.opens.is ∙ ap (λ n. record { files = old.unit.files ++ source n i.reads.opens.bytes ∷ []; tokens = old.unit.tokens }) is
+    in let read : lookup (file_name name) ≡ Some i.reads.opens.bytes
+    = holds-last lookup old.unit.files (file_name name) i.reads.opens.bytes (subst (HoldsFiles lookup) (ap (λ u. u.files) unit) holds)
+    in leads-includes old new here hash name after h i.reads.opens.bytes room new_file i.reads.opens.size unit i.stack i.count lookup read
 
 -- ---- a whole reading
 
@@ -412,8 +412,8 @@ advances-gives old new here span ready h room unit stack count tells outside =
       count = old.count + 1;
     }
     in let is : new ≡ on = ap (λ u. record { unit = u; stack = new.stack; count = new.count }) unit
-        ∙ ap (λ s. record { unit = on.unit; stack = s; count = new.count }) stack
-        ∙ ap (λ n. record { unit = on.unit; stack = on.stack; count = n }) count
+    ∙ ap (λ s. record { unit = on.unit; stack = s; count = new.count }) stack
+    ∙ ap (λ n. record { unit = on.unit; stack = on.stack; count = n }) count
     in let longer = length-append old.unit.tokens (lexeme_of old.unit.files span ∷ [])
     in let place : span.end ≤ length (bytes_of (slice_get old.unit.files here.file))
     = subst (λ o. span.end ≤ length (bytes_of o)) (sym h.is) h.within.2
@@ -465,20 +465,18 @@ holds-first lookup (f ∷ files) more h = (h.0, holds-first lookup files more h.
 -- an include of a file that is new to the unit
 pub advances-include : (tells : Bool) (outside : Lookup) (old new : Gatherer) (here : Open) (hash : ℕ) (name : List ℕ) (after : ℕ)
     → IsReady (reopened here old) → HasStep old here (step.Mentions hash name after) → old.count + 3 ≤ token_limit → (given : List ℕ)
-    → given ≡ file_name name → is_among old.unit.files given ≡ false → Includes old new here given after
-    → (IsTrue tells → Opened outside old.unit new.unit given) → Advances tells outside (reopened here old) new
-advances-include tells outside old new here hash name after ready h room given is alone i holds =
-    let more : List Source = source given i.opens.bytes ∷ []
-    in let files : new.unit.files ≡ old.unit.files ++ more = ap (λ u. u.files) i.opens.is
+    → given ≡ file_name name → is_among old.unit.files given ≡ false → Includes tells outside old new here given after
+    → Advances tells outside (reopened here old) new
+advances-include tells outside old new here hash name after ready h room given is alone i =
+    let more : List Source = source given i.reads.opens.bytes ∷ []
+    in let files : new.unit.files ≡ old.unit.files ++ more = ap (λ u. u.files) i.reads.opens.is
     in record {
       so = record {
-        ready = ready-includes old new here given after ready i (place-behind old here hash name after h) room alone;
-        leads = leads-include old new here hash name after h room (ap (is_among old.unit.files) (sym is) ∙ alone) given is i;
+        ready = ready-includes tells outside old new here given after ready i (place-behind old here hash name after h) room alone;
+        leads = leads-include tells outside old new here hash name after h room (ap (is_among old.unit.files) (sym is) ∙ alone) given is i;
         keeps = λ lookup held. holds-first lookup old.unit.files more (subst (HoldsFiles lookup) files held);
-        holds = λ told held.
-            let o = holds told
-            in subst (HoldsFiles outside) (sym (ap (λ u. u.files) o.0.is))
-            (all_push (λ f. outside f.name ≡ Some f.bytes) old.unit.files (source given o.0.bytes) held o.1);
+        holds = λ told held. subst (HoldsFiles outside) (sym files)
+            (all_push (λ f. outside f.name ≡ Some f.bytes) old.unit.files (source given i.reads.opens.bytes) held (i.reads.told told));
         grows = (more, files);
       };
       falls = omega (arith, i.count, ap length i.stack, room);
@@ -526,11 +524,11 @@ counts-own A (Include spot) counts own = absurd own
 -- a fault of reading an include
 pub halts-include : (tells : Bool) (outside : Lookup) (r : Gatherer) (here : Open) (hash : ℕ) (name : List ℕ) (after : ℕ)
     (h : HasStep r here (step.Mentions hash name after)) → r.count + 3 ≤ token_limit → (given : List ℕ) → given ≡ file_name name
-    → is_among r.unit.files given ≡ false → (fault : GatherFault) → IsReadFault given fault
-    → (IsTrue tells → ExplainsRead outside given fault) → Halts tells outside (reopened here r) fault
-halts-include tells outside r here hash name after h room given is alone fault cut explains = record {
-  stops = stops-include r here hash name after h room (ap (is_among r.unit.files) (sym is) ∙ alone) given is fault cut;
-  told = λ told. explains-include outside given name is h.within.2 fault cut (explains told);
+    → is_among r.unit.files given ≡ false → (fault : GatherFault)
+    → ReadFails tells outside given fault → Halts tells outside (reopened here r) fault
+halts-include tells outside r here hash name after h room given is alone fault failed = record {
+  stops = stops-include r here hash name after h room (ap (is_among r.unit.files) (sym is) ∙ alone) given is fault failed.is;
+  told = λ told. explains-include outside given name is h.within.2 fault failed.is (failed.told told);
 }
 
 claims-map : (fault : GatherFault) (P Q : Type 0) → Claims fault P → (P → Q) → Claims fault Q
@@ -582,10 +580,10 @@ rest_one lookup number at files count tokens last total ending (goes h s f c inn
     rest_done lookup number at files count inner between counted ts last total ending unfolds rest
 
 -- what a reading from the beginning ends with is the unit of the script
-pub begins-unit : (one : OneFirst) (some : SomeSplit) (lookup : Lookup) (script : List ℕ) (r : Gatherer) (tokens : List Lexeme) (files : List Source)
-    (total : ℕ) (ending : Option GatherFault) → Begins r script → HoldsFiles lookup r.unit.files
+pub begins-unit : (one : OneFirst) (some : SomeSplit) (tells : Bool) (outside lookup : Lookup) (script : List ℕ) (r : Gatherer) (tokens : List Lexeme) (files : List Source)
+    (total : ℕ) (ending : Option GatherFault) → Begins tells outside r script → HoldsFiles lookup r.unit.files
     → Ends lookup r tokens files total ending → IsUnit lookup script tokens files ending
-begins-unit one some lookup script r tokens files total ending b held e =
+begins-unit one some tells outside lookup script r tokens files total ending b held e =
     let first : List Source = source (file_name script) b.bytes ∷ []
     in let have : HoldsFiles lookup first = subst (HoldsFiles lookup) (ap (λ u. u.files) b.unit) held
     in let walks : Walks lookup 0 0 first 0 e.left files total ending
@@ -597,6 +595,24 @@ begins-unit one some lookup script r tokens files total ending b held e =
     (reads one some lookup 0 0 first 0 e.left files total ending walks) refl
     in subst (λ ts. IsUnit lookup script ts files ending) all
     (is_read b.bytes read.all e.left (record { files = files; count = total }) ending have.0 b.size read.has read.unfolds)
+
+-- a reading begins where the file of a script is read
+pub begins-read : (tells : Bool) (outside : Lookup) (script given : List ℕ) (r : Gatherer) (old : Gathered) → given ≡ file_name script
+    → old ≡ record { files = []; tokens = [] } → Reads tells outside old r.unit given → r.stack ≡ file_at 0 0 ∷ [] → r.count ≡ 0
+    → Begins tells outside r script
+begins-read tells outside script given r old is empty read stack count =
+    let bytes : List ℕ = read.opens.bytes
+    in let unit : r.unit ≡ record { files = source (file_name script) bytes ∷ []; tokens = [] }
+    = read.opens.is ∙ ap (λ u. record { files = u.files ++ source given bytes ∷ []; tokens = u.tokens }) empty
+    ∙ ap (λ n. record { files = source n bytes ∷ []; tokens = [] }) is
+    in record {
+      bytes = bytes;
+      size = read.opens.size;
+      unit = unit;
+      stack = stack;
+      count = count;
+      holds = λ told. subst (HoldsFiles outside) (sym (ap (λ u. u.files) unit)) (ap outside (sym is) ∙ read.told told, tt);
+    }
 
 -- a script that is not read has no more than that fault
 pub begins-fails : (lookup : Lookup) (script : List ℕ) (fault : GatherFault) → IsReadFault (file_name script) fault
@@ -612,9 +628,9 @@ begins-fails lookup script (Tokens spot) cut e = absurd cut
 begins-fails lookup script (Include spot) cut e = absurd cut
 begins-fails lookup script NoMemory cut e = tt
 
-pub begins-stops : (one : OneFirst) (some : SomeSplit) (lookup : Lookup) (script : List ℕ) (r : Gatherer) (fault : GatherFault) → Begins r script
+pub begins-stops : (one : OneFirst) (some : SomeSplit) (tells : Bool) (outside lookup : Lookup) (script : List ℕ) (r : Gatherer) (fault : GatherFault) → Begins tells outside r script
     → HoldsFiles lookup r.unit.files → Claims fault (ComesTo lookup r fault)
     → Claims fault ((tokens : List Lexeme) × (files : List Source) × IsUnit lookup script tokens files (Some fault))
-begins-stops one some lookup script r fault b held claims =
+begins-stops one some tells outside lookup script r fault b held claims =
     claims-map fault (ComesTo lookup r fault) ((tokens : List Lexeme) × (files : List Source) × IsUnit lookup script tokens files (Some fault)) claims
-    (λ c. (c.tokens, c.last, begins-unit one some lookup script r c.tokens c.last c.total (Some fault) b held c.ends))
+    (λ c. (c.tokens, c.last, begins-unit one some tells outside lookup script r c.tokens c.last c.total (Some fault) b held c.ends))

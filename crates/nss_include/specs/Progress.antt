@@ -94,9 +94,10 @@ pub record Opens (old new : Gathered) (name : List ℕ) : Type 0 where
   pub size : length bytes ≤ file_limit
   pub is : new ≡ record { files = old.files ++ source name bytes ∷ []; tokens = old.tokens }
 
--- the file that the unit has more is what is under its name
-abbrev pub Opened : Lookup → Gathered → Gathered → List ℕ → Type 0
-Opened lookup old new name = (opens : Opens old new name) × (lookup name ≡ Some opens.bytes)
+-- and where files are told, it is what is under its name
+pub record Reads (tells : Bool) (outside : Lookup) (old new : Gathered) (name : List ℕ) : Type 0 where
+  pub opens : Opens old new name
+  pub told : IsTrue tells → outside name ≡ Some opens.bytes
 
 -- a fault of reading this name
 abbrev pub IsReadFault : List ℕ → GatherFault → Type 0
@@ -118,13 +119,18 @@ ExplainsRead lookup name (Tokens spot) = Unit {0}
 ExplainsRead lookup name (Include spot) = Unit {0}
 ExplainsRead lookup name NoMemory = Unit {0}
 
+-- a read of this name failed so
+pub record ReadFails (tells : Bool) (outside : Lookup) (name : List ℕ) (fault : GatherFault) : Type 0 where
+  pub is : IsReadFault name fault
+  pub told : IsTrue tells → ExplainsRead outside name fault
+
 -- a directive behind which the file goes on was passed
 abbrev pub passed : Gatherer → Open → ℕ → Gatherer
 passed r here after = record r { stack = record { file = here.file; at = after } ∷ r.stack; count = r.count + 3 }
 
 -- a directive was passed, and the file that it names is open
-pub record Includes (old new : Gatherer) (here : Open) (name : List ℕ) (after : ℕ) : Type 0 where
-  pub opens : Opens old.unit new.unit name
+pub record Includes (tells : Bool) (outside : Lookup) (old new : Gatherer) (here : Open) (name : List ℕ) (after : ℕ) : Type 0 where
+  pub reads : Reads tells outside old.unit new.unit name
   pub stack : new.stack ≡ record { file = length old.unit.files; at = 0 } ∷ record { file = here.file; at = after } ∷ old.stack
   pub count : new.count ≡ old.count + 3
 
@@ -146,12 +152,13 @@ pub record ComesTo (lookup : Lookup) (r : Gatherer) (fault : GatherFault) : Type
   pub ends : Ends lookup r tokens last total (Some fault)
 
 -- a reading that begins with the file of a script
-pub record Begins (r : Gatherer) (script : List ℕ) : Type 0 where
+pub record Begins (tells : Bool) (outside : Lookup) (r : Gatherer) (script : List ℕ) : Type 0 where
   pub bytes : List ℕ
   pub size : length bytes ≤ file_limit
   pub unit : r.unit ≡ record { files = source (file_name script) bytes ∷ []; tokens = [] }
   pub stack : r.stack ≡ record { file = 0; at = 0 } ∷ []
   pub count : r.count ≡ 0
+  pub holds : IsTrue tells → HoldsFiles outside r.unit.files
 
 -- what a reading has come to, where files are told or not
 pub record RunSoFar (tells : Bool) (outside : Lookup) (first now : Gatherer) : Type 0 where

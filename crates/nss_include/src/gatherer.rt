@@ -9,7 +9,7 @@ ghost use Rattle.nss_include.specs.Names.{file_name};
 ghost use Rattle.nss_include.specs.Units.{Lookup, IsUnit, HaveDistinctNames};
 ghost use Rattle.nss_include.specs.Gather.{CountsGathered, HoldsFiles, Claims, HasScript, Gathers};
 ghost use Rattle.nss_include.specs.View.{file_count_limit};
-ghost use Rattle.nss_include.specs.Progress.{Opens, Opened, Extends, IsReadFault, ExplainsRead};
+ghost use Rattle.nss_include.specs.Progress.{Reads, ReadFails, Extends};
 ghost use Rattle.nss_include.specs.Progress.{IsOwnFault, Begins, ComesTo};
 
 use crate::fault::GatherFault;
@@ -44,12 +44,9 @@ fn read_into<F: Files>(
     name: &str,
 ) -> Result<(), GatherFault>
     requires { length unit.old.files < file_count_limit }
-    ensures opens { OnOk result (Opens unit.old unit.new name.now) }
-    ensures holds { IsTrue F.tells → OnOk result (Opened
+    ensures reads { OnOk result (Reads F.tells
         (map.get (F.contents files.old)) unit.old unit.new name.now) }
-    ensures err { OnErr result (unit.new ≡ unit.old) }
-    ensures fault { IfErr result (IsReadFault name.now) }
-    ensures told { IsTrue F.tells → IfErr result (ExplainsRead
+    ensures fails { IfErr result (ReadFails F.tells
         (map.get (F.contents files.old)) name.now) }
     ensures same { F.contents files.new ≡ F.contents files.old }
     ensures counts { CountsGathered result
@@ -138,11 +135,9 @@ impl Gatherer {
     ) -> Result<(), GatherFault>
         requires ready { IsReady (reopened here self.old) }
         requires room { self.old.count + 3 ≤ token_limit }
-        ensures includes { OnOk result (Includes self.old self.new here name.now after) }
-        ensures holds { IsTrue F.tells → OnOk result (Opened
-            (map.get (F.contents files.old)) self.old.unit self.new.unit name.now) }
-        ensures fault { IfErr result (IsReadFault name.now) }
-        ensures told { IsTrue F.tells → IfErr result (ExplainsRead
+        ensures includes { OnOk result (Includes F.tells
+            (map.get (F.contents files.old)) self.old self.new here name.now after) }
+        ensures fails { IfErr result (ReadFails F.tells
             (map.get (F.contents files.old)) name.now) }
         ensures same { F.contents files.new ≡ F.contents files.old }
         ensures counts { CountsGathered result
@@ -274,11 +269,9 @@ impl Gatherer {
 
 /// Begins to gather the unit of a script with its file.
 fn begin<F: Files>(alloc: Global, files: &mut F, script: &str) -> Result<Gatherer, GatherFault>
-    ensures begins { IfOk result (λ gatherer. Begins gatherer script.now) }
-    ensures holds { IsTrue F.tells → IfOk result (λ gatherer. HoldsFiles
-        (map.get (F.contents files.old)) gatherer.unit.files) }
-    ensures fault { IfErr result (IsReadFault (file_name script.now)) }
-    ensures told { IsTrue F.tells → IfErr result (ExplainsRead
+    ensures begins { IfOk result (λ gatherer. Begins F.tells
+        (map.get (F.contents files.old)) gatherer script.now) }
+    ensures fails { IfErr result (ReadFails F.tells
         (map.get (F.contents files.old)) (file_name script.now)) }
     ensures same { F.contents files.new ≡ F.contents files.old }
     ensures counts { CountsGathered result

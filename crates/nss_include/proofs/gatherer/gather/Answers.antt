@@ -7,19 +7,19 @@ use Rattle.nss_include.proofs.ProgressLemmas.{begins-unit, begins-fails, begins-
 use Rattle.nss_include.proofs.gatherer.gather.Goals as goal
 
 pub returns-in-Err-clause-told : goal.returns-in-Err-clause-told
-returns-in-Err-clause-told g c = λ told. begins-fails _ c.args.name.now c.in-Err.fault c.in-Err.ensures.fault (c.in-Err.ensures.told told)
+returns-in-Err-clause-told g c = λ told. begins-fails _ c.args.name.now c.in-Err.fault c.in-Err.ensures.fails.is (c.in-Err.ensures.fails.told told)
 
 pub returns-in-Err-run-clause-told : goal.returns-in-Err-run-clause-told
 returns-in-Err-run-clause-told g c = λ told.
     let outside : map.get (g.F.Files.contents c.begin.new.files) ≡ map.get (g.F.Files.contents c.args.files.now) = ap map.get c.in-Ok.ensures.same
-    in begins-stops c.one_first.ensures.one c.some_split.ensures.some (map.get (g.F.Files.contents c.args.files.now)) c.args.name.now c.in-Ok.gatherer c.in-Err-run.fault
-    c.in-Ok.ensures.begins (c.in-Ok.ensures.holds told)
+    in begins-stops c.one_first.ensures.one c.some_split.ensures.some _ _ (map.get (g.F.Files.contents c.args.files.now)) c.args.name.now c.in-Ok.gatherer c.in-Err-run.fault
+    c.in-Ok.ensures.begins (c.in-Ok.ensures.begins.holds told)
     (subst (λ (o : Lookup). HoldsFiles o c.in-Ok.gatherer.unit.files → Claims c.in-Err-run.fault (ComesTo o c.in-Ok.gatherer c.in-Err-run.fault)) outside
-    (c.in-Err-run.ensures.stops told) (c.in-Ok.ensures.holds told))
+    (c.in-Err-run.ensures.stops told) (c.in-Ok.ensures.begins.holds told))
 
 pub returns-in-Ok-run-clause-unit : goal.returns-in-Ok-run-clause-unit
 returns-in-Ok-run-clause-unit g c = λ lookup held.
-    begins-unit c.one_first.ensures.one c.some_split.ensures.some lookup c.args.name.now c.in-Ok.gatherer _ _ _ _ c.in-Ok.ensures.begins
+    begins-unit c.one_first.ensures.one c.some_split.ensures.some _ _ lookup c.args.name.now c.in-Ok.gatherer _ _ _ _ c.in-Ok.ensures.begins
     (c.in-Ok-run.ensures.keeps lookup held) (c.in-Ok-run.ensures.whole lookup held)
 
 pub returns-in-Ok-run-clause-told : goal.returns-in-Ok-run-clause-told
@@ -27,6 +27,6 @@ returns-in-Ok-run-clause-told g c = λ told.
     let outside : map.get (g.F.Files.contents c.begin.new.files) ≡ map.get (g.F.Files.contents c.args.files.now) = ap map.get c.in-Ok.ensures.same
     in let lookup : Lookup = map.get (g.F.Files.contents c.args.files.now)
     in let held = subst (λ (o : Lookup). HoldsFiles o c.in-Ok.gatherer.unit.files → HoldsFiles o c.run.new.self.unit.files) outside
-    (c.in-Ok-run.ensures.holds told) (c.in-Ok.ensures.holds told)
-    in begins-unit c.one_first.ensures.one c.some_split.ensures.some lookup c.args.name.now c.in-Ok.gatherer _ _ _ _
-    c.in-Ok.ensures.begins (c.in-Ok.ensures.holds told) (c.in-Ok-run.ensures.whole lookup held)
+    (c.in-Ok-run.ensures.holds told) (c.in-Ok.ensures.begins.holds told)
+    in begins-unit c.one_first.ensures.one c.some_split.ensures.some _ _ lookup c.args.name.now c.in-Ok.gatherer _ _ _ _
+    c.in-Ok.ensures.begins (c.in-Ok.ensures.begins.holds told) (c.in-Ok-run.ensures.whole lookup held)

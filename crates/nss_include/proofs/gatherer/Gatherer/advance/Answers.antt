@@ -1,7 +1,7 @@
 use Rattle.std.proofs.Common.{subst}
 use Rattle.nss_include.specs.declared.step.Step.{Step}
 use Rattle.nss_include.specs.Progress.{HasStep}
-use Rattle.nss_include.proofs.ProgressLemmas.{advances-ends, halts-breaks, halts-misses}
+use Rattle.nss_include.proofs.ProgressLemmas.{advances-ends, halts-breaks, halts-misses, halts-own, counts-own}
 use Rattle.nss_include.proofs.gatherer.Gatherer.advance.Goals as goal
 
 pub returns-in-Ends-clause-advances : goal.returns-in-Ends-clause-advances
@@ -21,3 +21,9 @@ pub returns-clause-halts : goal.returns-clause-halts
 returns-clause-halts g c =
     halts-misses _ _ c.args.self.now c.args.here c.in-Misses.place
     (subst (λ (s : Step). HasStep c.args.self.now c.args.here s) c.in-Misses.is (c.in_ok-step_at.ensures {u = tt})) _ c.in_ok-spot-in-Misses.ensures.spot
+
+pub returns-in-Gives-clause-halts : goal.returns-in-Gives-clause-halts
+returns-in-Gives-clause-halts g c = halts-own _ _ _ c.in-Err.fault c.in-Err.ensures.own c.in-Err.ensures.stops
+
+pub returns-in-Gives-clause-counts : goal.returns-in-Gives-clause-counts
+returns-in-Gives-clause-counts g c = counts-own (Unit {0}) c.in-Err.fault _ c.in-Err.ensures.own

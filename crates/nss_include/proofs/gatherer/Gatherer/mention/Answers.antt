@@ -30,7 +30,7 @@ returns-in-Ok-clause-advances g c =
     = ap (is_among c.args.self.now.unit.files) (c.as_str.ensures.value ∙ sym c.as_bytes.ensures.value) ∙ sym c.has.ensures ∙ c.if-has.false
     in let room : c.args.self.now.count + 3 ≤ token_limit = omega arith
     in advances-include _ _ c.args.self.now c.include.new.self c.args.here c.args.hash c.args.name.now c.args.after c.requires.ready c.requires.step
-    room c.as_str.result.now (c.as_str.ensures.value ∙ named) alone c.in-Ok.ensures.includes c.in-Ok.ensures.holds
+    room c.as_str.result.now (c.as_str.ensures.value ∙ named) alone c.in-Ok.ensures.includes
 
 pub returns-clause-halts : goal.returns-clause-halts
 returns-clause-halts g c =
@@ -39,4 +39,4 @@ returns-clause-halts g c =
     = ap (is_among c.args.self.now.unit.files) (c.as_str.ensures.value ∙ sym c.as_bytes.ensures.value) ∙ sym c.has.ensures ∙ c.if-has.false
     in let room : c.args.self.now.count + 3 ≤ token_limit = omega arith
     in halts-include _ _ c.args.self.now c.args.here c.args.hash c.args.name.now c.args.after c.requires.step room
-    c.as_str.result.now (c.as_str.ensures.value ∙ named) alone c.in-Err.fault c.in-Err.ensures.fault c.in-Err.ensures.told
+    c.as_str.result.now (c.as_str.ensures.value ∙ named) alone c.in-Err.fault c.in-Err.ensures.fails
