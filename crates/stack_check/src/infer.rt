@@ -197,19 +197,19 @@ fn settle(
     table: &Table,
     heap: &mut Heap,
     facts: &mut Facts,
+    todo: &mut Todo,
 ) -> Result<bool, NoMemory>
     requires keeps { Keeps table.now code.now heap.old facts.old }
     ensures found { IfOk result (λ found. found ≡ true → IsFound table.now code.now heap.new
         facts.new) }
     ensures none { IfOk result (λ found. found ≡ false → WellStacked table.now code.now → ⊥) }
 {
-    let mut todo = Todo::new(alloc);
     todo.add(Spot {
         trial: 0,
         place: 13,
     })?;
     for _turn in 0..u64::MAX {
-        match advance(alloc, code, table, heap, facts, &mut todo)? {
+        match advance(alloc, code, table, heap, facts, todo)? {
             Seen::Quiet => return Ok(true),
             Seen::Bad => return Ok(false),
             Seen::Changed => {}
@@ -223,15 +223,40 @@ pub fn infer(alloc: Global, code: &Code, table: &Table) -> Result<Option<Kept>, 
     ensures found { IfOk result (λ kept. MatchOption kept (WellStacked table.now code.now → ⊥)
         (λ k. IsFound table.now code.now k.heap k.facts)) }
 {
-    let mut heap = Heap {
+    let heap = Heap {
         slots: Lists::new(alloc),
         saved: Lists::new(alloc),
     };
-    let mut facts = first_facts(alloc, code, table, &heap)?;
-    let found = settle(alloc, code, table, &mut heap, &mut facts)?;
-    if found {
-        Ok(Some(Kept { heap, facts }))
-    } else {
-        Ok(None)
+    // What is owned is dropped by calls, since a drop that is left to the end of a scope is dear to
+    // prove.
+    match first_facts(alloc, code, table, &heap) {
+        Err(error) => {
+            drop(heap);
+            Err(error)
+        }
+        Ok(facts) => {
+            let mut kept = Kept { heap, facts };
+            let mut todo = Todo::new(alloc);
+            let found = settle(
+                alloc,
+                code,
+                table,
+                &mut kept.heap,
+                &mut kept.facts,
+                &mut todo,
+            );
+            drop(todo);
+            match found {
+                Err(error) => {
+                    drop(kept);
+                    Err(error)
+                }
+                Ok(false) => {
+                    drop(kept);
+                    Ok(None)
+                }
+                Ok(true) => Ok(Some(kept)),
+            }
+        }
     }
 }
