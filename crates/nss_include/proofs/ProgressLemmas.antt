@@ -23,12 +23,12 @@ use Rattle.nss_include.specs.Names.{file_name, is_include_name, spot_in}
 use Rattle.nss_include.specs.Steps.{IsStep, IsWithin, lexeme_in}
 use Rattle.nss_include.specs.Units.{Lookup, reading_fault, is_among, source, HaveDistinctNames, IsUnit, unread, is_read}
 use Rattle.nss_include.specs.Walks.{Walks, step_fault, ends, fails, gives, again, breaks_off, includes}
-use Rattle.nss_include.specs.View.{Gathered, lexeme_of, bytes_of}
+use Rattle.nss_include.specs.View.{lexeme_of, bytes_of}
 use Rattle.nss_include.proofs.PieceLemmas.{reads, of_file}
 use Rattle.nss_include.proofs.UnitLemmas.{bytes_stay, all_map, all_push, distinct_more}
 use Rattle.nwq_outside.specs.Outside.{FileCounts}
 use Rattle.nss_include.specs.Gather.{HoldsFiles, Claims, CountsGathered}
-use Rattle.nss_include.specs.Progress.{Rest, closed, stops, goes, Ends, Leads, Stops, HasStep, Explains, ExplainsRead, IsReadFault, Reads, ReadFails, Includes, IsOpen, IsReady, IsOwnFault, Begins, ComesTo, Extends, RunSoFar, Advances, StopsBy, Halts, passed, reopened}
+use Rattle.nss_include.specs.Progress.{Rest, closed, stops, goes, Ends, Leads, Stops, HasStep, Explains, ExplainsRead, IsReadFault, ReadFails, Includes, IsOpen, IsReady, IsOwnFault, Begins, ComesTo, Extends, RunSoFar, Advances, StopsBy, Halts, passed, reopened}
 
 -- an open file at a place
 abbrev pub file_at : ℕ → ℕ → Open
@@ -482,10 +482,7 @@ advances-include tells outside old new here hash name after ready h room given i
       falls = omega (arith, i.count, ap length i.stack, room);
     }
 
--- want of memory
-pub halts-memory : (tells : Bool) (outside : Lookup) (r : Gatherer) → Halts tells outside r NoMemory
-halts-memory tells outside r = record { stops = tt; told = λ told. tt }
-
+-- what a step fails with
 pub halts-breaks : (tells : Bool) (outside : Lookup) (r : Gatherer) (here : Open) (place : ℕ) (h : HasStep r here (step.Breaks place)) (spot : Spot)
     → option_map (λ f. spot_in f place) (slice_get r.unit.files here.file) ≡ Some spot → Halts tells outside (reopened here r) (Bad spot)
 halts-breaks tells outside r here place h spot is = record { stops = λ lookup e. stops-breaks r here place h spot is lookup; told = λ told. tt }
@@ -595,24 +592,6 @@ begins-unit one some tells outside lookup script r tokens files total ending b h
     (reads one some lookup 0 0 first 0 e.left files total ending walks) refl
     in subst (λ ts. IsUnit lookup script ts files ending) all
     (is_read b.bytes read.all e.left (record { files = files; count = total }) ending have.0 b.size read.has read.unfolds)
-
--- a reading begins where the file of a script is read
-pub begins-read : (tells : Bool) (outside : Lookup) (script given : List ℕ) (r : Gatherer) (old : Gathered) → given ≡ file_name script
-    → old ≡ record { files = []; tokens = [] } → Reads tells outside old r.unit given → r.stack ≡ file_at 0 0 ∷ [] → r.count ≡ 0
-    → Begins tells outside r script
-begins-read tells outside script given r old is empty read stack count =
-    let bytes : List ℕ = read.opens.bytes
-    in let unit : r.unit ≡ record { files = source (file_name script) bytes ∷ []; tokens = [] }
-    = read.opens.is ∙ ap (λ u. record { files = u.files ++ source given bytes ∷ []; tokens = u.tokens }) empty
-    ∙ ap (λ n. record { files = source n bytes ∷ []; tokens = [] }) is
-    in record {
-      bytes = bytes;
-      size = read.opens.size;
-      unit = unit;
-      stack = stack;
-      count = count;
-      holds = λ told. subst (HoldsFiles outside) (sym (ap (λ u. u.files) unit)) (ap outside (sym is) ∙ read.told told, tt);
-    }
 
 -- a script that is not read has no more than that fault
 pub begins-fails : (lookup : Lookup) (script : List ℕ) (fault : GatherFault) → IsReadFault (file_name script) fault
