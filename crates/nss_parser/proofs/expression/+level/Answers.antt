@@ -1,10 +1,12 @@
-use Rattle.std.proofs.Common.{rules, arith, ◌+◌, ◌-◌, sym, ap, ◌∙◌}
+use Rattle.std.proofs.Common.{rules, arith, ◌+◌, ◌-◌, refl, sym, ap, ◌∙◌, Option}
 use Rattle.nss_tree.specs.Expressions.{PlainExprs}
 use Rattle.std.proofs.lemmas.Grind.{common_steps}
 use Rattle.nss_tree.specs.Reading.{plain_expr, plain_exprs}
 use Rattle.nss_parser.specs.ReadExpression as read
 use Rattle.nss_parser.proofs.ExpressionSteps.{argument_more}
 use Rattle.nss_parser.proofs.Turns.{one_more, deeper}
+use Rattle.nss_symbols.specs.Symbols.{Symbol}
+use Rattle.nss_parser.proofs.expression.+level.Goals.{primary-in_default-via-in-Some+in-Fixed+in_default, primary-in_default-via-in-Some+in_default, primary-in_default-via-in_default}
 use Rattle.nss_parser.proofs.expression.+level.Goals as goal
 
 pub climb-returns-then-level_of-least : goal.climb-returns-then-level_of-least
@@ -34,3 +36,9 @@ unfolding read.level
 level-returns t c =
     let e = deeper (λ n. read.level n c.args.least c.args.tokens.now) c.args.depth (omega arith) in
     first_of (search rules, grind (arith, common_steps))
+
+pub primary-returns-in_default : goal.primary-returns-in_default
+unfolding read.primary
+primary-returns-in_default t c =
+    ap (λ (z : Option Symbol). read.primary_by c.args.depth (read.level c.args.depth) z c.args.tokens.now) (sym c.peek.ensures.same)
+    ∙ elim c.in_default.branch [ primary-in_default-via-in-Some+in-Fixed+in_default w ↦ search rules | primary-in_default-via-in-Some+in_default w ↦ search rules | primary-in_default-via-in_default w ↦ rw w.in_default.is refl ]
