@@ -101,6 +101,13 @@ pub for_is : (d : ℕ) (statement : Parser SourceStmt) (i : List Numbered) → f
 unfolding for_statement
 for_is d statement i = same_after (take i) _ _ (λ n r. sym (head_is d (for_rest statement n) r))
 
+-- a `for` whose number and head were read
+pub for_after : (d : ℕ) (statement : Parser SourceStmt) (n : ℕ) (h : ForHead PlainExpr) (i j k : List Numbered) → take i ≡ Got n j → for_head d j ≡ Got h k → for_statement d statement i ≡ for_rest statement n h k
+for_after d statement n h i j k taken headed =
+    for_is d statement i
+    ∙ ap (λ (z : Outcome ℕ). and_then z (λ m. for_head d >>= for_rest statement m)) taken
+    ∙ ap (λ (z : Outcome (ForHead PlainExpr)). and_then z (for_rest statement n)) headed
+
 pub switch_is : (d : ℕ) (statement : Parser SourceStmt) (i : List Numbered)
     → switch_statement d statement i ≡ and_then (take i) (λ n. condition d >>= λ x. switch_body d statement >>= λ all. pure (stmt.switch n x all))
 unfolding switch_statement

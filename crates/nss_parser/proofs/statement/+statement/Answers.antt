@@ -3,8 +3,9 @@ use Rattle.std.proofs.lemmas.Grind.{common_steps}
 use Rattle.nss_tree.specs.Source.{SourceStmts}
 use Rattle.nss_tree.specs.Reading.{plain_expr, plain_stmt, plain_stmts}
 use Rattle.nss_parser.specs.ReadStatement as read
+use Rattle.nss_parser.specs.ReadParts.{plain_head}
 use Rattle.nss_parser.proofs.LoopTurns.{entry_more}
-use Rattle.nss_parser.proofs.PartLaws.{if_is, do_is}
+use Rattle.nss_parser.proofs.PartLaws.{if_is, do_is, for_after, for_is}
 use Rattle.nss_parser.proofs.Turns.{one_more, deeper}
 use Rattle.nss_parser.proofs.statement.+statement.Goals as goal
 
@@ -32,3 +33,15 @@ do_statement-returns t c =
     let e = do_is c.args.depth (read.statement c.args.depth) c.in_ok-number.number (plain_stmt c.in_ok-inner.inner)
     c.args.tokens.now c.take.new.self c.statement.new.tokens c.in_ok-number.ensures.read c.in_ok-inner.ensures in
     rw e c.do_rest.ensures
+
+pub for_statement-returns-in-Err : goal.for_statement-returns-in-Err
+for_statement-returns-in-Err t c = rw (for_after c.args.depth (read.statement c.args.depth) c.in_ok-number.number (plain_head c.in_ok-head.head) c.args.tokens.now c.take.new.self c.for_head.new.tokens c.in_ok-number.ensures.read c.in_ok-head.ensures) (search rules)
+
+pub for_statement-returns-in_ok-for_of-in-Ok : goal.for_statement-returns-in_ok-for_of-in-Ok
+for_statement-returns-in_ok-for_of-in-Ok t c = rw (for_after c.args.depth (read.statement c.args.depth) c.in_ok-number.number (plain_head c.in_ok-head.head) c.args.tokens.now c.take.new.self c.for_head.new.tokens c.in_ok-number.ensures.read c.in_ok-head.ensures) (search rules)
+
+pub for_statement-returns-in_err-head : goal.for_statement-returns-in_err-head
+for_statement-returns-in_err-head t c = rw (for_is c.args.depth (read.statement c.args.depth) c.args.tokens.now) (search rules)
+
+pub for_statement-returns-in_err-number : goal.for_statement-returns-in_err-number
+for_statement-returns-in_err-number t c = rw (for_is c.args.depth (read.statement c.args.depth) c.args.tokens.now) (search rules)
