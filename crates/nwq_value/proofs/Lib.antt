@@ -1,3 +1,4 @@
+mod IndexLemmas
 mod NameLemmas
 mod RoleLemmas
 mod RowLemmas

@@ -2,6 +2,7 @@ pub mod Engine
 pub mod Entries
 pub mod Header
 pub mod HeaderTable
+pub mod Index
 pub mod Limits
 pub mod Roles
 pub mod Rows

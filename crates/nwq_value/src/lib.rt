@@ -14,6 +14,7 @@
 
 pub mod engine;
 pub mod header;
+pub mod index;
 pub mod items;
 pub mod memory;
 pub mod roles;
@@ -23,6 +24,7 @@ pub mod value;
 
 pub use engine::{Const, Param, Params, Role, Routine};
 pub use header::BUILT_IN;
+pub use index::NameIndex;
 pub use items::Items;
 pub use memory::NoMemory;
 pub use roles::role_of;
