@@ -1,3 +1,4 @@
+mod FoundLemmas
 mod IndexLemmas
 mod NameLemmas
 mod RoleLemmas

@@ -1,19 +1,13 @@
--- What becomes of a table's names and facts as it grows, and how its maps answer.
-use Rattle.std.proofs.Common.{◌≡◌, ℕ, zero, suc, ◌+◌, ◌<◌, Bool, true, false, not, cond, if◌then◌else◌, nat_lt, Vec, List, [], ◌∷◌, ◌++◌, length, map, slice_get, position, Option, None, Some, refl, sym, ap, subst, ◌∙◌, arith, IfSome, Bor}
-use Rattle.std.proofs.lemmas.Bool.Decides.{nat_tests}
+-- What becomes of a table's names and facts as it grows.
+use Rattle.std.proofs.Common.{◌≡◌, ℕ, zero, suc, ◌+◌, ◌<◌, Bool, true, false, if◌then◌else◌, List, [], ◌∷◌, ◌++◌, length, map, slice_get, Option, None, Some, refl, sym, ap, subst, ◌∙◌, arith, IfSome, Bor}
 use Rattle.std.proofs.lemmas.Grind.{common_steps}
-use Rattle.std.specs.declared.alloc.Global.{Global}
 use Rattle.std.specs.Cmp.Lexicographic.{nat_list_eq_equiv, bytes_decides}
-use Rattle.std.specs.List.{IsDistinct, AllByRecursion, position_or_len}
-use Rattle.std.specs.Map.{keys_of, lookup}
+use Rattle.std.specs.List.{IsDistinct, AllByRecursion}
 use Rattle.std.specs.Option.{option_map, option_copied}
 use Rattle.std.specs.Str.{bytes_eq}
 use Rattle.nwq_value.specs.declared.engine.Const.{Const}
 use Rattle.nwq_value.specs.declared.engine.Routine.{Routine}
 use Rattle.nwq_value.specs.Engine.{Constant, EngineTable, IsTable, IsConstant, IsRoutine, AreRoutines, AreConstants, AreApart, routine_named, constant_named}
-use Rattle.indexmap.specs.IndexMap.{IndexMap, insert_entry}
-use Rattle.indexmap.proofs.CallerLemmas.{insert_entry-new}
-use Rattle.nwq_value.specs.Entries.{routines_in, constants_in, table_of, AreKeyed}
 
 -- ---- a search that finds nothing
 
@@ -85,7 +79,7 @@ constants_more : (cs : List Constant) (c : Constant) → AreConstants cs → IsC
 constants_more [] c all here = (here, tt)
 constants_more (x ∷ xs) c all here = (all.0, constants_more xs c all.1 here)
 
-names_more : {A : Type 0} (f : A → List ℕ) (xs : List A) (x : A) → map f (xs ++ x ∷ []) ≡ map f xs ++ f x ∷ []
+pub names_more : {A : Type 0} (f : A → List ℕ) (xs : List A) (x : A) → map f (xs ++ x ∷ []) ≡ map f xs ++ f x ∷ []
 names_more f [] x = refl
 names_more f (y ∷ ys) x = ap (λ l. f y ∷ l) (names_more f ys x)
 
@@ -120,69 +114,6 @@ table_defined t c kept no_r no_c here = record {
 pub table_empty : IsTable (record { routines = []; constants = [] })
 unfolding IsDistinct
 table_empty = record { few = omega arith; routines = tt; constants = tt; routine_names = tt; constant_names = tt; apart = tt }
-
--- ---- the maps' entries
-
-pub routines_in_more : (es : List (Vec ℕ Global × Routine)) (e : Vec ℕ Global × Routine) → routines_in (es ++ e ∷ []) ≡ routines_in es ++ e.1 ∷ []
-routines_in_more [] e = refl
-routines_in_more (x ∷ xs) e = ap (λ l. x.1 ∷ l) (routines_in_more xs e)
-
-pub constants_in_more : (es : List (Vec ℕ Global × Const)) (k : Vec ℕ Global) (v : Const) (name : List ℕ) → k.items ≡ name
-    → constants_in (es ++ (k, v) ∷ []) ≡ constants_in es ++ record { name = name; value = v } ∷ []
-constants_in_more [] k v name is = ap (λ n. record { name = n; value = v } ∷ []) is
-constants_in_more (x ∷ xs) k v name is = ap (λ l. record { name = x.0.items; value = x.1 } ∷ l) (constants_in_more xs k v name is)
-
-pub keyed_more : (es : List (Vec ℕ Global × Routine)) (k : Vec ℕ Global) (r : Routine) → AreKeyed es → k.items ≡ r.name → AreKeyed (es ++ (k, r) ∷ [])
-keyed_more [] k r keyed is = (is, tt)
-keyed_more (x ∷ xs) k r keyed is = (keyed.0, keyed_more xs k r keyed.1 is)
-
-pub routines_in_length : (es : List (Vec ℕ Global × Routine)) → length (routines_in es) ≡ length es
-routines_in_length [] = refl
-routines_in_length (e ∷ es) = ap suc (routines_in_length es)
-
-pub routine_at : (es : List (Vec ℕ Global × Routine)) (i : ℕ) → slice_get (routines_in es) i ≡ option_map (λ e. e.1) (slice_get es i)
-routine_at [] i = refl
-routine_at (e ∷ es) zero = refl
-routine_at (e ∷ es) (suc i) = routine_at es i
-
--- ---- how the maps answer
-
-pub routine_missing : (name : List ℕ) (es : List (Vec ℕ Global × Routine)) → AreKeyed es → routine_named name (routines_in es) ≡ None
-    → lookup (λ k. bytes_eq name k.items) es ≡ None
-routine_missing name [] keyed none = refl
-routine_missing name (e ∷ es) keyed none =
-    let p = routine_cons name e.1 (routines_in es) none in
-    ap (λ b. cond b (Some e.1) (lookup (λ k. bytes_eq name k.items) es)) (ap (bytes_eq name) keyed.0 ∙ p.0)
-    ∙ routine_missing name es keyed.1 p.1
-
-pub constant_found : (name : List ℕ) (es : List (Vec ℕ Global × Const)) → lookup (λ k. bytes_eq name k.items) es ≡ constant_named name (constants_in es)
-unfolding constant_named
-constant_found name [] = refl
-constant_found name (e ∷ es) = ap (λ o. cond (bytes_eq name e.0.items) (Some e.1) o) (constant_found name es)
-
-zero_below : (n : ℕ) → nat_lt 0 (suc n) ≡ true
-zero_below n = grind (arith, nat_tests)
-
-suc_below : (k n : ℕ) → nat_lt (1 + k) (suc n) ≡ nat_lt k n
-suc_below k n = grind (arith, nat_tests)
-
-turn : (b : Bool) (k n : ℕ) → cond (nat_lt (cond (not b) (1 + k) 0) (suc n)) (Some (cond (not b) (1 + k) 0)) None
-    ≡ (if b then Some 0 else option_map suc (cond (nat_lt k n) (Some k) None))
-turn true k n = ap (λ b. cond b (Some 0) None) (zero_below n)
-turn false k n = ap (λ b. cond b (Some (1 + k)) None) (suc_below k n) ∙ by (nat_lt k n)
-  where
-    by : (b : Bool) → cond b (Some (1 + k)) None ≡ option_map suc (cond b (Some k) None)
-    by true = ap Some (omega arith)
-    by false = refl
-
-pub routine_found : (name : List ℕ) (es : List (Vec ℕ Global × Routine)) → AreKeyed es
-    → position (λ k. bytes_eq name k.items) (keys_of es) ≡ routine_named name (routines_in es)
-unfolding routine_named
-routine_found name [] keyed = refl
-routine_found name (e ∷ es) keyed =
-    turn (bytes_eq name e.0.items) (position_or_len (λ k. bytes_eq name k.items) (keys_of es)) (length (keys_of es))
-    ∙ ap (λ b. if b then Some 0 else option_map suc (position (λ k. bytes_eq name k.items) (keys_of es))) (ap (bytes_eq name) keyed.0)
-    ∙ ap (λ o. if bytes_eq name e.1.name then Some 0 else option_map suc o) (routine_found name es keyed.1)
 
 -- ---- what a table says of the routine that it gives
 
@@ -228,49 +159,6 @@ constant_apart name (x ∷ xs) rs c apart e = by (bytes_eq name x.name) refl e (
         → (constant_named name xs ≡ Some c → routine_named name rs ≡ None) → routine_named name rs ≡ None
     by true is e rest = subst (λ n. routine_named n rs ≡ None) (sym ((bytes_decides name x.name).0 is)) apart.0
     by false is e rest = rest e
-
--- ---- the maps after a name that is new
-
-module _ {S : Type 0} (m : IndexMap (Vec ℕ Global) Routine S) (k : Vec ℕ Global) (r : Routine) (after : List (Vec ℕ Global × Routine))
-    (cs : List (Vec ℕ Global × Const)) (t : EngineTable) (view : table_of m.entries cs ≡ t) (kept : AreKeyed m.entries × IsTable (table_of m.entries cs))
-    (is : k.items ≡ r.name) (no_r : routine_named r.name t.routines ≡ None)
-    (entries : after ≡ insert_entry (λ x y. bytes_eq x.items y.items) m.entries k r) where
-  no_routine_in : routine_named r.name (routines_in m.entries) ≡ None
-  no_routine_in = ap (λ u. routine_named r.name u.routines) view ∙ no_r
-
-  routine_last : after ≡ m.entries ++ (k, r) ∷ []
-  routine_last = entries ∙ insert_entry-new (λ x y. bytes_eq x.items y.items) m k r
-      (routine_missing k.items m.entries kept.0 (subst (λ n. routine_named n (routines_in m.entries) ≡ None) (sym is) no_routine_in))
-
-  pub view_pushed : table_of after cs ≡ record { routines = t.routines ++ r ∷ []; constants = t.constants }
-  view_pushed = ap (λ es. table_of es cs) routine_last
-      ∙ ap (λ rs. record { routines = rs; constants = constants_in cs }) (routines_in_more m.entries (k, r))
-      ∙ ap (λ u. record { routines = u.routines ++ r ∷ []; constants = u.constants }) view
-
-  pub kept_pushed : constant_named r.name t.constants ≡ None → length t.routines < 65535 → IsRoutine r → AreKeyed after × IsTable (table_of after cs)
-  kept_pushed no_c room here = (
-    subst AreKeyed (sym routine_last) (keyed_more m.entries k r kept.0 is),
-    subst IsTable (sym view_pushed) (table_pushed t r (subst IsTable view kept.1) no_r no_c room here),
-  )
-
-module _ {S : Type 0} (m : IndexMap (Vec ℕ Global) Const S) (k : Vec ℕ Global) (v : Const) (name : List ℕ) (after : List (Vec ℕ Global × Const))
-    (es : List (Vec ℕ Global × Routine)) (t : EngineTable) (view : table_of es m.entries ≡ t) (kept : AreKeyed es × IsTable (table_of es m.entries))
-    (is : k.items ≡ name) (no_c : constant_named name t.constants ≡ None)
-    (entries : after ≡ insert_entry (λ x y. bytes_eq x.items y.items) m.entries k v) where
-  no_constant_in : constant_named k.items (constants_in m.entries) ≡ None
-  no_constant_in = ap (λ u. constant_named k.items u.constants) view ∙ subst (λ n. constant_named n t.constants ≡ None) (sym is) no_c
-
-  constant_last : after ≡ m.entries ++ (k, v) ∷ []
-  constant_last = entries ∙ insert_entry-new (λ x y. bytes_eq x.items y.items) m k v (constant_found k.items m.entries ∙ no_constant_in)
-
-  pub view_defined : table_of es after ≡ record { routines = t.routines; constants = t.constants ++ record { name = name; value = v } ∷ [] }
-  view_defined = ap (λ cs. table_of es cs) constant_last
-      ∙ ap (λ cs. record { routines = routines_in es; constants = cs }) (constants_in_more m.entries k v name is)
-      ∙ ap (λ u. record { routines = u.routines; constants = u.constants ++ record { name = name; value = v } ∷ [] }) view
-
-  pub kept_defined : routine_named name t.routines ≡ None → IsConstant v → AreKeyed es × IsTable (table_of es after)
-  kept_defined no_r here =
-      (kept.0, subst IsTable (sym view_defined) (table_defined t (record { name = name; value = v }) (subst IsTable view kept.1) no_r no_c here))
 
 -- a lent constant has no routine's name
 pub lent_apart : (o : Option (Bor Const)) (name : List ℕ) (t : EngineTable) → IsTable t → option_copied o ≡ constant_named name t.constants

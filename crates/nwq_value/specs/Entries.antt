@@ -1,22 +1,17 @@
--- The entries of a table's two maps, as the lists that contracts see.
-use Rattle.std.specs.Prelude.{◌≡◌, Vec, ℕ, List, [], ◌∷◌}
-use Rattle.std.specs.declared.alloc.Global.{Global}
-use Rattle.nwq_value.specs.declared.engine.Const.{Const}
+-- A table's lists as code keeps them and as contracts see them, and what its two indexes tell of them.
+use Rattle.std.specs.Prelude.{◌≡◌, ℕ, List, map}
 use Rattle.nwq_value.specs.declared.engine.Routine.{Routine}
-use Rattle.nwq_value.specs.Engine.{Constant, EngineTable}
+use Rattle.nwq_value.specs.declared.table.Named.{Named}
+use Rattle.nwq_value.specs.Engine.{Constant, EngineTable, routine_named}
+use Rattle.nwq_value.specs.Index.{number_under, first_place}
 
-abbrev pub routines_in : List (Vec ℕ Global × Routine) → List Routine
-routines_in [] = []
-routines_in (e ∷ es) = e.1 ∷ routines_in es
+abbrev pub constant_in : Named → Constant
+constant_in c = record { name = c.name; value = c.value }
 
-abbrev pub constants_in : List (Vec ℕ Global × Const) → List Constant
-constants_in [] = []
-constants_in (e ∷ es) = record { name = e.0.items; value = e.1 } ∷ constants_in es
+abbrev pub table_of : List Routine → List Named → EngineTable
+table_of routines constants = record { routines = routines; constants = map constant_in constants }
 
-abbrev pub table_of : List (Vec ℕ Global × Routine) → List (Vec ℕ Global × Const) → EngineTable
-table_of routines constants = record { routines = routines_in routines; constants = constants_in constants }
-
--- each routine stands under its own name
-abbrev pub AreKeyed : List (Vec ℕ Global × Routine) → Type 0
-AreKeyed [] = Unit {0}
-AreKeyed (e ∷ es) = (e.0.items ≡ e.1.name) × AreKeyed es
+-- under each name stands the number of its routine, and the place of its constant
+pub record AreFound (numbers places : List (List ℕ × ℕ)) (t : EngineTable) : Type 0 where
+  pub number : (x : List ℕ) → number_under x numbers ≡ routine_named x t.routines
+  pub place : (x : List ℕ) → number_under x places ≡ first_place x (map (λ c. c.name) t.constants)

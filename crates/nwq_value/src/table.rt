@@ -1,19 +1,27 @@
 ghost use Rattle.std.specs.Prelude.{◌≡◌, ◌<◌, ◌≤◌, ◌∷◌, [], ◌++◌, None, Some, length, slice_get};
 ghost use Rattle.std.specs.Prelude.{IfSome, OnOk, OnErr};
-ghost use Rattle.std.specs.Option.{option_copied};
+ghost use Rattle.std.specs.Option.{option_copied, option_map};
 ghost use Rattle.nwq_value.specs.Engine.{routine_named, constant_named, AreParams, IsConstant};
 ghost use Rattle.nwq_value.specs.Engine.{IsNoStruct};
 ghost use Rattle.nwq_value.specs.Engine.{IsRoutine, IsTable, ConstantIsOfName, NoConstantNoName};
 ghost use Rattle.nwq_value.specs.Engine.{NoNumberNoName, NumberIsOfName};
+ghost use Rattle.nwq_value.specs.Index.{number_under, IsSame, Puts};
 ghost use Rattle.nwq_value.specs.Limits.{parameter_limit, routine_limit};
 ghost use Rattle.nwq_value.specs.Roles.{engine_role, types_of};
 
 use crate::engine::{Const, Routine};
+use crate::index::NameIndex;
 use crate::memory::NoMemory;
 use crate::text::Text;
-use indexmap::IndexMap;
 use std::alloc::Global;
 use std::marker::Model;
+
+/// A constant under its name.
+#[derive(Drop)]
+struct Named {
+    name: Text,
+    value: Const,
+}
 
 /// The routines and the named constants of a header.
 ///
@@ -21,32 +29,101 @@ use std::marker::Model;
 /// each routine has at most 255 parameters, mentions no struct type, has defaults of its
 /// parameters' types and the role that its name and types give it.
 pub struct Table {
-    alloc: Global,
-    routines: IndexMap<Vec<u8>, Routine>,
-    constants: IndexMap<Vec<u8>, Const>,
+    routines: Vec<Routine>,
+    numbers: NameIndex,
+    constants: Vec<Named>,
+    places: NameIndex,
 }
 
 impl Model for Table {
     ghost use Rattle.nwq_value.specs.Engine.{EngineTable, IsTable};
-    ghost use Rattle.nwq_value.specs.Entries.{AreKeyed, table_of};
+    ghost use Rattle.nwq_value.specs.Entries.{table_of, AreFound};
 
     ghost Value = { EngineTable };
 
-    ghost view = { λ t. table_of t.routines.entries t.constants.entries };
+    ghost view = { λ t. table_of t.routines.items t.constants.items };
 
-    ghost invariant = { λ t. AreKeyed t.routines.entries
-        × IsTable (table_of t.routines.entries t.constants.entries) };
+    ghost invariant = { λ t. AreFound t.numbers t.places
+        (table_of t.routines.items t.constants.items)
+        × IsTable (table_of t.routines.items t.constants.items) };
 }
 
 impl Drop for Table {
     fn drop(self) {
         let Table {
-            alloc: _,
             routines,
+            numbers,
             constants,
+            places,
         } = self;
         drop(routines);
+        drop(numbers);
         drop(constants);
+        drop(places);
+    }
+}
+
+/// Puts a routine last, and its number under its name.
+fn push_routine(
+    routines: &mut Vec<Routine>,
+    numbers: &mut NameIndex,
+    routine: Routine,
+) -> Result<(), NoMemory>
+    requires new { number_under routine.name numbers.old ≡ None }
+    ensures items { OnOk result (routines.new.items ≡ routines.old.items ++ routine ∷ []) }
+    ensures number { OnOk result
+        (Puts routine.name (Some (length routines.old.items)) numbers.old numbers.new) }
+    ensures same_items { OnErr result (routines.new.items ≡ routines.old.items) }
+    ensures same_numbers { OnErr result (IsSame numbers.old numbers.new) }
+{
+    numbers.set(routine.name.bytes(), routines.len())?;
+    match routines.push(routine) {
+        Ok(()) => Ok(()),
+        Err(failed) => {
+            numbers.remove(failed.value.name.bytes());
+            drop(failed);
+            Err(NoMemory)
+        }
+    }
+}
+
+/// Puts a constant last, and its place under its name.
+fn push_constant(
+    constants: &mut Vec<Named>,
+    places: &mut NameIndex,
+    constant: Named,
+) -> Result<(), NoMemory>
+    requires new { number_under constant.name places.old ≡ None }
+    ensures items { OnOk result (constants.new.items ≡ constants.old.items ++ constant ∷ []) }
+    ensures place { OnOk result
+        (Puts constant.name (Some (length constants.old.items)) places.old places.new) }
+    ensures same_items { OnErr result (constants.new.items ≡ constants.old.items) }
+    ensures same_places { OnErr result (IsSame places.old places.new) }
+{
+    places.set(constant.name.bytes(), constants.len())?;
+    match constants.push(constant) {
+        Ok(()) => Ok(()),
+        Err(failed) => {
+            places.remove(failed.value.name.bytes());
+            drop(failed);
+            Err(NoMemory)
+        }
+    }
+}
+
+fn item_at<T>(all: &[T], at: usize) -> Option<&T>
+    ensures { option_copied result ≡ slice_get all.now at }
+{
+    all.get(at)
+}
+
+/// The value of the constant at a place.
+fn value_at(constants: &[Named], at: usize) -> Option<&Const>
+    ensures { option_copied result ≡ option_map (λ c. c.value) (slice_get constants.now at) }
+{
+    match constants.get(at) {
+        Some(constant) => Some(&constant.value),
+        None => None,
     }
 }
 
@@ -56,9 +133,10 @@ impl Table {
         ensures empty { result ≡ record { routines = []; constants = [] } }
     {
         Table {
-            alloc,
-            routines: IndexMap::new(alloc),
-            constants: IndexMap::new(alloc),
+            routines: Vec::new(alloc),
+            numbers: NameIndex::new(alloc),
+            constants: Vec::new(alloc),
+            places: NameIndex::new(alloc),
         }
     }
 
@@ -76,9 +154,7 @@ impl Table {
             (self.new ≡ record self.old { routines = self.old.routines ++ routine ∷ [] }) }
         ensures err { OnErr result (self.new ≡ self.old) }
     {
-        let name = Vec::from_slice(self.alloc, routine.name.bytes())?;
-        self.routines.insert(name, routine)?;
-        Ok(())
+        push_routine(&mut self.routines, &mut self.numbers, routine)
     }
 
     /// Puts a constant under a name last. After `NoMemory` it is dropped, the table as before.
@@ -91,16 +167,8 @@ impl Table {
         }) }
         ensures err { OnErr result (self.new ≡ self.old) }
     {
-        match self.constants.insert(name.into_bytes(), value) {
-            Ok(old) => {
-                drop(old);
-                Ok(())
-            }
-            Err(back) => {
-                drop(back);
-                Err(NoMemory)
-            }
-        }
+        let constant = Named { name, value };
+        push_constant(&mut self.constants, &mut self.places, constant)
     }
 
     /// How many routines there are.
@@ -118,10 +186,7 @@ impl Table {
         ensures number { IfSome result
             (λ routine. routine_named routine.now.name self.now.routines ≡ Some n) }
     {
-        match self.routines.get_index(n as usize) {
-            Some((_, routine)) => Some(routine),
-            None => None,
-        }
+        item_at(self.routines.as_slice(), n as usize)
     }
 
     /// The number of the routine with this name.
@@ -129,7 +194,7 @@ impl Table {
         ensures number { result ≡ routine_named name.now self.now.routines }
         ensures bound { IfSome result (λ n. n < length self.now.routines) }
     {
-        match self.routines.get_index_of(name) {
+        match self.numbers.get(name) {
             Some(n) => Some(n as u16),
             None => None,
         }
@@ -140,7 +205,10 @@ impl Table {
         ensures value { option_copied result ≡ constant_named name.now self.now.constants }
         ensures apart { IfSome result (λ _. routine_named name.now self.now.routines ≡ None) }
     {
-        self.constants.get(name)
+        match self.places.get(name) {
+            Some(at) => value_at(self.constants.as_slice(), at),
+            None => None,
+        }
     }
 
     /// What every table keeps of its names and routines.

@@ -1,14 +1,13 @@
-use Rattle.std.proofs.Common.{◌∙◌, ap}
-use Rattle.nwq_value.specs.Engine.{routine_named}
-use Rattle.nwq_value.proofs.TableLemmas.{routine_found}
+use Rattle.std.proofs.Common.{◌∙◌, ◌<◌, length, sym, subst, arith}
+use Rattle.nwq_value.proofs.TableLemmas.{routine_within}
 use Rattle.nwq_value.proofs.table.Table.by_name.Goals as goal
 
-pub returns-in-Some-clause-number : goal.returns-in-Some-clause-number
-returns-in-Some-clause-number c =
-    c.in-Some.ensures.index ∙ routine_found c.args.name.now c.self.inside.routines.entries c.self.invariant.0
-    ∙ ap (λ t. routine_named c.args.name.now t.routines) c.self.view_is
+within : (c : goal.In-Some) → c.in-Some.n < length c.self.inside.routines.items
+within c = routine_within c.args.name.now c.self.inside.routines.items c.in-Some.n
+    (sym (c.in-Some.ensures.number ∙ c.self.invariant.0.number c.args.name.now))
 
-pub returns-in-None-clause-number : goal.returns-in-None-clause-number
-returns-in-None-clause-number c =
-    c.in-None.ensures.index ∙ routine_found c.args.name.now c.self.inside.routines.entries c.self.invariant.0
-    ∙ ap (λ t. routine_named c.args.name.now t.routines) c.self.view_is
+pub overflow_cast-result : goal.overflow_cast-result
+overflow_cast-result c = omega (arith, within c, c.self.invariant.1.few)
+
+pub returns-in-Some-clause-bound : goal.returns-in-Some-clause-bound
+returns-in-Some-clause-bound c = subst (λ t. c.in-Some.n < length t.routines) c.self.view_is (within c)

@@ -1,24 +1,18 @@
-use Rattle.std.proofs.Common.{rules}
-use Rattle.nwq_value.proofs.TableLemmas.{kept_defined, view_defined}
-use Rattle.nwq_value.proofs.table.Table.define.Goals.{in-Ok, in-Err}
+use Rattle.std.proofs.Common.{◌∙◌, ap}
+use Rattle.nwq_value.specs.Engine.{routine_named, constant_named}
+use Rattle.nwq_value.proofs.FoundLemmas.{constant_nowhere, kept_defined}
 use Rattle.nwq_value.proofs.table.Table.define.Goals as goal
+
+pub push_constant-requires : goal.push_constant-requires
+push_constant-requires c = record {
+  new = c.self.invariant.0.place c.args.name
+      ∙ constant_nowhere c.args.name _ (ap (λ t. constant_named c.args.name t.constants) c.self.view_is ∙ c.requires.no_constant);
+}
 
 pub invariant_of-self : goal.invariant_of-self
 invariant_of-self c =
-    elim c.match-insert.branch [
-      | in-Ok w ↦
-          kept_defined c.self.inside.constants c.into_bytes.result c.args.value c.args.name c.insert.new.self.entries c.self.inside.routines.entries
-          c.args.self.now c.self.view_is c.self.invariant c.into_bytes.ensures.same c.requires.no_constant w.in-Ok.ensures.entries
-          c.requires.no_routine c.requires.value
-      | in-Err w ↦ search rules
-    ]
-
-pub returns-clause-ok : goal.returns-clause-ok
-returns-clause-ok c =
-    elim c.match-insert.branch [
-      | in-Ok w ↦
-          rw w.result-is
-          (view_defined c.self.inside.constants c.into_bytes.result c.args.value c.args.name c.insert.new.self.entries c.self.inside.routines.entries
-          c.args.self.now c.self.view_is c.self.invariant c.into_bytes.ensures.same c.requires.no_constant w.in-Ok.ensures.entries)
-      | in-Err w ↦ rw w.result-is tt
-    ]
+    kept_defined c.push_constant.result c.self.inside.routines.items c.self.inside.constants.items c.push_constant.new.constants.items
+    (record { name = c.args.name; value = c.args.value }) c.self.inside.numbers c.self.inside.places c.push_constant.new.places
+    c.self.invariant (ap (λ t. routine_named c.args.name t.routines) c.self.view_is ∙ c.requires.no_routine)
+    (ap (λ t. constant_named c.args.name t.constants) c.self.view_is ∙ c.requires.no_constant) c.requires.value
+    c.push_constant.ensures.items c.push_constant.ensures.place c.push_constant.ensures.same_items c.push_constant.ensures.same_places

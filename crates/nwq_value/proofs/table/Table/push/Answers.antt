@@ -1,16 +1,14 @@
-use Rattle.std.proofs.Common.{◌∙◌}
-use Rattle.nwq_value.proofs.TableLemmas.{kept_pushed, view_pushed}
+use Rattle.std.proofs.Common.{◌∙◌, ◌<◌, ap, sym, subst, length}
+use Rattle.nwq_value.specs.Engine.{routine_named, constant_named}
+use Rattle.nwq_value.proofs.FoundLemmas.{kept_pushed}
 use Rattle.nwq_value.proofs.table.Table.push.Goals as goal
 
-pub invariant_of-self-2 : goal.invariant_of-self-2
-invariant_of-self-2 c =
-    kept_pushed c.self.inside.routines c.in_ok-name.name c.args.routine c.insert.new.self.entries c.self.inside.constants.entries
-    c.args.self.now c.self.view_is c.self.invariant (c.in_ok-name.ensures.items ∙ c.bytes.ensures.same) c.requires.no_routine
-    c.in_ok-insert.ensures.entries c.requires.no_constant c.requires.room
+pub invariant_of-self : goal.invariant_of-self
+invariant_of-self c =
+    kept_pushed c.push_routine.result c.self.inside.routines.items c.push_routine.new.routines.items c.self.inside.constants.items
+    c.args.routine c.self.inside.numbers c.self.inside.places c.push_routine.new.numbers c.self.invariant
+    (ap (λ t. routine_named c.args.routine.name t.routines) c.self.view_is ∙ c.requires.no_routine)
+    (ap (λ t. constant_named c.args.routine.name t.constants) c.self.view_is ∙ c.requires.no_constant)
+    (subst (λ t. length t.routines < 65535) (sym c.self.view_is) c.requires.room)
     (record { few = c.requires.few; result_type = c.requires.result_type; param_types = c.requires.param_types; role = c.requires.role })
-
-pub returns-clause-ok : goal.returns-clause-ok
-returns-clause-ok c =
-    view_pushed c.self.inside.routines c.in_ok-name.name c.args.routine c.insert.new.self.entries c.self.inside.constants.entries
-    c.args.self.now c.self.view_is c.self.invariant (c.in_ok-name.ensures.items ∙ c.bytes.ensures.same) c.requires.no_routine
-    c.in_ok-insert.ensures.entries
+    c.push_routine.ensures.items c.push_routine.ensures.number c.push_routine.ensures.same_items c.push_routine.ensures.same_numbers
