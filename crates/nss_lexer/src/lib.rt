@@ -16,7 +16,9 @@ mod string;
 pub mod token;
 pub mod unquote;
 
+pub use bytes::Class;
 pub use lexer::next;
 pub use scan::Scanned;
+pub use string::{Escape, Step};
 pub use token::{Kind, Lexed, Token};
 pub use unquote::literal;
