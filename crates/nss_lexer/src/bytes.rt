@@ -3,7 +3,7 @@ ghost use Rattle.std.specs.Char as char;
 ghost use Rattle.nss_lexer.specs.Bytes as classes;
 ghost use Rattle.nss_lexer.specs.Reading as reading;
 
-/// A kind of bytes that stand in a row: those of a name, of a number, or of a comment to its line end.
+/// A kind of bytes that stand in a row: of a name, of a number, or of a comment.
 #[derive(Clone, Copy)]
 pub enum Class {
     Name,
