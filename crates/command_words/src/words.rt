@@ -193,7 +193,8 @@ pub fn command_of(words: &[String]) -> Command<'_>
 
 /// The list of tables that these words give.
 pub fn list_in(words: &[String]) -> Option<&str>
-    ensures list { option_map (λ name. name.now) result ≡ list_of (form_of (map string_bytes words.now)) }
+    ensures list { option_map (λ name. name.now) result
+        ≡ list_of (form_of (map string_bytes words.now)) }
 {
     match command_of(words) {
         Command::Play { list, .. } => list,

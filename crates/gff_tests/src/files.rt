@@ -15,7 +15,8 @@ pub const BASE: [u8; 96] = [
     0x41, 0, 0, 0, 0, 0, 0, 0, 0, 0, 0, 0, 0, 0, 0, 0,
 ];
 
-/// A file with all sixteen types, nested structs and lists, its sections in another order and with gaps.
+/// A file with all sixteen types, nested structs and lists, its sections in another order and with
+/// gaps.
 pub const MOVED: [u8; 809] = [
     71, 73, 84, 32, 86, 51, 46, 50, 6, 2, 0, 0, 5, 0, 0, 0, 69, 2, 0, 0, 19, 0, 0, 0, 149, 0, 0, 0,
     17, 0, 0, 0, 168, 1, 0, 0, 91, 0, 0, 0, 74, 0, 0, 0, 72, 0, 0, 0, 59, 0, 0, 0, 12, 0, 0, 0,

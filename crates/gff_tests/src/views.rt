@@ -1,7 +1,8 @@
 use crate::files::BASE;
 use gff_bytes::{OpenFault, View};
 
-/// A number for each answer of `open`: 0 to 5 for a section, 6 for short, 7 for a version, 8 for a view.
+/// A number for each answer of `open`: 0 to 5 for a section, 6 for short, 7 for a version, 8 for a
+/// view.
 fn opened(bytes: &[u8]) -> u8 {
     if bytes.len() > nwq_value::FILE_BYTES {
         return 9;

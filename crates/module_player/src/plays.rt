@@ -220,7 +220,8 @@ pub fn play<S: Sink>(
         (map (λ h. h.known) hooks.now.all.items)) limit entries until world.old.world).ending }
     ensures entries { WherePlayed result.how (result.entries
         ≡ (code_play (host_of scripts.now table.now
-        (map (λ h. h.known) hooks.now.all.items)) limit entries until world.old.world).last.entries) }
+        (map (λ h. h.known) hooks.now.all.items))
+        limit entries until world.old.world).last.entries) }
     ensures instructions { WherePlayed result.how (result.instructions
         ≡ (code_play (host_of scripts.now table.now
         (map (λ h. h.known) hooks.now.all.items)) limit entries until world.old.world).last.count) }

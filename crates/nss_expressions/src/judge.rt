@@ -30,7 +30,8 @@ pub fn judge_name(
     means: Option<Option<Known<'_>>>,
 ) -> Result<Option<Expression>, NoMemory>
     ensures value { IfOk result (λ r. option_map plain r
-        ≡ fine (asked name_rows (name_rule at_file) (option_map (option_map known_of) means.entry))) }
+        ≡ fine (asked name_rows (name_rule at_file)
+        (option_map (option_map known_of) means.entry))) }
     ensures least { OnOk result (least.new ≡ kept least.old
         (at token (asked name_rows (name_rule at_file)
         (option_map (option_map known_of) means.entry)))) }

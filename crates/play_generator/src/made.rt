@@ -24,7 +24,11 @@ impl Model for Made {
 
     ghost Value = { Play };
 
-    ghost view = { λ a. record { creatures = a.creatures; source = a.source.items; plan = a.plan.items } };
+    ghost view = { λ a. record {
+      creatures = a.creatures;
+      source = a.source.items;
+      plan = a.plan.items;
+    } };
 }
 
 impl Made {

@@ -115,7 +115,8 @@ impl<X: Drop> Parts<X> {
         }
     }
 
-    /// Random numbers, what is told, and the caller's queue. The first argument is read by its kind.
+    /// Random numbers, what is told, and the caller's queue. The first argument is read by its
+    /// kind.
     #[tactic(auto, unfolding(crate::specs::Row::does))]
     fn told_row(&mut self, number: u16, caller: u32, args: Args) -> Result<Option<Value>, NoMemory>
         requires last { number ≤ 13 }

@@ -18,8 +18,8 @@ use nwq_value::*;
 use std::alloc::Global;
 use world_core::{Events, Start, World};
 
-/// Two creatures with the tag `guard` and a trigger `gate`. The first has the variables `n` 5 and `s`
-/// "abc" and the script `ud_guard` in OnUserDefined, the second `Su` in ScriptUserDefine too.
+/// Two creatures with the tag `guard` and a trigger `gate`. The first has the variables `n` 5 and
+/// `s` "abc" and the script `ud_guard` in OnUserDefined, the second `Su` in ScriptUserDefine too.
 const AREA: [u8; 598] = [
     71, 73, 84, 32, 86, 51, 46, 50, 56, 0, 0, 0, 6, 0, 0, 0, 128, 0, 0, 0, 15, 0, 0, 0, 52, 1, 0,
     0, 9, 0, 0, 0, 196, 1, 0, 0, 58, 0, 0, 0, 254, 1, 0, 0, 56, 0, 0, 0, 54, 2, 0, 0, 32, 0, 0, 0,
