@@ -1,12 +1,11 @@
 -- The names that are declared, as code keeps them: each with the place of the declaration that it hides.
-use Rattle.std.specs.Prelude.{◌≡◌, ℕ, ◌+◌, List, [], ◌∷◌, ◌++◌, Option, None, Some, Vec, bytes_eq, if◌then◌else◌}
+use Rattle.std.specs.Prelude.{◌≡◌, ℕ, ◌+◌, List, [], ◌∷◌, ◌++◌, Option, None, Some, bytes_eq, if◌then◌else◌}
 use Rattle.std.specs.Option.{option_map}
-use Rattle.std.specs.declared.alloc.Global.{Global}
+use Rattle.nwq_value.specs.Index.{number_under}
 use Rattle.nss_scopes.specs.declared.names.Entry.{Entry}
 use Rattle.nss_scopes.specs.declared.names.Meaning.{Meaning}
 use Rattle.nss_scopes.specs.declared.names.Meaning.TheVariants.{Variable, Constant}
 use Rattle.nss_scopes.specs.declared.names.Slot.{Slot}
-use Rattle.nss_scopes.specs.Places.{under}
 use Rattle.nss_typing.specs.Sight as sight
 
 abbrev pub meaning_of : Meaning → sight.Meaning
@@ -32,11 +31,7 @@ abbrev pub Shadows : List Slot → List Slot → Type 0
 Shadows before [] = Unit {0}
 Shadows before (s ∷ ss) = (s.hidden ≡ last_place s.entry.called before) × Shadows (before ++ s ∷ []) ss
 
-abbrev pub flat : Option (Option ℕ) → Option ℕ
-flat None = None
-flat (Some o) = o
-
 -- the index has the place of the last of each name
-pub record HasLast (slots : List Slot) (index : List (Vec ℕ Global × Option ℕ)) : Type 0 where
-  pub last : (x : List ℕ) → flat (under x index) ≡ last_place x slots
+pub record HasLast (slots : List Slot) (index : List (List ℕ × ℕ)) : Type 0 where
+  pub last : (x : List ℕ) → number_under x index ≡ last_place x slots
   pub shadows : Shadows [] slots

@@ -5,9 +5,9 @@ ghost use Rattle.nss_typing.specs.Sight.{no_labels, with_declaration, with_defau
 ghost use Rattle.nss_typing.specs.Rules.{is_among_ints};
 ghost use Rattle.nss_scopes.specs.Cases.{HasCases};
 
-use indexmap::IndexSet;
 use nwq_value::NoMemory;
 use std::alloc::Global;
+use std::collections::HashSet;
 use std::marker::Model;
 
 /// The labels that stood directly in a switch, and whether a declaration did. Contracts see the
@@ -15,7 +15,7 @@ use std::marker::Model;
 #[derive(Drop)]
 pub struct Labels {
     cases: Vec<i32>,
-    seen: IndexSet<i32>,
+    seen: HashSet<i32>,
     has_default: bool,
     is_late: bool,
 }
@@ -31,19 +31,17 @@ impl Model for Labels {
     ghost invariant = { λ l. HasCases l.cases.items l.seen.keys };
 }
 
-/// Puts a value last.
-fn push(cases: &mut Vec<i32>, seen: &mut IndexSet<i32>, value: i32) -> Result<(), NoMemory>
+/// Puts a value last. With room for it nothing is to be undone.
+fn push(cases: &mut Vec<i32>, seen: &mut HashSet<i32>, value: i32) -> Result<(), NoMemory>
     requires kept { HasCases cases.old.items seen.old.keys }
     ensures ok { OnOk result (cases.new.items ≡ cases.old.items ++ value ∷ []) }
     ensures err { OnErr result (cases.new.items ≡ cases.old.items) }
     ensures kept { HasCases cases.new.items seen.new.keys }
 {
+    cases.reserve(1)?;
+    seen.insert(value)?;
     cases.push(value)?;
-    if seen.insert(value).is_ok() {
-        return Ok(());
-    }
-    cases.pop();
-    Err(NoMemory)
+    Ok(())
 }
 
 impl Labels {
@@ -53,7 +51,7 @@ impl Labels {
     {
         Labels {
             cases: Vec::new(alloc),
-            seen: IndexSet::new(alloc),
+            seen: HashSet::new(alloc),
             has_default: false,
             is_late: false,
         }

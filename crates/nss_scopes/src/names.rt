@@ -1,16 +1,14 @@
 //! The names that are declared, innermost last.
 
 ghost use Rattle.std.specs.Prelude.{◌≡◌, ◌++◌, ◌∷◌, ◌<◌, [], IsSome, None, Some, drop, is_some};
-ghost use Rattle.std.specs.Prelude.{length, take, OnErr, OnOk, IfOk, if◌then◌else◌, ℕ, List};
-ghost use Rattle.std.specs.Option.{option_map, option_copied};
-ghost use Rattle.std.specs.Str.{bytes_eq};
+ghost use Rattle.std.specs.Prelude.{length, take, vec_capacity, OnErr, OnOk, IfOk, ℕ};
+ghost use Rattle.std.specs.Option.{option_map};
 ghost use Rattle.nss_typing.specs.Sight.{find};
-ghost use Rattle.nss_scopes.specs.Places.{under};
-ghost use Rattle.nss_scopes.specs.Slots.{entry_of, flat, meaning_of, HasLast};
+ghost use Rattle.nwq_value.specs.Index.{number_under, Puts};
+ghost use Rattle.nss_scopes.specs.Slots.{entry_of, meaning_of, HasLast};
 
 use crate::places::item_at;
-use indexmap::IndexMap;
-use nwq_value::{Const, NoMemory, Text, Ty};
+use nwq_value::{Const, NameIndex, NoMemory, Text, Ty};
 use std::alloc::Global;
 use std::marker::Model;
 
@@ -36,14 +34,12 @@ pub struct Slot {
     pub hidden: Option<usize>,
 }
 
-type Index = IndexMap<Vec<u8>, Option<usize>>;
-
 /// The declared names, oldest first, in which the innermost of a name is found without a search.
 /// Contracts see the list of them.
 #[derive(Drop)]
 pub struct Names {
     slots: Vec<Slot>,
-    last: Index,
+    last: NameIndex,
 }
 
 impl Model for Names {
@@ -55,38 +51,28 @@ impl Model for Names {
 
     ghost view = { λ n. map entry_in n.slots.items };
 
-    ghost invariant = { λ n. HasLast n.slots.items n.last.entries };
+    ghost invariant = { λ n. HasLast n.slots.items n.last };
 }
 
-/// The place of the innermost declaration of a name.
-fn place(last: &Index, name: &[u8]) -> Option<usize>
-    ensures { result ≡ flat (under name.now last.now.entries) }
+/// Puts another place under a name that is there, or takes the name out.
+fn put_back(last: &mut NameIndex, name: &[u8], place: Option<usize>)
+    requires there { IsSome (number_under name.now last.old) }
+    ensures { Puts name.now place last.old last.new }
 {
-    match last.get(name) {
-        Some(place) => *place,
-        None => None,
-    }
-}
-
-/// Puts another place under a name that is there.
-fn put_back(last: &mut Index, name: &[u8], place: Option<usize>)
-    requires there { IsSome (under name.now last.old.entries) }
-    ensures { (x : List ℕ) → flat (under x last.new.entries)
-        ≡ (if bytes_eq x name.now then place else flat (under x last.old.entries)) }
-{
-    if let Some(held) = last.get_mut(name) {
-        *held = place;
+    match place {
+        Some(place) => last.replace(name, place),
+        None => last.remove(name),
     }
 }
 
 /// Takes the last name away.
-fn pop(slots: &mut Vec<Slot>, last: &mut Index)
-    requires index { HasLast slots.old.items last.old.entries }
+fn pop(slots: &mut Vec<Slot>, last: &mut NameIndex)
+    requires index { HasLast slots.old.items last.old }
     requires some { 0 < length slots.old.items }
     ensures rest { (n : ℕ) → n < length slots.old.items
         → take n slots.new.items ≡ take n slots.old.items }
     ensures one { length slots.new.items < length slots.old.items }
-    ensures index { HasLast slots.new.items last.new.entries }
+    ensures index { HasLast slots.new.items last.new }
 {
     if let Some(slot) = slots.pop() {
         put_back(last, slot.entry.called.bytes(), slot.hidden);
@@ -94,36 +80,28 @@ fn pop(slots: &mut Vec<Slot>, last: &mut Index)
 }
 
 /// Leaves the first `len` names alone.
-fn cut(slots: &mut Vec<Slot>, last: &mut Index, len: usize)
-    requires index { HasLast slots.old.items last.old.entries }
+fn cut(slots: &mut Vec<Slot>, last: &mut NameIndex, len: usize)
+    requires index { HasLast slots.old.items last.old }
     ensures items { slots.new.items ≡ take len slots.old.items }
-    ensures index { HasLast slots.new.items last.new.entries }
+    ensures index { HasLast slots.new.items last.new }
 {
     while slots.len() > len {
         pop(slots, last);
     }
 }
 
-/// Puts a name last.
-fn push(slots: &mut Vec<Slot>, last: &mut Index, key: Vec<u8>, entry: Entry) -> Result<(), NoMemory>
-    requires index { HasLast slots.old.items last.old.entries }
-    requires key { key.items ≡ entry.called }
-    ensures ok { OnOk result (slots.new.items ≡ slots.old.items
-        ++ record {
-          entry = entry;
-          hidden = flat (under entry.called last.old.entries);
-        } ∷ []) }
-    ensures index { HasLast slots.new.items last.new.entries }
-    ensures err { OnErr result (slots.new.items ≡ slots.old.items) }
+/// Makes room for a name, and puts it into the index; answers the place that it hides.
+fn note(slots: &mut Vec<Slot>, last: &mut NameIndex, name: &[u8]) -> Result<Option<usize>, NoMemory>
+    ensures same { slots.new.items ≡ slots.old.items }
+    ensures room { OnOk result (length slots.new.items < vec_capacity slots.new) }
+    ensures hidden { IfOk result (λ place. place ≡ number_under name.now last.old) }
+    ensures put { OnOk result (Puts name.now (Some (length slots.old.items)) last.old last.new) }
+    ensures err { OnErr result (last.new ≡ last.old) }
 {
-    let at = slots.len();
-    let hidden = place(last, entry.called.bytes());
-    slots.push(Slot { entry, hidden })?;
-    if last.insert(key, Some(at)).is_ok() {
-        return Ok(());
-    }
-    slots.pop();
-    Err(NoMemory)
+    let hidden = last.get(name);
+    slots.reserve(1)?;
+    last.set(name, slots.len())?;
+    Ok(hidden)
 }
 
 impl Names {
@@ -133,7 +111,7 @@ impl Names {
     {
         Names {
             slots: Vec::new(alloc),
-            last: IndexMap::new(alloc),
+            last: NameIndex::new(alloc),
         }
     }
 
@@ -147,7 +125,7 @@ impl Names {
     pub fn find(&self, name: &[u8]) -> Option<&Entry>
         ensures found { option_map (λ e. entry_of e.now) result ≡ find name.now self.now }
     {
-        match place(&self.last, name) {
+        match self.last.get(name) {
             Some(at) => match item_at(&self.slots, at) {
                 Some(slot) => Some(&slot.entry),
                 None => None,
@@ -160,7 +138,7 @@ impl Names {
     pub fn has_since(&self, scope: usize, name: &[u8]) -> bool
         ensures has { result ≡ is_some (find name.now (drop scope self.now)) }
     {
-        match place(&self.last, name) {
+        match self.last.get(name) {
             Some(at) => scope <= at,
             None => false,
         }
@@ -177,16 +155,15 @@ impl Names {
             ≡ self.old ++ record { called = called; means = option_map meaning_of means } ∷ []) }
         ensures err { OnErr result (self.new ≡ self.old) }
     {
-        match Vec::from_slice(alloc, called.bytes()) {
-            Ok(key) => push(
-                &mut self.slots,
-                &mut self.last,
-                key,
-                Entry { called, means },
-            ),
-            Err(_) => {
+        match note(&mut self.slots, &mut self.last, called.bytes()) {
+            Ok(hidden) => {
+                let entry = Entry { called, means };
+                self.slots.push(Slot { entry, hidden })?;
+                Ok(())
+            }
+            Err(error) => {
                 drop(means);
-                Err(NoMemory)
+                Err(error)
             }
         }
     }

@@ -1,12 +1,11 @@
 //! Where a name stood first in a list of names.
 
-ghost use Rattle.std.specs.Prelude.{◌≡◌, ◌++◌, ◌∷◌, [], None, Some, length, slice_get};
-ghost use Rattle.std.specs.Prelude.{OnErr, OnOk};
+ghost use Rattle.std.specs.Prelude.{◌≡◌, ◌++◌, ◌∷◌, [], None, slice_get, OnErr, OnOk};
 ghost use Rattle.std.specs.Option.{option_copied};
-ghost use Rattle.nss_scopes.specs.Places.{first_place, under, HasFirst};
+ghost use Rattle.nwq_value.specs.Index.{number_under};
+ghost use Rattle.nss_scopes.specs.Places.{first_place, HasFirst};
 
-use indexmap::IndexMap;
-use nwq_value::{NoMemory, Text};
+use nwq_value::{NameIndex, NoMemory, Text};
 use std::alloc::Global;
 use std::marker::Model;
 
@@ -15,7 +14,7 @@ use std::marker::Model;
 #[derive(Drop)]
 pub struct Places {
     names: Vec<Text>,
-    first: IndexMap<Vec<u8>, usize>,
+    first: NameIndex,
 }
 
 impl Model for Places {
@@ -26,7 +25,7 @@ impl Model for Places {
 
     ghost view = { λ p. p.names.items };
 
-    ghost invariant = { λ p. HasFirst p.names.items p.first.entries };
+    ghost invariant = { λ p. HasFirst p.names.items p.first };
 }
 
 /// The item at a place.
@@ -36,27 +35,18 @@ pub fn item_at<T>(all: &[T], at: usize) -> Option<&T>
     all.get(at)
 }
 
-/// Puts a name last that the index doesn't have.
-fn push_new(
-    names: &mut Vec<Text>,
-    first: &mut IndexMap<Vec<u8>, usize>,
-    key: Vec<u8>,
-    name: Text,
-) -> Result<(), NoMemory>
-    requires index { HasFirst names.old.items first.old.entries }
-    requires new { under name first.old.entries ≡ None }
-    requires key { key.items ≡ name }
+/// Puts a name last that the index doesn't have. With room for it nothing is to be undone.
+fn push_new(names: &mut Vec<Text>, first: &mut NameIndex, name: Text) -> Result<(), NoMemory>
+    requires index { HasFirst names.old.items first.old }
+    requires new { number_under name first.old ≡ None }
     ensures ok { OnOk result (names.new.items ≡ names.old.items ++ name ∷ []) }
-    ensures index { HasFirst names.new.items first.new.entries }
+    ensures index { HasFirst names.new.items first.new }
     ensures err { OnErr result (names.new.items ≡ names.old.items) }
 {
-    let at = names.len();
+    names.reserve(1)?;
+    first.set(name.bytes(), names.len())?;
     names.push(name)?;
-    if first.insert(key, at).is_ok() {
-        return Ok(());
-    }
-    names.pop();
-    Err(NoMemory)
+    Ok(())
 }
 
 impl Places {
@@ -66,7 +56,7 @@ impl Places {
     {
         Places {
             names: Vec::new(alloc),
-            first: IndexMap::new(alloc),
+            first: NameIndex::new(alloc),
         }
     }
 
@@ -74,7 +64,7 @@ impl Places {
     pub fn first(&self, name: &[u8]) -> Option<usize>
         ensures first { result ≡ first_place name.now self.now }
     {
-        self.first.get(name).copied()
+        self.first.get(name)
     }
 
     /// Puts a name last. After `NoMemory` the names are as before.
@@ -82,12 +72,11 @@ impl Places {
         ensures ok { OnOk result (self.new ≡ self.old ++ name ∷ []) }
         ensures err { OnErr result (self.new ≡ self.old) }
     {
-        if self.first.contains_key(name.bytes()) {
+        if self.first.get(name.bytes()).is_some() {
             self.names.push(name)?;
             return Ok(());
         }
-        let key = Vec::from_slice(alloc, name.bytes())?;
-        push_new(&mut self.names, &mut self.first, key, name)
+        push_new(&mut self.names, &mut self.first, name)
     }
 
     /// Takes all names away.
