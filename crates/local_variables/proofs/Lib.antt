@@ -1,2 +1,2 @@
 pub mod VariableLaws
-pub mod WovenLemmas
+pub mod KeptLemmas

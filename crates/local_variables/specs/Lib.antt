@@ -1,3 +1,3 @@
 pub mod Variables
-pub mod Woven
+pub mod Kept
 pub mod Laws

@@ -6,8 +6,8 @@
 //! `specs/Laws.antt` what a change leaves as it was. docs/AREA.md tells the rules.
 #![tactic(auto)]
 
+mod held;
 mod laws;
-mod order;
 mod vars;
 
 pub use laws::{variables_stay, variables_tell};

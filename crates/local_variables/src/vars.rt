@@ -4,14 +4,11 @@ ghost use Rattle.std.specs.Prelude.{◌≡◌, [], ◌∷◌, ◌++◌, not, fal
 ghost use Rattle.std.specs.Prelude.{OnOk, OnErr};
 ghost use Rattle.std.specs.List.{list_any, IsDistinct};
 ghost use Rattle.std.specs.Option.{option_map};
-ghost use Rattle.indexmap.specs.IndexMap.{index_map_len, insert_entry};
-ghost use Rattle.local_variables.specs.Woven.{same_key, int_var, text_var};
 ghost use Rattle.local_variables.specs.Variables.{IntVar, TextVar, variable_of, is_int, is_text};
 ghost use Rattle.local_variables.specs.Variables.{same_variable, int_named, text_named, put};
 
-use crate::order::{Place, remove_int, remove_text};
-use indexmap::IndexMap;
-use nwq_value::{Items, NoMemory};
+use crate::held::{Content, Held, add, find};
+use nwq_value::{Items, NameIndex, NoMemory};
 use std::alloc::Global;
 use std::marker::Model;
 
@@ -26,104 +23,38 @@ pub enum Var<'a> {
 /// of them.
 pub struct Vars {
     alloc: Global,
-    order: Vec<Place>,
-    ints: IndexMap<Vec<u8>, i32>,
-    texts: IndexMap<Vec<u8>, Items<u8>>,
+    /// The stamp of the next new variable.
+    next: usize,
+    all: Vec<Held>,
+    /// The stamps of the ints by their names, and below those of the strings.
+    ints: NameIndex,
+    texts: NameIndex,
 }
 
 impl Model for Vars {
     ghost use Rattle.std.specs.Prelude.{List, map};
     ghost use Rattle.local_variables.specs.Variables.{Variable};
-    ghost use Rattle.local_variables.specs.Woven.{int_var, text_var, woven, AreKept};
+    ghost use Rattle.local_variables.specs.Kept.{variable_in, AreKept};
 
     ghost Value = { List Variable };
 
-    ghost view = { λ v. woven v.order.items (map int_var v.ints.entries)
-        (map text_var v.texts.entries) };
+    ghost view = { λ v. map variable_in v.all.items };
 
-    ghost invariant = { λ v. AreKept v.order.items (map int_var v.ints.entries)
-        (map text_var v.texts.entries) };
+    ghost invariant = { λ v. AreKept v.next v.all.items v.ints v.texts };
 }
 
 impl Drop for Vars {
     fn drop(self) {
         let Vars {
             alloc: _,
-            order,
+            next: _,
+            all,
             ints,
             texts,
         } = self;
-        drop(order);
+        drop(all);
         drop(ints);
         drop(texts);
-    }
-}
-
-/// Puts an int behind those of the map, and last in the order.
-fn insert_int(
-    order: &mut Vec<Place>,
-    ints: &mut IndexMap<Vec<u8>, i32>,
-    key: Vec<u8>,
-    n: i32,
-) -> Result<(), NoMemory>
-    ensures order { OnOk result (order.new.items ≡ order.old.items
-        ++ Place.Int (index_map_len ints.old) ∷ []) }
-    ensures entries { OnOk result (ints.new.entries
-        ≡ insert_entry same_key ints.old.entries key n) }
-    ensures same_order { OnErr result (order.new.items ≡ order.old.items) }
-    ensures same_entries { OnErr result (ints.new.entries ≡ ints.old.entries) }
-{
-    order.push(Place::Int(ints.len()))?;
-    if ints.insert(key, n).is_ok() {
-        return Ok(());
-    }
-    order.pop();
-    Err(NoMemory)
-}
-
-/// Puts a string behind those of the map, and last in the order.
-fn insert_text(
-    order: &mut Vec<Place>,
-    texts: &mut IndexMap<Vec<u8>, Items<u8>>,
-    key: Vec<u8>,
-    text: Items<u8>,
-) -> Result<(), NoMemory>
-    ensures order { OnOk result (order.new.items ≡ order.old.items
-        ++ Place.Text (index_map_len texts.old) ∷ []) }
-    ensures entries { OnOk result (texts.new.entries
-        ≡ insert_entry same_key texts.old.entries key text) }
-    ensures same_order { OnErr result (order.new.items ≡ order.old.items) }
-    ensures same_entries { OnErr result (texts.new.entries ≡ texts.old.entries) }
-{
-    order.push(Place::Text(texts.len()))?;
-    if texts.insert(key, text).is_ok() {
-        return Ok(());
-    }
-    order.pop();
-    Err(NoMemory)
-}
-
-fn place_at(order: &[Place], i: usize) -> Option<Place>
-    ensures { result ≡ slice_get order.now i }
-{
-    order.get(i).copied()
-}
-
-fn int_at(ints: &IndexMap<Vec<u8>, i32>, n: usize) -> Option<Var<'_>>
-    ensures { option_map variable_of result ≡ option_map int_var (slice_get ints.now.entries n) }
-{
-    match ints.get_index(n) {
-        Some((name, value)) => Some(Var::Int(name, *value)),
-        None => None,
-    }
-}
-
-fn text_at(texts: &IndexMap<Vec<u8>, Items<u8>>, n: usize) -> Option<Var<'_>>
-    ensures { option_map variable_of result ≡ option_map text_var (slice_get texts.now.entries n) }
-{
-    match texts.get_index(n) {
-        Some((name, value)) => Some(Var::Text(name, value.as_slice())),
-        None => None,
     }
 }
 
@@ -134,26 +65,26 @@ impl Vars {
     {
         Vars {
             alloc,
-            order: Vec::new(alloc),
-            ints: IndexMap::new(alloc),
-            texts: IndexMap::new(alloc),
+            next: 0,
+            all: Vec::new(alloc),
+            ints: NameIndex::new(alloc),
+            texts: NameIndex::new(alloc),
         }
     }
 
     pub fn len(&self) -> usize
         ensures len { result ≡ length self.now }
     {
-        self.order.len()
+        self.all.len()
     }
 
     /// The variable at place `i`, counted from 0.
     pub fn get(&self, i: usize) -> Option<Var<'_>>
         ensures variable { option_map variable_of result ≡ slice_get self.now i }
     {
-        match place_at(&self.order, i) {
+        match self.all.get(i) {
+            Some(held) => Some(held.variable()),
             None => None,
-            Some(Place::Int(n)) => int_at(&self.ints, n),
-            Some(Place::Text(n)) => text_at(&self.texts, n),
         }
     }
 
@@ -162,8 +93,8 @@ impl Vars {
         ensures found { result ≡ list_any (same_variable (variable_of v.entry)) self.now }
     {
         match v {
-            Var::Int(name, _) => self.ints.contains_key(name),
-            Var::Text(name, _) => self.texts.contains_key(name),
+            Var::Int(name, _) => self.ints.get(name).is_some(),
+            Var::Text(name, _) => self.texts.get(name).is_some(),
         }
     }
 
@@ -171,8 +102,8 @@ impl Vars {
     pub fn int(&self, name: &[u8]) -> i32
         ensures value { result ≡ int_named name.now self.now }
     {
-        match self.ints.get(name) {
-            Some(n) => *n,
+        match find(&self.all, &self.ints, name) {
+            Some(i) => self.all[i].int(),
             None => 0,
         }
     }
@@ -181,8 +112,8 @@ impl Vars {
     pub fn text(&self, name: &[u8]) -> &[u8]
         ensures value { result.now ≡ text_named name.now self.now }
     {
-        match self.texts.get(name) {
-            Some(text) => text.as_slice(),
+        match find(&self.all, &self.texts, name) {
+            Some(i) => self.all[i].text(),
             None => &[],
         }
     }
@@ -193,10 +124,10 @@ impl Vars {
         ensures ok { OnOk result (self.new ≡ self.old ++ IntVar name.now n ∷ []) }
         ensures err { OnErr result (self.new ≡ self.old) }
     {
-        let key = Vec::from_slice(self.alloc, name)?;
-        if let Err(e) = insert_int(&mut self.order, &mut self.ints, key, n) {
-            return Err(e);
-        }
+        let next = self.next.checked_add(1).ok_or(NoMemory)?;
+        let held = Held::of(self.alloc, self.next, Var::Int(name, n))?;
+        add(&mut self.all, &mut self.ints, name, held)?;
+        self.next = next;
         Ok(())
     }
 
@@ -206,11 +137,10 @@ impl Vars {
         ensures ok { OnOk result (self.new ≡ self.old ++ TextVar name.now text.now ∷ []) }
         ensures err { OnErr result (self.new ≡ self.old) }
     {
-        let key = Vec::from_slice(self.alloc, name)?;
-        let value = Items::of_slice(self.alloc, text)?;
-        if let Err(e) = insert_text(&mut self.order, &mut self.texts, key, value) {
-            return Err(e);
-        }
+        let next = self.next.checked_add(1).ok_or(NoMemory)?;
+        let held = Held::of(self.alloc, self.next, Var::Text(name, text))?;
+        add(&mut self.all, &mut self.texts, name, held)?;
+        self.next = next;
         Ok(())
     }
 
@@ -232,11 +162,10 @@ impl Vars {
         ensures ok { OnOk result (self.new ≡ put (IntVar name.now n) self.old) }
         ensures err { OnErr result (self.new ≡ self.old) }
     {
-        match self.ints.get_index_of(name) {
+        match find(&self.all, &self.ints, name) {
             None => self.push_int(name, n),
             Some(i) => {
-                let (_, value) = self.ints.pair_mut(i);
-                *value = n;
+                self.all[i].content = Content::Int(n);
                 Ok(())
             }
         }
@@ -247,12 +176,11 @@ impl Vars {
         ensures ok { OnOk result (self.new ≡ put (TextVar name.now text.now) self.old) }
         ensures err { OnErr result (self.new ≡ self.old) }
     {
-        match self.texts.get_index_of(name) {
+        match find(&self.all, &self.texts, name) {
             None => self.push_text(name, text),
             Some(i) => {
                 let new = Items::of_slice(self.alloc, text)?;
-                let (_, value) = self.texts.pair_mut(i);
-                *value = new;
+                self.all[i].content = Content::Text(new);
                 Ok(())
             }
         }
@@ -274,12 +202,9 @@ impl Vars {
     pub fn delete_int(&mut self, name: &[u8])
         ensures gone { self.new ≡ filter (λ v. not (is_int name.now v)) self.old }
     {
-        match self.ints.get_index_of(name) {
-            None => {}
-            Some(i) => {
-                self.ints.shift_remove(name);
-                remove_int(&mut self.order, i);
-            }
+        if let Some(i) = find(&self.all, &self.ints, name) {
+            self.ints.remove(name);
+            self.all.remove(i);
         }
     }
 
@@ -287,12 +212,9 @@ impl Vars {
     pub fn delete_text(&mut self, name: &[u8])
         ensures gone { self.new ≡ filter (λ v. not (is_text name.now v)) self.old }
     {
-        match self.texts.get_index_of(name) {
-            None => {}
-            Some(i) => {
-                self.texts.shift_remove(name);
-                remove_text(&mut self.order, i);
-            }
+        if let Some(i) = find(&self.all, &self.texts, name) {
+            self.texts.remove(name);
+            self.all.remove(i);
         }
     }
 
@@ -300,6 +222,6 @@ impl Vars {
     pub fn keeps(&self)
         ensures distinct { IsDistinct same_variable self.now }
     {
-        let _ = &self.order;
+        let _ = &self.all;
     }
 }

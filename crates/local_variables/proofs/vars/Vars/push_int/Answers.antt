@@ -1,17 +1,8 @@
-use Rattle.std.proofs.Common.{refl, ap, ◌∙◌}
-use Rattle.std.specs.Int.{w32}
-use Rattle.std.proofs.lemmas.Int.{to_z-of_z}
-use Rattle.indexmap.specs.IndexMap.{insert_entry}
-use Rattle.local_variables.specs.Woven.{same_key}
-use Rattle.local_variables.proofs.WovenLemmas.{int_left}
+use Rattle.std.proofs.Common.{refl, arith, ◌<◌}
+use Rattle.local_variables.proofs.KeptLemmas.{int_pushed}
 use Rattle.local_variables.proofs.vars.Vars.push_int.Goals as goal
 
 pub invariant_of-self-2 : goal.invariant_of-self-2
 invariant_of-self-2 c =
-    (int_left c.self.inside.ints c.in_ok-key.key c.args.n c.args.name.now c.insert_int.new.ints.entries c.self.inside.order.items c.insert_int.new.order.items _ c.self.inside.texts.entries c.args.self.now
-    c.self.view_is c.self.invariant c.in_ok-key.ensures.items c.requires.new (c.in_default.ensures.entries ∙ ap (insert_entry same_key c.self.inside.ints.entries c.in_ok-key.key) (to_z-of_z w32 c.args.n c.ranges.n)) refl c.in_default.ensures.order).kept
-
-pub returns-clause-ok : goal.returns-clause-ok
-returns-clause-ok c =
-    (int_left c.self.inside.ints c.in_ok-key.key c.args.n c.args.name.now c.insert_int.new.ints.entries c.self.inside.order.items c.insert_int.new.order.items _ c.self.inside.texts.entries c.args.self.now
-    c.self.view_is c.self.invariant c.in_ok-key.ensures.items c.requires.new (c.in_default.ensures.entries ∙ ap (insert_entry same_key c.self.inside.ints.entries c.in_ok-key.key) (to_z-of_z w32 c.args.n c.ranges.n)) refl c.in_default.ensures.order).view
+    let higher : c.self.inside.next < c.in_ok-next.next = grind (arith, c.checked_add.ensures, c.in_ok-next.ensures.ok_part) in
+    int_pushed c.args.name.now c.self.invariant c.self.view_is refl _ _ c.in_ok-held.ensures.stamp c.in_ok-held.ensures.variable higher c.in_ok-add.ensures.all c.requires.new c.in_ok-add.ensures.stamps

@@ -1,9 +1,13 @@
-use Rattle.std.proofs.Common.{◌∙◌, Some, None}
-use Rattle.local_variables.proofs.WovenLemmas.{text_read}
+use Rattle.std.proofs.Common.{Some, ◌∙◌, sym, ap}
+use Rattle.local_variables.specs.Variables.{text_of}
+use Rattle.local_variables.specs.Kept.{variable_in}
+use Rattle.local_variables.proofs.KeptLemmas.{text_at, no_text}
 use Rattle.local_variables.proofs.vars.Vars.text.Goals as goal
 
 pub returns-in-Some : goal.returns-in-Some
-returns-in-Some c = record { value = c.as_slice.ensures.items ∙ text_read c.args.name.now (Some c.in-Some.text.now) c.self.inside.order.items c.self.inside.ints.entries c.self.inside.texts.entries c.args.self.now c.self.view_is c.self.invariant c.in-Some.ensures.value }
+returns-in-Some c =
+    let at = text_at c.args.name.now c.self.invariant c.self.view_is c.deref.ensures.value c.in-Some.ensures.place in
+    record { value = c.text.ensures ∙ ap (λ h. text_of (Some (variable_in h))) c.index.ensures ∙ ap text_of (sym (at _)) }
 
 pub returns-in-None : goal.returns-in-None
-returns-in-None c = record { value = text_read c.args.name.now None c.self.inside.order.items c.self.inside.ints.entries c.self.inside.texts.entries c.args.self.now c.self.view_is c.self.invariant c.in-None.ensures.value }
+returns-in-None c = record { value = ap text_of (sym (no_text c.args.name.now c.self.invariant c.self.view_is c.deref.ensures.value c.in-None.ensures.place).0) }
