@@ -9,7 +9,7 @@ use Rattle.gff_tree.specs.Whole.{PlainGff}
 use Rattle.local_variables.specs.Variables.{Variable, IntVar, put, same_variable}
 use Rattle.area_objects.specs.Objects.{AreaObject}
 use Rattle.area_objects.specs.Area.{PlainArea, empty_tree, object_at, tagged, with_vars, changed_at, bare, HaveDistinct, IsArea}
-use Rattle.area_tree.specs.Index.{TagEntries, Indexes}
+use Rattle.area_tree.specs.Index.{Places, Lists, Indexes}
 
 pub empty_sound : is_sound empty_tree.top ≡ true
 unfolding is_sound
@@ -65,8 +65,8 @@ facts_changed tree objects i change keeps area = record {
 abbrev pub Leaves : PlainGff → List AreaObject → List AreaObject → Type 0
 Leaves tree before after = Facts tree after × ((tag : List ℕ) → tagged tag 1 after ≡ tagged tag 1 before)
 
-pub index_left : (entries : TagEntries) (before after : List AreaObject) → Indexes entries before → ((tag : List ℕ) → tagged tag 1 after ≡ tagged tag 1 before) → Indexes entries after
-index_left entries before after indexes same = λ tag. indexes tag ∙ sym (same tag)
+pub index_left : (places : Places) (lists : Lists) (before after : List AreaObject) → Indexes places lists before → ((tag : List ℕ) → tagged tag 1 after ≡ tagged tag 1 before) → Indexes places lists after
+index_left places lists before after indexes same = λ tag. indexes tag ∙ sym (same tag)
 
 pub object_left : (tree : PlainGff) (objects : List AreaObject) (i : ℕ) (old new : AreaObject) (change : List Variable → List Variable) → ((vars : List Variable) → IsDistinct same_variable vars → IsDistinct same_variable (change vars)) →
     Facts tree objects → i < length objects → old ≡ get_or objects i old → new ≡ with_vars change old → Leaves tree objects (set objects i new)

@@ -1,3 +1,2 @@
 mod ReadLemmas
-mod TagLemmas
 mod AreaLemmas

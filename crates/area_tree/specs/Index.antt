@@ -1,28 +1,36 @@
 -- The index from tags to objects.
-use Rattle.std.specs.Prelude.{◌≡◌, ℕ, Bool, List, [], ◌∷◌, ◌++◌, if◌then◌else◌, Vec, unwrap_or}
-use Rattle.std.specs.Map.{lookup}
+use Rattle.std.specs.Prelude.{◌≡◌, ◌<◌, ℕ, List, [], ◌∷◌, ◌++◌, if◌then◌else◌, Option, None, Some, slice_index_or}
 use Rattle.std.specs.Str.{bytes_eq}
-use Rattle.std.specs.declared.alloc.Global.{Global}
+use Rattle.nwq_value.specs.Index.{number_under}
 use Rattle.area_objects.specs.Objects.{AreaObject}
 use Rattle.area_objects.specs.Area.{tagged}
 
--- tags, and under each the numbers of the objects that have it
-abbrev pub TagEntries : Type 0
-TagEntries = List (Vec ℕ Global × List ℕ)
+-- the places of the tags' lists, and the lists of the numbers of the objects
+abbrev pub Places : Type 0
+Places = List (List ℕ × ℕ)
 
--- does a key stand for a tag?
-abbrev pub is_tag : List ℕ → Vec ℕ Global → Bool
-is_tag tag key = bytes_eq tag key.items
+abbrev pub Lists : Type 0
+Lists = List (List ℕ)
+
+-- the list at a place, if there is one
+abbrev pub list_at : Option ℕ → Lists → List ℕ
+list_at None lists = []
+list_at (Some i) lists = slice_index_or lists i []
 
 -- the numbers under a tag
-abbrev pub numbers_under : List ℕ → TagEntries → List ℕ
-numbers_under tag entries = unwrap_or (lookup (is_tag tag) entries) []
+abbrev pub numbers_under : List ℕ → Places → Lists → List ℕ
+numbers_under tag places lists = list_at (number_under tag places) lists
 
 -- the index has each object under its tag
-abbrev pub Indexes : TagEntries → List AreaObject → Type 0
-Indexes entries objects = (tag : List ℕ) → numbers_under tag entries ≡ tagged tag 1 objects
+abbrev pub Indexes : Places → Lists → List AreaObject → Type 0
+Indexes places lists objects = (tag : List ℕ) → numbers_under tag places lists ≡ tagged tag 1 objects
 
 -- the index with one number more
-abbrev pub AddsNumber : TagEntries → List ℕ → ℕ → TagEntries → Type 0
-AddsNumber before tag number after =
-    (t : List ℕ) → numbers_under t after ≡ (if bytes_eq t tag then numbers_under t before ++ number ∷ [] else numbers_under t before)
+abbrev pub AddsNumber : List ℕ → ℕ → Places → Lists → Places → Lists → Type 0
+AddsNumber tag number places lists places' lists' =
+    (t : List ℕ) → numbers_under t places' lists' ≡ (if bytes_eq t tag then numbers_under t places lists ++ number ∷ [] else numbers_under t places lists)
+
+-- each place is below the number of the lists, and no two tags share one
+pub record ArePlaces (places : Places) (count : ℕ) : Type 0 where
+  pub within : (tag : List ℕ) (i : ℕ) → number_under tag places ≡ Some i → i < count
+  pub apart : (s t : List ℕ) (i : ℕ) → number_under s places ≡ Some i → number_under t places ≡ Some i → s ≡ t

@@ -41,7 +41,7 @@ impl Model for Area {
     ghost view = { λ a. record { tree = plain_gff a.tree; objects = a.objects.items } };
 
     ghost invariant = { λ a. IsArea (record { tree = plain_gff a.tree; objects = a.objects.items })
-        × Indexes a.tags.entries a.objects.items };
+        × Indexes a.tags.places a.tags.numbers.items a.objects.items };
 }
 
 impl Drop for Area {

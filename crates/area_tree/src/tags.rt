@@ -1,23 +1,50 @@
 //! The index from tags to the numbers of the objects.
 
-ghost use Rattle.std.specs.Prelude.{◌≡◌, ◌<◌, ◌∷◌, ◌++◌, [], length, IfOk, OnOk};
-ghost use Rattle.std.specs.Str.{bytes_eq};
-ghost use Rattle.area_tree.specs.Index.{numbers_under, Indexes, AddsNumber};
+ghost use Rattle.std.specs.Prelude.{◌≡◌, ◌<◌, ◌∷◌, ◌++◌, [], None, length, IfOk, OnOk};
+ghost use Rattle.nwq_value.specs.Index.{number_under};
+ghost use Rattle.area_tree.specs.Index.{numbers_under, Indexes, AddsNumber, ArePlaces};
 
 use crate::object::Object;
-use indexmap::IndexMap;
-use nwq_value::{Items, NoMemory};
+use nwq_value::{Items, NameIndex, NoMemory};
 use std::alloc::Global;
 
 /// The numbers of the objects by tag, in ascending order.
-pub type Tags = IndexMap<Vec<u8>, Items<u32>>;
+pub struct Tags {
+    /// Under each tag the place of its numbers.
+    places: NameIndex,
+    numbers: Vec<Items<u32>>,
+}
+
+impl Drop for Tags {
+    fn drop(self) {
+        let Tags { places, numbers } = self;
+        drop(places);
+        drop(numbers);
+    }
+}
+
+impl Tags {
+    /// The index without tags.
+    pub fn new(alloc: Global) -> Tags
+        ensures places { result.places ≡ [] }
+        ensures numbers { result.numbers.items ≡ [] }
+    {
+        Tags {
+            places: NameIndex::new(alloc),
+            numbers: Vec::new(alloc),
+        }
+    }
+}
 
 /// The numbers of the objects with a tag.
 pub fn numbers<'a>(tags: &'a Tags, tag: &[u8]) -> &'a [u32]
-    ensures { result.now ≡ numbers_under tag.now tags.now.entries }
+    ensures { result.now ≡ numbers_under tag.now tags.now.places tags.now.numbers.items }
 {
-    match tags.get(tag) {
-        Some(numbers) => numbers.as_slice(),
+    match tags.places.get(tag) {
+        Some(place) => match tags.numbers.get(place) {
+            Some(numbers) => numbers.as_slice(),
+            None => &[],
+        },
         None => &[],
     }
 }
@@ -30,44 +57,71 @@ fn one_number(alloc: Global, number: u32) -> Result<Items<u32>, NoMemory>
     Ok(numbers)
 }
 
-/// Puts a number last under a tag.
-fn add(alloc: Global, tags: &mut Tags, tag: &[u8], number: u32) -> Result<(), NoMemory>
-    ensures { OnOk result (AddsNumber tags.old.entries tag.now number tags.new.entries) }
+/// Puts a number under a tag that has none.
+fn add_tag(
+    alloc: Global,
+    places: &mut NameIndex,
+    numbers: &mut Vec<Items<u32>>,
+    tag: &[u8],
+    number: u32,
+) -> Result<(), NoMemory>
+    requires new { number_under tag.now places.old ≡ None }
+    requires places { ArePlaces places.old (length numbers.old.items) }
+    ensures places { OnOk result (ArePlaces places.new (length numbers.new.items)) }
+    ensures adds { OnOk result (AddsNumber tag.now number places.old numbers.old.items
+        places.new numbers.new.items) }
 {
-    match tags.get_index_of(tag) {
-        Some(i) => {
-            let (_, numbers) = tags.pair_mut(i);
-            numbers.push(number)
-        }
-        None => {
-            let key = Vec::from_slice(alloc, tag)?;
-            let numbers = one_number(alloc, number)?;
-            tags.insert(key, numbers)?;
-            Ok(())
-        }
+    let place = numbers.len();
+    let one = one_number(alloc, number)?;
+    numbers.push(one)?;
+    places.set(tag, place)
+}
+
+/// Puts a number last under a tag.
+fn add(
+    alloc: Global,
+    places: &mut NameIndex,
+    numbers: &mut Vec<Items<u32>>,
+    tag: &[u8],
+    number: u32,
+) -> Result<(), NoMemory>
+    requires places { ArePlaces places.old (length numbers.old.items) }
+    ensures places { OnOk result (ArePlaces places.new (length numbers.new.items)) }
+    ensures adds { OnOk result (AddsNumber tag.now number places.old numbers.old.items
+        places.new numbers.new.items) }
+{
+    match places.get(tag) {
+        Some(place) => numbers[place].push(number),
+        None => add_tag(alloc, places, numbers, tag, number),
     }
 }
 
-fn add_all(alloc: Global, objects: &[Object], tags: &mut Tags) -> Result<(), NoMemory>
-    requires none { tags.old.entries ≡ [] }
-    ensures indexes { OnOk result (Indexes tags.new.entries objects.now) }
+fn add_all(
+    alloc: Global,
+    objects: &[Object],
+    places: &mut NameIndex,
+    numbers: &mut Vec<Items<u32>>,
+) -> Result<(), NoMemory>
+    requires places { places.old ≡ [] }
+    requires numbers { numbers.old.items ≡ [] }
+    ensures indexes { OnOk result (Indexes places.new numbers.new.items objects.now) }
     ensures few { OnOk result (length objects.now < 4294967296) }
 {
     let mut number: u32 = 0;
     for object in objects {
         number = number.checked_add(1).ok_or(NoMemory)?;
-        add(alloc, tags, object.tag(), number)?;
+        add(alloc, places, numbers, object.tag(), number)?;
     }
     Ok(())
 }
 
 /// The index of these objects.
 pub fn index(alloc: Global, objects: &[Object]) -> Result<Tags, NoMemory>
-    ensures indexes { IfOk result (λ tags. Indexes tags.entries objects.now) }
+    ensures indexes { IfOk result (λ tags. Indexes tags.places tags.numbers.items objects.now) }
     ensures few { OnOk result (length objects.now < 4294967296) }
 {
     let mut tags = Tags::new(alloc);
-    match add_all(alloc, objects, &mut tags) {
+    match add_all(alloc, objects, &mut tags.places, &mut tags.numbers) {
         Ok(()) => Ok(tags),
         Err(e) => {
             drop(tags);

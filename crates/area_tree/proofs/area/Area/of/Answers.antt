@@ -13,5 +13,5 @@ invariant_of-result c = (
     distinct = subst HaveDistinct (sym c.in-Ok.ensures.objects) (c.objects_tell.ensures.objects (plain_gff c.args.tree).top c.in-Ok.ensures.whole);
     few = let same : length c.deref.result.now ≡ length c.in-Ok.objects.items = ap length c.deref.ensures.value in omega (arith, same, c.in-Ok-index.ensures.few);
   },
-  subst (Indexes c.in-Ok-index.tags.entries) c.deref.ensures.value c.in-Ok-index.ensures.indexes,
+  subst (Indexes c.in-Ok-index.tags.places c.in-Ok-index.tags.numbers.items) c.deref.ensures.value c.in-Ok-index.ensures.indexes,
 )

@@ -10,7 +10,7 @@ pub invariant_of-self : goal.invariant_of-self
 invariant_of-self c =
     let l = tried_left (plain_gff c.self.inside.tree) c.self.inside.objects.items (c.args.o - 1) c.index_mut-object.result.now c.set_int.new.self _ c.set_int.result (c.variables_tell.ensures.put _) c.self.invariant.0
     (place_of c.args.o c.self.inside.objects.items c.args.self.now.objects (ap (λ a. a.objects) c.self.view_is) c.requires.first c.requires.within) c.index_mut-object.ensures.value c.set_int.ensures.ok c.set_int.ensures.err in
-    (l.0, index_left c.self.inside.tags.entries c.self.inside.objects.items _ c.self.invariant.1 l.1)
+    (l.0, index_left c.self.inside.tags.places c.self.inside.tags.numbers.items c.self.inside.objects.items _ c.self.invariant.1 l.1)
 
 pub returns-clause-ok : goal.returns-clause-ok
 returns-clause-ok c =
