@@ -1,12 +1,11 @@
 -- The tree of the way back is sound.
-use Rattle.std.proofs.Common.{◌≡◌, ◌+◌, ℕ, suc, Bool, true, false, cond, ◌&&◌, List, [], ◌∷◌, ◌++◌, map, filter, length, take, drop, Option, None, Some, refl, sym, ap, subst, ◌∙◌, append_assoc}
+use Rattle.std.proofs.Common.{◌≡◌, ℕ, suc, Bool, true, false, cond, ◌&&◌, List, [], ◌∷◌, ◌++◌, map, filter, length, take, drop, Option, None, Some, refl, sym, ap, ◌∙◌}
 use Rattle.std.specs.Prelude.{codes}
-use Rattle.std.specs.List.{list_all, list_any, IsDistinct, AllByRecursion}
+use Rattle.std.specs.List.{list_all}
 use Rattle.gff_tree.specs.Tree.{PlainNode, PlainLeaf, PlainField, Holds, Child, Children, nodes_in, is_sound_node, is_sound_leaf, is_sound}
 use Rattle.gff_tree.specs.Fields.{kind_of, fields_of, node_from, list_from, found, ReplacedIsSound, AppendedIsSound, FoundIsSound, ListIsSound, NodeIsItsFields, FieldsAreTheNodes, ListIsItsNodes, NodesAreTheLists}
-use Rattle.local_variables.specs.Variables.{Variable, IntVar, TextVar, same_variable}
-use Rattle.area_objects.specs.Objects.{AreaObject, Entry, Broken, Unread, Tells, entry_of, with_entry, variables_in, structs_in, object_of, list_labels, objects_under, objects_of}
-use Rattle.area_objects.specs.Broken.{Place, entry_places, with_later, entries_places, tag_places, table_places, member_places, members_places, list_places, lists_places, broken_places}
+use Rattle.local_variables.specs.Variables.{Variable, IntVar, TextVar}
+use Rattle.area_objects.specs.Objects.{AreaObject, entry_of, structs_in, list_labels}
 use Rattle.area_back.specs.Back.{value_of, new_entry, is_kept, variable_for, with_value, valued, entries_back, others, table_back, leaf_back, fields_back, member_back, members_back, objects_back, list_back, lists_back}
 
 -- what gff_tree's laws say of structs, fields and lists
