@@ -6,7 +6,7 @@ use Rattle.nss_typing.specs.Sight as sight
 use Rattle.nss_typing.specs.Sight.{struct_means, has_struct, is_of_struct, find_head, has_head, has_body, body_number}
 use Rattle.nss_scopes.specs.declared.structs.Structure.{Structure}
 use Rattle.nss_scopes.specs.declared.heads.Head.{Head}
-use Rattle.nss_scopes.specs.Places.{first_place}
+use Rattle.nwq_value.specs.Index.{first_place}
 use Rattle.nss_scopes.specs.Entries.{structure_of, head_of, struct_name, head_name, AreStructs, AreHeads, bodies_in, struct_limit}
 
 pub mapped_at : {A B : Type 0} (f : A → B) (xs : List A) (i : ℕ) → option_map f (slice_get xs i) ≡ slice_get (map f xs) i

@@ -3,8 +3,8 @@ use Rattle.std.proofs.Common.{◌≡◌, ℕ, suc, Bool, true, false, cond, if�
 use Rattle.std.specs.Cmp.Lexicographic.{bytes_decides}
 use Rattle.std.specs.Option.{option_map}
 use Rattle.std.specs.Str.{bytes_eq}
-use Rattle.nwq_value.specs.Index.{number_under, Puts}
-use Rattle.nss_scopes.specs.Places.{first_place, HasFirst}
+use Rattle.nwq_value.specs.Index.{first_place, number_under, Puts}
+use Rattle.nss_scopes.specs.Places.{HasFirst}
 
 abbrev either : Option ℕ → Option ℕ → Option ℕ
 either None o = o

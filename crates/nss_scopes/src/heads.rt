@@ -50,21 +50,16 @@ impl Model for Heads {
 }
 
 /// Puts a name last where there is a body.
-fn push_body(alloc: Global, bodies: &mut Places, name: Text, has_body: bool) -> Result<(), NoMemory>
+fn push_body(bodies: &mut Places, name: Text, has_body: bool) -> Result<(), NoMemory>
     ensures ok { OnOk result
         (bodies.new ≡ (if has_body then bodies.old ++ name ∷ [] else bodies.old)) }
     ensures err { OnErr result (bodies.new ≡ bodies.old) }
 {
-    if has_body {
-        bodies.push(alloc, name)
-    } else {
-        Ok(())
-    }
+    if has_body { bodies.push(name) } else { Ok(()) }
 }
 
 /// Puts the names of a declaration last.
 fn push_names(
-    alloc: Global,
     places: &mut Places,
     bodies: &mut Places,
     name: Text,
@@ -75,13 +70,12 @@ fn push_names(
     ensures bodies { OnOk result
         (bodies.new ≡ (if has_body then bodies.old ++ other ∷ [] else bodies.old)) }
 {
-    places.push(alloc, name)?;
-    push_body(alloc, bodies, other, has_body)
+    places.push(name)?;
+    push_body(bodies, other, has_body)
 }
 
 /// Puts a declaration last.
 fn push(
-    alloc: Global,
     all: &mut Vec<Head>,
     places: &mut Places,
     bodies: &mut Places,
@@ -101,7 +95,7 @@ fn push(
     }
     let has_body = head.has_body;
     all.push(head)?;
-    if push_names(alloc, places, bodies, name, other, has_body).is_ok() {
+    if push_names(places, bodies, name, other, has_body).is_ok() {
         return Ok(());
     }
     all.clear();
@@ -171,7 +165,6 @@ impl Heads {
     {
         match copies(alloc, &head.called) {
             Ok((name, other)) => push(
-                alloc,
                 &mut self.all,
                 &mut self.places,
                 &mut self.bodies,

@@ -145,12 +145,7 @@ impl Names {
     }
 
     /// Puts a name last. After `NoMemory` the names are as before.
-    pub fn declare(
-        &mut self,
-        alloc: Global,
-        called: Text,
-        means: Option<Meaning>,
-    ) -> Result<(), NoMemory>
+    pub fn declare(&mut self, called: Text, means: Option<Meaning>) -> Result<(), NoMemory>
         ensures ok { OnOk result (self.new
             ≡ self.old ++ record { called = called; means = option_map meaning_of means } ∷ []) }
         ensures err { OnErr result (self.new ≡ self.old) }

@@ -2,8 +2,8 @@
 
 ghost use Rattle.std.specs.Prelude.{◌≡◌, ◌++◌, ◌∷◌, [], None, slice_get, OnErr, OnOk};
 ghost use Rattle.std.specs.Option.{option_copied};
-ghost use Rattle.nwq_value.specs.Index.{number_under};
-ghost use Rattle.nss_scopes.specs.Places.{first_place, HasFirst};
+ghost use Rattle.nwq_value.specs.Index.{first_place, number_under};
+ghost use Rattle.nss_scopes.specs.Places.{HasFirst};
 
 use nwq_value::{NameIndex, NoMemory, Text};
 use std::alloc::Global;
@@ -68,7 +68,7 @@ impl Places {
     }
 
     /// Puts a name last. After `NoMemory` the names are as before.
-    pub fn push(&mut self, alloc: Global, name: Text) -> Result<(), NoMemory>
+    pub fn push(&mut self, name: Text) -> Result<(), NoMemory>
         ensures ok { OnOk result (self.new ≡ self.old ++ name ∷ []) }
         ensures err { OnErr result (self.new ≡ self.old) }
     {

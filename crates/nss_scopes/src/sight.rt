@@ -167,7 +167,7 @@ impl Sight {
         let cells = self.cells_if(ty);
         let frame = self.frame_with(cells);
         let means = self.variable(ty);
-        self.names.declare(alloc, called, means)?;
+        self.names.declare(called, means)?;
         self.next = next;
         self.frame = frame;
         Ok(())

@@ -79,7 +79,6 @@ fn number_means(number: u16, structure: &Structure) -> Option<Meant>
 
 /// Puts a struct last, under its name.
 fn push(
-    alloc: Global,
     all: &mut Vec<Structure>,
     places: &mut Places,
     name: Text,
@@ -96,7 +95,7 @@ fn push(
         return Err(NoMemory);
     }
     all.push(structure)?;
-    if places.push(alloc, name).is_ok() {
+    if places.push(name).is_ok() {
         return Ok(());
     }
     all.pop();
@@ -197,7 +196,6 @@ impl Structs {
     {
         match called.copy(alloc) {
             Ok(name) => push(
-                alloc,
                 &mut self.all,
                 &mut self.places,
                 name,

@@ -10,7 +10,7 @@ use Rattle.nss_typing.specs.Rules.{Fields, is_among}
 use Rattle.nss_typing.specs.Sight.{Structure}
 use Rattle.nss_typing.specs.Typed.{TypedLine}
 use Rattle.nss_typing.specs.Verdicts.{after_fields, after_line, field_added, field_verdict, fields_faults, fields_fine, line_faults, line_fine, lines_faults, lines_fine, one_more}
-use Rattle.nss_scopes.specs.Places.{first_place}
+use Rattle.nwq_value.specs.Index.{first_place}
 use Rattle.nss_expressions.specs.Rows.{with_rest}
 use Rattle.nss_expressions.specs.RowLaws.{RowLaws, rest_begin, rest_step, rest_end}
 

@@ -127,7 +127,7 @@ fn field(
     let fits = judge_field(least, structs, fields, ty, x);
     let count = counted(STRUCT_CELLS, fields.count, cells_if(structs, ty));
     let name = x.name.copy(alloc)?;
-    fields.names.push(alloc, name)?;
+    fields.names.push(name)?;
     fields.count = count;
     field_if(alloc, fits, x)
 }

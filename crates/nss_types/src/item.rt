@@ -287,7 +287,7 @@ fn declare_constant(
     let called = name.name.copy(alloc)?;
     let own = name.name.copy(alloc)?;
     let means = constant_means(alloc, typed)?;
-    names.declare(alloc, called, means)?;
+    names.declare(called, means)?;
     Ok(Identifier {
         token: name.token,
         name: own,
