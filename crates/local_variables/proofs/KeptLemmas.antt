@@ -314,29 +314,29 @@ pub record Left (next : ℕ) (all : List Held) (ints texts : List (List ℕ × �
 -- ---- what is read, and what a change leaves
 
 module _ (name : List ℕ) {next : ℕ} {all : List Held} {ints texts : List (List ℕ × ℕ)} (kept : AreKept next all ints texts) {vars : List Variable} (view : seen all ≡ vars) {now : List Held} (same : now ≡ all) where
-  at : (is : List ℕ → Variable → Bool) (stamps : List (List ℕ × ℕ)) → Stamps is all stamps → at_stamp (number_under name stamps) now ≡ place_seen (is name) all
-  at is stamps under = ap (at_stamp (number_under name stamps)) same ∙ place_under is all stamps name kept.ascend under
+  stands : (is : List ℕ → Variable → Bool) (stamps : List (List ℕ × ℕ)) → Stamps is all stamps → at_stamp (number_under name stamps) now ≡ place_seen (is name) all
+  stands is stamps under = ap (at_stamp (number_under name stamps)) same ∙ place_under is all stamps name kept.ascend under
 
   place_is : (is : List ℕ → Variable → Bool) (stamps : List (List ℕ × ℕ)) → Stamps is all stamps → {i : ℕ} → Some i ≡ at_stamp (number_under name stamps) now → place_seen (is name) all ≡ Some i
-  place_is is stamps under e = sym (at is stamps under) ∙ sym e
+  place_is is stamps under e = sym (stands is stamps under) ∙ sym e
 
-  here : (test : Variable → Bool) (i : ℕ) → place_seen test all ≡ Some i → IsAt (first test vars) all i
-  here test i e = subst (λ (vs : List Variable). IsAt (first test vs) all i) view (at_place test all i e)
+  seen_at : (test : Variable → Bool) (i : ℕ) → place_seen test all ≡ Some i → IsAt (first test vars) all i
+  seen_at test i e = subst (λ (vs : List Variable). IsAt (first test vs) all i) view (at_place test all i e)
 
   missing : (test : Variable → Bool) → place_seen test all ≡ None → (first test vars ≡ None) × (list_any test vars ≡ false)
   missing test e = subst (λ (vs : List Variable). (first test vs ≡ None) × (list_any test vs ≡ false)) view (not_there test all e)
 
   pub int_at : {i : ℕ} → Some i ≡ at_stamp (number_under name ints) now → IsAt (first (is_int name) vars) all i
-  int_at {i} e = here (is_int name) i (place_is is_int ints kept.ints e)
+  int_at {i} e = seen_at (is_int name) i (place_is is_int ints kept.ints e)
 
   pub text_at : {i : ℕ} → Some i ≡ at_stamp (number_under name texts) now → IsAt (first (is_text name) vars) all i
-  text_at {i} e = here (is_text name) i (place_is is_text texts kept.texts e)
+  text_at {i} e = seen_at (is_text name) i (place_is is_text texts kept.texts e)
 
   pub no_int : None ≡ at_stamp (number_under name ints) now → (first (is_int name) vars ≡ None) × (list_any (is_int name) vars ≡ false)
-  no_int e = missing (is_int name) (sym (at is_int ints kept.ints) ∙ sym e)
+  no_int e = missing (is_int name) (sym (stands is_int ints kept.ints) ∙ sym e)
 
   pub no_text : None ≡ at_stamp (number_under name texts) now → (first (is_text name) vars ≡ None) × (list_any (is_text name) vars ≡ false)
-  no_text e = missing (is_text name) (sym (at is_text texts kept.texts) ∙ sym e)
+  no_text e = missing (is_text name) (sym (stands is_text texts kept.texts) ∙ sym e)
 
   pub int_pushed : (n : ℤ) {more : ℕ} (h : Held) {grown : List Held} {new : List (List ℕ × ℕ)} → h.stamp ≡ next → variable_in h ≡ IntVar name n → next < more → grown ≡ all ++ h ∷ [] →
       list_any (is_int name) vars ≡ false → Puts name (Some h.stamp) ints new → AreKept more grown new texts
