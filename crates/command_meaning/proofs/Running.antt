@@ -9,7 +9,7 @@ use Rattle.saved_state.specs.declared.saved.Saved.{Saved}
 use Rattle.engine_rows.specs.Pure.{CellLookup}
 use Rattle.engine_rows.specs.Trace.{trace_text}
 use Rattle.engine_rows.specs.Alike.{Alike}
-use Rattle.play_steps.specs.Plays.{Played}
+use Rattle.engine_rows.specs.Plays.{Played}
 use Rattle.module_player.specs.CodePlays.{code_runner, code_end_text}
 use Rattle.source_meaning.specs.Evaluation.{Deferred}
 use Rattle.source_meaning.specs.Scripts.{Listed, Setting}

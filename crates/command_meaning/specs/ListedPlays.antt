@@ -4,7 +4,7 @@ use Rattle.nwq_value.specs.Engine.{EngineTable, IsTable}
 use Rattle.saved_state.specs.declared.saved.Saved.{Saved}
 use Rattle.engine_rows.specs.World.{World}
 use Rattle.engine_rows.specs.Alike.{Alike}
-use Rattle.play_steps.specs.Plays.{Played}
+use Rattle.engine_rows.specs.Plays.{Played}
 use Rattle.module_player.specs.CodePlays.{code_runner, code_play, code_end_text}
 use Rattle.source_meaning.specs.Evaluation.{Deferred}
 use Rattle.source_meaning.specs.Scripts.{Listed, Setting}

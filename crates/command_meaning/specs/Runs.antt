@@ -10,7 +10,7 @@ use Rattle.engine_rows.specs.Pure.{CellLookup}
 use Rattle.engine_rows.specs.Trace.{trace_text}
 use Rattle.engine_rows.specs.Turns.{new_world}
 use Rattle.engine_rows.specs.World.{World}
-use Rattle.play_steps.specs.Plays.{PlayEnd, Done, OutOfEntries, StoppedInside, Paused, Played}
+use Rattle.engine_rows.specs.Plays.{PlayEnd, Done, OutOfEntries, StoppedInside, Paused, Played}
 use Rattle.module_player.specs.CodePlays.{code_runner, code_end_text}
 use Rattle.source_meaning.specs.Evaluation.{Deferred}
 use Rattle.source_meaning.specs.Scripts.{Setting}

@@ -8,3 +8,5 @@ mod AlikeLemmas
 mod KeptLemmas
 mod RowsKept
 mod TurnsKept
+mod PlayLemmas
+mod WorkedPlays

@@ -10,3 +10,6 @@ pub mod Mapped
 pub mod Alike
 pub mod AlikeLaws
 pub mod Kept
+pub mod Plays
+pub mod EndText
+pub mod GoingOn

@@ -13,9 +13,9 @@ use Rattle.engine_rows.specs.declared.data.Stood.{Stood}
 use Rattle.engine_rows.specs.declared.data.Things.{Things}
 use Rattle.engine_rows.specs.Kept.{IsWorld}
 use Rattle.engine_rows.specs.World.{World, count, effects_in, effects_of, queue_in, queue_of}
-use Rattle.play_steps.specs.EndText.{by_object, due_line, end_line, end_text, end_word, item_line, queue_lines, standing_lines, world_text}
+use Rattle.engine_rows.specs.EndText.{by_object, due_line, end_line, end_text, end_word, item_line, queue_lines, standing_lines, world_text}
 use Rattle.machine_step.specs.Machine.{Script}
-use Rattle.play_steps.specs.Plays.{PlayEnd, Played}
+use Rattle.engine_rows.specs.Plays.{PlayEnd, Played}
 use Rattle.module_player.specs.declared.played.Played.{Played as Answer}
 use Rattle.module_player.specs.Answers.{EndsAs}
 use Rattle.module_player.specs.CodePlays.{code_end_text, script_name}

@@ -11,7 +11,7 @@ use Rattle.engine_rows.specs.Engine.{no_script}
 use Rattle.engine_rows.specs.Kept.{IsWorld, IsActing, IsTurned, FaultKeeps, TurnKeeps}
 use Rattle.engine_rows.specs.Turns.{Turned, fault, turn, turn_done, unapply}
 use Rattle.engine_rows.specs.World.{World, count as object_count, is_valid}
-use Rattle.play_steps.specs.Plays.{Run, event_entry, named_entry, finished, turn_entry, entered_as}
+use Rattle.engine_rows.specs.Plays.{Run, event_entry, named_entry, finished, turn_entry, entered_as}
 use Rattle.delay_agenda.specs.declared.entry.Kind.{Kind}
 use Rattle.delay_agenda.specs.declared.entry.Kind.TheVariants.{Stored, Unapply}
 use Rattle.ncs_machine.specs.Endings.{IsLeft}

@@ -14,8 +14,8 @@ use Rattle.engine_rows.specs.declared.data.Line.{Line}
 use Rattle.engine_rows.specs.Trace.{line_text, trace_text}
 use Rattle.engine_rows.specs.Turns.{Begun, begin, begun, drained, user_number, with_entries}
 use Rattle.engine_rows.specs.World.{World}
-use Rattle.play_steps.specs.Plays as plays
-use Rattle.play_steps.specs.Plays.{Runner, Bounds, Progress, Played, Entered, after_entry, entered, full, further, next_entry, play_on, plays as plays_from}
+use Rattle.engine_rows.specs.Plays as plays
+use Rattle.engine_rows.specs.Plays.{Runner, Bounds, Progress, Played, Entered, after_entry, entered, full, further, next_entry, play_on, plays as plays_from}
 use Rattle.module_player.specs.declared.turn.Next.TheVariants.{Goes, Stops, Rests}
 use Rattle.module_player.specs.declared.played.How.{How}
 use Rattle.module_player.specs.declared.played.How.TheVariants as how

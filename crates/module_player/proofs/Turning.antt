@@ -11,8 +11,8 @@ use Rattle.engine_rows.specs.Kept.{IsActing, IsBegun, IsPlaced}
 use Rattle.engine_rows.specs.Trace.{trace_text}
 use Rattle.engine_rows.specs.Turns.{Begun, begin, drained}
 use Rattle.engine_rows.specs.World.{World, count as object_count}
-use Rattle.play_steps.specs.Plays as plays
-use Rattle.play_steps.specs.Plays.{Runner, entered_as}
+use Rattle.engine_rows.specs.Plays as plays
+use Rattle.engine_rows.specs.Plays.{Runner, entered_as}
 use Rattle.ncs_machine.specs.Stored.{BeginKeepsFits, BegunFits, KindFits}
 use Rattle.module_player.specs.declared.entry.Entered.{Entered}
 use Rattle.module_player.specs.declared.turn.Next.{Next}

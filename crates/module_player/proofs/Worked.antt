@@ -22,8 +22,8 @@ use Rattle.engine_rows.specs.Engine.{engine}
 use Rattle.engine_rows.specs.Trace.{line_text, trace_text}
 use Rattle.engine_rows.specs.Turns.{new_world}
 use Rattle.engine_rows.specs.World.{World}
-use Rattle.play_steps.specs.EndText.{end_text, world_text}
-use Rattle.play_steps.specs.Plays.{Played}
+use Rattle.engine_rows.specs.EndText.{end_text, world_text}
+use Rattle.engine_rows.specs.Plays.{Played}
 use Rattle.ncs_machine.specs.Host.{host}
 use Rattle.module_player.specs.CodePlays.{code_end_text, code_play, code_runner}
 

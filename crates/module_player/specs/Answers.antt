@@ -4,8 +4,8 @@ use Rattle.nwq_outside.specs.Outside.{Rises, TookPrefix}
 use Rattle.saved_state.specs.declared.saved.Saved.{Saved}
 use Rattle.engine_rows.specs.Trace.{trace_text}
 use Rattle.engine_rows.specs.World.{World}
-use Rattle.play_steps.specs.Plays as plays
-use Rattle.play_steps.specs.Plays.{PlayEnd}
+use Rattle.engine_rows.specs.Plays as plays
+use Rattle.engine_rows.specs.Plays.{PlayEnd}
 use Rattle.module_player.specs.declared.played.How.{How}
 use Rattle.module_player.specs.declared.played.Played.{Played}
 use Rattle.module_player.specs.Scenes.{Scene, FitIn}

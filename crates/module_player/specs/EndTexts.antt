@@ -8,8 +8,8 @@ use Rattle.action_queue.specs.declared.queue.Item.{Item}
 use Rattle.engine_rows.specs.declared.data.Stood.{Stood}
 use Rattle.engine_rows.specs.World.{World}
 use Rattle.saved_state.specs.declared.saved.Saved.{Saved}
-use Rattle.play_steps.specs.Plays as plays
-use Rattle.play_steps.specs.EndText.{item_line}
+use Rattle.engine_rows.specs.Plays as plays
+use Rattle.engine_rows.specs.EndText.{item_line}
 use Rattle.module_player.specs.declared.played.How.{How}
 use Rattle.module_player.specs.declared.played.How.TheVariants.{Done, InstrStop, EntryStop, Pause, Fault, NoMemory}
 use Rattle.module_player.specs.declared.played.Played.{Played}

@@ -5,8 +5,8 @@ use Rattle.shape_tables.specs.Fits.{Tables}
 use Rattle.saved_state.specs.declared.saved.Saved.{Saved}
 use Rattle.engine_rows.specs.World.{World}
 use Rattle.engine_rows.specs.Turns.{turn}
-use Rattle.play_steps.specs.Plays as plays
-use Rattle.play_steps.specs.Plays.{Ending, Run, Runner, turn_entry}
+use Rattle.engine_rows.specs.Plays as plays
+use Rattle.engine_rows.specs.Plays.{Ending, Run, Runner, turn_entry}
 use Rattle.ncs_machine.specs.Endings.{IsLeft}
 use Rattle.ncs_machine.specs.Stored.{StatesFit}
 use Rattle.module_player.specs.declared.scripts.Ended.{Ended}

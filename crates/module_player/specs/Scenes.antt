@@ -7,7 +7,7 @@ use Rattle.machine_step.specs.Machine.{Host, Script}
 use Rattle.shape_tables.specs.Fits.{Tables}
 use Rattle.shape_tables.specs.Laws.{AllMeet}
 use Rattle.engine_rows.specs.World.{World}
-use Rattle.play_steps.specs.Plays.{Runner}
+use Rattle.engine_rows.specs.Plays.{Runner}
 use Rattle.world_core.specs.Calls.{AreServing}
 use Rattle.ncs_machine.specs.Host.{scripts_of, tables_of}
 use Rattle.ncs_machine.specs.Stored.{StatesFit}

@@ -6,7 +6,7 @@ use Rattle.engine_rows.specs.declared.data.Line.{Line}
 use Rattle.engine_rows.specs.Trace.{trace_text}
 use Rattle.engine_rows.specs.World.{World}
 use Rattle.engine_rows.specs.Turns.{Begun, drained}
-use Rattle.play_steps.specs.Plays.{Entered, Runner, entered}
+use Rattle.engine_rows.specs.Plays.{Entered, Runner, entered}
 use Rattle.module_player.specs.declared.turn.Next.{Next}
 use Rattle.module_player.specs.declared.turn.Next.TheVariants.{Goes, Stops, Rests, Fault, NoMemory}
 use Rattle.module_player.specs.Scenes.{Scene, FitIn}

@@ -7,7 +7,7 @@ ghost use Rattle.engine_rows.specs.Kept.{IsActing, IsPlaced};
 ghost use Rattle.engine_rows.specs.Turns.{turn_done, unapply};
 ghost use Rattle.engine_rows.specs.World.{count as object_count};
 ghost use Rattle.machine_step.specs.Runs.{run_stored};
-ghost use Rattle.play_steps.specs.Plays.{entered_as, event_entry, finished, turn_entry};
+ghost use Rattle.engine_rows.specs.Plays.{entered_as, event_entry, finished, turn_entry};
 ghost use Rattle.ncs_machine.specs.Endings.{FitsBegin};
 ghost use Rattle.ncs_machine.specs.Host.{run_from};
 ghost use Rattle.ncs_machine.specs.Stored.{KindFits};

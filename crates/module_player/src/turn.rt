@@ -8,7 +8,7 @@ ghost use Rattle.engine_rows.specs.Kept.{IsActing, IsPlaced};
 ghost use Rattle.engine_rows.specs.Trace.{trace_text};
 ghost use Rattle.engine_rows.specs.Turns.{begin, drained};
 ghost use Rattle.engine_rows.specs.World.{count as object_count};
-ghost use Rattle.play_steps.specs.Plays.{entered_as};
+ghost use Rattle.engine_rows.specs.Plays.{entered_as};
 ghost use Rattle.ncs_machine.specs.Stored.{KindFits};
 ghost use Rattle.module_player.specs.Entries.{IsReady};
 ghost use Rattle.module_player.specs.Scenes.{FitIn, IsSet, runner_in, scene, scripts_in};

@@ -7,8 +7,8 @@ use Rattle.plan_text.specs.declared.plan.Plan.{Plan}
 use Rattle.saved_state.specs.declared.saved.Saved.{Saved}
 use Rattle.engine_rows.specs.Pure.{CellLookup}
 use Rattle.machine_step.specs.Machine.{Script}
-use Rattle.play_steps.specs.Plays as plays
-use Rattle.play_steps.specs.Plays.{PlayEnd, Played}
+use Rattle.engine_rows.specs.Plays as plays
+use Rattle.engine_rows.specs.Plays.{PlayEnd, Played}
 use Rattle.module_player.specs.CodePlays.{code_end_text}
 use Rattle.nwq_work.specs.Outcomes.{IsSure, sure_then, sure_puts}
 use Rattle.nwq_work.specs.Work.{puts}

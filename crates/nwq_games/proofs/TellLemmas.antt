@@ -7,7 +7,7 @@ use Rattle.area_back.specs.Back.{tree_back}
 use Rattle.saved_state.specs.declared.saved.Saved.{Saved}
 use Rattle.engine_rows.specs.World.{World}
 use Rattle.machine_step.specs.Machine.{Script}
-use Rattle.play_steps.specs.Plays.{PlayEnd, Played}
+use Rattle.engine_rows.specs.Plays.{PlayEnd, Played}
 use Rattle.module_player.specs.Answers.{EndsAs}
 use Rattle.module_player.specs.CodePlays.{code_end_text}
 use Rattle.module_player.specs.EndTexts.{IsEnding}

@@ -11,7 +11,7 @@ use Rattle.plan_text.specs.declared.plan.Plan.{Plan}
 use Rattle.nwq_text.specs.Escape.{escaped, spelling}
 use Rattle.engine_rows.specs.Pure.{CellLookup}
 use Rattle.engine_rows.specs.Trace.{line_text, trace_text}
-use Rattle.play_steps.specs.EndText.{end_text, world_text}
+use Rattle.engine_rows.specs.EndText.{end_text, world_text}
 use Rattle.ncs_machine.specs.Host.{host}
 use Rattle.module_player.specs.CodePlays.{code_runner}
 use Rattle.nwq_work.specs.declared.status.Status.TheVariants.{Limit}

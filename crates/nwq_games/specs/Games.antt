@@ -8,7 +8,7 @@ use Rattle.saved_state.specs.declared.saved.Saved.{Saved}
 use Rattle.engine_rows.specs.Pure.{CellLookup}
 use Rattle.engine_rows.specs.Trace.{trace_text}
 use Rattle.machine_step.specs.Machine.{Script}
-use Rattle.play_steps.specs.Plays.{PlayEnd, Done, OutOfEntries, StoppedInside, Paused, Played}
+use Rattle.engine_rows.specs.Plays.{PlayEnd, Done, OutOfEntries, StoppedInside, Paused, Played}
 use Rattle.module_player.specs.CodePlays.{code_end_text}
 use Rattle.nwq_work.specs.declared.status.Status.TheVariants.{Limit}
 use Rattle.nwq_work.specs.Work.{Work, Ends, Puts, then, Finished, puts}

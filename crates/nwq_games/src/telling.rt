@@ -3,7 +3,7 @@ ghost use Rattle.std.specs.Prelude.{◌≡◌, ℕ, List, IsTrue, IfErr};
 ghost use Rattle.nwq_outside.specs.Outside.{Contents};
 ghost use Rattle.area_back.specs.Back.{tree_back};
 ghost use Rattle.saved_state.specs.declared.saved.Saved.{Saved as SavedView};
-ghost use Rattle.play_steps.specs.Plays.{PlayEnd, Played as PlayedView};
+ghost use Rattle.engine_rows.specs.Plays.{PlayEnd, Played as PlayedView};
 ghost use Rattle.ncs_machine.specs.Host.{scripts_of};
 ghost use Rattle.module_player.specs.Answers.{EndsAs};
 ghost use Rattle.module_player.specs.EndTexts.{HasText, IsEnding};

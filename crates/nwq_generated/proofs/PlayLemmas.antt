@@ -9,7 +9,7 @@ use Rattle.plan_text.specs.declared.plan.Plan.{Plan}
 use Rattle.saved_state.specs.declared.saved.Saved.{Saved}
 use Rattle.engine_rows.specs.Pure.{CellLookup}
 use Rattle.machine_step.specs.Machine.{Script}
-use Rattle.play_steps.specs.Plays.{Played}
+use Rattle.engine_rows.specs.Plays.{Played}
 use Rattle.nwq_work.specs.declared.status.Status.{Status}
 use Rattle.nwq_work.specs.declared.status.Status.TheVariants.{Memory, Limit}
 use Rattle.nwq_work.specs.Work.{Does, CutsShort, Finished}

@@ -5,8 +5,8 @@ use Rattle.nwq_outside.specs.Outside.{Contents, TookPrefix}
 use Rattle.saved_state.specs.declared.saved.Saved.{Saved}
 use Rattle.engine_rows.specs.Trace.{trace_text}
 use Rattle.engine_rows.specs.World.{World}
-use Rattle.play_steps.specs.Plays.{PlayEnd, Played}
-use Rattle.play_steps.specs.EndText.{end_line}
+use Rattle.engine_rows.specs.Plays.{PlayEnd, Played}
+use Rattle.engine_rows.specs.EndText.{end_line}
 use Rattle.play_generator.specs.Made.{creatures_of, rounds_of}
 use Rattle.module_player.specs.Answers.{EndsAs}
 use Rattle.module_player.specs.EndTexts.{IsEnding}

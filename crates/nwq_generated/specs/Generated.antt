@@ -10,8 +10,8 @@ use Rattle.saved_state.specs.declared.saved.Saved.{Saved}
 use Rattle.engine_rows.specs.Pure.{CellLookup}
 use Rattle.engine_rows.specs.Trace.{trace_text}
 use Rattle.plan_text.specs.declared.plan.Plan.{Plan}
-use Rattle.play_steps.specs.Plays.{Played}
-use Rattle.play_steps.specs.EndText.{end_line}
+use Rattle.engine_rows.specs.Plays.{Played}
+use Rattle.engine_rows.specs.EndText.{end_line}
 use Rattle.play_generator.specs.Made.{creatures_of, rounds_of, area_tree, play_of}
 use Rattle.play_generator.specs.Reads.{plan_made}
 use Rattle.nwq_work.specs.declared.status.Status.{Status}

@@ -4,7 +4,7 @@ ghost use Rattle.nwq_outside.specs.Outside.{Contents};
 ghost use Rattle.saved_state.specs.declared.saved.Saved.{Saved as SavedView};
 ghost use Rattle.engine_rows.specs.Trace.{trace_text};
 ghost use Rattle.engine_rows.specs.World.{World as WorldView};
-ghost use Rattle.play_steps.specs.Plays.{Played as PlayedView};
+ghost use Rattle.engine_rows.specs.Plays.{Played as PlayedView};
 ghost use Rattle.play_generator.specs.Made.{creatures_of, number_limit, rounds_of};
 ghost use Rattle.module_player.specs.EndTexts.{HasText, IsEnding};
 ghost use Rattle.nwq_work.specs.Work.{Does, CutsShort};

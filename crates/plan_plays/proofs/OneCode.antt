@@ -5,7 +5,7 @@ use Rattle.ncs_code.specs.Plain.{PlainOp}
 use Rattle.saved_state.specs.declared.saved.Saved.{Saved}
 use Rattle.engine_rows.specs.Pure.{CellLookup}
 use Rattle.machine_step.specs.Machine.{Script}
-use Rattle.play_steps.specs.Plays.{PlayEnd, Done, OutOfEntries, StoppedInside, Paused, Played}
+use Rattle.engine_rows.specs.Plays.{PlayEnd, Done, OutOfEntries, StoppedInside, Paused, Played}
 use Rattle.nwq_work.specs.Outcomes.{IsSure, sure_then}
 use Rattle.nwq_checks.specs.Checks.{loaded_in}
 use Rattle.nwq_checks.specs.Laws.{SureLoaded}

@@ -3,7 +3,7 @@ use Rattle.std.proofs.Common.{◌≡◌, ◌≢◌, ℕ, inl, inr, List, ◌++�
 use Rattle.nwq_outside.specs.Outside.{Contents, TookPrefix}
 use Rattle.saved_state.specs.declared.saved.Saved.{Saved}
 use Rattle.engine_rows.specs.World.{World}
-use Rattle.play_steps.specs.Plays.{PlayEnd, Played}
+use Rattle.engine_rows.specs.Plays.{PlayEnd, Played}
 use Rattle.module_player.specs.Answers.{EndsAs, WherePlayed, TakesTrace, CountsPlay}
 use Rattle.module_player.specs.EndTexts.{HasText, IsEnding}
 use Rattle.module_player.specs.declared.played.How.{How}

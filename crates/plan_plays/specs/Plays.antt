@@ -6,8 +6,8 @@ use Rattle.saved_state.specs.declared.saved.Saved.{Saved}
 use Rattle.engine_rows.specs.Pure.{CellLookup}
 use Rattle.engine_rows.specs.World.{World}
 use Rattle.machine_step.specs.Machine.{Script, Host}
-use Rattle.play_steps.specs.Plays as plays
-use Rattle.play_steps.specs.Plays.{PlayEnd, Played}
+use Rattle.engine_rows.specs.Plays as plays
+use Rattle.engine_rows.specs.Plays.{PlayEnd, Played}
 use Rattle.ncs_machine.specs.Host.{host}
 use Rattle.module_player.specs.CodePlays.{code_play}
 use Rattle.nwq_work.specs.declared.status.Status.TheVariants.{Limit}

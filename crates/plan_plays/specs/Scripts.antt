@@ -8,7 +8,7 @@ use Rattle.engine_rows.specs.Pure.{CellLookup}
 use Rattle.engine_rows.specs.Trace.{trace_text}
 use Rattle.engine_rows.specs.World.{World}
 use Rattle.machine_step.specs.Machine.{Script}
-use Rattle.play_steps.specs.Plays.{Played}
+use Rattle.engine_rows.specs.Plays.{Played}
 use Rattle.module_player.specs.CodePlays.{code_play, code_end_text}
 use Rattle.nwq_work.specs.Work.{Work, Puts, then, Finished}
 use Rattle.nwq_checks.specs.Checks.{loaded_in}

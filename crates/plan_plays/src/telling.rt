@@ -3,7 +3,7 @@ ghost use Rattle.std.specs.Prelude.{◌≡◌, ◌≢◌, ℕ, List, IfOk, IfErr
 ghost use Rattle.nwq_outside.specs.Outside.{Contents};
 ghost use Rattle.saved_state.specs.declared.saved.Saved.{Saved as SavedView};
 ghost use Rattle.engine_rows.specs.World.{World as WorldView};
-ghost use Rattle.play_steps.specs.Plays.{PlayEnd, Played as PlayedView};
+ghost use Rattle.engine_rows.specs.Plays.{PlayEnd, Played as PlayedView};
 ghost use Rattle.module_player.specs.Answers.{EndsAs, WherePlayed, TakesTrace, CountsPlay};
 ghost use Rattle.module_player.specs.EndTexts.{HasText, IsEnding};
 ghost use Rattle.module_player.specs.declared.played.How.TheVariants as variant;

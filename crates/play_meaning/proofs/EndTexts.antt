@@ -16,8 +16,8 @@ use Rattle.engine_rows.specs.World.{World}
 use Rattle.engine_rows.specs.Mapped.{map_kind, map_entry, map_item, map_things, map_world}
 use Rattle.engine_rows.specs.Alike.{Related, left_of, right_of, Alike}
 use Rattle.machine_step.specs.Machine.{Script}
-use Rattle.play_steps.specs.Plays.{PlayEnd}
-use Rattle.play_steps.specs.EndText.{by_object, standing_lines, item_text, item_line, queue_lines, kind_text, due_line, end_line, world_text, end_text}
+use Rattle.engine_rows.specs.Plays.{PlayEnd}
+use Rattle.engine_rows.specs.EndText.{by_object, standing_lines, item_text, item_line, queue_lines, kind_text, due_line, end_line, world_text, end_text}
 use Rattle.module_player.specs.CodePlays.{name_in, script_name}
 use Rattle.source_meaning.specs.Evaluation.{Deferred}
 use Rattle.source_meaning.specs.Scripts.{Listed, Setting}

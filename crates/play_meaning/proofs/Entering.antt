@@ -6,7 +6,7 @@ use Rattle.engine_rows.specs.World.{World}
 use Rattle.engine_rows.specs.Engine.{no_script}
 use Rattle.engine_rows.specs.Turns.{Begun, turn, turn_done, unapply, fault}
 use Rattle.engine_rows.specs.Alike.{Alike, OptionAlike, KindAlike, EntryAlike}
-use Rattle.play_steps.specs.Plays.{Ending, Over, Divided, Stopped, Run, Runner, Entered, quiet, finished_as, finished, named_entry, event_entry, turn_entry, entered_as, entered}
+use Rattle.engine_rows.specs.Plays.{Ending, Over, Divided, Stopped, Run, Runner, Entered, quiet, finished_as, finished, named_entry, event_entry, turn_entry, entered_as, entered}
 use Rattle.source_meaning.specs.StayAlike.{EntriesStayAlike}
 use Rattle.source_meaning.specs.Ledger.{step_cost}
 use Rattle.play_meaning.specs.Together.{Begins, RunsAlike, RunEnds, RunStops, RunnersAre}

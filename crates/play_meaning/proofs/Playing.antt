@@ -4,7 +4,7 @@ use Rattle.std.specs.Prelude.{◌==◌, if◌then◌else◌}
 use Rattle.engine_rows.specs.World.{World}
 use Rattle.engine_rows.specs.Turns.{Begun, begin}
 use Rattle.engine_rows.specs.Alike.{Alike, BegunAlike}
-use Rattle.play_steps.specs.Plays.{Runner, Entered, Bounds, Progress, PlayEnd, Done, StoppedInside, Paused, Played, entered, further, full, after_entry, next_entry, plays, unplayed, play}
+use Rattle.engine_rows.specs.Plays.{Runner, Entered, Bounds, Progress, PlayEnd, Done, StoppedInside, Paused, Played, entered, further, full, after_entry, next_entry, plays, unplayed, play}
 use Rattle.source_meaning.specs.StayAlike.{EntriesStayAlike}
 use Rattle.source_meaning.specs.Ledger.{step_cost}
 use Rattle.play_meaning.specs.Together.{Begins, RunEnds, RunStops, RunnersAre, PlaysAlike, PlayEnds, PlayStops}

@@ -6,8 +6,8 @@ use Rattle.engine_rows.specs.World.{World}
 use Rattle.engine_rows.specs.Alike.{Alike}
 use Rattle.machine_step.specs.Runs.{Ran, Over, ZeroDivisor, OutOfInstructions, StackFault, run}
 use Rattle.machine_step.specs.Runs as runs
-use Rattle.play_steps.specs.Plays.{Stopped, Run}
-use Rattle.play_steps.specs.Plays as plays
+use Rattle.engine_rows.specs.Plays.{Stopped, Run}
+use Rattle.engine_rows.specs.Plays as plays
 use Rattle.module_player.specs.CodePlays.{ending_of}
 use Rattle.module_player.specs.CodePlays as code
 use Rattle.source_meaning.specs.Evaluation.{Deferred, Progress, Outcome, Gives, Divides, OutOfSteps}

@@ -4,7 +4,7 @@ use Rattle.std.specs.Prelude.{◌≡◌, ◌≤◌, ℕ, ◌*◌, List, ◌++◌
 use Rattle.engine_rows.specs.World.{World}
 use Rattle.engine_rows.specs.Turns.{Begun, begin}
 use Rattle.engine_rows.specs.Alike.{Alike}
-use Rattle.play_steps.specs.Plays.{Stopped, Run, Runner, Progress, StoppedInside, Played, entered, further}
+use Rattle.engine_rows.specs.Plays.{Stopped, Run, Runner, Progress, StoppedInside, Played, entered, further}
 use Rattle.source_meaning.specs.Ledger.{step_cost}
 
 -- the one list is a beginning of the other, or all of it

@@ -22,7 +22,7 @@ use Rattle.nss_typing.specs.Typed as e
 use Rattle.engine_rows.specs.Engine.{engine}
 use Rattle.engine_rows.specs.Trace.{line_text, trace_text}
 use Rattle.machine_step.specs.Values.{value_eq}
-use Rattle.play_steps.specs.Plays.{Done, StoppedInside}
+use Rattle.engine_rows.specs.Plays.{Done, StoppedInside}
 use Rattle.source_meaning.specs.Evaluation.{bind, spend}
 use Rattle.source_meaning.proofs.Trees.{stmts, int, text, local, global, two, assign, routine, function_call, print, print_string, delay, execute, execute_here, does, sets, declare, param, global_of, function, unit_of, only_main, listed, creature, played, alone, printed}
 

@@ -24,7 +24,7 @@ use Rattle.engine_rows.specs.Pure.{CellLookup}
 use Rattle.engine_rows.specs.Trace.{trace_text}
 use Rattle.engine_rows.specs.Turns.{Planned, new_world}
 use Rattle.engine_rows.specs.World.{World}
-use Rattle.play_steps.specs.Plays.{Played}
+use Rattle.engine_rows.specs.Plays.{Played}
 use Rattle.source_meaning.specs.Evaluation.{Deferred}
 use Rattle.source_meaning.specs.Scripts.{Listed, Setting}
 use Rattle.source_meaning.specs.Plays.{source_play}

@@ -5,7 +5,7 @@
 //! evaluation takes its steps, `specs/Expressions.antt`, `specs/Statements.antt` and
 //! `specs/Scripts.antt` what each node of a typed unit comes to, in the world of `engine_rows`. It
 //! knows variables and values, and neither stack nor place nor jump. `specs/Plays.antt` has the
-//! play of source texts, which is the play of `play_steps`.
+//! play of source texts, which is the play of `engine_rows`.
 //!
 //! That code does what is meant is said by `specs/Ledger.antt` (what the machine has done where an
 //! evaluation has come to some point), `specs/Kept.antt` (where values stand), `specs/Carries.antt`

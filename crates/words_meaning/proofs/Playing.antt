@@ -8,7 +8,7 @@ use Rattle.gff_write.specs.File.{written, outcome_of}
 use Rattle.area_objects.specs.Area.{PlainArea}
 use Rattle.area_back.specs.Back.{tree_back}
 use Rattle.engine_rows.specs.Trace.{trace_text}
-use Rattle.play_steps.specs.Plays.{PlayEnd, Done, OutOfEntries, StoppedInside, Paused, Played}
+use Rattle.engine_rows.specs.Plays.{PlayEnd, Done, OutOfEntries, StoppedInside, Paused, Played}
 use Rattle.play_meaning.specs.EndTexts.{source_end_text}
 use Rattle.source_meaning.specs.Evaluation.{Deferred}
 use Rattle.plan_text.specs.declared.plan.Plan.{Plan}

@@ -25,7 +25,7 @@ use Rattle.nwq_checks.specs.Laws.{SureLoaded}
 use Rattle.plan_plays.specs.Laws.{SurePlays}
 use Rattle.command_meaning.specs.Units.{UnitsPass}
 use Rattle.command_meaning.specs.Files.{PlaysFile}
-use Rattle.play_steps.specs.Plays.{Done, StoppedInside}
+use Rattle.engine_rows.specs.Plays.{Done, StoppedInside}
 use Rattle.command_meaning.specs.Runs.{answer_by, FewStepsEndAsMeant, UnstoppedRunsEndAsMeant, StoppedRunsBeginAsMeant}
 use Rattle.command_meaning.specs.Scripts.{HoldBytes, ScriptsHaveUnits}
 use Rattle.words_meaning.specs.Accepting.{HasHeader}

@@ -9,7 +9,7 @@ use Rattle.engine_rows.specs.Pure.{CellLookup}
 use Rattle.engine_rows.specs.Trace.{trace_text}
 use Rattle.engine_rows.specs.Alike.{Alike}
 use Rattle.engine_rows.specs.declared.data.Line.{Line}
-use Rattle.play_steps.specs.Plays.{PlayEnd, Played}
+use Rattle.engine_rows.specs.Plays.{PlayEnd, Played}
 use Rattle.module_player.specs.CodePlays.{code_end_text}
 use Rattle.source_meaning.specs.Evaluation.{Deferred}
 use Rattle.source_meaning.specs.Scripts.{Listed, Setting}

@@ -6,8 +6,8 @@ use Rattle.nss_typing.specs.Typed.{TypedUnit}
 use Rattle.saved_state.specs.declared.saved.Saved.{Saved}
 use Rattle.engine_rows.specs.Pure.{CellLookup}
 use Rattle.engine_rows.specs.Trace.{trace_text}
-use Rattle.play_steps.specs.Plays.{StoppedInside, Played}
-use Rattle.play_steps.specs.EndText.{end_line}
+use Rattle.engine_rows.specs.Plays.{StoppedInside, Played}
+use Rattle.engine_rows.specs.EndText.{end_line}
 use Rattle.module_player.specs.CodePlays.{code_runner}
 use Rattle.source_meaning.specs.Evaluation.{Deferred}
 use Rattle.source_meaning.specs.Scripts.{Listed, Setting}

@@ -10,7 +10,7 @@ use Rattle.plan_text.specs.declared.plan.Plan.{Plan}
 use Rattle.machine_step.specs.Machine.{Script}
 use Rattle.engine_rows.specs.Pure.{CellLookup}
 use Rattle.engine_rows.specs.Trace.{trace_text}
-use Rattle.play_steps.specs.Plays.{Done, StoppedInside, Played}
+use Rattle.engine_rows.specs.Plays.{Done, StoppedInside, Played}
 use Rattle.play_meaning.specs.EndTexts.{source_end_text}
 use Rattle.source_meaning.specs.Evaluation.{Deferred}
 use Rattle.source_meaning.specs.Scripts.{Listed, Setting}

@@ -6,7 +6,7 @@ use Rattle.nwq_outside.specs.Outside.{Contents}
 use Rattle.nss_typing.specs.Typed.{TypedUnit}
 use Rattle.code_emission.specs.Units.{unit_file}
 use Rattle.engine_rows.specs.Pure.{CellLookup}
-use Rattle.play_steps.specs.Plays.{Done, StoppedInside}
+use Rattle.engine_rows.specs.Plays.{Done, StoppedInside}
 use Rattle.nwq_work.specs.declared.status.Status.{Status}
 use Rattle.nwq_work.specs.Refusal.{Refusal}
 use Rattle.nwq_work.specs.Work.{Finished}

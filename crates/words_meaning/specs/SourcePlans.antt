@@ -9,7 +9,7 @@ use Rattle.engine_rows.specs.Pure.{CellLookup}
 use Rattle.engine_rows.specs.Trace.{trace_text}
 use Rattle.engine_rows.specs.Turns.{new_world}
 use Rattle.engine_rows.specs.World.{World}
-use Rattle.play_steps.specs.Plays.{StoppedInside, Played}
+use Rattle.engine_rows.specs.Plays.{StoppedInside, Played}
 use Rattle.module_player.specs.CodePlays.{code_runner, code_end_text}
 use Rattle.source_meaning.specs.Evaluation.{Deferred}
 use Rattle.source_meaning.specs.Scripts.{Listed, Setting}

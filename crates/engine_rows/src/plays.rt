@@ -1,4 +1,4 @@
-ghost use Rattle.play_steps.specs.Laws.{PlaysGoOn};
+ghost use Rattle.engine_rows.specs.GoingOn.{PlaysGoOn};
 
 /// A play that is broken off after some entries and then goes on is the unbroken play.
 pub fn plays_go_on<X>()

@@ -2,8 +2,8 @@
 use Rattle.std.proofs.Common.{arith, ◌≡◌, ℕ, zero, suc, Bool, true, false, Option, None, Some, refl, ap, ◌∙◌, zero-add}
 use Rattle.std.specs.Prelude.{◌+◌, ◌==◌, if◌then◌else◌}
 use Rattle.engine_rows.specs.Turns.{Begun, begin}
-use Rattle.play_steps.specs.Plays.{Runner, Bounds, Progress, Played, entered, further, full, after_entry, next_entry, plays}
-use Rattle.play_steps.specs.Laws.{PlaysGoOn, continued}
+use Rattle.engine_rows.specs.Plays.{Runner, Bounds, Progress, Played, entered, further, full, after_entry, next_entry, plays}
+use Rattle.engine_rows.specs.GoingOn.{PlaysGoOn, continued}
 
 module _ {X : Type 0} (runner : Runner X) (bounds : Bounds) (more : ℕ) where
   abbrev Goes : (Progress X → Played X) → (Progress X → Played X) → Type 0

@@ -15,8 +15,8 @@ use Rattle.engine_rows.specs.Changes.{told, post}
 use Rattle.engine_rows.specs.Rows.{appended}
 use Rattle.engine_rows.specs.Trace.{line_text, trace_text}
 use Rattle.engine_rows.specs.Turns.{Planned, new_world}
-use Rattle.play_steps.specs.Plays.{Run, Over, Divided, Stopped, Runner, Bounds, PlayEnd, Played, play, play_on, unplayed}
-use Rattle.play_steps.specs.EndText.{world_text, end_text}
+use Rattle.engine_rows.specs.Plays.{Run, Over, Divided, Stopped, Runner, Bounds, PlayEnd, Played, play, play_on, unplayed}
+use Rattle.engine_rows.specs.EndText.{world_text, end_text}
 
 abbrev printed : ℕ → ℕ → World ℕ → World ℕ
 printed o n w = told o (Print (Int (pos n))) w

@@ -1,6 +1,6 @@
--- What holds of every play.
+-- What holds of every play that is broken off and goes on.
 use Rattle.std.specs.Prelude.{◌≡◌, ℕ, ◌+◌}
-use Rattle.play_steps.specs.Plays.{Runner, Bounds, Progress, PlayEnd, Paused, Played, plays}
+use Rattle.engine_rows.specs.Plays.{Runner, Bounds, Progress, PlayEnd, Paused, Played, plays}
 
 -- what was broken off goes on for so many further entries
 abbrev pub continued : {X : Type 0} → Runner X → Bounds → ℕ → PlayEnd → Played X → Played X

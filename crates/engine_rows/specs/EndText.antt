@@ -12,7 +12,7 @@ use Rattle.nwq_text.specs.Values.{effect_text, object_text}
 use Rattle.engine_rows.specs.declared.data.Stood.{Stood}
 use Rattle.engine_rows.specs.declared.data.Things.{Things}
 use Rattle.engine_rows.specs.World.{World}
-use Rattle.play_steps.specs.Plays.{PlayEnd, Done, OutOfEntries, StoppedInside, Paused, Played}
+use Rattle.engine_rows.specs.Plays.{PlayEnd, Done, OutOfEntries, StoppedInside, Paused, Played}
 
 -- the lines of things in order, each with the number of its object
 abbrev pub by_object : {X : Type 0} → (ℕ → Things X → List ℕ) → ℕ → List (Things X) → List ℕ

@@ -1,2 +1,0 @@
-mod PlayLemmas
-mod Worked
