@@ -10,3 +10,6 @@ mod TokenLemmas
 mod Rows
 mod BuiltIn
 mod Lines
+mod Growing
+mod Literals
+mod Tables

@@ -6,3 +6,4 @@ pub mod Grammar
 pub mod Headers
 pub mod Turns
 pub mod Laws
+pub mod KeptTables

@@ -9,7 +9,7 @@ use Rattle.engine_rows.specs.Pure.{CellLookup}
 use Rattle.source_meaning.specs.Scripts.{Listed}
 use Rattle.source_meaning.specs.Executing.{script_of}
 use Rattle.parsed_faults.specs.Laws.{LeastIsTheKept}
-use Rattle.header_tables.specs.Laws.{BuiltInIsTable}
+use Rattle.engine_table.specs.KeptTables.{BuiltInIsTable}
 use Rattle.play_generator.specs.Made.{play_of}
 use Rattle.nwq_work.specs.declared.status.Status.{Status}
 use Rattle.nwq_work.specs.declared.status.Status.TheVariants.{Memory}

@@ -4,7 +4,7 @@ use Rattle.nwq_value.specs.Engine.{EngineTable, IsTable}
 use Rattle.nwq_value.specs.HeaderTable.{header_table}
 use Rattle.nwq_text.specs.Line.{line_number}
 use Rattle.nwq_outside.specs.Outside.{Contents}
-use Rattle.header_tables.specs.Laws.{HeadersHaveTables, BuiltInIsTable}
+use Rattle.engine_table.specs.KeptTables.{HeadersHaveTables, BuiltInIsTable}
 use Rattle.nwq_work.specs.declared.status.Status.{Status}
 use Rattle.nwq_work.specs.Refusal.{Refusal, At, line_of, status_of}
 use Rattle.nwq_work.specs.Work.{Does, file_named}

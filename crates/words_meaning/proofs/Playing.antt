@@ -17,7 +17,7 @@ use Rattle.engine_rows.specs.Pure.{CellLookup}
 use Rattle.source_meaning.specs.Scripts.{Listed, Setting}
 use Rattle.source_meaning.specs.Executing.{script_of}
 use Rattle.parsed_faults.specs.Laws.{LeastIsTheKept}
-use Rattle.header_tables.specs.Laws.{HeadersHaveTables, BuiltInIsTable}
+use Rattle.engine_table.specs.KeptTables.{HeadersHaveTables, BuiltInIsTable}
 use Rattle.nwq_work.specs.declared.status.Status.{Status}
 use Rattle.nwq_work.specs.Refusal.{Refusal, line_of, status_of}
 use Rattle.nwq_work.specs.Work.{Puts, then, puts, writes, IsCut, Does, Finished}

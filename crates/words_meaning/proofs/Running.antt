@@ -6,7 +6,7 @@ use Rattle.nss_include.specs.Names.{file_name}
 use Rattle.nss_typing.specs.Typed.{TypedUnit}
 use Rattle.code_emission.specs.Units.{unit_file}
 use Rattle.parsed_faults.specs.Laws.{LeastIsTheKept}
-use Rattle.header_tables.specs.Laws.{HeadersHaveTables, BuiltInIsTable}
+use Rattle.engine_table.specs.KeptTables.{HeadersHaveTables, BuiltInIsTable}
 use Rattle.nwq_work.specs.declared.status.Status.{Status}
 use Rattle.nwq_work.specs.Refusal.{Refusal, line_of, status_of}
 use Rattle.nwq_work.specs.Work.{Work, then, IsCut, Does, Finished, puts, writes}

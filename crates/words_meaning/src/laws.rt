@@ -9,7 +9,7 @@ ghost use Rattle.words_meaning.specs.SourcePlans.{UnstoppedPlansPlayAsMeant};
 use command_meaning::{
     ends_are_answered, listed_units_play_alike, runs_end_as_meant, scripts_play_units, units_pass,
 };
-use header_tables::headers_have_tables;
+use engine_table::headers_have_tables;
 use nwq_areas::laws::one_area;
 use nwq_checks::laws::one_check;
 use nwq_games::laws::one_game;

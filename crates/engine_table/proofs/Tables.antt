@@ -13,9 +13,9 @@ use Rattle.engine_table.specs.Known.{Known}
 use Rattle.engine_table.specs.Symbols.{Placed, AreSymbols, placed_all}
 use Rattle.engine_table.specs.Headers.{Lines, none, more, routine_of, with_constant, after, after_all, nothing}
 use Rattle.engine_table.specs.Laws.{IsAdmissible, BuiltInHasTable, ClearLinesAreAdmissible}
-use Rattle.header_tables.specs.Laws.{HeadersHaveTables, BuiltInIsTable}
-use Rattle.header_tables.proofs.Growing.{table_empty, table_pushed, table_defined}
-use Rattle.header_tables.proofs.Literals.{all_bytes, tokens_bounds, front, back}
+use Rattle.engine_table.specs.KeptTables.{HeadersHaveTables, BuiltInIsTable}
+use Rattle.engine_table.proofs.Growing.{table_empty, table_pushed, table_defined}
+use Rattle.engine_table.proofs.Literals.{all_bytes, tokens_bounds, front, back}
 
 -- a constant with a value is kept where its name is free
 constant_kept : (t : EngineTable) (d : Declared) (c o : Option Const) → IsTable t → routine_named d.name t.routines ≡ None → IfSome c IsConstant

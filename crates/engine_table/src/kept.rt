@@ -1,8 +1,8 @@
 //! A law about the tables of headers, as the contract of a function that does nothing.
 
-ghost use Rattle.header_tables.specs.Laws.{BuiltInIsTable, HeadersHaveTables};
+ghost use Rattle.engine_table.specs.KeptTables.{BuiltInIsTable, HeadersHaveTables};
 
-use engine_table::laws::{built_in_has_table, clear_lines_are_admissible};
+use crate::laws::{built_in_has_table, clear_lines_are_admissible};
 use nss_lexer::laws::values_are_bytes;
 
 /// The table of a header keeps what every table keeps, where its text is bytes; and so does the

@@ -1,6 +1,6 @@
-use Rattle.header_tables.specs.Laws.{HeadersHaveTables}
-use Rattle.header_tables.proofs.Tables.{headers_have_tables, built_in_is_table}
-use Rattle.header_tables.proofs.laws.headers_have_tables.Goals as goal
+use Rattle.engine_table.specs.KeptTables.{HeadersHaveTables}
+use Rattle.engine_table.proofs.Tables.{headers_have_tables, built_in_is_table}
+use Rattle.engine_table.proofs.kept.headers_have_tables.Goals as goal
 
 pub returns : goal.returns
 returns c =
