@@ -2,7 +2,7 @@
 use Rattle.nwq_work.specs.declared.status.Status.{Status}
 use Rattle.nwq_work.specs.declared.status.Status.TheVariants.{Done, Words, Script, Code, Area, Limit, Missing, Fault, Memory, Long}
 use Rattle.nwq_work.specs.Counts.{StopsSource}
-use Rattle.nwq_plays.specs.Tellings.{StopsPlay}
+use Rattle.nwq_runs.specs.Tellings.{StopsPlay}
 use Rattle.nwq_runs.specs.Runs.{StopsRun}
 
 pub source_stops : (status : Status) → StopsSource status → StopsRun status

@@ -6,12 +6,12 @@ ghost use Rattle.nwq_work.specs.Work.{Does};
 ghost use Rattle.nwq_work.specs.Counts.{Counted, Tallies};
 ghost use Rattle.nwq_scripts.specs.Files.{code_name};
 ghost use Rattle.plan_plays.specs.Scripts.{plays_file};
-ghost use Rattle.nwq_plays.specs.Tellings.{StopsPlay};
+ghost use Rattle.nwq_runs.specs.Tellings.{StopsPlay};
 ghost use Rattle.nwq_runs.specs.Runs.{runs_under, runs, StopsRun};
 
+use crate::play::play_file;
 use hook_table::Hooks;
 use nwq_outside::{Files, Sink};
-use nwq_plays::play_file;
 use nwq_scripts::{code_name, read_compiled};
 use nwq_sources::read_table;
 use nwq_value::{Items, NoMemory, Table};

@@ -1,8 +1,8 @@
 use Rattle.std.proofs.Common.{map}
 use Rattle.world_core.specs.Calls.{cells_of}
 use Rattle.ncs_machine.specs.Host.{scripts_of}
-use Rattle.nwq_plays.proofs.PlayLemmas.{code_does}
-use Rattle.nwq_plays.proofs.play.play_listed.Goals as goal
+use Rattle.nwq_runs.proofs.PlayLemmas.{code_does}
+use Rattle.nwq_runs.proofs.play.play_listed.Goals as goal
 
 pub returns-in-Ok-clause-does : goal.returns-in-Ok-clause-does
 returns-in-Ok-clause-does g c = λ tells ops is d.

@@ -1,4 +1,4 @@
-use Rattle.nwq_plays.proofs.play.play_code.Goals as goal
+use Rattle.nwq_runs.proofs.play.play_code.Goals as goal
 
 pub play_listed-requires-clause-meets : goal.play_listed-requires-clause-meets
 play_listed-requires-clause-meets g c = c.in-Ok.ensures.meets c.args.table.now c.requires.meets

@@ -12,7 +12,7 @@ ghost use Rattle.ncs_machine.specs.Stored.{StatesFit};
 ghost use Rattle.nwq_work.specs.Work.{Does};
 ghost use Rattle.nwq_work.specs.Counts.{Counted, Tallies, Refusing};
 ghost use Rattle.plan_plays.specs.Scripts.{listed, played, tells, plays_code, plays_file};
-ghost use Rattle.nwq_plays.specs.Tellings.{StopsPlay};
+ghost use Rattle.nwq_runs.specs.Tellings.{StopsPlay};
 
 use crate::telling::tell_end;
 use hook_table::Hooks;

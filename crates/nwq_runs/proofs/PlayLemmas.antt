@@ -15,8 +15,8 @@ use Rattle.nwq_work.specs.Counts.{Refusing}
 use Rattle.nwq_work.specs.Parts.{cut_here}
 use Rattle.plan_worlds.specs.Worlds.{first_world}
 use Rattle.plan_plays.specs.Scripts.{listed, played, tells, plays_code}
-use Rattle.nwq_plays.specs.Tellings.{StopsPlay}
-use Rattle.nwq_plays.proofs.WorldLemmas.{first_fits, first_quiet, first_next}
+use Rattle.nwq_runs.specs.Tellings.{StopsPlay}
+use Rattle.nwq_runs.proofs.WorldLemmas.{first_fits, first_quiet, first_next}
 
 module _ (cell : CellLookup) (header : EngineTable) (name : List ℕ) (ops : List PlainOp) (c : Contents) where
   pub code_cut : (t : List ℕ) → Does (plays_code cell header name ops) c t (Err Memory) c t

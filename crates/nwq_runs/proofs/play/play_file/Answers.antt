@@ -4,7 +4,7 @@ use Rattle.nwq_work.specs.Counts.{Counted, Tallies}
 use Rattle.nwq_work.specs.Parts.{then_ok}
 use Rattle.nwq_checks.specs.Checks.{loaded_in}
 use Rattle.plan_plays.specs.Scripts.{plays_code, plays_file}
-use Rattle.nwq_plays.proofs.play.play_file.Goals as goal
+use Rattle.nwq_runs.proofs.play.play_file.Goals as goal
 
 pub returns-in-Ok-clause-does : goal.returns-in-Ok-clause-does
 unfolding plays_file

@@ -1,6 +1,6 @@
 use Rattle.nwq_work.specs.Counts.{Counted}
-use Rattle.nwq_plays.proofs.TellLemmas.{limit_counts}
-use Rattle.nwq_plays.proofs.telling.tell_end.Goals as goal
+use Rattle.nwq_runs.proofs.TellLemmas.{limit_counts}
+use Rattle.nwq_runs.proofs.telling.tell_end.Goals as goal
 
 pub returns-in-Ok-clause-counts : goal.returns-in-Ok-clause-counts
 returns-in-Ok-clause-counts g c = λ faults absences longs.

@@ -4,8 +4,8 @@ use Rattle.world_core.specs.Calls.{cells_of}
 use Rattle.ncs_machine.specs.Host.{scripts_of}
 use Rattle.nwq_work.specs.Counts.{Counted, Tallies}
 use Rattle.plan_plays.specs.Scripts.{played}
-use Rattle.nwq_plays.proofs.TellLemmas.{trace_cut, trace_whole}
-use Rattle.nwq_plays.proofs.play.play_world.Goals as goal
+use Rattle.nwq_runs.proofs.TellLemmas.{trace_cut, trace_whole}
+use Rattle.nwq_runs.proofs.play.play_world.Goals as goal
 
 pub returns-in-Err-clause-does : goal.returns-in-Err-clause-does
 returns-in-Err-clause-does g c = λ tells d.

@@ -1,4 +1,0 @@
-mod PlayLemmas
-mod Steps
-mod TellLemmas
-mod WorldLemmas
