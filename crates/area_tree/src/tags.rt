@@ -1,6 +1,6 @@
 //! The index from tags to the numbers of the objects.
 
-ghost use Rattle.std.specs.Prelude.{◌≡◌, ◌<◌, ◌∷◌, ◌++◌, [], None, length, IfOk, OnOk};
+ghost use Rattle.std.specs.Prelude.{◌≡◌, ◌<◌, ◌∷◌, [], None, length, IfOk, OnOk};
 ghost use Rattle.nwq_value.specs.Index.{number_under};
 ghost use Rattle.area_tree.specs.Index.{numbers_under, Indexes, AddsNumber, ArePlaces};
 
