@@ -18,7 +18,7 @@ unfoldable pub runs : CellLookup → List ℕ → List ℕ → Work Finished
 runs cell header script = then (table_of header) (runs_under cell script)
 
 -- What stops a run: its header or script, the check of its compiled file, or a limit that ended its play. The check passes every compiled file
--- where files tell bytes (`words_meaning`); here nothing is asked of files, so `Code` stands in the table.
+-- where files tell bytes (`nwq_top`); here nothing is asked of files, so `Code` stands in the table.
 abbrev pub StopsRun : Status → Type 0
 StopsRun Limit = Unit {0}
 StopsRun status = StopsCheck status
