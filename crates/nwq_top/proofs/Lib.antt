@@ -1,3 +1,14 @@
+mod Headers
+mod Sources
+mod Listing
+mod ListedUnits
+mod SourcePlans
+mod PlansAndAreas
+mod Running
+mod Playing
+mod MadeSource
+mod MadeTelling
+mod Generating
 mod EndingLemmas
 mod GivenTables
 mod Meaning

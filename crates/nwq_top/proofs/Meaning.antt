@@ -7,7 +7,7 @@ use Rattle.nwq_work.specs.Work.{then, IsCut, Does, Finished, ending}
 use Rattle.nwq_sources.specs.Headers.{table_of}
 use Rattle.nwq_scripts.specs.Files.{code_name, compiled_named}
 use Rattle.plan_plays.specs.Scripts.{plays_file}
-use Rattle.words_meaning.specs.Laws.{RunsMean, CompilesMean, PlaysMean, GeneratesMean}
+use Rattle.nwq_top.specs.WordLaws.{RunsMean, CompilesMean, PlaysMean, GeneratesMean}
 use Rattle.command_words.specs.Words.{Run, Compile, Tree, Check, Disassemble, Assemble, Play, Generate, NoForm, form_of}
 use Rattle.nwq_runs.specs.Runs.{runs_under, runs}
 use Rattle.nwq_top.specs.Meaning.{Means, WorkMeans}

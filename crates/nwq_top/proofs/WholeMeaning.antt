@@ -12,7 +12,7 @@ use Rattle.nwq_work.specs.Reading.{AreBytes}
 use Rattle.nwq_work.specs.Comes.{refusal_not_cut, Follows, follows, ends, cuts, then_follows}
 use Rattle.nwq_tables.specs.Tables.{tables_given}
 use Rattle.nwq_tables.specs.Laws.{SureTables}
-use Rattle.words_meaning.specs.Refusing.{IsRefused}
+use Rattle.nwq_top.specs.Refusing.{IsRefused}
 use Rattle.command_words.specs.Words.{Form, list_of}
 use Rattle.nwq_top.specs.Command.{work_with, whole_work}
 use Rattle.nwq_top.specs.GivenTables.{GivesTables, RefusesGiven, TablesCome, refused, accepted}

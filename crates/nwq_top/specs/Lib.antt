@@ -1,3 +1,11 @@
+pub mod Accepting
+pub mod Refusing
+pub mod ListedUnits
+pub mod SourcePlans
+pub mod Runs
+pub mod Plays
+pub mod Generated
+pub mod WordLaws
 pub mod Command
 pub mod Endings
 pub mod Program

@@ -9,10 +9,10 @@ use Rattle.nwq_work.specs.declared.status.Status.{Status}
 use Rattle.nwq_work.specs.Refusal.{Refusal}
 use Rattle.nwq_work.specs.Work.{IsCut, Does, Finished}
 use Rattle.nwq_work.specs.Reading.{AreBytes}
-use Rattle.words_meaning.specs.Refusing.{IsRefused}
-use Rattle.words_meaning.specs.Runs.{MeansRun, MeansCompile}
-use Rattle.words_meaning.specs.Plays.{MeansPlay}
-use Rattle.words_meaning.specs.Generated.{MeansGenerate}
+use Rattle.nwq_top.specs.Refusing.{IsRefused}
+use Rattle.nwq_top.specs.Runs.{MeansRun, MeansCompile}
+use Rattle.nwq_top.specs.Plays.{MeansPlay}
+use Rattle.nwq_top.specs.Generated.{MeansGenerate}
 use Rattle.command_words.specs.Words.{Form, Run, Compile, Tree, Check, Disassemble, Assemble, Play, Generate, NoForm, list_of}
 use Rattle.nwq_top.specs.Command.{work_of, whole_work}
 use Rattle.nwq_top.specs.GivenTables.{GivesTables, RefusesGiven, TablesCome}

@@ -3,20 +3,31 @@
 //! [`nwq_main`] does the work of the words; [`program_tables`] and [`nwq_program`] are what
 //! `run_all` of `nwq` calls. What a command does is a [`Work`](../../nwq_work/specs/Work.antt), a
 //! function of the form of its words (`specs/Command.antt`), and the clause `does` says that the
-//! call did it. The clause `means` says what that is in the words of the language: `words_meaning`
-//! has the definitions, and the laws by which the one follows from the other. The parts of that
-//! work that read sources are `nwq_sources`', and its commands over other files `nwq_files`'.
+//! call did it. The parts of that work that read sources are `nwq_sources`', and its commands over
+//! other files `nwq_files`'.
+//!
+//! The clause `means` says what the work is in the words of the subject: headers, scripts, plans,
+//! areas. `specs/Accepting.antt` and `specs/Refusing.antt` say what a command accepts, and why it
+//! refuses, by what the files hold. `specs/ListedUnits.antt` says that what is listed of a plan of
+//! sources is the code of their typed units, and `specs/SourcePlans.antt` that the play of such a
+//! plan is told, and leaves the area, as the sources mean. `specs/Runs.antt`, `specs/Plays.antt`
+//! and `specs/Generated.antt` say what `run` and `compile`, `play`, and `generate` do: each file
+//! that they write passes the stack checker, and what they tell and leave is what the source texts
+//! mean. What one script means that is run alone the crate `command_meaning` has. The laws of
+//! [`word_laws`] say that whatever does the work of the words does this, and one more that typing
+//! refuses a source at one fault.
 //!
 //! The tables that its scripts look cells up in are [`nwq_tables`]', which comes first: the tables
 //! are read, hooks are made with them, and `nwq_main` is handed these hooks and the same words.
-//! What both mean together says the law [`laws::whole_means`]. See docs/COMMANDS.md and
-//! docs/THEOREMS.md.
+//! What both mean together says the law [`laws::whole_means`]. See docs/COMMANDS.md,
+//! docs/THEOREMS.md and docs/MEANING.md.
 #![tactic(auto)]
 
 mod command;
 pub mod laws;
 mod program;
 mod tables;
+pub mod word_laws;
 
 ghost use Rattle.std.specs.Prelude.{map, string_bytes, IsTrue};
 ghost use Rattle.world_core.specs.Calls.{cells_of, AreServing};

@@ -1,0 +1,118 @@
+-- What `generate` does.
+use Rattle.std.proofs.Common.{arith, ◌≡◌, inl, inr, ℕ, zero, suc, List, [], ◌∷◌, ◌++◌, codes, Result, Ok, Err, refl, subst, ap, ◌∙◌}
+use Rattle.nwq_value.specs.Engine.{EngineTable}
+use Rattle.nwq_value.specs.HeaderTable.{header_table}
+use Rattle.nwq_outside.specs.Outside.{Contents}
+use Rattle.nss_typing.specs.Typed.{TypedUnit}
+use Rattle.code_emission.specs.Units.{unit_file}
+use Rattle.engine_rows.specs.Pure.{CellLookup}
+use Rattle.source_meaning.specs.Scripts.{Listed}
+use Rattle.source_meaning.specs.Executing.{script_of}
+use Rattle.parsed_faults.specs.Laws.{LeastIsTheKept}
+use Rattle.engine_table.specs.KeptTables.{BuiltInIsTable}
+use Rattle.play_generator.specs.Made.{play_of}
+use Rattle.nwq_work.specs.declared.status.Status.{Status}
+use Rattle.nwq_work.specs.declared.status.Status.TheVariants.{Memory}
+use Rattle.nwq_work.specs.Work.{then, IsCut, Does, Finished}
+use Rattle.nwq_work.specs.Parts.{value_or, cut_here}
+use Rattle.nwq_work.specs.Sequences.{then_known}
+use Rattle.nwq_work.specs.Comes.{Came, gave, stopped, cut}
+use Rattle.nwq_checks.specs.Checks.{loaded_in}
+use Rattle.nwq_checks.specs.Laws.{SureLoaded}
+use Rattle.nwq_games.specs.Games.{plays_plan}
+use Rattle.nwq_generated.specs.Generated.{SourceFate, Whole, Faulty, IsSourceFate, whole, faulty, source_by, source_compiled, plan_of, made_area, plays_made, checks_made, generates}
+use Rattle.command_meaning.specs.Units.{code_of, IsUnitOf, UnitsPass}
+use Rattle.command_meaning.specs.ListedPlays.{AreUnitsOf}
+use Rattle.command_meaning.specs.Runs.{answer_by, EndsAreAnswered}
+use Rattle.command_meaning.specs.Scripts.{HoldBytes, ScriptsHaveUnits}
+use Rattle.nwq_top.specs.SourcePlans.{PlaysSources, FewStepsPlayAsMeant, UnstoppedPlansPlayAsMeant, StoppedPlansBeginAsMeant, listing_of}
+use Rattle.nwq_top.specs.Accepting.{Compiles}
+use Rattle.nwq_top.specs.Refusing.{RefusesSource}
+use Rattle.nwq_top.proofs.Sources.{IsMade, source_comes}
+use Rattle.nwq_top.proofs.Listing.{compiles, loaded_does}
+use Rattle.nwq_top.specs.Generated.{made_files, beat_of, source_made, code_made, MeansMade, MeansGenerate, refused, accepted}
+use Rattle.nwq_top.specs.WordLaws.{GeneratesMean}
+use Rattle.nwq_top.proofs.MadeSource.{made_bytes}
+use Rattle.nwq_top.proofs.MadeTelling.{Told, made_told, same_summary}
+
+the_unit : (header : EngineTable) (unit : TypedUnit) → IsUnitOf header unit → AreUnitsOf header (beat_of unit)
+the_unit header unit h zero l is = let same : record { name = codes "beat"; unit = unit } ≡ l = cc in subst (λ (x : Listed). IsUnitOf header x.unit) same h
+the_unit header unit h (suc n) l is = absurd cc
+
+module _ (pass : UnitsPass) (units : ScriptsHaveUnits) (least : LeastIsTheKept) (own : BuiltInIsTable) (sure : SureLoaded) (answered : EndsAreAnswered)
+    (few : FewStepsPlayAsMeant) (unstopped : UnstoppedPlansPlayAsMeant) (ended : StoppedPlansBeginAsMeant) where
+  module _ (cell : CellLookup) (n : ℕ) (held : HoldBytes (made_files n)) (c : Contents) (t : List ℕ) (r : Result Finished Status) (c' : Contents) (t' : List ℕ)
+      (uncut : IsCut r → ⊥) where
+    -- any work may be cut as it begins; so the laws on plans speak of this play
+    as_plan : (unit : TypedUnit) → Compiles header_table (made_files n) (codes "beat") unit
+        → PlaysSources cell header_table (made_area n) (plan_of n) (beat_of unit) [] c t (Err Memory) c t
+    as_plan unit h = record {
+      table = own;
+      units = the_unit header_table unit (units header_table (made_files n) (codes "beat") unit held h.script);
+      does = cut_here (plays_plan cell header_table (made_area n) (plan_of n) (script_of (record { name = codes "beat"; unit = unit }) ∷ []) []) Memory c c t t tt refl refl;
+    }
+
+    meant : (unit : TypedUnit) → Compiles header_table (made_files n) (codes "beat") unit → Does (plays_made cell n (code_of unit)) c t r c' t' → MeansMade cell n unit c t r c' t'
+    meant unit h does =
+        let told : Told n (code_made cell n unit) c t r c' t' = made_told answered cell n unit c t r c' t' uncut does in
+        let s = listing_of cell header_table (beat_of unit) in
+        record {
+          few = λ k large goes.
+              let alike = (few cell header_table (made_area n) (plan_of n) (beat_of unit) [] c t (Err Memory) c t (as_plan unit h) k large goes).alike in
+              record {
+                alike = alike;
+                taken = told.taken ∙ ap (λ x. t ++ x) (same_summary s n (code_made cell n unit) (source_made cell n unit k) alike);
+                answer = told.answer ∙ ap answer_by alike.ending;
+                contents = told.contents;
+              };
+          unstopped = λ goes.
+              let alike = (unstopped cell header_table (made_area n) (plan_of n) (beat_of unit) [] c t (Err Memory) c t (as_plan unit h) goes).alike in
+              record {
+                alike = alike;
+                taken = told.taken ∙ ap (λ x. t ++ x) (same_summary s n (code_made cell n unit) (source_made cell n unit (plan_of n).limit) alike);
+                answer = told.answer ∙ ap answer_by alike.ending;
+                contents = told.contents;
+              };
+          stopped = λ is.
+              let k = ended cell header_table (made_area n) (plan_of n) (beat_of unit) [] c t (Err Memory) c t (as_plan unit h) is in
+              record { stopped = k.stopped; begins = k.begins; taken = told.taken; answer = told.answer ∙ ap answer_by is; contents = told.contents };
+        }
+
+    file_comes : (file text : List ℕ) → Does (checks_made cell n file) c t r c' t'
+        → Came (IsMade header_table (made_files n) (codes "beat")) (RefusesSource header_table (made_files n) (codes "beat")) (made_files n) [] (Ok file) (made_files n) text
+        → MeansGenerate cell n c t r c' t'
+    unfolding checks_made
+    file_comes file text does (gave bytes made is p q) =
+        let h = compiles pass units sure header_table own (made_files n) (codes "beat") bytes held made in
+        let same : file ≡ unit_file made.unit = ap (value_or file) is ∙ made.is in
+        let plays : Does (plays_made cell n (code_of made.unit)) c t r c' t' =
+        then_known (loaded_in header_table (codes "beat.ncs") (unit_file made.unit)) (plays_made cell n) (sure header_table (codes "beat.ncs") (unit_file made.unit))
+        (code_of made.unit) c c c' t t t' r uncut (loaded_does header_table (codes "beat.ncs") made.unit c t h.passes)
+        (subst (λ (b : List ℕ). Does (then (loaded_in header_table (codes "beat.ncs") b) (plays_made cell n)) c t r c' t') same does) in
+        accepted made.unit h (meant made.unit h plays)
+    file_comes file text does (stopped why is p q o) = absurd cc
+    file_comes file text does (cut x) = absurd x
+
+    line_comes : (status : Status) (line : List ℕ) → (IsCut {A = List ℕ} (Err status) → ⊥) → Does (then (source_by (Faulty line)) (checks_made cell n)) c t r c' t'
+        → Came (IsMade header_table (made_files n) (codes "beat")) (RefusesSource header_table (made_files n) (codes "beat")) (made_files n) [] (Err status) (made_files n) line
+        → MeansGenerate cell n c t r c' t'
+    line_comes status line plain does (gave bytes made is p q) = absurd cc
+    line_comes status line plain (inl x) (stopped why is p q o) = absurd (uncut x.0)
+    line_comes status line plain (inr (inr x, s)) (stopped why is p q o) = absurd (uncut x)
+    line_comes status line plain (inr (inl e, s)) (stopped why is p q o) =
+        refused why is (record { answer = e; taken = s.1 ∙ ap (λ x. t ++ x) o; contents = s.0 })
+    line_comes status line plain does (cut x) = absurd (plain x)
+
+    fate_comes : (fate : SourceFate) → IsSourceFate (play_of n).source fate → Does (then (source_by fate) (checks_made cell n)) c t r c' t' → MeansGenerate cell n c t r c' t'
+    fate_comes (Whole file) (whole _ text made) does =
+        file_comes file text does (source_comes header_table (made_files n) [] (codes "beat") least (Ok file) (made_files n) text made)
+    fate_comes (Faulty line) (faulty status _ plain made) does =
+        line_comes status line plain does (source_comes header_table (made_files n) [] (codes "beat") least (Err status) (made_files n) line made)
+
+    generated : Does (generates cell n) c t r c' t' → MeansGenerate cell n c t r c' t'
+    unfolding generates source_compiled
+    generated (inl x) = absurd (uncut x.0)
+    generated (inr h) = fate_comes h.found h.is h.goes
+
+  pub generates_mean : GeneratesMean
+  generates_mean cell n c t r c' t' small uncut does = generated cell n (made_bytes n (omega (arith, small))) c t r c' t' uncut does

@@ -1,0 +1,93 @@
+-- What the words `generate N` mean.
+use Rattle.std.specs.Prelude.{◌≡◌, ◌≢◌, ◌≤◌, ℕ, ◌*◌, List, [], ◌∷◌, ◌++◌, codes, Result, Err}
+use Rattle.nwq_value.specs.HeaderTable.{header_table}
+use Rattle.nwq_outside.specs.Outside.{Contents}
+use Rattle.nss_typing.specs.Typed.{TypedUnit}
+use Rattle.saved_state.specs.declared.saved.Saved.{Saved}
+use Rattle.engine_rows.specs.Pure.{CellLookup}
+use Rattle.engine_rows.specs.Trace.{trace_text}
+use Rattle.engine_rows.specs.Plays.{StoppedInside, Played}
+use Rattle.engine_rows.specs.EndText.{end_line}
+use Rattle.module_player.specs.CodePlays.{code_runner}
+use Rattle.source_meaning.specs.Evaluation.{Deferred}
+use Rattle.source_meaning.specs.Scripts.{Listed, Setting}
+use Rattle.source_meaning.specs.Ledger.{step_cost}
+use Rattle.source_meaning.specs.Carries.{Carries}
+use Rattle.source_meaning.specs.Executing.{script_of}
+use Rattle.play_meaning.specs.Together.{Begins, PlaysAlike, StoppedAt}
+use Rattle.play_generator.specs.Made.{creatures_of, rounds_of, play_of}
+use Rattle.nwq_work.specs.declared.status.Status.{Status}
+use Rattle.nwq_work.specs.declared.status.Status.TheVariants.{Script, Limit}
+use Rattle.nwq_work.specs.Refusal.{Refusal, line_of}
+use Rattle.nwq_work.specs.Work.{Finished}
+use Rattle.plan_plays.specs.Plays.{host_of}
+use Rattle.nwq_generated.specs.Generated.{files_with, made_line, summary, plan_of, made_area}
+use Rattle.command_meaning.specs.Runs.{answer_by}
+use Rattle.nwq_top.specs.SourcePlans.{listing_of, source_plan_played, code_plan_played}
+use Rattle.nwq_top.specs.Accepting.{Compiles}
+use Rattle.nwq_top.specs.Refusing.{RefusesSource}
+
+-- ---- the play of the source that is made from a number
+
+-- the files in which it is compiled: it alone is there
+abbrev pub made_files : ℕ → Contents
+made_files n = files_with (play_of n).source
+
+-- the one script that is listed
+abbrev pub beat_of : TypedUnit → List Listed
+beat_of unit = record { name = codes "beat"; unit = unit } ∷ []
+
+-- what its source means, over the area and the plan of the number, where an entry may take so many steps
+abbrev pub source_made : CellLookup → ℕ → TypedUnit → ℕ → Played Deferred
+source_made cell n unit k = source_plan_played cell header_table (made_area n) (plan_of n) (beat_of unit) k
+
+-- what its code does, with the plan's limit of instructions
+abbrev pub code_made : CellLookup → ℕ → TypedUnit → Played Saved
+code_made cell n unit = code_plan_played cell header_table (made_area n) (plan_of n) (beat_of unit)
+
+-- the summary of a play of source for which so many instructions were made
+abbrev pub source_summary : ℕ → ℕ → Played Deferred → List ℕ
+source_summary n count p =
+    made_line (creatures_of n) (creatures_of n * rounds_of n) (trace_text p.last.trace) ++ end_line p.ending p.last.world.clock p.last.entries count
+
+-- ---- what is told of it
+
+-- the summary of a play of source was put, with the number of instructions that were made, and the answer is as it ends
+pub record TellsMade (n : ℕ) (s : Setting) (code : Played Saved) (source : Played Deferred) (c : Contents) (t : List ℕ) (r : Result Finished Status)
+    (c' : Contents) (t' : List ℕ) : Type 0 where
+  pub alike : PlaysAlike (Carries s) code source
+  pub taken : t' ≡ t ++ source_summary n code.last.count source
+  pub answer : r ≡ answer_by source.ending
+  pub contents : c' ≡ c
+
+-- the play was stopped in an entry for which all the instructions were made that it may take; its lines are a beginning of the source's
+pub record TellsMadeBeginning (cell : CellLookup) (n : ℕ) (unit : TypedUnit) (c : Contents) (t : List ℕ) (r : Result Finished Status)
+    (c' : Contents) (t' : List ℕ) : Type 0 where
+  pub stopped : StoppedAt (code_runner (host_of cell header_table (script_of (record { name = codes "beat"; unit = unit }) ∷ [])) (plan_of n).limit) (plan_of n).until
+      (plan_of n).limit (code_made cell n unit)
+  pub begins : Begins (code_made cell n unit).last.trace (source_made cell n unit (plan_of n).limit).last.trace
+  pub taken : t' ≡ t ++ summary n (code_made cell n unit)
+  pub answer : r ≡ Err Limit
+  pub contents : c' ≡ c
+
+pub record MeansMade (cell : CellLookup) (n : ℕ) (unit : TypedUnit) (c : Contents) (t : List ℕ) (r : Result Finished Status) (c' : Contents) (t' : List ℕ) : Type 0 where
+  -- where each entry of the source ends in k steps, and 16 k is within the plan's limit
+  pub few : (k : ℕ) → step_cost * k ≤ (plan_of n).limit → (source_made cell n unit k).ending ≢ StoppedInside
+      → TellsMade n (listing_of cell header_table (beat_of unit)) (code_made cell n unit) (source_made cell n unit k) c t r c' t'
+  -- where no entry of the code was stopped
+  pub unstopped : (code_made cell n unit).ending ≢ StoppedInside
+      → TellsMade n (listing_of cell header_table (beat_of unit)) (code_made cell n unit) (source_made cell n unit (plan_of n).limit) c t r c' t'
+  -- where one was
+  pub stopped : (code_made cell n unit).ending ≡ StoppedInside → TellsMadeBeginning cell n unit c t r c' t'
+
+-- the line of the source's refusal was put
+pub record IsRefusedMade (why : Refusal) (c : Contents) (t : List ℕ) (r : Result Finished Status) (c' : Contents) (t' : List ℕ) : Type 0 where
+  pub answer : r ≡ Err Script
+  pub taken : t' ≡ t ++ line_of why
+  pub contents : c' ≡ c
+
+-- What `generate N` does, unless a failed call or want of memory cut it: the source is refused, or its file passes the stack checker and its
+-- play is told as the source means.
+pub data MeansGenerate (cell : CellLookup) (n : ℕ) (c : Contents) (t : List ℕ) (r : Result Finished Status) (c' : Contents) (t' : List ℕ) : Type 0 where
+  refused : (why : Refusal) → RefusesSource header_table (made_files n) (codes "beat") why → IsRefusedMade why c t r c' t' → MeansGenerate cell n c t r c' t'
+  accepted : (unit : TypedUnit) → Compiles header_table (made_files n) (codes "beat") unit → MeansMade cell n unit c t r c' t' → MeansGenerate cell n c t r c' t'

@@ -1,0 +1,113 @@
+//! Laws about the work of words, each the contract of a function that does nothing.
+
+ghost use Rattle.nwq_top.specs.WordLaws.{CompilesMean, GeneratesMean, OneFaultRefuses};
+ghost use Rattle.nwq_top.specs.WordLaws.{PlaysMean, RunsMean};
+ghost use Rattle.nwq_top.specs.ListedUnits.{PlansListUnits};
+ghost use Rattle.nwq_top.specs.SourcePlans.{FewStepsPlayAsMeant, StoppedPlansBeginAsMeant};
+ghost use Rattle.nwq_top.specs.SourcePlans.{UnstoppedPlansPlayAsMeant};
+
+use command_meaning::{
+    ends_are_answered, listed_units_play_alike, runs_end_as_meant, scripts_play_units, units_pass,
+};
+use engine_table::headers_have_tables;
+use nwq_areas::laws::one_area;
+use nwq_checks::laws::one_check;
+use nwq_games::laws::one_game;
+use nwq_listings::laws::one_listing;
+use nwq_scripts::laws::one_script;
+use nwq_sources::laws::one_source;
+use parsed_faults::laws::one_least_fault;
+use plan_plays::laws::one_code;
+use source_meaning::entries_stay_alike;
+
+/// What is listed of a plan of sources is the code of their units.
+pub fn plans_list_units()
+    ensures listed { PlansListUnits }
+{
+    units_pass();
+    scripts_play_units();
+    one_check();
+    one_least_fault();
+}
+
+/// A plan whose scripts are typed units is played as their sources mean, its final area among it:
+/// where each entry of the sources ends in so many steps that 16 times as many instructions are
+/// within the plan's limit, and in any case where no entry of the code was stopped. Where one was,
+/// what is told is a beginning of what the sources mean, and no area is left.
+pub fn plans_play_as_meant()
+    ensures few { FewStepsPlayAsMeant }
+    ensures unstopped { UnstoppedPlansPlayAsMeant }
+    ensures stopped { StoppedPlansBeginAsMeant }
+{
+    listed_units_play_alike();
+    entries_stay_alike();
+}
+
+/// Whatever does the work of `run` is refused where the header or the script is, and else tells
+/// what the script's source means.
+pub fn runs_mean()
+    ensures means { RunsMean }
+{
+    units_pass();
+    scripts_play_units();
+    one_least_fault();
+    headers_have_tables();
+    one_source();
+    one_script();
+    one_check();
+    one_code();
+    runs_end_as_meant();
+}
+
+/// Whatever does the work of `compile` is refused where the header or the script is, and else
+/// writes the file of the script's unit, which passes the stack checker.
+pub fn compiles_mean()
+    ensures means { CompilesMean }
+{
+    units_pass();
+    scripts_play_units();
+    one_least_fault();
+    headers_have_tables();
+    one_source();
+    one_script();
+    one_check();
+}
+
+/// Whatever does the work of `play` is refused for the first of its files that is, and else tells
+/// and leaves what the sources mean that the plan lists.
+pub fn plays_mean()
+    ensures means { PlaysMean }
+{
+    units_pass();
+    scripts_play_units();
+    one_least_fault();
+    headers_have_tables();
+    one_source();
+    one_check();
+    one_area();
+    one_listing();
+    one_game();
+    plans_play_as_meant();
+}
+
+/// Whatever does the work of `generate` refuses the source that is made, or tells of its play what
+/// the source means.
+pub fn generates_mean()
+    ensures means { GeneratesMean }
+{
+    units_pass();
+    scripts_play_units();
+    one_least_fault();
+    headers_have_tables();
+    one_check();
+    ends_are_answered();
+    plans_play_as_meant();
+}
+
+/// Typing refuses a source at one fault alone: the least one, with its token and its kind.
+pub fn one_refusal_of_types()
+    ensures one { OneFaultRefuses }
+{
+    one_source();
+    one_least_fault();
+}

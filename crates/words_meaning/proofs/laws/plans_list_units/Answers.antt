@@ -1,7 +1,0 @@
-use Rattle.words_meaning.proofs.ListedUnits.{plans_list_units}
-use Rattle.words_meaning.proofs.laws.plans_list_units.Goals as goal
-
-pub returns : goal.returns
-returns c = record {
-  listed = plans_list_units c.units_pass.ensures.pass c.scripts_play_units.ensures.units c.one_check.ensures.loaded c.one_least_fault.ensures.kept;
-}
