@@ -24,80 +24,6 @@ impl<X: Drop> Parts<X> {
         }
     }
 
-    /// The value of an object's int variable.
-    fn local_int(&self, o: u32, name: &[u8]) -> i32
-        ensures value { result ≡ read o
-            (int_named name.now (object self.now.world.area o).vars) (pos 0) self.now.world }
-    {
-        if self.is_valid(o) {
-            self.area().get_int(o, name)
-        } else {
-            0
-        }
-    }
-
-    /// The value of an object's string variable.
-    fn local_text(&self, o: u32, name: &[u8]) -> &[u8]
-        ensures value { result.now ≡ read o
-            (text_named name.now (object self.now.world.area o).vars) [] self.now.world }
-    {
-        if self.is_valid(o) {
-            self.area().get_text(o, name)
-        } else {
-            &[]
-        }
-    }
-
-    /// Gives an object's int variable a value.
-    fn set_local_int(&mut self, o: u32, name: &[u8], n: i32) -> Result<(), NoMemory>
-        ensures ok { OnOk result (self.new.world
-            ≡ changed_variables o (put (IntVar name.now n)) self.old.world) }
-        ensures err { OnErr result (self.new.world ≡ self.old.world) }
-        ensures posts { self.new.posts ≡ self.old.posts }
-    {
-        if self.is_valid(o) {
-            self.set_int(o, name, n)
-        } else {
-            Ok(())
-        }
-    }
-
-    /// Gives an object's string variable a value.
-    fn set_local_text(&mut self, o: u32, name: &[u8], text: &[u8]) -> Result<(), NoMemory>
-        ensures ok { OnOk result (self.new.world
-            ≡ changed_variables o (put (TextVar name.now text.now)) self.old.world) }
-        ensures err { OnErr result (self.new.world ≡ self.old.world) }
-        ensures posts { self.new.posts ≡ self.old.posts }
-    {
-        if self.is_valid(o) {
-            self.set_text(o, name, text)
-        } else {
-            Ok(())
-        }
-    }
-
-    /// Takes an object's int variable out.
-    fn delete_local_int(&mut self, o: u32, name: &[u8])
-        ensures gone { self.new.world
-            ≡ changed_variables o (filter (λ v. not (is_int name.now v))) self.old.world }
-        ensures posts { self.new.posts ≡ self.old.posts }
-    {
-        if self.is_valid(o) {
-            self.delete_int(o, name);
-        }
-    }
-
-    /// Takes an object's string variable out.
-    fn delete_local_text(&mut self, o: u32, name: &[u8])
-        ensures gone { self.new.world
-            ≡ changed_variables o (filter (λ v. not (is_text name.now v))) self.old.world }
-        ensures posts { self.new.posts ≡ self.old.posts }
-    {
-        if self.is_valid(o) {
-            self.delete_text(o, name);
-        }
-    }
-
     /// GetLocalInt.
     pub(crate) fn get_local_int(&self, args: &Args) -> i32
         ensures value { result ≡ read (object_at 0 args.now)
@@ -105,7 +31,12 @@ impl<X: Drop> Parts<X> {
             (object_at 0 args.now)).vars)
             (pos 0) self.now.world }
     {
-        self.local_int(object_at(args, 0), text_at(args, 1))
+        let o = object_at(args, 0);
+        if self.is_valid(o) {
+            self.area().get_int(o, text_at(args, 1))
+        } else {
+            0
+        }
     }
 
     /// GetLocalString.
@@ -115,7 +46,12 @@ impl<X: Drop> Parts<X> {
             (object_at 0 args.now)).vars)
             [] self.now.world }
     {
-        self.local_text(object_at(args, 0), text_at(args, 1))
+        let o = object_at(args, 0);
+        if self.is_valid(o) {
+            self.area().get_text(o, text_at(args, 1))
+        } else {
+            &[]
+        }
     }
 
     /// SetLocalInt.
@@ -125,7 +61,12 @@ impl<X: Drop> Parts<X> {
         ensures err { OnErr result (self.new.world ≡ self.old.world) }
         ensures posts { self.new.posts ≡ self.old.posts }
     {
-        self.set_local_int(object_at(args, 0), text_at(args, 1), int_at(args, 2))
+        let o = object_at(args, 0);
+        if self.is_valid(o) {
+            self.set_int(o, text_at(args, 1), int_at(args, 2))
+        } else {
+            Ok(())
+        }
     }
 
     /// SetLocalString.
@@ -135,7 +76,12 @@ impl<X: Drop> Parts<X> {
         ensures err { OnErr result (self.new.world ≡ self.old.world) }
         ensures posts { self.new.posts ≡ self.old.posts }
     {
-        self.set_local_text(object_at(args, 0), text_at(args, 1), text_at(args, 2))
+        let o = object_at(args, 0);
+        if self.is_valid(o) {
+            self.set_text(o, text_at(args, 1), text_at(args, 2))
+        } else {
+            Ok(())
+        }
     }
 
     /// DeleteLocalInt.
@@ -144,7 +90,10 @@ impl<X: Drop> Parts<X> {
             (filter (λ v. not (is_int (text_at 1 args.now) v))) self.old.world }
         ensures posts { self.new.posts ≡ self.old.posts }
     {
-        self.delete_local_int(object_at(args, 0), text_at(args, 1));
+        let o = object_at(args, 0);
+        if self.is_valid(o) {
+            self.delete_int(o, text_at(args, 1));
+        }
     }
 
     /// DeleteLocalString.
@@ -153,6 +102,9 @@ impl<X: Drop> Parts<X> {
             (filter (λ v. not (is_text (text_at 1 args.now) v))) self.old.world }
         ensures posts { self.new.posts ≡ self.old.posts }
     {
-        self.delete_local_text(object_at(args, 0), text_at(args, 1));
+        let o = object_at(args, 0);
+        if self.is_valid(o) {
+            self.delete_text(o, text_at(args, 1));
+        }
     }
 }
