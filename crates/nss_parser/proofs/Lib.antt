@@ -16,6 +16,7 @@ pub mod ExpressionLocal
 pub mod ExpressionRight
 pub mod Turns
 pub mod LoopTurns
+pub mod OperandLaws
 pub mod PartLaws
 pub mod StatementLocal
 pub mod StatementComplete

@@ -55,6 +55,10 @@ abbrev pub suffixes : ℕ → PlainExpr → Parser PlainExpr
 suffixes zero x = deep
 suffixes (suc t) x = peek (λ o. suffixes_by (suffixes t) x (suffix_of o))
 
+-- an operator, as its number, and an operand of a level after it
+unfoldable pub operand : (ℕ → Parser PlainExpr) → ℕ → Parser (ℕ × PlainExpr)
+operand level least = take >>= λ n. level least >>= λ x. pure (n, x)
+
 module _ (d : ℕ) (level : ℕ → Parser PlainExpr) where
   abbrev pub after_argument : (PlainExprs → Parser PlainExprs) → PlainExprs → Parser PlainExprs
   after_argument more all = choice (is_terminal terminal.Comma) (take >>= λ n. more all) (expect terminal.Close >>= λ k. pure all)

@@ -56,6 +56,7 @@ fn suffixes(alloc: Global, tokens: &mut Cursor<'_>, depth: usize, of: Expr) -> R
         let longer = suffix(alloc, tokens, kind, of)?;
         of = longer;
     }
+    drop(of);
     Err(Stop::TooDeep)
 }
 
@@ -183,6 +184,23 @@ fn primary(alloc: Global, tokens: &mut Cursor<'_>, depth: usize) -> Result<Expr,
     }
 }
 
+/// An operator, as its number, and an operand of a level after it.
+#[cycle(level)]
+#[tactic(auto, unfolding(crate::specs::ReadExpression::operand))]
+fn operand(
+    alloc: Global,
+    tokens: &mut Cursor<'_>,
+    depth: usize,
+    least: u32,
+) -> Result<(u32, Expr), Stop>
+    ensures { Reads (λ p. (p.0, plain_expr p.1)) (read.operand (read.level depth) least tokens.old)
+        result tokens.new }
+{
+    let number = tokens.take()?;
+    let value = level(alloc, tokens, depth, least)?;
+    Ok((number, value))
+}
+
 /// An operand with the operators before and after it.
 #[cycle(level)]
 #[tactic(auto, unfolding(crate::specs::ReadExpression::prefix))]
@@ -191,8 +209,7 @@ fn prefix(alloc: Global, tokens: &mut Cursor<'_>, depth: usize) -> Result<Expr, 
 {
     match prefix_of(tokens.peek()) {
         Some(operator) => {
-            let number = tokens.take()?;
-            let of = level(alloc, tokens, depth, UNARY_LEVEL)?;
+            let (number, of) = operand(alloc, tokens, depth, UNARY_LEVEL)?;
             Ok(Expr::prefix(alloc, number, operator, of)?)
         }
         None => {
@@ -216,13 +233,12 @@ fn operation(
         (read.operation depth (read.level depth) operator (plain_expr left) tokens.old) result
         tokens.new }
 {
-    let number = tokens.take()?;
-    match level(alloc, tokens, depth, level_of(operator) + 1) {
+    match operand(alloc, tokens, depth, level_of(operator) + 1) {
         Err(stop) => {
             drop(left);
             Err(stop)
         }
-        Ok(right) => Ok(Expr::binary(alloc, number, operator, left, right)?),
+        Ok((number, right)) => Ok(Expr::binary(alloc, number, operator, left, right)?),
     }
 }
 
@@ -250,6 +266,7 @@ fn climb(
         let longer = operation(alloc, tokens, depth, operator, left)?;
         left = longer;
     }
+    drop(left);
     Err(Stop::TooDeep)
 }
 
@@ -261,16 +278,13 @@ fn assigned(alloc: Global, tokens: &mut Cursor<'_>, depth: usize, left: Expr) ->
         (read.assigned depth (read.level depth) (plain_expr left) tokens.old) result tokens.new }
 {
     match assign_of(tokens.peek()) {
-        Some(operator) => {
-            let number = tokens.take()?;
-            match level(alloc, tokens, depth, 0) {
-                Err(stop) => {
-                    drop(left);
-                    Err(stop)
-                }
-                Ok(value) => Ok(Expr::assign(alloc, number, operator, left, value)?),
+        Some(operator) => match operand(alloc, tokens, depth, 0) {
+            Err(stop) => {
+                drop(left);
+                Err(stop)
             }
-        }
+            Ok((number, value)) => Ok(Expr::assign(alloc, number, operator, left, value)?),
+        },
         None => climb(alloc, tokens, depth, 0, left),
     }
 }

@@ -4,6 +4,7 @@ use Rattle.std.proofs.lemmas.Grind.{common_steps}
 use Rattle.nss_tree.specs.Reading.{plain_expr, plain_exprs}
 use Rattle.nss_parser.specs.ReadExpression as read
 use Rattle.nss_parser.proofs.ExpressionSteps.{argument_more}
+use Rattle.nss_parser.proofs.OperandLaws.{prefix_is, operation_is, assigned_is}
 use Rattle.nss_parser.proofs.Turns.{one_more, deeper}
 use Rattle.nss_symbols.specs.Symbols.{Symbol}
 use Rattle.nss_parser.proofs.expression.+level.Goals.{primary-in_default-via-in-Some+in-Fixed+in_default, primary-in_default-via-in-Some+in_default, primary-in_default-via-in_default}
@@ -42,3 +43,21 @@ unfolding read.primary
 primary-returns-in_default t c =
     ap (λ (z : Option Symbol). read.primary_by c.args.depth (read.level c.args.depth) z c.args.tokens.now) (sym c.peek.ensures.same)
     ∙ elim c.in_default.branch [ primary-in_default-via-in-Some+in-Fixed+in_default w ↦ search rules | primary-in_default-via-in-Some+in_default w ↦ search rules | primary-in_default-via-in_default w ↦ rw w.in_default.is refl ]
+
+pub prefix-returns-in_err-number-in-Some : goal.prefix-returns-in_err-number-in-Some
+prefix-returns-in_err-number-in-Some t c = rw (prefix_is c.args.depth (read.level c.args.depth) c.in-Some.operator c.args.tokens.now (ap read.prefix_of (sym c.peek.ensures.same) ∙ sym c.prefix_of.ensures ∙ c.in-Some.is)) (search rules)
+
+pub prefix-returns-in_ok-prefix-in-Some : goal.prefix-returns-in_ok-prefix-in-Some
+prefix-returns-in_ok-prefix-in-Some t c = rw (prefix_is c.args.depth (read.level c.args.depth) c.in-Some.operator c.args.tokens.now (ap read.prefix_of (sym c.peek.ensures.same) ∙ sym c.prefix_of.ensures ∙ c.in-Some.is)) (search rules)
+
+pub operation-returns-in-Err : goal.operation-returns-in-Err
+operation-returns-in-Err t c = rw (operation_is c.args.depth (read.level c.args.depth) c.args.operator (plain_expr c.args.left) c.args.tokens.now) (search rules)
+
+pub operation-returns-in_ok-binary-in-Ok : goal.operation-returns-in_ok-binary-in-Ok
+operation-returns-in_ok-binary-in-Ok t c = rw (operation_is c.args.depth (read.level c.args.depth) c.args.operator (plain_expr c.args.left) c.args.tokens.now) (search rules)
+
+pub assigned-returns-in-Err : goal.assigned-returns-in-Err
+assigned-returns-in-Err t c = rw (assigned_is c.args.depth (read.level c.args.depth) c.in-Some.operator (plain_expr c.args.left) c.args.tokens.now (ap read.assign_of (sym c.peek.ensures.same) ∙ sym c.assign_of.ensures ∙ c.in-Some.is)) (search rules)
+
+pub assigned-returns-in_ok-assign-in-Ok : goal.assigned-returns-in_ok-assign-in-Ok
+assigned-returns-in_ok-assign-in-Ok t c = rw (assigned_is c.args.depth (read.level c.args.depth) c.in-Some.operator (plain_expr c.args.left) c.args.tokens.now (ap read.assign_of (sym c.peek.ensures.same) ∙ sym c.assign_of.ensures ∙ c.in-Some.is)) (search rules)

@@ -5,7 +5,7 @@ use Rattle.nss_parser.specs.ReadExpression as read
 use Rattle.nss_parser.proofs.expression.+level.Given as goal
 
 abbrev pub decreases-after_first : goal.decreases-after_first
-decreases-after_first l = 6 * l.depth + 4
+decreases-after_first l = 6 * l.depth + 5
 
 abbrev pub decreases-after_name : goal.decreases-after_name
 decreases-after_name l = 6 * l.depth + 3
@@ -17,16 +17,19 @@ abbrev pub decreases-some_arguments : goal.decreases-some_arguments
 decreases-some_arguments l = 6 * l.depth + 1
 
 abbrev pub decreases-assigned : goal.decreases-assigned
-decreases-assigned l = 6 * l.depth + 3
+decreases-assigned l = 6 * l.depth + 4
 
 abbrev pub decreases-climb : goal.decreases-climb
-decreases-climb l = 6 * l.depth + 2
+decreases-climb l = 6 * l.depth + 3
 
 abbrev pub decreases-level : goal.decreases-level
 decreases-level l = 6 * l.depth
 
+abbrev pub decreases-operand : goal.decreases-operand
+decreases-operand l = 6 * l.depth + 1
+
 abbrev pub decreases-operation : goal.decreases-operation
-decreases-operation l = 6 * l.depth + 1
+decreases-operation l = 6 * l.depth + 2
 
 abbrev pub decreases-prefix : goal.decreases-prefix
 decreases-prefix l = 6 * l.depth + 5
