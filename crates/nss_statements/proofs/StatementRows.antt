@@ -1,5 +1,5 @@
 -- Statements in a row.
-use Rattle.std.proofs.Common.{◌≡◌, ℕ, List, [], ◌∷◌, length, take, Option, None, Some, refl, sym, ap, ◌∙◌}
+use Rattle.std.proofs.Common.{◌≡◌, ℕ, List, [], ◌∷◌, Option, None, Some, refl, ap, ◌∙◌}
 use Rattle.std.specs.Option.{option_map}
 use Rattle.nss_tree.specs.declared.constants.Constant.{Constant}
 use Rattle.nss_tree.specs.declared.constants.TypeName.{TypeName}
@@ -8,21 +8,16 @@ use Rattle.nss_tree.specs.declared.statements.Stmt.{Stmt}
 use Rattle.nss_tree.specs.Reading.{plain_expr, plain_stmt, plain_stmts}
 use Rattle.nss_tree.specs.Readings.{stmts_more, map_stmts_none, map_stmts_push}
 use Rattle.nss_tree.specs.Statements.{joined_stmts, map_stmts, more_stmts, no_stmt}
-use Rattle.nwq_value.specs.Engine.{EngineTable}
 use Rattle.nwq_value.specs.declared.value.Ty.{Ty}
 use Rattle.nwq_value.specs.declared.engine.Const.{Const}
 use Rattle.nss_typing.specs.declared.expressions.Expression.{Expression}
 use Rattle.nss_typing.specs.declared.places.Variable.{Variable}
 use Rattle.nss_typing.specs.Nodes.{fine}
 use Rattle.nss_typing.specs.Reading.{plain}
-use Rattle.nss_typing.specs.Scopes.{OnlyAdds, NamesStandFirst}
 use Rattle.nss_typing.specs.Sight.{Head, Sight}
 use Rattle.nss_typing.specs.Typed.{TypedStmts}
 use Rattle.nss_typing.specs.UnitReading.{typed_stmt, typed_stmts}
 use Rattle.nss_typing.specs.Verdicts.{after, afters, one_more_stmt, stmt_faults, stmt_verdict, stmts_faults, stmts_fine}
-use Rattle.nss_scopes.specs.declared.sight.Mark.{Mark}
-use Rattle.nss_scopes.specs.declared.sight.Sight.{Sight as Held}
-use Rattle.nss_scopes.specs.Views.{in_sight, left_by, mark_of}
 use Rattle.nss_expressions.specs.Rows.{and_one, stmts_with_rest}
 use Rattle.nss_expressions.specs.RowLaws.{RowLaws}
 

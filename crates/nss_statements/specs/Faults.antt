@@ -3,7 +3,7 @@ use Rattle.std.proofs.Common.{◌≡◌, ℕ, Bool, true, false, not, ◌&&◌, 
 use Rattle.nss_tree.specs.Statements as tree
 use Rattle.nss_typing.specs.declared.fault.FaultKind.{FaultKind}
 use Rattle.nss_typing.specs.declared.fault.FaultKind.TheVariants.{Mismatch, Cells}
-use Rattle.nss_typing.specs.Nodes.{Rows, Verdict, Fine, Wrong, row, no_row, ruled}
+use Rattle.nss_typing.specs.Nodes.{Rows, Verdict, Fine, Wrong, row, no_row, only, ruled}
 use Rattle.nss_typing.specs.Rules.{when}
 use Rattle.nss_typing.specs.Types.{is_int}
 use Rattle.nss_typing.specs.Typed.{TypedExpr, TypedStmt, TypedStmts, type_of}
@@ -21,6 +21,13 @@ by_fault (Some k) a = Wrong k
 pub ruled_when : {A : Type 0} (fits : Bool) (k : FaultKind) (a : A) → ruled k (when fits a) ≡ by_fault (fault_unless fits k) a
 ruled_when true k a = refl
 ruled_when false k a = refl
+
+-- parts that are kept where they fit, and are a mismatch elsewhere
+abbrev pub fit_rows : {A : Type 0} → A → Rows
+fit_rows a = only Mismatch
+
+abbrev pub fit_rule : {A : Type 0} → (A → Bool) → A → Option A
+fit_rule fits a = when (fits a) a
 
 -- a switch, where it is known whether its value's cell passes the limit
 abbrev pub switch_rows_by : Bool → TypedExpr × TypedStmts → Rows

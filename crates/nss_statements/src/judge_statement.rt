@@ -16,8 +16,10 @@ ghost use Rattle.nss_typing.specs.Typed.{type_of};
 ghost use Rattle.nss_typing.specs.UnitReading.{typed_names, typed_stmt, typed_stmts};
 ghost use Rattle.nss_typing.specs.Verdicts.{declaration_of};
 ghost use Rattle.nss_statements.specs.Faults.{break_rule_by, continue_rule_by, fault_unless};
+ghost use Rattle.nss_statements.specs.Faults.{fit_rows, fit_rule};
 ghost use Rattle.nss_statements.specs.Faults.{switch_rows_by, switch_rule_by};
 
+use crate::parts::two;
 use nss_expressions::note::note;
 use nss_expressions::rules::{is_int, is_void};
 use nss_tree::Stmt;
@@ -69,6 +71,32 @@ pub fn made_declaration(
     }
 }
 
+/// A condition with what it decides on, if both are typed and the condition is an int.
+fn with_condition<B: Drop>(
+    least: &mut Option<Fault>,
+    token: u32,
+    condition: Option<Expression>,
+    rest: Option<B>,
+) -> Option<(Expression, B)>
+    ensures value { result ≡ fine (asked fit_rows (fit_rule (λ p. is_int (type_of (plain p.0))))
+        (two condition rest)) }
+    ensures least { least.new ≡ kept least.old (at token
+        (asked fit_rows (fit_rule (λ p. is_int (type_of (plain p.0)))) (two condition rest))) }
+{
+    match two(condition, rest) {
+        Some((condition, rest)) => {
+            if is_int(condition.ty()) {
+                return Some((condition, rest));
+            }
+            drop(condition);
+            drop(rest);
+            note(least, FaultKind::Mismatch, token);
+            None
+        }
+        None => None,
+    }
+}
+
 /// An `if` without `else`.
 pub fn judge_if(
     alloc: Global,
@@ -84,24 +112,9 @@ pub fn judge_if(
         (asked if_rows (if_rule token)
         (two (option_map plain condition) (option_map typed_stmt then))))) }
 {
-    match (condition, then) {
-        (Some(condition), Some(then)) => {
-            if is_int(condition.ty()) {
-                return Ok(Some(Stmt::if_only(alloc, token, condition, then)?));
-            }
-            drop(condition);
-            drop(then);
-            note(least, FaultKind::Mismatch, token);
-            Ok(None)
-        }
-        (Some(condition), None) => {
-            drop(condition);
-            Ok(None)
-        }
-        (None, then) => {
-            drop(then);
-            Ok(None)
-        }
+    match with_condition(least, token, condition, then) {
+        Some((condition, then)) => Ok(Some(Stmt::if_only(alloc, token, condition, then)?)),
+        None => Ok(None),
     }
 }
 
@@ -120,24 +133,9 @@ pub fn judge_while(
         (asked if_rows (while_rule token)
         (two (option_map plain condition) (option_map typed_stmt body))))) }
 {
-    match (condition, body) {
-        (Some(condition), Some(body)) => {
-            if is_int(condition.ty()) {
-                return Ok(Some(Stmt::while_loop(alloc, token, condition, body)?));
-            }
-            drop(condition);
-            drop(body);
-            note(least, FaultKind::Mismatch, token);
-            Ok(None)
-        }
-        (Some(condition), None) => {
-            drop(condition);
-            Ok(None)
-        }
-        (None, body) => {
-            drop(body);
-            Ok(None)
-        }
+    match with_condition(least, token, condition, body) {
+        Some((condition, body)) => Ok(Some(Stmt::while_loop(alloc, token, condition, body)?)),
+        None => Ok(None),
     }
 }
 
@@ -156,24 +154,9 @@ pub fn judge_do(
         (asked do_rows (do_rule token)
         (two (option_map typed_stmt body) (option_map plain condition))))) }
 {
-    match (body, condition) {
-        (Some(body), Some(condition)) => {
-            if is_int(condition.ty()) {
-                return Ok(Some(Stmt::do_loop(alloc, token, body, condition)?));
-            }
-            drop(condition);
-            drop(body);
-            note(least, FaultKind::Mismatch, token);
-            Ok(None)
-        }
-        (Some(body), None) => {
-            drop(body);
-            Ok(None)
-        }
-        (None, condition) => {
-            drop(condition);
-            Ok(None)
-        }
+    match with_condition(least, token, condition, body) {
+        Some((condition, body)) => Ok(Some(Stmt::do_loop(alloc, token, body, condition)?)),
+        None => Ok(None),
     }
 }
 
@@ -195,32 +178,11 @@ pub fn judge_if_else(
         (three (option_map plain condition) (option_map typed_stmt then)
         (option_map typed_stmt otherwise))))) }
 {
-    match (condition, then, otherwise) {
-        (Some(condition), Some(then), Some(otherwise)) => {
-            if is_int(condition.ty()) {
-                return Ok(Some(Stmt::if_else(alloc, token, condition, then, otherwise)?));
-            }
-            drop(condition);
-            drop(then);
-            drop(otherwise);
-            note(least, FaultKind::Mismatch, token);
-            Ok(None)
+    match with_condition(least, token, condition, two(then, otherwise)) {
+        Some((condition, (then, otherwise))) => {
+            Ok(Some(Stmt::if_else(alloc, token, condition, then, otherwise)?))
         }
-        (Some(condition), Some(then), None) => {
-            drop(condition);
-            drop(then);
-            Ok(None)
-        }
-        (Some(condition), None, otherwise) => {
-            drop(condition);
-            drop(otherwise);
-            Ok(None)
-        }
-        (None, then, otherwise) => {
-            drop(then);
-            drop(otherwise);
-            Ok(None)
-        }
+        None => Ok(None),
     }
 }
 
@@ -288,34 +250,11 @@ pub fn judge_for(
         (option_map (option_map plain) condition) (option_map (option_map plain) step)
         (option_map typed_stmt body))))) }
 {
-    match (start, condition, step, body) {
-        (Some(start), Some(condition), Some(step), Some(body)) => {
+    match two(two(start, condition), two(step, body)) {
+        Some(((start, condition), (step, body))) => {
             judge_for_of(alloc, least, token, start, condition, step, body)
         }
-        (Some(start), Some(condition), Some(step), None) => {
-            drop(start);
-            drop(condition);
-            drop(step);
-            Ok(None)
-        }
-        (Some(start), Some(condition), None, body) => {
-            drop(start);
-            drop(condition);
-            drop(body);
-            Ok(None)
-        }
-        (Some(start), None, step, body) => {
-            drop(start);
-            drop(step);
-            drop(body);
-            Ok(None)
-        }
-        (None, condition, step, body) => {
-            drop(condition);
-            drop(step);
-            drop(body);
-            Ok(None)
-        }
+        None => Ok(None),
     }
 }
 
@@ -348,8 +287,8 @@ pub fn judge_switch(
         (asked (switch_rows_by crosses) (switch_rule_by crosses token)
         (two (option_map plain value) (option_map typed_stmts body)))) }
 {
-    match (value, body) {
-        (Some(value), Some(body)) => match switch_fault(is_int(value.ty()), crosses) {
+    match two(value, body) {
+        Some((value, body)) => match switch_fault(is_int(value.ty()), crosses) {
             None => Some(Stmt::switch(token, value, body)),
             Some(kind) => {
                 drop(value);
@@ -358,14 +297,7 @@ pub fn judge_switch(
                 None
             }
         },
-        (Some(value), None) => {
-            drop(value);
-            None
-        }
-        (None, body) => {
-            drop(body);
-            None
-        }
+        None => None,
     }
 }
 

@@ -1,0 +1,31 @@
+use Rattle.std.proofs.Common.{Some, ap, refl}
+use Rattle.nss_tree.specs.Statements as tree
+use Rattle.nss_tree.specs.Statements.{map_stmt}
+use Rattle.nss_typing.specs.Nodes.{two}
+use Rattle.nss_typing.specs.Reading.{plain}
+use Rattle.nss_typing.specs.Rules.{if_rows, if_rule}
+use Rattle.nss_typing.specs.Types.{is_int}
+use Rattle.nss_typing.specs.Typed.{type_of}
+use Rattle.nss_typing.specs.UnitReading.{typed_stmt}
+use Rattle.nss_statements.proofs.Judged.{made_least, made_value, two_read}
+use Rattle.nss_statements.proofs.judge_statement.judge_if.Goals as goal
+
+pub returns-in_ok-if_only-in-Some : goal.returns-in_ok-if_only-in-Some
+returns-in_ok-if_only-in-Some c =
+    let n = c.args.token in
+    let o = two c.args.condition c.args.then in
+    let read = two_read plain typed_stmt c.args.condition c.args.then in
+    record {
+      value = made_value (λ p. (plain p.0, typed_stmt p.1)) if_rows (if_rule n) (λ p. is_int (type_of (plain p.0))) (λ p. tree.if_only n (plain p.0) (typed_stmt p.1)) (λ p. refl) (λ p. refl) o _ _ _ read c.in-Some.ensures.value (ap Some (ap (map_stmt plain) c.in_ok-if_only-in-Some.ensures.made));
+      least = made_least (λ p. (plain p.0, typed_stmt p.1)) if_rows (if_rule n) (λ p. is_int (type_of (plain p.0))) (λ p. tree.if_only n (plain p.0) (typed_stmt p.1)) (λ p. refl) (λ p. refl) n c.args.least.now _ o _ read c.in-Some.ensures.least;
+    }
+
+pub returns-in-None : goal.returns-in-None
+returns-in-None c =
+    let n = c.args.token in
+    let o = two c.args.condition c.args.then in
+    let read = two_read plain typed_stmt c.args.condition c.args.then in
+    record {
+      value = made_value (λ p. (plain p.0, typed_stmt p.1)) if_rows (if_rule n) (λ p. is_int (type_of (plain p.0))) (λ p. tree.if_only n (plain p.0) (typed_stmt p.1)) (λ p. refl) (λ p. refl) o _ _ _ read c.in-None.ensures.value refl;
+      least = made_least (λ p. (plain p.0, typed_stmt p.1)) if_rows (if_rule n) (λ p. is_int (type_of (plain p.0))) (λ p. tree.if_only n (plain p.0) (typed_stmt p.1)) (λ p. refl) (λ p. refl) n c.args.least.now _ o _ read c.in-None.ensures.least;
+    }
