@@ -1,14 +1,14 @@
--- An `if` and a `do` read their last parts as code does.
+-- Statements and labels read their parts as code does.
 use Rattle.std.proofs.Common.{◌≡◌, ℕ, Bool, true, false, List, None, Some, Option, refl, sym, ap, ◌∙◌}
 use Rattle.nss_tree.specs.Source.{SourceStmt}
 use Rattle.nss_tree.specs.Expressions.{PlainExpr}
 use Rattle.nss_tree.specs.Statements as stmt
 use Rattle.nss_symbols.specs.declared.terminal.Terminal.TheVariants as terminal
 use Rattle.nss_symbols.specs.Symbols.{Numbered}
-use Rattle.nss_symbols.specs.Outcome.{Outcome, Got, Stuck, Deep, Parser, and_then, ◌>>=◌, pure, branch, sees, take, expect}
+use Rattle.nss_symbols.specs.Outcome.{Outcome, Got, Stuck, Deep, Parser, and_then, ◌>>=◌, pure, branch, choice, is_terminal, sees, take, expect, first}
 use Rattle.nss_symbols.specs.declared.terminal.Terminal.{Terminal}
 use Rattle.nss_parser.specs.declared.statement.ForHead.{ForHead}
-use Rattle.nss_parser.specs.ReadStatement.{condition, optional, after_then, if_statement, do_statement, for_statement, switch_body, switch_statement}
+use Rattle.nss_parser.specs.ReadStatement.{condition, optional, declaration, case_label, default_label, type_begins, labelled, entry, after_then, if_statement, do_statement, for_statement, switch_body, switch_statement}
 use Rattle.nss_parser.specs.ReadParts.{else_part, if_of, if_rest, do_end, do_rest, for_part, for_head, for_rest}
 
 module _ (n : ℕ) (x : PlainExpr) (s : SourceStmt) where
@@ -113,3 +113,14 @@ pub switch_is : (d : ℕ) (statement : Parser SourceStmt) (i : List Numbered)
 unfolding switch_statement
 switch_is d statement i =
     same_after (take i) _ _ (λ n r. same_after (condition d r) _ _ (λ x r2. sym (regroup (expect terminal.OpenBrace r2) _ _)))
+
+-- with labels, what is no declaration and no `case`
+pub label_is : (d : ℕ) (statement : Parser SourceStmt) (labels default : Bool) (i : List Numbered)
+    → labels ≡ true → type_begins (first i) ≡ false → sees terminal.Case i ≡ false → sees terminal.Default i ≡ default
+    → entry d statement labels i ≡ branch default default_label statement i
+unfolding entry labelled
+label_is d statement labels default i some none other seen =
+    ap (λ (z : Bool). branch z (declaration d) (branch labels (labelled d statement) statement) i) none
+    ∙ ap (λ (z : Bool). branch z (labelled d statement) statement i) some
+    ∙ ap (λ (z : Bool). branch z case_label (choice (is_terminal terminal.Default) default_label statement) i) other
+    ∙ ap (λ (z : Bool). branch z default_label statement i) seen

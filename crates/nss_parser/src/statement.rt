@@ -150,33 +150,21 @@ fn push_stmt(all: &mut Items<Stmt>, next: Stmt) -> Result<(), NoMemory>
     all.push(next)
 }
 
-/// A label, or a statement.
-#[cycle(statement)]
-#[tactic(auto, unfolding(crate::specs::ReadStatement::labelled))]
-fn labelled(alloc: Global, tokens: &mut Cursor<'_>, depth: usize) -> Result<Stmt, Stop>
-    ensures { Reads plain_stmt (read.labelled depth (read.statement depth) tokens.old) result
-        tokens.new }
-{
-    if tokens.sees(Terminal::Case) {
-        case_label(alloc, tokens)
-    } else if tokens.sees(Terminal::Default) {
-        default_label(tokens)
-    } else {
-        statement(alloc, tokens, depth)
-    }
-}
-
 /// What stands in a block, or with labels in the body of a switch.
 #[cycle(statement)]
-#[tactic(auto, unfolding(crate::specs::ReadStatement::entry))]
+#[tactic(auto, unfolding(crate::specs::ReadStatement::entry, crate::specs::ReadStatement::labelled))]
 fn entry(alloc: Global, tokens: &mut Cursor<'_>, depth: usize, labels: bool) -> Result<Stmt, Stop>
     ensures { Reads plain_stmt (read.entry depth (read.statement depth) labels tokens.old) result
         tokens.new }
 {
     if begins_type(tokens.peek()) {
         declaration(alloc, tokens, depth)
-    } else if labels {
-        labelled(alloc, tokens, depth)
+    } else if !labels {
+        statement(alloc, tokens, depth)
+    } else if tokens.sees(Terminal::Case) {
+        case_label(alloc, tokens)
+    } else if tokens.sees(Terminal::Default) {
+        default_label(tokens)
     } else {
         statement(alloc, tokens, depth)
     }

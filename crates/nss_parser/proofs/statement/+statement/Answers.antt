@@ -1,11 +1,11 @@
-use Rattle.std.proofs.Common.{rules, arith, ◌+◌, ◌-◌, sym, ap, ◌∙◌}
+use Rattle.std.proofs.Common.{rules, arith, ◌+◌, ◌-◌, true, false, sym, ap, ◌∙◌}
 use Rattle.std.proofs.lemmas.Grind.{common_steps}
 use Rattle.nss_tree.specs.Source.{SourceStmts}
 use Rattle.nss_tree.specs.Reading.{plain_expr, plain_stmt, plain_stmts}
 use Rattle.nss_parser.specs.ReadStatement as read
 use Rattle.nss_parser.specs.ReadParts.{plain_head}
 use Rattle.nss_parser.proofs.LoopTurns.{entry_more}
-use Rattle.nss_parser.proofs.PartLaws.{if_is, do_is, for_after, for_is}
+use Rattle.nss_parser.proofs.PartLaws.{if_is, do_is, for_after, for_is, label_is}
 use Rattle.nss_parser.proofs.Turns.{one_more, deeper}
 use Rattle.nss_parser.proofs.statement.+statement.Goals as goal
 
@@ -45,3 +45,13 @@ for_statement-returns-in_err-head t c = rw (for_is c.args.depth (read.statement 
 
 pub for_statement-returns-in_err-number : goal.for_statement-returns-in_err-number
 for_statement-returns-in_err-number t c = rw (for_is c.args.depth (read.statement c.args.depth) c.args.tokens.now) (search rules)
+
+pub entry-returns-then-sees-2 : goal.entry-returns-then-sees-2
+entry-returns-then-sees-2 t c =
+    let none = ap read.type_begins (sym c.peek.ensures.same) ∙ sym c.begins_type.ensures ∙ c.if-begins_type.false in
+    rw (label_is c.args.depth (read.statement c.args.depth) c.args.labels true c.args.tokens.now c.if-not-labels.false none (sym c.sees.ensures.next ∙ c.if-sees.false) (sym c.sees-else-sees.ensures.next ∙ c.if-sees-2.true)) c.default_label.ensures
+
+pub entry-returns-else-sees-2 : goal.entry-returns-else-sees-2
+entry-returns-else-sees-2 t c =
+    let none = ap read.type_begins (sym c.peek.ensures.same) ∙ sym c.begins_type.ensures ∙ c.if-begins_type.false in
+    rw (label_is c.args.depth (read.statement c.args.depth) c.args.labels false c.args.tokens.now c.if-not-labels.false none (sym c.sees.ensures.next ∙ c.if-sees.false) (sym c.sees-else-sees.ensures.next ∙ c.if-sees-2.false)) c.statement-else-sees-2.ensures

@@ -25,9 +25,6 @@ decreases-for_statement l = 7 * l.depth + 1
 abbrev pub decreases-if_statement : goal.decreases-if_statement
 decreases-if_statement l = 7 * l.depth + 3
 
-abbrev pub decreases-labelled : goal.decreases-labelled
-decreases-labelled l = 7 * l.depth + 1
-
 abbrev pub decreases-some_statement : goal.decreases-some_statement
 decreases-some_statement l = 7 * l.depth + 6
 
