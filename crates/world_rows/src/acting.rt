@@ -8,6 +8,7 @@ ghost use Rattle.engine_rows.specs.Rows.{delayed};
 ghost use Rattle.engine_rows.specs.World.{count, queue_of};
 
 use crate::parts::Parts;
+use crate::things::{append, set_busy};
 use action_queue::Item;
 use delay_agenda::Kind;
 use engine_rows::at_least_zero;
@@ -72,7 +73,7 @@ impl<X: Drop> Parts<X> {
     {
         if !self.queue(o).is_busy() {
             let now = self.clock();
-            self.set_busy(o, true);
+            set_busy(&mut self.things, o, true);
             self.post(now, Kind::Turn { object: o });
         }
     }
@@ -91,7 +92,7 @@ impl<X: Drop> Parts<X> {
             drop(item);
             return Ok(());
         }
-        self.append(o, item)?;
+        append(&mut self.things, o, item)?;
         self.wake(o);
         Ok(())
     }
@@ -122,7 +123,7 @@ impl<X: Drop> Parts<X> {
         ensures posts { self.old.posts ≤ self.new.posts }
     {
         if self.queue(o).is_busy() && self.cancel_turn(o) {
-            self.set_busy(o, false);
+            set_busy(&mut self.things, o, false);
         }
     }
 
@@ -139,7 +140,7 @@ impl<X: Drop> Parts<X> {
             return;
         }
         self.clear(o);
-        if self.version() == 2 {
+        if self.version == 2 {
             self.rest(o);
         }
     }

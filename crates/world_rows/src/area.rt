@@ -18,7 +18,7 @@ impl<X: Drop> Parts<X> {
             ≡ read o (object self.now.world.area o).tag [] self.now.world }
     {
         if self.is_valid(o) {
-            self.area().tag(o)
+            self.area.tag(o)
         } else {
             &[]
         }
@@ -33,7 +33,7 @@ impl<X: Drop> Parts<X> {
     {
         let o = object_at(args, 0);
         if self.is_valid(o) {
-            self.area().get_int(o, text_at(args, 1))
+            self.area.get_int(o, text_at(args, 1))
         } else {
             0
         }
@@ -48,7 +48,7 @@ impl<X: Drop> Parts<X> {
     {
         let o = object_at(args, 0);
         if self.is_valid(o) {
-            self.area().get_text(o, text_at(args, 1))
+            self.area.get_text(o, text_at(args, 1))
         } else {
             &[]
         }
@@ -63,7 +63,7 @@ impl<X: Drop> Parts<X> {
     {
         let o = object_at(args, 0);
         if self.is_valid(o) {
-            self.set_int(o, text_at(args, 1), int_at(args, 2))
+            self.area.set_int(o, text_at(args, 1), int_at(args, 2))
         } else {
             Ok(())
         }
@@ -78,7 +78,7 @@ impl<X: Drop> Parts<X> {
     {
         let o = object_at(args, 0);
         if self.is_valid(o) {
-            self.set_text(o, text_at(args, 1), text_at(args, 2))
+            self.area.set_text(o, text_at(args, 1), text_at(args, 2))
         } else {
             Ok(())
         }
@@ -92,7 +92,7 @@ impl<X: Drop> Parts<X> {
     {
         let o = object_at(args, 0);
         if self.is_valid(o) {
-            self.delete_int(o, text_at(args, 1));
+            self.area.delete_int(o, text_at(args, 1));
         }
     }
 
@@ -104,7 +104,7 @@ impl<X: Drop> Parts<X> {
     {
         let o = object_at(args, 0);
         if self.is_valid(o) {
-            self.delete_text(o, text_at(args, 1));
+            self.area.delete_text(o, text_at(args, 1));
         }
     }
 }

@@ -1,12 +1,13 @@
 //! Effects that stand on objects.
 ghost use Rattle.std.specs.Prelude.{◌≡◌, ◌<◌, ◌≤◌, ◌+◌, ◌^◌, length, position, OnOk, OnErr, pos};
-ghost use Rattle.engine_rows.specs.Changes.{is_effect, is_numbered};
+ghost use Rattle.engine_rows.specs.Changes.{is_effect, is_numbered, with_effect};
 ghost use Rattle.engine_rows.specs.Kept.{IsWorld};
 ghost use Rattle.engine_rows.specs.Rows.{applied, applied_to, removed};
 ghost use Rattle.engine_rows.specs.Turns.{unapply};
 ghost use Rattle.engine_rows.specs.World.{count, effects_of};
 
 use crate::parts::Parts;
+use crate::things::add_effect;
 use delay_agenda::Kind;
 use engine_rows::{Stood, Told};
 use nwq_value::{Effect, NoMemory};
@@ -33,6 +34,18 @@ fn place_of_number(standing: &[Stood], number: u64) -> Option<usize>
 }
 
 impl<X: Drop> Parts<X> {
+    /// One effect more on an object, a copy of this one.
+    fn put_effect(&mut self, o: u32, number: Option<u64>, effect: &Effect) -> Result<(), NoMemory>
+        requires first { 1 ≤ o }
+        requires within { o ≤ length self.old.world.things }
+        ensures ok { OnOk result (self.new
+            ≡ record self.old { world = with_effect o number effect.now self.old.world }) }
+        ensures err { OnErr result (self.new ≡ self.old) }
+    {
+        let effect = effect.copy(self.alloc())?;
+        add_effect(&mut self.things, o, Stood { number, effect })
+    }
+
     /// The effect stands on the object until the agenda ends it.
     fn apply_for_a_time(&mut self, o: u32, effect: Effect, ms: i32) -> Result<(), NoMemory>
         requires first { 1 ≤ o }
@@ -45,13 +58,19 @@ impl<X: Drop> Parts<X> {
         ensures err { OnErr result (self.new.world ≡ self.old.world) }
         ensures posts { self.old.posts ≤ self.new.posts + 1 }
     {
-        let standing = effect.copy(self.alloc())?;
-        let number = self.next_number();
+        let number = Some(self.next_number());
         let due = self.later(ms);
-        self.add_effect(o, Some(number), standing)?;
-        self.tell(o, Told::Apply(1, effect));
-        self.post(due, Kind::Unapply { object: o });
-        Ok(())
+        match self.put_effect(o, number, &effect) {
+            Err(NoMemory) => {
+                drop(effect);
+                Err(NoMemory)
+            }
+            Ok(()) => {
+                self.tell(o, Told::Apply(1, effect));
+                self.post(due, Kind::Unapply { object: o });
+                Ok(())
+            }
+        }
     }
 
     /// The effect stands on the object without end.
@@ -64,10 +83,16 @@ impl<X: Drop> Parts<X> {
         ensures err { OnErr result (self.new.world ≡ self.old.world) }
         ensures posts { self.old.posts ≤ self.new.posts }
     {
-        let standing = effect.copy(self.alloc())?;
-        self.add_effect(o, None, standing)?;
-        self.tell(o, Told::Apply(2, effect));
-        Ok(())
+        match self.put_effect(o, None, &effect) {
+            Err(NoMemory) => {
+                drop(effect);
+                Err(NoMemory)
+            }
+            Ok(()) => {
+                self.tell(o, Told::Apply(2, effect));
+                Ok(())
+            }
+        }
     }
 
     /// The effect is applied to an object, with this duration.

@@ -25,8 +25,8 @@ impl<X: Drop> Parts<X> {
         requires within { o ≤ count self.now.world }
         ensures name { result.now ≡ event_script (object self.now.world.area o).scripts }
     {
-        let first = self.area().script_of(o, b"ScriptUserDefine".as_slice());
-        let second = self.area().script_of(o, b"OnUserDefined".as_slice());
+        let first = self.area.script_of(o, b"ScriptUserDefine".as_slice());
+        let second = self.area.script_of(o, b"OnUserDefined".as_slice());
         name_or(first, second)
     }
 
@@ -38,7 +38,7 @@ impl<X: Drop> Parts<X> {
         ensures name { IfOk result
             (λ text. text ≡ event_script (object self.now.world.area o).scripts) }
     {
-        self.area().keeps();
+        self.area.keeps();
         Text::of(self.alloc(), self.event_script(o))
     }
 

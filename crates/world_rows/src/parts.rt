@@ -1,26 +1,22 @@
 //! The parts of a world, and the small changes that everything else is made of.
-ghost use Rattle.std.specs.Prelude.{◌≡◌, ◌<◌, ◌≤◌, ◌+◌, ◌-◌, ◌^◌, ◌↔◌, ◌∷◌, [], drop, filter};
-ghost use Rattle.std.specs.Prelude.{length};
-ghost use Rattle.std.specs.Prelude.{not, pos, slice_get, Some, IfOk, OnOk, OnErr, IsTrue};
+ghost use Rattle.std.specs.Prelude.{◌≡◌, ◌<◌, ◌≤◌, ◌+◌, ◌-◌, ◌^◌, ◌↔◌, [], drop, length, pos};
+ghost use Rattle.std.specs.Prelude.{slice_get, Some, IfOk, OnOk, IsTrue};
 ghost use Rattle.std.specs.List.{remove};
-ghost use Rattle.local_variables.specs.Variables.{IntVar, TextVar, is_int, is_text, put};
 ghost use Rattle.delay_agenda.specs.Order.{first_due};
 ghost use Rattle.delay_agenda.specs.Waiting.{turn_count};
-ghost use Rattle.engine_rows.specs.Changes.{told, post, with_busy, with_actions, with_action};
-ghost use Rattle.engine_rows.specs.Changes.{with_effect, with_effects, with_variables};
-ghost use Rattle.engine_rows.specs.Changes.{without_turn};
+ghost use Rattle.engine_rows.specs.Changes.{told, post, with_actions, with_effects, without_turn};
 ghost use Rattle.engine_rows.specs.Turns.{drained, still, with_entries};
 ghost use Rattle.engine_rows.specs.World.{count, effects_of, is_valid, queue_of};
 ghost use Rattle.world_rows.specs.Saved.{put_together};
 
 use crate::saved::WorldParts;
-use crate::things::{add_effect, append, clear, of_object, set_busy, take_effect, take_head};
+use crate::things::{clear, of_object, take_effect, take_head};
 use crate::turns::idle_objects;
 use action_queue::{Item, Queue};
 use area_tree::Area;
 use delay_agenda::{Agenda, Entry, Kind};
 use engine_rows::{Line, Stood, Things, Told};
-use nwq_value::{Effect, Items, NoMemory, Randoms};
+use nwq_value::{Items, NoMemory, Randoms};
 use std::alloc::Global;
 use std::collections::VecDeque;
 use std::marker::Model;
@@ -31,14 +27,14 @@ use std::marker::Model;
 /// takes all of its room before it changes anything.
 pub struct Parts<X> {
     alloc: Global,
-    clock: u64,
-    area: Area,
-    things: Vec<Things<X>>,
+    pub(crate) clock: u64,
+    pub(crate) area: Area,
+    pub(crate) things: Vec<Things<X>>,
     agenda: Agenda<X>,
     trace: Vec<Line>,
-    random: VecDeque<u32>,
-    user: i32,
-    version: u8,
+    pub(crate) random: VecDeque<u32>,
+    pub(crate) user: i32,
+    pub(crate) version: u8,
 }
 
 impl<X> Model for Parts<X> {
@@ -228,15 +224,6 @@ impl<X: Drop> Parts<X> {
         self.agenda.post(due, kind);
     }
 
-    /// Sets an object's mark; its actions stay.
-    pub(crate) fn set_busy(&mut self, o: u32, busy: bool)
-        requires first { 1 ≤ o }
-        requires within { o ≤ length self.old.world.things }
-        ensures mark { self.new ≡ record self.old { world = with_busy o busy self.old.world } }
-    {
-        set_busy(&mut self.things, o, busy);
-    }
-
     /// Drops an object's actions; its mark stays.
     pub(crate) fn clear(&mut self, o: u32)
         requires first { 1 ≤ o }
@@ -244,17 +231,6 @@ impl<X: Drop> Parts<X> {
         ensures empty { self.new ≡ record self.old { world = with_actions o [] self.old.world } }
     {
         clear(&mut self.things, o);
-    }
-
-    /// Puts an action last in an object's queue. After `NoMemory` it is dropped.
-    pub(crate) fn append(&mut self, o: u32, item: Item<X>) -> Result<(), NoMemory>
-        requires first { 1 ≤ o }
-        requires within { o ≤ length self.old.world.things }
-        ensures ok { OnOk result
-            (self.new ≡ record self.old { world = with_action o item self.old.world }) }
-        ensures err { OnErr result (self.new ≡ self.old) }
-    {
-        append(&mut self.things, o, item)
     }
 
     /// Takes the first action off an object's queue.
@@ -267,22 +243,6 @@ impl<X: Drop> Parts<X> {
         } }
     {
         take_head(&mut self.things, o)
-    }
-
-    /// Puts an effect last on an object. After `NoMemory` it is dropped.
-    pub(crate) fn add_effect(
-        &mut self,
-        o: u32,
-        number: Option<u64>,
-        effect: Effect,
-    ) -> Result<(), NoMemory>
-        requires first { 1 ≤ o }
-        requires within { o ≤ length self.old.world.things }
-        ensures ok { OnOk result
-            (self.new ≡ record self.old { world = with_effect o number effect self.old.world }) }
-        ensures err { OnErr result (self.new ≡ self.old) }
-    {
-        add_effect(&mut self.things, o, Stood { number, effect })
     }
 
     /// Takes the effect at a place off an object.
@@ -361,82 +321,8 @@ impl<X: Drop> Parts<X> {
         self.clock
     }
 
-    pub(crate) fn user(&self) -> i32
-        ensures user { result ≡ self.now.world.user }
-    {
-        self.user
-    }
-
-    pub(crate) fn version(&self) -> u8
-        ensures version { result ≡ self.now.world.version }
-    {
-        self.version
-    }
-
     pub fn alloc(&self) -> Global {
         self.alloc
-    }
-
-    pub(crate) fn area(&self) -> &Area
-        ensures area { result.now ≡ self.now.world.area }
-    {
-        &self.area
-    }
-
-    /// Gives an int variable of an object a value.
-    pub(crate) fn set_int(&mut self, o: u32, name: &[u8], n: i32) -> Result<(), NoMemory>
-        requires first { 1 ≤ o }
-        requires within { o ≤ count self.old.world }
-        ensures ok { OnOk result (self.new ≡ record self.old {
-          world = with_variables o (put (IntVar name.now n)) self.old.world;
-        }) }
-        ensures err { OnErr result (self.new ≡ self.old) }
-    {
-        self.area.set_int(o, name, n)
-    }
-
-    /// Gives a string variable of an object a value.
-    pub(crate) fn set_text(&mut self, o: u32, name: &[u8], text: &[u8]) -> Result<(), NoMemory>
-        requires first { 1 ≤ o }
-        requires within { o ≤ count self.old.world }
-        ensures ok { OnOk result (self.new ≡ record self.old {
-          world = with_variables o (put (TextVar name.now text.now)) self.old.world;
-        }) }
-        ensures err { OnErr result (self.new ≡ self.old) }
-    {
-        self.area.set_text(o, name, text)
-    }
-
-    /// Takes an int variable of an object out.
-    pub(crate) fn delete_int(&mut self, o: u32, name: &[u8])
-        requires first { 1 ≤ o }
-        requires within { o ≤ count self.old.world }
-        ensures gone { self.new ≡ record self.old {
-          world = with_variables o (filter (λ v. not (is_int name.now v))) self.old.world;
-        } }
-    {
-        self.area.delete_int(o, name);
-    }
-
-    /// Takes a string variable of an object out.
-    pub(crate) fn delete_text(&mut self, o: u32, name: &[u8])
-        requires first { 1 ≤ o }
-        requires within { o ≤ count self.old.world }
-        ensures gone { self.new ≡ record self.old {
-          world = with_variables o (filter (λ v. not (is_text name.now v))) self.old.world;
-        } }
-    {
-        self.area.delete_text(o, name);
-    }
-
-    /// Takes the next of the random numbers; `None` exactly where they are used up.
-    pub(crate) fn draw(&mut self) -> Option<u32>
-        ensures drawn { result ≡ slice_get self.old.world.random 0 }
-        ensures left { self.new ≡ record self.old {
-          world = record self.old.world { random = drop 1 self.old.world.random };
-        } }
-    {
-        self.random.pop_front()
     }
 
     /// Takes the first entry that waits off the agenda; all else stays.
@@ -447,16 +333,6 @@ impl<X: Drop> Parts<X> {
         ensures posts { self.old.posts ≤ self.new.posts }
     {
         self.agenda.take()
-    }
-
-    /// Sets the clock, and the user number of the entry that runs.
-    pub(crate) fn set_now(&mut self, clock: u64, user: i32)
-        ensures now { self.new ≡ record self.old {
-          world = record self.old.world { clock = clock; user = user };
-        } }
-    {
-        self.clock = clock;
-        self.user = user;
     }
 
     /// The lines that are kept.

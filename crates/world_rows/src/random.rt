@@ -18,7 +18,7 @@ impl<X: Drop> Parts<X> {
         if most == 0 {
             return 0;
         }
-        match self.draw() {
+        match self.random.pop_front() {
             None => 0,
             Some(number) => (u64::from(number) % most) as i32,
         }

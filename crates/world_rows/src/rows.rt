@@ -179,7 +179,7 @@ impl<X: Drop> Parts<X> {
         let alloc = self.alloc();
         match number {
             14 => {
-                let object = self.area().by_tag(text_at(args, 0), int_at(args, 1));
+                let object = self.area.by_tag(text_at(args, 0), int_at(args, 1));
                 Ok(Some(Value::Object(object)))
             }
             15 => string(Text::of(alloc, self.tag(object_at(args, 0)))),
@@ -237,7 +237,7 @@ impl<X: Drop> Parts<X> {
             }
             40 => {
                 drop(args);
-                Ok(Some(Value::Int(self.user())))
+                Ok(Some(Value::Int(self.user)))
             }
             _ => {
                 drop(args);

@@ -6,6 +6,7 @@ ghost use Rattle.engine_rows.specs.Turns.{begin, idle, turn, turn_done, user_num
 ghost use Rattle.world_rows.specs.Begun.{IsBegunAs};
 
 use crate::parts::Parts;
+use crate::things::set_busy;
 use action_queue::{Item, Queue};
 use delay_agenda::{Entry, Kind};
 use engine_rows::{Things, Told};
@@ -47,7 +48,8 @@ impl<X: Drop> Parts<X> {
     {
         let entry = self.take_entry();
         if let Some(begun) = &entry {
-            self.set_now(begun.due, user_number(&begun.kind));
+            self.clock = begun.due;
+            self.user = user_number(&begun.kind);
         }
         entry
     }
@@ -81,7 +83,7 @@ impl<X: Drop> Parts<X> {
         ensures posts { self.old.posts ≤ self.new.posts + 1 }
     {
         match self.queue(o).at(0) {
-            None => self.set_busy(o, false),
+            None => set_busy(&mut self.things, o, false),
             Some(_) => {
                 let now = self.clock();
                 self.post(now, Kind::Turn { object: o });
@@ -104,7 +106,7 @@ impl<X: Drop> Parts<X> {
     {
         match self.take_head(o) {
             None => {
-                self.set_busy(o, false);
+                set_busy(&mut self.things, o, false);
                 None
             }
             Some(Item::Do(action)) => Some(action),

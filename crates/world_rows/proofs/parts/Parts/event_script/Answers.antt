@@ -1,4 +1,4 @@
-use Rattle.std.proofs.Common.{◌∙◌, ap, List, ℕ}
+use Rattle.std.proofs.Common.{◌≡◌, ◌∙◌, ap, List, ℕ, rules}
 use Rattle.std.specs.Prelude.{codes}
 use Rattle.area_objects.specs.Area.{PlainArea, object, script_named}
 use Rattle.engine_rows.specs.Rows.{name_or}
@@ -7,8 +7,9 @@ use Rattle.world_rows.proofs.parts.Parts.event_script.Goals as goal
 pub returns : goal.returns
 returns g c =
     let named : List ℕ → PlainArea → List ℕ = λ label area. script_named label (object area c.args.o).scripts in
-    let first = c.script_of-first.ensures.name ∙ (ap (λ (label : List ℕ). named label c.area.result.now) c.as_slice.ensures ∙ ap (named (codes "ScriptUserDefine")) c.area.ensures.area) in
-    let second = c.script_of-second.ensures.name ∙ (ap (λ (label : List ℕ). named label c.area-2.result.now) c.as_slice-2.ensures ∙ ap (named (codes "OnUserDefined")) c.area-2.ensures.area) in
+    let here : c.self.inside.area ≡ c.args.self.now.world.area = search rules in
+    let first = c.script_of-first.ensures.name ∙ (ap (λ (label : List ℕ). named label c.self.inside.area) c.as_slice.ensures ∙ ap (named (codes "ScriptUserDefine")) here) in
+    let second = c.script_of-second.ensures.name ∙ (ap (λ (label : List ℕ). named label c.self.inside.area) c.as_slice-2.ensures ∙ ap (named (codes "OnUserDefined")) here) in
     record {
       name =
           c.name_or.ensures.name
