@@ -95,34 +95,8 @@ impl<X: Drop> Parts<X> {
         }
     }
 
-    /// The effect is applied to an object, with this duration.
+    /// The effect is applied to the target, where there is such an object, with this duration.
     #[tactic(auto, using(crate::proofs::EffectLemmas::other_duration))]
-    fn apply(&mut self, duration: i32, o: u32, effect: Effect, ms: i32) -> Result<(), NoMemory>
-        requires first { 1 ≤ o }
-        requires within { o ≤ length self.old.world.things }
-        requires room { 1 ≤ self.old.posts }
-        requires line { 1 ≤ self.old.lines }
-        requires few { self.old.world.agenda.next < 2 ^ 63 }
-        requires early { self.old.world.clock < 2 ^ 62 }
-        ensures ok { OnOk result (self.new.world ≡ applied duration o effect ms self.old.world) }
-        ensures err { OnErr result (self.new.world ≡ self.old.world) }
-        ensures posts { self.old.posts ≤ self.new.posts + 1 }
-    {
-        match duration {
-            0 => {
-                self.tell(o, Told::Apply(0, effect));
-                Ok(())
-            }
-            1 => self.apply_for_a_time(o, effect, ms),
-            2 => self.apply_for_good(o, effect),
-            _ => {
-                drop(effect);
-                Ok(())
-            }
-        }
-    }
-
-    /// The effect is applied to the target, where there is such an object.
     pub(crate) fn apply_to(
         &mut self,
         duration: i32,
@@ -139,44 +113,43 @@ impl<X: Drop> Parts<X> {
         ensures err { OnErr result (self.new.world ≡ self.old.world) }
         ensures posts { self.old.posts ≤ self.new.posts + 1 }
     {
-        if self.is_valid(o) {
-            self.apply(duration, o, effect, ms)
-        } else {
+        if !self.is_valid(o) {
             drop(effect);
-            Ok(())
+            return Ok(());
         }
-    }
-
-    /// The first effect of an object that is equal to this one goes, where there is one.
-    #[tactic(auto, using(crate::proofs::EffectLemmas::removed_at, crate::proofs::EffectLemmas::none_removed, crate::proofs::EffectLemmas::place_inside))]
-    fn remove_standing(&mut self, o: u32, effect: Effect)
-        requires first { 1 ≤ o }
-        requires within { o ≤ length self.old.world.things }
-        requires line { 1 ≤ self.old.lines }
-        ensures removed { self.new.world ≡ removed o effect self.old.world }
-        ensures posts { self.new.posts ≡ self.old.posts }
-    {
-        match place_of_equal(self.effects(o), &effect) {
-            None => drop(effect),
-            Some(at) => {
-                drop(self.take_effect(o, at));
-                self.tell(o, Told::Remove(effect));
+        match duration {
+            0 => {
+                self.tell(o, Told::Apply(0, effect));
+                Ok(())
+            }
+            1 => self.apply_for_a_time(o, effect, ms),
+            2 => self.apply_for_good(o, effect),
+            _ => {
+                drop(effect);
+                Ok(())
             }
         }
     }
 
-    /// The same of any number, also one without an object.
-    #[tactic(auto, using(crate::proofs::EffectLemmas::none_without_object))]
+    /// The first effect of an object that is equal to this one goes, where there is one. A number
+    /// without an object has none.
+    #[tactic(auto, using(crate::proofs::EffectLemmas::removed_at, crate::proofs::EffectLemmas::none_removed, crate::proofs::EffectLemmas::place_inside, crate::proofs::EffectLemmas::none_without_object))]
     pub(crate) fn remove_effect(&mut self, o: u32, effect: Effect)
         requires world { IsWorld self.old.world }
         requires line { 1 ≤ self.old.lines }
         ensures removed { self.new.world ≡ removed o effect self.old.world }
         ensures posts { self.new.posts ≡ self.old.posts }
     {
-        if self.is_valid(o) {
-            self.remove_standing(o, effect);
-        } else {
+        if !self.is_valid(o) {
             drop(effect);
+            return;
+        }
+        match place_of_equal(self.effects(o), &effect) {
+            None => drop(effect),
+            Some(at) => {
+                drop(self.take_effect(o, at));
+                self.tell(o, Told::Remove(effect));
+            }
         }
     }
 

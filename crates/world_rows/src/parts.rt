@@ -139,40 +139,50 @@ impl<X: Drop> Parts<X> {
         }
     }
 
-    /// The area, and what is saved beside it. After `NoMemory` all is dropped.
-    pub fn into_parts(self) -> Result<(Area, WorldParts<X>), NoMemory>
-        ensures parts { IfOk result (λ both. put_together both.0 both.1
-            ≡ record self.world { trace = []; user = pos 0 }) }
+    /// The area, and what is saved beside it, with these random numbers; takes no memory.
+    fn apart(self, random: Randoms) -> (Area, WorldParts<X>)
+        requires same { random ≡ self.world.random }
+        ensures parts { put_together result.0 result.1
+            ≡ record self.world { trace = []; user = pos 0 } }
     {
         let Parts {
-            alloc,
+            alloc: _,
             clock,
             area,
             things,
             agenda,
             trace,
-            mut random,
+            random: old,
             user: _,
             version,
         } = self;
         drop(trace);
-        match Randoms::of_slice(alloc, random.make_contiguous()) {
+        drop(old);
+        let objects = Items::of_vec(things);
+        (
+            area,
+            WorldParts {
+                clock,
+                objects,
+                agenda,
+                random,
+                version,
+            },
+        )
+    }
+
+    /// The area, and what is saved beside it. After `NoMemory` all is dropped.
+    pub fn into_parts(self) -> Result<(Area, WorldParts<X>), NoMemory>
+        ensures parts { IfOk result (λ both. put_together both.0 both.1
+            ≡ record self.world { trace = []; user = pos 0 }) }
+    {
+        let mut parts = self;
+        match Randoms::of_slice(parts.alloc, parts.random.make_contiguous()) {
             Err(NoMemory) => {
-                drop(area);
-                drop(things);
-                drop(agenda);
+                drop(parts);
                 Err(NoMemory)
             }
-            Ok(left) => Ok((
-                area,
-                WorldParts {
-                    clock,
-                    objects: Items::of_vec(things),
-                    agenda,
-                    random: left,
-                    version,
-                },
-            )),
+            Ok(left) => Ok(parts.apart(left)),
         }
     }
 
