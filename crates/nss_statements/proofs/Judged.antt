@@ -1,6 +1,7 @@
 -- The verdict on a declared name, by the fault that code finds, and that on a node that is made of parts which fit.
-use Rattle.std.proofs.Common.{◌≡◌, ℕ, Bool, true, false, not, ◌&&◌, Option, None, Some, refl, sym, ap, ◌∙◌}
+use Rattle.std.proofs.Common.{◌≡◌, ℕ, Bool, true, false, not, ◌&&◌, Option, None, Some, Result, Ok, Err, refl, sym, ap, subst, ◌∙◌}
 use Rattle.std.specs.Option.{option_map}
+use Rattle.std.specs.Result.{IfOk}
 use Rattle.nss_tree.specs.Source.{SourceDeclared}
 use Rattle.nwq_value.specs.declared.value.Ty.{Ty}
 use Rattle.nss_typing.specs.declared.fault.FaultKind.{FaultKind}
@@ -10,7 +11,7 @@ use Rattle.nss_typing.specs.Nodes.{Rows, asked, at, fine, four, kept, ruled, fir
 use Rattle.nss_typing.specs.Rules.{value_fits, variable_rows, variable_rule, when}
 use Rattle.nss_typing.specs.Sight.{Sight, cells, crosses_with, is_taken}
 use Rattle.nss_typing.specs.Typed.{TypedExpr}
-use Rattle.nss_statements.specs.Faults.{by_fault, fault_unless, fit_rows, fit_rule, ruled_when}
+use Rattle.nss_statements.specs.Faults.{by_fault, fault_unless, fit_rows, fit_rule, ruled_when, some_made}
 
 pub variable_is : (s : Sight) (d : SourceDeclared) (t : Ty) (x : Option TypedExpr) (a b c : Bool) (k : Option FaultKind) → a ≡ is_taken s d.name → b ≡ value_fits t x
     → c ≡ crosses_with s (cells s.structs t) → k ≡ fault_unless (not a && (b && not c)) (first_kind (row Redeclared a (row Mismatch (not b) (row Cells c no_row))))
@@ -74,3 +75,9 @@ module _ {P A B : Type 0} (f : P → A) (rows : A → Rows) (rule : A → Option
 
   pub made_least : (n : ℕ) (old new : Option Fault) (o : Option P) (q : Option A) → q ≡ option_map f o → new ≡ kept old (at n (asked fit_rows (fit_rule fits) o)) → new ≡ kept old (at n (asked rows rule q))
   made_least n old new o q read is = is ∙ ap (kept old) (sym (made_at n o) ∙ ap (λ p. at n (asked rows rule p)) (sym read))
+
+-- what is made of them may want memory
+pub made_as : {A B E : Type 0} (plain : A → B) (P : A → Type 0) (m : Result A E) (r : Result (Option A) E) (v : Option B) → r ≡ some_made m → ((a : A) → P a → Some (plain a) ≡ v) → IfOk m P
+    → IfOk r (λ x. option_map plain x ≡ v)
+made_as plain P (Ok a) r v is f h = subst (λ q. IfOk q (λ x. option_map plain x ≡ v)) (sym is) (f a h)
+made_as plain P (Err e) r v is f h = subst (λ q. IfOk q (λ x. option_map plain x ≡ v)) (sym is) tt

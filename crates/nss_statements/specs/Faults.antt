@@ -1,5 +1,5 @@
 -- The fault of a node whose parts are typed.
-use Rattle.std.proofs.Common.{◌≡◌, ℕ, Bool, true, false, not, ◌&&◌, Option, None, Some, if◌then◌else◌, refl}
+use Rattle.std.proofs.Common.{◌≡◌, ℕ, Bool, true, false, not, ◌&&◌, Option, None, Some, Result, Ok, Err, if◌then◌else◌, refl}
 use Rattle.nss_tree.specs.Statements as tree
 use Rattle.nss_typing.specs.declared.fault.FaultKind.{FaultKind}
 use Rattle.nss_typing.specs.declared.fault.FaultKind.TheVariants.{Mismatch, Cells}
@@ -28,6 +28,11 @@ fit_rows a = only Mismatch
 
 abbrev pub fit_rule : {A : Type 0} → (A → Bool) → A → Option A
 fit_rule fits a = when (fits a) a
+
+-- what is made, as an answer that may be none
+abbrev pub some_made : {A E : Type 0} → Result A E → Result (Option A) E
+some_made (Ok a) = Ok (Some a)
+some_made (Err e) = Err e
 
 -- a switch, where it is known whether its value's cell passes the limit
 abbrev pub switch_rows_by : Bool → TypedExpr × TypedStmts → Rows

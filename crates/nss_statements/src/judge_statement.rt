@@ -19,7 +19,7 @@ ghost use Rattle.nss_statements.specs.Faults.{break_rule_by, continue_rule_by, f
 ghost use Rattle.nss_statements.specs.Faults.{fit_rows, fit_rule};
 ghost use Rattle.nss_statements.specs.Faults.{switch_rows_by, switch_rule_by};
 
-use crate::parts::two;
+use crate::parts::{some_made, two};
 use nss_expressions::note::note;
 use nss_expressions::rules::{is_int, is_void};
 use nss_tree::Stmt;
@@ -113,7 +113,7 @@ pub fn judge_if(
         (two (option_map plain condition) (option_map typed_stmt then))))) }
 {
     match with_condition(least, token, condition, then) {
-        Some((condition, then)) => Ok(Some(Stmt::if_only(alloc, token, condition, then)?)),
+        Some((condition, then)) => some_made(Stmt::if_only(alloc, token, condition, then)),
         None => Ok(None),
     }
 }
@@ -134,7 +134,7 @@ pub fn judge_while(
         (two (option_map plain condition) (option_map typed_stmt body))))) }
 {
     match with_condition(least, token, condition, body) {
-        Some((condition, body)) => Ok(Some(Stmt::while_loop(alloc, token, condition, body)?)),
+        Some((condition, body)) => some_made(Stmt::while_loop(alloc, token, condition, body)),
         None => Ok(None),
     }
 }
@@ -155,7 +155,7 @@ pub fn judge_do(
         (two (option_map typed_stmt body) (option_map plain condition))))) }
 {
     match with_condition(least, token, condition, body) {
-        Some((condition, body)) => Ok(Some(Stmt::do_loop(alloc, token, body, condition)?)),
+        Some((condition, body)) => some_made(Stmt::do_loop(alloc, token, body, condition)),
         None => Ok(None),
     }
 }
@@ -180,7 +180,7 @@ pub fn judge_if_else(
 {
     match with_condition(least, token, condition, two(then, otherwise)) {
         Some((condition, (then, otherwise))) => {
-            Ok(Some(Stmt::if_else(alloc, token, condition, then, otherwise)?))
+            some_made(Stmt::if_else(alloc, token, condition, then, otherwise))
         }
         None => Ok(None),
     }
@@ -287,8 +287,8 @@ pub fn judge_switch(
         (asked (switch_rows_by crosses) (switch_rule_by crosses token)
         (two (option_map plain value) (option_map typed_stmts body)))) }
 {
-    match two(value, body) {
-        Some((value, body)) => match switch_fault(is_int(value.ty()), crosses) {
+    match (value, body) {
+        (Some(value), Some(body)) => match switch_fault(is_int(value.ty()), crosses) {
             None => Some(Stmt::switch(token, value, body)),
             Some(kind) => {
                 drop(value);
@@ -297,7 +297,14 @@ pub fn judge_switch(
                 None
             }
         },
-        None => None,
+        (Some(value), None) => {
+            drop(value);
+            None
+        }
+        (None, body) => {
+            drop(body);
+            None
+        }
     }
 }
 

@@ -7,17 +7,18 @@ use Rattle.nss_typing.specs.Rules.{do_rows, do_rule}
 use Rattle.nss_typing.specs.Types.{is_int}
 use Rattle.nss_typing.specs.Typed.{type_of}
 use Rattle.nss_typing.specs.UnitReading.{typed_stmt}
-use Rattle.nss_statements.proofs.Judged.{made_least, made_value, two_turned}
+use Rattle.nss_statements.proofs.Judged.{made_as, made_least, made_value, two_turned}
+use Rattle.nss_expressions.specs.Walked.{always}
 use Rattle.nss_statements.proofs.judge_statement.judge_do.Goals as goal
 
-pub returns-in_ok-do_loop-in-Some : goal.returns-in_ok-do_loop-in-Some
-returns-in_ok-do_loop-in-Some c =
+pub returns-in-Some : goal.returns-in-Some
+returns-in-Some c =
     let n = c.args.token in
     let o = two c.args.condition c.args.body in
     let read = two_turned plain typed_stmt c.args.condition c.args.body in
     record {
-      value = made_value (λ p. (typed_stmt p.1, plain p.0)) do_rows (do_rule n) (λ p. is_int (type_of (plain p.0))) (λ p. tree.do_loop n (typed_stmt p.1) (plain p.0)) (λ p. refl) (λ p. refl) o _ _ _ read c.in-Some.ensures.value (ap Some (ap (map_stmt plain) c.in_ok-do_loop-in-Some.ensures.made));
-      least = made_least (λ p. (typed_stmt p.1, plain p.0)) do_rows (do_rule n) (λ p. is_int (type_of (plain p.0))) (λ p. tree.do_loop n (typed_stmt p.1) (plain p.0)) (λ p. refl) (λ p. refl) n c.args.least.now _ o _ read c.in-Some.ensures.least;
+      value = made_as typed_stmt _ c.do_loop.result c.some_made.result _ c.some_made.ensures.made (λ s is. made_value (λ p. (typed_stmt p.1, plain p.0)) do_rows (do_rule n) (λ p. is_int (type_of (plain p.0))) (λ p. tree.do_loop n (typed_stmt p.1) (plain p.0)) (λ p. refl) (λ p. refl) o _ _ _ read c.in-Some.ensures.value (ap Some (ap (map_stmt plain) is))) c.do_loop.ensures.made;
+      least = always c.some_made.result (made_least (λ p. (typed_stmt p.1, plain p.0)) do_rows (do_rule n) (λ p. is_int (type_of (plain p.0))) (λ p. tree.do_loop n (typed_stmt p.1) (plain p.0)) (λ p. refl) (λ p. refl) n c.args.least.now _ o _ read c.in-Some.ensures.least);
     }
 
 pub returns-in-None : goal.returns-in-None

@@ -8,18 +8,19 @@ use Rattle.nss_typing.specs.Rules.{if_else_rows, if_else_rule}
 use Rattle.nss_typing.specs.Types.{is_int}
 use Rattle.nss_typing.specs.Typed.{type_of}
 use Rattle.nss_typing.specs.UnitReading.{typed_stmt}
-use Rattle.nss_statements.proofs.Judged.{made_least, made_value, three_read}
+use Rattle.nss_statements.proofs.Judged.{made_as, made_least, made_value, three_read}
+use Rattle.nss_expressions.specs.Walked.{always}
 use Rattle.nss_statements.proofs.judge_statement.judge_if_else.Goals as goal
 
-pub returns-in_ok-if_else-in-Some : goal.returns-in_ok-if_else-in-Some
-returns-in_ok-if_else-in-Some c =
+pub returns-in-Some : goal.returns-in-Some
+returns-in-Some c =
     let n = c.args.token in
     let o = two c.args.condition c.two.result in
     let read = three_read plain typed_stmt c.args.condition c.args.then c.args.otherwise
     ∙ ap (λ q. option_map (λ p. (plain p.0, typed_stmt p.1.0, typed_stmt p.1.1)) (two c.args.condition q)) (sym c.two.ensures.both) in
     record {
-      value = made_value (λ p. (plain p.0, typed_stmt p.1.0, typed_stmt p.1.1)) if_else_rows (if_else_rule n) (λ p. is_int (type_of (plain p.0))) (λ p. tree.if_else n (plain p.0) (typed_stmt p.1.0) (typed_stmt p.1.1)) (λ p. refl) (λ p. refl) o _ _ _ read c.in-Some.ensures.value (ap Some (ap (map_stmt plain) c.in_ok-if_else-in-Some.ensures.made));
-      least = made_least (λ p. (plain p.0, typed_stmt p.1.0, typed_stmt p.1.1)) if_else_rows (if_else_rule n) (λ p. is_int (type_of (plain p.0))) (λ p. tree.if_else n (plain p.0) (typed_stmt p.1.0) (typed_stmt p.1.1)) (λ p. refl) (λ p. refl) n c.args.least.now _ o _ read c.in-Some.ensures.least;
+      value = made_as typed_stmt _ c.if_else.result c.some_made.result _ c.some_made.ensures.made (λ s is. made_value (λ p. (plain p.0, typed_stmt p.1.0, typed_stmt p.1.1)) if_else_rows (if_else_rule n) (λ p. is_int (type_of (plain p.0))) (λ p. tree.if_else n (plain p.0) (typed_stmt p.1.0) (typed_stmt p.1.1)) (λ p. refl) (λ p. refl) o _ _ _ read c.in-Some.ensures.value (ap Some (ap (map_stmt plain) is))) c.if_else.ensures.made;
+      least = always c.some_made.result (made_least (λ p. (plain p.0, typed_stmt p.1.0, typed_stmt p.1.1)) if_else_rows (if_else_rule n) (λ p. is_int (type_of (plain p.0))) (λ p. tree.if_else n (plain p.0) (typed_stmt p.1.0) (typed_stmt p.1.1)) (λ p. refl) (λ p. refl) n c.args.least.now _ o _ read c.in-Some.ensures.least);
     }
 
 pub returns-in-None : goal.returns-in-None
