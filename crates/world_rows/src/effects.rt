@@ -4,7 +4,6 @@ ghost use Rattle.engine_rows.specs.Changes.{is_effect, is_numbered, with_effect}
 ghost use Rattle.engine_rows.specs.Kept.{IsWorld};
 ghost use Rattle.engine_rows.specs.Rows.{applied, applied_to, removed};
 ghost use Rattle.engine_rows.specs.Turns.{unapply};
-ghost use Rattle.engine_rows.specs.World.{count, effects_of};
 
 use crate::parts::Parts;
 use crate::things::add_effect;

@@ -1,8 +1,8 @@
 //! How a world begins, how entries are taken, and what a Turn does.
-ghost use Rattle.std.specs.Prelude.{◌≡◌, ◌<◌, ◌≤◌, ◌+◌, ◌^◌, drop, length, replicate, slice_get};
+ghost use Rattle.std.specs.Prelude.{◌≡◌, ◌<◌, ◌≤◌, ◌+◌, ◌^◌, length, replicate};
 ghost use Rattle.std.specs.Prelude.{IfOk, IfSome};
 ghost use Rattle.delay_agenda.specs.Order.{first_due};
-ghost use Rattle.engine_rows.specs.Turns.{begin, idle, turn, turn_done, user_number, with_entries};
+ghost use Rattle.engine_rows.specs.Turns.{begin, idle, turn, turn_done, user_number};
 ghost use Rattle.world_rows.specs.Begun.{IsBegunAs};
 
 use crate::parts::Parts;
