@@ -1,20 +1,58 @@
 -- The rule looks from the top.
-use Rattle.std.proofs.Common.{arith, ◌≡◌, ◌≤◌, ◌+◌, ◌-◌, ℕ, zero, suc, List, [], ◌∷◌, ◌++◌, length, map, drop, Option, Some, None, slice_get, sym, ◌∙◌, ap, refl}
+use Rattle.std.proofs.Common.{arith, ◌≡◌, ◌≤◌, ◌+◌, ◌-◌, ℕ, zero, suc, List, [], ◌∷◌, ◌++◌, length, map, drop, reverse, Option, Some, None, slice_get, sym, ◌∙◌, ap, refl}
 use Rattle.std.specs.Option.{option_map}
-use Rattle.std.proofs.lemmas.List.{append_assoc}
+use Rattle.std.proofs.lemmas.List.{append_assoc, reverse-append}
+use Rattle.nwq_value.specs.declared.value.Ty.{Ty}
 use Rattle.nwq_value.specs.declared.engine.Routine.{Routine}
 use Rattle.ncs_code.specs.Plain.{PlainOp}
 use Rattle.ncs_code.specs.Plain as ops
 use Rattle.stack_shape.specs.declared.shape.Slot.{Slot}
 use Rattle.stack_shape.specs.declared.shape.Slot.TheVariants.{Of, Base}
+use Rattle.stack_shape.specs.declared.shape.Shape.{Shape}
 use Rattle.stack_shape.specs.declared.effect.StackEffect.{StackEffect}
 use Rattle.stack_shape.specs.declared.store.StoredTypes.{StoredTypes}
 use Rattle.stack_shape.specs.StackEffects.{after_effect, stack_effect}
 use Rattle.stack_shape.specs.Calls.{action_count, call_effect}
 use Rattle.stack_shape.specs.Stored.{TopShape, stored_types}
-use Rattle.stack_shape.specs.Rule.{affected, based, restored, stored, called, rule}
+use Rattle.stack_shape.specs.Rule.{affected, based, restored, stored, called, rule, top_first}
 use Rattle.stack_shape.specs.Laws.{beneath_under, deeper_saved, deeper, RuleLooksFromTop}
 use Rattle.stack_shape.proofs.EffectLemmas.{on_map, effects_look_from_top, effects_pop_values, calls_look_from_top, calls_pop_values, stores_look_from_top, values_are_there}
+
+-- ---- RESTOREBP, where the lists grow at their end
+
+last_first : {A : Type 0} (xs rest : List A) (x : A) → xs ≡ rest ++ x ∷ [] → reverse xs ≡ x ∷ reverse rest
+last_first xs rest x e = ap reverse e ∙ reverse-append rest (x ∷ [])
+
+empty : {A : Type 0} (xs : List A) → length xs ≡ 0 → xs ≡ []
+empty [] e = refl
+empty (x ∷ xs) e = absurd cc
+
+pub restored_none : (cells : List Slot) (saved : List (List Slot)) (pending : ℕ) → length cells ≡ 0 → None ≡ restored (reverse cells) saved pending
+restored_none cells saved pending e = ap (λ cells. restored (reverse cells) saved pending) (sym (empty cells e))
+
+pub restored_value : (cells rest : List Slot) (top : Slot) (t : Ty) (saved : List (List Slot)) (pending : ℕ) → cells ≡ rest ++ top ∷ [] → top ≡ Of t
+    → None ≡ restored (reverse cells) saved pending
+restored_value cells rest top t saved pending e v =
+    ap (λ cells. restored cells saved pending) (sym (last_first cells rest top e ∙ ap (λ top. top ∷ reverse rest) v))
+
+pub restored_unsaved : (cells rest : List Slot) (top : Slot) (saved : List (List Slot)) (pending : ℕ) → cells ≡ rest ++ top ∷ [] → top ≡ Base
+    → length saved ≡ 0 → None ≡ restored (reverse cells) (map reverse (reverse saved)) pending
+restored_unsaved cells rest top saved pending e b n =
+    ap (λ saved. restored (Base ∷ reverse rest) (map reverse (reverse saved)) pending) (sym (empty saved n))
+    ∙ ap (λ cells. restored cells (map reverse (reverse saved)) pending) (sym (last_first cells rest top e ∙ ap (λ top. top ∷ reverse rest) b))
+
+pub restored_both : (cells rest : List Slot) (top : Slot) (saved older : List (List Slot)) (under : List Slot) (pending : ℕ) (after : Shape)
+    → cells ≡ rest ++ top ∷ [] → top ≡ Base → saved ≡ older ++ under ∷ []
+    → after ≡ record { cells = rest; under = under; saved = older; pending = pending }
+    → Some (top_first after) ≡ restored (reverse cells) (map reverse (reverse saved)) pending
+restored_both cells rest top saved older under pending after e b f a =
+    ap (λ after. Some (top_first after)) a
+    ∙ ap (λ saved. restored (Base ∷ reverse rest) (map reverse saved) pending) (sym (last_first saved older under f))
+    ∙ ap (λ cells. restored cells (map reverse (reverse saved)) pending) (sym (last_first cells rest top e ∙ ap (λ top. top ∷ reverse rest) b))
+
+pub ruleset restoring = (restored_none, restored_value)
+
+-- ---- further cells beneath
 
 drop_more : (n : ℕ) (cells x : List Slot) → n ≤ length cells → drop n (cells ++ x) ≡ drop n cells ++ x
 drop_more zero cells x h = refl

@@ -77,17 +77,22 @@ fn based(alloc: Global, shape: &Shape) -> Result<Shape, NoMemory>
 }
 
 /// RESTOREBP.
+#[tactic(auto, using(crate::proofs::RuleLemmas::restoring))]
 fn restored(alloc: Global, shape: &Shape) -> Result<Option<Shape>, NoMemory>
     ensures { IfOk result (λ after. let before = top_first shape.now in
         option_map top_first after ≡ restored before.cells before.saved before.pending) }
 {
-    match (shape.cells.as_slice(), shape.saved.as_slice()) {
-        ([cells @ .., Slot::Base], [saved @ .., under]) => {
-            let cells = Slots::of_slice(alloc, cells)?;
-            let after = shape_on(alloc, cells, under.as_slice(), saved, shape.pending)?;
-            Ok(Some(after))
-        }
-        _ => Ok(None),
+    match shape.cells.as_slice().split_last() {
+        None => Ok(None),
+        Some((Slot::Of(_), _)) => Ok(None),
+        Some((Slot::Base, cells)) => match shape.saved.as_slice().split_last() {
+            None => Ok(None),
+            Some((under, saved)) => {
+                let cells = Slots::of_slice(alloc, cells)?;
+                let after = shape_on(alloc, cells, under.as_slice(), saved, shape.pending)?;
+                Ok(Some(after))
+            }
+        },
     }
 }
 
