@@ -1,9 +1,25 @@
 use Rattle.std.proofs.Common.{subst}
 use Rattle.ncs_code.specs.Plain.{plain}
 use Rattle.stack_check.specs.declared.seen.Seen.{Seen}
-use Rattle.stack_check.specs.Inference.{SeesStep}
-use Rattle.stack_check.proofs.Storing.{store_bad, store_quiet, store_changed}
+use Rattle.stack_check.specs.Inference.{SeesStep, Visited}
+use Rattle.stack_check.proofs.Storing.{store_bad, store_quiet, store_changed, stored_resumes}
 use Rattle.stack_check.proofs.visit.visit_store.Goals as goal
+
+pub store-requires-clause-keeps : goal.store-requires-clause-keeps
+store-requires-clause-keeps c =
+    subst (λ (s : Seen). Visited c.args.table.now c.args.code.now c.visit_step.new.heap c.visit_step.new.facts s) c.in-Quiet.is c.in_ok-first.ensures.sees.keeps
+
+pub store-requires-clause-owed : goal.store-requires-clause-owed
+store-requires-clause-owed c =
+    stored_resumes c.rules_look_from_the_top.ensures.stores _ _ _ _ _ _ _ _ _ c.requires.keeps c.requires.row c.requires.op c.requires.stores
+
+pub store-requires-in-Changed-clause-keeps : goal.store-requires-in-Changed-clause-keeps
+store-requires-in-Changed-clause-keeps c =
+    subst (λ (s : Seen). Visited c.args.table.now c.args.code.now c.visit_step.new.heap c.visit_step.new.facts s) c.in-Changed.is c.in_ok-first.ensures.sees.keeps
+
+pub store-requires-in-Changed-clause-owed : goal.store-requires-in-Changed-clause-owed
+store-requires-in-Changed-clause-owed c =
+    stored_resumes c.rules_look_from_the_top.ensures.stores _ _ _ _ _ _ _ _ _ c.requires.keeps c.requires.row c.requires.op c.requires.stores
 
 pub returns-in-Bad : goal.returns-in-Bad
 returns-in-Bad c = record {
