@@ -65,12 +65,6 @@ effects_changed {X = X} (suc i) things t es change first within is made =
     ∙ ap (λ (es : List Stood). changed_at i (λ t. record t { effects = es }) things) (made ∙ ap (λ (f : Option (Things X)). change (effects_in f)) (sym (things_read things i t within is))))
     is
 
--- nothing is changed
-pub things_same : {X : Type 0} → (things : List (Things X)) (i : ℕ) (t : Things X) → i < length things → t ≡ get_or things i t → set things i t ≡ things
-things_same [] i t lt is = absurd (omega (arith, lt))
-things_same {X = X} (x ∷ things) zero t lt is = ap (λ (t : Things X). t ∷ things) is
-things_same {X = X} (x ∷ things) (suc i) t lt is = ap (λ (ts : List (Things X)). x ∷ ts) (things_same things i t (omega (arith, lt)) is)
-
 -- as many as before
 long_at : {X : Type 0} → (i : ℕ) (change : Things X → Things X) (things : List (Things X)) → length (changed_at i change things) ≡ length things
 long_at i change [] = refl
