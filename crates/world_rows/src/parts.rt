@@ -141,9 +141,8 @@ impl<X: Drop> Parts<X> {
 
     /// The area, and what is saved beside it, with these random numbers; takes no memory.
     fn apart(self, random: Randoms) -> (Area, WorldParts<X>)
-        requires same { random ≡ self.world.random }
         ensures parts { put_together result.0 result.1
-            ≡ record self.world { trace = []; user = pos 0 } }
+            ≡ record self.world { trace = []; random = random; user = pos 0 } }
     {
         let Parts {
             alloc: _,
