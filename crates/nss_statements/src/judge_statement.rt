@@ -221,7 +221,7 @@ fn judge_for_of(
         ))))) }
 {
     if is_condition(&condition) {
-        return Ok(Some(Stmt::for_loop(alloc, token, start, condition, step, body)?));
+        return some_made(Stmt::for_loop(alloc, token, start, condition, step, body));
     }
     drop(start);
     drop(condition);

@@ -1,4 +1,4 @@
-//! Parts of a node as one.
+//! Parts of a node as one, and what is made of them.
 
 ghost use Rattle.std.specs.Prelude.{◌≡◌};
 ghost use Rattle.nss_typing.specs.Nodes.{two};
