@@ -1,6 +1,6 @@
 use Rattle.std.proofs.Common.{ℕ, ◌+◌, ◌-◌, ◌≤◌, length, map, sym, subst, arith, false}
-use Rattle.nss_tree.specs.Reading.{plain_item, plain_tree}
-use Rattle.nss_parser.specs.Sentence.{IsPlace, Parses}
+use Rattle.nss_tree.specs.Reading.{plain_item}
+use Rattle.nss_parser.specs.Sentence.{IsPlace}
 use Rattle.nss_symbols.specs.Cursor.{plain_symbol}
 use Rattle.nss_parser.specs.ReadStatement.{entries, statement}
 use Rattle.nss_parser.specs.ReadUnit.{items}
