@@ -1,5 +1,4 @@
 -- The work of each form of words has one outcome.
-use Rattle.std.proofs.Common.{ℕ, List}
 use Rattle.engine_rows.specs.Pure.{CellLookup}
 use Rattle.nwq_work.specs.Outcomes.{IsSure, agree, prefixes, sure_then}
 use Rattle.nwq_checks.specs.Laws.{SureChecks}

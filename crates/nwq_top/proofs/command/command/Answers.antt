@@ -1,6 +1,6 @@
 use Rattle.std.proofs.Common.{map, string_bytes}
 use Rattle.world_core.specs.Calls.{cells_of}
-use Rattle.command_words.specs.Words.{Run, Compile, Tree, Check, Disassemble, Assemble, Play, Generate, NoForm, form_of}
+use Rattle.command_words.specs.Words.{Run, Compile, Tree, Check, Disassemble, Assemble, Generate, form_of}
 use Rattle.nwq_top.proofs.WordLemmas.{form_does, form_keeps, form_same, form_stops, no_form_does}
 use Rattle.nwq_top.proofs.command.command.Goals as goal
 
