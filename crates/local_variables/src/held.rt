@@ -1,5 +1,5 @@
-//! A variable as it is kept, and how one is found and put last. Its name leads to its stamp, and the
-//! stamp, by a binary search, to its place: so a variable that is taken out renumbers no other.
+//! A variable as it is kept, and how one is found and put last. Its name leads to its stamp, and
+//! the stamp, by a binary search, to its place: so a variable that is taken out renumbers no other.
 
 ghost use Rattle.std.specs.Prelude.{◌≡◌, [], ◌∷◌, ◌++◌, ◌<◌, length, Some, OnOk, OnErr, IfOk};
 ghost use Rattle.std.specs.Prelude.{IfSome};
@@ -11,6 +11,7 @@ use crate::vars::Var;
 use nwq_value::{Items, NameIndex, NoMemory};
 use std::alloc::Global;
 
+/// What a variable holds.
 pub enum Content {
     Int(i32),
     Text(Items<u8>),

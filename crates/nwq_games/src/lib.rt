@@ -4,8 +4,8 @@
 //! scripts are listed ([`nwq_listings`](../../nwq_listings/specs/Listings.antt)), the area is read
 //! and the plan played ([`plan_plays`](../../plan_plays/specs/Plays.antt)) in the world of both
 //! ([`plan_worlds`](../../plan_worlds/specs/Worlds.antt)); the trace is put, and a play that is
-//! done leaves its area in a file before its end is told. What plans are is docs/PLAN.md, what plays
-//! are docs/PLAYS.md.
+//! done leaves its area in a file before its end is told. What plans are is docs/PLAN.md, what
+//! plays are docs/PLAYS.md.
 #![tactic(auto)]
 
 mod game;
