@@ -13,7 +13,7 @@ pub mod declared;
 pub mod judge_statement;
 #[tactic(auto, using(nss_expressions::specs::Kept::kept_append))]
 pub mod label;
-pub mod parts;
+mod parts;
 #[tactic(auto, using(nss_tree::specs::Readings::plain_cases))]
 pub mod returns;
 #[tactic(auto, using(nss_expressions::specs::Kept::kept_append))]
