@@ -18,7 +18,7 @@ use Rattle.gff_tree.specs.declared.tree.Leaf.{Leaf}
 use Rattle.gff_tree.specs.declared.tree.Node.{Node}
 use Rattle.gff_tree.specs.Tree.{PlainNode, PlainLeaf, PlainField, Holds, Int, Str, plain_node, plain_leaf, nodes_in, nodes_from}
 use Rattle.local_variables.specs.Variables.{Variable, IntVar, TextVar, is_int, is_text, same_variable, first, matching, int_of, text_of}
-use Rattle.area_objects.specs.Objects.{AreaObject, Entry, Broken, Unread, Tells, with_entry, entry_of, variables_in, structs_in}
+use Rattle.area_rules.specs.Objects.{AreaObject, Entry, Broken, Unread, Tells, with_entry, entry_of, variables_in, structs_in}
 use Rattle.area_back.specs.Back.{value_of, new_entry, is_kept, valued, entries_back, table_back, leaf_back, fields_back, member_back, members_back, objects_back, list_back, lists_back}
 use Rattle.area_tree.specs.Reading.{leaf_in}
 use Rattle.area_back.specs.Current.{current, with_told}

@@ -9,10 +9,10 @@ use Rattle.std.proofs.lemmas.List.{append-nil}
 use Rattle.gff_tree.specs.Tree.{PlainNode, PlainLeaf, PlainField, Holds, Child, Children, nodes_in}
 use Rattle.gff_tree.specs.Fields.{kind_of, fields_of, node_from, list_from, found, replaced}
 use Rattle.local_variables.specs.Variables.{Variable, same_variable, matching, put}
-use Rattle.area_objects.specs.Objects.{AreaObject, Entry, Broken, Unread, Tells, entry_of, with_entry, variables_in, structs_in, object_of, list_labels, objects_under}
-use Rattle.area_objects.specs.Broken.{tag_places, table_places, member_places, members_places, list_places, lists_places}
+use Rattle.area_rules.specs.Objects.{AreaObject, Entry, Broken, Unread, Tells, entry_of, with_entry, variables_in, structs_in, object_of, list_labels, objects_under}
+use Rattle.area_rules.specs.Broken.{tag_places, table_places, member_places, members_places, list_places, lists_places}
 use Rattle.area_back.specs.Back.{with_value, entries_back, others, table_back, fields_back, member_back, members_back, list_back, lists_back}
-use Rattle.area_objects.specs.Area.{object_at, changed_at}
+use Rattle.area_rules.specs.Area.{object_at, changed_at}
 use Rattle.area_back.specs.Laws.{changed_node, changed_list, changed_in, with_new_value, EntryFor, table_of, PutChangesOneValue}
 use Rattle.area_back.proofs.UnchangedLaws.{Laws, none_parts, AllFound, all_found, found_any, one_back, entries_one, one_same, entries_same, later_all, some_back, member_same, members_same, list_same, lists_same, taken, dropped}
 use Rattle.area_back.proofs.ReadBackLaws.{AllOther, under_same, places_same, labels_distinct}

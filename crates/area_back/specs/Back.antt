@@ -5,8 +5,8 @@ use Rattle.gff_tree.specs.Tree.{PlainNode, PlainLeaf, PlainField, Holds, Child, 
 use Rattle.gff_tree.specs.Whole.{PlainGff}
 use Rattle.gff_tree.specs.Fields.{kind_of, fields_of, node_from, list_from, found, replaced, appended}
 use Rattle.local_variables.specs.Variables.{Variable, IntVar, TextVar, same_variable, matching}
-use Rattle.area_objects.specs.Objects.{AreaObject, Entry, Broken, Unread, Tells, entry_of, variables_in, structs_in, list_labels}
-use Rattle.area_objects.specs.Area.{PlainArea}
+use Rattle.area_rules.specs.Objects.{AreaObject, Entry, Broken, Unread, Tells, entry_of, variables_in, structs_in, list_labels}
+use Rattle.area_rules.specs.Area.{PlainArea}
 
 abbrev pub name_of : Variable → List ℕ
 name_of (IntVar name n) = name

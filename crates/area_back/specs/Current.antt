@@ -2,7 +2,7 @@
 use Rattle.std.specs.Prelude.{List}
 use Rattle.gff_tree.specs.Tree.{PlainLeaf, Holds, Int, Str}
 use Rattle.local_variables.specs.Variables.{Variable, IntVar, TextVar, int_named, text_named, put}
-use Rattle.area_objects.specs.Objects.{Entry, Broken, Unread, Tells}
+use Rattle.area_rules.specs.Objects.{Entry, Broken, Unread, Tells}
 
 -- what the variable of a type and name holds among these, as a field
 abbrev pub current : Variable → List Variable → PlainLeaf

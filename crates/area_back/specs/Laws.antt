@@ -5,10 +5,10 @@ use Rattle.gff_tree.specs.Tree.{PlainNode, PlainLeaf, PlainField, Holds, Child, 
 use Rattle.gff_tree.specs.Whole.{PlainGff}
 use Rattle.gff_tree.specs.Fields.{kind_of, fields_of, node_from, list_from, found, replaced}
 use Rattle.local_variables.specs.Variables.{Variable, same_variable, matching, put}
-use Rattle.area_objects.specs.Objects.{AreaObject, Tells, entry_of, structs_in, object_of, objects_of}
-use Rattle.area_objects.specs.Broken.{broken_places}
+use Rattle.area_rules.specs.Objects.{AreaObject, Tells, entry_of, structs_in, object_of, objects_of}
+use Rattle.area_rules.specs.Broken.{broken_places}
 use Rattle.area_back.specs.Back.{value_of, back, tree_back}
-use Rattle.area_objects.specs.Area.{PlainArea, object_at, changed_at, IsArea}
+use Rattle.area_rules.specs.Area.{PlainArea, object_at, changed_at, IsArea}
 
 -- The area that nobody changed goes back as the tree it was read from.
 abbrev pub UnchangedGoesBack : Type 0

@@ -9,7 +9,7 @@ ghost use Rattle.gff_tree.specs.Whole.{plain_gff};
 ghost use Rattle.gff_tree.specs.Label.{label_of};
 ghost use Rattle.gff_tree.specs.Fields.{kind_of, fields_of, node_from, list_from, found};
 ghost use Rattle.local_variables.specs.Variables.{Variable, variable_of, same_variable};
-ghost use Rattle.area_objects.specs.Objects.{structs_in, variables_in, entry_of, list_labels};
+ghost use Rattle.area_rules.specs.Objects.{structs_in, variables_in, entry_of, list_labels};
 ghost use Rattle.area_tree.specs.Reading.{leaf_in};
 ghost use Rattle.area_back.specs.Current.{current, with_told};
 ghost use Rattle.area_back.specs.Back.{name_of, type_of, value_of, new_entry, is_kept};

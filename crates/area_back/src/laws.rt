@@ -2,7 +2,7 @@
 
 ghost use Rattle.area_back.specs.Laws.{UnchangedGoesBack, BackIsRead, PutChangesOneValue};
 
-use area_objects::objects_tell;
+use area_rules::objects_tell;
 use gff_tree::fields_tell;
 use local_variables::{variables_stay, variables_tell};
 

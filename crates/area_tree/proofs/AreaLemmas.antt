@@ -7,8 +7,8 @@ use Rattle.nwq_value.specs.declared.memory.NoMemory.{NoMemory}
 use Rattle.gff_tree.specs.Tree.{is_sound}
 use Rattle.gff_tree.specs.Whole.{PlainGff}
 use Rattle.local_variables.specs.Variables.{Variable, IntVar, put, same_variable}
-use Rattle.area_objects.specs.Objects.{AreaObject}
-use Rattle.area_objects.specs.Area.{PlainArea, empty_tree, object_at, tagged, with_vars, changed_at, bare, HaveDistinct, IsArea}
+use Rattle.area_rules.specs.Objects.{AreaObject}
+use Rattle.area_rules.specs.Area.{PlainArea, empty_tree, object_at, tagged, with_vars, changed_at, bare, HaveDistinct, IsArea}
 use Rattle.area_tree.specs.Index.{Places, Lists, Indexes}
 
 pub empty_sound : is_sound empty_tree.top ≡ true

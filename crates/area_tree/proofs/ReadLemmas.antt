@@ -9,10 +9,10 @@ use Rattle.gff_tree.specs.declared.tree.Field.{Field}
 use Rattle.gff_tree.specs.Tree.{PlainNode, PlainFields, PlainLeaf, PlainNodes, PlainField, Struct, NoField, MoreFields, Holds, Child, Children, Byte, Char, Word, Short, Dword, Int, Dword64, Int64, Float, Double, Str, Res, Localized, Void, NoNode, MoreNodes, plain_node, plain_field, plain_leaf, fields_in, nodes_in, nodes_from, nodes_list}
 use Rattle.gff_tree.specs.Fields.{fields_of, list_in, found}
 use Rattle.gff_tree.specs.Count.{node_count, fields_count, leaf_count, nodes_count}
-use Rattle.area_objects.specs.declared.fault.AreaFault.{AreaFault}
-use Rattle.area_objects.specs.declared.fault.AreaFault.TheVariants as fault
-use Rattle.area_objects.specs.Objects.{AreaObject, Script, structs_in, object_of, objects_under, with_script, scripts_in}
-use Rattle.area_objects.specs.Broken.{Place, IsFirst, member_places, members_places, list_places, lists_places}
+use Rattle.area_rules.specs.declared.fault.AreaFault.{AreaFault}
+use Rattle.area_rules.specs.declared.fault.AreaFault.TheVariants as fault
+use Rattle.area_rules.specs.Objects.{AreaObject, Script, structs_in, object_of, objects_under, with_script, scripts_in}
+use Rattle.area_rules.specs.Broken.{Place, IsFirst, member_places, members_places, list_places, lists_places}
 use Rattle.area_tree.specs.Reading.{leaf_in, leaves_count}
 
 pub find_is : (found_leaf : Option PlainLeaf) (result : Option (Bor Leaf)) → MatchOption result (found_leaf ≡ None) (λ leaf. found_leaf ≡ Some (plain_leaf leaf.now)) → found_leaf ≡ leaf_in result

@@ -2,8 +2,8 @@
 use Rattle.std.specs.Prelude.{◌≡◌, ◌<◌, ℕ, List, [], ◌∷◌, ◌++◌, if◌then◌else◌, Option, None, Some, slice_index_or}
 use Rattle.std.specs.Str.{bytes_eq}
 use Rattle.nwq_value.specs.Index.{number_under}
-use Rattle.area_objects.specs.Objects.{AreaObject}
-use Rattle.area_objects.specs.Area.{tagged}
+use Rattle.area_rules.specs.Objects.{AreaObject}
+use Rattle.area_rules.specs.Area.{tagged}
 
 -- the places of the tags' lists, and the lists of the numbers of the objects
 abbrev pub Places : Type 0

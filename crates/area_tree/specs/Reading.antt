@@ -5,12 +5,12 @@ use Rattle.std.specs.Option.{option_map}
 use Rattle.gff_tree.specs.declared.tree.Leaf.{Leaf}
 use Rattle.gff_tree.specs.Tree.{PlainLeaf, plain_leaf}
 use Rattle.gff_tree.specs.Count.{leaf_count}
-use Rattle.area_objects.specs.declared.fault.AreaFault.{AreaFault}
+use Rattle.area_rules.specs.declared.fault.AreaFault.{AreaFault}
 use Rattle.area_tree.specs.declared.object.Told.{Told}
 use Rattle.area_tree.specs.declared.object.Told.TheVariants as told
 use Rattle.local_variables.specs.Variables.{variable_of}
-use Rattle.area_objects.specs.Objects.{Entry, Broken, Unread, Tells}
-use Rattle.area_objects.specs.Broken.{Place, IsFirst}
+use Rattle.area_rules.specs.Objects.{Entry, Broken, Unread, Tells}
+use Rattle.area_rules.specs.Broken.{Place, IsFirst}
 
 -- what is read, where no place is broken, else the first broken place, or want of memory
 abbrev pub Reads : {X : Type 0} → Result X AreaFault → List Place → X → Type 0

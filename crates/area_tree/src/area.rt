@@ -7,13 +7,13 @@ ghost use Rattle.gff_tree.specs.Whole.{plain_gff};
 ghost use Rattle.gff_tree.specs.Count.{node_count};
 ghost use Rattle.local_variables.specs.Variables.{IntVar, TextVar, is_int, is_text, int_named};
 ghost use Rattle.local_variables.specs.Variables.{text_named, put};
-ghost use Rattle.area_objects.specs.Broken.{broken_places, IsFirst};
-ghost use Rattle.area_objects.specs.Area.{area_of, empty_area, object, by_tag};
-ghost use Rattle.area_objects.specs.Area.{script_named, changed, IsArea};
+ghost use Rattle.area_rules.specs.Broken.{broken_places, IsFirst};
+ghost use Rattle.area_rules.specs.Area.{area_of, empty_area, object, by_tag};
+ghost use Rattle.area_rules.specs.Area.{script_named, changed, IsArea};
 
 use crate::object::{Object, read_objects};
 use crate::tags::{Tags, index, numbers};
-use area_objects::{AreaFault, objects_tell};
+use area_rules::{AreaFault, objects_tell};
 use gff_tree::{Gff, Node};
 use local_variables::{Vars, variables_tell};
 use nwq_value::NoMemory;
@@ -31,7 +31,7 @@ impl Model for Area {
     ghost use Rattle.std.specs.Coded.{codes};
     ghost use Rattle.gff_tree.specs.Code.{node_code};
     ghost use Rattle.gff_tree.specs.Whole.{plain_gff};
-    ghost use Rattle.area_objects.specs.Area.{PlainArea, IsArea};
+    ghost use Rattle.area_rules.specs.Area.{PlainArea, IsArea};
     ghost use Rattle.area_tree.specs.Index.{Indexes};
 
     ghost Value = { PlainArea };

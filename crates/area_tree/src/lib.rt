@@ -5,7 +5,7 @@
 //! read and changed. What the tree holds besides stays as it was read, and [`Area::into_parts`]
 //! gives it back beside the objects.
 //!
-//! What an area is stands in `area_objects`; contracts see an [`Area`] as the tree that was read
+//! What an area is stands in `area_rules`; contracts see an [`Area`] as the tree that was read
 //! beside the list of the objects. `specs/Reading.antt` says what calls that read answer, and
 //! `specs/Index.antt` what the index of tags keeps. docs/AREA.md tells the rules and this project's
 //! choices.

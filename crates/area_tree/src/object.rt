@@ -8,18 +8,18 @@ ghost use Rattle.gff_tree.specs.Count.{node_count, nodes_count};
 ghost use Rattle.gff_tree.specs.Fields.{fields_of, found};
 ghost use Rattle.local_variables.specs.Variables.{IntVar, TextVar, is_int, is_text, put};
 ghost use Rattle.local_variables.specs.Variables.{variable_of};
-ghost use Rattle.area_objects.specs.Area.{script_named, with_vars};
-ghost use Rattle.area_objects.specs.Objects.{dword_in, int_in, string_in, int_entry, text_entry};
-ghost use Rattle.area_objects.specs.Objects.{entry_of, variables_in, structs_in, tag_in};
-ghost use Rattle.area_objects.specs.Objects.{with_script, scripts_in, object_of, list_labels};
-ghost use Rattle.area_objects.specs.Objects.{objects_of};
-ghost use Rattle.area_objects.specs.Broken.{IsFirst, at_entry, entry_places, with_later};
-ghost use Rattle.area_objects.specs.Broken.{entries_places, tag_places, table_places};
-ghost use Rattle.area_objects.specs.Broken.{member_places, members_places, list_places};
-ghost use Rattle.area_objects.specs.Broken.{broken_places};
+ghost use Rattle.area_rules.specs.Area.{script_named, with_vars};
+ghost use Rattle.area_rules.specs.Objects.{dword_in, int_in, string_in, int_entry, text_entry};
+ghost use Rattle.area_rules.specs.Objects.{entry_of, variables_in, structs_in, tag_in};
+ghost use Rattle.area_rules.specs.Objects.{with_script, scripts_in, object_of, list_labels};
+ghost use Rattle.area_rules.specs.Objects.{objects_of};
+ghost use Rattle.area_rules.specs.Broken.{IsFirst, at_entry, entry_places, with_later};
+ghost use Rattle.area_rules.specs.Broken.{entries_places, tag_places, table_places};
+ghost use Rattle.area_rules.specs.Broken.{member_places, members_places, list_places};
+ghost use Rattle.area_rules.specs.Broken.{broken_places};
 ghost use Rattle.area_tree.specs.Reading.{Reads, leaf_in, leaves_count, entry_told};
 
-use area_objects::AreaFault;
+use area_rules::AreaFault;
 use gff_tree::{Field, Leaf, Node};
 use local_variables::{Var, Vars};
 use nwq_value::{Items, NoMemory};
@@ -35,7 +35,7 @@ pub struct ScriptField {
 }
 
 impl Model for ScriptField {
-    ghost use Rattle.area_objects.specs.Objects.{Script};
+    ghost use Rattle.area_rules.specs.Objects.{Script};
 
     ghost Value = { Script };
 
@@ -50,7 +50,7 @@ pub struct Object {
 }
 
 impl Model for Object {
-    ghost use Rattle.area_objects.specs.Objects.{AreaObject};
+    ghost use Rattle.area_rules.specs.Objects.{AreaObject};
 
     ghost Value = { AreaObject };
 

@@ -4,8 +4,8 @@ ghost use Rattle.nwq_value.specs.Limits.{token_limit};
 ghost use Rattle.nss_lexer.specs.Lexemes.{IsToken};
 ghost use Rattle.nss_tree.specs.Reading.{plain_tree};
 ghost use Rattle.nss_parser.specs.Sizes.{IsKnownTree};
-ghost use Rattle.nss_typing.specs.UnitReading.{typed_unit};
-ghost use Rattle.typed_bounds.specs.Laws.{HasCode};
+ghost use Rattle.typing_rules.specs.UnitReading.{typed_unit};
+ghost use Rattle.typing_laws.specs.Laws.{HasCode};
 
 use codegen_unit::generate;
 use engine_table::{built_in, read_header};
@@ -14,11 +14,11 @@ use nss_lexer::Token;
 use nss_parser::parse;
 use nss_tree::Tree;
 use nss_types::type_unit;
-use nss_typing::Typed;
 use nwq_value::{NoMemory, Table};
 use std::alloc::Global;
 use test_units::tokens_of;
-use typed_bounds::laws::typed_units_have_code;
+use typing_laws::laws::typed_units_have_code;
+use typing_rules::Typed;
 
 /// A unit, with the listing of its file.
 pub type Row = (&'static [u8], &'static [u8]);

@@ -2,7 +2,7 @@
 use Rattle.std.proofs.Common.{◌≡◌, ◌<◌, ℕ, suc, zero, [], ◌∷◌, arith, refl}
 use Rattle.ncs_code.specs.Plain as ops
 use Rattle.ncs_emit.specs.Labelled.{Instruction}
-use Rattle.code_emission.specs.Operations.{beneath, dropped}
+use Rattle.emission_rules.specs.Operations.{beneath, dropped}
 
 pub dropped_some : (n : ℕ) → 0 < n → dropped n ≡ Instruction (ops.MovSp (beneath n)) ∷ []
 dropped_some zero lt = absurd (omega arith)

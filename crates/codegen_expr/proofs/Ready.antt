@@ -9,15 +9,15 @@ use Rattle.nss_tree.specs.declared.operators.BinaryOperator.{BinaryOperator}
 use Rattle.nss_tree.specs.declared.operators.AssignOperator.{AssignOperator}
 use Rattle.nss_tree.specs.declared.operators.PrefixOperator.{PrefixOperator}
 use Rattle.nss_tree.specs.declared.operators.PostfixOperator.{PostfixOperator}
-use Rattle.nss_typing.specs.declared.expressions.Expression.{Expression}
-use Rattle.nss_typing.specs.declared.places.Place.{Place}
-use Rattle.nss_typing.specs.declared.places.Callee.{Callee}
-use Rattle.nss_typing.specs.declared.places.Callee.TheVariants.{Unit as InUnit, Engine}
-use Rattle.nss_typing.specs.Reading.{plain, plain_all}
-use Rattle.nss_typing.specs.Typed.{TypedExpr, TypedExprs, literal, name, call, member, prefix, postfix, binary, assign, no_typed, more_typed, type_of}
-use Rattle.code_emission.specs.Bounds.{weight, all_weight, IsType, IsCallee, IsOperator, IsExpr, AreExprs}
-use Rattle.code_emission.specs.Layout.{Layout, cells}
-use Rattle.code_emission.specs.Expressions.{Shortcut, labels, all_labels, shortcut, shortcut_labels, is_set, cells_first, result_room, is_captured, argument_labels, count_arguments, arguments_cells, called}
+use Rattle.typing_rules.specs.declared.expressions.Expression.{Expression}
+use Rattle.typing_rules.specs.declared.places.Place.{Place}
+use Rattle.typing_rules.specs.declared.places.Callee.{Callee}
+use Rattle.typing_rules.specs.declared.places.Callee.TheVariants.{Unit as InUnit, Engine}
+use Rattle.typing_rules.specs.Reading.{plain, plain_all}
+use Rattle.typing_rules.specs.Typed.{TypedExpr, TypedExprs, literal, name, call, member, prefix, postfix, binary, assign, no_typed, more_typed, type_of}
+use Rattle.emission_rules.specs.Bounds.{weight, all_weight, IsType, IsCallee, IsOperator, IsExpr, AreExprs}
+use Rattle.emission_rules.specs.Layout.{Layout, cells}
+use Rattle.emission_rules.specs.Expressions.{Shortcut, labels, all_labels, shortcut, shortcut_labels, is_set, cells_first, result_room, is_captured, argument_labels, count_arguments, arguments_cells, called}
 use Rattle.codegen_expr.specs.Emitted.{AreReady, IsReady}
 
 -- ---- more functions have labels

@@ -5,8 +5,8 @@ use Rattle.nwq_value.specs.declared.value.Ty.{Ty}
 use Rattle.nwq_value.specs.declared.value.Ty.TheVariants.{Void, Int, Text, Object, Effect, Event, Action, Struct, Refused}
 use Rattle.ncs_code.specs.Plain as ops
 use Rattle.ncs_code.specs.Spelling.{HasRow, has_type}
-use Rattle.nss_typing.specs.Types.{is_compared}
-use Rattle.code_emission.specs.Operations.{comparison_kind, comparison_size, sum_kind}
+use Rattle.typing_rules.specs.Types.{is_compared}
+use Rattle.emission_rules.specs.Operations.{comparison_kind, comparison_size, sum_kind}
 
 pub equal_row : (t : Ty) (cells : ℕ) → IsTrue (is_compared t) → HasRow (ops.Equal (comparison_kind t) (comparison_size t cells))
 unfolding has_type

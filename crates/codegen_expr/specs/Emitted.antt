@@ -1,10 +1,10 @@
 -- Labelled code that grows at its end, and when an expression's code can be added.
 use Rattle.std.specs.Prelude.{ℕ, ◌+◌, ◌<◌, ◌≤◌, ◌^◌, List, ◌++◌}
 use Rattle.ncs_emit.specs.Labelled.{Line, LabelledCode}
-use Rattle.nss_typing.specs.Typed.{TypedExpr, TypedExprs}
-use Rattle.code_emission.specs.Layout.{Layout}
-use Rattle.code_emission.specs.Bounds.{depth_limit, weight, all_weight, IsExpr, AreExprs}
-use Rattle.code_emission.specs.Expressions.{labels, all_labels}
+use Rattle.typing_rules.specs.Typed.{TypedExpr, TypedExprs}
+use Rattle.emission_rules.specs.Layout.{Layout}
+use Rattle.emission_rules.specs.Bounds.{depth_limit, weight, all_weight, IsExpr, AreExprs}
+use Rattle.emission_rules.specs.Expressions.{labels, all_labels}
 
 -- the code with further lines, for which so many labels were made
 abbrev pub extended : LabelledCode → List Line → ℕ → LabelledCode

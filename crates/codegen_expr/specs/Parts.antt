@@ -8,8 +8,8 @@ use Rattle.codegen_expr.specs.declared.operations.Shortcut.{Shortcut}
 use Rattle.codegen_expr.specs.declared.operations.Shortcut.TheVariants as shortcut
 use Rattle.codegen_expr.specs.declared.places.Home.{Home}
 use Rattle.codegen_expr.specs.declared.places.Home.TheVariants.{Frame, Globals}
-use Rattle.code_emission.specs.Layout.{Layout}
-use Rattle.code_emission.specs.Expressions as code
+use Rattle.emission_rules.specs.Layout.{Layout}
+use Rattle.emission_rules.specs.Expressions as code
 
 abbrev pub plain_home : Home → code.Home
 plain_home (Frame at) = code.InFrame at

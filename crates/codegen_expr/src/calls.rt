@@ -1,16 +1,16 @@
 //! What a call puts around its arguments.
 
 ghost use Rattle.std.specs.Prelude.{◌≡◌, ◌++◌, ◌∷◌, [], length, IfOk, OnOk};
-ghost use Rattle.code_emission.specs.Bounds.{IsCallee, IsType};
-ghost use Rattle.code_emission.specs.Operations as operations;
-ghost use Rattle.code_emission.specs.Expressions as code;
+ghost use Rattle.emission_rules.specs.Bounds.{IsCallee, IsType};
+ghost use Rattle.emission_rules.specs.Operations as operations;
+ghost use Rattle.emission_rules.specs.Expressions as code;
 
 use crate::lines::{emit_constant, start_cells};
 use ncs_code::Op;
 use ncs_emit::{Emitter, Jump};
 use nss_layout::Layout;
-use nss_typing::Callee;
 use nwq_value::{Const, NoMemory, Ty};
+use typing_rules::Callee;
 
 /// Puts the cells that a call makes for its result, and gives how many they are.
 pub(crate) fn emit_room(

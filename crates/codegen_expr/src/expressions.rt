@@ -4,10 +4,10 @@ ghost use Rattle.std.specs.Prelude.{◌≡◌, ◌++◌, ◌+◌, ◌∷◌, ◌
 ghost use Rattle.nwq_value.specs.Limits.{struct_cell_limit};
 ghost use Rattle.ncs_code.specs.Plain.{plain as plain_op};
 ghost use Rattle.ncs_code.specs.Spelling.{HasRow};
-ghost use Rattle.nss_typing.specs.Reading.{plain, plain_all};
-ghost use Rattle.nss_typing.specs.Typed as typed;
-ghost use Rattle.nss_typing.specs.Typed.{type_of};
-ghost use Rattle.code_emission.specs.Bounds.{
+ghost use Rattle.typing_rules.specs.Reading.{plain, plain_all};
+ghost use Rattle.typing_rules.specs.Typed as typed;
+ghost use Rattle.typing_rules.specs.Typed.{type_of};
+ghost use Rattle.emission_rules.specs.Bounds.{
   IsCallee,
   IsExpr,
   IsOperator,
@@ -15,9 +15,9 @@ ghost use Rattle.code_emission.specs.Bounds.{
   depth_limit,
   weight,
 };
-ghost use Rattle.code_emission.specs.Layout.{cells};
-ghost use Rattle.code_emission.specs.Operations as operations;
-ghost use Rattle.code_emission.specs.Expressions as code;
+ghost use Rattle.emission_rules.specs.Layout.{cells};
+ghost use Rattle.emission_rules.specs.Operations as operations;
+ghost use Rattle.emission_rules.specs.Expressions as code;
 ghost use Rattle.codegen_expr.specs.Emitted.{AreReady, IsReady, extended};
 
 use crate::calls::{emit_called, emit_constants, emit_room};
@@ -27,13 +27,13 @@ use crate::places::{
     emit_decrement, emit_first, emit_increment, emit_name, emit_write, home_of, member_home, read,
     step_before,
 };
-use code_emission::parts::places_above;
+use emission_rules::parts::places_above;
 use ncs_code::Op;
 use ncs_emit::{Emitter, Jump, part_laws};
 use nss_layout::Layout;
 use nss_tree::{AssignOperator, BinaryOperator, PostfixOperator, PrefixOperator};
-use nss_typing::{Callee, Expression};
 use nwq_value::{Const, NoMemory, Ty};
+use typing_rules::{Callee, Expression};
 
 /// Adds the code of an expression at a depth of the frame: its lines, with the emitter's next label
 /// and those behind it. After `NoMemory` nothing is told of the emitter.

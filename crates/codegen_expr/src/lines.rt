@@ -3,15 +3,15 @@
 ghost use Rattle.std.specs.Prelude.{◌≡◌, ◌++◌, ◌∷◌, ◌*◌, ◌<◌, ◌≤◌, ◌^◌, [], pos, OnOk};
 ghost use Rattle.std.specs.List.{AllByRecursion};
 ghost use Rattle.nwq_value.specs.Limits.{struct_cell_limit};
-ghost use Rattle.code_emission.specs.Bounds.{IsCell, IsType, depth_limit};
-ghost use Rattle.code_emission.specs.Layout.{cell_types};
-ghost use Rattle.code_emission.specs.Operations as code;
+ghost use Rattle.emission_rules.specs.Bounds.{IsCell, IsType, depth_limit};
+ghost use Rattle.emission_rules.specs.Layout.{cell_types};
+ghost use Rattle.emission_rules.specs.Operations as code;
 ghost use Rattle.ncs_code.specs.Plain as ops;
 ghost use Rattle.ncs_code.specs.Plain.{plain};
 ghost use Rattle.ncs_code.specs.Spelling.{HasRow};
 ghost use Rattle.ncs_emit.specs.Labelled.{Instruction, JumpTo, Label, placements};
 ghost use Rattle.ncs_emit.specs.declared.jump.Jump.TheVariants.{Jmp, Jz};
-ghost use Rattle.nss_typing.specs.Types.{is_void};
+ghost use Rattle.typing_rules.specs.Types.{is_void};
 
 use ncs_code::{Lit, Op};
 use ncs_emit::{Emitter, Jump, part_laws};

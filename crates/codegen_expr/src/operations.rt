@@ -2,9 +2,9 @@
 
 ghost use Rattle.std.specs.Prelude.{◌≡◌, ◌++◌, ◌≤◌, OnOk};
 ghost use Rattle.nwq_value.specs.Limits.{struct_cell_limit};
-ghost use Rattle.code_emission.specs.Bounds.{IsOperator};
-ghost use Rattle.code_emission.specs.Operations as operations;
-ghost use Rattle.code_emission.specs.Expressions as code;
+ghost use Rattle.emission_rules.specs.Bounds.{IsOperator};
+ghost use Rattle.emission_rules.specs.Operations as operations;
+ghost use Rattle.emission_rules.specs.Expressions as code;
 ghost use Rattle.ncs_code.specs.Plain.{plain};
 ghost use Rattle.ncs_code.specs.Spelling.{HasRow};
 ghost use Rattle.codegen_expr.specs.Parts.{plain_shortcut, prefix_behind};

@@ -3,10 +3,10 @@
 ghost use Rattle.std.specs.Prelude.{◌≡◌, ◌++◌, ◌-◌, ◌<◌, ◌≤◌, ◌^◌, Some, IfOk, OnOk};
 ghost use Rattle.std.specs.Option.{option_map};
 ghost use Rattle.nwq_value.specs.Limits.{struct_cell_limit};
-ghost use Rattle.nss_typing.specs.Reading.{plain as plain_expr};
-ghost use Rattle.code_emission.specs.Bounds.{IsType, depth_limit};
-ghost use Rattle.code_emission.specs.Expressions as code;
-ghost use Rattle.code_emission.specs.Operations as operations;
+ghost use Rattle.typing_rules.specs.Reading.{plain as plain_expr};
+ghost use Rattle.emission_rules.specs.Bounds.{IsType, depth_limit};
+ghost use Rattle.emission_rules.specs.Expressions as code;
+ghost use Rattle.emission_rules.specs.Operations as operations;
 ghost use Rattle.ncs_code.specs.Plain.{plain};
 ghost use Rattle.ncs_code.specs.Spelling.{HasRow};
 ghost use Rattle.codegen_expr.specs.Parts.{plain_home, prefix_before};
@@ -17,8 +17,8 @@ use ncs_code::Op;
 use ncs_emit::Emitter;
 use nss_layout::Layout;
 use nss_tree::{AssignOperator, PrefixOperator};
-use nss_typing::{Expression, Place};
 use nwq_value::{NoMemory, Ty};
+use typing_rules::{Expression, Place};
 
 /// Where the cells of a place begin: so many cells above the bottom of the frame, or of the
 /// globals.
@@ -56,7 +56,7 @@ fn name_home(layout: &Layout, place: &Place) -> Option<Home>
 }
 
 /// Where an expression lies, if it is a place.
-#[tactic(auto, using(nss_typing::specs::Readings::known))]
+#[tactic(auto, using(typing_rules::specs::Readings::known))]
 pub(crate) fn home_of(layout: &Layout, e: &Expression) -> Result<Option<Home>, NoMemory>
     ensures { IfOk result
         (λ home. option_map plain_home home ≡ code.home layout.now (plain_expr e.now)) }

@@ -10,15 +10,15 @@ use Rattle.nss_tree.specs.Statements.{PlainStmt, map_stmt, map_stmts}
 use Rattle.nwq_value.specs.declared.value.Ty.{Ty}
 use Rattle.nwq_value.specs.declared.engine.Const.{Const}
 use Rattle.ncs_emit.specs.Labelled.{LabelledCode}
-use Rattle.nss_typing.specs.declared.expressions.Expression.{Expression}
-use Rattle.nss_typing.specs.declared.places.Variable.{Variable}
-use Rattle.nss_typing.specs.Reading.{plain}
-use Rattle.nss_typing.specs.Typed.{TypedExpr, TypedName, TypedStmt, TypedStmts}
-use Rattle.nss_typing.specs.UnitReading.{typed_names, typed_stmt, typed_stmts}
-use Rattle.code_emission.specs.Bounds.{depth_limit, weight, some_weight, stmt_weight, IsExpr, IsSome, IsStmt, AreStmts}
-use Rattle.code_emission.specs.Layout.{Layout}
-use Rattle.code_emission.specs.Expressions.{labels}
-use Rattle.code_emission.specs.Statements.{Exits, in_loop, in_switch, some_labels, count_labels, stmt_labels, emit_stmt}
+use Rattle.typing_rules.specs.declared.expressions.Expression.{Expression}
+use Rattle.typing_rules.specs.declared.places.Variable.{Variable}
+use Rattle.typing_rules.specs.Reading.{plain}
+use Rattle.typing_rules.specs.Typed.{TypedExpr, TypedName, TypedStmt, TypedStmts}
+use Rattle.typing_rules.specs.UnitReading.{typed_names, typed_stmt, typed_stmts}
+use Rattle.emission_rules.specs.Bounds.{depth_limit, weight, some_weight, stmt_weight, IsExpr, IsSome, IsStmt, AreStmts}
+use Rattle.emission_rules.specs.Layout.{Layout}
+use Rattle.emission_rules.specs.Expressions.{labels}
+use Rattle.emission_rules.specs.Statements.{Exits, in_loop, in_switch, some_labels, count_labels, stmt_labels, emit_stmt}
 use Rattle.codegen_expr.specs.Emitted.{IsReady, extended}
 use Rattle.codegen_unit.specs.declared.exits.Target.{Target}
 use Rattle.codegen_unit.specs.declared.exits.Exits as code

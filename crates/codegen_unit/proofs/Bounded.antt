@@ -6,12 +6,12 @@ use Rattle.nwq_value.specs.declared.engine.Const.{Const}
 use Rattle.nwq_value.specs.declared.engine.Const.TheVariants as const
 use Rattle.nss_tree.specs.Statements.{block, empty, expression, if_only, if_else, while_loop, do_loop, for_loop, switch, break_off, continue_on, return_from, declaration, case_label, default_label, no_stmt, more_stmts}
 use Rattle.ncs_emit.specs.Labelled.{Line, LabelledCode}
-use Rattle.nss_typing.specs.declared.places.Callee.{Callee}
-use Rattle.nss_typing.specs.declared.places.Callee.TheVariants.{Unit as InUnit, Engine}
-use Rattle.nss_typing.specs.Typed.{TypedExpr, TypedExprs, TypedName, TypedStmt, TypedStmts, no_typed, more_typed, literal, name, call, member, prefix, postfix, binary, assign, type_of}
-use Rattle.code_emission.specs.Bounds.{IsExpr, AreExprs, IsSome, AreNames, IsStmt, AreStmts, IsCallee}
-use Rattle.code_emission.specs.Expressions.{count_arguments}
-use Rattle.code_emission.specs.Layout.{Layout, cells}
+use Rattle.typing_rules.specs.declared.places.Callee.{Callee}
+use Rattle.typing_rules.specs.declared.places.Callee.TheVariants.{Unit as InUnit, Engine}
+use Rattle.typing_rules.specs.Typed.{TypedExpr, TypedExprs, TypedName, TypedStmt, TypedStmts, no_typed, more_typed, literal, name, call, member, prefix, postfix, binary, assign, type_of}
+use Rattle.emission_rules.specs.Bounds.{IsExpr, AreExprs, IsSome, AreNames, IsStmt, AreStmts, IsCallee}
+use Rattle.emission_rules.specs.Expressions.{count_arguments}
+use Rattle.emission_rules.specs.Layout.{Layout, cells}
 use Rattle.codegen_expr.specs.Emitted.{IsReady, extended}
 
 const_few : (l : Layout) (k : Const) → cells l.structs (type_of (literal k)) ≤ struct_cell_limit

@@ -6,12 +6,12 @@ use Rattle.nss_tree.specs.Statements as s
 use Rattle.ncs_emit.specs.declared.jump.Jump.TheVariants.{Jmp, Jz}
 use Rattle.ncs_emit.specs.Labelled.{Line, JumpTo, Label, LabelledCode, placements}
 use Rattle.ncs_emit.specs.Laws.{PlacementsAdd}
-use Rattle.nss_typing.specs.Typed.{TypedExpr, TypedStmt, TypedStmts, type_of}
-use Rattle.code_emission.specs.Parts.{ExprsPlaceAbove, StmtPlacesAbove}
-use Rattle.code_emission.specs.Layout.{Layout, cells, declared_cells, all_declared_cells}
-use Rattle.code_emission.specs.Operations.{dropped}
-use Rattle.code_emission.specs.Expressions.{emit, labels}
-use Rattle.code_emission.specs.Statements.{Exits, in_switch, is_label, is_default, count_labels, behind, placed, placed_on, test_of, tests, otherwise, evaluated, tested, some_labels, stmt_labels, all_stmt_labels, emit_stmt, emit_stmts}
+use Rattle.typing_rules.specs.Typed.{TypedExpr, TypedStmt, TypedStmts, type_of}
+use Rattle.emission_rules.specs.Parts.{ExprsPlaceAbove, StmtPlacesAbove}
+use Rattle.emission_rules.specs.Layout.{Layout, cells, declared_cells, all_declared_cells}
+use Rattle.emission_rules.specs.Operations.{dropped}
+use Rattle.emission_rules.specs.Expressions.{emit, labels}
+use Rattle.emission_rules.specs.Statements.{Exits, in_switch, is_label, is_default, count_labels, behind, placed, placed_on, test_of, tests, otherwise, evaluated, tested, some_labels, stmt_labels, all_stmt_labels, emit_stmt, emit_stmts}
 use Rattle.codegen_expr.specs.Emitted.{extended}
 
 -- ---- where a switch goes on

@@ -9,14 +9,14 @@ use Rattle.nwq_value.specs.declared.value.Ty.{Ty}
 use Rattle.nwq_value.specs.declared.engine.Const.{Const}
 use Rattle.ncs_emit.specs.Labelled.{Line, Label, LabelledCode, placements}
 use Rattle.ncs_emit.specs.Laws.{PlacementsAdd}
-use Rattle.nss_typing.specs.declared.expressions.Expression.{Expression}
-use Rattle.nss_typing.specs.declared.places.Variable.{Variable}
-use Rattle.nss_typing.specs.Typed.{TypedName, TypedStmt, TypedStmts}
-use Rattle.nss_typing.specs.UnitReading.{typed_stmt, typed_stmts}
-use Rattle.code_emission.specs.Parts.{StmtPlacesAbove}
-use Rattle.code_emission.specs.Bounds.{depth_limit, names_weight, stmt_weight, all_stmt_weight, IsStmt, AreStmts, AreNames}
-use Rattle.code_emission.specs.Layout.{Layout, names_cells, declared_cells, all_declared_cells}
-use Rattle.code_emission.specs.Statements.{Exits, is_label, count_labels, placed, placed_on, stmt_labels, all_stmt_labels, emit_stmt, emit_stmts}
+use Rattle.typing_rules.specs.declared.expressions.Expression.{Expression}
+use Rattle.typing_rules.specs.declared.places.Variable.{Variable}
+use Rattle.typing_rules.specs.Typed.{TypedName, TypedStmt, TypedStmts}
+use Rattle.typing_rules.specs.UnitReading.{typed_stmt, typed_stmts}
+use Rattle.emission_rules.specs.Parts.{StmtPlacesAbove}
+use Rattle.emission_rules.specs.Bounds.{depth_limit, names_weight, stmt_weight, all_stmt_weight, IsStmt, AreStmts, AreNames}
+use Rattle.emission_rules.specs.Layout.{Layout, names_cells, declared_cells, all_declared_cells}
+use Rattle.emission_rules.specs.Statements.{Exits, is_label, count_labels, placed, placed_on, stmt_labels, all_stmt_labels, emit_stmt, emit_stmts}
 use Rattle.codegen_expr.specs.Emitted.{extended}
 use Rattle.codegen_unit.specs.declared.exits.Exits as code
 use Rattle.codegen_unit.specs.Ready.{AreOpenIn, IsOpenAt, StmtReady, StmtsReady, SwitchReady, leads}

@@ -9,13 +9,13 @@ use Rattle.nss_tree.specs.Statements.{PlainStmt, case_label, no_stmt, more_stmts
 use Rattle.nwq_value.specs.declared.value.Ty.{Ty}
 use Rattle.nwq_value.specs.declared.engine.Const.{Const}
 use Rattle.ncs_emit.specs.Labelled.{Line, LabelledCode}
-use Rattle.nss_typing.specs.declared.expressions.Expression.{Expression}
-use Rattle.nss_typing.specs.declared.places.Variable.{Variable}
-use Rattle.nss_typing.specs.Reading.{plain}
-use Rattle.nss_typing.specs.UnitReading.{typed_stmt, typed_stmts}
-use Rattle.nss_typing.specs.Typed.{TypedStmts}
-use Rattle.code_emission.specs.Layout.{Structs, declared_cells}
-use Rattle.code_emission.specs.Statements.{is_label, is_default, count_labels, behind, test_of, tests, otherwise}
+use Rattle.typing_rules.specs.declared.expressions.Expression.{Expression}
+use Rattle.typing_rules.specs.declared.places.Variable.{Variable}
+use Rattle.typing_rules.specs.Reading.{plain}
+use Rattle.typing_rules.specs.UnitReading.{typed_stmt, typed_stmts}
+use Rattle.typing_rules.specs.Typed.{TypedStmts}
+use Rattle.emission_rules.specs.Layout.{Structs, declared_cells}
+use Rattle.emission_rules.specs.Statements.{is_label, is_default, count_labels, behind, test_of, tests, otherwise}
 
 pub known_label : (the : Stmt Expression Const Ty Variable) (s : PlainStmt Expression Const Ty Variable) (v : Bool) → tree_of_stmt the ≡ s → is_label (map_stmt plain s) ≡ v → v ≡ is_label (typed_stmt the)
 known_label the s v is e = sym (ap (λ t. is_label (map_stmt plain t)) is ∙ e)

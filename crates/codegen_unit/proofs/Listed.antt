@@ -10,18 +10,18 @@ use Rattle.nwq_value.specs.declared.engine.Const.{Const}
 use Rattle.ncs_code.specs.Plain as ops
 use Rattle.ncs_emit.specs.Labelled.{Line, Instruction, Label, LabelledCode, placements}
 use Rattle.ncs_emit.specs.Laws.{PlacementsAdd}
-use Rattle.nss_typing.specs.declared.expressions.Expression.{Expression}
-use Rattle.nss_typing.specs.declared.places.Variable.{Variable}
-use Rattle.nss_typing.specs.declared.places.EntryPoint.{EntryPoint}
-use Rattle.nss_typing.specs.declared.places.EntryPoint.TheVariants.{Main, Conditional}
-use Rattle.nss_typing.specs.Typed.{TypedItem, TypedName, TypedParameter, TypedStmts, TypedUnit}
-use Rattle.nss_typing.specs.UnitReading.{typed_item, typed_items}
-use Rattle.code_emission.specs.Parts.{NamesPlaceAbove, StmtsPlaceAbove}
-use Rattle.code_emission.specs.Bounds.{depth_limit, globals_weight, AreItems, IsBounded}
-use Rattle.code_emission.specs.Layout.{Layout, layout_of, names_cells, item_cells, global_cells, params_cells, all_declared_cells}
-use Rattle.code_emission.specs.Operations.{dropped}
-use Rattle.code_emission.specs.Statements.{Exits, no_exits, names_labels, emit_names, all_stmt_labels, emit_stmts}
-use Rattle.code_emission.specs.Units.{body_count, functions_labels, emit_function, has_globals, globals_labels, emit_globals, entry_call, start_labels, emit_start, unit_code}
+use Rattle.typing_rules.specs.declared.expressions.Expression.{Expression}
+use Rattle.typing_rules.specs.declared.places.Variable.{Variable}
+use Rattle.typing_rules.specs.declared.places.EntryPoint.{EntryPoint}
+use Rattle.typing_rules.specs.declared.places.EntryPoint.TheVariants.{Main, Conditional}
+use Rattle.typing_rules.specs.Typed.{TypedItem, TypedName, TypedParameter, TypedStmts, TypedUnit}
+use Rattle.typing_rules.specs.UnitReading.{typed_item, typed_items}
+use Rattle.emission_rules.specs.Parts.{NamesPlaceAbove, StmtsPlaceAbove}
+use Rattle.emission_rules.specs.Bounds.{depth_limit, globals_weight, AreItems, IsBounded}
+use Rattle.emission_rules.specs.Layout.{Layout, layout_of, names_cells, item_cells, global_cells, params_cells, all_declared_cells}
+use Rattle.emission_rules.specs.Operations.{dropped}
+use Rattle.emission_rules.specs.Statements.{Exits, no_exits, names_labels, emit_names, all_stmt_labels, emit_stmts}
+use Rattle.emission_rules.specs.Units.{body_count, functions_labels, emit_function, has_globals, globals_labels, emit_globals, entry_call, start_labels, emit_start, unit_code}
 use Rattle.codegen_expr.specs.Emitted.{extended}
 use Rattle.codegen_unit.specs.Ready.{AreFunctionsOpen, FunctionsReady, GlobalsReady}
 use Rattle.codegen_unit.proofs.Bounded.{all_names_grow, stmts_grow}

@@ -4,13 +4,13 @@ use Rattle.std.specs.Option.{option_map}
 use Rattle.std.proofs.lemmas.List.{at_drop_more}
 use Rattle.nss_tree.specs.declared.statements.DeclaredName.{DeclaredName}
 use Rattle.ncs_emit.specs.Labelled.{LabelledCode}
-use Rattle.nss_typing.specs.declared.expressions.Expression.{Expression}
-use Rattle.nss_typing.specs.declared.places.Variable.{Variable}
-use Rattle.nss_typing.specs.Reading.{plain}
-use Rattle.nss_typing.specs.Typed.{TypedName}
-use Rattle.nss_typing.specs.UnitReading.{typed_name, typed_names}
-use Rattle.code_emission.specs.Layout.{Layout, cells}
-use Rattle.code_emission.specs.Statements.{emit_names, initial, names_labels, some_labels}
+use Rattle.typing_rules.specs.declared.expressions.Expression.{Expression}
+use Rattle.typing_rules.specs.declared.places.Variable.{Variable}
+use Rattle.typing_rules.specs.Reading.{plain}
+use Rattle.typing_rules.specs.Typed.{TypedName}
+use Rattle.typing_rules.specs.UnitReading.{typed_name, typed_names}
+use Rattle.emission_rules.specs.Layout.{Layout, cells}
+use Rattle.emission_rules.specs.Statements.{emit_names, initial, names_labels, some_labels}
 use Rattle.codegen_expr.specs.Emitted.{extended}
 use Rattle.codegen_unit.specs.Ready.{NamesReady}
 use Rattle.codegen_unit.proofs.Bounded.{all_names_grow, extended_twice}

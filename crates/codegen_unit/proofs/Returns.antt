@@ -4,11 +4,11 @@ use Rattle.std.specs.Result.{OnOk}
 use Rattle.nss_tree.specs.Statements as s
 use Rattle.ncs_emit.specs.declared.jump.Jump.TheVariants.{Jmp, Jnz, Jz}
 use Rattle.ncs_emit.specs.Labelled.{Line, JumpTo, Label, LabelledCode}
-use Rattle.nss_typing.specs.Typed.{TypedExpr, TypedStmt, TypedStmts}
-use Rattle.code_emission.specs.Layout.{Layout, all_declared_cells}
-use Rattle.code_emission.specs.Operations.{dropped}
-use Rattle.code_emission.specs.Expressions.{emit, labels}
-use Rattle.code_emission.specs.Statements.{Exits, in_loop, no_exits, evaluated, tested, some_labels, stmt_labels, all_stmt_labels, emit_stmt, emit_stmts}
+use Rattle.typing_rules.specs.Typed.{TypedExpr, TypedStmt, TypedStmts}
+use Rattle.emission_rules.specs.Layout.{Layout, all_declared_cells}
+use Rattle.emission_rules.specs.Operations.{dropped}
+use Rattle.emission_rules.specs.Expressions.{emit, labels}
+use Rattle.emission_rules.specs.Statements.{Exits, in_loop, no_exits, evaluated, tested, some_labels, stmt_labels, all_stmt_labels, emit_stmt, emit_stmts}
 use Rattle.codegen_expr.specs.Emitted.{extended}
 
 on_ok : {T E P Q : Type 0} (r : Result T E) → OnOk r P → (P → Q) → OnOk r Q

@@ -1,12 +1,12 @@
 -- When the code of a statement can be added to labelled code.
 use Rattle.std.specs.Prelude.{◌≡◌, ℕ, ◌+◌, ◌<◌, ◌≤◌, ◌^◌, Bool, true, false, List, Option, None, Some, IsTrue}
 use Rattle.ncs_emit.specs.Labelled.{Line, placements}
-use Rattle.nss_typing.specs.Typed.{TypedExpr, TypedItem, TypedName, TypedStmt, TypedStmts}
-use Rattle.code_emission.specs.Layout.{Layout}
-use Rattle.code_emission.specs.Bounds.{depth_limit, stmt_weight, all_stmt_weight, names_weight, globals_weight, IsStmt, AreStmts, AreNames, AreItems}
-use Rattle.code_emission.specs.Units.{body_count, functions_labels, globals_labels}
-use Rattle.code_emission.specs.Statements as code
-use Rattle.code_emission.specs.Statements.{stmt_labels, all_stmt_labels, names_labels, count_labels}
+use Rattle.typing_rules.specs.Typed.{TypedExpr, TypedItem, TypedName, TypedStmt, TypedStmts}
+use Rattle.emission_rules.specs.Layout.{Layout}
+use Rattle.emission_rules.specs.Bounds.{depth_limit, stmt_weight, all_stmt_weight, names_weight, globals_weight, IsStmt, AreStmts, AreNames, AreItems}
+use Rattle.emission_rules.specs.Units.{body_count, functions_labels, globals_labels}
+use Rattle.emission_rules.specs.Statements as code
+use Rattle.emission_rules.specs.Statements.{stmt_labels, all_stmt_labels, names_labels, count_labels}
 use Rattle.codegen_expr.specs.Emitted.{IsReady}
 use Rattle.codegen_unit.specs.declared.exits.Target.{Target}
 use Rattle.codegen_unit.specs.declared.exits.Exits.{Exits}

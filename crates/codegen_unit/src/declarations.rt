@@ -2,11 +2,11 @@
 
 ghost use Rattle.std.specs.Prelude.{◌≡◌, ◌+◌, ◌≤◌, ◌<◌, ◌^◌, OnOk};
 ghost use Rattle.std.specs.Option.{option_map};
-ghost use Rattle.nss_typing.specs.Reading.{plain};
-ghost use Rattle.nss_typing.specs.UnitReading.{typed_names, typed_stmt};
-ghost use Rattle.code_emission.specs.Bounds.{IsType, depth_limit};
-ghost use Rattle.code_emission.specs.Layout as laid;
-ghost use Rattle.code_emission.specs.Statements as code;
+ghost use Rattle.typing_rules.specs.Reading.{plain};
+ghost use Rattle.typing_rules.specs.UnitReading.{typed_names, typed_stmt};
+ghost use Rattle.emission_rules.specs.Bounds.{IsType, depth_limit};
+ghost use Rattle.emission_rules.specs.Layout as laid;
+ghost use Rattle.emission_rules.specs.Statements as code;
 ghost use Rattle.codegen_expr.specs.Emitted.{extended};
 ghost use Rattle.codegen_unit.specs.Ready.{IsPartReady, NamesReady};
 
@@ -14,8 +14,8 @@ use codegen_expr::{emit_expr, start_cells};
 use ncs_emit::Emitter;
 use nss_layout::Layout;
 use nss_tree::Stmt;
-use nss_typing::{Expression, TypedName, TypedStmt};
 use nwq_value::{NoMemory, Ty};
+use typing_rules::{Expression, TypedName, TypedStmt};
 
 /// Makes the cells of a name: its first value, or the starting values of its type.
 fn emit_initial(

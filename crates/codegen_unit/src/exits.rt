@@ -1,7 +1,7 @@
 //! Where `break` and `continue` lead.
 
 ghost use Rattle.std.specs.Prelude.{◌≡◌, None, Some};
-ghost use Rattle.code_emission.specs.Statements as code;
+ghost use Rattle.emission_rules.specs.Statements as code;
 ghost use Rattle.codegen_unit.specs.Ready.{plain_exits};
 
 /// A label, and the depth that the frame has there.

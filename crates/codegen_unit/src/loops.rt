@@ -4,16 +4,16 @@ ghost use Rattle.std.specs.Prelude.{◌≡◌, ◌++◌, ◌∷◌, ◌<◌, [],
 ghost use Rattle.std.specs.Option.{option_map};
 ghost use Rattle.ncs_emit.specs.Labelled.{JumpTo, Label, placements};
 ghost use Rattle.ncs_emit.specs.declared.jump.Jump.TheVariants.{Jmp, Jz};
-ghost use Rattle.nss_typing.specs.Reading.{plain};
-ghost use Rattle.code_emission.specs.Statements as code;
+ghost use Rattle.typing_rules.specs.Reading.{plain};
+ghost use Rattle.emission_rules.specs.Statements as code;
 ghost use Rattle.codegen_expr.specs.Emitted.{extended};
 ghost use Rattle.codegen_unit.specs.Ready.{IsPartReady};
 
 use crate::parts::{emit_evaluated, emit_tested};
 use ncs_emit::{Emitter, Jump};
 use nss_layout::Layout;
-use nss_typing::Expression;
 use nwq_value::NoMemory;
+use typing_rules::Expression;
 
 /// A turn begins: it ends at a label where the test is 0.
 pub(crate) fn emit_turn(

@@ -6,13 +6,13 @@ ghost use Rattle.nwq_value.specs.Limits.{struct_cell_limit};
 ghost use Rattle.ncs_code.specs.Plain as ops;
 ghost use Rattle.ncs_emit.specs.Labelled.{Instruction, JumpTo};
 ghost use Rattle.ncs_emit.specs.declared.jump.Jump.TheVariants.{Jmp};
-ghost use Rattle.nss_typing.specs.Reading.{plain};
-ghost use Rattle.nss_typing.specs.Typed.{type_of};
-ghost use Rattle.code_emission.specs.Bounds.{depth_limit};
-ghost use Rattle.code_emission.specs.Expressions as expr;
-ghost use Rattle.code_emission.specs.Layout.{cells};
-ghost use Rattle.code_emission.specs.Operations.{dropped};
-ghost use Rattle.code_emission.specs.Statements as code;
+ghost use Rattle.typing_rules.specs.Reading.{plain};
+ghost use Rattle.typing_rules.specs.Typed.{type_of};
+ghost use Rattle.emission_rules.specs.Bounds.{depth_limit};
+ghost use Rattle.emission_rules.specs.Expressions as expr;
+ghost use Rattle.emission_rules.specs.Layout.{cells};
+ghost use Rattle.emission_rules.specs.Operations.{dropped};
+ghost use Rattle.emission_rules.specs.Statements as code;
 ghost use Rattle.codegen_expr.specs.Emitted.{IsReady, extended};
 ghost use Rattle.codegen_unit.specs.Ready.{IsMade, IsPartReady, depth_of, label_of, leads};
 
@@ -21,8 +21,8 @@ use codegen_expr::{drop_cells, emit_expr};
 use ncs_code::{Lit, Op};
 use ncs_emit::{Emitter, Jump};
 use nss_layout::Layout;
-use nss_typing::Expression;
 use nwq_value::NoMemory;
+use typing_rules::Expression;
 
 /// Evaluates an expression for its effect alone.
 #[tactic(auto, using(crate::proofs::Bounded::ready_few))]

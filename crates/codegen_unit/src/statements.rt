@@ -3,13 +3,13 @@
 ghost use Rattle.std.specs.Prelude.{◌≡◌, ◌++◌, ◌+◌, ◌-◌, ◌≤◌, IfOk, OnOk, None};
 ghost use Rattle.std.specs.Option.{option_map};
 ghost use Rattle.nss_tree.specs.Statements as tree;
-ghost use Rattle.nss_typing.specs.Reading.{plain};
-ghost use Rattle.nss_typing.specs.UnitReading.{typed_stmt, typed_stmts};
-ghost use Rattle.code_emission.specs.Bounds.{depth_limit};
-ghost use Rattle.code_emission.specs.Expressions as expr;
-ghost use Rattle.code_emission.specs.Layout.{all_declared_cells};
-ghost use Rattle.code_emission.specs.Operations.{dropped};
-ghost use Rattle.code_emission.specs.Statements as code;
+ghost use Rattle.typing_rules.specs.Reading.{plain};
+ghost use Rattle.typing_rules.specs.UnitReading.{typed_stmt, typed_stmts};
+ghost use Rattle.emission_rules.specs.Bounds.{depth_limit};
+ghost use Rattle.emission_rules.specs.Expressions as expr;
+ghost use Rattle.emission_rules.specs.Layout.{all_declared_cells};
+ghost use Rattle.emission_rules.specs.Operations.{dropped};
+ghost use Rattle.emission_rules.specs.Statements as code;
 ghost use Rattle.codegen_expr.specs.Emitted.{IsReady, extended};
 ghost use Rattle.codegen_unit.specs.Ready.{
   AreOpenIn,
@@ -26,13 +26,13 @@ use crate::exits::{Exits, in_loop, in_switch};
 use crate::loops::{emit_again, emit_turn};
 use crate::parts::{emit_effect, emit_evaluated, emit_leave, emit_return};
 use crate::switches::{close_switch, count_labels, emit_choice, make_labels, place_label};
-use code_emission::parts::places_above;
 use codegen_expr::{drop_cells, emit_expr};
+use emission_rules::parts::places_above;
 use ncs_emit::{Emitter, Jump, part_laws};
 use nss_layout::Layout;
 use nss_tree::Stmt;
-use nss_typing::{Expression, TypedStmt};
 use nwq_value::NoMemory;
+use typing_rules::{Expression, TypedStmt};
 
 #[cycle(statement)]
 pub(crate) fn statement(

@@ -1,16 +1,16 @@
 //! The labels of a switch, and the tests that lead to them.
 
 ghost use Rattle.std.specs.Prelude.{◌≡◌, ◌++◌, ◌+◌, ◌≤◌, ◌<◌, ◌^◌, ◌∷◌, [], ℕ, IfOk, OnOk};
-ghost use Rattle.nss_typing.specs.Reading.{plain};
-ghost use Rattle.nss_typing.specs.UnitReading.{typed_stmt, typed_stmts};
-ghost use Rattle.code_emission.specs.Bounds.{depth_limit};
-ghost use Rattle.code_emission.specs.Expressions as expr;
+ghost use Rattle.typing_rules.specs.Reading.{plain};
+ghost use Rattle.typing_rules.specs.UnitReading.{typed_stmt, typed_stmts};
+ghost use Rattle.emission_rules.specs.Bounds.{depth_limit};
+ghost use Rattle.emission_rules.specs.Expressions as expr;
 ghost use Rattle.codegen_expr.specs.Emitted.{IsReady, extended};
 ghost use Rattle.ncs_code.specs.Plain as ops;
 ghost use Rattle.ncs_emit.specs.Labelled.{Instruction, JumpTo, Label, placements};
 ghost use Rattle.ncs_emit.specs.declared.jump.Jump.TheVariants.{Jmp, Jnz};
-ghost use Rattle.code_emission.specs.Operations as operations;
-ghost use Rattle.code_emission.specs.Statements as code;
+ghost use Rattle.emission_rules.specs.Operations as operations;
+ghost use Rattle.emission_rules.specs.Statements as code;
 ghost use Rattle.codegen_unit.specs.Ready.{IsOpenAt};
 
 use codegen_expr::{drop_cells, emit_constant, emit_expr, emit_top_again};
@@ -18,8 +18,8 @@ use ncs_code::Op;
 use ncs_emit::{Emitter, Jump, part_laws};
 use nss_layout::Layout;
 use nss_tree::Stmt;
-use nss_typing::{Expression, TypedStmt};
 use nwq_value::{Const, NoMemory};
+use typing_rules::{Expression, TypedStmt};
 
 /// Whether a statement is a label of a switch.
 pub(crate) fn is_label(stmt: &TypedStmt) -> bool

@@ -9,10 +9,10 @@ use Rattle.nwq_value.specs.declared.engine.Role.TheVariants.{Uncallable}
 use Rattle.nwq_value.specs.declared.engine.Routine.{Routine}
 use Rattle.saved_state.specs.declared.saved.Saved.{Saved}
 use Rattle.stack_shape.specs.Calls.{is_callable, is_uncallable, is_void, result_types}
-use Rattle.machine_step.specs.Cells.{value_types}
-use Rattle.shape_tables.specs.Laws.{TablesTypeExecuteScript}
-use Rattle.engine_rows.specs.AlikeLaws.{call}
-use Rattle.engine_rows.specs.Engine.{engine}
+use Rattle.machine_rules.specs.Cells.{value_types}
+use Rattle.stack_rules.specs.Laws.{TablesTypeExecuteScript}
+use Rattle.world_rules.specs.AlikeLaws.{call}
+use Rattle.world_rules.specs.Engine.{engine}
 use Rattle.source_meaning.specs.Expressions.{parts_in}
 use Rattle.world_core.specs.Answers.{AnswersHaveTypes, IsOfType}
 use Rattle.command_meaning.specs.Units.{TablesAnswerInTypes}

@@ -6,19 +6,19 @@ use Rattle.nwq_value.specs.Limits.{file_limit}
 use Rattle.nwq_value.specs.Engine.{EngineTable, IsTable}
 use Rattle.nwq_outside.specs.Outside.{Contents}
 use Rattle.nss_lexer.specs.Strings.{ValuesAreBytes}
-use Rattle.nss_typing.specs.Typed.{TypedUnit}
-use Rattle.nss_typing.specs.Meaning.{TypesUnit}
+use Rattle.typing_rules.specs.Typed.{TypedUnit}
+use Rattle.typing_rules.specs.Meaning.{TypesUnit}
 use Rattle.nss_include.specs.declared.file.Source.{Source}
-use Rattle.code_emission.specs.Units.{unit_file}
-use Rattle.engine_rows.specs.Pure.{CellLookup}
-use Rattle.nwq_work.specs.declared.status.Status.{Status}
-use Rattle.nwq_work.specs.Work.{then, Stays, Does, Finished}
-use Rattle.nwq_work.specs.Parts.{value_or}
-use Rattle.nwq_work.specs.Sequences.{Parts, ends_first, goes_on, parts}
-use Rattle.nwq_sources.specs.Units.{PlainScript, UnitFate, Whole, Lacks, Exceeds, Faulty, IsUnitFate, whole, unit_by, unit_of}
-use Rattle.nwq_scripts.specs.Typings.{TypingFate, Whole as IsTyped, Faulty as Misfits, IsTypingFate, whole as typed, typing_by, typed_in}
-use Rattle.nwq_scripts.specs.Files.{file_by, file_in, compiled_in, compiled_named}
-use Rattle.plan_plays.specs.Scripts.{plays_file}
+use Rattle.emission_rules.specs.Units.{unit_file}
+use Rattle.world_rules.specs.Pure.{CellLookup}
+use Rattle.command_work.specs.declared.status.Status.{Status}
+use Rattle.command_work.specs.Work.{then, Stays, Does, Finished}
+use Rattle.command_work.specs.Parts.{value_or}
+use Rattle.command_work.specs.Sequences.{Parts, ends_first, goes_on, parts}
+use Rattle.command_sources.specs.Units.{PlainScript, UnitFate, Whole, Lacks, Exceeds, Faulty, IsUnitFate, whole, unit_by, unit_of}
+use Rattle.command_compile.specs.Typings.{TypingFate, Whole as IsTyped, Faulty as Misfits, IsTypingFate, whole as typed, typing_by, typed_in}
+use Rattle.command_compile.specs.Files.{file_by, file_in, compiled_in, compiled_named}
+use Rattle.command_plays.specs.Scripts.{plays_file}
 use Rattle.command_meaning.specs.Units.{IsUnitOf}
 use Rattle.command_meaning.specs.Scripts.{HoldBytes, IsScript, ScriptsHaveUnits, EndsCompiling, PlaysScript, ScriptsPlayUnits}
 use Rattle.command_meaning.proofs.Gathered.{unit_known}

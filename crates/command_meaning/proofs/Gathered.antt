@@ -14,7 +14,7 @@ use Rattle.nss_include.specs.declared.file.Source.{Source}
 use Rattle.nss_include.specs.Names.{file_name, spot_in, is_include_name}
 use Rattle.nss_include.specs.Pieces.{Piece, Token, Directive, BadDirective, BadByte, HasPieces, is_hash, is_include, is_string, directive, last_pieces, cut_directive, pieces}
 use Rattle.nss_include.specs.Units.{Lookup, Held, with_token, with_directive, with_file, reading_fault, is_among, Unfolds, ends, fails, gives, again, breaks_off, includes, IsUnit, unread, is_read}
-use Rattle.nwq_sources.specs.Units.{grammar_symbols}
+use Rattle.command_sources.specs.Units.{grammar_symbols}
 use Rattle.command_meaning.proofs.Literals.{IsByte, HasLiteral, split_literals}
 
 -- ---- pieces

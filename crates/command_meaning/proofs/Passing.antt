@@ -4,20 +4,20 @@ use Rattle.nwq_value.specs.Limits.{file_limit}
 use Rattle.nwq_value.specs.Engine.{EngineTable}
 use Rattle.nwq_outside.specs.Outside.{Contents}
 use Rattle.ncs_code.specs.Laws.{SizeLaws}
-use Rattle.nss_typing.specs.Typed.{TypedUnit}
-use Rattle.code_emission.specs.Units.{unit_file}
-use Rattle.code_emission.specs.Laws.{FileIsCode}
-use Rattle.emitted_shapes.specs.Laws.{UnitsAreWellStacked}
-use Rattle.typed_bounds.specs.Laws.{EachTypedUnitHasCode}
-use Rattle.nwq_files.specs.Codes.{Whole, whole, code_by, code_in}
-use Rattle.nwq_checks.specs.Checks.{CheckFate, Passes as PassesCheck, Unstacked, IsCheckFate, passes, unstacked, check_by, checked_in, loaded_in}
-use Rattle.nwq_work.specs.declared.status.Status.{Status}
-use Rattle.nwq_work.specs.Work.{Work, then, Stays, IsCut, Does, Finished}
-use Rattle.nwq_work.specs.Parts.{cut_here}
-use Rattle.nwq_work.specs.Outcomes.{IsSure}
-use Rattle.plan_plays.specs.Scripts.{plays_code, plays_file}
-use Rattle.plan_plays.specs.Laws.{SurePlays}
-use Rattle.engine_rows.specs.Pure.{CellLookup}
+use Rattle.typing_rules.specs.Typed.{TypedUnit}
+use Rattle.emission_rules.specs.Units.{unit_file}
+use Rattle.emission_rules.specs.Laws.{FileIsCode}
+use Rattle.emission_laws.specs.Laws.{UnitsAreWellStacked}
+use Rattle.typing_laws.specs.Laws.{EachTypedUnitHasCode}
+use Rattle.command_files.specs.Codes.{Whole, whole, code_by, code_in}
+use Rattle.command_files.specs.Checks.{CheckFate, Passes as PassesCheck, Unstacked, IsCheckFate, passes, unstacked, check_by, checked_in, loaded_in}
+use Rattle.command_work.specs.declared.status.Status.{Status}
+use Rattle.command_work.specs.Work.{Work, then, Stays, IsCut, Does, Finished}
+use Rattle.command_work.specs.Parts.{cut_here}
+use Rattle.command_work.specs.Outcomes.{IsSure}
+use Rattle.command_plays.specs.Scripts.{plays_code, plays_file}
+use Rattle.command_plays.specs.Laws.{SurePlays}
+use Rattle.world_rules.specs.Pure.{CellLookup}
 use Rattle.command_meaning.specs.Units.{code_of, Passes, UnitsAreWellTyped, UnitsPass}
 use Rattle.command_meaning.specs.Files.{FilesPlayTheirCode}
 

@@ -3,13 +3,13 @@ use Rattle.std.proofs.Common.{arith, ◌≡◌, ◌≤◌, ◌*◌, ℕ, zero, s
 use Rattle.nwq_value.specs.Engine.{EngineTable, IsTable}
 use Rattle.nwq_value.specs.Limits.{default_instruction_limit, default_entry_limit, default_until}
 use Rattle.nwq_outside.specs.Outside.{Contents}
-use Rattle.nss_typing.specs.Typed.{TypedUnit}
-use Rattle.area_objects.specs.Area.{empty_area}
+use Rattle.typing_rules.specs.Typed.{TypedUnit}
+use Rattle.area_rules.specs.Area.{empty_area}
 use Rattle.saved_state.specs.declared.saved.Saved.{Saved}
-use Rattle.engine_rows.specs.Pure.{CellLookup}
-use Rattle.engine_rows.specs.Trace.{trace_text}
-use Rattle.engine_rows.specs.Alike.{Alike}
-use Rattle.engine_rows.specs.Plays.{Played}
+use Rattle.world_rules.specs.Pure.{CellLookup}
+use Rattle.world_rules.specs.Trace.{trace_text}
+use Rattle.world_rules.specs.Alike.{Alike}
+use Rattle.world_rules.specs.Plays.{Played}
 use Rattle.module_player.specs.CodePlays.{code_runner, code_end_text}
 use Rattle.source_meaning.specs.Evaluation.{Deferred}
 use Rattle.source_meaning.specs.Scripts.{Listed, Setting}
@@ -18,11 +18,11 @@ use Rattle.source_meaning.specs.Carries.{Carries}
 use Rattle.source_meaning.specs.StayAlike.{EntriesKeepAlike}
 use Rattle.play_meaning.specs.Together.{PlayEnds, PlayStops, PlaysAlike}
 use Rattle.play_meaning.specs.EndTexts.{source_end_text}
-use Rattle.nwq_work.specs.declared.status.Status.{Status}
-use Rattle.nwq_work.specs.Work.{IsCut, Does, Finished}
-use Rattle.plan_worlds.specs.Worlds.{start_of, first_world}
-use Rattle.plan_plays.specs.Plays.{host_of}
-use Rattle.plan_plays.specs.Scripts.{listed, tells, plays_code}
+use Rattle.command_work.specs.declared.status.Status.{Status}
+use Rattle.command_work.specs.Work.{IsCut, Does, Finished}
+use Rattle.play_worlds.specs.Worlds.{start_of, first_world}
+use Rattle.command_plays.specs.Plays.{host_of}
+use Rattle.command_plays.specs.Scripts.{listed, tells, plays_code}
 use Rattle.command_meaning.specs.Units.{code_of, IsUnitOf}
 use Rattle.command_meaning.specs.Files.{FilesPlayTheirCode, FilesAreNotRefused}
 use Rattle.command_meaning.specs.Runs.{setting_of, source_world, source_played, code_played, sure_steps, answer_by, TellsMeaning, FewStepsEndAsMeant, UnstoppedRunsEndAsMeant, StoppedRunsBeginAsMeant}

@@ -2,14 +2,14 @@
 use Rattle.std.proofs.Common.{◌≡◌, inl, inr, ℕ, List, ◌++◌, Result, Err, ◌∙◌, append_assoc}
 use Rattle.nwq_outside.specs.Outside.{Contents}
 use Rattle.saved_state.specs.declared.saved.Saved.{Saved}
-use Rattle.engine_rows.specs.Trace.{trace_text}
-use Rattle.machine_step.specs.Machine.{Script}
-use Rattle.engine_rows.specs.Plays.{PlayEnd, Done, OutOfEntries, StoppedInside, Paused, Played}
+use Rattle.world_rules.specs.Trace.{trace_text}
+use Rattle.machine_rules.specs.Machine.{Script}
+use Rattle.world_rules.specs.Plays.{PlayEnd, Done, OutOfEntries, StoppedInside, Paused, Played}
 use Rattle.module_player.specs.CodePlays.{code_end_text}
-use Rattle.nwq_work.specs.declared.status.Status.{Status}
-use Rattle.nwq_work.specs.declared.status.Status.TheVariants.{Code}
-use Rattle.nwq_work.specs.Work.{IsCut, Does, Finished}
-use Rattle.plan_plays.specs.Scripts.{tells}
+use Rattle.command_work.specs.declared.status.Status.{Status}
+use Rattle.command_work.specs.declared.status.Status.TheVariants.{Code}
+use Rattle.command_work.specs.Work.{IsCut, Does, Finished}
+use Rattle.command_plays.specs.Scripts.{tells}
 use Rattle.command_meaning.specs.Runs.{answer_by, EndsAreAnswered}
 
 pub ends_are_answered : EndsAreAnswered

@@ -3,19 +3,19 @@ use Rattle.std.proofs.Common.{◌≡◌, ◌+◌, ℕ, List, [], ◌∷◌, Opti
 use Rattle.nwq_value.specs.declared.value.Ty.{Ty}
 use Rattle.nwq_value.specs.declared.value.Ty.TheVariants.{Void, Int}
 use Rattle.nwq_value.specs.Engine.{EngineTable}
-use Rattle.nss_typing.specs.declared.places.Callee.TheVariants.{Unit as InUnit, Engine}
-use Rattle.nss_typing.specs.declared.places.EntryPoint.{EntryPoint}
-use Rattle.nss_typing.specs.declared.places.EntryPoint.TheVariants.{Main, Conditional}
-use Rattle.nss_typing.specs.declared.places.Place.TheVariants.{Local, Global, Const as IsConst}
-use Rattle.nss_typing.specs.Typed.{TypedExpr, TypedExprs, TypedName, literal, name, call, member, prefix, postfix, binary, assign, no_typed, more_typed}
-use Rattle.code_emission.specs.Layout.{cells}
+use Rattle.typing_rules.specs.declared.places.Callee.TheVariants.{Unit as InUnit, Engine}
+use Rattle.typing_rules.specs.declared.places.EntryPoint.{EntryPoint}
+use Rattle.typing_rules.specs.declared.places.EntryPoint.TheVariants.{Main, Conditional}
+use Rattle.typing_rules.specs.declared.places.Place.TheVariants.{Local, Global, Const as IsConst}
+use Rattle.typing_rules.specs.Typed.{TypedExpr, TypedExprs, TypedName, literal, name, call, member, prefix, postfix, binary, assign, no_typed, more_typed}
+use Rattle.emission_rules.specs.Layout.{cells}
 use Rattle.source_meaning.specs.Scripts.{Function, functions, global_names}
 use Rattle.source_meaning.specs.Kept.{Site}
 use Rattle.source_meaning.specs.Fine.{IsFine, AreFine}
 use Rattle.source_meaning.specs.FineStatements.{IsFineValue, AreFineNames}
-use Rattle.emitted_shapes.specs.WellTyped.{start_site, IsBegin, IsFineEntry}
-use Rattle.emitted_shapes.specs.Laws.{SwitchesFit, FirstValuesCallEngine}
-use Rattle.typed_units.specs.Laws.{FunctionsArePlaced, GlobalsAreFine, HasEntry, EntriesArePlain}
+use Rattle.emission_laws.specs.WellTyped.{start_site, IsBegin, IsFineEntry}
+use Rattle.emission_laws.specs.Laws.{SwitchesFit, FirstValuesCallEngine}
+use Rattle.typed_laws.specs.Laws.{FunctionsArePlaced, GlobalsAreFine, HasEntry, EntriesArePlain}
 use Rattle.command_meaning.specs.Units.{UnitsAreWellTyped}
 
 -- ---- what is fine where no function can be called is so where some can

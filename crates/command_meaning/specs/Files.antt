@@ -3,13 +3,13 @@ use Rattle.std.specs.Prelude.{◌≢◌, ◌≤◌, ℕ, List, length, Result, E
 use Rattle.nwq_value.specs.Limits.{file_limit}
 use Rattle.nwq_value.specs.Engine.{EngineTable, IsTable}
 use Rattle.nwq_outside.specs.Outside.{Contents}
-use Rattle.nss_typing.specs.Typed.{TypedUnit}
-use Rattle.code_emission.specs.Units.{unit_file}
-use Rattle.engine_rows.specs.Pure.{CellLookup}
-use Rattle.nwq_work.specs.declared.status.Status.{Status}
-use Rattle.nwq_work.specs.declared.status.Status.TheVariants.{Code}
-use Rattle.nwq_work.specs.Work.{Does, Finished}
-use Rattle.plan_plays.specs.Scripts.{plays_code, plays_file}
+use Rattle.typing_rules.specs.Typed.{TypedUnit}
+use Rattle.emission_rules.specs.Units.{unit_file}
+use Rattle.world_rules.specs.Pure.{CellLookup}
+use Rattle.command_work.specs.declared.status.Status.{Status}
+use Rattle.command_work.specs.declared.status.Status.TheVariants.{Code}
+use Rattle.command_work.specs.Work.{Does, Finished}
+use Rattle.command_plays.specs.Scripts.{plays_code, plays_file}
 use Rattle.command_meaning.specs.Units.{code_of, IsUnitOf}
 
 -- A typed unit's file, under the name of its script, was loaded, checked and played, from these contents and taken bytes on.

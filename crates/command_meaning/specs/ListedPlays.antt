@@ -2,9 +2,9 @@
 use Rattle.std.specs.Prelude.{◌≡◌, ◌≤◌, ℕ, ◌*◌, List, map, Some, slice_get}
 use Rattle.nwq_value.specs.Engine.{EngineTable, IsTable}
 use Rattle.saved_state.specs.declared.saved.Saved.{Saved}
-use Rattle.engine_rows.specs.World.{World}
-use Rattle.engine_rows.specs.Alike.{Alike}
-use Rattle.engine_rows.specs.Plays.{Played}
+use Rattle.world_rules.specs.World.{World}
+use Rattle.world_rules.specs.Alike.{Alike}
+use Rattle.world_rules.specs.Plays.{Played}
 use Rattle.module_player.specs.CodePlays.{code_runner, code_play, code_end_text}
 use Rattle.source_meaning.specs.Evaluation.{Deferred}
 use Rattle.source_meaning.specs.Scripts.{Listed, Setting}
@@ -14,7 +14,7 @@ use Rattle.source_meaning.specs.Carries.{Carries}
 use Rattle.source_meaning.specs.Executing.{script_of}
 use Rattle.play_meaning.specs.Together.{PlayEnds, PlayStops, PlaysAlike}
 use Rattle.play_meaning.specs.EndTexts.{source_end_text}
-use Rattle.plan_plays.specs.Plays.{host_of}
+use Rattle.command_plays.specs.Plays.{host_of}
 use Rattle.command_meaning.specs.Units.{IsUnitOf}
 
 -- each listed unit is typed under the header

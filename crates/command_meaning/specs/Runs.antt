@@ -3,14 +3,14 @@ use Rattle.std.specs.Prelude.{◌≡◌, ◌≢◌, ℕ, List, [], ◌∷◌, �
 use Rattle.nwq_value.specs.Engine.{EngineTable}
 use Rattle.nwq_value.specs.Limits.{default_instruction_limit, default_entry_limit, default_until}
 use Rattle.nwq_outside.specs.Outside.{Contents}
-use Rattle.nss_typing.specs.Typed.{TypedUnit}
-use Rattle.area_objects.specs.Area.{empty_area}
+use Rattle.typing_rules.specs.Typed.{TypedUnit}
+use Rattle.area_rules.specs.Area.{empty_area}
 use Rattle.saved_state.specs.declared.saved.Saved.{Saved}
-use Rattle.engine_rows.specs.Pure.{CellLookup}
-use Rattle.engine_rows.specs.Trace.{trace_text}
-use Rattle.engine_rows.specs.Turns.{new_world}
-use Rattle.engine_rows.specs.World.{World}
-use Rattle.engine_rows.specs.Plays.{PlayEnd, Done, OutOfEntries, StoppedInside, Paused, Played}
+use Rattle.world_rules.specs.Pure.{CellLookup}
+use Rattle.world_rules.specs.Trace.{trace_text}
+use Rattle.world_rules.specs.Turns.{new_world}
+use Rattle.world_rules.specs.World.{World}
+use Rattle.world_rules.specs.Plays.{PlayEnd, Done, OutOfEntries, StoppedInside, Paused, Played}
 use Rattle.module_player.specs.CodePlays.{code_runner, code_end_text}
 use Rattle.source_meaning.specs.Evaluation.{Deferred}
 use Rattle.source_meaning.specs.Scripts.{Setting}
@@ -18,12 +18,12 @@ use Rattle.source_meaning.specs.Plays.{source_play}
 use Rattle.source_meaning.specs.Carries.{Carries}
 use Rattle.play_meaning.specs.Together.{Begins, PlaysAlike, StoppedAt}
 use Rattle.play_meaning.specs.EndTexts.{source_end_text}
-use Rattle.nwq_work.specs.declared.status.Status.{Status}
-use Rattle.nwq_work.specs.declared.status.Status.TheVariants.{Limit}
-use Rattle.nwq_work.specs.Work.{Stays, IsCut, Does, Finished}
-use Rattle.plan_worlds.specs.Worlds.{text_name, start_of, first_world}
-use Rattle.plan_plays.specs.Plays.{host_of, ends_by}
-use Rattle.plan_plays.specs.Scripts.{listed, played}
+use Rattle.command_work.specs.declared.status.Status.{Status}
+use Rattle.command_work.specs.declared.status.Status.TheVariants.{Limit}
+use Rattle.command_work.specs.Work.{Stays, IsCut, Does, Finished}
+use Rattle.play_worlds.specs.Worlds.{text_name, start_of, first_world}
+use Rattle.command_plays.specs.Plays.{host_of, ends_by}
+use Rattle.command_plays.specs.Scripts.{listed, played}
 use Rattle.command_meaning.specs.Units.{code_of}
 use Rattle.command_meaning.specs.Files.{PlaysFile}
 

@@ -4,14 +4,14 @@ use Rattle.std.specs.FinMap as fin_map
 use Rattle.nwq_value.specs.Engine.{EngineTable, IsTable}
 use Rattle.nwq_outside.specs.Outside.{Contents}
 use Rattle.nss_include.specs.Names.{file_name}
-use Rattle.nss_typing.specs.Typed.{TypedUnit}
-use Rattle.nss_typing.specs.Meaning.{TypesUnit}
-use Rattle.engine_rows.specs.Pure.{CellLookup}
-use Rattle.nwq_work.specs.declared.status.Status.{Status}
-use Rattle.nwq_work.specs.Work.{Does, Finished, then}
-use Rattle.nwq_sources.specs.Units.{PlainScript, Whole, IsUnitFate}
-use Rattle.nwq_scripts.specs.Files.{compiled_named}
-use Rattle.plan_plays.specs.Scripts.{plays_file}
+use Rattle.typing_rules.specs.Typed.{TypedUnit}
+use Rattle.typing_rules.specs.Meaning.{TypesUnit}
+use Rattle.world_rules.specs.Pure.{CellLookup}
+use Rattle.command_work.specs.declared.status.Status.{Status}
+use Rattle.command_work.specs.Work.{Does, Finished, then}
+use Rattle.command_sources.specs.Units.{PlainScript, Whole, IsUnitFate}
+use Rattle.command_compile.specs.Files.{compiled_named}
+use Rattle.command_plays.specs.Scripts.{plays_file}
 use Rattle.command_meaning.specs.Units.{IsUnitOf}
 use Rattle.command_meaning.specs.Files.{PlaysFile}
 

@@ -6,16 +6,16 @@ use Rattle.nwq_value.specs.Engine.{EngineTable, IsTable}
 use Rattle.nss_tree.specs.Source.{SourceTree}
 use Rattle.nss_symbols.specs.Symbols.{Symbol, IsLiteral}
 use Rattle.nss_parser.specs.Sentence.{Parses}
-use Rattle.nss_typing.specs.Typed.{TypedUnit}
-use Rattle.nss_typing.specs.Meaning.{TypesUnit}
+use Rattle.typing_rules.specs.Typed.{TypedUnit}
+use Rattle.typing_rules.specs.Meaning.{TypesUnit}
 use Rattle.ncs_code.specs.Plain.{PlainOp}
 use Rattle.ncs_code.specs.File.{IsCode}
 use Rattle.ncs_emit.specs.Labelled.{program}
-use Rattle.code_emission.specs.Units.{unit_code, unit_file}
-use Rattle.shape_tables.specs.Rules.{WellStacked}
-use Rattle.engine_rows.specs.Pure.{CellLookup}
+use Rattle.emission_rules.specs.Units.{unit_code, unit_file}
+use Rattle.stack_rules.specs.Rules.{WellStacked}
+use Rattle.world_rules.specs.Pure.{CellLookup}
 use Rattle.source_meaning.specs.EngineHost.{AnswersAreTyped}
-use Rattle.emitted_shapes.specs.WellTyped.{IsWellTyped}
+use Rattle.emission_laws.specs.WellTyped.{IsWellTyped}
 
 -- the instructions of a unit's code
 abbrev pub code_of : TypedUnit → List PlainOp

@@ -7,17 +7,17 @@ ghost use Rattle.command_meaning.specs.Runs.{StoppedRunsBeginAsMeant, UnstoppedR
 ghost use Rattle.command_meaning.specs.Scripts.{ScriptsHaveUnits, ScriptsPlayUnits};
 ghost use Rattle.command_meaning.specs.Units.{TablesAnswerInTypes, UnitsAreWellTyped, UnitsPass};
 
-use code_emission::laws::file_is_code;
-use emitted_shapes::{typed_units_fit, units_are_well_stacked};
+use command_plays::laws::one_code;
+use emission_laws::{typed_units_fit, units_are_well_stacked};
+use emission_rules::laws::file_is_code;
 use ncs_code::size_laws;
 use nss_lexer::laws::values_are_bytes;
-use plan_plays::laws::one_code;
 use play_meaning::{code_plays_end, end_texts_agree, source_plays_end, typed_scripts_are_ready};
 use saved_state::Saved;
-use shape_tables::tables_type_execute_script;
 use source_meaning::entries_stay_alike;
-use typed_bounds::laws::typed_units_have_code;
-use typed_units::{entries_are_plain, functions_are_placed, globals_are_fine};
+use stack_rules::tables_type_execute_script;
+use typed_laws::{entries_are_plain, functions_are_placed, globals_are_fine};
+use typing_laws::laws::typed_units_have_code;
 use world_core::answers_have_types;
 
 /// The values of a typed unit have the types that stand at their nodes, as the shapes of its code

@@ -4,7 +4,7 @@ ghost use Rattle.std.specs.Prelude.{◌≤◌, IsTrue, length};
 
 use crate::files::{BASE, changed_file};
 use area_back::into_tree;
-use area_objects::AreaFault;
+use area_rules::AreaFault;
 use area_tree::Area;
 use gff_bytes::View;
 use gff_read::read;

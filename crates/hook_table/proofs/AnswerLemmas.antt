@@ -5,8 +5,8 @@ use Rattle.nwq_value.specs.declared.value.Ty.{Ty}
 use Rattle.nwq_value.specs.declared.value.Ty.TheVariants.{Void}
 use Rattle.nwq_value.specs.declared.value.Value.{Value}
 use Rattle.nwq_value.specs.declared.value.Value.TheVariants.{Text as TextValue}
-use Rattle.engine_rows.specs.Arguments.{int_at, text_at}
-use Rattle.engine_rows.specs.Pure.{CellLookup, pure}
+use Rattle.world_rules.specs.Arguments.{int_at, text_at}
+use Rattle.world_rules.specs.Pure.{CellLookup, pure}
 use Rattle.table_2da.specs.Look.{cell_of, look}
 use Rattle.table_2da.specs.declared.tables.Named.{Named}
 use Rattle.hook_table.specs.Standard.{function_numbered, number_named, cell_function, IsAnswer}

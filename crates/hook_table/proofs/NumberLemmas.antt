@@ -8,7 +8,7 @@ use Rattle.std.specs.Char.{digit_value, is_ascii_digit}
 use Rattle.std.specs.List.{take_while}
 use Rattle.std.specs.Str.Parse.{digits_value_after}
 use Rattle.nwq_text.specs.Escape.{hex_digit}
-use Rattle.engine_rows.specs.Pure.{hex_digits}
+use Rattle.world_rules.specs.Pure.{hex_digits}
 
 -- the number of the digits in front, behind those that were read, in 32 bits
 abbrev pub read_on : ℕ → List ℕ → ℕ

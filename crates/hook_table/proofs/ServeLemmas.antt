@@ -10,7 +10,7 @@ use Rattle.nwq_value.specs.declared.engine.Role.TheVariants.{Pure}
 use Rattle.nwq_value.specs.declared.value.Ty.{Ty}
 use Rattle.nwq_value.specs.declared.value.Ty.TheVariants.{Void}
 use Rattle.nwq_value.specs.declared.value.Value.{Value}
-use Rattle.engine_rows.specs.Pure.{CellLookup, pure}
+use Rattle.world_rules.specs.Pure.{CellLookup, pure}
 use Rattle.table_2da.specs.Look.{cell_of}
 use Rattle.table_2da.specs.declared.tables.Named.{Named}
 use Rattle.hook_table.specs.Standard.{Function, standard, function_numbered, number_named, pure_numbered}

@@ -4,7 +4,7 @@ use Rattle.nwq_value.specs.Roles.{header_signatures}
 use Rattle.nwq_value.specs.declared.engine.Role.TheVariants.{Pure}
 use Rattle.nwq_value.specs.declared.value.Ty.{Ty}
 use Rattle.nwq_value.specs.declared.value.Value.{Value}
-use Rattle.engine_rows.specs.Pure.{pure}
+use Rattle.world_rules.specs.Pure.{pure}
 use Rattle.table_2da.specs.Look.{cell_of}
 use Rattle.table_2da.specs.declared.tables.Named.{Named}
 use Rattle.hook_table.specs.Standard.{Function, standard, function_numbered, cell_function, IsAnswer}

@@ -6,7 +6,7 @@ use Rattle.nwq_value.specs.Values.{type_of}
 use Rattle.nwq_value.specs.declared.value.Ty.{Ty}
 use Rattle.nwq_value.specs.declared.value.Ty.TheVariants.{Int, Text, Void}
 use Rattle.nwq_value.specs.declared.value.Value.{Value}
-use Rattle.engine_rows.specs.Pure.{CellLookup, pure}
+use Rattle.world_rules.specs.Pure.{CellLookup, pure}
 use Rattle.table_2da.specs.Look.{cell_of}
 use Rattle.table_2da.specs.declared.tables.Named.{Named}
 

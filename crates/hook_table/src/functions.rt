@@ -2,21 +2,21 @@ ghost use Rattle.std.specs.Prelude.{◌≡◌, ◌++◌, ◌≤◌, ◌<◌, Lis
 ghost use Rattle.std.specs.Fmt.{signed_decimal};
 ghost use Rattle.nwq_text.specs.Escape.{hex_digit};
 ghost use Rattle.nwq_value.specs.Limits.{text_limit};
-ghost use Rattle.engine_rows.specs.Arguments.{int_at, text_at, string_value};
-ghost use Rattle.engine_rows.specs.Pure.{CellLookup, pure, absolute, hex_digits, hex_string};
-ghost use Rattle.engine_rows.specs.Pure.{inserted};
-ghost use Rattle.engine_rows.specs.Pure.{leading_number, left_part, middle_part, right_part};
-ghost use Rattle.engine_rows.specs.Pure.{string_number};
+ghost use Rattle.world_rules.specs.Arguments.{int_at, text_at, string_value};
+ghost use Rattle.world_rules.specs.Pure.{CellLookup, pure, absolute, hex_digits, hex_string};
+ghost use Rattle.world_rules.specs.Pure.{inserted};
+ghost use Rattle.world_rules.specs.Pure.{leading_number, left_part, middle_part, right_part};
+ghost use Rattle.world_rules.specs.Pure.{string_number};
 ghost use Rattle.table_2da.specs.declared.tables.Named.{Named};
 ghost use Rattle.nwq_value.specs.declared.value.Value.TheVariants.{Text as TextValue};
 ghost use Rattle.table_2da.specs.Look.{look};
 ghost use Rattle.hook_table.specs.Standard.{cell_function, function_numbered, IsAnswer};
 
-use engine_rows::at_least_zero;
 use nwq_text::put_number;
 use nwq_value::{Args, NoMemory, Text, Value};
 use std::alloc::Global;
 use table_2da::Tables;
+use world_rules::at_least_zero;
 
 /// The int at a place of the arguments, 0 where there is none.
 fn int_at(args: &Args, i: usize) -> i32

@@ -6,7 +6,7 @@
 //! strings and numbers, [`cell_call`] that of the tenth, which looks a cell up in tables.
 //!
 //! `specs/Standard.antt` names the functions and says what an answer is, and `specs/Served.antt`
-//! which hooks serve a header's routines. The values themselves are defined in `engine_rows`. See
+//! which hooks serve a header's routines. The values themselves are defined in `world_rules`. See
 //! docs/ENGINE.md.
 #![tactic(auto)]
 

@@ -12,9 +12,9 @@ use Rattle.saved_state.specs.Cells.{cells_beneath, captured}
 use Rattle.ncs_code.specs.Plain.{PlainOp, RestoreBp, StoreState}
 use Rattle.ncs_code.specs.File.{resume_place}
 use Rattle.stack_shape.specs.Ranges.{cell_count}
-use Rattle.machine_step.specs.Frames.{Frame}
-use Rattle.machine_step.specs.Cells.{values_on, zero_on_top}
-use Rattle.machine_step.specs.Act.{Moves, Divides, cells_after, is_division, moved, next_place, place_after, restored, stored, stored_cells}
+use Rattle.machine_rules.specs.Frames.{Frame}
+use Rattle.machine_rules.specs.Cells.{values_on, zero_on_top}
+use Rattle.machine_rules.specs.Act.{Moves, Divides, cells_after, is_division, moved, next_place, place_after, restored, stored, stored_cells}
 use Rattle.machine_frames.specs.Tops.{bp_on_top}
 use Rattle.machine_frames.proofs.RunLemmas.{length_is}
 

@@ -5,8 +5,8 @@ use Rattle.ncs_code.specs.Plain.{PlainOp}
 use Rattle.ncs_code.specs.Plain as ops
 use Rattle.saved_state.specs.declared.cell.Cell.{Cell}
 use Rattle.saved_state.specs.Cells.{StackView}
-use Rattle.machine_step.specs.Act.{cells_after, if_ints, is_division}
-use Rattle.machine_step.specs.Cells.{of_ints}
+use Rattle.machine_rules.specs.Act.{cells_after, if_ints, is_division}
+use Rattle.machine_rules.specs.Cells.{of_ints}
 use Rattle.machine_frames.specs.declared.operation.Binary.{Binary}
 use Rattle.machine_frames.specs.Operations.{binary_of, divides, operation_of}
 

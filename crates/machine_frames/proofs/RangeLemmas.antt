@@ -14,11 +14,11 @@ use Rattle.saved_state.specs.declared.cell.Cell.TheVariants.{Value as Holds, Bas
 use Rattle.saved_state.specs.Cells.{StackView}
 use Rattle.stack_shape.specs.declared.range.CellRange.{CellRange}
 use Rattle.stack_shape.specs.Ranges.{cell_count, depth_of, range_of, range_at}
-use Rattle.machine_step.specs.Operators.{as_int}
-use Rattle.machine_step.specs.Values.{value_eq, values_eq}
-use Rattle.machine_step.specs.Cells.{values_on, values_at, value_types, with_values, overwritten, from_bp, range_pushed, values_written, range_written, int_written, int_changed, values_dropped, values_kept, runs_eq, runs_compared, pair_eq, pair_compared}
-use Rattle.machine_step.specs.Act.{bp_range}
-use Rattle.machine_step.specs.Laws.{EqualityIsTested}
+use Rattle.machine_rules.specs.Operators.{as_int}
+use Rattle.machine_rules.specs.Values.{value_eq, values_eq}
+use Rattle.machine_rules.specs.Cells.{values_on, values_at, value_types, with_values, overwritten, from_bp, range_pushed, values_written, range_written, int_written, int_changed, values_dropped, values_kept, runs_eq, runs_compared, pair_eq, pair_compared}
+use Rattle.machine_rules.specs.Act.{bp_range}
+use Rattle.machine_rules.specs.Laws.{EqualityIsTested}
 use Rattle.machine_frames.specs.Tops.{HasValue, HasInt, AreValues, answer_of, int_at, reached}
 use Rattle.machine_frames.proofs.Popped.{on_int_has, on_int_is}
 use Rattle.machine_frames.proofs.RunLemmas.{There, there, Got, got, length_is, get_dropped}

@@ -8,7 +8,7 @@ use Rattle.nwq_value.specs.declared.value.Value.{Value}
 use Rattle.saved_state.specs.declared.cell.Cell.{Cell}
 use Rattle.saved_state.specs.declared.cell.Cell.TheVariants.{Value as Holds, Base}
 use Rattle.saved_state.specs.Cells.{StackView}
-use Rattle.machine_step.specs.Cells.{values_on, with_values, overwritten}
+use Rattle.machine_rules.specs.Cells.{values_on, with_values, overwritten}
 use Rattle.machine_frames.specs.Tops.{HasValue, AreValues}
 
 -- ---- lists

@@ -12,8 +12,8 @@ use Rattle.saved_state.specs.declared.cell.Cell.{Cell}
 use Rattle.saved_state.specs.declared.cell.Cell.TheVariants.{Value as Holds, Base}
 use Rattle.saved_state.specs.declared.saved.Saved.{Saved}
 use Rattle.stack_shape.specs.Calls.{is_action, is_callable}
-use Rattle.machine_step.specs.Frames.{Frame}
-use Rattle.machine_step.specs.Calls.{Taken, with_value, with_action, value_taken, action_taken, taken, arguments}
+use Rattle.machine_rules.specs.Frames.{Frame}
+use Rattle.machine_rules.specs.Calls.{Taken, with_value, with_action, value_taken, action_taken, taken, arguments}
 use Rattle.machine_frames.specs.declared.arguments.Arguments.{Arguments}
 use Rattle.machine_frames.specs.Tops.{HasValue}
 use Rattle.machine_frames.specs.Takes.{AreTaken, IsCall, first_of, top_values, without_value}

@@ -4,7 +4,7 @@ use Rattle.std.specs.Prelude.{slice_get}
 use Rattle.nwq_value.specs.declared.value.Value.TheVariants.{Int, Text, Object, Effect, Event}
 use Rattle.saved_state.specs.declared.cell.Cell.{Cell}
 use Rattle.saved_state.specs.declared.cell.Cell.TheVariants.{Value as Holds, Base}
-use Rattle.machine_step.specs.Cells.{zero_on_top}
+use Rattle.machine_rules.specs.Cells.{zero_on_top}
 
 -- the top cell decides
 pub top_tells : (cells : List Cell) (c : Cell) → slice_get cells 0 ≡ Some c → zero_on_top cells ≡ zero_on_top (c ∷ [])

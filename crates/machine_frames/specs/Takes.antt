@@ -6,9 +6,9 @@ use Rattle.nwq_value.specs.declared.value.Value.{Value}
 use Rattle.saved_state.specs.declared.cell.Cell.{Cell}
 use Rattle.saved_state.specs.declared.cell.Cell.TheVariants.{Value as Holds}
 use Rattle.saved_state.specs.declared.saved.Saved.{Saved}
-use Rattle.machine_step.specs.Frames.{Frame}
-use Rattle.machine_step.specs.Calls.{Taken, arguments, taken}
-use Rattle.machine_step.specs.Act.{behind_call}
+use Rattle.machine_rules.specs.Frames.{Frame}
+use Rattle.machine_rules.specs.Calls.{Taken, arguments, taken}
+use Rattle.machine_rules.specs.Act.{behind_call}
 use Rattle.machine_frames.specs.declared.arguments.Arguments.{Arguments}
 
 -- the frame without the value on top

@@ -6,8 +6,8 @@ use Rattle.nwq_value.specs.declared.value.Value.TheVariants.{Int, Text}
 use Rattle.saved_state.specs.declared.cell.Cell.{Cell}
 use Rattle.saved_state.specs.declared.cell.Cell.TheVariants.{Value as Holds, Base}
 use Rattle.stack_shape.specs.declared.range.CellRange.{CellRange}
-use Rattle.machine_step.specs.Cells.{of_int, on_int, values_at, values_on}
-use Rattle.machine_step.specs.Operators.{opposite}
+use Rattle.machine_rules.specs.Cells.{of_int, on_int, values_at, values_on}
+use Rattle.machine_rules.specs.Operators.{opposite}
 
 pub record HasValue (depth : ℕ) (cells : List Cell) : Type 0 where
   pub value : Value

@@ -5,7 +5,7 @@ ghost use Rattle.nwq_value.specs.Limits.{file_limit};
 ghost use Rattle.ncs_code.specs.Plain.{Action};
 ghost use Rattle.ncs_code.specs.Spelling.{op_size};
 ghost use Rattle.stack_shape.specs.Calls.{is_action};
-ghost use Rattle.machine_step.specs.Calls.{arguments, taken};
+ghost use Rattle.machine_rules.specs.Calls.{arguments, taken};
 ghost use Rattle.machine_frames.specs.Tops.{HasValue};
 ghost use Rattle.machine_frames.specs.Takes.{AreTaken, IsCall, first_of, top_values};
 ghost use Rattle.machine_frames.specs.Takes.{without_value};

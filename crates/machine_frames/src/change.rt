@@ -4,8 +4,8 @@ ghost use Rattle.ncs_code.specs.Plain.{plain};
 ghost use Rattle.ncs_code.specs.Spelling.{op_size};
 ghost use Rattle.ncs_code.specs.File.{jump_place};
 ghost use Rattle.nwq_value.specs.Limits.{file_limit};
-ghost use Rattle.machine_step.specs.Act.{cells_after, is_division, place_after};
-ghost use Rattle.machine_step.specs.Cells.{zero_on_top};
+ghost use Rattle.machine_rules.specs.Act.{cells_after, is_division, place_after};
+ghost use Rattle.machine_rules.specs.Cells.{zero_on_top};
 ghost use Rattle.machine_frames.specs.Operations.{operation_of};
 
 use crate::operation::{Binary, Unary};
@@ -125,7 +125,7 @@ pub fn change(alloc: Global, stack: &mut Stack, op: &Op<'_>, own: u32) -> Result
 }
 
 /// The same of an instruction that isn't for two ints alone.
-#[tactic(auto, using(crate::proofs::RangeLemmas::reach_lemmas), unfolding(machine_step::specs::Act::cells_after))]
+#[tactic(auto, using(crate::proofs::RangeLemmas::reach_lemmas), unfolding(machine_rules::specs::Act::cells_after))]
 fn change_otherwise(alloc: Global, stack: &mut Stack, op: &Op<'_>, own: u32) -> Result<(), NoMemory>
     requires case { cells_after (plain op.now) own stack.old ≢ None }
     requires other { operation_of (plain op.now) ≡ None }

@@ -4,14 +4,14 @@ ghost use Rattle.std.specs.Prelude.{if◌then◌else◌};
 ghost use Rattle.nwq_value.specs.Limits.{file_limit};
 ghost use Rattle.ncs_code.specs.Plain.{plain, Jsr, SaveBp, RestoreBp, StoreState};
 ghost use Rattle.ncs_code.specs.Spelling.{op_size};
-ghost use Rattle.machine_step.specs.Frames.{started, continued};
-ghost use Rattle.machine_step.specs.Machine.{with_answer};
-ghost use Rattle.machine_step.specs.Act.{Moves, Divides, Returns, based, called, moved, restored};
-ghost use Rattle.machine_step.specs.Act.{returned, stored, stored_cells};
+ghost use Rattle.machine_rules.specs.Frames.{started, continued};
+ghost use Rattle.machine_rules.specs.Machine.{with_answer};
+ghost use Rattle.machine_rules.specs.Act.{Moves, Divides, Returns, based, called, moved, restored};
+ghost use Rattle.machine_rules.specs.Act.{returned, stored, stored_cells};
 ghost use Rattle.std.specs.Prelude.{◌∷◌};
 ghost use Rattle.std.specs.Option.{option_map};
 ghost use Rattle.machine_frames.specs.Tops.{bp_on_top};
-ghost use Rattle.machine_step.specs.Frames.{Frame as FrameView};
+ghost use Rattle.machine_rules.specs.Frames.{Frame as FrameView};
 
 use crate::change::{change, is_division, jump, place_after, zero_on_top};
 use crate::top::cell;
@@ -42,7 +42,7 @@ pub struct Frame {
 
 impl Model for Frame {
     ghost use Rattle.std.specs.Prelude.{reverse};
-    ghost use Rattle.machine_step.specs.Frames.{Frame as FrameView};
+    ghost use Rattle.machine_rules.specs.Frames.{Frame as FrameView};
 
     ghost Value = { FrameView };
 

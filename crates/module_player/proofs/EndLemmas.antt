@@ -9,13 +9,13 @@ use Rattle.action_queue.specs.declared.queue.Item.{Item}
 use Rattle.delay_agenda.specs.declared.entry.Entry.{Entry}
 use Rattle.nwq_value.specs.declared.value.Effect.{Effect}
 use Rattle.saved_state.specs.declared.saved.Saved.{Saved}
-use Rattle.engine_rows.specs.declared.data.Stood.{Stood}
-use Rattle.engine_rows.specs.declared.data.Things.{Things}
-use Rattle.engine_rows.specs.Kept.{IsWorld}
-use Rattle.engine_rows.specs.World.{World, count, effects_in, effects_of, queue_in, queue_of}
-use Rattle.engine_rows.specs.EndText.{by_object, due_line, end_line, end_text, end_word, item_line, queue_lines, standing_lines, world_text}
-use Rattle.machine_step.specs.Machine.{Script}
-use Rattle.engine_rows.specs.Plays.{PlayEnd, Played}
+use Rattle.world_rules.specs.declared.data.Stood.{Stood}
+use Rattle.world_rules.specs.declared.data.Things.{Things}
+use Rattle.world_rules.specs.Kept.{IsWorld}
+use Rattle.world_rules.specs.World.{World, count, effects_in, effects_of, queue_in, queue_of}
+use Rattle.world_rules.specs.EndText.{by_object, due_line, end_line, end_text, end_word, item_line, queue_lines, standing_lines, world_text}
+use Rattle.machine_rules.specs.Machine.{Script}
+use Rattle.world_rules.specs.Plays.{PlayEnd, Played}
 use Rattle.module_player.specs.declared.played.Played.{Played as Answer}
 use Rattle.module_player.specs.Answers.{EndsAs}
 use Rattle.module_player.specs.CodePlays.{code_end_text, script_name}

@@ -4,14 +4,14 @@ use Rattle.nwq_value.specs.declared.memory.NoMemory.{NoMemory}
 use Rattle.std.specs.Prelude.{Result, Ok, Err, IfOk, OnOk, ◌==◌, ◌&&◌, nat_le, IsTrue, length}
 use Rattle.std.proofs.lemmas.Bool.{le-leb}
 use Rattle.saved_state.specs.declared.saved.Saved.{Saved}
-use Rattle.machine_step.specs.Machine.{script_named}
-use Rattle.machine_step.specs.Runs.{run_stored}
-use Rattle.shape_tables.specs.Fits.{FitsOne}
-use Rattle.engine_rows.specs.Engine.{no_script}
-use Rattle.engine_rows.specs.Kept.{IsWorld, IsActing, IsTurned, FaultKeeps, TurnKeeps}
-use Rattle.engine_rows.specs.Turns.{Turned, fault, turn, turn_done, unapply}
-use Rattle.engine_rows.specs.World.{World, count as object_count, is_valid}
-use Rattle.engine_rows.specs.Plays.{Run, event_entry, named_entry, finished, turn_entry, entered_as}
+use Rattle.machine_rules.specs.Machine.{script_named}
+use Rattle.machine_rules.specs.Runs.{run_stored}
+use Rattle.stack_rules.specs.Fits.{FitsOne}
+use Rattle.world_rules.specs.Engine.{no_script}
+use Rattle.world_rules.specs.Kept.{IsWorld, IsActing, IsTurned, FaultKeeps, TurnKeeps}
+use Rattle.world_rules.specs.Turns.{Turned, fault, turn, turn_done, unapply}
+use Rattle.world_rules.specs.World.{World, count as object_count, is_valid}
+use Rattle.world_rules.specs.Plays.{Run, event_entry, named_entry, finished, turn_entry, entered_as}
 use Rattle.delay_agenda.specs.declared.entry.Kind.{Kind}
 use Rattle.delay_agenda.specs.declared.entry.Kind.TheVariants.{Stored, Unapply}
 use Rattle.ncs_machine.specs.Endings.{IsLeft}

@@ -4,4 +4,4 @@ pub mod Turning
 pub mod Playing
 pub mod Whole
 pub mod EndLemmas
-mod Worked
+mod Examples

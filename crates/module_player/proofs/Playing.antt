@@ -10,12 +10,12 @@ use Rattle.delay_agenda.specs.Order.{first_due}
 use Rattle.nwq_outside.specs.Outside.{Rises, TookPrefix}
 use Rattle.nwq_value.specs.Limits.{entry_limit, instruction_limit}
 use Rattle.saved_state.specs.declared.saved.Saved.{Saved}
-use Rattle.engine_rows.specs.declared.data.Line.{Line}
-use Rattle.engine_rows.specs.Trace.{line_text, trace_text}
-use Rattle.engine_rows.specs.Turns.{Begun, begin, begun, drained, user_number, with_entries}
-use Rattle.engine_rows.specs.World.{World}
-use Rattle.engine_rows.specs.Plays as plays
-use Rattle.engine_rows.specs.Plays.{Runner, Bounds, Progress, Played, Entered, after_entry, entered, full, further, next_entry, play_on, plays as plays_from}
+use Rattle.world_rules.specs.declared.data.Line.{Line}
+use Rattle.world_rules.specs.Trace.{line_text, trace_text}
+use Rattle.world_rules.specs.Turns.{Begun, begin, begun, drained, user_number, with_entries}
+use Rattle.world_rules.specs.World.{World}
+use Rattle.world_rules.specs.Plays as plays
+use Rattle.world_rules.specs.Plays.{Runner, Bounds, Progress, Played, Entered, after_entry, entered, full, further, next_entry, play_on, plays as plays_from}
 use Rattle.module_player.specs.declared.turn.Next.TheVariants.{Goes, Stops, Rests}
 use Rattle.module_player.specs.declared.played.How.{How}
 use Rattle.module_player.specs.declared.played.How.TheVariants as how

@@ -1,9 +1,9 @@
 -- Runs of an entry's scripts.
 use Rattle.std.proofs.Common.{arith, ◌≡◌, ◌≤◌, ℕ, zero, suc, Option, None, Some, sym, subst, ap}
 use Rattle.saved_state.specs.declared.saved.Saved.{Saved}
-use Rattle.machine_step.specs.Machine.{Host, State, Next, Goes, Ends, Divided, step}
-use Rattle.machine_step.specs.Runs as runs
-use Rattle.engine_rows.specs.World.{World}
+use Rattle.machine_rules.specs.Machine.{Host, State, Next, Goes, Ends, Divided, step}
+use Rattle.machine_rules.specs.Runs as runs
+use Rattle.world_rules.specs.World.{World}
 use Rattle.ncs_machine.specs.Endings.{IsLeft, IsRunOf}
 use Rattle.ncs_machine.specs.Host.{run_from}
 use Rattle.ncs_machine.specs.declared.scripts.Begin.{Begin}

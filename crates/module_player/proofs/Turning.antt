@@ -7,12 +7,12 @@ use Rattle.nwq_outside.specs.Outside.{Takes as TakesPiece, TookPrefix}
 use Rattle.nwq_outside.specs.declared.answer.Done.TheVariants as done
 use Rattle.nwq_value.specs.Limits.{time_limit}
 use Rattle.saved_state.specs.declared.saved.Saved.{Saved}
-use Rattle.engine_rows.specs.Kept.{IsActing, IsBegun, IsPlaced}
-use Rattle.engine_rows.specs.Trace.{trace_text}
-use Rattle.engine_rows.specs.Turns.{Begun, begin, drained}
-use Rattle.engine_rows.specs.World.{World, count as object_count}
-use Rattle.engine_rows.specs.Plays as plays
-use Rattle.engine_rows.specs.Plays.{Runner, entered_as}
+use Rattle.world_rules.specs.Kept.{IsActing, IsBegun, IsPlaced}
+use Rattle.world_rules.specs.Trace.{trace_text}
+use Rattle.world_rules.specs.Turns.{Begun, begin, drained}
+use Rattle.world_rules.specs.World.{World, count as object_count}
+use Rattle.world_rules.specs.Plays as plays
+use Rattle.world_rules.specs.Plays.{Runner, entered_as}
 use Rattle.ncs_machine.specs.Stored.{BeginKeepsFits, BegunFits, KindFits}
 use Rattle.module_player.specs.declared.entry.Entered.{Entered}
 use Rattle.module_player.specs.declared.turn.Next.{Next}

@@ -2,10 +2,10 @@
 use Rattle.std.proofs.Common.{arith, ◌≡◌, ◌≢◌, ◌≤◌, ◌+◌, ◌-◌, ℕ, zero, suc, Bool, true, false, Option, None, Some, ⊎_elim, subst, refl}
 use Rattle.std.specs.Prelude.{◌==◌, if◌then◌else◌}
 use Rattle.std.proofs.lemmas.Bool.Decides.{eqb_tells}
-use Rattle.engine_rows.specs.Turns.{Begun, begin}
-use Rattle.engine_rows.specs.World.{World}
-use Rattle.engine_rows.specs.Plays as plays
-use Rattle.engine_rows.specs.Plays.{Runner, Bounds, Progress, Played, PlayEnd, after_entry, entered, full, further, next_entry, plays as plays_from}
+use Rattle.world_rules.specs.Turns.{Begun, begin}
+use Rattle.world_rules.specs.World.{World}
+use Rattle.world_rules.specs.Plays as plays
+use Rattle.world_rules.specs.Plays.{Runner, Bounds, Progress, Played, PlayEnd, after_entry, entered, full, further, next_entry, plays as plays_from}
 use Rattle.module_player.specs.declared.played.How.{How}
 use Rattle.module_player.specs.declared.played.How.TheVariants as how
 use Rattle.module_player.specs.Answers.{EndsAs}

@@ -2,10 +2,10 @@
 use Rattle.std.specs.Prelude.{◌≡◌, ◌<◌, ◌^◌, ℕ, Bool, IsTrue, List, [], ◌++◌}
 use Rattle.nwq_outside.specs.Outside.{Rises, TookPrefix}
 use Rattle.saved_state.specs.declared.saved.Saved.{Saved}
-use Rattle.engine_rows.specs.Trace.{trace_text}
-use Rattle.engine_rows.specs.World.{World}
-use Rattle.engine_rows.specs.Plays as plays
-use Rattle.engine_rows.specs.Plays.{PlayEnd}
+use Rattle.world_rules.specs.Trace.{trace_text}
+use Rattle.world_rules.specs.World.{World}
+use Rattle.world_rules.specs.Plays as plays
+use Rattle.world_rules.specs.Plays.{PlayEnd}
 use Rattle.module_player.specs.declared.played.How.{How}
 use Rattle.module_player.specs.declared.played.Played.{Played}
 use Rattle.module_player.specs.Scenes.{Scene, FitIn}

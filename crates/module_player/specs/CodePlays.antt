@@ -1,13 +1,13 @@
--- The play of files: the play of `engine_rows`, with scripts that the machine runs.
+-- The play of files: the play of `world_rules`, with scripts that the machine runs.
 use Rattle.std.specs.Prelude.{ℕ, List, [], Option, None, Some, slice_get}
 use Rattle.nwq_value.specs.Engine.{EngineTable}
 use Rattle.saved_state.specs.declared.saved.Saved.{Saved}
 use Rattle.hook_table.specs.declared.hook.Known.{Known}
-use Rattle.machine_step.specs.Machine.{Host, Script, script_named}
-use Rattle.machine_step.specs.Runs as runs
-use Rattle.engine_rows.specs.World.{World}
-use Rattle.engine_rows.specs.Plays.{Ending, Over, Divided, Stopped, Run, Runner, Progress, Played, play, play_on}
-use Rattle.engine_rows.specs.EndText.{end_text}
+use Rattle.machine_rules.specs.Machine.{Host, Script, script_named}
+use Rattle.machine_rules.specs.Runs as runs
+use Rattle.world_rules.specs.World.{World}
+use Rattle.world_rules.specs.Plays.{Ending, Over, Divided, Stopped, Run, Runner, Progress, Played, play, play_on}
+use Rattle.world_rules.specs.EndText.{end_text}
 use Rattle.ncs_machine.specs.declared.scripts.Loaded.{Loaded}
 use Rattle.ncs_machine.specs.Host.{engine_view, host, scripts_of}
 

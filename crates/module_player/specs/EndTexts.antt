@@ -5,11 +5,11 @@ use Rattle.std.specs.List.{flat_map}
 use Rattle.nwq_text.specs.Values.{effect_text, object_text}
 use Rattle.nwq_value.specs.declared.value.Effect.{Effect}
 use Rattle.action_queue.specs.declared.queue.Item.{Item}
-use Rattle.engine_rows.specs.declared.data.Stood.{Stood}
-use Rattle.engine_rows.specs.World.{World}
+use Rattle.world_rules.specs.declared.data.Stood.{Stood}
+use Rattle.world_rules.specs.World.{World}
 use Rattle.saved_state.specs.declared.saved.Saved.{Saved}
-use Rattle.engine_rows.specs.Plays as plays
-use Rattle.engine_rows.specs.EndText.{item_line}
+use Rattle.world_rules.specs.Plays as plays
+use Rattle.world_rules.specs.EndText.{item_line}
 use Rattle.module_player.specs.declared.played.How.{How}
 use Rattle.module_player.specs.declared.played.How.TheVariants.{Done, InstrStop, EntryStop, Pause, Fault, NoMemory}
 use Rattle.module_player.specs.declared.played.Played.{Played}

@@ -1,12 +1,12 @@
 -- What is told of an entry's scripts, and of an entry.
 use Rattle.std.specs.Prelude.{◌≡◌, ◌≤◌, ◌<◌, ◌+◌, ◌^◌, ℕ, List}
-use Rattle.machine_step.specs.Machine.{Script}
-use Rattle.shape_tables.specs.Fits.{Tables}
+use Rattle.machine_rules.specs.Machine.{Script}
+use Rattle.stack_rules.specs.Fits.{Tables}
 use Rattle.saved_state.specs.declared.saved.Saved.{Saved}
-use Rattle.engine_rows.specs.World.{World}
-use Rattle.engine_rows.specs.Turns.{turn}
-use Rattle.engine_rows.specs.Plays as plays
-use Rattle.engine_rows.specs.Plays.{Ending, Run, Runner, turn_entry}
+use Rattle.world_rules.specs.World.{World}
+use Rattle.world_rules.specs.Turns.{turn}
+use Rattle.world_rules.specs.Plays as plays
+use Rattle.world_rules.specs.Plays.{Ending, Run, Runner, turn_entry}
 use Rattle.ncs_machine.specs.Endings.{IsLeft}
 use Rattle.ncs_machine.specs.Stored.{StatesFit}
 use Rattle.module_player.specs.declared.scripts.Ended.{Ended}

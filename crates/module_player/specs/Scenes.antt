@@ -3,11 +3,11 @@ use Rattle.std.specs.Prelude.{◌<◌, ◌^◌, ℕ, List, length}
 use Rattle.nwq_value.specs.Engine.{EngineTable}
 use Rattle.saved_state.specs.declared.saved.Saved.{Saved}
 use Rattle.hook_table.specs.declared.hook.Known.{Known}
-use Rattle.machine_step.specs.Machine.{Host, Script}
-use Rattle.shape_tables.specs.Fits.{Tables}
-use Rattle.shape_tables.specs.Laws.{AllMeet}
-use Rattle.engine_rows.specs.World.{World}
-use Rattle.engine_rows.specs.Plays.{Runner}
+use Rattle.machine_rules.specs.Machine.{Host, Script}
+use Rattle.stack_rules.specs.Fits.{Tables}
+use Rattle.stack_rules.specs.Laws.{AllMeet}
+use Rattle.world_rules.specs.World.{World}
+use Rattle.world_rules.specs.Plays.{Runner}
 use Rattle.world_core.specs.Calls.{AreServing}
 use Rattle.ncs_machine.specs.Host.{scripts_of, tables_of}
 use Rattle.ncs_machine.specs.Stored.{StatesFit}

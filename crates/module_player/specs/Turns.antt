@@ -2,11 +2,11 @@
 use Rattle.std.specs.Prelude.{◌≡◌, ◌≤◌, ◌+◌, ℕ, Bool, true, false, List, [], ◌++◌, Option, None, Some}
 use Rattle.nwq_outside.specs.Outside.{Rises, TookPrefix}
 use Rattle.saved_state.specs.declared.saved.Saved.{Saved}
-use Rattle.engine_rows.specs.declared.data.Line.{Line}
-use Rattle.engine_rows.specs.Trace.{trace_text}
-use Rattle.engine_rows.specs.World.{World}
-use Rattle.engine_rows.specs.Turns.{Begun, drained}
-use Rattle.engine_rows.specs.Plays.{Entered, Runner, entered}
+use Rattle.world_rules.specs.declared.data.Line.{Line}
+use Rattle.world_rules.specs.Trace.{trace_text}
+use Rattle.world_rules.specs.World.{World}
+use Rattle.world_rules.specs.Turns.{Begun, drained}
+use Rattle.world_rules.specs.Plays.{Entered, Runner, entered}
 use Rattle.module_player.specs.declared.turn.Next.{Next}
 use Rattle.module_player.specs.declared.turn.Next.TheVariants.{Goes, Stops, Rests, Fault, NoMemory}
 use Rattle.module_player.specs.Scenes.{Scene, FitIn}

@@ -2,12 +2,12 @@
 ghost use Rattle.std.specs.Prelude.{◌≡◌, ◌≤◌, ◌++◌, ◌∷◌, [], codes, IfOk, OnOk};
 ghost use Rattle.std.specs.List.{flat_map};
 ghost use Rattle.nwq_text.specs.Values.{object_text};
-ghost use Rattle.engine_rows.specs.World.{count as object_count, effects_of, queue_of};
+ghost use Rattle.world_rules.specs.World.{count as object_count, effects_of, queue_of};
 ghost use Rattle.saved_state.specs.declared.saved.Saved.{Saved as SavedView};
-ghost use Rattle.engine_rows.specs.EndText.{by_object, due_line, end_line, end_word, item_line};
-ghost use Rattle.engine_rows.specs.EndText.{item_text, kind_text, queue_lines, script_text};
-ghost use Rattle.engine_rows.specs.EndText.{standing_lines};
-ghost use Rattle.engine_rows.specs.Plays.{PlayEnd, Played as PlayedView};
+ghost use Rattle.world_rules.specs.EndText.{by_object, due_line, end_line, end_word, item_line};
+ghost use Rattle.world_rules.specs.EndText.{item_text, kind_text, queue_lines, script_text};
+ghost use Rattle.world_rules.specs.EndText.{standing_lines};
+ghost use Rattle.world_rules.specs.Plays.{PlayEnd, Played as PlayedView};
 ghost use Rattle.ncs_machine.specs.Host.{scripts_of};
 ghost use Rattle.module_player.specs.Answers.{EndsAs};
 ghost use Rattle.module_player.specs.CodePlays.{code_end_text, script_name};

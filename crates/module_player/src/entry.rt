@@ -2,12 +2,12 @@
 ghost use Rattle.std.specs.Prelude.{◌≡◌, ◌≤◌, ◌<◌, ◌+◌, ◌^◌, ℕ, IfOk, OnOk, false, length, map};
 ghost use Rattle.delay_agenda.specs.declared.entry.Kind.TheVariants as kind;
 ghost use Rattle.nwq_value.specs.Limits.{instruction_limit};
-ghost use Rattle.shape_tables.specs.Fits.{FitsOne};
-ghost use Rattle.engine_rows.specs.Kept.{IsActing, IsPlaced};
-ghost use Rattle.engine_rows.specs.Turns.{turn_done, unapply};
-ghost use Rattle.engine_rows.specs.World.{count as object_count};
-ghost use Rattle.machine_step.specs.Runs.{run_stored};
-ghost use Rattle.engine_rows.specs.Plays.{entered_as, event_entry, finished, turn_entry};
+ghost use Rattle.stack_rules.specs.Fits.{FitsOne};
+ghost use Rattle.world_rules.specs.Kept.{IsActing, IsPlaced};
+ghost use Rattle.world_rules.specs.Turns.{turn_done, unapply};
+ghost use Rattle.world_rules.specs.World.{count as object_count};
+ghost use Rattle.machine_rules.specs.Runs.{run_stored};
+ghost use Rattle.world_rules.specs.Plays.{entered_as, event_entry, finished, turn_entry};
 ghost use Rattle.ncs_machine.specs.Endings.{FitsBegin};
 ghost use Rattle.ncs_machine.specs.Host.{run_from};
 ghost use Rattle.ncs_machine.specs.Stored.{KindFits};
@@ -20,12 +20,12 @@ ghost use Rattle.module_player.specs.Scenes.{scene, scripts_in, tables_in};
 use crate::scripts::{Ended, run_scripts};
 use crate::setting::Setting;
 use delay_agenda::{Entry, Kind};
-use engine_rows::entries_keep_worlds;
 use ncs_machine::{Begin, entries_keep_fits, script_named};
 use nwq_value::{NoMemory, Text};
 use saved_state::Saved;
 use std::alloc::Global;
 use world_core::World;
+use world_rules::entries_keep_worlds;
 
 /// What came of an entry: whether it was stopped, and how many instructions its scripts took.
 #[derive(Clone, Copy)]

@@ -1,6 +1,6 @@
 //! The player: agenda entries one after the other, whose scripts the machine runs.
 //!
-//! What a play comes to is `engine_rows`' definition, with scripts that `ncs_machine` runs
+//! What a play comes to is `world_rules`' definition, with scripts that `ncs_machine` runs
 //! (`specs/CodePlays.antt`). The contracts promise that a play is told entry by entry as that
 //! definition has it, and leaves its world; a play that is cut short has told a prefix of it.
 //! docs/PLAYS.md tells plays in words.

@@ -1,10 +1,10 @@
 //! Plays: entry after entry.
 ghost use Rattle.std.specs.Prelude.{◌≡◌, ◌≢◌, ◌≤◌, ◌<◌, ◌+◌, ◌^◌, [], IsTrue, length, map};
 ghost use Rattle.nwq_value.specs.Limits.{entry_limit, instruction_limit, time_limit};
-ghost use Rattle.shape_tables.specs.Laws.{AllMeet};
-ghost use Rattle.engine_rows.specs.Trace.{trace_text};
-ghost use Rattle.engine_rows.specs.Turns.{begin};
-ghost use Rattle.engine_rows.specs.Plays.{full, play_on};
+ghost use Rattle.stack_rules.specs.Laws.{AllMeet};
+ghost use Rattle.world_rules.specs.Trace.{trace_text};
+ghost use Rattle.world_rules.specs.Turns.{begin};
+ghost use Rattle.world_rules.specs.Plays.{full, play_on};
 ghost use Rattle.world_core.specs.Calls.{AreServing};
 ghost use Rattle.ncs_machine.specs.Host.{scripts_of, tables_of};
 ghost use Rattle.ncs_machine.specs.Stored.{StatesFit};

@@ -1,7 +1,7 @@
 //! The scripts of an entry.
 ghost use Rattle.std.specs.Prelude.{◌≤◌, ◌<◌, ◌^◌, IfOk, length, map};
 ghost use Rattle.nwq_value.specs.Limits.{instruction_limit};
-ghost use Rattle.engine_rows.specs.World.{count as object_count};
+ghost use Rattle.world_rules.specs.World.{count as object_count};
 ghost use Rattle.ncs_machine.specs.Endings.{FitsBegin};
 ghost use Rattle.ncs_machine.specs.Host.{run_from};
 ghost use Rattle.module_player.specs.CodePlays.{run_of};

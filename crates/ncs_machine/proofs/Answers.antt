@@ -13,15 +13,15 @@ use Rattle.nwq_value.specs.declared.engine.Role.TheVariants.{Built, Pure, World 
 use Rattle.nwq_value.specs.declared.engine.Routine.{Routine}
 use Rattle.saved_state.specs.declared.saved.Saved.{Saved}
 use Rattle.stack_shape.specs.Calls.{is_action, is_callable, is_uncallable, is_void, argument_types}
-use Rattle.machine_step.specs.Cells.{value_types}
-use Rattle.machine_step.specs.Machine.{Script}
-use Rattle.engine_rows.specs.World.{World}
-use Rattle.engine_rows.specs.AlikeLaws.{call}
-use Rattle.engine_rows.specs.Engine.{by_role, by_routine, engine}
+use Rattle.machine_rules.specs.Cells.{value_types}
+use Rattle.machine_rules.specs.Machine.{Script}
+use Rattle.world_rules.specs.World.{World}
+use Rattle.world_rules.specs.AlikeLaws.{call}
+use Rattle.world_rules.specs.Engine.{by_role, by_routine, engine}
 use Rattle.ncs_machine.specs.Host.{EngineView, engine_answer, host}
 use Rattle.ncs_machine.specs.Steps.{AnswersTyped}
 use Rattle.nwq_value.specs.Engine.{IsTable}
-use Rattle.shape_tables.specs.Laws.{HasType}
+use Rattle.stack_rules.specs.Laws.{HasType}
 use Rattle.world_core.specs.Answers.{AnswersHaveTypes, IsOfType}
 
 -- the law on answers, in the words of the machine

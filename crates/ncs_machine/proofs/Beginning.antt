@@ -5,10 +5,10 @@ use Rattle.std.specs.Option.{option_map}
 use Rattle.std.proofs.lemmas.Option.{slice_get-map}
 use Rattle.nwq_value.specs.Engine.{EngineTable}
 use Rattle.saved_state.specs.declared.saved.Saved.{Saved}
-use Rattle.machine_step.specs.Frames.{started, continued}
-use Rattle.shape_tables.specs.Fits.{Tables, FitsOne, IsListed}
-use Rattle.shape_tables.specs.Safe.{IsSafeFrame}
-use Rattle.shape_tables.specs.Laws.{AllMeet, StartsSafely, ContinuesSafely}
+use Rattle.machine_rules.specs.Frames.{started, continued}
+use Rattle.stack_rules.specs.Fits.{Tables, FitsOne, IsListed}
+use Rattle.stack_rules.specs.Safe.{IsSafeFrame}
+use Rattle.stack_rules.specs.Laws.{AllMeet, StartsSafely, ContinuesSafely}
 use Rattle.ncs_machine.specs.declared.scripts.Loaded.{Loaded}
 use Rattle.ncs_machine.specs.declared.scripts.Begin.{Begin}
 use Rattle.ncs_machine.specs.declared.scripts.Begin.TheVariants.{Start, Stored}

@@ -16,15 +16,15 @@ use Rattle.saved_state.specs.declared.cell.Cell.{Cell}
 use Rattle.saved_state.specs.declared.cell.Cell.TheVariants.{Value as Holds, Base}
 use Rattle.saved_state.specs.declared.saved.Saved.{Saved}
 use Rattle.stack_shape.specs.Calls.{is_action, is_callable, argument_types}
-use Rattle.machine_step.specs.Frames.{Frame}
-use Rattle.machine_step.specs.Cells.{value_types}
-use Rattle.machine_step.specs.Calls.{Taken, with_value, with_action, value_taken, action_taken, taken, arguments, is_execute_script}
-use Rattle.machine_step.specs.Act.{Act, Asks, Executes, asked, behind_call, engine_called}
-use Rattle.machine_step.specs.Act as acts
-use Rattle.machine_step.specs.Machine.{Script, Host, State, Goes, answered, begun, executed, followed, script_named}
+use Rattle.machine_rules.specs.Frames.{Frame}
+use Rattle.machine_rules.specs.Cells.{value_types}
+use Rattle.machine_rules.specs.Calls.{Taken, with_value, with_action, value_taken, action_taken, taken, arguments, is_execute_script}
+use Rattle.machine_rules.specs.Act.{Act, Asks, Executes, asked, behind_call, engine_called}
+use Rattle.machine_rules.specs.Act as acts
+use Rattle.machine_rules.specs.Machine.{Script, Host, State, Goes, answered, begun, executed, followed, script_named}
 use Rattle.machine_frames.specs.declared.arguments.Arguments.{Arguments}
 use Rattle.machine_frames.specs.Takes.{IsCall}
-use Rattle.engine_rows.specs.World.{World}
+use Rattle.world_rules.specs.World.{World}
 use Rattle.ncs_machine.specs.Host.{EngineView, answer_of, engine_answer, host}
 use Rattle.ncs_machine.specs.Names.{AreNameAndTarget}
 use Rattle.ncs_machine.specs.Steps.{Frames, FitArguments, state}

@@ -5,7 +5,7 @@ use Rattle.std.specs.List.{AllByRecursion, find, list_any}
 use Rattle.action_queue.specs.Queued.{Queued}
 use Rattle.action_queue.specs.declared.queue.Item.{Item}
 use Rattle.action_queue.specs.declared.queue.Item.TheVariants.{Do, Wait, Speak}
-use Rattle.area_objects.specs.Area.{object}
+use Rattle.area_rules.specs.Area.{object}
 use Rattle.local_variables.specs.Variables.{Variable}
 use Rattle.delay_agenda.specs.Order.{is_before, put_entry}
 use Rattle.delay_agenda.specs.Waiting.{is_turn_of, without_turns}
@@ -18,19 +18,19 @@ use Rattle.nwq_value.specs.declared.engine.Role.{Role}
 use Rattle.nwq_value.specs.declared.engine.Role.TheVariants as role
 use Rattle.nwq_value.specs.declared.engine.Routine.{Routine}
 use Rattle.saved_state.specs.declared.saved.Saved.{Saved}
-use Rattle.machine_step.specs.Machine.{Script}
-use Rattle.shape_tables.specs.Fits.{Tables, FitsAction}
-use Rattle.engine_rows.specs.declared.data.Things.{Things}
-use Rattle.engine_rows.specs.declared.data.Stood.{Stood}
-use Rattle.engine_rows.specs.declared.data.Told.{Told}
-use Rattle.engine_rows.specs.declared.data.Told.TheVariants as line
-use Rattle.engine_rows.specs.Arguments.{int_at, text_at, object_at, effect_at, event_at}
-use Rattle.engine_rows.specs.AlikeLaws.{call}
-use Rattle.engine_rows.specs.World.{World, is_valid, queue_in, queue_of, effects_of, things_at}
-use Rattle.engine_rows.specs.Changes.{told, post, later, changed_at, changed_object, with_queue, with_effects, with_actions, with_busy, with_action, with_variables, has_turn, without_turn, without_first, is_effect, is_numbered}
-use Rattle.engine_rows.specs.Rows.{Call, Row, rows, drawn_from, drawn, assigned, delayed, awake, appended, appended_do, at_rest, cleared, changed_variables, applied, applied_to, removed, event_script, signalled}
-use Rattle.engine_rows.specs.Engine.{by_row, by_role, by_routine, engine}
-use Rattle.engine_rows.specs.Turns.{begun, turned, next_turn, turn_done, expired, with_entries, user_number}
+use Rattle.machine_rules.specs.Machine.{Script}
+use Rattle.stack_rules.specs.Fits.{Tables, FitsAction}
+use Rattle.world_rules.specs.declared.data.Things.{Things}
+use Rattle.world_rules.specs.declared.data.Stood.{Stood}
+use Rattle.world_rules.specs.declared.data.Told.{Told}
+use Rattle.world_rules.specs.declared.data.Told.TheVariants as line
+use Rattle.world_rules.specs.Arguments.{int_at, text_at, object_at, effect_at, event_at}
+use Rattle.world_rules.specs.AlikeLaws.{call}
+use Rattle.world_rules.specs.World.{World, is_valid, queue_in, queue_of, effects_of, things_at}
+use Rattle.world_rules.specs.Changes.{told, post, later, changed_at, changed_object, with_queue, with_effects, with_actions, with_busy, with_action, with_variables, has_turn, without_turn, without_first, is_effect, is_numbered}
+use Rattle.world_rules.specs.Rows.{Call, Row, rows, drawn_from, drawn, assigned, delayed, awake, appended, appended_do, at_rest, cleared, changed_variables, applied, applied_to, removed, event_script, signalled}
+use Rattle.world_rules.specs.Engine.{by_row, by_role, by_routine, engine}
+use Rattle.world_rules.specs.Turns.{begun, turned, next_turn, turn_done, expired, with_entries, user_number}
 use Rattle.ncs_machine.specs.Host.{EngineView, engine_answer}
 use Rattle.ncs_machine.specs.Stored.{KindFits, ItemFits, EntryFits, ItemsFit, ThingsFit, StatesFit, EngineKeepsFits, BegunFits, BeginKeepsFits, TurnedFits, TurnKeepsFits, TurnDoneKeepsFits, UnapplyKeepsFits, LinesKeepFits}
 

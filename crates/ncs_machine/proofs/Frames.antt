@@ -4,11 +4,11 @@ use Rattle.std.specs.Prelude.{nat_lt}
 use Rattle.std.proofs.lemmas.List.{reverse-append, length-reverse}
 use Rattle.std.proofs.lemmas.Bool.Decides.{nat_tests}
 use Rattle.saved_state.specs.declared.saved.Saved.{Saved}
-use Rattle.machine_step.specs.Frames.{Frame, started}
-use Rattle.machine_step.specs.Act.{Act, Moves, Returns}
-use Rattle.machine_step.specs.Machine.{Script, Host, State, Goes, depth_limit, begun, executed, followed, over, script_named}
-use Rattle.engine_rows.specs.World.{World}
-use Rattle.engine_rows.specs.Engine.{may_run, no_script, too_deep}
+use Rattle.machine_rules.specs.Frames.{Frame, started}
+use Rattle.machine_rules.specs.Act.{Act, Moves, Returns}
+use Rattle.machine_rules.specs.Machine.{Script, Host, State, Goes, depth_limit, begun, executed, followed, over, script_named}
+use Rattle.world_rules.specs.World.{World}
+use Rattle.world_rules.specs.Engine.{may_run, no_script, too_deep}
 use Rattle.ncs_machine.specs.Host.{EngineView, host}
 
 pub pushed_last : {A : Type 0} (xs : List A) (x : A) → reverse (xs ++ x ∷ []) ≡ x ∷ reverse xs

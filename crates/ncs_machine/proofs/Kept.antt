@@ -13,16 +13,16 @@ use Rattle.saved_state.specs.declared.cell.Cell.{Cell}
 use Rattle.saved_state.specs.declared.cell.Cell.TheVariants.{Value as Holds, Base}
 use Rattle.saved_state.specs.declared.saved.Saved.{Saved}
 use Rattle.stack_shape.specs.Ranges.{cell_count}
-use Rattle.machine_step.specs.Frames.{Frame, started}
-use Rattle.machine_step.specs.Cells.{zero_on_top}
-use Rattle.machine_step.specs.Calls.{Taken, arguments, is_execute_script}
-use Rattle.machine_step.specs.Act.{Act, Moves, Asks, Executes, Returns, Divides, act, moved, returned, restored, stored, stored_cells, asked, behind_call, engine_called, is_division, place_after, next_place, cells_after}
-use Rattle.machine_step.specs.Act as acts
-use Rattle.machine_step.specs.Machine.{Script, Host, State, Next, Goes, depth_limit, begun, executed, followed, next_op, over, script_named, step, with_answer}
-use Rattle.engine_rows.specs.World.{World, count}
-use Rattle.engine_rows.specs.AlikeLaws.{call}
-use Rattle.engine_rows.specs.Engine.{may_run, no_script, too_deep}
-use Rattle.engine_rows.specs.Kept.{IsWorld, IsStep, EngineKeeps, NoScriptKeeps, TooDeepKeeps}
+use Rattle.machine_rules.specs.Frames.{Frame, started}
+use Rattle.machine_rules.specs.Cells.{zero_on_top}
+use Rattle.machine_rules.specs.Calls.{Taken, arguments, is_execute_script}
+use Rattle.machine_rules.specs.Act.{Act, Moves, Asks, Executes, Returns, Divides, act, moved, returned, restored, stored, stored_cells, asked, behind_call, engine_called, is_division, place_after, next_place, cells_after}
+use Rattle.machine_rules.specs.Act as acts
+use Rattle.machine_rules.specs.Machine.{Script, Host, State, Next, Goes, depth_limit, begun, executed, followed, next_op, over, script_named, step, with_answer}
+use Rattle.world_rules.specs.World.{World, count}
+use Rattle.world_rules.specs.AlikeLaws.{call}
+use Rattle.world_rules.specs.Engine.{may_run, no_script, too_deep}
+use Rattle.world_rules.specs.Kept.{IsWorld, IsStep, EngineKeeps, NoScriptKeeps, TooDeepKeeps}
 use Rattle.ncs_machine.specs.Host.{EngineView, host, engine_answer}
 use Rattle.ncs_machine.specs.Endings.{IsLeft}
 

@@ -5,7 +5,7 @@ use Rattle.std.specs.Char.{to_ascii_lowercase}
 use Rattle.std.specs.List.{position, position_from, prefix_len}
 use Rattle.std.specs.Str.{bytes_eq}
 use Rattle.std.proofs.lemmas.Iterator.Adapters.{position_from-zero}
-use Rattle.machine_step.specs.Machine.{script_named}
+use Rattle.machine_rules.specs.Machine.{script_named}
 use Rattle.ncs_machine.specs.declared.scripts.Loaded.{Loaded}
 use Rattle.ncs_machine.specs.Host.{scripts_of}
 

@@ -5,18 +5,18 @@ use Rattle.nwq_value.specs.Engine.{IsTable}
 use Rattle.nwq_value.specs.Limits.{instruction_limit}
 use Rattle.saved_state.specs.declared.saved.Saved.{Saved}
 use Rattle.saved_state.specs.declared.cell.Cell.{Cell}
-use Rattle.machine_step.specs.Outlines.{Outline, Typed, Keeps, outlines}
-use Rattle.machine_step.specs.Frames.{Frame}
-use Rattle.machine_step.specs.Machine.{Script, Host, State, Next, Goes, Ends, Divided, step}
+use Rattle.machine_rules.specs.Outlines.{Outline, Typed, Keeps, outlines}
+use Rattle.machine_rules.specs.Frames.{Frame}
+use Rattle.machine_rules.specs.Machine.{Script, Host, State, Next, Goes, Ends, Divided, step}
 use Rattle.ncs_machine.specs.declared.entry.Ran.TheVariants as answer
 use Rattle.ncs_machine.specs.declared.entry.Ran as answers
-use Rattle.machine_step.specs.Runs.{Ending, Over, ZeroDivisor, OutOfInstructions, Ran, after_step, counted, run}
-use Rattle.shape_tables.specs.Fits.{Tables}
-use Rattle.shape_tables.specs.Safe.{IsSafe, IsSafeFrame, AreSafeFrames, GoesSafely, from_base}
-use Rattle.shape_tables.specs.Laws.{AllMeet, IsReached, Unchanged, ByCall, ByMissing, ByDepth, IsWellStackedHost, StepsSafely, TablesTypeExecuteScript}
-use Rattle.engine_rows.specs.World.{World, count}
-use Rattle.engine_rows.specs.Kept.{IsWorld, EngineKeeps, NoScriptKeeps, TooDeepKeeps}
-use Rattle.engine_rows.specs.declared.data.Told.TheVariants as line
+use Rattle.machine_rules.specs.Runs.{Ending, Over, ZeroDivisor, OutOfInstructions, Ran, after_step, counted, run}
+use Rattle.stack_rules.specs.Fits.{Tables}
+use Rattle.stack_rules.specs.Safe.{IsSafe, IsSafeFrame, AreSafeFrames, GoesSafely, from_base}
+use Rattle.stack_rules.specs.Laws.{AllMeet, IsReached, Unchanged, ByCall, ByMissing, ByDepth, IsWellStackedHost, StepsSafely, TablesTypeExecuteScript}
+use Rattle.world_rules.specs.World.{World, count}
+use Rattle.world_rules.specs.Kept.{IsWorld, EngineKeeps, NoScriptKeeps, TooDeepKeeps}
+use Rattle.world_rules.specs.declared.data.Told.TheVariants as line
 use Rattle.ncs_machine.specs.Host.{EngineView, host}
 use Rattle.ncs_machine.specs.Endings.{EndsAs, IsLeft, IsRunOf, WhereRan}
 use Rattle.ncs_machine.specs.Stored.{StatesFit}

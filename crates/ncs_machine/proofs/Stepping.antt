@@ -9,10 +9,10 @@ use Rattle.ncs_code.specs.Spelling.{op_size}
 use Rattle.ncs_code.specs.File.{IsCode, op_at}
 use Rattle.ncs_code.specs.Laws.{PlaceLaws}
 use Rattle.saved_state.specs.declared.saved.Saved.{Saved}
-use Rattle.machine_step.specs.Frames.{Frame}
-use Rattle.machine_step.specs.Act.{Act, Moves, Divides, act}
-use Rattle.machine_step.specs.Machine.{Script, Host, State, Next, Goes, Divided, followed, next_op, step}
-use Rattle.engine_rows.specs.World.{World}
+use Rattle.machine_rules.specs.Frames.{Frame}
+use Rattle.machine_rules.specs.Act.{Act, Moves, Divides, act}
+use Rattle.machine_rules.specs.Machine.{Script, Host, State, Next, Goes, Divided, followed, next_op, step}
+use Rattle.world_rules.specs.World.{World}
 use Rattle.ncs_machine.specs.declared.scripts.Loaded.{Loaded}
 use Rattle.ncs_machine.specs.Host.{EngineView, host, script_of, scripts_of}
 use Rattle.ncs_machine.specs.Steps.{Frames, GoesWell, state}

@@ -1,15 +1,15 @@
 -- How a run's answer tells its ending, and what a run leaves of a world.
 use Rattle.std.specs.Prelude.{◌≡◌, ◌≤◌, ◌+◌, ℕ, List}
 use Rattle.saved_state.specs.declared.saved.Saved.{Saved}
-use Rattle.machine_step.specs.Machine.{Script}
-use Rattle.machine_step.specs.Runs.{Ran as Run}
-use Rattle.shape_tables.specs.Fits.{Tables, FitsOne}
+use Rattle.machine_rules.specs.Machine.{Script}
+use Rattle.machine_rules.specs.Runs.{Ran as Run}
+use Rattle.stack_rules.specs.Fits.{Tables, FitsOne}
 use Rattle.ncs_machine.specs.Stored.{StatesFit}
 use Rattle.ncs_machine.specs.declared.scripts.Begin.{Begin}
 use Rattle.ncs_machine.specs.declared.scripts.Begin.TheVariants.{Start, Stored}
-use Rattle.machine_step.specs.Runs.{Ending, Over, ZeroDivisor, OutOfInstructions}
-use Rattle.engine_rows.specs.World.{World, count}
-use Rattle.engine_rows.specs.Kept.{IsActing}
+use Rattle.machine_rules.specs.Runs.{Ending, Over, ZeroDivisor, OutOfInstructions}
+use Rattle.world_rules.specs.World.{World, count}
+use Rattle.world_rules.specs.Kept.{IsActing}
 use Rattle.ncs_machine.specs.declared.entry.Ran.{Ran}
 use Rattle.ncs_machine.specs.declared.entry.Ran.TheVariants.{Ended, Divide, Limit, NoMemory}
 

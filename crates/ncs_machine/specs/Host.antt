@@ -3,17 +3,17 @@ use Rattle.std.specs.Prelude.{ℕ, List, map, Option, None, Some, slice_get}
 use Rattle.nwq_value.specs.declared.value.Value.{Value}
 use Rattle.nwq_value.specs.Engine.{EngineTable}
 use Rattle.saved_state.specs.declared.saved.Saved.{Saved}
-use Rattle.machine_step.specs.Frames.{Frame, started, continued}
-use Rattle.machine_step.specs.Machine.{Script, Answered, Host}
-use Rattle.machine_step.specs.Runs.{Ran, run_script, run_stored}
-use Rattle.shape_tables.specs.Tables.{ShapeTable}
-use Rattle.shape_tables.specs.Fits.{Tables}
+use Rattle.machine_rules.specs.Frames.{Frame, started, continued}
+use Rattle.machine_rules.specs.Machine.{Script, Answered, Host}
+use Rattle.machine_rules.specs.Runs.{Ran, run_script, run_stored}
+use Rattle.stack_rules.specs.Tables.{ShapeTable}
+use Rattle.stack_rules.specs.Fits.{Tables}
 use Rattle.stack_check.specs.Checked.{kept_table}
-use Rattle.engine_rows.specs.Pure.{CellLookup}
-use Rattle.engine_rows.specs.World.{World}
-use Rattle.engine_rows.specs.Rows.{Answered as EngineAnswer}
-use Rattle.engine_rows.specs.Engine.{engine, may_run, no_script, too_deep}
-use Rattle.engine_rows.specs.AlikeLaws.{call}
+use Rattle.world_rules.specs.Pure.{CellLookup}
+use Rattle.world_rules.specs.World.{World}
+use Rattle.world_rules.specs.Rows.{Answered as EngineAnswer}
+use Rattle.world_rules.specs.Engine.{engine, may_run, no_script, too_deep}
+use Rattle.world_rules.specs.AlikeLaws.{call}
 use Rattle.hook_table.specs.declared.hook.Known.{Known}
 use Rattle.world_core.specs.Calls.{cells_of}
 use Rattle.ncs_machine.specs.declared.scripts.Loaded.{Loaded}

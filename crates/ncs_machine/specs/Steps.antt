@@ -4,11 +4,11 @@ use Rattle.nwq_value.specs.declared.value.Value.{Value}
 use Rattle.nwq_value.specs.declared.engine.Routine.{Routine}
 use Rattle.saved_state.specs.declared.saved.Saved.{Saved}
 use Rattle.stack_shape.specs.Calls.{argument_types, is_callable}
-use Rattle.machine_step.specs.Cells.{value_types}
-use Rattle.machine_step.specs.Frames.{Frame}
-use Rattle.machine_step.specs.Machine.{State, Next, Goes, Ends, Divided}
-use Rattle.shape_tables.specs.Laws.{HasType}
-use Rattle.engine_rows.specs.World.{World}
+use Rattle.machine_rules.specs.Cells.{value_types}
+use Rattle.machine_rules.specs.Frames.{Frame}
+use Rattle.machine_rules.specs.Machine.{State, Next, Goes, Ends, Divided}
+use Rattle.stack_rules.specs.Laws.{HasType}
+use Rattle.world_rules.specs.World.{World}
 use Rattle.ncs_machine.specs.Host.{EngineView, engine_answer}
 use Rattle.ncs_machine.specs.declared.machine.Next.{Next as Step}
 use Rattle.ncs_machine.specs.declared.machine.Next.TheVariants as code

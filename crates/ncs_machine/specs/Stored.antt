@@ -8,12 +8,12 @@ use Rattle.delay_agenda.specs.declared.entry.Kind.{Kind}
 use Rattle.delay_agenda.specs.declared.entry.Kind.TheVariants.{Event, Stored, Turn, Unapply}
 use Rattle.nwq_value.specs.declared.value.Value.{Value}
 use Rattle.saved_state.specs.declared.saved.Saved.{Saved}
-use Rattle.machine_step.specs.Machine.{Script}
-use Rattle.shape_tables.specs.Fits.{Tables, FitsAction, FitsOne}
-use Rattle.engine_rows.specs.declared.data.Things.{Things}
-use Rattle.engine_rows.specs.World.{World}
-use Rattle.engine_rows.specs.Turns.{Begun, Turned, begin, turn, turn_done, unapply, fault, drained}
-use Rattle.engine_rows.specs.Engine.{no_script}
+use Rattle.machine_rules.specs.Machine.{Script}
+use Rattle.stack_rules.specs.Fits.{Tables, FitsAction, FitsOne}
+use Rattle.world_rules.specs.declared.data.Things.{Things}
+use Rattle.world_rules.specs.World.{World}
+use Rattle.world_rules.specs.Turns.{Begun, Turned, begin, turn, turn_done, unapply, fault, drained}
+use Rattle.world_rules.specs.Engine.{no_script}
 use Rattle.ncs_machine.specs.Host.{EngineView, engine_answer}
 
 abbrev pub KindFits : List Script → Tables → Kind Saved → Type 0

@@ -6,11 +6,11 @@ ghost use Rattle.nwq_value.specs.declared.value.Value.TheVariants.{Text as TextV
 ghost use Rattle.nwq_value.specs.declared.value.Value.TheVariants.{Object as ObjectValue};
 ghost use Rattle.ncs_code.specs.Plain.{Action};
 ghost use Rattle.ncs_code.specs.Spelling.{op_size};
-ghost use Rattle.machine_step.specs.Act.{engine_called};
-ghost use Rattle.machine_step.specs.Calls.{is_execute_script};
-ghost use Rattle.machine_step.specs.Machine.{Goes, executed, followed};
+ghost use Rattle.machine_rules.specs.Act.{engine_called};
+ghost use Rattle.machine_rules.specs.Calls.{is_execute_script};
+ghost use Rattle.machine_rules.specs.Machine.{Goes, executed, followed};
 ghost use Rattle.std.specs.Prelude.{◌∷◌, [], ℕ, List};
-ghost use Rattle.engine_rows.specs.World.{count as object_count};
+ghost use Rattle.world_rules.specs.World.{count as object_count};
 ghost use Rattle.ncs_machine.specs.Host.{EngineView, engine_view, host, scripts_of};
 ghost use Rattle.ncs_machine.specs.Names.{AreNameAndTarget};
 ghost use Rattle.ncs_machine.specs.Steps.{state};

@@ -1,10 +1,10 @@
 //! An entry from its begin to its end.
 ghost use Rattle.std.specs.Prelude.{◌≡◌, ◌≤◌, ◌<◌, ◌^◌, [], length, map};
 ghost use Rattle.nwq_value.specs.Limits.{instruction_limit};
-ghost use Rattle.machine_step.specs.Runs.{run as run_of};
-ghost use Rattle.shape_tables.specs.Laws.{AllMeet};
-ghost use Rattle.shape_tables.specs.Safe.{IsSafeFrame};
-ghost use Rattle.engine_rows.specs.World.{count};
+ghost use Rattle.machine_rules.specs.Runs.{run as run_of};
+ghost use Rattle.stack_rules.specs.Laws.{AllMeet};
+ghost use Rattle.stack_rules.specs.Safe.{IsSafeFrame};
+ghost use Rattle.world_rules.specs.World.{count};
 ghost use Rattle.ncs_machine.specs.Endings.{FitsBegin, IsRunOf};
 ghost use Rattle.ncs_machine.specs.Host.{engine_view, host, run_from, scripts_of, tables_of};
 ghost use Rattle.ncs_machine.specs.Steps.{state};
@@ -13,14 +13,14 @@ ghost use Rattle.world_core.specs.Calls.{AreServing};
 use crate::machine::{Machine, Next};
 use crate::scene::Scene;
 use crate::scripts::{Begin, Scripts};
-use engine_rows::calls_keep_worlds;
 use hook_table::Hooks;
 use machine_frames::Frame;
 use nwq_value::Table;
 use saved_state::Saved;
-use shape_tables::{entries_begin_safely, steps_are_safe, tables_type_execute_script};
+use stack_rules::{entries_begin_safely, steps_are_safe, tables_type_execute_script};
 use std::alloc::Global;
 use world_core::{World, answers_have_types};
+use world_rules::calls_keep_worlds;
 
 /// How a run ends.
 #[derive(Clone, Copy)]

@@ -1,6 +1,6 @@
 //! The machine that runs NCS code in a world.
 //!
-//! What an entry's run comes to is `machine_step`'s definition, in the host that `specs/Host.antt`
+//! What an entry's run comes to is `machine_rules`'s definition, in the host that `specs/Host.antt`
 //! makes of the listed scripts and the engine. The scripts were checked, so each instruction that
 //! is reached has a case: no answer is a stack fault. docs/MACHINE.md tells the machine in words.
 #![tactic(auto)]

@@ -1,9 +1,9 @@
 use area_tree::Area;
 use delay_agenda::Agenda;
-use engine_rows::{Line, Things};
 use nwq_value::Randoms;
 use saved_state::Saved;
 use std::marker::Model;
+use world_rules::{Line, Things};
 
 /// A world as the definition has it, with nothing beside. The laws of the machine are taken at this
 /// type; none is ever made.
@@ -22,7 +22,7 @@ pub struct Scene {
 impl Model for Scene {
     ghost use Rattle.std.specs.Coded.{codes};
     ghost use Rattle.gff_tree.specs.Code.{node_code};
-    ghost use Rattle.engine_rows.specs.World.{World};
+    ghost use Rattle.world_rules.specs.World.{World};
     ghost use Rattle.saved_state.specs.declared.saved.Saved.{Saved as SavedView};
 
     ghost Value = { World SavedView };

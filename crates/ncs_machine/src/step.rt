@@ -4,10 +4,10 @@ ghost use Rattle.std.specs.Prelude.{length, map};
 ghost use Rattle.nwq_value.specs.Limits.{file_limit};
 ghost use Rattle.ncs_code.specs.Plain.{plain};
 ghost use Rattle.ncs_code.specs.Spelling.{op_size};
-ghost use Rattle.machine_step.specs.Act.{Moves, act};
-ghost use Rattle.machine_step.specs.Frames.{Frame as FrameView};
-ghost use Rattle.machine_step.specs.Machine.{followed, step};
-ghost use Rattle.engine_rows.specs.World.{count};
+ghost use Rattle.machine_rules.specs.Act.{Moves, act};
+ghost use Rattle.machine_rules.specs.Frames.{Frame as FrameView};
+ghost use Rattle.machine_rules.specs.Machine.{followed, step};
+ghost use Rattle.world_rules.specs.World.{count};
 ghost use Rattle.ncs_machine.specs.Host.{engine_view, host, scripts_of};
 ghost use Rattle.ncs_machine.specs.Steps.{GoesWell, Stays, next_of, state};
 ghost use Rattle.world_core.specs.Calls.{AreServing, IsEarly};
@@ -23,7 +23,7 @@ use world_core::World;
 
 impl Machine {
     /// An instruction of this size, in the running script.
-    #[tactic(auto, using(crate::proofs::Stepping::act_lemmas), unfolding(machine_step::specs::Act::act))]
+    #[tactic(auto, using(crate::proofs::Stepping::act_lemmas), unfolding(machine_rules::specs::Act::act))]
     fn act(
         &mut self,
         alloc: Global,

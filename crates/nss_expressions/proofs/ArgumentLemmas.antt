@@ -5,17 +5,17 @@ use Rattle.std.proofs.lemmas.List.{at_drop_more, at_drop_all}
 use Rattle.nss_tree.specs.declared.expressions.Expr.{Expr}
 use Rattle.nss_tree.specs.Reading.{plain_expr, plain_exprs}
 use Rattle.nss_tree.specs.Readings.{plain_exprs_none, plain_exprs_more}
-use Rattle.nss_typing.specs.declared.fault.Fault.{Fault}
-use Rattle.nss_typing.specs.Nodes.{fine, kept}
-use Rattle.nss_typing.specs.Sight.{Head, Sight}
+use Rattle.typing_rules.specs.declared.fault.Fault.{Fault}
+use Rattle.typing_rules.specs.Nodes.{fine, kept}
+use Rattle.typing_rules.specs.Sight.{Head, Sight}
 use Rattle.nss_expressions.specs.Kept.{kept_append}
 use Rattle.nwq_value.specs.declared.engine.Param.{Param}
-use Rattle.nss_typing.specs.declared.expressions.Expression.{Expression}
-use Rattle.nss_typing.specs.Reading.{plain, plain_all}
-use Rattle.nss_typing.specs.Readings.{plain_all_none, plain_all_more}
-use Rattle.nss_typing.specs.Rules.{all_taken, defaults, filled, others, takes_action}
-use Rattle.nss_typing.specs.Typed.{TypedExpr, TypedExprs, no_typed, more_typed}
-use Rattle.nss_typing.specs.Verdicts.{all_faults, all_fine, faults, one_more_typed, verdict}
+use Rattle.typing_rules.specs.declared.expressions.Expression.{Expression}
+use Rattle.typing_rules.specs.Reading.{plain, plain_all}
+use Rattle.typing_rules.specs.Readings.{plain_all_none, plain_all_more}
+use Rattle.typing_rules.specs.Rules.{all_taken, defaults, filled, others, takes_action}
+use Rattle.typing_rules.specs.Typed.{TypedExpr, TypedExprs, no_typed, more_typed}
+use Rattle.typing_rules.specs.Verdicts.{all_faults, all_fine, faults, one_more_typed, verdict}
 use Rattle.nss_expressions.specs.Arguments.{defaults_behind, first_takes, joined_typed, with_last, with_others}
 
 no_less : (n : ℕ) → nat_lt n 0 ≡ false

@@ -3,9 +3,9 @@ use Rattle.std.specs.Prelude.{ℕ, Bool, false, nat_lt, length, drop, List, [], 
 use Rattle.nwq_value.specs.declared.engine.Const.{Const}
 use Rattle.nwq_value.specs.declared.engine.Param.{Param}
 use Rattle.std.specs.Option.{option_map}
-use Rattle.nss_typing.specs.Nodes.{two}
-use Rattle.nss_typing.specs.Rules.{defaults, takes}
-use Rattle.nss_typing.specs.Typed.{TypedExpr, TypedExprs, no_typed, more_typed}
+use Rattle.typing_rules.specs.Nodes.{two}
+use Rattle.typing_rules.specs.Rules.{defaults, takes}
+use Rattle.typing_rules.specs.Typed.{TypedExpr, TypedExprs, no_typed, more_typed}
 
 -- the defaults of the parameters behind so many; None where there are fewer of them, or one has no default
 abbrev pub defaults_behind : ℕ → List Param → Option (List Const)

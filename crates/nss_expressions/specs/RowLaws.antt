@@ -3,9 +3,9 @@
 use Rattle.std.proofs.Common.{◌≡◌, ℕ, ◌+◌, ◌<◌, ◌≤◌, List, [], ◌∷◌, ◌++◌, length, map, drop, get_or, Option, None, Some, refl, sym, ap, ◌∙◌}
 use Rattle.std.proofs.lemmas.List.{append_assoc, append-nil, at_drop_more, at_drop_all, map_push}
 use Rattle.std.specs.Option.{option_map}
-use Rattle.nss_typing.specs.declared.fault.Fault.{Fault}
-use Rattle.nss_typing.specs.Nodes.{kept}
-use Rattle.nss_typing.specs.Verdicts.{one_more}
+use Rattle.typing_rules.specs.declared.fault.Fault.{Fault}
+use Rattle.typing_rules.specs.Nodes.{kept}
+use Rattle.typing_rules.specs.Verdicts.{one_more}
 use Rattle.nss_expressions.specs.Rows.{and_one, with_rest}
 use Rattle.nss_expressions.specs.Kept.{kept_append}
 

@@ -2,8 +2,8 @@
 use Rattle.std.specs.Prelude.{List, [], ◌∷◌, ◌++◌, Option, None, Some}
 use Rattle.std.specs.Option.{option_map}
 use Rattle.nss_tree.specs.Statements.{joined_stmts}
-use Rattle.nss_typing.specs.Nodes.{two}
-use Rattle.nss_typing.specs.Typed.{TypedStmts}
+use Rattle.typing_rules.specs.Nodes.{two}
+use Rattle.typing_rules.specs.Typed.{TypedStmts}
 
 -- one more behind others, where all are typed
 abbrev pub and_one : {A : Type 0} → Option (List A) → Option A → Option (List A)

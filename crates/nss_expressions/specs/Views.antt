@@ -6,7 +6,7 @@ use Rattle.nss_expressions.specs.declared.called.Called.{Called}
 use Rattle.nss_expressions.specs.declared.given.Given.{Given}
 use Rattle.nss_scopes.specs.declared.sight.Sight.{Sight}
 use Rattle.nss_scopes.specs.Views.{in_sight}
-use Rattle.nss_typing.specs.Sight as spec
+use Rattle.typing_rules.specs.Sight as spec
 
 abbrev pub known_of : Known → spec.Meaning
 known_of (Variable n is_local t) = spec.variable n is_local t

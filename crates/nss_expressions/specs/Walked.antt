@@ -3,8 +3,8 @@ use Rattle.std.proofs.Common.{◌≡◌, ℕ, List, ◌++◌, Option, Result, Ok
 use Rattle.std.specs.Option.{option_map}
 use Rattle.std.specs.Result.{IfOk, OnOk}
 use Rattle.nwq_value.specs.declared.memory.NoMemory.{NoMemory}
-use Rattle.nss_typing.specs.declared.fault.Fault.{Fault}
-use Rattle.nss_typing.specs.Nodes.{Verdict, fine, at, kept}
+use Rattle.typing_rules.specs.declared.fault.Fault.{Fault}
+use Rattle.typing_rules.specs.Nodes.{Verdict, fine, at, kept}
 use Rattle.nss_expressions.specs.Kept.{kept_append}
 
 -- D is a node, X what is typed, R what code answers, seen as an X

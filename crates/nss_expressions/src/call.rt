@@ -2,23 +2,23 @@
 
 ghost use Rattle.std.specs.Prelude.{◌≡◌, false, IfOk, OnOk, not, Some};
 ghost use Rattle.std.specs.Option.{option_map};
-ghost use Rattle.nss_typing.specs.declared.fault.FaultKind.TheVariants as kind;
-ghost use Rattle.nss_typing.specs.Nodes.{asked, at, fine, first_kind, kept, only, row, two};
-ghost use Rattle.nss_typing.specs.Reading.{plain, plain_all};
-ghost use Rattle.nss_typing.specs.Rules.{all_taken, call_rows, call_rule, is_void_call, takes};
+ghost use Rattle.typing_rules.specs.declared.fault.FaultKind.TheVariants as kind;
+ghost use Rattle.typing_rules.specs.Nodes.{asked, at, fine, first_kind, kept, only, row, two};
+ghost use Rattle.typing_rules.specs.Reading.{plain, plain_all};
+ghost use Rattle.typing_rules.specs.Rules.{all_taken, call_rows, call_rule, is_void_call, takes};
 ghost use Rattle.nss_expressions.specs.Arguments.{first_takes};
 ghost use Rattle.nss_expressions.specs.Views.{called_of};
 
 use crate::called::{Called, filled, is_barred, others};
 use crate::note::note;
 use crate::rules::{is_action, is_void};
-use nss_typing::rules::same_type;
-use nss_typing::{Expression, Fault, FaultKind};
 use nwq_value::{Items, NoMemory, Param, Ty};
 use std::alloc::Global;
+use typing_rules::rules::same_type;
+use typing_rules::{Expression, Fault, FaultKind};
 
 /// Whether a value is a call of a function without a result.
-#[tactic(auto, using(nss_typing::specs::Readings::known))]
+#[tactic(auto, using(typing_rules::specs::Readings::known))]
 fn is_void_call(x: &Expression) -> bool
     ensures { result ≡ is_void_call (plain x.now) }
 {

@@ -3,9 +3,9 @@
 ghost use Rattle.std.specs.Prelude.{◌≡◌, IfOk, length};
 ghost use Rattle.std.specs.Option.{option_map};
 ghost use Rattle.nwq_value.specs.Engine.{routine_named};
-ghost use Rattle.nss_typing.specs.Sight.{callee, is_callable_role, of_signature};
-ghost use Rattle.nss_typing.specs.Sight.{routine_called, types_wanted};
-ghost use Rattle.nss_typing.specs.Rules.{defaults, is_barred, is_of_unit, others, takes_action};
+ghost use Rattle.typing_rules.specs.Sight.{callee, is_callable_role, of_signature};
+ghost use Rattle.typing_rules.specs.Sight.{routine_called, types_wanted};
+ghost use Rattle.typing_rules.specs.Rules.{defaults, is_barred, is_of_unit, others, takes_action};
 ghost use Rattle.nss_scopes.specs.Entries.{signature_of};
 ghost use Rattle.nss_expressions.specs.Views.{called_of, heads_in};
 ghost use Rattle.nss_expressions.specs.Arguments.{defaults_behind};
@@ -13,9 +13,9 @@ ghost use Rattle.nss_expressions.specs.Arguments.{defaults_behind};
 use crate::given::Given;
 use crate::rules::{is_action, is_void};
 use nss_scopes::Signature;
-use nss_typing::Callee;
 use nwq_value::{Const, Items, NoMemory, Param, Role, Table, Ty};
 use std::alloc::Global;
+use typing_rules::Callee;
 
 /// What a call calls, with the parameters and the result of it.
 #[derive(Clone, Copy)]

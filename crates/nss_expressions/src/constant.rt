@@ -3,9 +3,9 @@
 ghost use Rattle.std.specs.Prelude.{◌≡◌, IfOk, OnOk};
 ghost use Rattle.std.specs.Option.{option_map};
 ghost use Rattle.nss_tree.specs.Places.{token_of};
-ghost use Rattle.nss_typing.specs.Nodes.{asked, at, fine, kept, faults_there, if_there};
-ghost use Rattle.nss_typing.specs.Rules.{constant_named, constant_rows, constant_rule, signed};
-ghost use Rattle.nss_typing.specs.Verdicts.{constant_faults, constant_value};
+ghost use Rattle.typing_rules.specs.Nodes.{asked, at, fine, kept, faults_there, if_there};
+ghost use Rattle.typing_rules.specs.Rules.{constant_named, constant_rows, constant_rule, signed};
+ghost use Rattle.typing_rules.specs.Verdicts.{constant_faults, constant_value};
 ghost use Rattle.nss_scopes.specs.Views.{in_sight};
 ghost use Rattle.nss_expressions.specs.Views.{known_of};
 
@@ -13,9 +13,9 @@ use crate::known::{Known, name_means};
 use crate::note::note;
 use nss_scopes::Sight;
 use nss_tree::Constant;
-use nss_typing::{Fault, FaultKind};
 use nwq_value::{Const, NoMemory, Table};
 use std::alloc::Global;
+use typing_rules::{Fault, FaultKind};
 
 fn signed(negated: bool, value: i32) -> i32
     ensures { result ≡ signed negated value }

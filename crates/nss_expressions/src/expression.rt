@@ -4,9 +4,9 @@ ghost use Rattle.std.specs.Prelude.{◌≡◌, false, IfOk, OnOk};
 ghost use Rattle.std.specs.Option.{option_map};
 ghost use Rattle.nss_tree.specs.Expressions as tree;
 ghost use Rattle.nss_tree.specs.Reading.{plain_expr, plain_exprs};
-ghost use Rattle.nss_typing.specs.Nodes.{fine, kept};
-ghost use Rattle.nss_typing.specs.Reading.{plain, plain_all};
-ghost use Rattle.nss_typing.specs.Verdicts.{all_faults, all_fine, faults, verdict};
+ghost use Rattle.typing_rules.specs.Nodes.{fine, kept};
+ghost use Rattle.typing_rules.specs.Reading.{plain, plain_all};
+ghost use Rattle.typing_rules.specs.Verdicts.{all_faults, all_fine, faults, verdict};
 ghost use Rattle.nss_expressions.specs.Views.{heads_in, sight_in};
 ghost use Rattle.nss_expressions.specs.Arguments.{with_last};
 
@@ -20,8 +20,8 @@ use crate::known::name_means;
 use crate::note::note;
 use nss_scopes::Sight;
 use nss_tree::{AssignOperator, BinaryOperator, Expr, PostfixOperator, PrefixOperator};
-use nss_typing::{Expression, Fault, FaultKind};
 use nwq_value::{Const, Items, NoMemory, Param, Text};
+use typing_rules::{Expression, Fault, FaultKind};
 
 /// The typed expression, if it has one; the least fault of its nodes and of what was kept before is
 /// kept. `as_action` says that it stands where an action is taken.

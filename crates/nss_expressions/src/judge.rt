@@ -2,13 +2,13 @@
 
 ghost use Rattle.std.specs.Prelude.{◌≡◌, IfOk, OnOk, Some, if◌then◌else◌};
 ghost use Rattle.std.specs.Option.{option_map};
-ghost use Rattle.nss_typing.specs.Nodes.{asked, at, fine, kept, two};
-ghost use Rattle.nss_typing.specs.Reading.{plain};
-ghost use Rattle.nss_typing.specs.Rules.{assign_rows, assign_rule, binary_rows, binary_rule};
-ghost use Rattle.nss_typing.specs.Rules.{member_at, member_rows, member_rule, name_rows, name_rule};
-ghost use Rattle.nss_typing.specs.Rules.{postfix_rows, postfix_rule, prefix_rows, prefix_rule};
-ghost use Rattle.nss_typing.specs.declared.fault.FaultKind.TheVariants as kind;
-ghost use Rattle.nss_typing.specs.Sight.{members_in};
+ghost use Rattle.typing_rules.specs.Nodes.{asked, at, fine, kept, two};
+ghost use Rattle.typing_rules.specs.Reading.{plain};
+ghost use Rattle.typing_rules.specs.Rules.{assign_rows, assign_rule, binary_rows, binary_rule};
+ghost use Rattle.typing_rules.specs.Rules.{member_at, member_rows, member_rule, name_rows, name_rule};
+ghost use Rattle.typing_rules.specs.Rules.{postfix_rows, postfix_rule, prefix_rows, prefix_rule};
+ghost use Rattle.typing_rules.specs.declared.fault.FaultKind.TheVariants as kind;
+ghost use Rattle.typing_rules.specs.Sight.{members_in};
 ghost use Rattle.nss_expressions.specs.Views.{known_of};
 
 use crate::known::Known;
@@ -16,10 +16,10 @@ use crate::note::note;
 use crate::rules::{assigned_type, is_int, is_step, place_of};
 use nss_scopes::Structs;
 use nss_tree::{AssignOperator, BinaryOperator, PostfixOperator, PrefixOperator};
-use nss_typing::rules::binary_type;
-use nss_typing::{Expression, Fault, FaultKind, Place};
 use nwq_value::{NoMemory, Ty};
 use std::alloc::Global;
+use typing_rules::rules::binary_type;
+use typing_rules::{Expression, Fault, FaultKind, Place};
 
 /// A name that means this.
 pub fn judge_name(

@@ -2,7 +2,7 @@
 
 ghost use Rattle.std.specs.Prelude.{◌≡◌};
 ghost use Rattle.std.specs.Option.{option_map};
-ghost use Rattle.nss_typing.specs.Sight.{name_means};
+ghost use Rattle.typing_rules.specs.Sight.{name_means};
 ghost use Rattle.nss_scopes.specs.Slots.{meaning_of};
 ghost use Rattle.nss_scopes.specs.Views.{in_sight};
 ghost use Rattle.nss_expressions.specs.Views.{known_of};

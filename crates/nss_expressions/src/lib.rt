@@ -4,7 +4,7 @@
 //! ([`nss_scopes::Sight`]) and the heads of the unit's functions ([`Given`]). It doesn't stop at a
 //! fault: a node is judged by a small function over the answers of its parts, and the least fault
 //! so far is kept. Each walk's clauses say the same of it: its answer is the verdict of the
-//! definitions of `nss_typing`, and the fault that is kept is the one kept of all of the node's
+//! definitions of `typing_rules`, and the fault that is kept is the one kept of all of the node's
 //! faults. Statements are `nss_statements`, items and whole units `nss_types`; the page is
 //! docs/TYPES.md.
 #![tactic(auto)]

@@ -2,19 +2,19 @@
 
 ghost use Rattle.std.specs.Prelude.{◌≡◌};
 ghost use Rattle.std.specs.Option.{option_map};
-ghost use Rattle.nss_typing.specs.Nodes.{at, first_kind, kept};
-ghost use Rattle.nss_typing.specs.Rules.{constant_type, line_rows};
-ghost use Rattle.nss_typing.specs.Sight.{any_type, declared_type, result_type, type_means};
-ghost use Rattle.nss_typing.specs.Sight.{value_type};
-ghost use Rattle.nss_typing.specs.Verdicts.{constant_line_verdict, line_type, line_verdict};
-ghost use Rattle.nss_typing.specs.Nodes.{fine};
+ghost use Rattle.typing_rules.specs.Nodes.{at, first_kind, kept};
+ghost use Rattle.typing_rules.specs.Rules.{constant_type, line_rows};
+ghost use Rattle.typing_rules.specs.Sight.{any_type, declared_type, result_type, type_means};
+ghost use Rattle.typing_rules.specs.Sight.{value_type};
+ghost use Rattle.typing_rules.specs.Verdicts.{constant_line_verdict, line_type, line_verdict};
+ghost use Rattle.typing_rules.specs.Nodes.{fine};
 ghost use Rattle.nss_scopes.specs.Entries.{meant_of};
 
 use crate::note::note;
 use nss_scopes::{Meant, Structs};
 use nss_tree::TypeName;
-use nss_typing::{Fault, FaultKind};
 use nwq_value::Ty;
+use typing_rules::{Fault, FaultKind};
 
 /// What a type as it is written means; `None` where it is a struct that isn't typed.
 pub fn type_means(structs: &Structs, ty: &TypeName) -> Option<Meant>

@@ -1,9 +1,9 @@
 //! The least fault so far.
 
 ghost use Rattle.std.specs.Prelude.{◌≡◌};
-ghost use Rattle.nss_typing.specs.Nodes.{earlier};
+ghost use Rattle.typing_rules.specs.Nodes.{earlier};
 
-use nss_typing::{Fault, FaultKind};
+use typing_rules::{Fault, FaultKind};
 
 /// Keeps a fault if no other one has a lesser token or the same.
 pub fn note(least: &mut Option<Fault>, kind: FaultKind, token: u32)

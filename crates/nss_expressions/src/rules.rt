@@ -1,13 +1,13 @@
-//! The tables of types that rules cite, beside those of `nss_typing`.
+//! The tables of types that rules cite, beside those of `typing_rules`.
 
 ghost use Rattle.std.specs.Prelude.{◌≡◌};
-ghost use Rattle.nss_typing.specs.Types.{assigned_type, is_action, is_int, is_step, is_void};
-ghost use Rattle.nss_typing.specs.Rules.{place_of};
+ghost use Rattle.typing_rules.specs.Types.{assigned_type, is_action, is_int, is_step, is_void};
+ghost use Rattle.typing_rules.specs.Rules.{place_of};
 
 use nss_tree::{AssignOperator, PrefixOperator};
-use nss_typing::Place;
-use nss_typing::rules::same_type;
 use nwq_value::Ty;
+use typing_rules::Place;
+use typing_rules::rules::same_type;
 
 pub fn is_int(ty: Ty) -> bool
     ensures test { result ≡ is_int ty }

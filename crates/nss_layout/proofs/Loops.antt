@@ -9,12 +9,12 @@ use Rattle.nss_tree.specs.Readings.{stmts_more}
 use Rattle.nss_tree.specs.Statements.{PlainStmt, map_stmt, map_stmts}
 use Rattle.nwq_value.specs.declared.value.Ty.{Ty}
 use Rattle.nwq_value.specs.declared.engine.Const.{Const}
-use Rattle.nss_typing.specs.declared.expressions.Expression.{Expression}
-use Rattle.nss_typing.specs.declared.places.Variable.{Variable}
-use Rattle.nss_typing.specs.Reading.{plain}
-use Rattle.nss_typing.specs.Typed.{TypedItem}
-use Rattle.nss_typing.specs.UnitReading.{typed_item, typed_items, typed_stmt, typed_stmts}
-use Rattle.code_emission.specs.Layout.{Structs, declared_cells, positions, all_positions, structs_from}
+use Rattle.typing_rules.specs.declared.expressions.Expression.{Expression}
+use Rattle.typing_rules.specs.declared.places.Variable.{Variable}
+use Rattle.typing_rules.specs.Reading.{plain}
+use Rattle.typing_rules.specs.Typed.{TypedItem}
+use Rattle.typing_rules.specs.UnitReading.{typed_item, typed_items, typed_stmt, typed_stmts}
+use Rattle.emission_rules.specs.Layout.{Structs, declared_cells, positions, all_positions, structs_from}
 
 -- the next member
 next : {X Y : Type 0} (F : List X → Y) (xs : List X) (i : ℕ) (x : X) → x ≡ get_or xs i x → i < length xs → F (drop i xs) ≡ F (x ∷ drop (i + 1) xs)

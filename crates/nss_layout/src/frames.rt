@@ -4,15 +4,15 @@ ghost use Rattle.std.specs.Prelude.{◌≡◌, ◌++◌, ◌+◌, IfOk, OnOk};
 ghost use Rattle.std.specs.Option.{option_map};
 ghost use Rattle.nss_tree.specs.Reading.{tree_of_stmts};
 ghost use Rattle.nss_tree.specs.Statements.{map_stmts};
-ghost use Rattle.nss_typing.specs.Reading.{plain};
-ghost use Rattle.nss_typing.specs.UnitReading.{typed_items, typed_item, typed_names, typed_stmt};
-ghost use Rattle.nss_typing.specs.UnitReading.{typed_stmts};
-ghost use Rattle.code_emission.specs.Layout as laid;
+ghost use Rattle.typing_rules.specs.Reading.{plain};
+ghost use Rattle.typing_rules.specs.UnitReading.{typed_items, typed_item, typed_names, typed_stmt};
+ghost use Rattle.typing_rules.specs.UnitReading.{typed_stmts};
+ghost use Rattle.emission_rules.specs.Layout as laid;
 
 use crate::structs::cells_of;
 use nss_tree::{Item, Stmt};
-use nss_typing::{TypedItem, TypedName, TypedParameter, TypedStmt};
 use nwq_value::{Items, NoMemory, Ty};
+use typing_rules::{TypedItem, TypedName, TypedParameter, TypedStmt};
 
 /// So many cells more. No frame of so many cells that they aren't a number of 32 bits can be made.
 fn deeper(depth: u32, cells: usize) -> Result<u32, NoMemory>

@@ -1,14 +1,14 @@
 ghost use Rattle.std.specs.Prelude.{◌≡◌, ◌<◌, ◌^◌, slice_index_or, IfOk};
 ghost use Rattle.std.specs.Prelude.{[]};
-ghost use Rattle.nss_typing.specs.UnitReading.{typed_unit};
-ghost use Rattle.code_emission.specs.Layout.{cells, layout_of, position};
+ghost use Rattle.typing_rules.specs.UnitReading.{typed_unit};
+ghost use Rattle.emission_rules.specs.Layout.{cells, layout_of, position};
 
 use crate::frames::items_positions;
 use crate::structs::{cells_of, struct_types, structs_of};
-use nss_typing::Typed;
 use nwq_value::{Items, NoMemory, Ty};
 use std::alloc::Global;
 use std::marker::Model;
+use typing_rules::Typed;
 
 /// Where the values of a typed unit stand.
 #[derive(Drop)]
@@ -22,7 +22,7 @@ pub struct Layout {
 }
 
 impl Model for Layout {
-    ghost use Rattle.code_emission.specs.Layout as laid;
+    ghost use Rattle.emission_rules.specs.Layout as laid;
 
     ghost Value = { laid.Layout };
 

@@ -3,14 +3,14 @@
 ghost use Rattle.std.specs.Prelude.{◌≡◌, ◌++◌, ◌∷◌, [], List, slice_index_or};
 ghost use Rattle.std.specs.Prelude.{IfOk, OnOk};
 ghost use Rattle.std.specs.List.{flat_map};
-ghost use Rattle.nss_typing.specs.Typed as typed;
-ghost use Rattle.nss_typing.specs.UnitReading.{typed_item, typed_items};
-ghost use Rattle.code_emission.specs.Layout.{cell_types, cells, line_cells, structs_from};
+ghost use Rattle.typing_rules.specs.Typed as typed;
+ghost use Rattle.typing_rules.specs.UnitReading.{typed_item, typed_items};
+ghost use Rattle.emission_rules.specs.Layout.{cell_types, cells, line_cells, structs_from};
 
 use nss_tree::Item;
-use nss_typing::{TypedItem, TypedLine};
 use nwq_value::{Items, NoMemory, Ty};
 use std::alloc::Global;
+use typing_rules::{TypedItem, TypedLine};
 
 /// The types of the cells of the struct of this number, or none.
 pub(crate) fn struct_types(structs: &[Items<Ty>], number: u16) -> &[Ty]

@@ -2,7 +2,7 @@
 use Rattle.std.proofs.Common.{◌≡◌, ℤ, Bool, true, false, cond, if◌then◌else◌, List, [], ◌∷◌, ◌++◌, refl, sym, ap, ◌∙◌, int_eq}
 use Rattle.std.specs.Cmp.{int_eq_equiv}
 use Rattle.std.specs.HashSet.{HashSet, contains, Updates}
-use Rattle.nss_typing.specs.Rules.{is_among_ints}
+use Rattle.typing_rules.specs.Rules.{is_among_ints}
 use Rattle.nss_scopes.specs.Cases.{HasCases}
 
 among_more : (v : ℤ) (ws : List ℤ) (w : ℤ) → is_among_ints v (ws ++ w ∷ []) ≡ (if int_eq v w then true else is_among_ints v ws)

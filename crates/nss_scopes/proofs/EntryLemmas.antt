@@ -2,8 +2,8 @@
 use Rattle.std.proofs.Common.{◌≡◌, ℕ, zero, suc, ◌+◌, ◌^◌, ◌<◌, ◌≤◌, Bool, true, false, ◌&&◌, if◌then◌else◌, List, [], ◌∷◌, ◌++◌, length, map, slice_get, Option, None, Some, is_some, Bor, refl, sym, ap, ◌∙◌, arith}
 use Rattle.std.specs.Option.{option_map, option_and_then, option_copied}
 use Rattle.std.specs.Str.{bytes_eq}
-use Rattle.nss_typing.specs.Sight as sight
-use Rattle.nss_typing.specs.Sight.{struct_means, has_struct, is_of_struct, find_head, has_head, has_body, body_number}
+use Rattle.typing_rules.specs.Sight as sight
+use Rattle.typing_rules.specs.Sight.{struct_means, has_struct, is_of_struct, find_head, has_head, has_body, body_number}
 use Rattle.nss_scopes.specs.declared.structs.Structure.{Structure}
 use Rattle.nss_scopes.specs.declared.heads.Head.{Head}
 use Rattle.nwq_value.specs.Index.{first_place}

@@ -5,8 +5,8 @@ use Rattle.std.specs.Cmp.Lexicographic.{bytes_decides}
 use Rattle.std.specs.Option.{option_map, option_and_then}
 use Rattle.std.specs.Str.{bytes_eq}
 use Rattle.nwq_value.specs.Index.{number_under, Puts}
-use Rattle.nss_typing.specs.Sight as sight
-use Rattle.nss_typing.specs.Sight.{find, find_from}
+use Rattle.typing_rules.specs.Sight as sight
+use Rattle.typing_rules.specs.Sight.{find, find_from}
 use Rattle.nss_scopes.specs.declared.names.Slot.{Slot}
 use Rattle.nss_scopes.specs.Slots.{entry_in, last_from, last_place, Shadows, HasLast}
 

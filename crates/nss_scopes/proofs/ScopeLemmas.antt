@@ -1,6 +1,6 @@
 -- What is in sight once a scope is left.
 use Rattle.std.proofs.Common.{◌≡◌, length, take, refl, sym, ap, ◌∙◌}
-use Rattle.nss_typing.specs.Scopes.{NamesStandFirst}
+use Rattle.typing_rules.specs.Scopes.{NamesStandFirst}
 use Rattle.nss_scopes.specs.Laws.{ScopesAreLeft}
 use Rattle.nss_scopes.specs.Views.{in_sight, left_by}
 

@@ -2,8 +2,8 @@
 use Rattle.std.specs.Prelude.{◌≡◌, ℤ, Bool, List}
 use Rattle.std.specs.List.{list_any}
 use Rattle.std.specs.Ordering.{int_eq}
-use Rattle.nss_typing.specs.Sight.{Labels}
-use Rattle.nss_typing.specs.Rules.{is_among_ints}
+use Rattle.typing_rules.specs.Sight.{Labels}
+use Rattle.typing_rules.specs.Rules.{is_among_ints}
 
 abbrev pub labels_of : List ℤ → Bool → Bool → Labels
 labels_of cases has_default is_late = record { cases = cases; has_default = has_default; is_late = is_late }

@@ -8,7 +8,7 @@ use Rattle.nss_scopes.specs.declared.structs.Meant.{Meant}
 use Rattle.nss_scopes.specs.declared.structs.Meant.TheVariants.{Refused, Missing, Is}
 use Rattle.nss_scopes.specs.declared.heads.Signature.{Signature}
 use Rattle.nss_scopes.specs.declared.heads.Head.{Head}
-use Rattle.nss_typing.specs.Sight as sight
+use Rattle.typing_rules.specs.Sight as sight
 
 abbrev pub member_of : Member → sight.Member
 member_of m = record { called = m.called; ty = m.ty; before = m.before }

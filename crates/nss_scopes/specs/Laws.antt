@@ -1,9 +1,9 @@
 -- What is in sight once a scope is left.
 use Rattle.std.specs.Prelude.{◌≡◌}
 use Rattle.nwq_value.specs.Engine.{EngineTable}
-use Rattle.nss_typing.specs.Scopes.{OnlyAdds}
-use Rattle.nss_typing.specs.Sight.{left}
-use Rattle.nss_typing.specs.Sight as spec
+use Rattle.typing_rules.specs.Scopes.{OnlyAdds}
+use Rattle.typing_rules.specs.Sight.{left}
+use Rattle.typing_rules.specs.Sight as spec
 use Rattle.nss_scopes.specs.declared.sight.Sight.{Sight}
 use Rattle.nss_scopes.specs.declared.sight.Mark.{Mark}
 use Rattle.nss_scopes.specs.Views.{in_sight, left_by, mark_of}

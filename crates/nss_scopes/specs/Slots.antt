@@ -6,7 +6,7 @@ use Rattle.nss_scopes.specs.declared.names.Entry.{Entry}
 use Rattle.nss_scopes.specs.declared.names.Meaning.{Meaning}
 use Rattle.nss_scopes.specs.declared.names.Meaning.TheVariants.{Variable, Constant}
 use Rattle.nss_scopes.specs.declared.names.Slot.{Slot}
-use Rattle.nss_typing.specs.Sight as sight
+use Rattle.typing_rules.specs.Sight as sight
 
 abbrev pub meaning_of : Meaning → sight.Meaning
 meaning_of (Variable n is_local t) = sight.variable n is_local t

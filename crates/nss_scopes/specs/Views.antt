@@ -3,7 +3,7 @@ use Rattle.std.specs.Prelude.{ℤ, [], ◌∷◌, ◌++◌, length, take}
 use Rattle.nwq_value.specs.Engine.{EngineTable}
 use Rattle.nss_scopes.specs.declared.sight.Sight.{Sight}
 use Rattle.nss_scopes.specs.declared.sight.Mark.{Mark}
-use Rattle.nss_typing.specs.Sight as spec
+use Rattle.typing_rules.specs.Sight as spec
 
 abbrev pub in_sight : EngineTable → Sight → spec.Sight
 in_sight table c = record {

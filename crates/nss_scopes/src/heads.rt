@@ -3,7 +3,7 @@
 ghost use Rattle.std.specs.Prelude.{◌≡◌, ◌++◌, ◌∷◌, [], None, Some, if◌then◌else◌, IfOk, OnErr};
 ghost use Rattle.std.specs.Prelude.{OnOk};
 ghost use Rattle.std.specs.Option.{option_map};
-ghost use Rattle.nss_typing.specs.Sight.{body_number, find_head, has_body, has_head};
+ghost use Rattle.typing_rules.specs.Sight.{body_number, find_head, has_body, has_head};
 ghost use Rattle.nss_scopes.specs.Entries.{head_of, signature_of, AreHeads};
 
 use crate::places::{Places, item_at};
@@ -39,7 +39,7 @@ pub struct Heads {
 
 impl Model for Heads {
     ghost use Rattle.std.specs.Prelude.{List, map};
-    ghost use Rattle.nss_typing.specs.Sight.{Head as Declared};
+    ghost use Rattle.typing_rules.specs.Sight.{Head as Declared};
     ghost use Rattle.nss_scopes.specs.Entries.{head_of, AreHeads};
 
     ghost Value = { List Declared };

@@ -1,8 +1,8 @@
 //! The labels of a switch so far.
 
 ghost use Rattle.std.specs.Prelude.{◌≡◌, ◌++◌, ◌∷◌, [], true, OnErr, OnOk};
-ghost use Rattle.nss_typing.specs.Sight.{no_labels, with_declaration, with_default};
-ghost use Rattle.nss_typing.specs.Rules.{is_among_ints};
+ghost use Rattle.typing_rules.specs.Sight.{no_labels, with_declaration, with_default};
+ghost use Rattle.typing_rules.specs.Rules.{is_among_ints};
 ghost use Rattle.nss_scopes.specs.Cases.{HasCases};
 
 use nwq_value::NoMemory;
@@ -21,7 +21,7 @@ pub struct Labels {
 }
 
 impl Model for Labels {
-    ghost use Rattle.nss_typing.specs.Sight.{Labels as Seen};
+    ghost use Rattle.typing_rules.specs.Sight.{Labels as Seen};
     ghost use Rattle.nss_scopes.specs.Cases.{HasCases, labels_of};
 
     ghost Value = { Seen };

@@ -2,7 +2,7 @@
 
 ghost use Rattle.nss_scopes.specs.Laws.{ScopesAreLeft};
 
-use nss_typing::laws::scopes_only_add;
+use typing_rules::laws::scopes_only_add;
 
 /// Once a scope is left all is as before it, but for the numbers of variables.
 pub fn scopes_are_left()

@@ -1,6 +1,6 @@
 //! What is in sight where a node of a unit of NWScript stands, as code holds it while it types.
 //!
-//! [`Sight`] is the record that `nss_typing` defines, seen through `specs/Views.antt`: names that
+//! [`Sight`] is the record that `typing_rules` defines, seen through `specs/Views.antt`: names that
 //! are declared, structs, the declarations of functions, and where the node stands. Contracts see
 //! [`Names`], [`Structs`], [`Heads`] and [`Labels`] as the lists of the definitions, and each call
 //! answers what the definition of the same name gives; code finds a name, a struct, a declaration

@@ -3,7 +3,7 @@
 ghost use Rattle.std.specs.Prelude.{◌≡◌, ◌++◌, ◌∷◌, ◌<◌, [], IsSome, None, Some, drop, is_some};
 ghost use Rattle.std.specs.Prelude.{length, take, vec_capacity, OnErr, OnOk, IfOk, ℕ};
 ghost use Rattle.std.specs.Option.{option_map};
-ghost use Rattle.nss_typing.specs.Sight.{find};
+ghost use Rattle.typing_rules.specs.Sight.{find};
 ghost use Rattle.nwq_value.specs.Index.{number_under, Puts};
 ghost use Rattle.nss_scopes.specs.Slots.{entry_of, meaning_of, HasLast};
 
@@ -44,7 +44,7 @@ pub struct Names {
 
 impl Model for Names {
     ghost use Rattle.std.specs.Prelude.{List, map};
-    ghost use Rattle.nss_typing.specs.Sight.{Entry as Declared};
+    ghost use Rattle.typing_rules.specs.Sight.{Entry as Declared};
     ghost use Rattle.nss_scopes.specs.Slots.{entry_in, HasLast};
 
     ghost Value = { List Declared };

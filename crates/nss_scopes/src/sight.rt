@@ -1,13 +1,13 @@
 //! What is in sight where a node stands.
 
-ghost use Rattle.nss_typing.specs.Sight.{case_seen, declaration_seen, default_seen};
+ghost use Rattle.typing_rules.specs.Sight.{case_seen, declaration_seen, default_seen};
 ghost use Rattle.std.specs.Prelude.{◌≡◌, ◌+◌, ◌≤◌, None, Some, IfOk, OnOk};
 ghost use Rattle.std.specs.Option.{option_map};
 ghost use Rattle.nwq_value.specs.Engine.{EngineTable};
-ghost use Rattle.nss_typing.specs.Sight.{begun, cell_limit, cells_if, counted, crosses};
-ghost use Rattle.nss_typing.specs.Sight.{crosses_with, declared, entered, frame_with, inside};
-ghost use Rattle.nss_typing.specs.Sight.{is_of_header, is_taken, is_taken_by_other, looped};
-ghost use Rattle.nss_typing.specs.Sight.{start, switched, variable_of};
+ghost use Rattle.typing_rules.specs.Sight.{begun, cell_limit, cells_if, counted, crosses};
+ghost use Rattle.typing_rules.specs.Sight.{crosses_with, declared, entered, frame_with, inside};
+ghost use Rattle.typing_rules.specs.Sight.{is_of_header, is_taken, is_taken_by_other, looped};
+ghost use Rattle.typing_rules.specs.Sight.{start, switched, variable_of};
 ghost use Rattle.nss_scopes.specs.Slots.{meaning_of};
 ghost use Rattle.nss_scopes.specs.Views.{in_sight, left_by, mark_of, with_int};
 

@@ -2,8 +2,8 @@
 
 ghost use Rattle.std.specs.Prelude.{◌≡◌, ◌++◌, ◌∷◌, [], is_some, slice_get, OnErr, OnOk};
 ghost use Rattle.std.specs.Option.{option_map};
-ghost use Rattle.nss_typing.specs.Sight.{cells, find_member, has_struct, is_of_struct};
-ghost use Rattle.nss_typing.specs.Sight.{members_in, struct_means};
+ghost use Rattle.typing_rules.specs.Sight.{cells, find_member, has_struct, is_of_struct};
+ghost use Rattle.typing_rules.specs.Sight.{members_in, struct_means};
 ghost use Rattle.nss_scopes.specs.Entries.{member_of, members_of, meant_of, structure_of};
 ghost use Rattle.nss_scopes.specs.Entries.{AreStructs};
 
@@ -56,7 +56,7 @@ pub struct Structs {
 
 impl Model for Structs {
     ghost use Rattle.std.specs.Prelude.{List, map};
-    ghost use Rattle.nss_typing.specs.Sight.{Structure as Declared};
+    ghost use Rattle.typing_rules.specs.Sight.{Structure as Declared};
     ghost use Rattle.nss_scopes.specs.Entries.{structure_of, AreStructs};
 
     ghost Value = { List Declared };

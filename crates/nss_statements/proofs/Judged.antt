@@ -4,13 +4,13 @@ use Rattle.std.specs.Option.{option_map}
 use Rattle.std.specs.Result.{IfOk}
 use Rattle.nss_tree.specs.Source.{SourceDeclared}
 use Rattle.nwq_value.specs.declared.value.Ty.{Ty}
-use Rattle.nss_typing.specs.declared.fault.FaultKind.{FaultKind}
-use Rattle.nss_typing.specs.declared.fault.FaultKind.TheVariants.{Redeclared, Mismatch, Cells}
-use Rattle.nss_typing.specs.declared.fault.Fault.{Fault}
-use Rattle.nss_typing.specs.Nodes.{Rows, asked, at, fine, four, kept, ruled, first_kind, no_row, only, row, three, two}
-use Rattle.nss_typing.specs.Rules.{value_fits, variable_rows, variable_rule, when}
-use Rattle.nss_typing.specs.Sight.{Sight, cells, crosses_with, is_taken}
-use Rattle.nss_typing.specs.Typed.{TypedExpr}
+use Rattle.typing_rules.specs.declared.fault.FaultKind.{FaultKind}
+use Rattle.typing_rules.specs.declared.fault.FaultKind.TheVariants.{Redeclared, Mismatch, Cells}
+use Rattle.typing_rules.specs.declared.fault.Fault.{Fault}
+use Rattle.typing_rules.specs.Nodes.{Rows, asked, at, fine, four, kept, ruled, first_kind, no_row, only, row, three, two}
+use Rattle.typing_rules.specs.Rules.{value_fits, variable_rows, variable_rule, when}
+use Rattle.typing_rules.specs.Sight.{Sight, cells, crosses_with, is_taken}
+use Rattle.typing_rules.specs.Typed.{TypedExpr}
 use Rattle.nss_statements.specs.Faults.{by_fault, fault_unless, fit_rows, fit_rule, ruled_when, some_made}
 
 pub variable_is : (s : Sight) (d : SourceDeclared) (t : Ty) (x : Option TypedExpr) (a b c : Bool) (k : Option FaultKind) → a ≡ is_taken s d.name → b ≡ value_fits t x

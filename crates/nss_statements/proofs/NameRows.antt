@@ -5,10 +5,10 @@ use Rattle.nss_tree.specs.declared.expressions.Expr.{Expr}
 use Rattle.nss_tree.specs.declared.statements.DeclaredName.{DeclaredName}
 use Rattle.nss_tree.specs.Reading.{plain_expr, plain_name, plain_names}
 use Rattle.nwq_value.specs.declared.value.Ty.{Ty}
-use Rattle.nss_typing.specs.Nodes.{at, faults_there, fine}
-use Rattle.nss_typing.specs.Sight.{Head, Sight, declared}
-use Rattle.nss_typing.specs.UnitReading.{typed_name, typed_names}
-use Rattle.nss_typing.specs.Verdicts.{after_names, names_faults, names_fine, one_more, value_faults, variable_verdict}
+use Rattle.typing_rules.specs.Nodes.{at, faults_there, fine}
+use Rattle.typing_rules.specs.Sight.{Head, Sight, declared}
+use Rattle.typing_rules.specs.UnitReading.{typed_name, typed_names}
+use Rattle.typing_rules.specs.Verdicts.{after_names, names_faults, names_fine, one_more, value_faults, variable_verdict}
 use Rattle.nss_expressions.specs.Rows.{with_rest}
 use Rattle.nss_expressions.specs.RowLaws.{RowLaws, mapped_step, rest_begin, rest_end}
 

@@ -6,12 +6,12 @@ use Rattle.nss_tree.specs.Readings.{map_stmts_none, stmts_more}
 use Rattle.nss_tree.specs.Statements.{PlainStmt, PlainStmts, map_stmts, block, empty, expression, if_only, if_else, while_loop, do_loop, for_loop, switch, break_off, continue_on, return_from, declaration, case_label, default_label, more_stmts, no_stmt}
 use Rattle.nwq_value.specs.declared.value.Ty.{Ty}
 use Rattle.nwq_value.specs.declared.engine.Const.{Const}
-use Rattle.nss_typing.specs.declared.expressions.Expression.{Expression}
-use Rattle.nss_typing.specs.declared.places.Variable.{Variable}
-use Rattle.nss_typing.specs.Reading.{plain}
-use Rattle.nss_typing.specs.Returns.{has_statement, is_statement, last_returns, returns}
-use Rattle.nss_typing.specs.Typed.{TypedStmt, TypedStmts}
-use Rattle.nss_typing.specs.UnitReading.{typed_stmt, typed_stmts}
+use Rattle.typing_rules.specs.declared.expressions.Expression.{Expression}
+use Rattle.typing_rules.specs.declared.places.Variable.{Variable}
+use Rattle.typing_rules.specs.Reading.{plain}
+use Rattle.typing_rules.specs.Returns.{has_statement, is_statement, last_returns, returns}
+use Rattle.typing_rules.specs.Typed.{TypedStmt, TypedStmts}
+use Rattle.typing_rules.specs.UnitReading.{typed_stmt, typed_stmts}
 use Rattle.nss_statements.specs.Returns.{last_or}
 
 more : (x : Stmt Expression Const Ty Variable) (xs : List (Stmt Expression Const Ty Variable)) → typed_stmts (x ∷ xs) ≡ more_stmts (typed_stmt x) (typed_stmts xs)

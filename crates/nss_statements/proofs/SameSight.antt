@@ -2,10 +2,10 @@
 use Rattle.std.proofs.Common.{◌≡◌, ℕ, Bool, false, List, ◌++◌, refl, ap, ◌∙◌}
 use Rattle.nwq_value.specs.declared.engine.Param.{Param}
 use Rattle.nss_tree.specs.Expressions.{PlainExpr, PlainExprs, int, float, text, object_self, object_invalid, name, call, member, prefix, postfix, binary, assign, no_expr, more_exprs}
-use Rattle.nss_typing.specs.Nodes.{asked, at, fine, two}
-use Rattle.nss_typing.specs.Rules.{call_rows, call_rule, member_rows, member_rule, prefix_rows, prefix_rule, postfix_rows, postfix_rule, binary_rows, binary_rule, assign_rows, assign_rule, takes_action, others}
-use Rattle.nss_typing.specs.Sight.{Head, Sight, callee, wanted}
-use Rattle.nss_typing.specs.Verdicts.{verdict, all_fine, faults, all_faults, one_more_typed}
+use Rattle.typing_rules.specs.Nodes.{asked, at, fine, two}
+use Rattle.typing_rules.specs.Rules.{call_rows, call_rule, member_rows, member_rule, prefix_rows, prefix_rule, postfix_rows, postfix_rule, binary_rows, binary_rule, assign_rows, assign_rule, takes_action, others}
+use Rattle.typing_rules.specs.Sight.{Head, Sight, callee, wanted}
+use Rattle.typing_rules.specs.Verdicts.{verdict, all_fine, faults, all_faults, one_more_typed}
 
 mutual
   pub same_verdict : (hs : List Head) (s : Sight) (n : ℕ) (b : Bool) (e : PlainExpr) → verdict hs (record s { next = n }) b e ≡ verdict hs s b e

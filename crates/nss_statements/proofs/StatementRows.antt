@@ -10,14 +10,14 @@ use Rattle.nss_tree.specs.Readings.{stmts_more, map_stmts_none, map_stmts_push}
 use Rattle.nss_tree.specs.Statements.{joined_stmts, map_stmts, more_stmts, no_stmt}
 use Rattle.nwq_value.specs.declared.value.Ty.{Ty}
 use Rattle.nwq_value.specs.declared.engine.Const.{Const}
-use Rattle.nss_typing.specs.declared.expressions.Expression.{Expression}
-use Rattle.nss_typing.specs.declared.places.Variable.{Variable}
-use Rattle.nss_typing.specs.Nodes.{fine}
-use Rattle.nss_typing.specs.Reading.{plain}
-use Rattle.nss_typing.specs.Sight.{Head, Sight}
-use Rattle.nss_typing.specs.Typed.{TypedStmts}
-use Rattle.nss_typing.specs.UnitReading.{typed_stmt, typed_stmts}
-use Rattle.nss_typing.specs.Verdicts.{after, afters, one_more_stmt, stmt_faults, stmt_verdict, stmts_faults, stmts_fine}
+use Rattle.typing_rules.specs.declared.expressions.Expression.{Expression}
+use Rattle.typing_rules.specs.declared.places.Variable.{Variable}
+use Rattle.typing_rules.specs.Nodes.{fine}
+use Rattle.typing_rules.specs.Reading.{plain}
+use Rattle.typing_rules.specs.Sight.{Head, Sight}
+use Rattle.typing_rules.specs.Typed.{TypedStmts}
+use Rattle.typing_rules.specs.UnitReading.{typed_stmt, typed_stmts}
+use Rattle.typing_rules.specs.Verdicts.{after, afters, one_more_stmt, stmt_faults, stmt_verdict, stmts_faults, stmts_fine}
 use Rattle.nss_expressions.specs.Rows.{and_one, stmts_with_rest}
 use Rattle.nss_expressions.specs.RowLaws.{RowLaws}
 

@@ -1,12 +1,12 @@
 -- The fault of a node whose parts are typed.
 use Rattle.std.proofs.Common.{◌≡◌, ℕ, Bool, true, false, not, ◌&&◌, Option, None, Some, Result, Ok, Err, if◌then◌else◌, refl}
 use Rattle.nss_tree.specs.Statements as tree
-use Rattle.nss_typing.specs.declared.fault.FaultKind.{FaultKind}
-use Rattle.nss_typing.specs.declared.fault.FaultKind.TheVariants.{Mismatch, Cells}
-use Rattle.nss_typing.specs.Nodes.{Rows, Verdict, Fine, Wrong, row, no_row, only, ruled}
-use Rattle.nss_typing.specs.Rules.{when}
-use Rattle.nss_typing.specs.Types.{is_int}
-use Rattle.nss_typing.specs.Typed.{TypedExpr, TypedStmt, TypedStmts, type_of}
+use Rattle.typing_rules.specs.declared.fault.FaultKind.{FaultKind}
+use Rattle.typing_rules.specs.declared.fault.FaultKind.TheVariants.{Mismatch, Cells}
+use Rattle.typing_rules.specs.Nodes.{Rows, Verdict, Fine, Wrong, row, no_row, only, ruled}
+use Rattle.typing_rules.specs.Rules.{when}
+use Rattle.typing_rules.specs.Types.{is_int}
+use Rattle.typing_rules.specs.Typed.{TypedExpr, TypedStmt, TypedStmts, type_of}
 
 -- of this kind, unless its rule fits
 abbrev pub fault_unless : Bool → FaultKind → Option FaultKind

@@ -1,7 +1,7 @@
 -- The last statement of a list.
 use Rattle.std.specs.Prelude.{Bool, if◌then◌else◌}
 use Rattle.nss_tree.specs.Statements.{PlainStmts}
-use Rattle.nss_typing.specs.Returns.{has_statement, last_returns}
+use Rattle.typing_rules.specs.Returns.{has_statement, last_returns}
 
 -- it returns; where there is none, as an earlier one did
 abbrev pub last_or : {E C T N : Type 0} → Bool → PlainStmts E C T N → Bool

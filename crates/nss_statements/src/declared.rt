@@ -3,15 +3,15 @@
 ghost use Rattle.std.specs.Prelude.{◌≡◌, ◌++◌, ◌&&◌, not, IfOk, OnOk};
 ghost use Rattle.std.specs.Option.{option_map};
 ghost use Rattle.nss_tree.specs.Reading.{plain_expr, plain_name, plain_names};
-ghost use Rattle.nss_typing.specs.declared.fault.FaultKind.TheVariants as kind;
-ghost use Rattle.nss_typing.specs.Nodes.{asked, at, faults_there, fine, first_kind, if_there, kept};
-ghost use Rattle.nss_typing.specs.Nodes.{no_row, row, two};
-ghost use Rattle.nss_typing.specs.Reading.{plain};
-ghost use Rattle.nss_typing.specs.Rules.{value_fits, variable_rows, variable_rule};
-ghost use Rattle.nss_typing.specs.Sight.{declared};
-ghost use Rattle.nss_typing.specs.UnitReading.{typed_name, typed_names};
-ghost use Rattle.nss_typing.specs.Verdicts.{after_names, names_faults, names_fine, value};
-ghost use Rattle.nss_typing.specs.Verdicts.{value_faults, variable_verdict};
+ghost use Rattle.typing_rules.specs.declared.fault.FaultKind.TheVariants as kind;
+ghost use Rattle.typing_rules.specs.Nodes.{asked, at, faults_there, fine, first_kind, if_there, kept};
+ghost use Rattle.typing_rules.specs.Nodes.{no_row, row, two};
+ghost use Rattle.typing_rules.specs.Reading.{plain};
+ghost use Rattle.typing_rules.specs.Rules.{value_fits, variable_rows, variable_rule};
+ghost use Rattle.typing_rules.specs.Sight.{declared};
+ghost use Rattle.typing_rules.specs.UnitReading.{typed_name, typed_names};
+ghost use Rattle.typing_rules.specs.Verdicts.{after_names, names_faults, names_fine, value};
+ghost use Rattle.typing_rules.specs.Verdicts.{value_faults, variable_verdict};
 ghost use Rattle.nss_scopes.specs.Views.{in_sight};
 ghost use Rattle.nss_statements.specs.Faults.{fault_unless};
 ghost use Rattle.nss_expressions.specs.Views.{heads_in, sight_in};
@@ -22,9 +22,9 @@ use nss_expressions::note::note;
 use nss_expressions::row::and_last;
 use nss_scopes::Sight;
 use nss_tree::{DeclaredName, Expr};
-use nss_typing::rules::same_type;
-use nss_typing::{Expression, Fault, FaultKind, TypedName, Variable};
 use nwq_value::{Items, NoMemory, Table, Ty};
+use typing_rules::rules::same_type;
+use typing_rules::{Expression, Fault, FaultKind, TypedName, Variable};
 
 /// The typed expression of a part that may be absent.
 pub fn value_there(

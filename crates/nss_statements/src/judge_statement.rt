@@ -3,18 +3,18 @@
 ghost use Rattle.std.specs.Prelude.{◌≡◌, ◌&&◌, not, IfOk, OnOk, Some};
 ghost use Rattle.std.specs.Option.{option_map};
 ghost use Rattle.nss_tree.specs.Statements as tree;
-ghost use Rattle.nss_typing.specs.declared.fault.FaultKind.TheVariants as kind;
-ghost use Rattle.nss_typing.specs.Nodes.{asked, at, fine, first_kind, four, kept, no_parts};
-ghost use Rattle.nss_typing.specs.Nodes.{no_row, passed, row, three, two, only};
-ghost use Rattle.nss_typing.specs.Reading.{plain};
-ghost use Rattle.nss_typing.specs.Rules.{do_rows, do_rule, for_rows, for_rule, if_else_rows};
-ghost use Rattle.nss_typing.specs.Rules.{if_else_rule, if_rows, if_rule, is_condition};
-ghost use Rattle.nss_typing.specs.Rules.{outside_rows, result_fits, return_rows, return_rule};
-ghost use Rattle.nss_typing.specs.Rules.{when, while_rule};
-ghost use Rattle.nss_typing.specs.Types.{is_int};
-ghost use Rattle.nss_typing.specs.Typed.{type_of};
-ghost use Rattle.nss_typing.specs.UnitReading.{typed_names, typed_stmt, typed_stmts};
-ghost use Rattle.nss_typing.specs.Verdicts.{declaration_of};
+ghost use Rattle.typing_rules.specs.declared.fault.FaultKind.TheVariants as kind;
+ghost use Rattle.typing_rules.specs.Nodes.{asked, at, fine, first_kind, four, kept, no_parts};
+ghost use Rattle.typing_rules.specs.Nodes.{no_row, passed, row, three, two, only};
+ghost use Rattle.typing_rules.specs.Reading.{plain};
+ghost use Rattle.typing_rules.specs.Rules.{do_rows, do_rule, for_rows, for_rule, if_else_rows};
+ghost use Rattle.typing_rules.specs.Rules.{if_else_rule, if_rows, if_rule, is_condition};
+ghost use Rattle.typing_rules.specs.Rules.{outside_rows, result_fits, return_rows, return_rule};
+ghost use Rattle.typing_rules.specs.Rules.{when, while_rule};
+ghost use Rattle.typing_rules.specs.Types.{is_int};
+ghost use Rattle.typing_rules.specs.Typed.{type_of};
+ghost use Rattle.typing_rules.specs.UnitReading.{typed_names, typed_stmt, typed_stmts};
+ghost use Rattle.typing_rules.specs.Verdicts.{declaration_of};
 ghost use Rattle.nss_statements.specs.Faults.{break_rule_by, continue_rule_by, fault_unless};
 ghost use Rattle.nss_statements.specs.Faults.{fit_rows, fit_rule};
 ghost use Rattle.nss_statements.specs.Faults.{switch_rows_by, switch_rule_by};
@@ -23,10 +23,10 @@ use crate::parts::{some_made, two};
 use nss_expressions::note::note;
 use nss_expressions::rules::{is_int, is_void};
 use nss_tree::Stmt;
-use nss_typing::rules::same_type;
-use nss_typing::{Expression, Fault, FaultKind, TypedName, TypedStmt};
 use nwq_value::{Items, NoMemory, Ty};
 use std::alloc::Global;
+use typing_rules::rules::same_type;
+use typing_rules::{Expression, Fault, FaultKind, TypedName, TypedStmt};
 
 /// A block of these.
 pub fn made_block(token: u32, items: Option<Items<TypedStmt>>) -> Option<TypedStmt>

@@ -4,14 +4,14 @@ ghost use Rattle.std.specs.Prelude.{◌≡◌, ◌++◌, ◌&&◌, not, IfOk, On
 ghost use Rattle.std.specs.Option.{option_map};
 ghost use Rattle.nwq_value.specs.Engine.{EngineTable, const_type};
 ghost use Rattle.nss_tree.specs.Statements as tree;
-ghost use Rattle.nss_typing.specs.declared.fault.FaultKind.TheVariants as kind;
-ghost use Rattle.nss_typing.specs.Nodes.{asked, at, fine, first_kind, kept, no_parts, only, row};
-ghost use Rattle.nss_typing.specs.Rules.{case_rows, case_rule, default_rows, default_rule};
-ghost use Rattle.nss_typing.specs.Rules.{has_default_label, is_again, is_outside};
-ghost use Rattle.nss_typing.specs.Sight.{case_seen, default_seen};
-ghost use Rattle.nss_typing.specs.Types.{is_int};
-ghost use Rattle.nss_typing.specs.UnitReading.{typed_stmt};
-ghost use Rattle.nss_typing.specs.Verdicts.{constant_faults, constant_value};
+ghost use Rattle.typing_rules.specs.declared.fault.FaultKind.TheVariants as kind;
+ghost use Rattle.typing_rules.specs.Nodes.{asked, at, fine, first_kind, kept, no_parts, only, row};
+ghost use Rattle.typing_rules.specs.Rules.{case_rows, case_rule, default_rows, default_rule};
+ghost use Rattle.typing_rules.specs.Rules.{has_default_label, is_again, is_outside};
+ghost use Rattle.typing_rules.specs.Sight.{case_seen, default_seen};
+ghost use Rattle.typing_rules.specs.Types.{is_int};
+ghost use Rattle.typing_rules.specs.UnitReading.{typed_stmt};
+ghost use Rattle.typing_rules.specs.Verdicts.{constant_faults, constant_value};
 ghost use Rattle.nss_scopes.specs.Views.{in_sight};
 ghost use Rattle.nss_statements.specs.Faults.{fault_unless};
 
@@ -20,9 +20,9 @@ use nss_expressions::note::note;
 use nss_expressions::rules::is_int;
 use nss_scopes::{Labels, Sight};
 use nss_tree::{Constant, Stmt};
-use nss_typing::{Fault, FaultKind, TypedStmt};
 use nwq_value::{Const, NoMemory, Table};
 use std::alloc::Global;
+use typing_rules::{Fault, FaultKind, TypedStmt};
 
 /// Whether this case stood before in its switch.
 fn is_again(labels: &Option<Labels>, value: &Const) -> bool

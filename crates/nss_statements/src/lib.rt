@@ -2,7 +2,7 @@
 //!
 //! Each walk goes over a list of statements with what is in sight before it, and leaves what is in
 //! sight behind it. Its clauses say that its answer is the verdict of the definitions of
-//! `nss_typing`, that the fault that is kept is the one kept of all faults, and that what is in
+//! `typing_rules`, that the fault that is kept is the one kept of all faults, and that what is in
 //! sight behind is what the definitions leave there. Expressions are `nss_expressions`, items and
 //! whole units `nss_types`; the page is docs/TYPES.md.
 #![tactic(auto)]

@@ -1,7 +1,7 @@
 //! Parts of a node as one, and what is made of them.
 
 ghost use Rattle.std.specs.Prelude.{◌≡◌};
-ghost use Rattle.nss_typing.specs.Nodes.{two};
+ghost use Rattle.typing_rules.specs.Nodes.{two};
 ghost use Rattle.nss_statements.specs.Faults.{some_made};
 
 use nwq_value::NoMemory;

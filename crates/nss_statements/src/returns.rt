@@ -1,12 +1,12 @@
 //! Whether a typed statement returns.
 
 ghost use Rattle.std.specs.Prelude.{◌≡◌, if◌then◌else◌};
-ghost use Rattle.nss_typing.specs.Returns.{has_break, has_default, have_break, is_default};
-ghost use Rattle.nss_typing.specs.Returns.{is_statement, last_returns, returns, some_returns};
-ghost use Rattle.nss_typing.specs.UnitReading.{typed_stmt, typed_stmts};
+ghost use Rattle.typing_rules.specs.Returns.{has_break, has_default, have_break, is_default};
+ghost use Rattle.typing_rules.specs.Returns.{is_statement, last_returns, returns, some_returns};
+ghost use Rattle.typing_rules.specs.UnitReading.{typed_stmt, typed_stmts};
 
 use nss_tree::Stmt;
-use nss_typing::TypedStmt;
+use typing_rules::TypedStmt;
 
 fn is_default(x: &TypedStmt) -> bool
     ensures { result ≡ is_default (typed_stmt x.now) }

@@ -4,14 +4,14 @@ ghost use Rattle.std.specs.Prelude.{◌≡◌, ◌++◌, IfOk, OnOk};
 ghost use Rattle.std.specs.Option.{option_map};
 ghost use Rattle.nss_tree.specs.Reading.{plain_expr, plain_names, plain_stmt, plain_stmts};
 ghost use Rattle.nss_tree.specs.Statements as tree;
-ghost use Rattle.nss_typing.specs.Nodes.{at, faults_there, fine, if_there, kept, passed, two};
-ghost use Rattle.nss_typing.specs.Reading.{plain};
-ghost use Rattle.nss_typing.specs.Sight.{declaration_seen, inside, left, looped};
-ghost use Rattle.nss_typing.specs.UnitReading.{typed_stmt, typed_stmts};
-ghost use Rattle.nss_typing.specs.Verdicts.{after, after_names, afters, declaration_of};
-ghost use Rattle.nss_typing.specs.Verdicts.{line_type, line_verdict, names_faults, names_fine};
-ghost use Rattle.nss_typing.specs.Verdicts.{stmt_faults, stmt_verdict, stmts_faults, stmts_fine};
-ghost use Rattle.nss_typing.specs.Verdicts.{value, value_faults};
+ghost use Rattle.typing_rules.specs.Nodes.{at, faults_there, fine, if_there, kept, passed, two};
+ghost use Rattle.typing_rules.specs.Reading.{plain};
+ghost use Rattle.typing_rules.specs.Sight.{declaration_seen, inside, left, looped};
+ghost use Rattle.typing_rules.specs.UnitReading.{typed_stmt, typed_stmts};
+ghost use Rattle.typing_rules.specs.Verdicts.{after, after_names, afters, declaration_of};
+ghost use Rattle.typing_rules.specs.Verdicts.{line_type, line_verdict, names_faults, names_fine};
+ghost use Rattle.typing_rules.specs.Verdicts.{stmt_faults, stmt_verdict, stmts_faults, stmts_fine};
+ghost use Rattle.typing_rules.specs.Verdicts.{value, value_faults};
 ghost use Rattle.nss_expressions.specs.Views.{heads_in, sight_in};
 
 use crate::declared::{names, value_there};
@@ -27,9 +27,9 @@ use nss_expressions::row::and_last;
 use nss_scopes::Sight;
 use nss_scopes::laws::scopes_are_left;
 use nss_tree::{DeclaredName, Expr, Stmt, TypeName};
-use nss_typing::laws::scopes_only_add;
-use nss_typing::{Expression, Fault, TypedStmt};
 use nwq_value::{Items, NoMemory};
+use typing_rules::laws::scopes_only_add;
+use typing_rules::{Expression, Fault, TypedStmt};
 
 /// The parts of a `for` before its statement.
 #[derive(Drop)]

@@ -5,11 +5,11 @@ use Rattle.std.specs.Str.{bytes_eq}
 use Rattle.nwq_value.specs.declared.value.Ty.{Ty}
 use Rattle.nss_tree.specs.declared.units.Identifier.{Identifier}
 use Rattle.nss_tree.specs.Source.{SourceLine}
-use Rattle.nss_typing.specs.Nodes.{at, fine}
-use Rattle.nss_typing.specs.Rules.{Fields, is_among}
-use Rattle.nss_typing.specs.Sight.{Structure}
-use Rattle.nss_typing.specs.Typed.{TypedLine}
-use Rattle.nss_typing.specs.Verdicts.{after_fields, after_line, field_added, field_verdict, fields_faults, fields_fine, line_faults, line_fine, lines_faults, lines_fine, one_more}
+use Rattle.typing_rules.specs.Nodes.{at, fine}
+use Rattle.typing_rules.specs.Rules.{Fields, is_among}
+use Rattle.typing_rules.specs.Sight.{Structure}
+use Rattle.typing_rules.specs.Typed.{TypedLine}
+use Rattle.typing_rules.specs.Verdicts.{after_fields, after_line, field_added, field_verdict, fields_faults, fields_fine, line_faults, line_fine, lines_faults, lines_fine, one_more}
 use Rattle.nwq_value.specs.Index.{first_place}
 use Rattle.nss_expressions.specs.Rows.{with_rest}
 use Rattle.nss_expressions.specs.RowLaws.{RowLaws, rest_begin, rest_step, rest_end}

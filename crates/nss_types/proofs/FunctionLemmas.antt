@@ -5,13 +5,13 @@ use Rattle.std.specs.Result.{OnOk}
 use Rattle.nwq_value.specs.Engine.{EngineTable}
 use Rattle.nwq_value.specs.declared.engine.Param.{Param}
 use Rattle.nss_tree.specs.Source.{SourceParameter, SourceStmts}
-use Rattle.nss_typing.specs.Nodes.{asked, three}
-use Rattle.nss_typing.specs.Rules.{head_rows, params_of, same_types}
-use Rattle.nss_typing.specs.Scopes.{OnlyAdds, ParametersOnlyAdd, StatementsOnlyAdd}
-use Rattle.nss_typing.specs.Sight.{Entry, Head, Meant, Sight, Signature}
-use Rattle.nss_typing.specs.Typed.{TypedParameter}
-use Rattle.nss_typing.specs.Types.{same_type}
-use Rattle.nss_typing.specs.Verdicts.{after_body, after_params}
+use Rattle.typing_rules.specs.Nodes.{asked, three}
+use Rattle.typing_rules.specs.Rules.{head_rows, params_of, same_types}
+use Rattle.typing_rules.specs.Scopes.{OnlyAdds, ParametersOnlyAdd, StatementsOnlyAdd}
+use Rattle.typing_rules.specs.Sight.{Entry, Head, Meant, Sight, Signature}
+use Rattle.typing_rules.specs.Typed.{TypedParameter}
+use Rattle.typing_rules.specs.Types.{same_type}
+use Rattle.typing_rules.specs.Verdicts.{after_body, after_params}
 use Rattle.nss_scopes.specs.declared.sight.Sight.{Sight as Held}
 use Rattle.nss_scopes.specs.Views.{in_sight}
 use Rattle.nss_types.specs.Heads.{head_rule_by}

@@ -6,9 +6,9 @@ use Rattle.nss_tree.specs.declared.constants.TypeName.{TypeName}
 use Rattle.nss_tree.specs.declared.expressions.Expr.{Expr}
 use Rattle.nss_tree.specs.declared.units.Item.{Item}
 use Rattle.nss_tree.specs.Reading.{plain_item}
-use Rattle.nss_typing.specs.Sight.{Head, Sight}
-use Rattle.nss_typing.specs.UnitReading.{typed_item, typed_items}
-use Rattle.nss_typing.specs.Verdicts.{after_item, after_items, item_faults, item_fine, items_faults, items_fine, one_more}
+use Rattle.typing_rules.specs.Sight.{Head, Sight}
+use Rattle.typing_rules.specs.UnitReading.{typed_item, typed_items}
+use Rattle.typing_rules.specs.Verdicts.{after_item, after_items, item_faults, item_fine, items_faults, items_fine, one_more}
 use Rattle.nss_expressions.specs.Rows.{with_rest}
 use Rattle.nss_expressions.specs.RowLaws.{RowLaws, mapped_step, rest_begin, rest_end}
 

@@ -4,12 +4,12 @@ use Rattle.std.specs.Option.{option_and_then}
 use Rattle.nss_tree.specs.Source.{SourceParameter}
 use Rattle.nwq_value.specs.declared.engine.Const.{Const}
 use Rattle.nwq_value.specs.declared.value.Ty.{Ty}
-use Rattle.nss_typing.specs.declared.fault.FaultKind.{FaultKind}
-use Rattle.nss_typing.specs.declared.fault.FaultKind.TheVariants.{RefusedType, Unknown, Redeclared, Arity, Mismatch, Cells}
-use Rattle.nss_typing.specs.Nodes.{Verdict, asked, ruled, first_kind, no_row, row}
-use Rattle.nss_typing.specs.Rules.{default_fits, is_behind, is_missing, is_refused, parameter_mismatch, parameter_of, parameter_rows, parameter_rule}
-use Rattle.nss_typing.specs.Sight.{Sight, Meant, IsRefused, IsMissing, Is, cells, cells_if, crosses_with, is_taken, value_type}
-use Rattle.nss_typing.specs.Typed.{TypedParameter}
+use Rattle.typing_rules.specs.declared.fault.FaultKind.{FaultKind}
+use Rattle.typing_rules.specs.declared.fault.FaultKind.TheVariants.{RefusedType, Unknown, Redeclared, Arity, Mismatch, Cells}
+use Rattle.typing_rules.specs.Nodes.{Verdict, asked, ruled, first_kind, no_row, row}
+use Rattle.typing_rules.specs.Rules.{default_fits, is_behind, is_missing, is_refused, parameter_mismatch, parameter_of, parameter_rows, parameter_rule}
+use Rattle.typing_rules.specs.Sight.{Sight, Meant, IsRefused, IsMissing, Is, cells, cells_if, crosses_with, is_taken, value_type}
+use Rattle.typing_rules.specs.Typed.{TypedParameter}
 use Rattle.nss_statements.specs.Faults.{by_fault, fault_unless, ruled_when}
 
 not_refused : (m : Meant) (t : Ty) → value_type m ≡ Some t → (is_refused m ≡ false) × (is_missing m ≡ false)

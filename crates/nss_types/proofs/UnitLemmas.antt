@@ -4,18 +4,18 @@ use Rattle.std.specs.Option.{option_map}
 use Rattle.std.specs.Result.{IfErr, IfOk}
 use Rattle.nwq_value.specs.Engine.{EngineTable}
 use Rattle.nss_tree.specs.Source.{SourceItem, SourceTree}
-use Rattle.nss_typing.specs.declared.fault.Fault.{Fault}
-use Rattle.nss_typing.specs.declared.places.EntryPoint.{EntryPoint}
-use Rattle.nss_typing.specs.declared.places.EntryPoint.TheVariants.{Main, Conditional}
-use Rattle.nss_typing.specs.declared.units.Typed.{Typed}
-use Rattle.nss_typing.specs.Laws.{LeastIsKept, NoneKeptIsTyped, VerdictsAreRight}
-use Rattle.nss_typing.specs.Meaning.{TypesUnit}
-use Rattle.nss_typing.specs.Nodes.{at, fine, kept, two}
-use Rattle.nss_typing.specs.Rules.{when}
-use Rattle.nss_typing.specs.Sight.{Head, start}
-use Rattle.nss_typing.specs.Typed.{TypedItem}
-use Rattle.nss_typing.specs.UnitReading.{typed_unit}
-use Rattle.nss_typing.specs.Verdicts.{entry_verdict, heads, items_faults, items_fine, unit_faults, unit_of, unit_typed}
+use Rattle.typing_rules.specs.declared.fault.Fault.{Fault}
+use Rattle.typing_rules.specs.declared.places.EntryPoint.{EntryPoint}
+use Rattle.typing_rules.specs.declared.places.EntryPoint.TheVariants.{Main, Conditional}
+use Rattle.typing_rules.specs.declared.units.Typed.{Typed}
+use Rattle.typing_rules.specs.Laws.{LeastIsKept, NoneKeptIsTyped, VerdictsAreRight}
+use Rattle.typing_rules.specs.Meaning.{TypesUnit}
+use Rattle.typing_rules.specs.Nodes.{at, fine, kept, two}
+use Rattle.typing_rules.specs.Rules.{when}
+use Rattle.typing_rules.specs.Sight.{Head, start}
+use Rattle.typing_rules.specs.Typed.{TypedItem}
+use Rattle.typing_rules.specs.UnitReading.{typed_unit}
+use Rattle.typing_rules.specs.Verdicts.{entry_verdict, heads, items_faults, items_fine, unit_faults, unit_of, unit_typed}
 use Rattle.nss_types.specs.Answers.{IsKeptFault}
 use Rattle.nss_expressions.specs.Kept.{kept_append}
 

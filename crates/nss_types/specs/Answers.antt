@@ -2,10 +2,10 @@
 use Rattle.std.specs.Prelude.{◌≡◌, None, Some}
 use Rattle.nwq_value.specs.Engine.{EngineTable}
 use Rattle.nss_tree.specs.Source.{SourceTree}
-use Rattle.nss_typing.specs.declared.fault.Fault.{Fault}
-use Rattle.nss_typing.specs.Meaning.{FaultInUnit}
-use Rattle.nss_typing.specs.Nodes.{kept, IsLeast}
-use Rattle.nss_typing.specs.Verdicts.{unit_faults}
+use Rattle.typing_rules.specs.declared.fault.Fault.{Fault}
+use Rattle.typing_rules.specs.Meaning.{FaultInUnit}
+use Rattle.typing_rules.specs.Nodes.{kept, IsLeast}
+use Rattle.typing_rules.specs.Verdicts.{unit_faults}
 use Rattle.nss_types.specs.declared.unit.TypeFault.{TypeFault}
 use Rattle.nss_types.specs.declared.unit.TypeFault.TheVariants as refused
 

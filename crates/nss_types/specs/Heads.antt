@@ -1,10 +1,10 @@
 -- The heads of functions as code has them.
 use Rattle.std.specs.Prelude.{List, Bool, not, ◌&&◌, Option}
 use Rattle.std.specs.Option.{option_and_then}
-use Rattle.nss_typing.specs.Rules.{agrees, signature_of, when}
-use Rattle.nss_typing.specs.Rules as rules
-use Rattle.nss_typing.specs.Sight.{Meant, Signature, any_type}
-use Rattle.nss_typing.specs.Typed.{TypedParameter}
+use Rattle.typing_rules.specs.Rules.{agrees, signature_of, when}
+use Rattle.typing_rules.specs.Rules as rules
+use Rattle.typing_rules.specs.Sight.{Meant, Signature, any_type}
+use Rattle.typing_rules.specs.Typed.{TypedParameter}
 use Rattle.nss_types.specs.declared.function.TypedHead.{TypedHead}
 
 abbrev pub typed_head : TypedHead → rules.TypedHead

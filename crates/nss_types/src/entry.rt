@@ -2,18 +2,18 @@
 
 ghost use Rattle.std.specs.Prelude.{◌≡◌};
 ghost use Rattle.std.specs.Option.{option_map};
-ghost use Rattle.nss_typing.specs.Nodes.{at, fine, kept};
-ghost use Rattle.nss_typing.specs.Rules.{begins, entry_rule, is_empty, is_plain, when};
-ghost use Rattle.nss_typing.specs.Sight.{body_number};
-ghost use Rattle.nss_typing.specs.Verdicts.{entry_verdict};
+ghost use Rattle.typing_rules.specs.Nodes.{at, fine, kept};
+ghost use Rattle.typing_rules.specs.Rules.{begins, entry_rule, is_empty, is_plain, when};
+ghost use Rattle.typing_rules.specs.Sight.{body_number};
+ghost use Rattle.typing_rules.specs.Verdicts.{entry_verdict};
 ghost use Rattle.nss_scopes.specs.Entries.{signature_of};
 
 use crate::function::first_types;
 use nss_expressions::note::note;
 use nss_scopes::{Heads, Signature};
-use nss_typing::rules::same_type;
-use nss_typing::{EntryPoint, Fault, FaultKind};
 use nwq_value::{Param, Ty};
+use typing_rules::rules::same_type;
+use typing_rules::{EntryPoint, Fault, FaultKind};
 
 /// Whether a function has no parameters, and this result.
 fn is_plain(ty: Ty, first: Option<Option<&Signature>>) -> bool

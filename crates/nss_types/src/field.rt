@@ -2,14 +2,14 @@
 
 ghost use Rattle.std.specs.Prelude.{◌≡◌, ◌+◌, ◌&&◌, not, IfOk, OnOk, is_some};
 ghost use Rattle.std.specs.Option.{option_map};
-ghost use Rattle.nss_typing.specs.declared.fault.FaultKind.TheVariants as kind;
-ghost use Rattle.nss_typing.specs.Nodes.{at, fine, first_kind, kept, no_row, row, two};
-ghost use Rattle.nss_typing.specs.Rules.{is_among, when};
-ghost use Rattle.nss_typing.specs.Sight.{cells_if};
-ghost use Rattle.nss_typing.specs.Verdicts.{after_fields, after_line, field_added, field_verdict};
-ghost use Rattle.nss_typing.specs.Verdicts.{fields_faults, fields_fine, line_faults, line_fine};
-ghost use Rattle.nss_typing.specs.Verdicts.{lines_faults, lines_fine, members_of_line};
-ghost use Rattle.nss_typing.specs.Verdicts.{line_of, members_of_lines, struct_members};
+ghost use Rattle.typing_rules.specs.declared.fault.FaultKind.TheVariants as kind;
+ghost use Rattle.typing_rules.specs.Nodes.{at, fine, first_kind, kept, no_row, row, two};
+ghost use Rattle.typing_rules.specs.Rules.{is_among, when};
+ghost use Rattle.typing_rules.specs.Sight.{cells_if};
+ghost use Rattle.typing_rules.specs.Verdicts.{after_fields, after_line, field_added, field_verdict};
+ghost use Rattle.typing_rules.specs.Verdicts.{fields_faults, fields_fine, line_faults, line_fine};
+ghost use Rattle.typing_rules.specs.Verdicts.{lines_faults, lines_fine, members_of_line};
+ghost use Rattle.typing_rules.specs.Verdicts.{line_of, members_of_lines, struct_members};
 ghost use Rattle.nss_scopes.specs.Entries.{members_of};
 ghost use Rattle.nss_statements.specs.Faults.{fault_unless};
 ghost use Rattle.nss_types.specs.Fields.{fields_of};
@@ -20,9 +20,9 @@ use nss_expressions::row::and_last;
 use nss_scopes::sight::{counted, crosses};
 use nss_scopes::{Member, Members, Places, Structs};
 use nss_tree::{FieldLine, Identifier};
-use nss_typing::{Fault, FaultKind, TypedLine};
 use nwq_value::{Items, NoMemory, Ty};
 use std::alloc::Global;
+use typing_rules::{Fault, FaultKind, TypedLine};
 
 /// How many cells a struct has at most.
 const STRUCT_CELLS: u32 = 64;

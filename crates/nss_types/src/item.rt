@@ -4,16 +4,16 @@ ghost use Rattle.std.specs.Prelude.{◌≡◌, ◌++◌, ◌∷◌, ◌&&◌, []
 ghost use Rattle.std.specs.Option.{option_map};
 ghost use Rattle.nss_tree.specs.Reading.{plain_item, plain_names};
 ghost use Rattle.nss_tree.specs.Units as unit;
-ghost use Rattle.nss_typing.specs.declared.fault.FaultKind.TheVariants as kind;
-ghost use Rattle.nss_typing.specs.Nodes.{asked, at, fine, first_kind, kept, only, row, two};
-ghost use Rattle.nss_typing.specs.Rules.{constant_name_rows, constant_name_rule, struct_rows};
-ghost use Rattle.nss_typing.specs.Rules.{no_fields, struct_rule};
-ghost use Rattle.nss_typing.specs.UnitReading.{typed_item, typed_items, typed_names};
-ghost use Rattle.nss_typing.specs.Verdicts.{after_item, after_items, constant_item};
-ghost use Rattle.nss_typing.specs.Verdicts.{constant_meaning, global_item, item_faults, item_fine};
-ghost use Rattle.nss_typing.specs.Verdicts.{items_faults, items_fine, lines_faults, lines_fine};
-ghost use Rattle.nss_typing.specs.Verdicts.{constant_faults, constant_line_verdict};
-ghost use Rattle.nss_typing.specs.Verdicts.{constant_name_verdict, struct_members, struct_verdict};
+ghost use Rattle.typing_rules.specs.declared.fault.FaultKind.TheVariants as kind;
+ghost use Rattle.typing_rules.specs.Nodes.{asked, at, fine, first_kind, kept, only, row, two};
+ghost use Rattle.typing_rules.specs.Rules.{constant_name_rows, constant_name_rule, struct_rows};
+ghost use Rattle.typing_rules.specs.Rules.{no_fields, struct_rule};
+ghost use Rattle.typing_rules.specs.UnitReading.{typed_item, typed_items, typed_names};
+ghost use Rattle.typing_rules.specs.Verdicts.{after_item, after_items, constant_item};
+ghost use Rattle.typing_rules.specs.Verdicts.{constant_meaning, global_item, item_faults, item_fine};
+ghost use Rattle.typing_rules.specs.Verdicts.{items_faults, items_fine, lines_faults, lines_fine};
+ghost use Rattle.typing_rules.specs.Verdicts.{constant_faults, constant_line_verdict};
+ghost use Rattle.typing_rules.specs.Verdicts.{constant_name_verdict, struct_members, struct_verdict};
 ghost use Rattle.nss_scopes.specs.Entries.{members_of};
 ghost use Rattle.nss_scopes.specs.Slots.{meaning_of};
 ghost use Rattle.nss_scopes.specs.Views.{in_sight};
@@ -30,10 +30,10 @@ use nss_expressions::row::and_last;
 use nss_scopes::{Meaning, Members, Names, Places, Sight, Structs};
 use nss_statements::declared::names;
 use nss_tree::{Constant, DeclaredName, FieldLine, Identifier, Item, TypeName};
-use nss_typing::rules::same_type;
-use nss_typing::{Fault, FaultKind, TypedItem, TypedLine, TypedName};
 use nwq_value::{Const, Items, NoMemory, Table, Text, Ty};
 use std::alloc::Global;
+use typing_rules::rules::same_type;
+use typing_rules::{Fault, FaultKind, TypedItem, TypedLine, TypedName};
 
 /// A struct of these lines.
 fn judge_struct(

@@ -2,14 +2,14 @@
 
 ghost use Rattle.std.specs.Prelude.{◌≡◌, ◌++◌, ◌&&◌, not, false, IfOk, OnOk, Some};
 ghost use Rattle.std.specs.Option.{option_map};
-ghost use Rattle.nss_typing.specs.declared.fault.FaultKind.TheVariants as kind;
-ghost use Rattle.nss_typing.specs.Nodes.{asked, at, faults_there, fine, first_kind, if_there, kept};
-ghost use Rattle.nss_typing.specs.Nodes.{no_row, only, row, two};
-ghost use Rattle.nss_typing.specs.Rules.{default_fits, is_behind, is_missing, is_refused};
-ghost use Rattle.nss_typing.specs.Rules.{parameter_rows, parameter_rule};
-ghost use Rattle.nss_typing.specs.Verdicts.{after_params, constant_faults, late_after};
-ghost use Rattle.nss_typing.specs.Verdicts.{parameter_declared};
-ghost use Rattle.nss_typing.specs.Verdicts.{parameter_verdict, params_faults, params_fine};
+ghost use Rattle.typing_rules.specs.declared.fault.FaultKind.TheVariants as kind;
+ghost use Rattle.typing_rules.specs.Nodes.{asked, at, faults_there, fine, first_kind, if_there, kept};
+ghost use Rattle.typing_rules.specs.Nodes.{no_row, only, row, two};
+ghost use Rattle.typing_rules.specs.Rules.{default_fits, is_behind, is_missing, is_refused};
+ghost use Rattle.typing_rules.specs.Rules.{parameter_rows, parameter_rule};
+ghost use Rattle.typing_rules.specs.Verdicts.{after_params, constant_faults, late_after};
+ghost use Rattle.typing_rules.specs.Verdicts.{parameter_declared};
+ghost use Rattle.typing_rules.specs.Verdicts.{parameter_verdict, params_faults, params_fine};
 ghost use Rattle.nss_scopes.specs.Entries.{meant_of};
 ghost use Rattle.nss_scopes.specs.Views.{in_sight};
 ghost use Rattle.nss_statements.specs.Faults.{fault_unless};
@@ -20,10 +20,10 @@ use nss_expressions::note::note;
 use nss_expressions::row::and_last;
 use nss_scopes::{Meant, Sight};
 use nss_tree::Parameter;
-use nss_typing::rules::same_type;
-use nss_typing::{Fault, FaultKind, TypedParameter, Variable};
 use nwq_value::{Const, Items, NoMemory, Table, Ty};
 use std::alloc::Global;
+use typing_rules::rules::same_type;
+use typing_rules::{Fault, FaultKind, TypedParameter, Variable};
 
 fn default_fits(ty: Ty, value: &Option<Const>) -> bool
     ensures { result ≡ default_fits ty value.now }

@@ -3,12 +3,12 @@
 ghost use Rattle.std.specs.Prelude.{◌≡◌, ◌++◌, IfErr, IfOk, IsSome, None, OnOk, Some, map};
 ghost use Rattle.std.specs.Option.{option_map};
 ghost use Rattle.nss_tree.specs.Reading.{plain_item, plain_tree};
-ghost use Rattle.nss_typing.specs.Meaning.{TypesUnit};
-ghost use Rattle.nss_typing.specs.Nodes.{kept, two};
-ghost use Rattle.nss_typing.specs.Sight.{start};
-ghost use Rattle.nss_typing.specs.UnitReading.{typed_items, typed_unit};
-ghost use Rattle.nss_typing.specs.Verdicts.{after_items, heads, items_faults, items_fine};
-ghost use Rattle.nss_typing.specs.Verdicts.{unit_of};
+ghost use Rattle.typing_rules.specs.Meaning.{TypesUnit};
+ghost use Rattle.typing_rules.specs.Nodes.{kept, two};
+ghost use Rattle.typing_rules.specs.Sight.{start};
+ghost use Rattle.typing_rules.specs.UnitReading.{typed_items, typed_unit};
+ghost use Rattle.typing_rules.specs.Verdicts.{after_items, heads, items_faults, items_fine};
+ghost use Rattle.typing_rules.specs.Verdicts.{unit_of};
 ghost use Rattle.nss_scopes.specs.Views.{in_sight};
 ghost use Rattle.nss_types.specs.Answers.{IsFaultOf, IsKeptFault};
 
@@ -17,11 +17,11 @@ use crate::item::items;
 use nss_expressions::given::Given;
 use nss_scopes::{Heads, Sight};
 use nss_tree::{Item, Tree};
-use nss_typing::laws::verdicts_are_right;
-use nss_typing::{EntryPoint, Fault, Typed, TypedItem};
 use nwq_value::{Items, NoMemory, Table};
 use std::alloc::Global;
 use std::mem;
+use typing_rules::laws::verdicts_are_right;
+use typing_rules::{EntryPoint, Fault, Typed, TypedItem};
 
 /// Why a unit isn't typed.
 #[derive(Clone, Copy, Debug, PartialEq, Eq)]

@@ -1,15 +1,15 @@
 -- What may end the program before a command begins: the tables are refused, or there is no memory for the hooks.
 use Rattle.std.proofs.Common.{◌≡◌, ℕ, List, Option, None, Result, Ok, Err, sym, refl, subst}
 use Rattle.table_2da.specs.declared.tables.Named.{Named}
-use Rattle.nwq_work.specs.declared.status.Status.{Status}
-use Rattle.nwq_work.specs.declared.status.Status.TheVariants.{Done, Words, Script, Code, Area, Limit, Missing, Fault, Memory, Long}
+use Rattle.command_work.specs.declared.status.Status.{Status}
+use Rattle.command_work.specs.declared.status.Status.TheVariants.{Done, Words, Script, Code, Area, Limit, Missing, Fault, Memory, Long}
 use Rattle.hook_table.specs.declared.hook.Known.{Known}
 use Rattle.world_core.specs.Calls.{cells_of, tables_of}
 use Rattle.nwq_outside.specs.Outside.{Contents}
-use Rattle.nwq_work.specs.Work.{Does, Finished, ending}
-use Rattle.nwq_work.specs.Counts.{StopsArea, Counts, Tallies, TalliesEnd}
-use Rattle.nwq_work.specs.Parts.{then_ok, then_err}
-use Rattle.nwq_tables.specs.Tables.{tables_given}
+use Rattle.command_work.specs.Work.{Does, Finished, ending}
+use Rattle.command_work.specs.Counts.{StopsArea, Counts, Tallies, TalliesEnd}
+use Rattle.command_work.specs.Parts.{then_ok, then_err}
+use Rattle.command_tables.specs.Tables.{tables_given}
 use Rattle.table_2da.specs.Look.{cell_of}
 use Rattle.command_words.specs.Words.{Form, Run, Compile, Tree, Check, Disassemble, Assemble, Play, Generate, NoForm, list_of}
 use Rattle.nwq_top.specs.Command.{work_of, work_with, whole_work}

@@ -1,6 +1,6 @@
 -- With which number the program ends.
 use Rattle.std.specs.Prelude.{ℕ, Result, Ok, Err}
-use Rattle.nwq_work.specs.declared.status.Status.TheVariants.{Memory}
+use Rattle.command_work.specs.declared.status.Status.TheVariants.{Memory}
 use Rattle.nwq_top.specs.Program.{status_number}
 
 -- where there was no memory for the words, the files or the sinks, as where the command wants it

@@ -1,8 +1,8 @@
 ghost use Rattle.std.specs.Prelude.{◌≡◌, ◌≤◌, [], map, IsTrue, IfOk, OnErr};
 ghost use Rattle.hook_table.specs.Standard.{function_numbered, IsAnswer};
-ghost use Rattle.nwq_work.specs.Work.{IsCut, Does, ending};
-ghost use Rattle.nwq_work.specs.Counts.{Counted, Tallies, KeepsBut};
-ghost use Rattle.nwq_work.specs.Reading.{AreBytes};
+ghost use Rattle.command_work.specs.Work.{IsCut, Does, ending};
+ghost use Rattle.command_work.specs.Counts.{Counted, Tallies, KeepsBut};
+ghost use Rattle.command_work.specs.Reading.{AreBytes};
 ghost use Rattle.command_words.specs.Words.{form_of};
 ghost use Rattle.nwq_top.specs.Command.{work_with, whole_work, MayWrite};
 ghost use Rattle.nwq_top.specs.Endings.{ComesOf};
@@ -79,7 +79,7 @@ fn run_hooked<F: Files, S: Sink, E: Sink>(
 
 /// Does what the words say with hooks that look cells up in these tables: the number with which the
 /// program ends.
-#[tactic(auto, using(nwq_work::specs::Parts::cut_here, crate::proofs::EndLemmas::memory_comes))]
+#[tactic(auto, using(command_work::specs::Parts::cut_here, crate::proofs::EndLemmas::memory_comes))]
 fn run_with<F: Files, S: Sink, E: Sink>(
     alloc: Global,
     all: &[String],

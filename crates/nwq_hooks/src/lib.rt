@@ -4,7 +4,7 @@
 //! A program without tables makes a boxed closure for each number from 0 to 9, whose body is
 //! [`call_function`], and puts it by [`put_hook`]. After the tenth the hooks serve every routine
 //! that asks for one, which [`all_are_put`] says, and every cell is empty. A program with tables
-//! puts the tenth by [`put_cell_hook`]. What the functions give is defined in `engine_rows`, and
+//! puts the tenth by [`put_cell_hook`]. What the functions give is defined in `world_rules`, and
 //! what hooks promise in `hook_table`. See docs/ENGINE.md.
 #![tactic(auto)]
 

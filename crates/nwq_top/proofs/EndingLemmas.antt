@@ -1,11 +1,11 @@
 -- What stops a command is one of its statuses.
-use Rattle.nwq_work.specs.declared.status.Status.{Status}
-use Rattle.nwq_work.specs.declared.status.Status.TheVariants.{Done, Words, Script, Code, Area, Limit, Missing, Fault, Memory, Long}
-use Rattle.nwq_work.specs.Counts.{StopsSource, StopsCode, StopsArea}
-use Rattle.nwq_checks.specs.Checks.{StopsCheck}
-use Rattle.nwq_runs.specs.Runs.{StopsRun}
-use Rattle.nwq_games.specs.Tellings.{StopsGame}
-use Rattle.nwq_generated.specs.Generated.{StopsGenerate}
+use Rattle.command_work.specs.declared.status.Status.{Status}
+use Rattle.command_work.specs.declared.status.Status.TheVariants.{Done, Words, Script, Code, Area, Limit, Missing, Fault, Memory, Long}
+use Rattle.command_work.specs.Counts.{StopsSource, StopsCode, StopsArea}
+use Rattle.command_files.specs.Checks.{StopsCheck}
+use Rattle.command_run.specs.Runs.{StopsRun}
+use Rattle.command_play.specs.Tellings.{StopsGame}
+use Rattle.command_generate.specs.Generated.{StopsGenerate}
 use Rattle.command_words.specs.Words.{Form, Run, Compile, Tree, Check, Disassemble, Assemble, Play, Generate, NoForm}
 use Rattle.nwq_top.specs.Endings.{EndsRun, EndsCompile, EndsTree, EndsCheck, EndsCode, EndsPlay, EndsGenerate, ComesOf, StopsCommand}
 

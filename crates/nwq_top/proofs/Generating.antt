@@ -3,24 +3,24 @@ use Rattle.std.proofs.Common.{arith, ◌≡◌, inl, inr, ℕ, zero, suc, List, 
 use Rattle.nwq_value.specs.Engine.{EngineTable}
 use Rattle.nwq_value.specs.HeaderTable.{header_table}
 use Rattle.nwq_outside.specs.Outside.{Contents}
-use Rattle.nss_typing.specs.Typed.{TypedUnit}
-use Rattle.code_emission.specs.Units.{unit_file}
-use Rattle.engine_rows.specs.Pure.{CellLookup}
+use Rattle.typing_rules.specs.Typed.{TypedUnit}
+use Rattle.emission_rules.specs.Units.{unit_file}
+use Rattle.world_rules.specs.Pure.{CellLookup}
 use Rattle.source_meaning.specs.Scripts.{Listed}
 use Rattle.source_meaning.specs.Executing.{script_of}
-use Rattle.parsed_faults.specs.Laws.{LeastIsTheKept}
+use Rattle.typing_laws.specs.FaultLaws.{LeastIsTheKept}
 use Rattle.engine_table.specs.KeptTables.{BuiltInIsTable}
 use Rattle.play_generator.specs.Made.{play_of}
-use Rattle.nwq_work.specs.declared.status.Status.{Status}
-use Rattle.nwq_work.specs.declared.status.Status.TheVariants.{Memory}
-use Rattle.nwq_work.specs.Work.{then, IsCut, Does, Finished}
-use Rattle.nwq_work.specs.Parts.{value_or, cut_here}
-use Rattle.nwq_work.specs.Sequences.{then_known}
-use Rattle.nwq_work.specs.Comes.{Came, gave, stopped, cut}
-use Rattle.nwq_checks.specs.Checks.{loaded_in}
-use Rattle.nwq_checks.specs.Laws.{SureLoaded}
-use Rattle.nwq_games.specs.Games.{plays_plan}
-use Rattle.nwq_generated.specs.Generated.{SourceFate, Whole, Faulty, IsSourceFate, whole, faulty, source_by, source_compiled, plan_of, made_area, plays_made, checks_made, generates}
+use Rattle.command_work.specs.declared.status.Status.{Status}
+use Rattle.command_work.specs.declared.status.Status.TheVariants.{Memory}
+use Rattle.command_work.specs.Work.{then, IsCut, Does, Finished}
+use Rattle.command_work.specs.Parts.{value_or, cut_here}
+use Rattle.command_work.specs.Sequences.{then_known}
+use Rattle.command_work.specs.Comes.{Came, gave, stopped, cut}
+use Rattle.command_files.specs.Checks.{loaded_in}
+use Rattle.command_files.specs.CheckLaws.{SureLoaded}
+use Rattle.command_play.specs.Games.{plays_plan}
+use Rattle.command_generate.specs.Generated.{SourceFate, Whole, Faulty, IsSourceFate, whole, faulty, source_by, source_compiled, plan_of, made_area, plays_made, checks_made, generates}
 use Rattle.command_meaning.specs.Units.{code_of, IsUnitOf, UnitsPass}
 use Rattle.command_meaning.specs.ListedPlays.{AreUnitsOf}
 use Rattle.command_meaning.specs.Runs.{answer_by, EndsAreAnswered}

@@ -4,17 +4,17 @@ use Rattle.std.proofs.lemmas.List.{append-nil}
 use Rattle.nwq_outside.specs.Outside.{Contents}
 use Rattle.table_2da.specs.declared.tables.Named.{Named}
 use Rattle.table_2da.specs.Table.{PlainTable}
-use Rattle.nwq_work.specs.declared.flaw.AreaFlaw.TheVariants as flaw
-use Rattle.nwq_work.specs.declared.status.Status.{Status}
-use Rattle.nwq_work.specs.Refusal.{Refusal, BadArea, line_of, status_of}
-use Rattle.nwq_work.specs.Work.{Gives, Does, file_named}
-use Rattle.nwq_work.specs.Parts.{then_ok, then_err}
-use Rattle.nwq_work.specs.Reading.{IsRead, IsUnread}
-use Rattle.nwq_work.specs.Comes.{Came, gave, stopped, cut, gives_does, refused_does, given_comes, refusal_comes, then_comes, read_does, unread_does, file_comes}
-use Rattle.nwq_tables.specs.Lists as lists
-use Rattle.nwq_tables.specs.Lists.{names_in, names_listed}
-use Rattle.nwq_tables.specs.Tables as tables_of
-use Rattle.nwq_tables.specs.Tables.{table_file, table_in, table_of, with_table, one_more, all_behind, tables_listed, tables_given}
+use Rattle.command_work.specs.declared.flaw.AreaFlaw.TheVariants as flaw
+use Rattle.command_work.specs.declared.status.Status.{Status}
+use Rattle.command_work.specs.Refusal.{Refusal, BadArea, line_of, status_of}
+use Rattle.command_work.specs.Work.{Gives, Does, file_named}
+use Rattle.command_work.specs.Parts.{then_ok, then_err}
+use Rattle.command_work.specs.Reading.{IsRead, IsUnread}
+use Rattle.command_work.specs.Comes.{Came, gave, stopped, cut, gives_does, refused_does, given_comes, refusal_comes, then_comes, read_does, unread_does, file_comes}
+use Rattle.command_tables.specs.Lists as lists
+use Rattle.command_tables.specs.Lists.{names_in, names_listed}
+use Rattle.command_tables.specs.Tables as tables_of
+use Rattle.command_tables.specs.Tables.{table_file, table_in, table_of, with_table, one_more, all_behind, tables_listed, tables_given}
 use Rattle.nwq_top.specs.GivenTables as given
 use Rattle.nwq_top.specs.GivenTables.{ReadsList, RefusesList, ReadsTable, RefusesTable, HasTables, RefusesTables, GivesTables, RefusesGiven}
 

@@ -5,13 +5,13 @@ use Rattle.nwq_value.specs.HeaderTable.{header_table}
 use Rattle.nwq_text.specs.Line.{line_number}
 use Rattle.nwq_outside.specs.Outside.{Contents}
 use Rattle.engine_table.specs.KeptTables.{HeadersHaveTables, BuiltInIsTable}
-use Rattle.nwq_work.specs.declared.status.Status.{Status}
-use Rattle.nwq_work.specs.Refusal.{Refusal, At, line_of, status_of}
-use Rattle.nwq_work.specs.Work.{Does, file_named}
-use Rattle.nwq_work.specs.Parts.{then_ok, then_err}
-use Rattle.nwq_work.specs.Reading.{AreBytes, IsRead, IsUnread}
-use Rattle.nwq_work.specs.Comes.{Came, cut, gives_does, refused_does, given_comes, refusal_comes, then_comes, read_does, unread_does, file_comes}
-use Rattle.nwq_sources.specs.Headers.{HeaderFate, Whole, Faulty, IsHeaderFate, whole, table_by, table_in, table_named, table_unless, table_of}
+use Rattle.command_work.specs.declared.status.Status.{Status}
+use Rattle.command_work.specs.Refusal.{Refusal, At, line_of, status_of}
+use Rattle.command_work.specs.Work.{Does, file_named}
+use Rattle.command_work.specs.Parts.{then_ok, then_err}
+use Rattle.command_work.specs.Reading.{AreBytes, IsRead, IsUnread}
+use Rattle.command_work.specs.Comes.{Came, cut, gives_does, refused_does, given_comes, refusal_comes, then_comes, read_does, unread_does, file_comes}
+use Rattle.command_sources.specs.Headers.{HeaderFate, Whole, Faulty, IsHeaderFate, whole, table_by, table_in, table_named, table_unless, table_of}
 use Rattle.nwq_top.specs.Accepting.{HasHeader, built_in, read}
 use Rattle.nwq_top.specs.Refusing.{RefusesHeader, unread, faulty}
 

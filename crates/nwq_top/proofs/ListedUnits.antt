@@ -2,14 +2,14 @@
 use Rattle.std.proofs.Common.{◌≡◌, false, ℕ, zero, suc, List, [], ◌∷◌, map, Some, slice_get, Ok, sym, subst, ap, refl}
 use Rattle.nwq_value.specs.Engine.{EngineTable}
 use Rattle.nwq_outside.specs.Outside.{Contents}
-use Rattle.parsed_faults.specs.Laws.{LeastIsTheKept}
+use Rattle.typing_laws.specs.FaultLaws.{LeastIsTheKept}
 use Rattle.plan_text.specs.declared.plan.Script.{Script as ScriptLine}
-use Rattle.machine_step.specs.Machine.{Script}
+use Rattle.machine_rules.specs.Machine.{Script}
 use Rattle.source_meaning.specs.Scripts.{Listed}
 use Rattle.source_meaning.specs.Executing.{script_of}
-use Rattle.nwq_work.specs.Parts.{value_or}
-use Rattle.nwq_checks.specs.Laws.{SureLoaded}
-use Rattle.nwq_listings.specs.Listings.{scripts_listed}
+use Rattle.command_work.specs.Parts.{value_or}
+use Rattle.command_files.specs.CheckLaws.{SureLoaded}
+use Rattle.play_inputs.specs.Listings.{scripts_listed}
 use Rattle.command_meaning.specs.Units.{UnitsPass}
 use Rattle.command_meaning.specs.Scripts.{HoldBytes, ScriptsHaveUnits}
 use Rattle.nwq_top.specs.Accepting.{with_file, HasLine, HasScripts, HasSources}

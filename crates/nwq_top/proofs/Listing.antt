@@ -11,28 +11,28 @@ use Rattle.std.specs.FinMap as fin_map
 use Rattle.nwq_value.specs.Engine.{EngineTable, IsTable}
 use Rattle.nwq_outside.specs.Outside.{Contents}
 use Rattle.nss_include.specs.Names.{file_name}
-use Rattle.nss_typing.specs.Typed.{TypedUnit}
-use Rattle.parsed_faults.specs.Laws.{LeastIsTheKept}
+use Rattle.typing_rules.specs.Typed.{TypedUnit}
+use Rattle.typing_laws.specs.FaultLaws.{LeastIsTheKept}
 use Rattle.ncs_code.specs.Plain.{PlainOp}
-use Rattle.code_emission.specs.Units.{unit_file}
+use Rattle.emission_rules.specs.Units.{unit_file}
 use Rattle.plan_text.specs.declared.plan.Script.{Script as ScriptLine}
-use Rattle.machine_step.specs.Machine.{Script}
+use Rattle.machine_rules.specs.Machine.{Script}
 use Rattle.source_meaning.specs.Scripts.{Listed}
 use Rattle.source_meaning.specs.Executing.{script_of}
-use Rattle.nwq_work.specs.declared.status.Status.{Status}
-use Rattle.nwq_work.specs.Refusal.{Refusal, line_of, status_of}
-use Rattle.nwq_work.specs.Work.{Gives, IsCut, Does, writes}
-use Rattle.nwq_work.specs.Parts.{value_or, status_or, then_ok, then_err}
-use Rattle.nwq_work.specs.Outcomes.{agree}
-use Rattle.nwq_work.specs.Sequences.{Parts, ends_first, goes_on, parts}
-use Rattle.nwq_work.specs.Comes.{Came, gave, stopped, cut, gives_does, Follows, follows, ends, cuts, then_follows}
-use Rattle.nwq_files.specs.Codes.{code_in}
-use Rattle.nwq_files.specs.Codes as code
-use Rattle.nwq_checks.specs.Checks.{checked_in, loaded_in}
-use Rattle.nwq_checks.specs.Checks as check
-use Rattle.nwq_scripts.specs.Files.{code_name, compiled_named}
-use Rattle.nwq_checks.specs.Laws.{SureLoaded}
-use Rattle.nwq_listings.specs.Listings.{writes_loaded, source_named, code_by, playable, script_in, lists_on}
+use Rattle.command_work.specs.declared.status.Status.{Status}
+use Rattle.command_work.specs.Refusal.{Refusal, line_of, status_of}
+use Rattle.command_work.specs.Work.{Gives, IsCut, Does, writes}
+use Rattle.command_work.specs.Parts.{value_or, status_or, then_ok, then_err}
+use Rattle.command_work.specs.Outcomes.{agree}
+use Rattle.command_work.specs.Sequences.{Parts, ends_first, goes_on, parts}
+use Rattle.command_work.specs.Comes.{Came, gave, stopped, cut, gives_does, Follows, follows, ends, cuts, then_follows}
+use Rattle.command_files.specs.Codes.{code_in}
+use Rattle.command_files.specs.Codes as code
+use Rattle.command_files.specs.Checks.{checked_in, loaded_in}
+use Rattle.command_files.specs.Checks as check
+use Rattle.command_compile.specs.Files.{code_name, compiled_named}
+use Rattle.command_files.specs.CheckLaws.{SureLoaded}
+use Rattle.play_inputs.specs.Listings.{writes_loaded, source_named, code_by, playable, script_in, lists_on}
 use Rattle.command_meaning.specs.Units.{code_of, Passes, UnitsPass}
 use Rattle.command_meaning.specs.Scripts.{HoldBytes, ScriptsHaveUnits}
 use Rattle.nwq_top.specs.Accepting.{Compiles, HasCode, with_file, HasLine, HasScripts, HasSources}

@@ -1,20 +1,20 @@
 -- What is told of the play that is made from a number.
 use Rattle.std.proofs.Common.{◌≡◌, inl, inr, ℕ, ◌*◌, List, ◌++◌, Result, sym, ap, ◌∙◌}
 use Rattle.nwq_outside.specs.Outside.{Contents}
-use Rattle.nss_typing.specs.Typed.{TypedUnit}
+use Rattle.typing_rules.specs.Typed.{TypedUnit}
 use Rattle.saved_state.specs.declared.saved.Saved.{Saved}
-use Rattle.engine_rows.specs.Pure.{CellLookup}
-use Rattle.engine_rows.specs.Trace.{trace_text}
-use Rattle.engine_rows.specs.Plays.{Played}
-use Rattle.engine_rows.specs.EndText.{end_line}
+use Rattle.world_rules.specs.Pure.{CellLookup}
+use Rattle.world_rules.specs.Trace.{trace_text}
+use Rattle.world_rules.specs.Plays.{Played}
+use Rattle.world_rules.specs.EndText.{end_line}
 use Rattle.source_meaning.specs.Evaluation.{Deferred}
 use Rattle.source_meaning.specs.Scripts.{Setting}
 use Rattle.source_meaning.specs.Carries.{Carries}
 use Rattle.play_meaning.specs.Together.{PlaysAlike}
 use Rattle.play_generator.specs.Made.{creatures_of, rounds_of}
-use Rattle.nwq_work.specs.declared.status.Status.{Status}
-use Rattle.nwq_work.specs.Work.{IsCut, Does, Finished}
-use Rattle.nwq_generated.specs.Generated.{made_line, summary, tells, plays_made}
+use Rattle.command_work.specs.declared.status.Status.{Status}
+use Rattle.command_work.specs.Work.{IsCut, Does, Finished}
+use Rattle.command_generate.specs.Generated.{made_line, summary, tells, plays_made}
 use Rattle.command_meaning.specs.Units.{code_of}
 use Rattle.command_meaning.specs.Runs.{answer_by, EndsAreAnswered}
 use Rattle.nwq_top.specs.SourcePlans.{code_plan_played}

@@ -1,15 +1,15 @@
 -- The work of words does what they mean.
 use Rattle.std.proofs.Common.{ℕ, List, Result, map, string_bytes, String, Global, ◌≡◌, subst}
 use Rattle.nwq_outside.specs.Outside.{Contents}
-use Rattle.engine_rows.specs.Pure.{CellLookup}
-use Rattle.nwq_work.specs.declared.status.Status.{Status}
-use Rattle.nwq_work.specs.Work.{then, IsCut, Does, Finished, ending}
-use Rattle.nwq_sources.specs.Headers.{table_of}
-use Rattle.nwq_scripts.specs.Files.{code_name, compiled_named}
-use Rattle.plan_plays.specs.Scripts.{plays_file}
+use Rattle.world_rules.specs.Pure.{CellLookup}
+use Rattle.command_work.specs.declared.status.Status.{Status}
+use Rattle.command_work.specs.Work.{then, IsCut, Does, Finished, ending}
+use Rattle.command_sources.specs.Headers.{table_of}
+use Rattle.command_compile.specs.Files.{code_name, compiled_named}
+use Rattle.command_plays.specs.Scripts.{plays_file}
 use Rattle.nwq_top.specs.WordLaws.{RunsMean, CompilesMean, PlaysMean, GeneratesMean}
 use Rattle.command_words.specs.Words.{Run, Compile, Tree, Check, Disassemble, Assemble, Play, Generate, NoForm, form_of}
-use Rattle.nwq_runs.specs.Runs.{runs_under, runs}
+use Rattle.command_run.specs.Runs.{runs_under, runs}
 use Rattle.nwq_top.specs.Meaning.{Means, WorkMeans}
 
 -- the parts of a run in a row

@@ -3,22 +3,22 @@ use Rattle.std.proofs.Common.{inl, inr, ℕ, List, ◌++◌, Result, Ok, Err, sy
 use Rattle.nwq_outside.specs.Outside.{Contents}
 use Rattle.gff_tree.specs.Whole.{PlainGff}
 use Rattle.gff_read.specs.Stands.{Stands}
-use Rattle.area_objects.specs.Area.{PlainArea, area_of}
+use Rattle.area_rules.specs.Area.{PlainArea, area_of}
 use Rattle.plan_text.specs.declared.plan.Plan.{Plan}
-use Rattle.nwq_work.specs.declared.flaw.AreaFlaw.{AreaFlaw}
-use Rattle.nwq_work.specs.declared.flaw.AreaFlaw.TheVariants as flaw
-use Rattle.nwq_work.specs.declared.status.Status.{Status}
-use Rattle.nwq_work.specs.Refusal.{Refusal, BadArea, line_of, status_of}
-use Rattle.nwq_work.specs.Work.{Gives, Does, file_named}
-use Rattle.nwq_work.specs.Parts.{then_ok, then_err}
-use Rattle.nwq_work.specs.Reading.{IsRead, IsUnread}
-use Rattle.nwq_work.specs.Comes.{Came, cut, gives_does, refused_does, given_comes, refusal_comes, then_comes, read_does, unread_does, file_comes}
-use Rattle.nwq_files.specs.Trees as trees
-use Rattle.nwq_files.specs.Trees.{tree_in, tree_named}
-use Rattle.nwq_areas.specs.Plans as plans
-use Rattle.nwq_areas.specs.Plans.{plan_in, plan_named}
-use Rattle.nwq_areas.specs.Areas as areas
-use Rattle.nwq_areas.specs.Areas.{area_in, area_named, place_flaw}
+use Rattle.command_work.specs.declared.flaw.AreaFlaw.{AreaFlaw}
+use Rattle.command_work.specs.declared.flaw.AreaFlaw.TheVariants as flaw
+use Rattle.command_work.specs.declared.status.Status.{Status}
+use Rattle.command_work.specs.Refusal.{Refusal, BadArea, line_of, status_of}
+use Rattle.command_work.specs.Work.{Gives, Does, file_named}
+use Rattle.command_work.specs.Parts.{then_ok, then_err}
+use Rattle.command_work.specs.Reading.{IsRead, IsUnread}
+use Rattle.command_work.specs.Comes.{Came, cut, gives_does, refused_does, given_comes, refusal_comes, then_comes, read_does, unread_does, file_comes}
+use Rattle.command_files.specs.Trees as trees
+use Rattle.command_files.specs.Trees.{tree_in, tree_named}
+use Rattle.play_inputs.specs.Plans as plans
+use Rattle.play_inputs.specs.Plans.{plan_in, plan_named}
+use Rattle.play_inputs.specs.Areas as areas
+use Rattle.play_inputs.specs.Areas.{area_in, area_named, place_flaw}
 use Rattle.nwq_top.specs.Accepting.{ReadsPlan, ReadsArea}
 use Rattle.nwq_top.specs.Refusing.{RefusesPlan, RefusesArea}
 use Rattle.nwq_top.specs.Refusing as refusing

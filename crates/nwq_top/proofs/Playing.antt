@@ -5,37 +5,37 @@ use Rattle.nwq_value.specs.Engine.{EngineTable, IsTable}
 use Rattle.nwq_outside.specs.Outside.{Contents}
 use Rattle.gff_write.specs.declared.fault.WriteFault.{WriteFault}
 use Rattle.gff_write.specs.File.{written, outcome_of}
-use Rattle.area_objects.specs.Area.{PlainArea}
+use Rattle.area_rules.specs.Area.{PlainArea}
 use Rattle.area_back.specs.Back.{tree_back}
-use Rattle.engine_rows.specs.Trace.{trace_text}
-use Rattle.engine_rows.specs.Plays.{PlayEnd, Done, OutOfEntries, StoppedInside, Paused, Played}
+use Rattle.world_rules.specs.Trace.{trace_text}
+use Rattle.world_rules.specs.Plays.{PlayEnd, Done, OutOfEntries, StoppedInside, Paused, Played}
 use Rattle.play_meaning.specs.EndTexts.{source_end_text}
 use Rattle.source_meaning.specs.Evaluation.{Deferred}
 use Rattle.plan_text.specs.declared.plan.Plan.{Plan}
-use Rattle.machine_step.specs.Machine.{Script}
-use Rattle.engine_rows.specs.Pure.{CellLookup}
+use Rattle.machine_rules.specs.Machine.{Script}
+use Rattle.world_rules.specs.Pure.{CellLookup}
 use Rattle.source_meaning.specs.Scripts.{Listed, Setting}
 use Rattle.source_meaning.specs.Executing.{script_of}
-use Rattle.parsed_faults.specs.Laws.{LeastIsTheKept}
+use Rattle.typing_laws.specs.FaultLaws.{LeastIsTheKept}
 use Rattle.engine_table.specs.KeptTables.{HeadersHaveTables, BuiltInIsTable}
-use Rattle.nwq_work.specs.declared.status.Status.{Status}
-use Rattle.nwq_work.specs.Refusal.{Refusal, line_of, status_of}
-use Rattle.nwq_work.specs.Work.{Puts, then, puts, writes, IsCut, Does, Finished}
-use Rattle.nwq_work.specs.Parts.{value_or, then_ok, then_err}
-use Rattle.nwq_work.specs.Sequences.{Parts, ends_first, goes_on, parts, then_known}
-use Rattle.nwq_work.specs.Reading.{AreBytes}
-use Rattle.nwq_work.specs.Comes.{refusal_not_cut, Follows, follows, ends, cuts, then_follows}
-use Rattle.nwq_sources.specs.Headers.{table_of}
-use Rattle.nwq_sources.specs.Laws.{SureTables}
-use Rattle.nwq_areas.specs.Plans.{plan_named}
-use Rattle.nwq_areas.specs.Areas.{area_named}
-use Rattle.nwq_areas.specs.Finals.{final_by, final_written}
-use Rattle.nwq_areas.specs.Laws.{SurePlans, SureAreas}
-use Rattle.nwq_checks.specs.Laws.{SureLoaded}
-use Rattle.nwq_listings.specs.Listings.{lists_on, scripts_listed}
-use Rattle.nwq_listings.specs.Laws.{SureListed}
-use Rattle.nwq_games.specs.Games.{ends_by, plays_plan, plays_area, plays_scripts, plays_under, plays}
-use Rattle.nwq_games.specs.Laws.{SurePlays}
+use Rattle.command_work.specs.declared.status.Status.{Status}
+use Rattle.command_work.specs.Refusal.{Refusal, line_of, status_of}
+use Rattle.command_work.specs.Work.{Puts, then, puts, writes, IsCut, Does, Finished}
+use Rattle.command_work.specs.Parts.{value_or, then_ok, then_err}
+use Rattle.command_work.specs.Sequences.{Parts, ends_first, goes_on, parts, then_known}
+use Rattle.command_work.specs.Reading.{AreBytes}
+use Rattle.command_work.specs.Comes.{refusal_not_cut, Follows, follows, ends, cuts, then_follows}
+use Rattle.command_sources.specs.Headers.{table_of}
+use Rattle.command_sources.specs.Laws.{SureTables}
+use Rattle.play_inputs.specs.Plans.{plan_named}
+use Rattle.play_inputs.specs.Areas.{area_named}
+use Rattle.play_inputs.specs.Finals.{final_by, final_written}
+use Rattle.play_inputs.specs.Laws.{SurePlans, SureAreas}
+use Rattle.command_files.specs.CheckLaws.{SureLoaded}
+use Rattle.play_inputs.specs.Listings.{lists_on, scripts_listed}
+use Rattle.play_inputs.specs.ListingLaws.{SureListed}
+use Rattle.command_play.specs.Games.{ends_by, plays_plan, plays_area, plays_scripts, plays_under, plays}
+use Rattle.command_play.specs.Laws.{SurePlays}
 use Rattle.command_meaning.specs.Units.{UnitsPass}
 use Rattle.command_meaning.specs.Scripts.{ScriptsHaveUnits}
 use Rattle.nwq_top.specs.SourcePlans.{listing_of, source_plan_played, code_plan_played, PlaysSources, FewStepsPlayAsMeant, UnstoppedPlansPlayAsMeant, StoppedPlansBeginAsMeant}

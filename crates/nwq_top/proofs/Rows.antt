@@ -3,12 +3,12 @@ use Rattle.std.proofs.Common.{◌≡◌, refl}
 use Rattle.std.specs.Prelude.{codes}
 use Rattle.std.specs.Fmt.{digits}
 use Rattle.nwq_text.specs.Escape.{escaped, spelling}
-use Rattle.nwq_work.specs.declared.cause.Cause.TheVariants as cause
+use Rattle.command_work.specs.declared.cause.Cause.TheVariants as cause
 use Rattle.gff_bytes.specs.declared.rows.Part.TheVariants as part
-use Rattle.nwq_work.specs.declared.flaw.CodeFlaw.TheVariants as code
-use Rattle.nwq_work.specs.declared.flaw.AreaFlaw.TheVariants as area
-use Rattle.nwq_work.specs.Refusal.{line_of, Absent, TooLong, At, BadCode, BadArea}
-use Rattle.nwq_files.specs.Texts.{disassembled_line, assembled_line}
+use Rattle.command_work.specs.declared.flaw.CodeFlaw.TheVariants as code
+use Rattle.command_work.specs.declared.flaw.AreaFlaw.TheVariants as area
+use Rattle.command_work.specs.Refusal.{line_of, Absent, TooLong, At, BadCode, BadArea}
+use Rattle.command_files.specs.Texts.{disassembled_line, assembled_line}
 
 -- texts
 line_of_script : line_of (At (codes "p.nss") 1 28 cause.Mismatch) ≡ codes "refused p.nss 1 28 mismatch\n"

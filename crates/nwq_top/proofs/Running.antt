@@ -3,29 +3,29 @@ use Rattle.std.proofs.Common.{◌≡◌, inl, inr, ℕ, List, ◌++◌, length, 
 use Rattle.nwq_value.specs.Engine.{EngineTable, IsTable}
 use Rattle.nwq_outside.specs.Outside.{Contents}
 use Rattle.nss_include.specs.Names.{file_name}
-use Rattle.nss_typing.specs.Typed.{TypedUnit}
-use Rattle.code_emission.specs.Units.{unit_file}
-use Rattle.parsed_faults.specs.Laws.{LeastIsTheKept}
+use Rattle.typing_rules.specs.Typed.{TypedUnit}
+use Rattle.emission_rules.specs.Units.{unit_file}
+use Rattle.typing_laws.specs.FaultLaws.{LeastIsTheKept}
 use Rattle.engine_table.specs.KeptTables.{HeadersHaveTables, BuiltInIsTable}
-use Rattle.nwq_work.specs.declared.status.Status.{Status}
-use Rattle.nwq_work.specs.Refusal.{Refusal, line_of, status_of}
-use Rattle.nwq_work.specs.Work.{Work, then, IsCut, Does, Finished, puts, writes}
-use Rattle.nwq_work.specs.Parts.{then_ok, then_err}
-use Rattle.nwq_work.specs.Outcomes.{IsSure, agree, sure_then, sure_writes, sure_puts}
-use Rattle.nwq_work.specs.Sequences.{then_known}
-use Rattle.nwq_work.specs.Reading.{AreBytes}
-use Rattle.nwq_work.specs.Comes.{refusal_not_cut, Follows, follows, ends, cuts, then_follows}
-use Rattle.nwq_sources.specs.Headers.{table_of}
-use Rattle.nwq_sources.specs.Laws.{SureTables}
-use Rattle.nwq_files.specs.Commands.{writes_and_puts}
-use Rattle.nwq_scripts.specs.Files.{code_name, compiled_named, compiled_line, writes_code, compiles_under, compiles}
-use Rattle.nwq_scripts.specs.Laws.{SureCompiled}
-use Rattle.plan_plays.specs.Scripts.{plays_file}
-use Rattle.nwq_checks.specs.Laws.{SureLoaded}
-use Rattle.plan_plays.specs.Laws.{SurePlays}
+use Rattle.command_work.specs.declared.status.Status.{Status}
+use Rattle.command_work.specs.Refusal.{Refusal, line_of, status_of}
+use Rattle.command_work.specs.Work.{Work, then, IsCut, Does, Finished, puts, writes}
+use Rattle.command_work.specs.Parts.{then_ok, then_err}
+use Rattle.command_work.specs.Outcomes.{IsSure, agree, sure_then, sure_writes, sure_puts}
+use Rattle.command_work.specs.Sequences.{then_known}
+use Rattle.command_work.specs.Reading.{AreBytes}
+use Rattle.command_work.specs.Comes.{refusal_not_cut, Follows, follows, ends, cuts, then_follows}
+use Rattle.command_sources.specs.Headers.{table_of}
+use Rattle.command_sources.specs.Laws.{SureTables}
+use Rattle.command_files.specs.Commands.{writes_and_puts}
+use Rattle.command_compile.specs.Files.{code_name, compiled_named, compiled_line, writes_code, compiles_under, compiles}
+use Rattle.command_compile.specs.Laws.{SureCompiled}
+use Rattle.command_plays.specs.Scripts.{plays_file}
+use Rattle.command_files.specs.CheckLaws.{SureLoaded}
+use Rattle.command_plays.specs.Laws.{SurePlays}
 use Rattle.command_meaning.specs.Units.{UnitsPass}
 use Rattle.command_meaning.specs.Files.{PlaysFile}
-use Rattle.engine_rows.specs.Plays.{Done, StoppedInside}
+use Rattle.world_rules.specs.Plays.{Done, StoppedInside}
 use Rattle.command_meaning.specs.Runs.{answer_by, FewStepsEndAsMeant, UnstoppedRunsEndAsMeant, StoppedRunsBeginAsMeant}
 use Rattle.command_meaning.specs.Scripts.{HoldBytes, ScriptsHaveUnits}
 use Rattle.nwq_top.specs.Accepting.{HasHeader}

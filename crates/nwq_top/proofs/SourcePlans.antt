@@ -2,14 +2,14 @@
 use Rattle.std.proofs.Common.{◌≡◌, ℕ, List, map, Result, sym, subst, ap, ◌∙◌}
 use Rattle.nwq_value.specs.Engine.{EngineTable}
 use Rattle.nwq_outside.specs.Outside.{Contents}
-use Rattle.area_objects.specs.Area.{PlainArea}
+use Rattle.area_rules.specs.Area.{PlainArea}
 use Rattle.plan_text.specs.declared.plan.Plan.{Plan}
 use Rattle.saved_state.specs.declared.saved.Saved.{Saved}
-use Rattle.engine_rows.specs.Pure.{CellLookup}
-use Rattle.engine_rows.specs.Trace.{trace_text}
-use Rattle.engine_rows.specs.Alike.{Alike}
-use Rattle.engine_rows.specs.declared.data.Line.{Line}
-use Rattle.engine_rows.specs.Plays.{PlayEnd, Played}
+use Rattle.world_rules.specs.Pure.{CellLookup}
+use Rattle.world_rules.specs.Trace.{trace_text}
+use Rattle.world_rules.specs.Alike.{Alike}
+use Rattle.world_rules.specs.declared.data.Line.{Line}
+use Rattle.world_rules.specs.Plays.{PlayEnd, Played}
 use Rattle.module_player.specs.CodePlays.{code_end_text}
 use Rattle.source_meaning.specs.Evaluation.{Deferred}
 use Rattle.source_meaning.specs.Scripts.{Listed, Setting}
@@ -18,10 +18,10 @@ use Rattle.source_meaning.specs.Executing.{script_of}
 use Rattle.source_meaning.specs.StayAlike.{EntriesKeepAlike}
 use Rattle.play_meaning.specs.Together.{PlaysAlike}
 use Rattle.play_meaning.specs.EndTexts.{source_end_text}
-use Rattle.nwq_work.specs.declared.status.Status.{Status}
-use Rattle.nwq_work.specs.Work.{Puts, Does, Finished}
-use Rattle.plan_worlds.specs.Worlds.{begun_by, plan_world}
-use Rattle.nwq_games.specs.Games.{ends_by, tells, plays_plan}
+use Rattle.command_work.specs.declared.status.Status.{Status}
+use Rattle.command_work.specs.Work.{Puts, Does, Finished}
+use Rattle.play_worlds.specs.Worlds.{begun_by, plan_world}
+use Rattle.command_play.specs.Games.{ends_by, tells, plays_plan}
 use Rattle.command_meaning.specs.ListedPlays.{ListedPlaysEnd, ListedPlaysStop, ListedTextsAgree}
 use Rattle.nwq_top.specs.SourcePlans.{listing_of, source_plan_world, source_plan_played, code_plan_played, tells_source, FewStepsPlayAsMeant, UnstoppedPlansPlayAsMeant, StoppedPlansBeginAsMeant}
 

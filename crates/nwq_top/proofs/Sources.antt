@@ -6,34 +6,34 @@ use Rattle.nwq_value.specs.Limits.{file_limit}
 use Rattle.nwq_value.specs.Engine.{EngineTable}
 use Rattle.nwq_outside.specs.Outside.{Contents}
 use Rattle.nss_include.specs.declared.file.Source.{Source}
-use Rattle.nss_typing.specs.declared.fault.Fault.{Fault}
-use Rattle.nss_typing.specs.Nodes.{kept, IsLeast}
-use Rattle.nss_typing.specs.Typed.{TypedUnit}
-use Rattle.nss_typing.specs.Meaning.{TypesUnit, FaultInUnit}
-use Rattle.nss_typing.specs.Verdicts.{unit_faults}
-use Rattle.parsed_faults.specs.Laws.{OneLeastFault, LeastIsTheKept}
-use Rattle.code_emission.specs.Units.{unit_file}
+use Rattle.typing_rules.specs.declared.fault.Fault.{Fault}
+use Rattle.typing_rules.specs.Nodes.{kept, IsLeast}
+use Rattle.typing_rules.specs.Typed.{TypedUnit}
+use Rattle.typing_rules.specs.Meaning.{TypesUnit, FaultInUnit}
+use Rattle.typing_rules.specs.Verdicts.{unit_faults}
+use Rattle.typing_laws.specs.FaultLaws.{OneLeastFault, LeastIsTheKept}
+use Rattle.emission_rules.specs.Units.{unit_file}
 use Rattle.ncs_code.specs.Plain.{PlainOp}
 use Rattle.ncs_code.specs.File.{IsCode, file_bytes}
-use Rattle.nwq_work.specs.declared.cause.Cause.TheVariants as cause
-use Rattle.nwq_work.specs.declared.flaw.CodeFlaw.{CodeFlaw}
-use Rattle.nwq_work.specs.declared.flaw.CodeFlaw.TheVariants as code_flaw
-use Rattle.nwq_work.specs.declared.status.Status.{Status}
-use Rattle.nwq_work.specs.Refusal.{Refusal, Absent, TooLong, BadCode, line_of, status_of}
-use Rattle.nwq_work.specs.Work.{Refused, then, Does, file_named}
-use Rattle.nwq_work.specs.Parts.{then_ok, then_err}
-use Rattle.nwq_work.specs.Reading.{IsRead, IsUnread}
-use Rattle.nwq_work.specs.Comes.{Came, cut, gives_does, refused_does, given_comes, refusal_comes, then_comes, read_does, unread_does, file_comes}
-use Rattle.nwq_sources.specs.Units.{PlainScript, UnitFate, Whole, Lacks, Exceeds, Faulty, IsUnitFate, grammar_symbols, unit_by, unit_of, at_spot, at_token, spot_of}
-use Rattle.nwq_sources.specs.Units as units
-use Rattle.nwq_sources.specs.Laws.{SureUnits}
-use Rattle.nwq_files.specs.Codes.{code_in, code_named}
-use Rattle.nwq_files.specs.Codes as code
-use Rattle.nwq_checks.specs.Checks.{CheckFate, IsCheckFate, check_by, checked_in, checked_named}
-use Rattle.nwq_checks.specs.Checks as check
-use Rattle.nwq_scripts.specs.Typings.{cause_of, TypingFate, IsTypingFate, typing_by, typed_in}
-use Rattle.nwq_scripts.specs.Typings as typing
-use Rattle.nwq_scripts.specs.Files.{file_by, file_in, compiled_in, compiled_named}
+use Rattle.command_work.specs.declared.cause.Cause.TheVariants as cause
+use Rattle.command_work.specs.declared.flaw.CodeFlaw.{CodeFlaw}
+use Rattle.command_work.specs.declared.flaw.CodeFlaw.TheVariants as code_flaw
+use Rattle.command_work.specs.declared.status.Status.{Status}
+use Rattle.command_work.specs.Refusal.{Refusal, Absent, TooLong, BadCode, line_of, status_of}
+use Rattle.command_work.specs.Work.{Refused, then, Does, file_named}
+use Rattle.command_work.specs.Parts.{then_ok, then_err}
+use Rattle.command_work.specs.Reading.{IsRead, IsUnread}
+use Rattle.command_work.specs.Comes.{Came, cut, gives_does, refused_does, given_comes, refusal_comes, then_comes, read_does, unread_does, file_comes}
+use Rattle.command_sources.specs.Units.{PlainScript, UnitFate, Whole, Lacks, Exceeds, Faulty, IsUnitFate, grammar_symbols, unit_by, unit_of, at_spot, at_token, spot_of}
+use Rattle.command_sources.specs.Units as units
+use Rattle.command_sources.specs.Laws.{SureUnits}
+use Rattle.command_files.specs.Codes.{code_in, code_named}
+use Rattle.command_files.specs.Codes as code
+use Rattle.command_files.specs.Checks.{CheckFate, IsCheckFate, check_by, checked_in, checked_named}
+use Rattle.command_files.specs.Checks as check
+use Rattle.command_compile.specs.Typings.{cause_of, TypingFate, IsTypingFate, typing_by, typed_in}
+use Rattle.command_compile.specs.Typings as typing
+use Rattle.command_compile.specs.Files.{file_by, file_in, compiled_in, compiled_named}
 use Rattle.command_meaning.specs.Scripts.{IsScript}
 use Rattle.nwq_top.specs.Accepting.{HasCode}
 use Rattle.nwq_top.specs.Refusing.{RefusesSource, lacks, exceeds, faulty, untyped, large, RefusesBinary}

@@ -1,14 +1,14 @@
 -- The work of each form of words has one outcome.
-use Rattle.engine_rows.specs.Pure.{CellLookup}
-use Rattle.nwq_work.specs.Outcomes.{IsSure, agree, prefixes, sure_then}
-use Rattle.nwq_checks.specs.Laws.{SureChecks}
-use Rattle.nwq_files.specs.Laws.{SureCommands}
-use Rattle.nwq_runs.specs.Laws.{SureRuns}
-use Rattle.nwq_games.specs.Laws.{SurePlays as SureGames}
-use Rattle.nwq_generated.specs.Laws.{SureGenerated}
-use Rattle.nwq_scripts.specs.Laws.{SureCompiles}
-use Rattle.nwq_tables.specs.Tables.{tables_given}
-use Rattle.nwq_tables.specs.Laws.{SureTables as SureGiven}
+use Rattle.world_rules.specs.Pure.{CellLookup}
+use Rattle.command_work.specs.Outcomes.{IsSure, agree, prefixes, sure_then}
+use Rattle.command_files.specs.CheckLaws.{SureChecks}
+use Rattle.command_files.specs.Laws.{SureCommands}
+use Rattle.command_run.specs.Laws.{SureRuns}
+use Rattle.command_play.specs.Laws.{SurePlays as SureGames}
+use Rattle.command_generate.specs.Laws.{SureGenerated}
+use Rattle.command_compile.specs.Laws.{SureCompiles}
+use Rattle.command_tables.specs.Tables.{tables_given}
+use Rattle.command_tables.specs.Laws.{SureTables as SureGiven}
 use Rattle.table_2da.specs.Look.{cell_of}
 use Rattle.command_words.specs.Words.{Form, Run, Compile, Tree, Check, Disassemble, Assemble, Play, Generate, NoForm, list_of}
 use Rattle.nwq_top.specs.Command.{work_of, work_with, whole_work}

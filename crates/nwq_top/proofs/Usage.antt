@@ -4,8 +4,8 @@ use Rattle.std.proofs.lemmas.List.{append-nil}
 use Rattle.nwq_outside.specs.declared.answer.Done.{Done}
 use Rattle.nwq_outside.specs.declared.answer.Done.TheVariants as done
 use Rattle.nwq_outside.specs.Outside.{Takes, TookPrefix}
-use Rattle.nwq_work.specs.declared.status.Status.{Status}
-use Rattle.nwq_work.specs.declared.status.Status.TheVariants.{Words}
+use Rattle.command_work.specs.declared.status.Status.{Status}
+use Rattle.command_work.specs.declared.status.Status.TheVariants.{Words}
 use Rattle.nwq_top.specs.Program.{usage_line, TellsUsage}
 
 -- all of a piece, or a prefix of it, is a prefix of it

@@ -2,16 +2,16 @@
 use Rattle.std.proofs.Common.{ℕ, List, ◌++◌, Result, Ok, Err, ap, ◌∙◌}
 use Rattle.nwq_outside.specs.Outside.{Contents}
 use Rattle.table_2da.specs.Look.{cell_of}
-use Rattle.nwq_work.specs.declared.status.Status.{Status}
-use Rattle.nwq_work.specs.Refusal.{Refusal, line_of, status_of}
-use Rattle.nwq_work.specs.Work.{then, IsCut, Does, Finished}
-use Rattle.nwq_work.specs.Parts.{status_or}
-use Rattle.nwq_work.specs.Outcomes.{agree}
-use Rattle.nwq_work.specs.Sequences.{then_known}
-use Rattle.nwq_work.specs.Reading.{AreBytes}
-use Rattle.nwq_work.specs.Comes.{refusal_not_cut, Follows, follows, ends, cuts, then_follows}
-use Rattle.nwq_tables.specs.Tables.{tables_given}
-use Rattle.nwq_tables.specs.Laws.{SureTables}
+use Rattle.command_work.specs.declared.status.Status.{Status}
+use Rattle.command_work.specs.Refusal.{Refusal, line_of, status_of}
+use Rattle.command_work.specs.Work.{then, IsCut, Does, Finished}
+use Rattle.command_work.specs.Parts.{status_or}
+use Rattle.command_work.specs.Outcomes.{agree}
+use Rattle.command_work.specs.Sequences.{then_known}
+use Rattle.command_work.specs.Reading.{AreBytes}
+use Rattle.command_work.specs.Comes.{refusal_not_cut, Follows, follows, ends, cuts, then_follows}
+use Rattle.command_tables.specs.Tables.{tables_given}
+use Rattle.command_tables.specs.Laws.{SureTables}
 use Rattle.nwq_top.specs.Refusing.{IsRefused}
 use Rattle.command_words.specs.Words.{Form, list_of}
 use Rattle.nwq_top.specs.Command.{work_with, whole_work}

@@ -2,13 +2,13 @@
 use Rattle.std.proofs.Common.{◌≡◌, ℕ, List, map, String, Global, string_bytes, Result, Ok, Err, IfErr, sym, ap, subst}
 use Rattle.std.specs.FinMap as fin_map
 use Rattle.nwq_outside.specs.Outside.{Contents}
-use Rattle.engine_rows.specs.Pure.{CellLookup}
-use Rattle.nwq_work.specs.declared.status.Status.{Status}
-use Rattle.nwq_work.specs.declared.status.Status.TheVariants.{Done}
-use Rattle.nwq_work.specs.Refusal as refusal
-use Rattle.nwq_work.specs.Work.{Does, ending, Finished}
-use Rattle.nwq_work.specs.Counts.{KeepsBut}
-use Rattle.nwq_work.specs.Parts.{Refuses, refused}
+use Rattle.world_rules.specs.Pure.{CellLookup}
+use Rattle.command_work.specs.declared.status.Status.{Status}
+use Rattle.command_work.specs.declared.status.Status.TheVariants.{Done}
+use Rattle.command_work.specs.Refusal as refusal
+use Rattle.command_work.specs.Work.{Does, ending, Finished}
+use Rattle.command_work.specs.Counts.{KeepsBut}
+use Rattle.command_work.specs.Parts.{Refuses, refused}
 use Rattle.command_words.specs.Words.{Form, NoForm, form_of}
 use Rattle.nwq_top.specs.Command.{work_of, MayWrite}
 use Rattle.nwq_top.specs.Endings.{ComesOf, ComesOfResult, StopsCommand}

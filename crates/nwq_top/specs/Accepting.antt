@@ -5,24 +5,24 @@ use Rattle.nwq_value.specs.Limits.{file_limit}
 use Rattle.nwq_value.specs.Engine.{EngineTable}
 use Rattle.nwq_value.specs.HeaderTable.{header_table}
 use Rattle.nwq_outside.specs.Outside.{Contents}
-use Rattle.nwq_work.specs.Reading.{IsRead}
+use Rattle.command_work.specs.Reading.{IsRead}
 use Rattle.engine_table.specs.Headers.{HasTable}
-use Rattle.nss_typing.specs.Typed.{TypedUnit}
-use Rattle.code_emission.specs.Units.{unit_file}
+use Rattle.typing_rules.specs.Typed.{TypedUnit}
+use Rattle.emission_rules.specs.Units.{unit_file}
 use Rattle.ncs_code.specs.Plain.{PlainOp}
 use Rattle.ncs_code.specs.File.{IsCode, file_bytes}
-use Rattle.shape_tables.specs.Rules.{WellStacked}
+use Rattle.stack_rules.specs.Rules.{WellStacked}
 use Rattle.gff_tree.specs.Whole.{PlainGff}
 use Rattle.gff_read.specs.Stands.{Stands}
-use Rattle.area_objects.specs.Broken.{broken_places}
-use Rattle.area_objects.specs.Area.{PlainArea, area_of}
+use Rattle.area_rules.specs.Broken.{broken_places}
+use Rattle.area_rules.specs.Area.{PlainArea, area_of}
 use Rattle.plan_text.specs.declared.plan.Plan.{Plan}
 use Rattle.plan_text.specs.declared.plan.Script.{Script as ScriptLine}
 use Rattle.plan_text.specs.Plans.{HasPlan}
-use Rattle.machine_step.specs.Machine.{Script}
+use Rattle.machine_rules.specs.Machine.{Script}
 use Rattle.source_meaning.specs.Scripts.{Listed}
-use Rattle.nwq_scripts.specs.Files.{code_name}
-use Rattle.nwq_listings.specs.Listings.{playable}
+use Rattle.command_compile.specs.Files.{code_name}
+use Rattle.play_inputs.specs.Listings.{playable}
 use Rattle.command_meaning.specs.Units.{code_of, Passes}
 use Rattle.command_meaning.specs.Scripts.{IsScript}
 

@@ -2,17 +2,17 @@
 use Rattle.std.specs.Prelude.{◌≡◌, ℕ, List}
 use Rattle.table_2da.specs.Look.{cell_of}
 use Rattle.table_2da.specs.declared.tables.Named.{Named}
-use Rattle.engine_rows.specs.Pure.{CellLookup}
-use Rattle.nwq_work.specs.Refusal as refusal
-use Rattle.nwq_work.specs.Work.{Work, Refused, then, Finished}
-use Rattle.nwq_checks.specs.Checks.{checks}
-use Rattle.nwq_files.specs.Commands.{shows_tree, disassembles, assembles}
-use Rattle.nwq_scripts.specs.Files.{code_name, compiles}
-use Rattle.nwq_runs.specs.Runs.{runs}
-use Rattle.nwq_games.specs.Games.{plays}
-use Rattle.nwq_generated.specs.Generated.{generates}
-use Rattle.nwq_games.specs.Tellings.{IsGameFile}
-use Rattle.nwq_tables.specs.Tables.{tables_given}
+use Rattle.world_rules.specs.Pure.{CellLookup}
+use Rattle.command_work.specs.Refusal as refusal
+use Rattle.command_work.specs.Work.{Work, Refused, then, Finished}
+use Rattle.command_files.specs.Checks.{checks}
+use Rattle.command_files.specs.Commands.{shows_tree, disassembles, assembles}
+use Rattle.command_compile.specs.Files.{code_name, compiles}
+use Rattle.command_run.specs.Runs.{runs}
+use Rattle.command_play.specs.Games.{plays}
+use Rattle.command_generate.specs.Generated.{generates}
+use Rattle.command_play.specs.Tellings.{IsGameFile}
+use Rattle.command_tables.specs.Tables.{tables_given}
 use Rattle.command_words.specs.Words.{Form, Run, Compile, Tree, Check, Disassemble, Assemble, Play, Generate, NoForm, list_of}
 
 -- the work of each form of words, where cells of tables are looked up so

@@ -1,13 +1,13 @@
 -- Which statuses can come of which form of words.
 use Rattle.std.specs.Prelude.{Result, Ok, Err}
-use Rattle.nwq_work.specs.declared.status.Status.{Status}
-use Rattle.nwq_work.specs.declared.status.Status.TheVariants.{Done, Words, Fault, Memory}
-use Rattle.nwq_work.specs.Work.{Finished}
-use Rattle.nwq_work.specs.Counts.{StopsSource, StopsCode, StopsArea}
-use Rattle.nwq_checks.specs.Checks.{StopsCheck}
-use Rattle.nwq_runs.specs.Runs.{StopsRun}
-use Rattle.nwq_games.specs.Tellings.{StopsGame}
-use Rattle.nwq_generated.specs.Generated.{StopsGenerate}
+use Rattle.command_work.specs.declared.status.Status.{Status}
+use Rattle.command_work.specs.declared.status.Status.TheVariants.{Done, Words, Fault, Memory}
+use Rattle.command_work.specs.Work.{Finished}
+use Rattle.command_work.specs.Counts.{StopsSource, StopsCode, StopsArea}
+use Rattle.command_files.specs.Checks.{StopsCheck}
+use Rattle.command_run.specs.Runs.{StopsRun}
+use Rattle.command_play.specs.Tellings.{StopsGame}
+use Rattle.command_generate.specs.Generated.{StopsGenerate}
 use Rattle.command_words.specs.Words.{Form, Run, Compile, Tree, Check, Disassemble, Assemble, Play, Generate, NoForm}
 
 abbrev pub EndsWords : Status → Type 0

@@ -2,12 +2,12 @@
 use Rattle.std.specs.Prelude.{◌≡◌, ◌≢◌, ◌≤◌, ℕ, ◌*◌, List, [], ◌∷◌, ◌++◌, codes, Result, Err}
 use Rattle.nwq_value.specs.HeaderTable.{header_table}
 use Rattle.nwq_outside.specs.Outside.{Contents}
-use Rattle.nss_typing.specs.Typed.{TypedUnit}
+use Rattle.typing_rules.specs.Typed.{TypedUnit}
 use Rattle.saved_state.specs.declared.saved.Saved.{Saved}
-use Rattle.engine_rows.specs.Pure.{CellLookup}
-use Rattle.engine_rows.specs.Trace.{trace_text}
-use Rattle.engine_rows.specs.Plays.{StoppedInside, Played}
-use Rattle.engine_rows.specs.EndText.{end_line}
+use Rattle.world_rules.specs.Pure.{CellLookup}
+use Rattle.world_rules.specs.Trace.{trace_text}
+use Rattle.world_rules.specs.Plays.{StoppedInside, Played}
+use Rattle.world_rules.specs.EndText.{end_line}
 use Rattle.module_player.specs.CodePlays.{code_runner}
 use Rattle.source_meaning.specs.Evaluation.{Deferred}
 use Rattle.source_meaning.specs.Scripts.{Listed, Setting}
@@ -16,12 +16,12 @@ use Rattle.source_meaning.specs.Carries.{Carries}
 use Rattle.source_meaning.specs.Executing.{script_of}
 use Rattle.play_meaning.specs.Together.{Begins, PlaysAlike, StoppedAt}
 use Rattle.play_generator.specs.Made.{creatures_of, rounds_of, play_of}
-use Rattle.nwq_work.specs.declared.status.Status.{Status}
-use Rattle.nwq_work.specs.declared.status.Status.TheVariants.{Script, Limit}
-use Rattle.nwq_work.specs.Refusal.{Refusal, line_of}
-use Rattle.nwq_work.specs.Work.{Finished}
-use Rattle.plan_plays.specs.Plays.{host_of}
-use Rattle.nwq_generated.specs.Generated.{files_with, made_line, summary, plan_of, made_area}
+use Rattle.command_work.specs.declared.status.Status.{Status}
+use Rattle.command_work.specs.declared.status.Status.TheVariants.{Script, Limit}
+use Rattle.command_work.specs.Refusal.{Refusal, line_of}
+use Rattle.command_work.specs.Work.{Finished}
+use Rattle.command_plays.specs.Plays.{host_of}
+use Rattle.command_generate.specs.Generated.{files_with, made_line, summary, plan_of, made_area}
 use Rattle.command_meaning.specs.Runs.{answer_by}
 use Rattle.nwq_top.specs.SourcePlans.{listing_of, source_plan_played, code_plan_played}
 use Rattle.nwq_top.specs.Accepting.{Compiles}

@@ -5,11 +5,11 @@ use Rattle.table_2da.specs.declared.fault.TableFault.TheVariants as fault
 use Rattle.table_2da.specs.declared.tables.Named.{Named}
 use Rattle.table_2da.specs.Grammar.{HasTable, IsFaulty}
 use Rattle.table_2da.specs.Table.{PlainTable}
-use Rattle.nwq_work.specs.declared.flaw.AreaFlaw.TheVariants as flaw
-use Rattle.nwq_work.specs.Refusal.{Refusal, BadArea}
-use Rattle.nwq_work.specs.Reading.{IsRead, IsUnread}
-use Rattle.nwq_tables.specs.Lists.{HasNames, HasBadLine}
-use Rattle.nwq_tables.specs.Tables.{table_file}
+use Rattle.command_work.specs.declared.flaw.AreaFlaw.TheVariants as flaw
+use Rattle.command_work.specs.Refusal.{Refusal, BadArea}
+use Rattle.command_work.specs.Reading.{IsRead, IsUnread}
+use Rattle.command_tables.specs.Lists.{HasNames, HasBadLine}
+use Rattle.command_tables.specs.Tables.{table_file}
 
 -- ---- the list
 

@@ -1,10 +1,10 @@
 -- Statements about the work of commands. Each stands on the contract of a function of `laws`.
 use Rattle.std.specs.Prelude.{ℕ, List, Result}
-use Rattle.engine_rows.specs.Pure.{CellLookup}
+use Rattle.world_rules.specs.Pure.{CellLookup}
 use Rattle.nwq_outside.specs.Outside.{Contents}
-use Rattle.nwq_work.specs.declared.status.Status.{Status}
-use Rattle.nwq_work.specs.Work.{IsCut, Does, Finished}
-use Rattle.nwq_work.specs.Outcomes.{Agrees, IsPrefix}
+use Rattle.command_work.specs.declared.status.Status.{Status}
+use Rattle.command_work.specs.Work.{IsCut, Does, Finished}
+use Rattle.command_work.specs.Outcomes.{Agrees, IsPrefix}
 use Rattle.command_words.specs.Words.{Form}
 use Rattle.nwq_top.specs.Command.{work_of, whole_work}
 

@@ -4,11 +4,11 @@ use Rattle.std.specs.List.{AllByRecursion}
 use Rattle.nwq_value.specs.Engine.{EngineTable, IsTable}
 use Rattle.nwq_outside.specs.Outside.{Contents}
 use Rattle.plan_text.specs.declared.plan.Script.{Script as ScriptLine}
-use Rattle.machine_step.specs.Machine.{Script}
+use Rattle.machine_rules.specs.Machine.{Script}
 use Rattle.source_meaning.specs.Scripts.{Listed}
 use Rattle.source_meaning.specs.Executing.{script_of}
-use Rattle.nwq_work.specs.Work.{Does}
-use Rattle.nwq_listings.specs.Listings.{scripts_listed}
+use Rattle.command_work.specs.Work.{Does}
+use Rattle.play_inputs.specs.Listings.{scripts_listed}
 use Rattle.command_meaning.specs.Units.{IsUnitOf}
 use Rattle.command_meaning.specs.Scripts.{HoldBytes, IsScript}
 

@@ -3,12 +3,12 @@ use Rattle.std.specs.Prelude.{◌≤◌, ℕ, List, Result}
 use Rattle.nwq_outside.specs.Outside.{Contents}
 use Rattle.table_2da.specs.declared.tables.Named.{Named}
 use Rattle.table_2da.specs.Look.{cell_of}
-use Rattle.engine_rows.specs.Pure.{CellLookup}
+use Rattle.world_rules.specs.Pure.{CellLookup}
 use Rattle.play_generator.specs.Made.{number_limit}
-use Rattle.nwq_work.specs.declared.status.Status.{Status}
-use Rattle.nwq_work.specs.Refusal.{Refusal}
-use Rattle.nwq_work.specs.Work.{IsCut, Does, Finished}
-use Rattle.nwq_work.specs.Reading.{AreBytes}
+use Rattle.command_work.specs.declared.status.Status.{Status}
+use Rattle.command_work.specs.Refusal.{Refusal}
+use Rattle.command_work.specs.Work.{IsCut, Does, Finished}
+use Rattle.command_work.specs.Reading.{AreBytes}
 use Rattle.nwq_top.specs.Refusing.{IsRefused}
 use Rattle.nwq_top.specs.Runs.{MeansRun, MeansCompile}
 use Rattle.nwq_top.specs.Plays.{MeansPlay}

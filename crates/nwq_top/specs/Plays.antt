@@ -4,21 +4,21 @@ use Rattle.std.specs.FinMap as fin_map
 use Rattle.nwq_value.specs.Engine.{EngineTable}
 use Rattle.nwq_outside.specs.Outside.{Contents}
 use Rattle.gff_write.specs.File.{written, outcome_of}
-use Rattle.area_objects.specs.Area.{PlainArea}
+use Rattle.area_rules.specs.Area.{PlainArea}
 use Rattle.area_back.specs.Back.{tree_back}
 use Rattle.plan_text.specs.declared.plan.Plan.{Plan}
-use Rattle.machine_step.specs.Machine.{Script}
-use Rattle.engine_rows.specs.Pure.{CellLookup}
-use Rattle.engine_rows.specs.Trace.{trace_text}
-use Rattle.engine_rows.specs.Plays.{Done, StoppedInside, Played}
+use Rattle.machine_rules.specs.Machine.{Script}
+use Rattle.world_rules.specs.Pure.{CellLookup}
+use Rattle.world_rules.specs.Trace.{trace_text}
+use Rattle.world_rules.specs.Plays.{Done, StoppedInside, Played}
 use Rattle.play_meaning.specs.EndTexts.{source_end_text}
 use Rattle.source_meaning.specs.Evaluation.{Deferred}
 use Rattle.source_meaning.specs.Scripts.{Listed, Setting}
 use Rattle.source_meaning.specs.Ledger.{step_cost}
-use Rattle.nwq_work.specs.declared.status.Status.{Status}
-use Rattle.nwq_work.specs.Refusal.{Refusal}
-use Rattle.nwq_work.specs.Work.{Finished, Does}
-use Rattle.nwq_games.specs.Games.{plays_plan}
+use Rattle.command_work.specs.declared.status.Status.{Status}
+use Rattle.command_work.specs.Refusal.{Refusal}
+use Rattle.command_work.specs.Work.{Finished, Does}
+use Rattle.command_play.specs.Games.{plays_plan}
 use Rattle.nwq_top.specs.SourcePlans.{listing_of, source_plan_played, code_plan_played, DoesMeaning, DoesBeginning}
 use Rattle.nwq_top.specs.Accepting.{HasHeader, HasScripts, HasSources, ReadsPlan, ReadsArea}
 use Rattle.nwq_top.specs.Refusing.{RefusesPlan, RefusesHeader, RefusesScripts, RefusesArea, IsRefused}

@@ -1,8 +1,8 @@
 -- With which number the program ends, and what it says on standard error.
 use Rattle.std.specs.Prelude.{◌≡◌, ℕ, ◌==◌, if◌then◌else◌, List, drop, map, codes, String, string_bytes, Result, Ok, Err}
 use Rattle.nwq_outside.specs.Outside.{TookPrefix}
-use Rattle.nwq_work.specs.declared.status.Status.{Status}
-use Rattle.nwq_work.specs.declared.status.Status.TheVariants.{Done, Words, Script, Code, Area, Limit, Missing, Fault, Memory, Long}
+use Rattle.command_work.specs.declared.status.Status.{Status}
+use Rattle.command_work.specs.declared.status.Status.TheVariants.{Done, Words, Script, Code, Area, Limit, Missing, Fault, Memory, Long}
 
 -- the number of a status
 abbrev pub status_number : Status → ℕ

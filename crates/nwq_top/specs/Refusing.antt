@@ -7,42 +7,42 @@ use Rattle.nwq_value.specs.Engine.{EngineTable}
 use Rattle.nwq_text.specs.Line.{line_number}
 use Rattle.nwq_outside.specs.Outside.{Contents}
 use Rattle.nss_include.specs.declared.fault.Spot.{Spot}
-use Rattle.nss_typing.specs.declared.fault.Fault.{Fault}
-use Rattle.nss_typing.specs.Nodes.{IsLeast}
-use Rattle.nss_typing.specs.Typed.{TypedUnit}
-use Rattle.nss_typing.specs.Meaning.{TypesUnit, FaultInUnit}
-use Rattle.code_emission.specs.Units.{unit_file}
+use Rattle.typing_rules.specs.declared.fault.Fault.{Fault}
+use Rattle.typing_rules.specs.Nodes.{IsLeast}
+use Rattle.typing_rules.specs.Typed.{TypedUnit}
+use Rattle.typing_rules.specs.Meaning.{TypesUnit, FaultInUnit}
+use Rattle.emission_rules.specs.Units.{unit_file}
 use Rattle.ncs_code.specs.Plain.{PlainOp}
 use Rattle.ncs_code.specs.File.{IsCode, file_bytes}
-use Rattle.shape_tables.specs.Rules.{WellStacked}
+use Rattle.stack_rules.specs.Rules.{WellStacked}
 use Rattle.gff_tree.specs.Whole.{PlainGff}
 use Rattle.gff_read.specs.Stands.{Stands}
-use Rattle.area_objects.specs.Broken.{Place, broken_places}
+use Rattle.area_rules.specs.Broken.{Place, broken_places}
 use Rattle.plan_text.specs.declared.plan.Script.{Script as ScriptLine}
 use Rattle.plan_text.specs.declared.fault.PlanFault.TheVariants as plan
 use Rattle.plan_text.specs.Plans.{IsFaulty}
-use Rattle.machine_step.specs.Machine.{Script}
-use Rattle.nwq_work.specs.declared.cause.Cause.{Cause}
-use Rattle.nwq_work.specs.declared.cause.Cause.TheVariants as cause
-use Rattle.nwq_work.specs.declared.flaw.AreaFlaw.{AreaFlaw}
-use Rattle.nwq_work.specs.declared.flaw.AreaFlaw.TheVariants as area
-use Rattle.nwq_work.specs.declared.flaw.CodeFlaw.{CodeFlaw}
-use Rattle.nwq_work.specs.declared.flaw.CodeFlaw.TheVariants as code
-use Rattle.nwq_work.specs.declared.status.Status.{Status}
-use Rattle.nwq_work.specs.Refusal.{Refusal, Absent, TooLong, At, BadCode, BadArea, line_of, status_of}
-use Rattle.nwq_work.specs.Work.{Finished}
-use Rattle.nwq_work.specs.Reading.{IsRead, IsUnread}
-use Rattle.nwq_sources.specs.Headers as headers
-use Rattle.nwq_sources.specs.Headers.{IsHeaderFate}
-use Rattle.nwq_sources.specs.Units as units
-use Rattle.nwq_sources.specs.Units.{PlainScript, IsUnitFate, spot_of, at_spot, at_token}
-use Rattle.nwq_files.specs.Codes as codes_of
-use Rattle.nwq_files.specs.Codes.{IsCodeFate}
-use Rattle.nwq_files.specs.Trees as trees
-use Rattle.nwq_files.specs.Trees.{IsTreeFate}
-use Rattle.nwq_areas.specs.Areas.{place_flaw}
-use Rattle.nwq_scripts.specs.Files.{code_name}
-use Rattle.nwq_scripts.specs.Typings.{cause_of}
+use Rattle.machine_rules.specs.Machine.{Script}
+use Rattle.command_work.specs.declared.cause.Cause.{Cause}
+use Rattle.command_work.specs.declared.cause.Cause.TheVariants as cause
+use Rattle.command_work.specs.declared.flaw.AreaFlaw.{AreaFlaw}
+use Rattle.command_work.specs.declared.flaw.AreaFlaw.TheVariants as area
+use Rattle.command_work.specs.declared.flaw.CodeFlaw.{CodeFlaw}
+use Rattle.command_work.specs.declared.flaw.CodeFlaw.TheVariants as code
+use Rattle.command_work.specs.declared.status.Status.{Status}
+use Rattle.command_work.specs.Refusal.{Refusal, Absent, TooLong, At, BadCode, BadArea, line_of, status_of}
+use Rattle.command_work.specs.Work.{Finished}
+use Rattle.command_work.specs.Reading.{IsRead, IsUnread}
+use Rattle.command_sources.specs.Headers as headers
+use Rattle.command_sources.specs.Headers.{IsHeaderFate}
+use Rattle.command_sources.specs.Units as units
+use Rattle.command_sources.specs.Units.{PlainScript, IsUnitFate, spot_of, at_spot, at_token}
+use Rattle.command_files.specs.Codes as codes_of
+use Rattle.command_files.specs.Codes.{IsCodeFate}
+use Rattle.command_files.specs.Trees as trees
+use Rattle.command_files.specs.Trees.{IsTreeFate}
+use Rattle.play_inputs.specs.Areas.{place_flaw}
+use Rattle.command_compile.specs.Files.{code_name}
+use Rattle.command_compile.specs.Typings.{cause_of}
 use Rattle.nwq_top.specs.Accepting.{HasLine}
 
 -- the line of a refusal was put and its status answered, and the files hold this

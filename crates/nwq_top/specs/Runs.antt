@@ -3,14 +3,14 @@ use Rattle.std.specs.Prelude.{◌≡◌, ◌≢◌, ℕ, List, ◌++◌, length,
 use Rattle.nwq_value.specs.Engine.{EngineTable}
 use Rattle.nwq_value.specs.Limits.{default_instruction_limit}
 use Rattle.nwq_outside.specs.Outside.{Contents}
-use Rattle.nss_typing.specs.Typed.{TypedUnit}
-use Rattle.code_emission.specs.Units.{unit_file}
-use Rattle.engine_rows.specs.Pure.{CellLookup}
-use Rattle.engine_rows.specs.Plays.{Done, StoppedInside}
-use Rattle.nwq_work.specs.declared.status.Status.{Status}
-use Rattle.nwq_work.specs.Refusal.{Refusal}
-use Rattle.nwq_work.specs.Work.{Finished}
-use Rattle.nwq_scripts.specs.Files.{code_name, compiled_line}
+use Rattle.typing_rules.specs.Typed.{TypedUnit}
+use Rattle.emission_rules.specs.Units.{unit_file}
+use Rattle.world_rules.specs.Pure.{CellLookup}
+use Rattle.world_rules.specs.Plays.{Done, StoppedInside}
+use Rattle.command_work.specs.declared.status.Status.{Status}
+use Rattle.command_work.specs.Refusal.{Refusal}
+use Rattle.command_work.specs.Work.{Finished}
+use Rattle.command_compile.specs.Files.{code_name, compiled_line}
 use Rattle.command_meaning.specs.Runs.{setting_of, source_played, code_played, sure_steps, TellsMeaning, TellsBeginning}
 use Rattle.nwq_top.specs.Accepting.{HasHeader, Compiles, with_file}
 use Rattle.nwq_top.specs.Refusing.{RefusesHeader, RefusesSource, IsRefused}

@@ -2,14 +2,14 @@
 use Rattle.std.specs.Prelude.{◌≡◌, ◌≢◌, ◌≤◌, ℕ, ◌*◌, List, map, Result}
 use Rattle.nwq_value.specs.Engine.{EngineTable, IsTable}
 use Rattle.nwq_outside.specs.Outside.{Contents}
-use Rattle.area_objects.specs.Area.{PlainArea}
+use Rattle.area_rules.specs.Area.{PlainArea}
 use Rattle.plan_text.specs.declared.plan.Plan.{Plan}
 use Rattle.saved_state.specs.declared.saved.Saved.{Saved}
-use Rattle.engine_rows.specs.Pure.{CellLookup}
-use Rattle.engine_rows.specs.Trace.{trace_text}
-use Rattle.engine_rows.specs.Turns.{new_world}
-use Rattle.engine_rows.specs.World.{World}
-use Rattle.engine_rows.specs.Plays.{StoppedInside, Played}
+use Rattle.world_rules.specs.Pure.{CellLookup}
+use Rattle.world_rules.specs.Trace.{trace_text}
+use Rattle.world_rules.specs.Turns.{new_world}
+use Rattle.world_rules.specs.World.{World}
+use Rattle.world_rules.specs.Plays.{StoppedInside, Played}
 use Rattle.module_player.specs.CodePlays.{code_runner, code_end_text}
 use Rattle.source_meaning.specs.Evaluation.{Deferred}
 use Rattle.source_meaning.specs.Scripts.{Listed, Setting}
@@ -19,12 +19,12 @@ use Rattle.source_meaning.specs.Carries.{Carries}
 use Rattle.source_meaning.specs.Executing.{script_of}
 use Rattle.play_meaning.specs.Together.{Begins, PlaysAlike, StoppedAt}
 use Rattle.play_meaning.specs.EndTexts.{source_end_text}
-use Rattle.nwq_work.specs.declared.status.Status.{Status}
-use Rattle.nwq_work.specs.declared.status.Status.TheVariants.{Limit}
-use Rattle.nwq_work.specs.Work.{Work, Ends, Puts, Does, Finished}
-use Rattle.plan_plays.specs.Plays.{host_of, played}
-use Rattle.plan_worlds.specs.Worlds.{begun_by, plan_world}
-use Rattle.nwq_games.specs.Games.{ends_by, plays_plan}
+use Rattle.command_work.specs.declared.status.Status.{Status}
+use Rattle.command_work.specs.declared.status.Status.TheVariants.{Limit}
+use Rattle.command_work.specs.Work.{Work, Ends, Puts, Does, Finished}
+use Rattle.command_plays.specs.Plays.{host_of, played}
+use Rattle.play_worlds.specs.Worlds.{begun_by, plan_world}
+use Rattle.command_play.specs.Games.{ends_by, plays_plan}
 use Rattle.command_meaning.specs.ListedPlays.{AreUnitsOf}
 
 -- ---- the play of listed sources

@@ -4,20 +4,20 @@ use Rattle.std.specs.Prelude.{◌≡◌, ◌≤◌, ℕ, List, Result}
 use Rattle.std.specs.FinMap as fin_map
 use Rattle.nwq_value.specs.Engine.{EngineTable}
 use Rattle.nwq_outside.specs.Outside.{Contents}
-use Rattle.nss_typing.specs.declared.fault.Fault.{Fault}
-use Rattle.nss_typing.specs.Nodes.{IsLeast}
-use Rattle.nss_typing.specs.Meaning.{FaultInUnit}
-use Rattle.engine_rows.specs.Pure.{CellLookup}
+use Rattle.typing_rules.specs.declared.fault.Fault.{Fault}
+use Rattle.typing_rules.specs.Nodes.{IsLeast}
+use Rattle.typing_rules.specs.Meaning.{FaultInUnit}
+use Rattle.world_rules.specs.Pure.{CellLookup}
 use Rattle.play_generator.specs.Made.{number_limit}
-use Rattle.nwq_work.specs.declared.status.Status.{Status}
-use Rattle.nwq_work.specs.Work.{then, IsCut, Does, Finished}
-use Rattle.nwq_work.specs.Reading.{AreBytes}
-use Rattle.nwq_sources.specs.Headers.{table_of}
-use Rattle.nwq_sources.specs.Units.{PlainScript, Whole, IsUnitFate}
-use Rattle.nwq_scripts.specs.Files.{code_name, compiled_named, compiles}
-use Rattle.plan_plays.specs.Scripts.{plays_file}
-use Rattle.nwq_games.specs.Games.{plays}
-use Rattle.nwq_generated.specs.Generated.{generates}
+use Rattle.command_work.specs.declared.status.Status.{Status}
+use Rattle.command_work.specs.Work.{then, IsCut, Does, Finished}
+use Rattle.command_work.specs.Reading.{AreBytes}
+use Rattle.command_sources.specs.Headers.{table_of}
+use Rattle.command_sources.specs.Units.{PlainScript, Whole, IsUnitFate}
+use Rattle.command_compile.specs.Files.{code_name, compiled_named, compiles}
+use Rattle.command_plays.specs.Scripts.{plays_file}
+use Rattle.command_play.specs.Games.{plays}
+use Rattle.command_generate.specs.Generated.{generates}
 use Rattle.nwq_top.specs.Runs.{MeansRun, MeansCompile}
 use Rattle.nwq_top.specs.Plays.{MeansPlay}
 use Rattle.nwq_top.specs.Generated.{MeansGenerate}

@@ -1,21 +1,20 @@
 ghost use Rattle.std.specs.Prelude.{◌≡◌, map, string_bytes, IsTrue};
 ghost use Rattle.world_core.specs.Calls.{cells_of, AreServing};
-ghost use Rattle.nwq_work.specs.Work.{Does, ending};
-ghost use Rattle.nwq_work.specs.Counts.{Counted, Tallies, KeepsBut};
+ghost use Rattle.command_work.specs.Work.{Does, ending};
+ghost use Rattle.command_work.specs.Counts.{Counted, Tallies, KeepsBut};
 ghost use Rattle.command_words.specs.Words.{form_of};
 ghost use Rattle.nwq_top.specs.Command.{work_of, MayWrite};
 ghost use Rattle.nwq_top.specs.Endings.{ComesOf, ComesOfResult};
 
+use command_compile::compile_file;
+use command_files::{assemble_file, check_file, disassemble_file, show_tree};
+use command_generate::generate;
+use command_play::play_files;
+use command_run::run;
 use command_words::{Command, command_of};
+use command_work::{Status, refuse_form};
 use hook_table::Hooks;
-use nwq_checks::check_file;
-use nwq_files::{assemble_file, disassemble_file, show_tree};
-use nwq_games::play_files;
-use nwq_generated::generate;
 use nwq_outside::{Files, Sink};
-use nwq_runs::run;
-use nwq_scripts::compile_file;
-use nwq_work::{Status, refuse_form};
 use std::alloc::Global;
 
 /// Does the command that the words are.

@@ -4,13 +4,12 @@ ghost use Rattle.nwq_top.specs.Laws.{OneOutcome, Prefixes, OneWhole, WholePrefix
 ghost use Rattle.nwq_top.specs.Meaning.{WorkMeans, WholeMeans};
 
 use crate::word_laws::{compiles_mean, generates_mean, plays_mean, runs_mean};
-use nwq_checks::laws::one_check;
-use nwq_files::laws::one_file;
-use nwq_games::laws::one_game;
-use nwq_generated::laws::one_generated;
-use nwq_runs::laws::one_run;
-use nwq_scripts::laws::one_script;
-use nwq_tables::laws::one_set_of_tables;
+use command_compile::laws::one_script;
+use command_files::laws::{one_check, one_file};
+use command_generate::laws::one_generated;
+use command_play::laws::one_game;
+use command_run::laws::one_run;
+use command_tables::laws::one_set_of_tables;
 
 /// A command that isn't cut has one outcome, and one that is cut has put a prefix of what it puts
 /// whole. So is the whole program, which reads tables first.

@@ -1,10 +1,10 @@
 //! The top call: what the words of a command do with files and a sink, in order, and how it ends.
 //!
 //! [`nwq_main`] does the work of the words; [`program_tables`] and [`nwq_program`] are what
-//! `run_all` of `nwq` calls. What a command does is a [`Work`](../../nwq_work/specs/Work.antt), a
+//! `run_all` of `nwq` calls. What a command does is a [`Work`](../../command_work/specs/Work.antt), a
 //! function of the form of its words (`specs/Command.antt`), and the clause `does` says that the
-//! call did it. The parts of that work that read sources are `nwq_sources`', and its commands over
-//! other files `nwq_files`'.
+//! call did it. The parts of that work that read sources are `command_sources`', and its commands over
+//! other files `command_files`'.
 //!
 //! The clause `means` says what the work is in the words of the subject: headers, scripts, plans,
 //! areas. `specs/Accepting.antt` and `specs/Refusing.antt` say what a command accepts, and why it
@@ -31,9 +31,9 @@ pub mod word_laws;
 
 ghost use Rattle.std.specs.Prelude.{map, string_bytes, IsTrue};
 ghost use Rattle.world_core.specs.Calls.{cells_of, AreServing};
-ghost use Rattle.nwq_work.specs.Work.{IsCut, Does, ending};
-ghost use Rattle.nwq_work.specs.Counts.{Counted, Tallies, KeepsBut};
-ghost use Rattle.nwq_work.specs.Reading.{AreBytes};
+ghost use Rattle.command_work.specs.Work.{IsCut, Does, ending};
+ghost use Rattle.command_work.specs.Counts.{Counted, Tallies, KeepsBut};
+ghost use Rattle.command_work.specs.Reading.{AreBytes};
 ghost use Rattle.command_words.specs.Words.{form_of};
 ghost use Rattle.nwq_top.specs.Command.{work_of, MayWrite};
 ghost use Rattle.nwq_top.specs.Endings.{ComesOf};
@@ -41,9 +41,9 @@ ghost use Rattle.nwq_top.specs.Meaning.{Means};
 
 use crate::command::status_of_words;
 use crate::laws::work_means;
+pub use command_work::Status;
 use hook_table::Hooks;
 use nwq_outside::{Files, Sink};
-pub use nwq_work::Status;
 pub use program::{nwq_program, program_tables};
 use std::alloc::Global;
 pub use tables::nwq_tables;

@@ -1,20 +1,20 @@
 ghost use Rattle.std.specs.Prelude.{◌≡◌, [], drop, map, None, Ok, IsTrue, IfErr};
 ghost use Rattle.world_core.specs.Calls.{cells_of, AreServing};
-ghost use Rattle.nwq_work.specs.Work.{IsCut, Does, ending};
-ghost use Rattle.nwq_work.specs.Counts.{Counted, Tallies, KeepsBut, StopsArea};
-ghost use Rattle.nwq_tables.specs.Tables.{tables_given};
+ghost use Rattle.command_work.specs.Work.{IsCut, Does, ending};
+ghost use Rattle.command_work.specs.Counts.{Counted, Tallies, KeepsBut, StopsArea};
+ghost use Rattle.command_tables.specs.Tables.{tables_given};
 ghost use Rattle.command_words.specs.Words.{form_of, list_of};
 ghost use Rattle.nwq_top.specs.Command.{work_of, MayWrite};
-ghost use Rattle.nwq_work.specs.Reading.{AreBytes};
+ghost use Rattle.command_work.specs.Reading.{AreBytes};
 ghost use Rattle.nwq_top.specs.Endings.{ComesOf};
 ghost use Rattle.nwq_top.specs.Meaning.{Means};
 ghost use Rattle.nwq_top.specs.Program.{status_number, status_numbered, words_of, usage_line};
 ghost use Rattle.nwq_top.specs.Program.{by_status, TellsUsage};
 
 use crate::{nwq_main, nwq_tables};
+use command_work::Status;
 use hook_table::Hooks;
 use nwq_outside::{Files, Sink};
-use nwq_work::Status;
 use std::alloc::Global;
 use table_2da::Tables;
 

@@ -1,13 +1,13 @@
 ghost use Rattle.std.specs.Prelude.{◌≡◌, [], map, string_bytes, None, Ok, IsTrue, IfErr};
-ghost use Rattle.nwq_work.specs.Work.{Does};
-ghost use Rattle.nwq_work.specs.Counts.{Counted, Tallies, StopsArea};
-ghost use Rattle.nwq_tables.specs.Tables.{tables_given};
+ghost use Rattle.command_work.specs.Work.{Does};
+ghost use Rattle.command_work.specs.Counts.{Counted, Tallies, StopsArea};
+ghost use Rattle.command_tables.specs.Tables.{tables_given};
 ghost use Rattle.command_words.specs.Words.{form_of, list_of};
 
+use command_tables::read_tables;
 use command_words::list_in;
+use command_work::Status;
 use nwq_outside::{Files, Sink};
-use nwq_tables::read_tables;
-use nwq_work::Status;
 use std::alloc::Global;
 use table_2da::Tables;
 

@@ -6,19 +6,18 @@ ghost use Rattle.nwq_top.specs.ListedUnits.{PlansListUnits};
 ghost use Rattle.nwq_top.specs.SourcePlans.{FewStepsPlayAsMeant, StoppedPlansBeginAsMeant};
 ghost use Rattle.nwq_top.specs.SourcePlans.{UnstoppedPlansPlayAsMeant};
 
+use command_compile::laws::one_script;
+use command_files::laws::one_check;
 use command_meaning::{
     ends_are_answered, listed_units_play_alike, runs_end_as_meant, scripts_play_units, units_pass,
 };
+use command_play::laws::one_game;
+use command_plays::laws::one_code;
+use command_sources::laws::one_source;
 use engine_table::headers_have_tables;
-use nwq_areas::laws::one_area;
-use nwq_checks::laws::one_check;
-use nwq_games::laws::one_game;
-use nwq_listings::laws::one_listing;
-use nwq_scripts::laws::one_script;
-use nwq_sources::laws::one_source;
-use parsed_faults::laws::one_least_fault;
-use plan_plays::laws::one_code;
+use play_inputs::laws::{one_area, one_listing};
 use source_meaning::entries_stay_alike;
+use typing_laws::laws::one_least_fault;
 
 /// What is listed of a plan of sources is the code of their units.
 pub fn plans_list_units()

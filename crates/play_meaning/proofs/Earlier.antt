@@ -1,9 +1,9 @@
 -- A run that is stopped has told a beginning of what a longer one tells; one that isn't is the longer one.
 use Rattle.std.proofs.Common.{arith, ◌≡◌, ℕ, zero, suc, ◌+◌, Option, None, Some, refl, subst, ap}
-use Rattle.engine_rows.specs.World.{World}
+use Rattle.world_rules.specs.World.{World}
 use Rattle.saved_state.specs.declared.saved.Saved.{Saved}
-use Rattle.machine_step.specs.Machine.{Next, Goes, Ends, Divided, step}
-use Rattle.machine_step.specs.Runs.{Ran, OutOfInstructions, counted, after_step, run}
+use Rattle.machine_rules.specs.Machine.{Next, Goes, Ends, Divided, step}
+use Rattle.machine_rules.specs.Runs.{Ran, OutOfInstructions, counted, after_step, run}
 use Rattle.source_meaning.specs.Scripts.{Setting}
 use Rattle.source_meaning.specs.Ledger.{Machine, MachineHost}
 use Rattle.source_meaning.specs.Executing.{IsHostOf}

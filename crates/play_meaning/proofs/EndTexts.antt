@@ -11,13 +11,13 @@ use Rattle.delay_agenda.specs.declared.entry.Kind.TheVariants.{Event, Stored, Tu
 use Rattle.nwq_text.specs.Escape.{escaped}
 use Rattle.nwq_text.specs.Values.{object_text}
 use Rattle.saved_state.specs.declared.saved.Saved.{Saved}
-use Rattle.engine_rows.specs.declared.data.Things.{Things}
-use Rattle.engine_rows.specs.World.{World}
-use Rattle.engine_rows.specs.Mapped.{map_kind, map_entry, map_item, map_things, map_world}
-use Rattle.engine_rows.specs.Alike.{Related, left_of, right_of, Alike}
-use Rattle.machine_step.specs.Machine.{Script}
-use Rattle.engine_rows.specs.Plays.{PlayEnd}
-use Rattle.engine_rows.specs.EndText.{by_object, standing_lines, item_text, item_line, queue_lines, kind_text, due_line, end_line, world_text, end_text}
+use Rattle.world_rules.specs.declared.data.Things.{Things}
+use Rattle.world_rules.specs.World.{World}
+use Rattle.world_rules.specs.Mapped.{map_kind, map_entry, map_item, map_things, map_world}
+use Rattle.world_rules.specs.Alike.{Related, left_of, right_of, Alike}
+use Rattle.machine_rules.specs.Machine.{Script}
+use Rattle.world_rules.specs.Plays.{PlayEnd}
+use Rattle.world_rules.specs.EndText.{by_object, standing_lines, item_text, item_line, queue_lines, kind_text, due_line, end_line, world_text, end_text}
 use Rattle.module_player.specs.CodePlays.{name_in, script_name}
 use Rattle.source_meaning.specs.Evaluation.{Deferred}
 use Rattle.source_meaning.specs.Scripts.{Listed, Setting}

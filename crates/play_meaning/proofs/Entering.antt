@@ -2,11 +2,11 @@
 use Rattle.std.proofs.Common.{arith, ◌≡◌, ◌≤◌, ◌*◌, ℕ, true, List, [], ◌∷◌, Option, None, Some, refl, sym, subst, ◌∙◌}
 use Rattle.delay_agenda.specs.declared.entry.Kind.{Kind}
 use Rattle.delay_agenda.specs.declared.entry.Kind.TheVariants.{Event, Stored, Turn, Unapply}
-use Rattle.engine_rows.specs.World.{World}
-use Rattle.engine_rows.specs.Engine.{no_script}
-use Rattle.engine_rows.specs.Turns.{Begun, turn, turn_done, unapply, fault}
-use Rattle.engine_rows.specs.Alike.{Alike, OptionAlike, KindAlike, EntryAlike}
-use Rattle.engine_rows.specs.Plays.{Ending, Over, Divided, Stopped, Run, Runner, Entered, quiet, finished_as, finished, named_entry, event_entry, turn_entry, entered_as, entered}
+use Rattle.world_rules.specs.World.{World}
+use Rattle.world_rules.specs.Engine.{no_script}
+use Rattle.world_rules.specs.Turns.{Begun, turn, turn_done, unapply, fault}
+use Rattle.world_rules.specs.Alike.{Alike, OptionAlike, KindAlike, EntryAlike}
+use Rattle.world_rules.specs.Plays.{Ending, Over, Divided, Stopped, Run, Runner, Entered, quiet, finished_as, finished, named_entry, event_entry, turn_entry, entered_as, entered}
 use Rattle.source_meaning.specs.StayAlike.{EntriesStayAlike}
 use Rattle.source_meaning.specs.Ledger.{step_cost}
 use Rattle.play_meaning.specs.Together.{Begins, RunsAlike, RunEnds, RunStops, RunnersAre}

@@ -14,18 +14,18 @@ use Rattle.nwq_value.specs.declared.value.Effect.{Effect}
 use Rattle.nwq_value.specs.declared.value.Value.{Value}
 use Rattle.ncs_code.specs.Plain.{PlainOp}
 use Rattle.saved_state.specs.declared.saved.Saved.{Saved}
-use Rattle.engine_rows.specs.declared.data.Line.{Line}
-use Rattle.engine_rows.specs.Arguments.{int_at, object_at, effect_at, event_at}
-use Rattle.engine_rows.specs.Pure.{CellLookup}
-use Rattle.engine_rows.specs.World.{World, is_valid, queue_of, effects_of}
-use Rattle.engine_rows.specs.Changes.{has_turn, is_effect, with_actions}
-use Rattle.engine_rows.specs.Rows.{Call, Row, rows, drawn_from, drawn, assigned, delayed, awake, appended, appended_do, at_rest, cleared, changed_variables, applied, applied_to, removed, signalled}
-use Rattle.engine_rows.specs.Engine.{row_numbered, by_row, by_role, by_routine, engine}
-use Rattle.engine_rows.specs.AlikeLaws.{call}
-use Rattle.engine_rows.specs.Turns.{next_turn, turn_done}
-use Rattle.machine_step.specs.Frames.{Frame}
-use Rattle.machine_step.specs.Act.{Act, Moves, Asks, Executes, Returns, Divides, act}
-use Rattle.machine_step.specs.Machine.{Next, Goes, Ends, Divided, depth_limit, begun, executed, over, followed, next_op, script_named, step}
+use Rattle.world_rules.specs.declared.data.Line.{Line}
+use Rattle.world_rules.specs.Arguments.{int_at, object_at, effect_at, event_at}
+use Rattle.world_rules.specs.Pure.{CellLookup}
+use Rattle.world_rules.specs.World.{World, is_valid, queue_of, effects_of}
+use Rattle.world_rules.specs.Changes.{has_turn, is_effect, with_actions}
+use Rattle.world_rules.specs.Rows.{Call, Row, rows, drawn_from, drawn, assigned, delayed, awake, appended, appended_do, at_rest, cleared, changed_variables, applied, applied_to, removed, signalled}
+use Rattle.world_rules.specs.Engine.{row_numbered, by_row, by_role, by_routine, engine}
+use Rattle.world_rules.specs.AlikeLaws.{call}
+use Rattle.world_rules.specs.Turns.{next_turn, turn_done}
+use Rattle.machine_rules.specs.Frames.{Frame}
+use Rattle.machine_rules.specs.Act.{Act, Moves, Asks, Executes, Returns, Divides, act}
+use Rattle.machine_rules.specs.Machine.{Next, Goes, Ends, Divided, depth_limit, begun, executed, over, followed, next_op, script_named, step}
 use Rattle.source_meaning.specs.Scripts.{Setting}
 use Rattle.source_meaning.specs.Ledger.{Machine, MachineHost}
 use Rattle.source_meaning.specs.Executing.{IsHostOf}

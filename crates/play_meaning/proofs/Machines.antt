@@ -1,7 +1,7 @@
 -- The player's machine is the machine of a setting.
 use Rattle.std.proofs.Common.{refl, ap, sym}
-use Rattle.engine_rows.specs.Engine.{engine}
-use Rattle.engine_rows.specs.AlikeLaws.{call}
+use Rattle.world_rules.specs.Engine.{engine}
+use Rattle.world_rules.specs.AlikeLaws.{call}
 use Rattle.ncs_machine.specs.Host.{host}
 use Rattle.play_meaning.specs.Machines.{PlayersAreHosts}
 

@@ -1,10 +1,10 @@
 -- Two plays go together, entry by entry.
 use Rattle.std.proofs.Common.{arith, ◌≡◌, ◌≤◌, ◌+◌, ◌*◌, ℕ, zero, suc, Bool, true, false, ◌++◌, Option, None, Some, refl, subst, ap, ap₂}
 use Rattle.std.specs.Prelude.{◌==◌, if◌then◌else◌}
-use Rattle.engine_rows.specs.World.{World}
-use Rattle.engine_rows.specs.Turns.{Begun, begin}
-use Rattle.engine_rows.specs.Alike.{Alike, BegunAlike}
-use Rattle.engine_rows.specs.Plays.{Runner, Entered, Bounds, Progress, PlayEnd, Done, StoppedInside, Paused, Played, entered, further, full, after_entry, next_entry, plays, unplayed, play}
+use Rattle.world_rules.specs.World.{World}
+use Rattle.world_rules.specs.Turns.{Begun, begin}
+use Rattle.world_rules.specs.Alike.{Alike, BegunAlike}
+use Rattle.world_rules.specs.Plays.{Runner, Entered, Bounds, Progress, PlayEnd, Done, StoppedInside, Paused, Played, entered, further, full, after_entry, next_entry, plays, unplayed, play}
 use Rattle.source_meaning.specs.StayAlike.{EntriesStayAlike}
 use Rattle.source_meaning.specs.Ledger.{step_cost}
 use Rattle.play_meaning.specs.Together.{Begins, RunEnds, RunStops, RunnersAre, PlaysAlike, PlayEnds, PlayStops}

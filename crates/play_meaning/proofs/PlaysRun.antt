@@ -1,7 +1,7 @@
 -- Plays of code and of source texts go together.
 use Rattle.std.proofs.Common.{◌≤◌, ◌*◌, ℕ}
-use Rattle.machine_step.specs.Frames.{started, continued}
-use Rattle.machine_step.specs.Runs.{entry}
+use Rattle.machine_rules.specs.Frames.{started, continued}
+use Rattle.machine_rules.specs.Runs.{entry}
 use Rattle.module_player.specs.CodePlays.{code_runner}
 use Rattle.source_meaning.specs.Scripts.{Setting, run_script, run_deferred}
 use Rattle.source_meaning.specs.Plays.{runner}

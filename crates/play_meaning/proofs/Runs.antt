@@ -2,12 +2,12 @@
 use Rattle.std.proofs.Common.{arith, ◌≡◌, ◌≤◌, ◌+◌, ◌-◌, ◌*◌, ℕ, List, refl, sym, subst, ap, ◌∙◌}
 use Rattle.nwq_value.specs.declared.value.Value.{Value}
 use Rattle.saved_state.specs.declared.saved.Saved.{Saved}
-use Rattle.engine_rows.specs.World.{World}
-use Rattle.engine_rows.specs.Alike.{Alike}
-use Rattle.machine_step.specs.Runs.{Ran, Over, ZeroDivisor, OutOfInstructions, StackFault, run}
-use Rattle.machine_step.specs.Runs as runs
-use Rattle.engine_rows.specs.Plays.{Stopped, Run}
-use Rattle.engine_rows.specs.Plays as plays
+use Rattle.world_rules.specs.World.{World}
+use Rattle.world_rules.specs.Alike.{Alike}
+use Rattle.machine_rules.specs.Runs.{Ran, Over, ZeroDivisor, OutOfInstructions, StackFault, run}
+use Rattle.machine_rules.specs.Runs as runs
+use Rattle.world_rules.specs.Plays.{Stopped, Run}
+use Rattle.world_rules.specs.Plays as plays
 use Rattle.module_player.specs.CodePlays.{ending_of}
 use Rattle.module_player.specs.CodePlays as code
 use Rattle.source_meaning.specs.Evaluation.{Deferred, Progress, Outcome, Gives, Divides, OutOfSteps}

@@ -1,5 +1,5 @@
 -- Scripts of typed units are as the laws on plays ask.
-use Rattle.typed_units.specs.Laws.{UnitsAreReady}
+use Rattle.typed_laws.specs.Laws.{UnitsAreReady}
 use Rattle.play_meaning.specs.TypedScripts.{TypedScriptsAreReady}
 
 pub typed_scripts_are_ready : UnitsAreReady → TypedScriptsAreReady

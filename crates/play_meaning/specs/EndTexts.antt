@@ -1,8 +1,8 @@
 -- The text at the end of a play of source texts.
 use Rattle.std.specs.Prelude.{◌≡◌, ℕ, List, [], Option, None, Some, slice_get}
 use Rattle.saved_state.specs.declared.saved.Saved.{Saved}
-use Rattle.engine_rows.specs.Plays.{Played}
-use Rattle.engine_rows.specs.EndText.{end_text}
+use Rattle.world_rules.specs.Plays.{Played}
+use Rattle.world_rules.specs.EndText.{end_text}
 use Rattle.module_player.specs.CodePlays.{code_end_text}
 use Rattle.source_meaning.specs.Evaluation.{Deferred}
 use Rattle.source_meaning.specs.Scripts.{Listed, Setting}

@@ -2,8 +2,8 @@
 -- answers have the routines' types, and where the texts' units are fine.
 use Rattle.std.specs.Prelude.{◌≤◌, ℕ, ◌*◌}
 use Rattle.saved_state.specs.declared.saved.Saved.{Saved}
-use Rattle.engine_rows.specs.World.{World}
-use Rattle.engine_rows.specs.Alike.{Alike}
+use Rattle.world_rules.specs.World.{World}
+use Rattle.world_rules.specs.Alike.{Alike}
 use Rattle.module_player.specs.CodePlays.{code_runner, code_play}
 use Rattle.source_meaning.specs.Evaluation.{Deferred}
 use Rattle.source_meaning.specs.Scripts.{Setting}

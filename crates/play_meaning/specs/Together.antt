@@ -1,10 +1,10 @@
 -- Two plays that go together: in the one code is run, and in the other source is evaluated. What is said here is said of any two ways to run
 -- the scripts of an entry, and of any relation between stored actions.
 use Rattle.std.specs.Prelude.{◌≡◌, ◌≤◌, ℕ, ◌*◌, List, ◌++◌, Some}
-use Rattle.engine_rows.specs.World.{World}
-use Rattle.engine_rows.specs.Turns.{Begun, begin}
-use Rattle.engine_rows.specs.Alike.{Alike}
-use Rattle.engine_rows.specs.Plays.{Stopped, Run, Runner, Progress, StoppedInside, Played, entered, further}
+use Rattle.world_rules.specs.World.{World}
+use Rattle.world_rules.specs.Turns.{Begun, begin}
+use Rattle.world_rules.specs.Alike.{Alike}
+use Rattle.world_rules.specs.Plays.{Stopped, Run, Runner, Progress, StoppedInside, Played, entered, further}
 use Rattle.source_meaning.specs.Ledger.{step_cost}
 
 -- the one list is a beginning of the other, or all of it

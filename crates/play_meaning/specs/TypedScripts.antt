@@ -4,8 +4,8 @@ use Rattle.nss_tree.specs.Source.{SourceTree}
 use Rattle.nss_symbols.specs.Symbols.{Symbol}
 use Rattle.nss_parser.specs.Sentence.{Parses}
 use Rattle.nwq_value.specs.Engine.{EngineTable, IsTable}
-use Rattle.nss_typing.specs.Typed.{TypedUnit}
-use Rattle.nss_typing.specs.Meaning.{TypesUnit}
+use Rattle.typing_rules.specs.Typed.{TypedUnit}
+use Rattle.typing_rules.specs.Meaning.{TypesUnit}
 use Rattle.source_meaning.specs.Scripts.{Listed, Setting}
 use Rattle.source_meaning.specs.Listed.{AreReady}
 

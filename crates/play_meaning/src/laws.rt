@@ -5,7 +5,7 @@ ghost use Rattle.play_meaning.specs.PlaysRun.{CodePlaysEnd, SourcePlaysEnd};
 ghost use Rattle.play_meaning.specs.TypedScripts.{TypedScriptsAreReady};
 
 use source_meaning::{entries_do, entries_stay_alike, listed_scripts_do};
-use typed_units::units_are_ready;
+use typed_laws::units_are_ready;
 
 /// Where each entry of the play of source texts ends in so many steps, the play of their code ends
 /// as it does, if its entries may take 16 instructions for each of these steps: after as many

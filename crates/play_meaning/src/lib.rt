@@ -2,7 +2,7 @@
 //!
 //! There is no code here that runs. `source_meaning` says what an entry means and what the machine
 //! does from its first instruction to its last; this crate carries that over whole plays. A play is
-//! told once, in `engine_rows`, for any way to run an entry's scripts: `specs/Together.antt` says
+//! told once, in `world_rules`, for any way to run an entry's scripts: `specs/Together.antt` says
 //! when two such plays go together, and `specs/PlaysRun.antt` that those of code and of source do.
 //! `specs/EndTexts.antt` has the text at such a play's end, and `specs/Machines.antt` says of which
 //! setting the player's machine is, and `specs/TypedScripts.antt` that scripts of typed units are

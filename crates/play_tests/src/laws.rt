@@ -1,5 +1,5 @@
 //! The laws that speak of worlds of any kind, called at one.
-use machine_step::{few_scripts_wait, limits_count_instructions};
+use machine_rules::{few_scripts_wait, limits_count_instructions};
 use std::test::*;
 
 #[test]

@@ -12,22 +12,22 @@ use Rattle.ncs_code.specs.Plain as ops
 use Rattle.ncs_emit.specs.declared.jump.Jump.TheVariants.{Jsr}
 use Rattle.ncs_emit.specs.Labelled.{Instruction, JumpTo, place_of, program}
 use Rattle.ncs_emit.specs.Standing.{LinesStand}
-use Rattle.nss_typing.specs.declared.places.EntryPoint.{EntryPoint}
-use Rattle.nss_typing.specs.declared.places.EntryPoint.TheVariants.{Main, Conditional}
-use Rattle.nss_typing.specs.Numbers.{number_of}
-use Rattle.nss_typing.specs.Typed.{TypedItem, TypedName, TypedUnit}
+use Rattle.typing_rules.specs.declared.places.EntryPoint.{EntryPoint}
+use Rattle.typing_rules.specs.declared.places.EntryPoint.TheVariants.{Main, Conditional}
+use Rattle.typing_rules.specs.Numbers.{number_of}
+use Rattle.typing_rules.specs.Typed.{TypedItem, TypedName, TypedUnit}
 use Rattle.saved_state.specs.declared.cell.Cell.{Cell}
 use Rattle.saved_state.specs.declared.cell.Cell.TheVariants.{Value as Holds}
 use Rattle.saved_state.specs.declared.saved.Saved.{Saved}
-use Rattle.code_emission.specs.Laws.{CodeStands}
-use Rattle.code_emission.specs.Layout.{Structs, cell_types, global_cells, layout_of}
-use Rattle.code_emission.specs.Operations.{beneath, cell_kind}
-use Rattle.code_emission.specs.Units.{body_count, start_labels, has_globals, emit_start, emit_functions, unit_code}
-use Rattle.engine_rows.specs.World.{World}
-use Rattle.engine_rows.specs.Alike.{Alike}
-use Rattle.machine_step.specs.Frames.{Frame}
-use Rattle.machine_step.specs.Cells.{value_types}
-use Rattle.machine_step.specs.Laws.{EqualityIsTested}
+use Rattle.emission_rules.specs.Laws.{CodeStands}
+use Rattle.emission_rules.specs.Layout.{Structs, cell_types, global_cells, layout_of}
+use Rattle.emission_rules.specs.Operations.{beneath, cell_kind}
+use Rattle.emission_rules.specs.Units.{body_count, start_labels, has_globals, emit_start, emit_functions, unit_code}
+use Rattle.world_rules.specs.World.{World}
+use Rattle.world_rules.specs.Alike.{Alike}
+use Rattle.machine_rules.specs.Frames.{Frame}
+use Rattle.machine_rules.specs.Cells.{value_types}
+use Rattle.machine_rules.specs.Laws.{EqualityIsTested}
 use Rattle.source_meaning.specs.Values.{start_part, start_parts}
 use Rattle.source_meaning.specs.Evaluation.{Deferred, Progress, Outcome, Gives, bind, spend}
 use Rattle.source_meaning.specs.Expressions.{Running, made}

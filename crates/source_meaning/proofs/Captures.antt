@@ -6,12 +6,12 @@ use Rattle.ncs_code.specs.Plain as ops
 use Rattle.ncs_code.specs.File.{resume_place}
 use Rattle.ncs_emit.specs.Labelled.{Instruction}
 use Rattle.ncs_emit.specs.Standing.{LinesStand}
-use Rattle.nss_typing.specs.declared.places.Place.TheVariants.{Local, Global, Const as IsConst}
-use Rattle.nss_typing.specs.Typed.{TypedExpr, TypedExprs, TypedUnit, literal, name, call, member, prefix, postfix, binary, assign, no_typed, more_typed}
+use Rattle.typing_rules.specs.declared.places.Place.TheVariants.{Local, Global, Const as IsConst}
+use Rattle.typing_rules.specs.Typed.{TypedExpr, TypedExprs, TypedUnit, literal, name, call, member, prefix, postfix, binary, assign, no_typed, more_typed}
 use Rattle.saved_state.specs.declared.cell.Cell.{Cell}
 use Rattle.saved_state.specs.Cells.{cells_beneath}
-use Rattle.code_emission.specs.Expressions.{emit}
-use Rattle.machine_step.specs.Frames.{Frame}
+use Rattle.emission_rules.specs.Expressions.{emit}
+use Rattle.machine_rules.specs.Frames.{Frame}
 use Rattle.source_meaning.specs.Evaluation.{Variables}
 use Rattle.source_meaning.specs.Scripts.{Function, functions}
 use Rattle.source_meaning.specs.Kept.{AreHeld, Vars}

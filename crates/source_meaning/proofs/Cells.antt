@@ -12,8 +12,8 @@ use Rattle.nwq_value.specs.Roles.{ty_eq, tys_eq}
 use Rattle.saved_state.specs.declared.cell.Cell.{Cell}
 use Rattle.saved_state.specs.declared.cell.Cell.TheVariants.{Value as Holds, Base}
 use Rattle.stack_shape.specs.Ranges.{cell_count, depth_of, range_of, range_at}
-use Rattle.code_emission.specs.Operations.{beneath, bytes_of}
-use Rattle.machine_step.specs.Cells.{values_on, values_at, value_types, with_values, overwritten, range_pushed, range_written}
+use Rattle.emission_rules.specs.Operations.{beneath, bytes_of}
+use Rattle.machine_rules.specs.Cells.{values_on, values_at, value_types, with_values, overwritten, range_pushed, range_written}
 use Rattle.source_meaning.specs.Values.{parts_of}
 use Rattle.source_meaning.specs.Kept.{pushed, Stands, AreHeld}
 

@@ -1,12 +1,12 @@
 -- The engine leaves worlds alike, whatever relation says which stored actions belong together.
 use Rattle.std.proofs.Common.{◌≡◌, Option, None, Some, sym, subst, refl, ap, ap₂, ◌∙◌}
 use Rattle.std.specs.Option.{option_map}
-use Rattle.engine_rows.specs.Rows.{Answered}
-use Rattle.engine_rows.specs.Engine.{engine}
-use Rattle.engine_rows.specs.Mapped.{map_answered}
-use Rattle.engine_rows.specs.Alike.{Related, left_of, right_of, Alike, OptionAlike, AnsweredAlike}
-use Rattle.engine_rows.specs.AlikeLaws.{call, EngineKeepsAlike}
-use Rattle.machine_step.specs.Cells.{value_types}
+use Rattle.world_rules.specs.Rows.{Answered}
+use Rattle.world_rules.specs.Engine.{engine}
+use Rattle.world_rules.specs.Mapped.{map_answered}
+use Rattle.world_rules.specs.Alike.{Related, left_of, right_of, Alike, OptionAlike, AnsweredAlike}
+use Rattle.world_rules.specs.AlikeLaws.{call, EngineKeepsAlike}
+use Rattle.machine_rules.specs.Cells.{value_types}
 use Rattle.source_meaning.specs.Expressions.{parts_in}
 use Rattle.source_meaning.specs.Carries.{Carries}
 use Rattle.source_meaning.specs.EngineHost.{EngineIsRun}

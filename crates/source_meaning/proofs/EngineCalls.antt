@@ -20,28 +20,28 @@ use Rattle.ncs_code.specs.Spelling.{op_size}
 use Rattle.ncs_code.specs.File.{op_at, resume_place}
 use Rattle.ncs_emit.specs.Labelled.{Line, Instruction, Label, line_size, lines_size}
 use Rattle.ncs_emit.specs.Standing.{LinesStand}
-use Rattle.nss_typing.specs.declared.places.Callee.TheVariants.{Engine}
-use Rattle.nss_typing.specs.Types.{is_void}
-use Rattle.nss_typing.specs.Typed.{TypedExpr, TypedExprs, call, no_typed, more_typed, type_of}
+use Rattle.typing_rules.specs.declared.places.Callee.TheVariants.{Engine}
+use Rattle.typing_rules.specs.Types.{is_void}
+use Rattle.typing_rules.specs.Typed.{TypedExpr, TypedExprs, call, no_typed, more_typed, type_of}
 use Rattle.saved_state.specs.declared.cell.Cell.{Cell}
 use Rattle.saved_state.specs.declared.cell.Cell.TheVariants.{Value as Holds}
 use Rattle.saved_state.specs.declared.saved.Saved.{Saved}
 use Rattle.saved_state.specs.Cells.{StackView, cells_beneath, captured}
 use Rattle.stack_shape.specs.Ranges.{cell_count}
 use Rattle.stack_shape.specs.Calls.{is_callable, action_count, argument_types as parameter_types}
-use Rattle.code_emission.specs.Layout.{Structs, cell_types}
-use Rattle.code_emission.specs.Operations.{bytes_of, literal_of, constant}
-use Rattle.code_emission.specs.Expressions.{constants, is_captured, argument_labels, argument_code, count_arguments, arguments_cells, emit, emit_all, all_labels}
-use Rattle.engine_rows.specs.Alike.{OptionAlike}
-use Rattle.engine_rows.specs.AlikeLaws.{call as source_call}
-use Rattle.engine_rows.specs.Engine.{engine}
-use Rattle.engine_rows.specs.Pure.{CellLookup}
-use Rattle.engine_rows.specs.World.{World}
-use Rattle.machine_step.specs.Cells.{value_types, values_on}
-use Rattle.machine_step.specs.Calls.{Taken, taken, arguments, is_execute_script}
-use Rattle.machine_step.specs.Act.{Moves, Asks, Executes, act, stored, stored_cells, engine_called as machine_called, asked as machine_asked, executed as executed_act}
-use Rattle.machine_step.specs.Machine.{Goes, step, answered as machine_answered, executed as machine_executed}
-use Rattle.machine_step.specs.Laws.{EqualityIsTested}
+use Rattle.emission_rules.specs.Layout.{Structs, cell_types}
+use Rattle.emission_rules.specs.Operations.{bytes_of, literal_of, constant}
+use Rattle.emission_rules.specs.Expressions.{constants, is_captured, argument_labels, argument_code, count_arguments, arguments_cells, emit, emit_all, all_labels}
+use Rattle.world_rules.specs.Alike.{OptionAlike}
+use Rattle.world_rules.specs.AlikeLaws.{call as source_call}
+use Rattle.world_rules.specs.Engine.{engine}
+use Rattle.world_rules.specs.Pure.{CellLookup}
+use Rattle.world_rules.specs.World.{World}
+use Rattle.machine_rules.specs.Cells.{value_types, values_on}
+use Rattle.machine_rules.specs.Calls.{Taken, taken, arguments, is_execute_script}
+use Rattle.machine_rules.specs.Act.{Moves, Asks, Executes, act, stored, stored_cells, engine_called as machine_called, asked as machine_asked, executed as executed_act}
+use Rattle.machine_rules.specs.Machine.{Goes, step, answered as machine_answered, executed as machine_executed}
+use Rattle.machine_rules.specs.Laws.{EqualityIsTested}
 use Rattle.source_meaning.specs.Values.{constant_value}
 use Rattle.source_meaning.specs.Evaluation.{Variables, Deferred, Progress, Outcome, Gives, bind, spend}
 use Rattle.source_meaning.specs.Expressions.{Running, Caller, Arguments, with_argument, parts_in, all_parts, answered, runs_script, runs_script_in, executed, asked, engine_called, defaults, deferred, argument, eval, evals}

@@ -2,10 +2,10 @@
 use Rattle.std.proofs.Common.{arith, ◌≡◌, ◌+◌, ℕ, suc, List, [], Some, sym, subst, ◌∙◌, ap, refl}
 use Rattle.nwq_value.specs.declared.value.Value.{Value}
 use Rattle.saved_state.specs.declared.saved.Saved.{Saved}
-use Rattle.engine_rows.specs.Alike.{Alike}
-use Rattle.machine_step.specs.Frames.{started as begun_frame, continued}
-use Rattle.machine_step.specs.Machine.{Ends, Divided, depth_limit, step}
-use Rattle.machine_step.specs.Runs.{Ending, Over, ZeroDivisor, run, after_step, entry}
+use Rattle.world_rules.specs.Alike.{Alike}
+use Rattle.machine_rules.specs.Frames.{started as begun_frame, continued}
+use Rattle.machine_rules.specs.Machine.{Ends, Divided, depth_limit, step}
+use Rattle.machine_rules.specs.Runs.{Ending, Over, ZeroDivisor, run, after_step, entry}
 use Rattle.source_meaning.specs.Evaluation.{Deferred, Progress, Outcome, Gives, Divides, OutOfSteps}
 use Rattle.source_meaning.specs.Scripts.{first_starter, call_resumed, with_steps, run_script, run_deferred}
 use Rattle.source_meaning.specs.Ledger.{Machine, MachineHost, later, Took, Sim}

@@ -7,22 +7,22 @@ use Rattle.nss_tree.specs.declared.operators.BinaryOperator.TheVariants as bin
 use Rattle.nss_tree.specs.declared.operators.AssignOperator.TheVariants as asg
 use Rattle.nss_tree.specs.Statements as s
 use Rattle.nss_tree.specs.Units as unit
-use Rattle.area_objects.specs.Area.{PlainArea}
+use Rattle.area_rules.specs.Area.{PlainArea}
 use Rattle.nwq_text.specs.Escape.{escaped, spelling}
 use Rattle.nwq_text.specs.Values.{value_text}
 use Rattle.nwq_value.specs.Header.{header_routines}
 use Rattle.nwq_value.specs.HeaderTable.{header_table}
 use Rattle.nwq_value.specs.declared.value.Ty.TheVariants as t
 use Rattle.nwq_value.specs.declared.engine.Const.TheVariants as c
-use Rattle.nss_typing.specs.declared.places.EntryPoint.TheVariants.{Main, Conditional}
-use Rattle.nss_typing.specs.declared.places.Place.TheVariants.{Local}
-use Rattle.nss_typing.specs.declared.places.Callee.TheVariants.{Engine}
-use Rattle.nss_typing.specs.Typed.{TypedExpr, TypedUnit}
-use Rattle.nss_typing.specs.Typed as e
-use Rattle.engine_rows.specs.Engine.{engine}
-use Rattle.engine_rows.specs.Trace.{line_text, trace_text}
-use Rattle.machine_step.specs.Values.{value_eq}
-use Rattle.engine_rows.specs.Plays.{Done, StoppedInside}
+use Rattle.typing_rules.specs.declared.places.EntryPoint.TheVariants.{Main, Conditional}
+use Rattle.typing_rules.specs.declared.places.Place.TheVariants.{Local}
+use Rattle.typing_rules.specs.declared.places.Callee.TheVariants.{Engine}
+use Rattle.typing_rules.specs.Typed.{TypedExpr, TypedUnit}
+use Rattle.typing_rules.specs.Typed as e
+use Rattle.world_rules.specs.Engine.{engine}
+use Rattle.world_rules.specs.Trace.{line_text, trace_text}
+use Rattle.machine_rules.specs.Values.{value_eq}
+use Rattle.world_rules.specs.Plays.{Done, StoppedInside}
 use Rattle.source_meaning.specs.Evaluation.{bind, spend}
 use Rattle.source_meaning.proofs.Trees.{stmts, int, text, local, global, two, assign, routine, function_call, print, print_string, delay, execute, execute_here, does, sets, declare, param, global_of, function, unit_of, only_main, listed, creature, played, alone, printed}
 

@@ -10,12 +10,12 @@ use Rattle.nwq_value.specs.declared.value.Ty.TheVariants.{Void}
 use Rattle.nwq_value.specs.declared.value.Value.{Value}
 use Rattle.saved_state.specs.declared.cell.Cell.{Cell}
 use Rattle.saved_state.specs.declared.saved.Saved.{Saved}
-use Rattle.engine_rows.specs.World.{World}
-use Rattle.engine_rows.specs.Engine.{may_run, no_script, too_deep}
-use Rattle.engine_rows.specs.Alike.{Alike}
-use Rattle.machine_step.specs.Frames.{Frame}
-use Rattle.machine_step.specs.Machine.{Script, Goes, depth_limit, step}
-use Rattle.machine_step.specs.Machine as machine
+use Rattle.world_rules.specs.World.{World}
+use Rattle.world_rules.specs.Engine.{may_run, no_script, too_deep}
+use Rattle.world_rules.specs.Alike.{Alike}
+use Rattle.machine_rules.specs.Frames.{Frame}
+use Rattle.machine_rules.specs.Machine.{Script, Goes, depth_limit, step}
+use Rattle.machine_rules.specs.Machine as machine
 use Rattle.source_meaning.specs.Evaluation.{Deferred, Progress, Outcome, Gives, Divides, OutOfSteps, bind, spend}
 use Rattle.source_meaning.specs.Scripts.{Listed, Setting, Starter, script_named, resumed, begun, executing, started, next_starter, listed_started}
 use Rattle.source_meaning.specs.Ledger.{Machine, MachineHost, Took, Sim}

@@ -27,23 +27,23 @@ use Rattle.ncs_code.specs.File.{op_at}
 use Rattle.ncs_emit.specs.declared.jump.Jump.TheVariants.{Jmp, Jz}
 use Rattle.ncs_emit.specs.Labelled.{Line, Instruction, JumpTo, Label, lines_size}
 use Rattle.ncs_emit.specs.Standing.{LinesStand}
-use Rattle.nss_typing.specs.declared.places.Place.TheVariants.{Local, Global, Const as IsConst}
-use Rattle.nss_typing.specs.Types.{same_type, binary_type}
-use Rattle.nss_typing.specs.Typed.{TypedExpr, literal, name, member, prefix, postfix, binary, assign, type_of, is_place}
+use Rattle.typing_rules.specs.declared.places.Place.TheVariants.{Local, Global, Const as IsConst}
+use Rattle.typing_rules.specs.Types.{same_type, binary_type}
+use Rattle.typing_rules.specs.Typed.{TypedExpr, literal, name, member, prefix, postfix, binary, assign, type_of, is_place}
 use Rattle.saved_state.specs.declared.cell.Cell.{Cell}
 use Rattle.saved_state.specs.declared.cell.Cell.TheVariants.{Value as Holds}
 use Rattle.saved_state.specs.declared.saved.Saved.{Saved}
-use Rattle.code_emission.specs.Layout.{Structs, cell_types, position}
-use Rattle.code_emission.specs.Operations.{bytes_of, constant, int_constant, top_again, operation, combination}
-use Rattle.code_emission.specs.Expressions.{Home, InFrame, InGlobals, home, at_home, read, write, increment, decrement, member_code, Shortcut, Never, shortcut, shortcut_labels, binary_code, is_set, read_first, cells_first, emit, labels}
-use Rattle.engine_rows.specs.Pure.{CellLookup}
-use Rattle.engine_rows.specs.World.{World}
-use Rattle.machine_step.specs.Operators.{as_int, is_zero, either}
-use Rattle.machine_step.specs.Cells.{value_types, of_int, zero_on_top}
-use Rattle.machine_step.specs.Frames.{Frame}
-use Rattle.machine_step.specs.Act.{act, moved, cells_after, place_after, is_division}
-use Rattle.machine_step.specs.Machine.{Goes, step}
-use Rattle.machine_step.specs.Laws.{EqualityIsTested}
+use Rattle.emission_rules.specs.Layout.{Structs, cell_types, position}
+use Rattle.emission_rules.specs.Operations.{bytes_of, constant, int_constant, top_again, operation, combination}
+use Rattle.emission_rules.specs.Expressions.{Home, InFrame, InGlobals, home, at_home, read, write, increment, decrement, member_code, Shortcut, Never, shortcut, shortcut_labels, binary_code, is_set, read_first, cells_first, emit, labels}
+use Rattle.world_rules.specs.Pure.{CellLookup}
+use Rattle.world_rules.specs.World.{World}
+use Rattle.machine_rules.specs.Operators.{as_int, is_zero, either}
+use Rattle.machine_rules.specs.Cells.{value_types, of_int, zero_on_top}
+use Rattle.machine_rules.specs.Frames.{Frame}
+use Rattle.machine_rules.specs.Act.{act, moved, cells_after, place_after, is_division}
+use Rattle.machine_rules.specs.Machine.{Goes, step}
+use Rattle.machine_rules.specs.Laws.{EqualityIsTested}
 use Rattle.source_meaning.specs.Values.{constant_value, parts_of, one_int, test_value, is_true, operate, divides_by_zero, applied, prefixed, postfixed}
 use Rattle.source_meaning.specs.Evaluation.{Deferred, Progress, Outcome, Gives, Divides, bind, spend, chosen}
 use Rattle.source_meaning.specs.Spots.{Spot, OfLocal, OfGlobal, further, spot, read_at, written_at}

@@ -11,19 +11,19 @@ use Rattle.ncs_code.specs.Plain as ops
 use Rattle.ncs_code.specs.File.{op_at}
 use Rattle.ncs_emit.specs.Labelled.{Instruction, lines_size}
 use Rattle.ncs_emit.specs.Standing.{LinesStand}
-use Rattle.nss_typing.specs.declared.places.Callee.TheVariants.{Unit as InUnit, Engine}
-use Rattle.nss_typing.specs.declared.places.Place.TheVariants.{Local, Global, Const as IsConst}
-use Rattle.nss_typing.specs.Typed.{TypedExpr, TypedExprs, TypedParameter, literal, name, call, member, prefix, postfix, binary, assign, no_typed, more_typed}
+use Rattle.typing_rules.specs.declared.places.Callee.TheVariants.{Unit as InUnit, Engine}
+use Rattle.typing_rules.specs.declared.places.Place.TheVariants.{Local, Global, Const as IsConst}
+use Rattle.typing_rules.specs.Typed.{TypedExpr, TypedExprs, TypedParameter, literal, name, call, member, prefix, postfix, binary, assign, no_typed, more_typed}
 use Rattle.saved_state.specs.declared.cell.Cell.{Cell}
 use Rattle.saved_state.specs.declared.saved.Saved.{Saved}
-use Rattle.code_emission.specs.Bounds.{IsCell}
-use Rattle.code_emission.specs.Layout.{cell_types, params_cells, position, all_declared_cells}
-use Rattle.code_emission.specs.Operations.{dropped}
-use Rattle.code_emission.specs.Statements.{no_exits, emit_stmts}
-use Rattle.engine_rows.specs.Pure.{CellLookup}
-use Rattle.engine_rows.specs.World.{World}
-use Rattle.machine_step.specs.Cells.{value_types}
-use Rattle.machine_step.specs.Laws.{EqualityIsTested}
+use Rattle.emission_rules.specs.Bounds.{IsCell}
+use Rattle.emission_rules.specs.Layout.{cell_types, params_cells, position, all_declared_cells}
+use Rattle.emission_rules.specs.Operations.{dropped}
+use Rattle.emission_rules.specs.Statements.{no_exits, emit_stmts}
+use Rattle.world_rules.specs.Pure.{CellLookup}
+use Rattle.world_rules.specs.World.{World}
+use Rattle.machine_rules.specs.Cells.{value_types}
+use Rattle.machine_rules.specs.Laws.{EqualityIsTested}
 use Rattle.source_meaning.specs.Values.{start_part, start_parts}
 use Rattle.source_meaning.specs.Evaluation.{Variables, no_variables, Deferred, Progress, Gives}
 use Rattle.source_meaning.specs.Expressions.{Caller}

@@ -5,18 +5,18 @@ use Rattle.nss_tree.specs.Units.{structure, constant, global, function}
 use Rattle.nwq_value.specs.declared.value.Ty.{Ty}
 use Rattle.nwq_value.specs.declared.value.Ty.TheVariants.{Void}
 use Rattle.nwq_value.specs.Engine.{EngineTable}
-use Rattle.nss_typing.specs.declared.places.Callee.TheVariants.{Unit as InUnit, Engine}
-use Rattle.nss_typing.specs.declared.places.Place.TheVariants.{Local, Global, Const as IsConst}
-use Rattle.nss_typing.specs.Numbers.{number_of}
-use Rattle.nss_typing.specs.Typed.{TypedExpr, TypedExprs, TypedName, TypedItem, literal, name, call, member, prefix, postfix, binary, assign, no_typed, more_typed}
+use Rattle.typing_rules.specs.declared.places.Callee.TheVariants.{Unit as InUnit, Engine}
+use Rattle.typing_rules.specs.declared.places.Place.TheVariants.{Local, Global, Const as IsConst}
+use Rattle.typing_rules.specs.Numbers.{number_of}
+use Rattle.typing_rules.specs.Typed.{TypedExpr, TypedExprs, TypedName, TypedItem, literal, name, call, member, prefix, postfix, binary, assign, no_typed, more_typed}
 use Rattle.ncs_emit.specs.Labelled.{lines_size}
 use Rattle.ncs_emit.specs.Standing.{LinesStand}
 use Rattle.saved_state.specs.declared.saved.Saved.{Saved}
-use Rattle.code_emission.specs.Layout.{Structs, Layout, cell_types, cells, position, names_cells, item_cells, global_cells}
-use Rattle.code_emission.specs.Statements.{no_exits, some_labels, initial, names_labels, emit_names}
-use Rattle.code_emission.specs.Units.{emit_globals}
-use Rattle.engine_rows.specs.Pure.{CellLookup}
-use Rattle.machine_step.specs.Laws.{EqualityIsTested}
+use Rattle.emission_rules.specs.Layout.{Structs, Layout, cell_types, cells, position, names_cells, item_cells, global_cells}
+use Rattle.emission_rules.specs.Statements.{no_exits, some_labels, initial, names_labels, emit_names}
+use Rattle.emission_rules.specs.Units.{emit_globals}
+use Rattle.world_rules.specs.Pure.{CellLookup}
+use Rattle.machine_rules.specs.Laws.{EqualityIsTested}
 use Rattle.source_meaning.specs.Evaluation.{no_variables, with_variable, Deferred, Progress, Outcome, Gives, Divides, OutOfSteps, bind}
 use Rattle.source_meaning.specs.Expressions.{Running, Caller}
 use Rattle.source_meaning.specs.Statements.{Flow, Next, Broke, Continued, Returned, initial as initial_value, declared}

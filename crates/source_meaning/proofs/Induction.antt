@@ -1,11 +1,11 @@
 -- Every expression in which nothing is called.
 use Rattle.std.proofs.Common.{ℕ, List}
-use Rattle.nss_typing.specs.declared.places.Place.TheVariants.{Local, Global, Const as IsConst}
-use Rattle.nss_typing.specs.declared.places.Callee.TheVariants.{Unit as InUnit, Engine}
-use Rattle.nss_typing.specs.Typed.{TypedExpr, TypedExprs, literal, name, call, member, prefix, postfix, binary, assign, no_typed, more_typed}
+use Rattle.typing_rules.specs.declared.places.Place.TheVariants.{Local, Global, Const as IsConst}
+use Rattle.typing_rules.specs.declared.places.Callee.TheVariants.{Unit as InUnit, Engine}
+use Rattle.typing_rules.specs.Typed.{TypedExpr, TypedExprs, literal, name, call, member, prefix, postfix, binary, assign, no_typed, more_typed}
 use Rattle.saved_state.specs.declared.saved.Saved.{Saved}
-use Rattle.engine_rows.specs.Pure.{CellLookup}
-use Rattle.machine_step.specs.Laws.{EqualityIsTested}
+use Rattle.world_rules.specs.Pure.{CellLookup}
+use Rattle.machine_rules.specs.Laws.{EqualityIsTested}
 use Rattle.source_meaning.specs.Evaluation.{Deferred}
 use Rattle.source_meaning.specs.Expressions.{Caller}
 use Rattle.source_meaning.specs.Scripts.{Function}

@@ -1,10 +1,10 @@
 -- Pieces of a run one after another, and the cases of an evaluation.
 use Rattle.std.proofs.Common.{arith, ◌≡◌, ◌≤◌, ◌+◌, ℕ, zero, suc, Bool, true, false, Some, sym, ◌∙◌, ap, refl, zero-add}
 use Rattle.saved_state.specs.declared.saved.Saved.{Saved}
-use Rattle.engine_rows.specs.World.{World}
-use Rattle.engine_rows.specs.Alike.{Alike}
-use Rattle.machine_step.specs.Machine.{Goes, step}
-use Rattle.machine_step.specs.Runs.{Ran, run, after_step}
+use Rattle.world_rules.specs.World.{World}
+use Rattle.world_rules.specs.Alike.{Alike}
+use Rattle.machine_rules.specs.Machine.{Goes, step}
+use Rattle.machine_rules.specs.Runs.{Ran, run, after_step}
 use Rattle.source_meaning.specs.Evaluation.{Deferred, Progress, Outcome, Gives, Divides, OutOfSteps, bind, spend, spend_of, chosen}
 use Rattle.source_meaning.specs.Ledger.{Machine, MachineHost, later, Took, Sim}
 

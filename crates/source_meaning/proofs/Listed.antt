@@ -9,21 +9,21 @@ use Rattle.ncs_code.specs.Plain as ops
 use Rattle.ncs_code.specs.File.{op_at}
 use Rattle.ncs_emit.specs.Labelled.{place_of, program}
 use Rattle.ncs_emit.specs.Standing.{LinesStand}
-use Rattle.nss_typing.specs.declared.places.EntryPoint.{EntryPoint}
-use Rattle.nss_typing.specs.declared.places.EntryPoint.TheVariants.{Main, Conditional}
-use Rattle.nss_typing.specs.Typed.{TypedUnit}
+use Rattle.typing_rules.specs.declared.places.EntryPoint.{EntryPoint}
+use Rattle.typing_rules.specs.declared.places.EntryPoint.TheVariants.{Main, Conditional}
+use Rattle.typing_rules.specs.Typed.{TypedUnit}
 use Rattle.saved_state.specs.declared.cell.Cell.{Cell}
 use Rattle.saved_state.specs.declared.saved.Saved.{Saved}
-use Rattle.code_emission.specs.Laws.{CodeStands}
-use Rattle.code_emission.specs.Layout.{layout_of}
-use Rattle.code_emission.specs.Units.{body_count, start_labels, has_globals, emit_start, emit_functions, unit_code}
-use Rattle.engine_rows.specs.World.{World}
-use Rattle.engine_rows.specs.Alike.{Alike}
-use Rattle.machine_step.specs.Frames.{Frame, continued}
-use Rattle.machine_step.specs.Act.{Returns, act}
-use Rattle.machine_step.specs.Machine.{step, over}
-use Rattle.machine_step.specs.Runs.{entry}
-use Rattle.machine_step.specs.Laws.{EqualityIsTested}
+use Rattle.emission_rules.specs.Laws.{CodeStands}
+use Rattle.emission_rules.specs.Layout.{layout_of}
+use Rattle.emission_rules.specs.Units.{body_count, start_labels, has_globals, emit_start, emit_functions, unit_code}
+use Rattle.world_rules.specs.World.{World}
+use Rattle.world_rules.specs.Alike.{Alike}
+use Rattle.machine_rules.specs.Frames.{Frame, continued}
+use Rattle.machine_rules.specs.Act.{Returns, act}
+use Rattle.machine_rules.specs.Machine.{step, over}
+use Rattle.machine_rules.specs.Runs.{entry}
+use Rattle.machine_rules.specs.Laws.{EqualityIsTested}
 use Rattle.source_meaning.specs.Evaluation.{Deferred, Progress}
 use Rattle.source_meaning.specs.Scripts.{Function, Listed, Setting, Starter, functions, executing, listed_started, call_resumed}
 use Rattle.source_meaning.specs.Ledger.{MachineHost, Sim}

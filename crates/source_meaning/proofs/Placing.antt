@@ -5,11 +5,11 @@ use Rattle.nss_tree.specs.Units.{structure, constant, global, function}
 use Rattle.ncs_code.specs.Plain.{PlainOp}
 use Rattle.ncs_emit.specs.Labelled.{lines_size, place_of, program}
 use Rattle.ncs_emit.specs.Standing.{LinesStand}
-use Rattle.nss_typing.specs.Typed.{TypedItem}
-use Rattle.code_emission.specs.Laws.{CodeStands}
-use Rattle.code_emission.specs.Layout.{Layout, layout_of}
-use Rattle.code_emission.specs.Statements.{all_stmt_labels}
-use Rattle.code_emission.specs.Units.{body_count, has_globals, start_labels, emit_start, emit_function, emit_functions, unit_code}
+use Rattle.typing_rules.specs.Typed.{TypedItem}
+use Rattle.emission_rules.specs.Laws.{CodeStands}
+use Rattle.emission_rules.specs.Layout.{Layout, layout_of}
+use Rattle.emission_rules.specs.Statements.{all_stmt_labels}
+use Rattle.emission_rules.specs.Units.{body_count, has_globals, start_labels, emit_start, emit_function, emit_functions, unit_code}
 use Rattle.source_meaning.specs.Scripts.{Function, functions}
 use Rattle.source_meaning.specs.Placing.{FunctionsStand}
 use Rattle.source_meaning.proofs.Steps.{both_stand}

@@ -3,15 +3,15 @@ use Rattle.std.proofs.Common.{arith, ◌≡◌, ℕ, suc, [], ◌∷◌, ◌++�
 use Rattle.std.specs.Prelude.{slice_get}
 use Rattle.std.proofs.lemmas.List.{length-reverse}
 use Rattle.nwq_value.specs.Engine.{EngineTable}
-use Rattle.nss_typing.specs.Typed.{type_of}
+use Rattle.typing_rules.specs.Typed.{type_of}
 use Rattle.ncs_code.specs.Plain as ops
 use Rattle.ncs_emit.specs.Labelled.{Instruction}
 use Rattle.saved_state.specs.declared.cell.Cell.TheVariants.{Base}
-use Rattle.code_emission.specs.Layout.{layout_of}
-use Rattle.code_emission.specs.Expressions.{emit}
-use Rattle.machine_step.specs.Frames.{continued}
-use Rattle.machine_step.specs.Runs.{entry}
-use Rattle.machine_step.specs.Laws.{EqualityIsTested}
+use Rattle.emission_rules.specs.Layout.{layout_of}
+use Rattle.emission_rules.specs.Expressions.{emit}
+use Rattle.machine_rules.specs.Frames.{continued}
+use Rattle.machine_rules.specs.Runs.{entry}
+use Rattle.machine_rules.specs.Laws.{EqualityIsTested}
 use Rattle.source_meaning.specs.Evaluation.{Progress}
 use Rattle.source_meaning.specs.Expressions.{Running, eval}
 use Rattle.source_meaning.specs.Scripts.{Listed, functions, calling, executing, first_starter, running, call_resumed}

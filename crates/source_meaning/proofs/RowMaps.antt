@@ -5,7 +5,7 @@ use Rattle.std.specs.Option.{option_map}
 use Rattle.std.specs.List.{AllZip, list_any}
 use Rattle.action_queue.specs.declared.queue.Item.{Item}
 use Rattle.action_queue.specs.declared.queue.Item.TheVariants.{Do, Wait, Speak}
-use Rattle.area_objects.specs.Area.{object}
+use Rattle.area_rules.specs.Area.{object}
 use Rattle.local_variables.specs.Variables.{Variable}
 use Rattle.delay_agenda.specs.declared.entry.Kind.TheVariants.{Event, Stored, Turn, Unapply}
 use Rattle.nwq_value.specs.Engine.{EngineTable}
@@ -13,15 +13,15 @@ use Rattle.nwq_value.specs.declared.engine.Role.{Role}
 use Rattle.nwq_value.specs.declared.engine.Role.TheVariants as role
 use Rattle.nwq_value.specs.declared.engine.Routine.{Routine}
 use Rattle.nwq_value.specs.declared.value.Effect.{Effect}
-use Rattle.engine_rows.specs.declared.data.Stood.{Stood}
-use Rattle.engine_rows.specs.declared.data.Told.TheVariants as line
-use Rattle.engine_rows.specs.Arguments.{int_at, text_at, object_at, effect_at, event_at}
-use Rattle.engine_rows.specs.Pure.{CellLookup}
-use Rattle.engine_rows.specs.World.{World, is_valid, queue_of, effects_of}
-use Rattle.engine_rows.specs.Changes.{told, post, later, with_action, with_actions, with_busy, with_effect, with_effects, with_variables, has_turn, without_turn, without_first, is_effect}
-use Rattle.engine_rows.specs.Rows.{Call, Row, rows, leaves, drawn_from, drawn, assigned, delayed, awake, appended, appended_do, at_rest, cleared, changed_variables, applied, applied_to, removed, event_script, signalled}
-use Rattle.engine_rows.specs.Engine.{row_numbered, by_row, by_role, by_routine, engine}
-use Rattle.engine_rows.specs.Mapped.{map_item, map_world, map_call, map_answered}
+use Rattle.world_rules.specs.declared.data.Stood.{Stood}
+use Rattle.world_rules.specs.declared.data.Told.TheVariants as line
+use Rattle.world_rules.specs.Arguments.{int_at, text_at, object_at, effect_at, event_at}
+use Rattle.world_rules.specs.Pure.{CellLookup}
+use Rattle.world_rules.specs.World.{World, is_valid, queue_of, effects_of}
+use Rattle.world_rules.specs.Changes.{told, post, later, with_action, with_actions, with_busy, with_effect, with_effects, with_variables, has_turn, without_turn, without_first, is_effect}
+use Rattle.world_rules.specs.Rows.{Call, Row, rows, leaves, drawn_from, drawn, assigned, delayed, awake, appended, appended_do, at_rest, cleared, changed_variables, applied, applied_to, removed, event_script, signalled}
+use Rattle.world_rules.specs.Engine.{row_numbered, by_row, by_role, by_routine, engine}
+use Rattle.world_rules.specs.Mapped.{map_item, map_world, map_call, map_answered}
 use Rattle.source_meaning.proofs.WorldMaps.{map_if, post_map, has_turn_map, without_turn_map, queue_map, effects_map, with_effects_map, with_actions_map, with_busy_map, with_action_map, with_effect_map}
 
 -- what happens only under a test

@@ -10,24 +10,24 @@ use Rattle.ncs_code.specs.Plain as ops
 use Rattle.ncs_code.specs.File.{op_at}
 use Rattle.ncs_emit.specs.Labelled.{Line, Instruction, lines_size}
 use Rattle.ncs_emit.specs.Standing.{LinesStand}
-use Rattle.nss_typing.specs.declared.places.EntryPoint.{EntryPoint}
-use Rattle.nss_typing.specs.declared.places.EntryPoint.TheVariants.{Main, Conditional}
-use Rattle.nss_typing.specs.Typed.{TypedName}
+use Rattle.typing_rules.specs.declared.places.EntryPoint.{EntryPoint}
+use Rattle.typing_rules.specs.declared.places.EntryPoint.TheVariants.{Main, Conditional}
+use Rattle.typing_rules.specs.Typed.{TypedName}
 use Rattle.saved_state.specs.declared.cell.Cell.{Cell}
 use Rattle.saved_state.specs.declared.cell.Cell.TheVariants.{Value as Holds, Base}
 use Rattle.saved_state.specs.declared.saved.Saved.{Saved}
-use Rattle.code_emission.specs.Laws.{CodeStands}
-use Rattle.code_emission.specs.Layout.{cell_types, names_cells, layout_of}
-use Rattle.code_emission.specs.Operations.{dropped}
-use Rattle.code_emission.specs.Statements.{emit_names}
-use Rattle.code_emission.specs.Units.{body_count, start_labels, has_globals, emit_start, emit_functions, entry_call}
-use Rattle.engine_rows.specs.Pure.{CellLookup}
-use Rattle.engine_rows.specs.World.{World}
-use Rattle.engine_rows.specs.Alike.{Alike}
-use Rattle.machine_step.specs.Frames.{Frame}
-use Rattle.machine_step.specs.Act.{act, Moves}
-use Rattle.machine_step.specs.Machine.{Goes, step}
-use Rattle.machine_step.specs.Laws.{EqualityIsTested}
+use Rattle.emission_rules.specs.Laws.{CodeStands}
+use Rattle.emission_rules.specs.Layout.{cell_types, names_cells, layout_of}
+use Rattle.emission_rules.specs.Operations.{dropped}
+use Rattle.emission_rules.specs.Statements.{emit_names}
+use Rattle.emission_rules.specs.Units.{body_count, start_labels, has_globals, emit_start, emit_functions, entry_call}
+use Rattle.world_rules.specs.Pure.{CellLookup}
+use Rattle.world_rules.specs.World.{World}
+use Rattle.world_rules.specs.Alike.{Alike}
+use Rattle.machine_rules.specs.Frames.{Frame}
+use Rattle.machine_rules.specs.Act.{act, Moves}
+use Rattle.machine_rules.specs.Machine.{Goes, step}
+use Rattle.machine_rules.specs.Laws.{EqualityIsTested}
 use Rattle.source_meaning.specs.Values.{start_part, start_parts}
 use Rattle.source_meaning.specs.Evaluation.{no_variables, Deferred, Progress, Outcome, Gives, bind, spend, spend_of}
 use Rattle.source_meaning.specs.Expressions.{Running, Caller, made}

@@ -16,23 +16,23 @@ use Rattle.ncs_code.specs.File.{op_at, jump_place}
 use Rattle.ncs_emit.specs.declared.jump.Jump.TheVariants.{Jmp, Jz, Jnz}
 use Rattle.ncs_emit.specs.Labelled.{Instruction, JumpTo, Label, lines_size}
 use Rattle.ncs_emit.specs.Standing.{LinesStand}
-use Rattle.nss_typing.specs.Typed.{TypedExpr, TypedName, TypedStmt, TypedStmts, type_of}
+use Rattle.typing_rules.specs.Typed.{TypedExpr, TypedName, TypedStmt, TypedStmts, type_of}
 use Rattle.saved_state.specs.declared.cell.Cell.{Cell}
 use Rattle.saved_state.specs.declared.cell.Cell.TheVariants.{Value as Holds, Base}
 use Rattle.saved_state.specs.declared.saved.Saved.{Saved}
 use Rattle.stack_shape.specs.StackEffects.{type_of_one}
-use Rattle.code_emission.specs.Bounds.{IsCell}
-use Rattle.code_emission.specs.Layout.{cell_types, cells, position, names_cells, declared_cells, all_declared_cells}
-use Rattle.code_emission.specs.Operations.{beneath, bytes_of, dropped, int_constant, started, cell_kind}
-use Rattle.code_emission.specs.Expressions.{emit, labels}
-use Rattle.code_emission.specs.Statements.{Exits, in_loop, some_labels, evaluated, tested, stored, initial, emit_names, stmt_labels, emit_stmt, emit_stmts}
-use Rattle.engine_rows.specs.Pure.{CellLookup}
-use Rattle.engine_rows.specs.World.{World}
-use Rattle.machine_step.specs.Operators.{is_zero}
-use Rattle.machine_step.specs.Values.{starting_value}
-use Rattle.machine_step.specs.Cells.{value_types, value_pushed}
-use Rattle.machine_step.specs.Act.{act, cells_after, Moves}
-use Rattle.machine_step.specs.Machine.{Goes, step}
+use Rattle.emission_rules.specs.Bounds.{IsCell}
+use Rattle.emission_rules.specs.Layout.{cell_types, cells, position, names_cells, declared_cells, all_declared_cells}
+use Rattle.emission_rules.specs.Operations.{beneath, bytes_of, dropped, int_constant, started, cell_kind}
+use Rattle.emission_rules.specs.Expressions.{emit, labels}
+use Rattle.emission_rules.specs.Statements.{Exits, in_loop, some_labels, evaluated, tested, stored, initial, emit_names, stmt_labels, emit_stmt, emit_stmts}
+use Rattle.world_rules.specs.Pure.{CellLookup}
+use Rattle.world_rules.specs.World.{World}
+use Rattle.machine_rules.specs.Operators.{is_zero}
+use Rattle.machine_rules.specs.Values.{starting_value}
+use Rattle.machine_rules.specs.Cells.{value_types, value_pushed}
+use Rattle.machine_rules.specs.Act.{act, cells_after, Moves}
+use Rattle.machine_rules.specs.Machine.{Goes, step}
 use Rattle.source_meaning.specs.Values.{start_part, start_parts, is_true}
 use Rattle.source_meaning.specs.Evaluation.{Variables, with_variable, Deferred, Progress, Outcome, Gives, bind, spend, chosen}
 use Rattle.source_meaning.specs.Expressions.{Running, Caller, made, eval}

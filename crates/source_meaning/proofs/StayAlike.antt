@@ -4,12 +4,12 @@ use Rattle.std.specs.Option.{option_map}
 use Rattle.delay_agenda.specs.declared.entry.Entry.{Entry}
 use Rattle.delay_agenda.specs.declared.entry.Kind.{Kind}
 use Rattle.delay_agenda.specs.declared.entry.Kind.TheVariants.{Event, Stored, Turn, Unapply}
-use Rattle.engine_rows.specs.World.{World}
-use Rattle.engine_rows.specs.Engine.{may_run, no_script, too_deep}
-use Rattle.engine_rows.specs.Turns.{Begun, Turned, new_world, begin, turn, turn_done, unapply, fault, drained}
-use Rattle.engine_rows.specs.Mapped.{map_kind, map_entry, map_world, map_begun, map_turned}
-use Rattle.engine_rows.specs.Alike.{Related, left_of, right_of, Alike, OptionAlike, KindAlike, EntryAlike, BegunAlike, TurnedAlike}
-use Rattle.engine_rows.specs.AlikeLaws.{NewIsAlike, MayRunAlike, BeginKeepsAlike, TurnKeepsAlike, TurnDoneKeepsAlike, UnapplyKeepsAlike, FaultKeepsAlike, NoScriptKeepsAlike, TooDeepKeepsAlike, DrainedKeepsAlike}
+use Rattle.world_rules.specs.World.{World}
+use Rattle.world_rules.specs.Engine.{may_run, no_script, too_deep}
+use Rattle.world_rules.specs.Turns.{Begun, Turned, new_world, begin, turn, turn_done, unapply, fault, drained}
+use Rattle.world_rules.specs.Mapped.{map_kind, map_entry, map_world, map_begun, map_turned}
+use Rattle.world_rules.specs.Alike.{Related, left_of, right_of, Alike, OptionAlike, KindAlike, EntryAlike, BegunAlike, TurnedAlike}
+use Rattle.world_rules.specs.AlikeLaws.{NewIsAlike, MayRunAlike, BeginKeepsAlike, TurnKeepsAlike, TurnDoneKeepsAlike, UnapplyKeepsAlike, FaultKeepsAlike, NoScriptKeepsAlike, TooDeepKeepsAlike, DrainedKeepsAlike}
 use Rattle.source_meaning.specs.StayAlike.{EntriesStayAlike}
 use Rattle.source_meaning.proofs.TurnMaps.{new_map, begin_map, turn_map, turn_done_map, unapply_map}
 

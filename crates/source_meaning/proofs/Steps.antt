@@ -11,7 +11,7 @@ use Rattle.nwq_value.specs.declared.value.Value.{Value}
 use Rattle.nwq_value.specs.declared.value.Value.TheVariants.{Int}
 use Rattle.nwq_value.specs.declared.engine.Const.{Const}
 use Rattle.nwq_value.specs.declared.engine.Const.TheVariants as const
-use Rattle.nss_typing.specs.Types.{binary_type}
+use Rattle.typing_rules.specs.Types.{binary_type}
 use Rattle.ncs_code.specs.Plain.{PlainOp}
 use Rattle.ncs_code.specs.Plain as ops
 use Rattle.ncs_code.specs.Spelling.{op_size}
@@ -22,15 +22,15 @@ use Rattle.saved_state.specs.declared.cell.Cell.{Cell}
 use Rattle.saved_state.specs.declared.cell.Cell.TheVariants.{Value as Holds}
 use Rattle.saved_state.specs.declared.saved.Saved.{Saved}
 use Rattle.stack_shape.specs.Ranges.{cell_count}
-use Rattle.code_emission.specs.Layout.{Structs, cell_types}
-use Rattle.code_emission.specs.Operations.{beneath, bytes_of, literal_of, operation}
-use Rattle.engine_rows.specs.World.{World}
-use Rattle.machine_step.specs.Operators.{sum, difference, is_zero}
-use Rattle.machine_step.specs.Values.{literal_value}
-use Rattle.machine_step.specs.Cells.{values_on, values_at, value_types, with_values, overwritten, from_bp, of_int, value_pushed, range_pushed, range_written, int_written, int_changed, values_dropped, values_kept, zero_on_top}
-use Rattle.machine_step.specs.Act.{Act, Moves, act, moved, cells_after, place_after, is_division, bp_range, one_more, one_less}
-use Rattle.machine_step.specs.Machine.{Goes, Divided, step, followed, next_op}
-use Rattle.machine_step.specs.Laws.{EqualityIsTested}
+use Rattle.emission_rules.specs.Layout.{Structs, cell_types}
+use Rattle.emission_rules.specs.Operations.{beneath, bytes_of, literal_of, operation}
+use Rattle.world_rules.specs.World.{World}
+use Rattle.machine_rules.specs.Operators.{sum, difference, is_zero}
+use Rattle.machine_rules.specs.Values.{literal_value}
+use Rattle.machine_rules.specs.Cells.{values_on, values_at, value_types, with_values, overwritten, from_bp, of_int, value_pushed, range_pushed, range_written, int_written, int_changed, values_dropped, values_kept, zero_on_top}
+use Rattle.machine_rules.specs.Act.{Act, Moves, act, moved, cells_after, place_after, is_division, bp_range, one_more, one_less}
+use Rattle.machine_rules.specs.Machine.{Goes, Divided, step, followed, next_op}
+use Rattle.machine_rules.specs.Laws.{EqualityIsTested}
 use Rattle.source_meaning.specs.Values.{constant_value, parts_of, one_int, operate, divides_by_zero}
 use Rattle.source_meaning.specs.Ledger.{MachineHost}
 use Rattle.source_meaning.specs.Kept.{pushed, Site, IsListed, at}

@@ -14,21 +14,21 @@ use Rattle.ncs_code.specs.Plain.{PlainOp}
 use Rattle.ncs_emit.specs.declared.jump.Jump.TheVariants.{Jmp}
 use Rattle.ncs_emit.specs.Labelled.{Line, JumpTo, Label, line_size, lines_size}
 use Rattle.ncs_emit.specs.Standing.{LinesStand}
-use Rattle.nss_typing.specs.Typed.{TypedExpr, TypedStmt, TypedStmts, type_of}
+use Rattle.typing_rules.specs.Typed.{TypedExpr, TypedStmt, TypedStmts, type_of}
 use Rattle.saved_state.specs.declared.cell.Cell.{Cell}
 use Rattle.saved_state.specs.declared.cell.Cell.TheVariants.{Value as Holds}
 use Rattle.saved_state.specs.declared.saved.Saved.{Saved}
-use Rattle.code_emission.specs.Layout.{Layout, Structs, cell_types, position, declared_cells, all_declared_cells}
-use Rattle.code_emission.specs.Operations.{dropped, constant}
-use Rattle.code_emission.specs.Expressions.{emit, labels}
-use Rattle.code_emission.specs.Statements.{Exits, in_switch, is_label, is_default, count_labels, behind, test_of, tests, otherwise, stmt_labels, emit_stmt, emit_stmts}
-use Rattle.engine_rows.specs.Pure.{CellLookup}
-use Rattle.engine_rows.specs.World.{World}
-use Rattle.machine_step.specs.Operators.{as_int, is_zero}
-use Rattle.machine_step.specs.Values.{values_eq}
-use Rattle.machine_step.specs.Cells.{value_types}
-use Rattle.machine_step.specs.Laws.{EqualityIsTested}
-use Rattle.machine_step.specs.Machine.{Goes, step}
+use Rattle.emission_rules.specs.Layout.{Layout, Structs, cell_types, position, declared_cells, all_declared_cells}
+use Rattle.emission_rules.specs.Operations.{dropped, constant}
+use Rattle.emission_rules.specs.Expressions.{emit, labels}
+use Rattle.emission_rules.specs.Statements.{Exits, in_switch, is_label, is_default, count_labels, behind, test_of, tests, otherwise, stmt_labels, emit_stmt, emit_stmts}
+use Rattle.world_rules.specs.Pure.{CellLookup}
+use Rattle.world_rules.specs.World.{World}
+use Rattle.machine_rules.specs.Operators.{as_int, is_zero}
+use Rattle.machine_rules.specs.Values.{values_eq}
+use Rattle.machine_rules.specs.Cells.{value_types}
+use Rattle.machine_rules.specs.Laws.{EqualityIsTested}
+use Rattle.machine_rules.specs.Machine.{Goes, step}
 use Rattle.source_meaning.specs.Values.{constant_value}
 use Rattle.source_meaning.specs.Evaluation.{Variables, Deferred, Progress, Outcome, Gives, bind, chosen}
 use Rattle.source_meaning.specs.Expressions.{Running, Caller, eval}

@@ -8,23 +8,23 @@ use Rattle.nss_tree.specs.declared.operators.AssignOperator.TheVariants as asg
 use Rattle.nss_tree.specs.Statements as s
 use Rattle.nss_tree.specs.Statements.{no_stmt, more_stmts}
 use Rattle.nss_tree.specs.Units as unit
-use Rattle.area_objects.specs.Area.{PlainArea}
-use Rattle.area_objects.specs.Objects.{AreaObject}
+use Rattle.area_rules.specs.Area.{PlainArea}
+use Rattle.area_rules.specs.Objects.{AreaObject}
 use Rattle.nwq_value.specs.HeaderTable.{header_table}
 use Rattle.nwq_value.specs.declared.value.Ty.{Ty}
 use Rattle.nwq_value.specs.declared.value.Ty.TheVariants as t
 use Rattle.nwq_value.specs.declared.engine.Const.TheVariants as c
-use Rattle.nss_typing.specs.declared.places.Place.TheVariants.{Local, Global}
-use Rattle.nss_typing.specs.declared.places.Callee.TheVariants.{Unit as InUnit, Engine}
-use Rattle.nss_typing.specs.declared.places.EntryPoint.{EntryPoint}
-use Rattle.nss_typing.specs.declared.places.EntryPoint.TheVariants.{Main}
-use Rattle.nss_typing.specs.Typed.{TypedExpr, TypedExprs, TypedName, TypedStmt, TypedStmts, TypedParameter, TypedItem, TypedUnit, no_typed, more_typed}
-use Rattle.nss_typing.specs.Typed as e
-use Rattle.engine_rows.specs.Pure.{CellLookup}
-use Rattle.engine_rows.specs.Trace.{trace_text}
-use Rattle.engine_rows.specs.Turns.{Planned, new_world}
-use Rattle.engine_rows.specs.World.{World}
-use Rattle.engine_rows.specs.Plays.{Played}
+use Rattle.typing_rules.specs.declared.places.Place.TheVariants.{Local, Global}
+use Rattle.typing_rules.specs.declared.places.Callee.TheVariants.{Unit as InUnit, Engine}
+use Rattle.typing_rules.specs.declared.places.EntryPoint.{EntryPoint}
+use Rattle.typing_rules.specs.declared.places.EntryPoint.TheVariants.{Main}
+use Rattle.typing_rules.specs.Typed.{TypedExpr, TypedExprs, TypedName, TypedStmt, TypedStmts, TypedParameter, TypedItem, TypedUnit, no_typed, more_typed}
+use Rattle.typing_rules.specs.Typed as e
+use Rattle.world_rules.specs.Pure.{CellLookup}
+use Rattle.world_rules.specs.Trace.{trace_text}
+use Rattle.world_rules.specs.Turns.{Planned, new_world}
+use Rattle.world_rules.specs.World.{World}
+use Rattle.world_rules.specs.Plays.{Played}
 use Rattle.source_meaning.specs.Evaluation.{Deferred}
 use Rattle.source_meaning.specs.Scripts.{Listed, Setting}
 use Rattle.source_meaning.specs.Plays.{source_play}

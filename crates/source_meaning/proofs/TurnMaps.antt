@@ -5,16 +5,16 @@ use Rattle.std.specs.Option.{option_map}
 use Rattle.std.specs.List.{fold, find}
 use Rattle.action_queue.specs.declared.queue.Item.{Item}
 use Rattle.action_queue.specs.declared.queue.Item.TheVariants.{Do, Wait, Speak}
-use Rattle.area_objects.specs.Area.{PlainArea}
+use Rattle.area_rules.specs.Area.{PlainArea}
 use Rattle.delay_agenda.specs.declared.entry.Entry.{Entry}
 use Rattle.delay_agenda.specs.declared.entry.Kind.{Kind}
 use Rattle.delay_agenda.specs.declared.entry.Kind.TheVariants.{Event, Stored, Turn, Unapply}
-use Rattle.engine_rows.specs.declared.data.Stood.{Stood}
-use Rattle.engine_rows.specs.declared.data.Told.TheVariants as line
-use Rattle.engine_rows.specs.World.{World, queue_of, effects_of}
-use Rattle.engine_rows.specs.Changes.{told, post, later, with_actions, with_effects, without_first, is_numbered}
-use Rattle.engine_rows.specs.Turns.{Planned, idle, still, with_planned, new_world, user_number, with_entries, begun, begin, next_turn, turn_done, turned, turn, expired, unapply}
-use Rattle.engine_rows.specs.Mapped.{map_kind, map_entry, map_item, map_things, map_world, map_begun, map_turned}
+use Rattle.world_rules.specs.declared.data.Stood.{Stood}
+use Rattle.world_rules.specs.declared.data.Told.TheVariants as line
+use Rattle.world_rules.specs.World.{World, queue_of, effects_of}
+use Rattle.world_rules.specs.Changes.{told, post, later, with_actions, with_effects, without_first, is_numbered}
+use Rattle.world_rules.specs.Turns.{Planned, idle, still, with_planned, new_world, user_number, with_entries, begun, begin, next_turn, turn_done, turned, turn, expired, unapply}
+use Rattle.world_rules.specs.Mapped.{map_kind, map_entry, map_item, map_things, map_world, map_begun, map_turned}
 use Rattle.source_meaning.proofs.WorldMaps.{map_if, post_map, queue_map, effects_map, with_effects_map, with_actions_map, with_busy_map}
 
 -- ---- the world at the beginning

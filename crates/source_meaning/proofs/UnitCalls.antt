@@ -15,19 +15,19 @@ use Rattle.ncs_code.specs.File.{op_at, jump_place}
 use Rattle.ncs_emit.specs.declared.jump.Jump.TheVariants.{Jsr}
 use Rattle.ncs_emit.specs.Labelled.{JumpTo, lines_size}
 use Rattle.ncs_emit.specs.Standing.{LinesStand}
-use Rattle.nss_typing.specs.declared.places.Callee.TheVariants.{Unit as InUnit}
-use Rattle.nss_typing.specs.Typed.{TypedExpr, TypedExprs, TypedParameter, call, no_typed, more_typed, type_of}
+use Rattle.typing_rules.specs.declared.places.Callee.TheVariants.{Unit as InUnit}
+use Rattle.typing_rules.specs.Typed.{TypedExpr, TypedExprs, TypedParameter, call, no_typed, more_typed, type_of}
 use Rattle.saved_state.specs.declared.cell.Cell.{Cell}
 use Rattle.saved_state.specs.declared.saved.Saved.{Saved}
-use Rattle.code_emission.specs.Bounds.{IsCell}
-use Rattle.code_emission.specs.Layout.{Structs, cell_types}
-use Rattle.code_emission.specs.Operations.{started}
-use Rattle.code_emission.specs.Expressions.{constants, is_captured, emit_all}
-use Rattle.engine_rows.specs.Pure.{CellLookup}
-use Rattle.engine_rows.specs.World.{World}
-use Rattle.machine_step.specs.Act.{act, Moves}
-use Rattle.machine_step.specs.Machine.{Goes, step}
-use Rattle.machine_step.specs.Laws.{EqualityIsTested}
+use Rattle.emission_rules.specs.Bounds.{IsCell}
+use Rattle.emission_rules.specs.Layout.{Structs, cell_types}
+use Rattle.emission_rules.specs.Operations.{started}
+use Rattle.emission_rules.specs.Expressions.{constants, is_captured, emit_all}
+use Rattle.world_rules.specs.Pure.{CellLookup}
+use Rattle.world_rules.specs.World.{World}
+use Rattle.machine_rules.specs.Act.{act, Moves}
+use Rattle.machine_rules.specs.Machine.{Goes, step}
+use Rattle.machine_rules.specs.Laws.{EqualityIsTested}
 use Rattle.source_meaning.specs.Values.{start_parts}
 use Rattle.source_meaning.specs.Evaluation.{Variables, no_variables, Deferred, Progress, Outcome, Gives, bind}
 use Rattle.source_meaning.specs.Expressions.{Caller, Arguments, made, unit_called}

@@ -10,11 +10,11 @@ use Rattle.delay_agenda.specs.declared.entry.Entry.{Entry}
 use Rattle.delay_agenda.specs.declared.entry.Kind.{Kind}
 use Rattle.delay_agenda.specs.declared.entry.Kind.TheVariants.{Event, Stored, Turn, Unapply}
 use Rattle.nwq_value.specs.declared.value.Effect.{Effect}
-use Rattle.engine_rows.specs.declared.data.Stood.{Stood}
-use Rattle.engine_rows.specs.declared.data.Things.{Things}
-use Rattle.engine_rows.specs.World.{World, things_at, queue_in, effects_in, queue_of, effects_of}
-use Rattle.engine_rows.specs.Changes.{post, changed_at, changed_object, with_queue, with_effects, with_actions, with_busy, with_action, with_effect, has_turn, without_turn}
-use Rattle.engine_rows.specs.Mapped.{map_kind, map_entry, map_waiting, map_item, map_queue, map_things, map_world}
+use Rattle.world_rules.specs.declared.data.Stood.{Stood}
+use Rattle.world_rules.specs.declared.data.Things.{Things}
+use Rattle.world_rules.specs.World.{World, things_at, queue_in, effects_in, queue_of, effects_of}
+use Rattle.world_rules.specs.Changes.{post, changed_at, changed_object, with_queue, with_effects, with_actions, with_busy, with_action, with_effect, has_turn, without_turn}
+use Rattle.world_rules.specs.Mapped.{map_kind, map_entry, map_waiting, map_item, map_queue, map_things, map_world}
 
 -- ---- lists and tests
 

@@ -6,7 +6,7 @@ use Rattle.nwq_value.specs.declared.value.Value.{Value}
 use Rattle.nwq_value.specs.declared.engine.Const.{Const}
 use Rattle.nwq_value.specs.declared.engine.Routine.{Routine}
 use Rattle.nwq_value.specs.Engine.{const_type}
-use Rattle.nss_typing.specs.Typed.{TypedExpr, TypedExprs, no_typed, more_typed, type_of}
+use Rattle.typing_rules.specs.Typed.{TypedExpr, TypedExprs, no_typed, more_typed, type_of}
 use Rattle.ncs_code.specs.Plain as ops
 use Rattle.ncs_code.specs.File.{resume_place}
 use Rattle.ncs_emit.specs.Labelled.{Instruction}
@@ -15,16 +15,16 @@ use Rattle.saved_state.specs.declared.cell.Cell.{Cell}
 use Rattle.saved_state.specs.declared.saved.Saved.{Saved}
 use Rattle.saved_state.specs.Cells.{captured}
 use Rattle.stack_shape.specs.Calls.{argument_types, result_types, is_callable}
-use Rattle.code_emission.specs.Layout.{Structs, cell_types}
-use Rattle.code_emission.specs.Expressions.{is_captured, emit}
-use Rattle.engine_rows.specs.Pure.{CellLookup}
-use Rattle.engine_rows.specs.World.{World}
-use Rattle.engine_rows.specs.Engine.{engine}
-use Rattle.engine_rows.specs.Alike.{Alike, OptionAlike}
-use Rattle.engine_rows.specs.AlikeLaws.{call}
-use Rattle.machine_step.specs.Cells.{value_types}
-use Rattle.machine_step.specs.Calls.{is_execute_script}
-use Rattle.machine_step.specs.Machine.{Goes, step, executed}
+use Rattle.emission_rules.specs.Layout.{Structs, cell_types}
+use Rattle.emission_rules.specs.Expressions.{is_captured, emit}
+use Rattle.world_rules.specs.Pure.{CellLookup}
+use Rattle.world_rules.specs.World.{World}
+use Rattle.world_rules.specs.Engine.{engine}
+use Rattle.world_rules.specs.Alike.{Alike, OptionAlike}
+use Rattle.world_rules.specs.AlikeLaws.{call}
+use Rattle.machine_rules.specs.Cells.{value_types}
+use Rattle.machine_rules.specs.Calls.{is_execute_script}
+use Rattle.machine_rules.specs.Machine.{Goes, step, executed}
 use Rattle.source_meaning.specs.Evaluation.{Deferred, Progress}
 use Rattle.source_meaning.specs.Expressions.{parts_in, deferred}
 use Rattle.source_meaning.specs.Scripts.{Function}

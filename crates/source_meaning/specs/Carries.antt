@@ -4,16 +4,16 @@ use Rattle.nss_tree.specs.Statements.{block, empty, expression, if_only, if_else
 use Rattle.nss_tree.specs.Units.{structure, constant, global, function}
 use Rattle.nwq_value.specs.declared.value.Ty.{Ty}
 use Rattle.nwq_value.specs.declared.value.Ty.TheVariants.{Void}
-use Rattle.nss_typing.specs.Typed.{TypedName, TypedStmt, TypedStmts, TypedParameter, TypedItem, TypedUnit}
-use Rattle.nss_typing.specs.Numbers.{number_of}
+use Rattle.typing_rules.specs.Typed.{TypedName, TypedStmt, TypedStmts, TypedParameter, TypedItem, TypedUnit}
+use Rattle.typing_rules.specs.Numbers.{number_of}
 use Rattle.ncs_code.specs.Plain as ops
 use Rattle.ncs_emit.specs.Labelled.{Instruction, place_of, program}
 use Rattle.ncs_emit.specs.Standing.{LinesStand}
 use Rattle.saved_state.specs.declared.saved.Saved.{Saved}
-use Rattle.code_emission.specs.Layout.{layout_of}
-use Rattle.code_emission.specs.Expressions.{emit}
-use Rattle.code_emission.specs.Units.{unit_code}
-use Rattle.machine_step.specs.Frames.{Frame}
+use Rattle.emission_rules.specs.Layout.{layout_of}
+use Rattle.emission_rules.specs.Expressions.{emit}
+use Rattle.emission_rules.specs.Units.{unit_code}
+use Rattle.machine_rules.specs.Frames.{Frame}
 use Rattle.source_meaning.specs.Evaluation.{Deferred}
 use Rattle.source_meaning.specs.Scripts.{Listed, Setting, functions, global_names}
 use Rattle.source_meaning.specs.Kept.{AreHeld, Site, Vars}

@@ -6,12 +6,12 @@ use Rattle.nwq_value.specs.declared.engine.Routine.{Routine}
 use Rattle.nwq_value.specs.Engine.{EngineTable}
 use Rattle.saved_state.specs.declared.saved.Saved.{Saved}
 use Rattle.stack_shape.specs.Calls.{argument_types, result_types, is_callable}
-use Rattle.engine_rows.specs.Pure.{CellLookup}
-use Rattle.engine_rows.specs.World.{World}
-use Rattle.engine_rows.specs.Engine.{engine}
-use Rattle.engine_rows.specs.AlikeLaws.{call}
-use Rattle.machine_step.specs.Cells.{value_types}
-use Rattle.machine_step.specs.Calls.{is_execute_script}
+use Rattle.world_rules.specs.Pure.{CellLookup}
+use Rattle.world_rules.specs.World.{World}
+use Rattle.world_rules.specs.Engine.{engine}
+use Rattle.world_rules.specs.AlikeLaws.{call}
+use Rattle.machine_rules.specs.Cells.{value_types}
+use Rattle.machine_rules.specs.Calls.{is_execute_script}
 use Rattle.source_meaning.specs.Expressions.{parts_in}
 use Rattle.source_meaning.specs.Scripts.{Setting}
 use Rattle.source_meaning.specs.Ledger.{MachineHost}

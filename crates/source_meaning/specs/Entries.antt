@@ -2,11 +2,11 @@
 use Rattle.std.specs.Prelude.{◌≡◌, ◌≤◌, ℕ, ◌+◌, ◌*◌, List, [], Some, slice_get}
 use Rattle.nwq_value.specs.declared.value.Value.{Value}
 use Rattle.saved_state.specs.declared.saved.Saved.{Saved}
-use Rattle.engine_rows.specs.World.{World}
-use Rattle.engine_rows.specs.Alike.{Alike}
-use Rattle.machine_step.specs.Frames.{started, continued}
-use Rattle.machine_step.specs.Machine as machine
-use Rattle.machine_step.specs.Runs.{Ending, Over, ZeroDivisor, run, entry}
+use Rattle.world_rules.specs.World.{World}
+use Rattle.world_rules.specs.Alike.{Alike}
+use Rattle.machine_rules.specs.Frames.{started, continued}
+use Rattle.machine_rules.specs.Machine as machine
+use Rattle.machine_rules.specs.Runs.{Ending, Over, ZeroDivisor, run, entry}
 use Rattle.source_meaning.specs.Evaluation.{Deferred, Progress, Outcome, Gives, Divides, OutOfSteps}
 use Rattle.source_meaning.specs.Scripts.{Listed, Setting, script_named, first_starter, call_resumed, run_script, run_deferred}
 use Rattle.source_meaning.specs.Ledger.{Machine, MachineHost, later, step_cost, Sim}

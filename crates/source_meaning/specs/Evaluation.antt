@@ -1,8 +1,8 @@
 -- How an evaluation goes: what it changes, how it ends, and its steps.
 use Rattle.std.specs.Prelude.{ℕ, zero, suc, Bool, true, false, ◌==◌, if◌then◌else◌, List, []}
 use Rattle.nwq_value.specs.declared.value.Value.{Value}
-use Rattle.nss_typing.specs.Typed.{TypedExpr}
-use Rattle.engine_rows.specs.World.{World}
+use Rattle.typing_rules.specs.Typed.{TypedExpr}
+use Rattle.world_rules.specs.World.{World}
 
 -- the values of variables, by their numbers
 abbrev pub Variables : Type 0

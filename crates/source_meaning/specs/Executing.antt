@@ -3,13 +3,13 @@ use Rattle.std.specs.Prelude.{◌≡◌, ℕ, ◌+◌, List, map, length, Option
 use Rattle.nwq_value.specs.declared.value.Value.{Value}
 use Rattle.ncs_emit.specs.Labelled.{program}
 use Rattle.saved_state.specs.declared.saved.Saved.{Saved}
-use Rattle.code_emission.specs.Units.{unit_code}
-use Rattle.engine_rows.specs.World.{World}
-use Rattle.engine_rows.specs.Engine.{may_run, no_script, too_deep}
-use Rattle.engine_rows.specs.Alike.{Alike}
-use Rattle.machine_step.specs.Frames.{Frame}
-use Rattle.machine_step.specs.Frames as frames
-use Rattle.machine_step.specs.Machine.{Script, depth_limit, step, over}
+use Rattle.emission_rules.specs.Units.{unit_code}
+use Rattle.world_rules.specs.World.{World}
+use Rattle.world_rules.specs.Engine.{may_run, no_script, too_deep}
+use Rattle.world_rules.specs.Alike.{Alike}
+use Rattle.machine_rules.specs.Frames.{Frame}
+use Rattle.machine_rules.specs.Frames as frames
+use Rattle.machine_rules.specs.Machine.{Script, depth_limit, step, over}
 use Rattle.source_meaning.specs.Evaluation.{Deferred, Progress}
 use Rattle.source_meaning.specs.Scripts.{Listed, Setting, Starter, executing, next_starter, listed_started}
 use Rattle.source_meaning.specs.Ledger.{Machine, MachineHost, Sim}

@@ -11,17 +11,17 @@ use Rattle.nwq_value.specs.declared.value.Value.TheVariants.{Text, Object}
 use Rattle.nwq_value.specs.declared.engine.Const.{Const}
 use Rattle.nwq_value.specs.declared.engine.Routine.{Routine}
 use Rattle.nwq_value.specs.Engine.{EngineTable}
-use Rattle.nss_typing.specs.declared.places.Place.{Place}
-use Rattle.nss_typing.specs.declared.places.Place.TheVariants.{Local, Global, Const as IsConst}
-use Rattle.nss_typing.specs.declared.places.Callee.{Callee}
-use Rattle.nss_typing.specs.declared.places.Callee.TheVariants.{Unit as InUnit, Engine}
-use Rattle.nss_typing.specs.Typed.{TypedExpr, TypedExprs, literal, name, call, member, prefix, postfix, binary, assign, no_typed, more_typed}
-use Rattle.code_emission.specs.Layout.{Structs, cell_types, cells}
-use Rattle.code_emission.specs.Expressions.{Shortcut, WhereTrue, WhereFalse, Never, shortcut, is_captured}
-use Rattle.engine_rows.specs.Pure.{CellLookup}
-use Rattle.engine_rows.specs.Rows.{Answered}
-use Rattle.engine_rows.specs.Engine.{engine}
-use Rattle.machine_step.specs.Calls.{is_execute_script}
+use Rattle.typing_rules.specs.declared.places.Place.{Place}
+use Rattle.typing_rules.specs.declared.places.Place.TheVariants.{Local, Global, Const as IsConst}
+use Rattle.typing_rules.specs.declared.places.Callee.{Callee}
+use Rattle.typing_rules.specs.declared.places.Callee.TheVariants.{Unit as InUnit, Engine}
+use Rattle.typing_rules.specs.Typed.{TypedExpr, TypedExprs, literal, name, call, member, prefix, postfix, binary, assign, no_typed, more_typed}
+use Rattle.emission_rules.specs.Layout.{Structs, cell_types, cells}
+use Rattle.emission_rules.specs.Expressions.{Shortcut, WhereTrue, WhereFalse, Never, shortcut, is_captured}
+use Rattle.world_rules.specs.Pure.{CellLookup}
+use Rattle.world_rules.specs.Rows.{Answered}
+use Rattle.world_rules.specs.Engine.{engine}
+use Rattle.machine_rules.specs.Calls.{is_execute_script}
 use Rattle.source_meaning.specs.Values.{constant_value, start_part, parts_of, is_true, one_int, test_value, operate, divides_by_zero, applied, prefixed, postfixed}
 use Rattle.source_meaning.specs.Evaluation.{Deferred, Progress, Outcome, Gives, Divides, bind, spend, chosen}
 use Rattle.source_meaning.specs.Spots.{Spot, further, spot, read_at, written_at}

@@ -6,13 +6,13 @@ use Rattle.nwq_value.specs.declared.engine.Const.{Const}
 use Rattle.nwq_value.specs.declared.engine.Param.{Param}
 use Rattle.nwq_value.specs.declared.engine.Routine.{Routine}
 use Rattle.nwq_value.specs.Engine.{EngineTable, const_type}
-use Rattle.nss_typing.specs.declared.places.Place.TheVariants.{Local, Global, Const as IsConst}
-use Rattle.nss_typing.specs.declared.places.Callee.{Callee}
-use Rattle.nss_typing.specs.declared.places.Callee.TheVariants.{Unit as InUnit, Engine}
-use Rattle.nss_typing.specs.Types.{binary_type, assigned_type}
-use Rattle.nss_typing.specs.Typed.{TypedExpr, TypedExprs, TypedParameter, literal, name, call, member, prefix, postfix, binary, assign, no_typed, more_typed, type_of, is_place}
-use Rattle.code_emission.specs.Layout.{Structs, cell_types, cells}
-use Rattle.code_emission.specs.Expressions.{is_captured}
+use Rattle.typing_rules.specs.declared.places.Place.TheVariants.{Local, Global, Const as IsConst}
+use Rattle.typing_rules.specs.declared.places.Callee.{Callee}
+use Rattle.typing_rules.specs.declared.places.Callee.TheVariants.{Unit as InUnit, Engine}
+use Rattle.typing_rules.specs.Types.{binary_type, assigned_type}
+use Rattle.typing_rules.specs.Typed.{TypedExpr, TypedExprs, TypedParameter, literal, name, call, member, prefix, postfix, binary, assign, no_typed, more_typed, type_of, is_place}
+use Rattle.emission_rules.specs.Layout.{Structs, cell_types, cells}
+use Rattle.emission_rules.specs.Expressions.{is_captured}
 use Rattle.stack_shape.specs.Calls.{is_action, is_callable, action_count, result_types}
 use Rattle.source_meaning.specs.Expressions.{is_step}
 use Rattle.source_meaning.specs.Scripts.{Function}

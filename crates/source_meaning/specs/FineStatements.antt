@@ -4,11 +4,11 @@ use Rattle.nss_tree.specs.Statements.{block, empty, expression, if_only, if_else
 use Rattle.nwq_value.specs.declared.value.Ty.{Ty}
 use Rattle.nwq_value.specs.declared.value.Ty.TheVariants.{Void, Int}
 use Rattle.nwq_value.specs.Engine.{EngineTable, const_type}
-use Rattle.nss_typing.specs.Typed.{TypedExpr, TypedName, TypedStmt, TypedStmts, type_of}
+use Rattle.typing_rules.specs.Typed.{TypedExpr, TypedName, TypedStmt, TypedStmts, type_of}
 use Rattle.std.specs.List.{AllByRecursion}
-use Rattle.code_emission.specs.Bounds.{IsCell}
-use Rattle.code_emission.specs.Layout.{cell_types, cells, position, declared_cells}
-use Rattle.code_emission.specs.Statements.{is_label}
+use Rattle.emission_rules.specs.Bounds.{IsCell}
+use Rattle.emission_rules.specs.Layout.{cell_types, cells, position, declared_cells}
+use Rattle.emission_rules.specs.Statements.{is_label}
 use Rattle.source_meaning.specs.Scripts.{Function}
 use Rattle.source_meaning.specs.Kept.{Site}
 use Rattle.source_meaning.specs.Fine.{IsFine}

@@ -3,17 +3,17 @@ use Rattle.std.specs.Prelude.{◌≡◌, ◌<◌, ◌≤◌, ℕ, ◌+◌, false
 use Rattle.std.specs.List.{AllByRecursion}
 use Rattle.nwq_value.specs.Engine.{EngineTable}
 use Rattle.ncs_emit.specs.Standing.{LinesStand}
-use Rattle.code_emission.specs.Bounds.{IsCell}
-use Rattle.code_emission.specs.Units.{emit_function}
+use Rattle.emission_rules.specs.Bounds.{IsCell}
+use Rattle.emission_rules.specs.Units.{emit_function}
 use Rattle.source_meaning.specs.FineStatements.{AreFineStmts}
 use Rattle.nwq_value.specs.declared.value.Ty.{Ty}
 use Rattle.nwq_value.specs.declared.value.Value.{Value}
-use Rattle.nss_typing.specs.Typed.{TypedExpr, TypedParameter}
-use Rattle.engine_rows.specs.Pure.{CellLookup}
+use Rattle.typing_rules.specs.Typed.{TypedExpr, TypedParameter}
+use Rattle.world_rules.specs.Pure.{CellLookup}
 use Rattle.saved_state.specs.declared.cell.Cell.{Cell}
 use Rattle.saved_state.specs.declared.saved.Saved.{Saved}
-use Rattle.code_emission.specs.Layout.{cell_types, params_cells, position}
-use Rattle.machine_step.specs.Cells.{value_types}
+use Rattle.emission_rules.specs.Layout.{cell_types, params_cells, position}
+use Rattle.machine_rules.specs.Cells.{value_types}
 use Rattle.source_meaning.specs.Values.{start_parts}
 use Rattle.source_meaning.specs.Evaluation.{no_variables, Deferred, Progress}
 use Rattle.source_meaning.specs.Expressions.{Caller}

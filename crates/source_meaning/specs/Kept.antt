@@ -6,11 +6,11 @@ use Rattle.ncs_code.specs.Plain.{PlainOp}
 use Rattle.saved_state.specs.declared.cell.Cell.{Cell}
 use Rattle.saved_state.specs.declared.cell.Cell.TheVariants.{Value as Holds, Base}
 use Rattle.saved_state.specs.declared.saved.Saved.{Saved}
-use Rattle.code_emission.specs.Layout.{Layout, cell_types, cells, position}
-use Rattle.engine_rows.specs.World.{World}
-use Rattle.engine_rows.specs.Alike.{Alike}
-use Rattle.machine_step.specs.Frames.{Frame}
-use Rattle.machine_step.specs.Cells.{value_types, with_values}
+use Rattle.emission_rules.specs.Layout.{Layout, cell_types, cells, position}
+use Rattle.world_rules.specs.World.{World}
+use Rattle.world_rules.specs.Alike.{Alike}
+use Rattle.machine_rules.specs.Frames.{Frame}
+use Rattle.machine_rules.specs.Cells.{value_types, with_values}
 use Rattle.source_meaning.specs.Evaluation.{Variables, Deferred}
 use Rattle.source_meaning.specs.Ledger.{Machine, MachineHost}
 

@@ -2,11 +2,11 @@
 use Rattle.std.specs.Prelude.{◌≡◌, ℕ, List, [], ◌∷◌, Option, None, Some, false, slice_get}
 use Rattle.nss_tree.specs.Statements.{block, empty, expression, if_only, if_else, while_loop, do_loop, for_loop, switch, break_off, continue_on, return_from, declaration, case_label, default_label, no_stmt, more_stmts}
 use Rattle.nwq_value.specs.declared.value.Ty.{Ty}
-use Rattle.nss_typing.specs.declared.places.Callee.TheVariants.{Unit as InUnit, Engine}
-use Rattle.nss_typing.specs.Typed.{TypedExpr, TypedExprs, TypedName, TypedStmt, TypedStmts, literal, name, call, member, prefix, postfix, binary, assign, no_typed, more_typed}
-use Rattle.code_emission.specs.Expressions.{is_captured}
-use Rattle.engine_rows.specs.Pure.{CellLookup}
-use Rattle.machine_step.specs.Frames.{Frame}
+use Rattle.typing_rules.specs.declared.places.Callee.TheVariants.{Unit as InUnit, Engine}
+use Rattle.typing_rules.specs.Typed.{TypedExpr, TypedExprs, TypedName, TypedStmt, TypedStmts, literal, name, call, member, prefix, postfix, binary, assign, no_typed, more_typed}
+use Rattle.emission_rules.specs.Expressions.{is_captured}
+use Rattle.world_rules.specs.Pure.{CellLookup}
+use Rattle.machine_rules.specs.Frames.{Frame}
 use Rattle.source_meaning.specs.Expressions.{Caller}
 use Rattle.source_meaning.specs.Scripts.{Function, Listed, Setting, functions}
 use Rattle.source_meaning.specs.Ledger.{MachineHost}

@@ -1,10 +1,10 @@
 -- What the machine has done where an evaluation has come to some point, and what steps and instructions cost each other.
 use Rattle.std.specs.Prelude.{◌≡◌, ℕ, ◌+◌, ◌*◌, ◌≤◌, Some}
 use Rattle.saved_state.specs.declared.saved.Saved.{Saved}
-use Rattle.engine_rows.specs.World.{World}
-use Rattle.engine_rows.specs.Alike.{Alike}
-use Rattle.machine_step.specs.Machine.{Host, State, Divided, step}
-use Rattle.machine_step.specs.Runs.{Ran, run}
+use Rattle.world_rules.specs.World.{World}
+use Rattle.world_rules.specs.Alike.{Alike}
+use Rattle.machine_rules.specs.Machine.{Host, State, Divided, step}
+use Rattle.machine_rules.specs.Runs.{Ran, run}
 use Rattle.source_meaning.specs.Evaluation.{Deferred, Progress, Outcome, Gives, Divides, OutOfSteps}
 
 abbrev pub Machine : Type 0

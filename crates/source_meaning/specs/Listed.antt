@@ -2,9 +2,9 @@
 use Rattle.std.specs.Prelude.{◌≡◌, ◌⊎◌, ℕ, List, Some, slice_get}
 use Rattle.nwq_value.specs.declared.value.Ty.TheVariants.{Void, Int}
 use Rattle.nwq_value.specs.Engine.{EngineTable}
-use Rattle.nss_typing.specs.Typed.{TypedUnit}
-use Rattle.nss_typing.specs.declared.places.EntryPoint.TheVariants.{Main, Conditional}
-use Rattle.machine_step.specs.Frames.{Frame}
+use Rattle.typing_rules.specs.Typed.{TypedUnit}
+use Rattle.typing_rules.specs.declared.places.EntryPoint.TheVariants.{Main, Conditional}
+use Rattle.machine_rules.specs.Frames.{Frame}
 use Rattle.source_meaning.specs.Scripts.{Listed, Setting}
 use Rattle.source_meaning.specs.Ledger.{MachineHost}
 use Rattle.source_meaning.specs.Carries.{unit_site}

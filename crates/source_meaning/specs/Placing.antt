@@ -1,10 +1,10 @@
 -- Where the functions of a listed script stand.
 use Rattle.std.specs.Prelude.{◌≡◌, ℕ, Some, slice_get}
-use Rattle.nss_typing.specs.Typed.{TypedUnit}
+use Rattle.typing_rules.specs.Typed.{TypedUnit}
 use Rattle.ncs_emit.specs.Labelled.{place_of, program}
 use Rattle.ncs_emit.specs.Standing.{LinesStand}
-use Rattle.code_emission.specs.Layout.{layout_of}
-use Rattle.code_emission.specs.Units.{emit_function, unit_code}
+use Rattle.emission_rules.specs.Layout.{layout_of}
+use Rattle.emission_rules.specs.Units.{emit_function, unit_code}
 use Rattle.source_meaning.specs.Scripts.{Function, functions}
 
 -- the code of a function of a unit, from its label on

@@ -1,8 +1,8 @@
--- What a play of source texts comes to: the play of `engine_rows`, with entries that are evaluated.
+-- What a play of source texts comes to: the play of `world_rules`, with entries that are evaluated.
 use Rattle.std.specs.Prelude.{ℕ, ◌-◌, List}
 use Rattle.nwq_value.specs.declared.value.Value.{Value}
-use Rattle.engine_rows.specs.World.{World}
-use Rattle.engine_rows.specs.Plays.{Over, Divided, Stopped, Run, Runner, Played, play}
+use Rattle.world_rules.specs.World.{World}
+use Rattle.world_rules.specs.Plays.{Over, Divided, Stopped, Run, Runner, Played, play}
 use Rattle.source_meaning.specs.Evaluation.{Deferred, Outcome, Gives, Divides, OutOfSteps}
 use Rattle.source_meaning.specs.Scripts.{Setting, script_named, run_script, run_deferred}
 

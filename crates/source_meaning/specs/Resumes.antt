@@ -6,12 +6,12 @@ use Rattle.ncs_code.specs.File.{op_at}
 use Rattle.ncs_emit.specs.Labelled.{lines_size}
 use Rattle.saved_state.specs.declared.cell.Cell.{Cell}
 use Rattle.saved_state.specs.declared.saved.Saved.{Saved}
-use Rattle.code_emission.specs.Layout.{layout_of}
-use Rattle.code_emission.specs.Expressions.{emit}
-use Rattle.engine_rows.specs.World.{World}
-use Rattle.engine_rows.specs.Alike.{Alike}
-use Rattle.machine_step.specs.Frames.{continued}
-use Rattle.machine_step.specs.Runs.{entry}
+use Rattle.emission_rules.specs.Layout.{layout_of}
+use Rattle.emission_rules.specs.Expressions.{emit}
+use Rattle.world_rules.specs.World.{World}
+use Rattle.world_rules.specs.Alike.{Alike}
+use Rattle.machine_rules.specs.Frames.{continued}
+use Rattle.machine_rules.specs.Runs.{entry}
 use Rattle.source_meaning.specs.Evaluation.{Deferred, Progress}
 use Rattle.source_meaning.specs.Scripts.{Function, Setting, functions, executing, first_starter, call_resumed}
 use Rattle.source_meaning.specs.Ledger.{Machine, MachineHost, Sim}

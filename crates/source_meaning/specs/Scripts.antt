@@ -8,14 +8,14 @@ use Rattle.nwq_value.specs.declared.value.Ty.{Ty}
 use Rattle.nwq_value.specs.declared.value.Ty.TheVariants.{Int}
 use Rattle.nwq_value.specs.declared.value.Value.{Value}
 use Rattle.nwq_value.specs.Engine.{EngineTable}
-use Rattle.nss_typing.specs.declared.places.EntryPoint.{EntryPoint}
-use Rattle.nss_typing.specs.declared.places.EntryPoint.TheVariants.{Main, Conditional}
-use Rattle.nss_typing.specs.Typed.{TypedParameter, TypedStmts, TypedName, TypedItem, TypedUnit}
-use Rattle.code_emission.specs.Layout.{structs_from, cell_types}
-use Rattle.engine_rows.specs.Pure.{CellLookup}
-use Rattle.engine_rows.specs.World.{World}
-use Rattle.engine_rows.specs.Engine.{may_run, no_script, too_deep}
-use Rattle.machine_step.specs.Machine.{depth_limit}
+use Rattle.typing_rules.specs.declared.places.EntryPoint.{EntryPoint}
+use Rattle.typing_rules.specs.declared.places.EntryPoint.TheVariants.{Main, Conditional}
+use Rattle.typing_rules.specs.Typed.{TypedParameter, TypedStmts, TypedName, TypedItem, TypedUnit}
+use Rattle.emission_rules.specs.Layout.{structs_from, cell_types}
+use Rattle.world_rules.specs.Pure.{CellLookup}
+use Rattle.world_rules.specs.World.{World}
+use Rattle.world_rules.specs.Engine.{may_run, no_script, too_deep}
+use Rattle.machine_rules.specs.Machine.{depth_limit}
 use Rattle.source_meaning.specs.Values.{start_parts}
 use Rattle.source_meaning.specs.Evaluation.{Variables, no_variables, with_variable, Deferred, Progress, Outcome, Gives, OutOfSteps, bind, spend, chosen}
 use Rattle.source_meaning.specs.Expressions.{Running, Caller, made, eval}

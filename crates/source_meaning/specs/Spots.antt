@@ -2,9 +2,9 @@
 use Rattle.std.specs.Prelude.{ℕ, ◌+◌, List, Option, None, Some}
 use Rattle.std.specs.Option.{option_map}
 use Rattle.nwq_value.specs.declared.value.Value.{Value}
-use Rattle.nss_typing.specs.declared.places.Place.{Place}
-use Rattle.nss_typing.specs.declared.places.Place.TheVariants.{Local, Global, Const as IsConst}
-use Rattle.nss_typing.specs.Typed.{TypedExpr, name, member}
+use Rattle.typing_rules.specs.declared.places.Place.{Place}
+use Rattle.typing_rules.specs.declared.places.Place.TheVariants.{Local, Global, Const as IsConst}
+use Rattle.typing_rules.specs.Typed.{TypedExpr, name, member}
 use Rattle.source_meaning.specs.Values.{parts_of, with_parts}
 use Rattle.source_meaning.specs.Evaluation.{Progress, with_variable}
 

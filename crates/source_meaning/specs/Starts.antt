@@ -5,14 +5,14 @@ use Rattle.nwq_value.specs.declared.value.Ty.{Ty}
 use Rattle.nwq_value.specs.declared.value.Ty.TheVariants.{Void, Int}
 use Rattle.nwq_value.specs.declared.value.Value.{Value}
 use Rattle.ncs_code.specs.File.{header_size}
-use Rattle.nss_typing.specs.Typed.{TypedUnit}
-use Rattle.nss_typing.specs.declared.places.EntryPoint.{EntryPoint}
-use Rattle.nss_typing.specs.declared.places.EntryPoint.TheVariants.{Main, Conditional}
+use Rattle.typing_rules.specs.Typed.{TypedUnit}
+use Rattle.typing_rules.specs.declared.places.EntryPoint.{EntryPoint}
+use Rattle.typing_rules.specs.declared.places.EntryPoint.TheVariants.{Main, Conditional}
 use Rattle.saved_state.specs.declared.saved.Saved.{Saved}
-use Rattle.code_emission.specs.Units.{has_globals}
-use Rattle.engine_rows.specs.World.{World}
-use Rattle.engine_rows.specs.Alike.{Alike}
-use Rattle.machine_step.specs.Frames.{Frame}
+use Rattle.emission_rules.specs.Units.{has_globals}
+use Rattle.world_rules.specs.World.{World}
+use Rattle.world_rules.specs.Alike.{Alike}
+use Rattle.machine_rules.specs.Frames.{Frame}
 use Rattle.source_meaning.specs.Evaluation.{Deferred, Progress}
 use Rattle.source_meaning.specs.Scripts.{Function, Listed, Setting, Starter, functions, global_names, executing, listed_started}
 use Rattle.source_meaning.specs.Ledger.{Machine, MachineHost, Sim}

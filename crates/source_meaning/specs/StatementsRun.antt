@@ -2,15 +2,15 @@
 use Rattle.std.specs.Prelude.{◌≡◌, ◌≤◌, ℕ, zero, suc, ◌+◌, Bool, true, List, [], ◌∷◌, length}
 use Rattle.nwq_value.specs.declared.value.Ty.{Ty}
 use Rattle.nwq_value.specs.declared.value.Value.{Value}
-use Rattle.nss_typing.specs.Typed.{TypedStmt}
+use Rattle.typing_rules.specs.Typed.{TypedStmt}
 use Rattle.ncs_emit.specs.Labelled.{lines_size}
 use Rattle.ncs_emit.specs.Standing.{LinesStand}
 use Rattle.saved_state.specs.declared.cell.Cell.{Cell}
 use Rattle.saved_state.specs.declared.saved.Saved.{Saved}
-use Rattle.code_emission.specs.Layout.{cell_types, position, declared_cells}
-use Rattle.code_emission.specs.Statements.{Exits, emit_stmt}
-use Rattle.engine_rows.specs.Pure.{CellLookup}
-use Rattle.machine_step.specs.Cells.{value_types}
+use Rattle.emission_rules.specs.Layout.{cell_types, position, declared_cells}
+use Rattle.emission_rules.specs.Statements.{Exits, emit_stmt}
+use Rattle.world_rules.specs.Pure.{CellLookup}
+use Rattle.machine_rules.specs.Cells.{value_types}
 use Rattle.source_meaning.specs.Evaluation.{Deferred, Progress}
 use Rattle.source_meaning.specs.Expressions.{Caller}
 use Rattle.source_meaning.specs.Statements.{Flow, Next, Broke, Continued, Returned, exec}

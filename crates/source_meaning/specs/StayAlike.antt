@@ -1,8 +1,8 @@
 -- What entries do to worlds that are alike, beside the scripts that they run.
 use Rattle.std.specs.Prelude.{◌≡◌}
-use Rattle.engine_rows.specs.World.{World}
-use Rattle.engine_rows.specs.Alike.{Alike}
-use Rattle.engine_rows.specs.AlikeLaws.{NewIsAlike, BeginKeepsAlike, TurnKeepsAlike, TurnDoneKeepsAlike, UnapplyKeepsAlike, FaultKeepsAlike, NoScriptKeepsAlike, DrainedKeepsAlike}
+use Rattle.world_rules.specs.World.{World}
+use Rattle.world_rules.specs.Alike.{Alike}
+use Rattle.world_rules.specs.AlikeLaws.{NewIsAlike, BeginKeepsAlike, TurnKeepsAlike, TurnDoneKeepsAlike, UnapplyKeepsAlike, FaultKeepsAlike, NoScriptKeepsAlike, DrainedKeepsAlike}
 use Rattle.source_meaning.specs.Scripts.{Setting}
 use Rattle.source_meaning.specs.Carries.{Carries}
 

@@ -12,8 +12,8 @@ ghost use Rattle.source_meaning.specs.Resumes.{ResumedRun};
 ghost use Rattle.source_meaning.specs.Starts.{ConditionsRun, MainsRun};
 ghost use Rattle.source_meaning.specs.StayAlike.{EntriesKeepAlike};
 
-use code_emission::laws::code_stands;
-use machine_step::equality_is_tested;
+use emission_rules::laws::code_stands;
+use machine_rules::equality_is_tested;
 
 /// The code of an expression in which nothing is called does what the expression means. It ends
 /// behind itself with the value on top of the stack, at the next division by zero, or out of steps;

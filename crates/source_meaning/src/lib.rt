@@ -1,11 +1,11 @@
 //! What scripts mean, and that the code of their expressions, statements and functions does it.
 //!
-//! There is no code here that runs. The meaning is told by cases on the typed tree of `nss_typing`:
+//! There is no code here that runs. The meaning is told by cases on the typed tree of `typing_rules`:
 //! `specs/Values.antt` says what values and operators are, `specs/Evaluation.antt` how an
 //! evaluation takes its steps, `specs/Expressions.antt`, `specs/Statements.antt` and
-//! `specs/Scripts.antt` what each node of a typed unit comes to, in the world of `engine_rows`. It
+//! `specs/Scripts.antt` what each node of a typed unit comes to, in the world of `world_rules`. It
 //! knows variables and values, and neither stack nor place nor jump. `specs/Plays.antt` has the
-//! play of source texts, which is the play of `engine_rows`.
+//! play of source texts, which is the play of `world_rules`.
 //!
 //! That code does what is meant is said by `specs/Ledger.antt` (what the machine has done where an
 //! evaluation has come to some point), `specs/Kept.antt` (where values stand), `specs/Carries.antt`

@@ -8,7 +8,7 @@ use Rattle.ncs_code.specs.File.{jump_place, op_at}
 use Rattle.stack_shape.specs.declared.shape.Slot.{Slot}
 use Rattle.stack_shape.specs.declared.shape.Entry.TheVariants.{Called}
 use Rattle.stack_shape.specs.Stored.{TopShape}
-use Rattle.machine_step.specs.Act.{next_place}
+use Rattle.machine_rules.specs.Act.{next_place}
 use Rattle.stack_check.specs.declared.held.Held.{Held}
 use Rattle.stack_check.specs.declared.held.Heap.{Heap}
 use Rattle.stack_check.specs.declared.facts.Trial.{Trial}

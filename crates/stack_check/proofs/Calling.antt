@@ -11,9 +11,9 @@ use Rattle.stack_shape.specs.declared.shape.Entry.{Entry}
 use Rattle.stack_shape.specs.declared.shape.Entry.TheVariants.{Called}
 use Rattle.stack_shape.specs.Stored.{TopShape}
 use Rattle.stack_shape.specs.Laws.{deeper, deeper_saved, beneath_under}
-use Rattle.machine_step.specs.Act.{next_place}
-use Rattle.shape_tables.specs.Tables.{Callee, ShapeTable, first_shape}
-use Rattle.shape_tables.specs.Rules.{GoesOn, MayCall, MayReturn, Returns, Obeys, MeetsRules, WellStacked}
+use Rattle.machine_rules.specs.Act.{next_place}
+use Rattle.stack_rules.specs.Tables.{Callee, ShapeTable, first_shape}
+use Rattle.stack_rules.specs.Rules.{GoesOn, MayCall, MayReturn, Returns, Obeys, MeetsRules, WellStacked}
 use Rattle.stack_check.specs.declared.held.Held.{Held}
 use Rattle.stack_check.specs.declared.held.Heap.{Heap}
 use Rattle.stack_check.specs.declared.facts.Trial.{Trial}

@@ -6,8 +6,8 @@ use Rattle.ncs_code.specs.Plain.{PlainOp}
 use Rattle.stack_shape.specs.declared.shape.Entry.{Entry}
 use Rattle.stack_shape.specs.declared.shape.Entry.TheVariants.{Start, Called, Stored}
 use Rattle.stack_shape.specs.Laws.{deeper}
-use Rattle.shape_tables.specs.Tables.{ShapeTable, empty_shape}
-use Rattle.shape_tables.specs.Rules.{MeetsRules, WellStacked}
+use Rattle.stack_rules.specs.Tables.{ShapeTable, empty_shape}
+use Rattle.stack_rules.specs.Rules.{MeetsRules, WellStacked}
 use Rattle.stack_check.specs.declared.held.Held.{Held}
 use Rattle.stack_check.specs.declared.held.Heap.{Heap}
 use Rattle.stack_check.specs.declared.lists.Node.{Node}

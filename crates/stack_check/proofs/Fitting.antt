@@ -13,8 +13,8 @@ use Rattle.saved_state.specs.declared.saved.Saved.{Saved}
 use Rattle.stack_shape.specs.declared.shape.Slot.{Slot}
 use Rattle.stack_shape.specs.declared.shape.Slot.TheVariants.{Of, Base}
 use Rattle.stack_shape.specs.Stored.{TopShape, stored_shape}
-use Rattle.machine_step.specs.Outlines.{slot, slots}
-use Rattle.shape_tables.specs.Fits.{Fits}
+use Rattle.machine_rules.specs.Outlines.{slot, slots}
+use Rattle.stack_rules.specs.Fits.{Fits}
 use Rattle.stack_check.specs.declared.held.Held.{Held}
 use Rattle.stack_check.specs.declared.held.Heap.{Heap}
 use Rattle.stack_check.specs.declared.facts.Facts.{Facts}

@@ -12,8 +12,8 @@ use Rattle.stack_shape.specs.declared.shape.Entry.{Entry}
 use Rattle.stack_shape.specs.declared.shape.Entry.TheVariants.{Start, Called, Stored}
 use Rattle.stack_shape.specs.Stored.{TopShape}
 use Rattle.stack_shape.specs.Laws.{deeper}
-use Rattle.shape_tables.specs.Tables.{Callee, ShapeTable}
-use Rattle.shape_tables.specs.Rules.{MeetsRules}
+use Rattle.stack_rules.specs.Tables.{Callee, ShapeTable}
+use Rattle.stack_rules.specs.Rules.{MeetsRules}
 use Rattle.stack_check.specs.declared.held.Held.{Held}
 use Rattle.stack_check.specs.declared.held.Heap.{Heap}
 use Rattle.stack_check.specs.declared.facts.Trial.{Trial}

@@ -9,8 +9,8 @@ use Rattle.ncs_code.specs.Plain.{PlainOp}
 use Rattle.stack_shape.specs.declared.shape.Entry.{Entry}
 use Rattle.stack_shape.specs.declared.shape.Entry.TheVariants.{Start, Called, Stored}
 use Rattle.stack_shape.specs.Stored.{TopShape}
-use Rattle.shape_tables.specs.Tables.{Callee, ShapeTable, first_shape}
-use Rattle.shape_tables.specs.Rules.{IsSound, MeetsRules}
+use Rattle.stack_rules.specs.Tables.{Callee, ShapeTable, first_shape}
+use Rattle.stack_rules.specs.Rules.{IsSound, MeetsRules}
 use Rattle.stack_check.specs.declared.held.Held.{Held}
 use Rattle.stack_check.specs.declared.held.Heap.{Heap}
 use Rattle.stack_check.specs.declared.rows.Row.{Row}

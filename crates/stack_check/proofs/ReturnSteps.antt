@@ -6,7 +6,7 @@ use Rattle.ncs_code.specs.Plain as ops
 use Rattle.ncs_code.specs.File.{op_at}
 use Rattle.stack_shape.specs.declared.shape.Entry.{Entry}
 use Rattle.stack_shape.specs.declared.shape.Entry.TheVariants.{Start, Called, Stored}
-use Rattle.shape_tables.specs.Rules.{Returns}
+use Rattle.stack_rules.specs.Rules.{Returns}
 use Rattle.stack_check.specs.declared.held.Held.{Held}
 use Rattle.stack_check.specs.declared.held.Heap.{Heap}
 use Rattle.stack_check.specs.declared.facts.Trial.{Trial}
@@ -53,11 +53,11 @@ gives_changed header code heap facts after n p held k = sees_changed header code
 
 pub ruleset giving = (gives_bad, gives_quiet, gives_changed, return_owed)
 
-ends_start : (entry : Entry) → entry ≡ Start → (table : Rattle.shape_tables.specs.Tables.ShapeTable) (shape : Rattle.stack_shape.specs.Stored.TopShape)
+ends_start : (entry : Entry) → entry ≡ Start → (table : Rattle.stack_rules.specs.Tables.ShapeTable) (shape : Rattle.stack_shape.specs.Stored.TopShape)
     → Returns table entry shape
 ends_start entry e table shape = subst (λ e. Returns table e shape) (sym e) tt
 
-ends_stored : (entry : Entry) (site : ℕ) → entry ≡ Stored site → (table : Rattle.shape_tables.specs.Tables.ShapeTable)
+ends_stored : (entry : Entry) (site : ℕ) → entry ≡ Stored site → (table : Rattle.stack_rules.specs.Tables.ShapeTable)
     (shape : Rattle.stack_shape.specs.Stored.TopShape) → Returns table entry shape
 ends_stored entry site e table shape = subst (λ e. Returns table e shape) (sym e) tt
 

@@ -9,9 +9,9 @@ use Rattle.stack_shape.specs.declared.shape.Entry.{Entry}
 use Rattle.stack_shape.specs.Stored.{TopShape}
 use Rattle.stack_shape.specs.Laws.{deeper, RuleLooksFromTop}
 use Rattle.stack_shape.specs.Rule.{IsOneStep, rule}
-use Rattle.machine_step.specs.Act.{next_place}
-use Rattle.shape_tables.specs.Tables.{ShapeTable}
-use Rattle.shape_tables.specs.Rules.{Leads, AsksFurther, Follows, Obeys, MeetsRules, WellStacked}
+use Rattle.machine_rules.specs.Act.{next_place}
+use Rattle.stack_rules.specs.Tables.{ShapeTable}
+use Rattle.stack_rules.specs.Rules.{Leads, AsksFurther, Follows, Obeys, MeetsRules, WellStacked}
 use Rattle.stack_check.specs.declared.held.Held.{Held}
 use Rattle.stack_check.specs.declared.held.Heap.{Heap}
 use Rattle.stack_check.specs.declared.facts.Trial.{Trial}

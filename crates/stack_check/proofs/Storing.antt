@@ -13,8 +13,8 @@ use Rattle.stack_shape.specs.declared.store.StoredTypes.{StoredTypes}
 use Rattle.stack_shape.specs.Stored.{TopShape, stored_shape, stored_types}
 use Rattle.stack_shape.specs.Laws.{deeper, deeper_saved, beneath_under, RuleLooksFromTop, StoresLookFromTop}
 use Rattle.stack_shape.specs.Rule.{IsOneStep, rule}
-use Rattle.shape_tables.specs.Tables.{ShapeTable}
-use Rattle.shape_tables.specs.Rules.{AsksFurther}
+use Rattle.stack_rules.specs.Tables.{ShapeTable}
+use Rattle.stack_rules.specs.Rules.{AsksFurther}
 use Rattle.stack_check.specs.declared.held.Held.{Held}
 use Rattle.stack_check.specs.declared.held.Heap.{Heap}
 use Rattle.stack_check.specs.declared.lists.Node.{Node}
@@ -25,7 +25,7 @@ use Rattle.stack_check.specs.declared.seen.Seen.TheVariants.{Quiet, Changed, Bad
 use Rattle.stack_check.specs.declared.leads.Kind.{Kind}
 use Rattle.stack_check.specs.declared.leads.Kind.TheVariants.{Call, Return, Store, Step}
 use Rattle.std.specs.Option.{option_map}
-use Rattle.machine_step.specs.Act.{next_place}
+use Rattle.machine_rules.specs.Act.{next_place}
 use Rattle.stack_check.specs.Shared.{read, Grows}
 use Rattle.stack_check.specs.Held.{AllAtMost, HeapGrows, Holds, IsIn, shape_of}
 use Rattle.stack_check.specs.Rows.{row_in}

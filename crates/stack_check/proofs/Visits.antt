@@ -7,9 +7,9 @@ use Rattle.ncs_code.specs.File.{op_at}
 use Rattle.stack_shape.specs.Stored.{TopShape}
 use Rattle.stack_shape.specs.Laws.{RuleLooksFromTop}
 use Rattle.stack_shape.specs.Rule.{IsOneStep, rule}
-use Rattle.machine_step.specs.Act.{next_place}
-use Rattle.shape_tables.specs.Tables.{ShapeTable}
-use Rattle.shape_tables.specs.Rules.{AsksFurther}
+use Rattle.machine_rules.specs.Act.{next_place}
+use Rattle.stack_rules.specs.Tables.{ShapeTable}
+use Rattle.stack_rules.specs.Rules.{AsksFurther}
 use Rattle.stack_check.specs.declared.held.Held.{Held}
 use Rattle.stack_check.specs.declared.held.Heap.{Heap}
 use Rattle.stack_check.specs.declared.facts.Facts.{Facts}

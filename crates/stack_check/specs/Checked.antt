@@ -4,8 +4,8 @@ use Rattle.ncs_code.specs.Plain.{PlainOp}
 use Rattle.saved_state.specs.declared.saved.Saved.{Saved}
 use Rattle.stack_shape.specs.declared.shape.Entry.TheVariants.{Stored}
 use Rattle.stack_shape.specs.Stored.{TopShape}
-use Rattle.shape_tables.specs.Tables.{ShapeTable}
-use Rattle.shape_tables.specs.Fits.{Fits}
+use Rattle.stack_rules.specs.Tables.{ShapeTable}
+use Rattle.stack_rules.specs.Fits.{Fits}
 use Rattle.stack_check.specs.declared.held.Heap.{Heap}
 use Rattle.stack_check.specs.declared.facts.Facts.{Facts}
 use Rattle.stack_check.specs.Facts.{table_of}

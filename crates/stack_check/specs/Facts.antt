@@ -5,7 +5,7 @@ use Rattle.ncs_code.specs.File.{header_size, resume_place}
 use Rattle.stack_shape.specs.declared.shape.Entry.{Entry}
 use Rattle.stack_shape.specs.declared.shape.Entry.TheVariants.{Start, Called, Stored}
 use Rattle.stack_shape.specs.Stored.{TopShape}
-use Rattle.shape_tables.specs.Tables.{Callee, ShapeTable}
+use Rattle.stack_rules.specs.Tables.{Callee, ShapeTable}
 use Rattle.stack_check.specs.declared.held.Held.{Held}
 use Rattle.stack_check.specs.declared.held.Heap.{Heap}
 use Rattle.stack_check.specs.declared.facts.Trial.{Trial}

@@ -10,9 +10,9 @@ use Rattle.stack_shape.specs.declared.shape.Entry.TheVariants.{Start, Called, St
 use Rattle.stack_shape.specs.declared.store.StoredTypes.{StoredTypes}
 use Rattle.stack_shape.specs.Stored.{TopShape, stored_types}
 use Rattle.stack_shape.specs.Laws.{deeper}
-use Rattle.shape_tables.specs.Tables.{Callee, ShapeTable}
+use Rattle.stack_rules.specs.Tables.{Callee, ShapeTable}
 use Rattle.stack_shape.specs.Rule.{IsOneStep, rule}
-use Rattle.shape_tables.specs.Rules.{AsksFurther, IsSound, MeetsRules, WellStacked}
+use Rattle.stack_rules.specs.Rules.{AsksFurther, IsSound, MeetsRules, WellStacked}
 use Rattle.stack_check.specs.declared.held.Held.{Held}
 use Rattle.stack_check.specs.declared.held.Heap.{Heap}
 use Rattle.stack_check.specs.declared.facts.Trial.{Trial}

@@ -1,7 +1,7 @@
 ghost use Rattle.std.specs.Prelude.{◌≡◌, ◌↔◌, IfOk, Err, IsTrue};
-ghost use Rattle.shape_tables.specs.Tables.{ShapeTable};
-ghost use Rattle.shape_tables.specs.Fits.{Fits};
-ghost use Rattle.shape_tables.specs.Rules.{MeetsRules, WellStacked};
+ghost use Rattle.stack_rules.specs.Tables.{ShapeTable};
+ghost use Rattle.stack_rules.specs.Fits.{Fits};
+ghost use Rattle.stack_rules.specs.Rules.{MeetsRules, WellStacked};
 ghost use Rattle.stack_check.specs.Checked.{StoredStand, kept_table};
 ghost use Rattle.stack_check.specs.declared.fault.CheckFault.TheVariants.{Unstacked};
 

@@ -4,7 +4,7 @@ ghost use Rattle.stack_check.specs.Held.{shape_of};
 ghost use Rattle.stack_check.specs.Facts.{table_of};
 ghost use Rattle.stack_check.specs.Fitting.{BeginsWith, IsFrame, IsResumedAt, IsValueOf, Resumes};
 ghost use Rattle.stack_check.specs.Fitting.{BeginsOtherwise, stored_at};
-ghost use Rattle.shape_tables.specs.Fits.{Fits};
+ghost use Rattle.stack_rules.specs.Fits.{Fits};
 
 use crate::facts::Facts;
 use crate::held::{Heap, Held};

@@ -1,5 +1,5 @@
 ghost use Rattle.std.specs.Prelude.{◌≡◌, false, true, Some, IfOk, MatchOption};
-ghost use Rattle.shape_tables.specs.Rules.{WellStacked};
+ghost use Rattle.stack_rules.specs.Rules.{WellStacked};
 ghost use Rattle.stack_check.specs.Inference.{CountsNot, Formed, IsFound, Keeps, SeesAll};
 ghost use Rattle.stack_check.specs.Inference.{SeesPlace};
 ghost use Rattle.stack_check.specs.Inference.{SeesRow, SeesTurn};

@@ -1,6 +1,6 @@
 //! The stack checker: whether a file of NCS code is well stacked.
 //!
-//! [`check`] finds a table of shapes that meets the rules of `shape_tables`, or tells that there is
+//! [`check`] finds a table of shapes that meets the rules of `stack_rules`, or tells that there is
 //! none. [`Checked`] keeps the code and the table; contracts see it as `specs/Checked.antt` says.
 //! What the table says of stored states stands in every table that meets the rules, so a captured
 //! state that fits it fits them all ([`fits_too`]).

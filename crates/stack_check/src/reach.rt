@@ -5,7 +5,7 @@ ghost use Rattle.stack_check.specs.Held.{IsIn, shape_of};
 ghost use Rattle.stack_check.specs.Inference.{AllLed, IsLed, IsStep, Keeps, Owed, Reached};
 ghost use Rattle.stack_check.specs.Inference.{RowIs, RowsKept};
 ghost use Rattle.stack_check.specs.Inference.{Visited, WhereQuiet, after_change, leads_of};
-ghost use Rattle.machine_step.specs.Act.{next_place};
+ghost use Rattle.machine_rules.specs.Act.{next_place};
 
 use crate::facts::Facts;
 use crate::held::{Heap, Held};

@@ -3,7 +3,7 @@ ghost use Rattle.std.specs.Prelude.{IfSome};
 ghost use Rattle.ncs_code.specs.Plain.{plain, Retn, StoreState};
 ghost use Rattle.ncs_code.specs.File.{op_at};
 ghost use Rattle.ncs_code.specs.Spelling.{op_size};
-ghost use Rattle.machine_step.specs.Act.{next_place};
+ghost use Rattle.machine_rules.specs.Act.{next_place};
 ghost use Rattle.stack_shape.specs.Rule.{IsOneStep};
 ghost use Rattle.stack_shape.specs.Stored.{stored_shape, stored_types};
 ghost use Rattle.stack_shape.specs.declared.shape.Entry.TheVariants.{Stored};

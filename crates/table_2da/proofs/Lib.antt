@@ -4,4 +4,4 @@ mod LineLemmas
 mod FrontLemmas
 mod RowLemmas
 mod TableLemmas
-mod Worked
+mod Examples

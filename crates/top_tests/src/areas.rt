@@ -2,10 +2,10 @@
 
 use crate::samples::{BROKEN, TREE};
 use area_tree::Area;
-use nwq_areas::{read_area, read_plan_file, write_area};
+use command_work::Status;
 use nwq_outside::{MemFiles, MemSink};
 use nwq_value::NoMemory;
-use nwq_work::Status;
+use play_inputs::{read_area, read_plan_file, write_area};
 use std::alloc::Global;
 use std::test::Fail;
 

@@ -1,8 +1,8 @@
 //! The parts of commands that read and write files, and put texts.
 
+use command_work::{Status, put, read_file, write_file};
 use nwq_outside::{MemFiles, MemSink};
 use nwq_value::NoMemory;
-use nwq_work::{Status, put, read_file, write_file};
 use std::alloc::Global;
 use std::test::Fail;
 

@@ -1,9 +1,9 @@
 //! The tables that a list names, and what they hold.
 
+use command_tables::read_tables;
+use command_work::Status;
 use nwq_outside::{MemFiles, MemSink};
-use nwq_tables::read_tables;
 use nwq_value::{NoMemory, Text};
-use nwq_work::Status;
 use std::alloc::Global;
 use std::test::Fail;
 

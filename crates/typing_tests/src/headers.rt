@@ -1,7 +1,7 @@
 //! Units under a header of their own.
 use crate::units::{Row, first_unlike_under};
-use nss_typing::FaultKind;
 use std::test::*;
+use typing_rules::FaultKind;
 
 const HEADER: &[u8] =
     b"int A(int a = 1, int b); void B(effect e, float f); float F = 1.0; string S = \

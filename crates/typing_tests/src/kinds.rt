@@ -1,7 +1,7 @@
 //! Each kind of fault at the constructs that can have it.
 use crate::units::{Row, first_unlike_built_in};
-use nss_typing::FaultKind;
 use std::test::*;
+use typing_rules::FaultKind;
 
 const OPERATORS: &[Row] = &[
     (

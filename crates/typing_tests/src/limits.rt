@@ -1,7 +1,7 @@
 //! The most cells of a struct, a frame and the globals.
 use crate::units::{Row, first_unlike_built_in};
-use nss_typing::FaultKind;
 use std::test::*;
+use typing_rules::FaultKind;
 
 const LIMITS: &[Row] = &[
     (

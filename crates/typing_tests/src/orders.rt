@@ -1,7 +1,7 @@
 //! Units with several faults, where the order of tokens and the order of reading differ.
 use crate::units::{Row, first_unlike_built_in};
-use nss_typing::FaultKind;
 use std::test::*;
+use typing_rules::FaultKind;
 
 const ORDERS: &[Row] = &[
     // A fault in a body and a later one in a parameter, and the other way round.

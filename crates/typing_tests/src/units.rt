@@ -4,11 +4,11 @@ use engine_table::{built_in, read_header};
 use nss_parser::parse;
 use nss_tree::Tree;
 use nss_types::{TypeFault, type_unit};
-use nss_typing::{Fault, FaultKind};
 use nwq_value::{FILE_BYTES, NoMemory, Table};
 use std::alloc::Global;
 use std::test::Fail;
 use test_units::tokens_of;
+use typing_rules::{Fault, FaultKind};
 
 /// A unit, with the kind and the token of its least fault where it has one.
 pub type Row = (&'static [u8], Option<(FaultKind, u32)>);

@@ -15,10 +15,10 @@ use Rattle.nwq_value.specs.declared.engine.Routine.{Routine}
 use Rattle.nwq_value.specs.declared.value.Ty.{Ty}
 use Rattle.nwq_value.specs.declared.value.Ty.TheVariants.{Void, Int, Text, Object, Effect, Event, Action, Struct, Refused}
 use Rattle.nwq_value.specs.declared.value.Value.{Value}
-use Rattle.engine_rows.specs.Pure.{CellLookup, pure}
-use Rattle.engine_rows.specs.World.{World}
-use Rattle.engine_rows.specs.Rows.{Call, Row, rows, drawn, drawn_from}
-use Rattle.engine_rows.specs.Engine.{by_role, by_routine, by_row, engine, row_numbered, world_value}
+use Rattle.world_rules.specs.Pure.{CellLookup, pure}
+use Rattle.world_rules.specs.World.{World}
+use Rattle.world_rules.specs.Rows.{Call, Row, rows, drawn, drawn_from}
+use Rattle.world_rules.specs.Engine.{by_role, by_routine, by_row, engine, row_numbered, world_value}
 use Rattle.world_core.specs.Answers.{IsOfType, AnswersHaveTypes}
 use Rattle.world_core.proofs.EngineLemmas.{at_place, or_false}
 

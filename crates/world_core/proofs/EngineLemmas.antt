@@ -20,8 +20,8 @@ use Rattle.stack_shape.specs.Calls.{argument_types, is_action}
 use Rattle.hook_table.specs.declared.hook.Known.{Known}
 use Rattle.hook_table.specs.Standard.{types_of, IsAnswer}
 use Rattle.hook_table.specs.Served.{StandardServe}
-use Rattle.engine_rows.specs.Arguments.{ints_of}
-use Rattle.engine_rows.specs.Pure.{pure}
+use Rattle.world_rules.specs.Arguments.{ints_of}
+use Rattle.world_rules.specs.Pure.{pure}
 use Rattle.world_core.specs.Calls.{tables_of, cells_of, AreServing}
 
 -- ---- the ints among arguments

@@ -2,8 +2,8 @@
 use Rattle.std.proofs.Common.{◌≡◌, ◌<◌, ◌≤◌, ◌+◌, ℕ, suc, List, [], ◌∷◌, map, length, get_or, drop, refl, sym, ap, ◌∙◌, arith}
 use Rattle.std.specs.List.{fold}
 use Rattle.std.proofs.Math.Seq.{drop-cons}
-use Rattle.engine_rows.specs.World.{World}
-use Rattle.engine_rows.specs.Turns.{with_planned}
+use Rattle.world_rules.specs.World.{World}
+use Rattle.world_rules.specs.Turns.{with_planned}
 use Rattle.world_core.specs.declared.start.Start.{Start}
 use Rattle.world_core.specs.Calls.{planned}
 

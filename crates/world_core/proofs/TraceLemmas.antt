@@ -3,8 +3,8 @@ use Rattle.std.proofs.Common.{◌≡◌, ℕ, ◌+◌, ◌<◌, List, [], ◌∷
 use Rattle.std.proofs.lemmas.List.{take_more, flat_map_more}
 use Rattle.std.specs.Result.{OnErr}
 use Rattle.std.specs.List.{flat_map}
-use Rattle.engine_rows.specs.declared.data.Line.{Line}
-use Rattle.engine_rows.specs.Trace.{line_text}
+use Rattle.world_rules.specs.declared.data.Line.{Line}
+use Rattle.world_rules.specs.Trace.{line_text}
 
 -- one more line was appended
 pub one_more_line : (before now : List ℕ) (lines : List Line) (i : ℕ) (x d : Line) → i < length lines → x ≡ get_or lines i d

@@ -10,13 +10,13 @@ use Rattle.nwq_value.specs.Engine.{EngineTable}
 use Rattle.nwq_value.specs.declared.engine.Routine.{Routine}
 use Rattle.nwq_value.specs.declared.memory.NoMemory.{NoMemory}
 use Rattle.nwq_value.specs.declared.value.Value.{Value}
-use Rattle.engine_rows.specs.Pure.{CellLookup}
-use Rattle.engine_rows.specs.World.{World, count}
-use Rattle.engine_rows.specs.Rows.{Answered, Call}
-use Rattle.engine_rows.specs.Engine.{by_role, by_routine, engine}
-use Rattle.engine_rows.specs.Kept.{IsWorld, IsBegun, IsPlaced, BeginKeeps, EngineKeeps}
-use Rattle.engine_rows.specs.Turns.{with_entries}
-use Rattle.world_rows.specs.Begun.{IsBegunAs}
+use Rattle.world_rules.specs.Pure.{CellLookup}
+use Rattle.world_rules.specs.World.{World, count}
+use Rattle.world_rules.specs.Rows.{Answered, Call}
+use Rattle.world_rules.specs.Engine.{by_role, by_routine, engine}
+use Rattle.world_rules.specs.Kept.{IsWorld, IsBegun, IsPlaced, BeginKeeps, EngineKeeps}
+use Rattle.world_rules.specs.Turns.{with_entries}
+use Rattle.world_parts.specs.Begun.{IsBegunAs}
 
 answered : {X : Type 0} → (r : Result (Option Value) NoMemory) (a : Answered X) (w v : World X) → IfOk r (λ value. record { value = value; world = v } ≡ a) → OnErr r (v ≡ w) →
     IsWorld w → IsWorld a.world → IsWorld v

@@ -7,10 +7,10 @@ use Rattle.nwq_value.specs.declared.engine.Routine.{Routine}
 use Rattle.nwq_value.specs.declared.value.Ty.{Ty}
 use Rattle.nwq_value.specs.declared.value.Ty.TheVariants.{Void}
 use Rattle.nwq_value.specs.declared.value.Value.{Value}
-use Rattle.engine_rows.specs.Pure.{CellLookup}
-use Rattle.engine_rows.specs.World.{World}
-use Rattle.engine_rows.specs.Rows.{Call}
-use Rattle.engine_rows.specs.Engine.{engine}
+use Rattle.world_rules.specs.Pure.{CellLookup}
+use Rattle.world_rules.specs.World.{World}
+use Rattle.world_rules.specs.Rows.{Call}
+use Rattle.world_rules.specs.Engine.{engine}
 
 -- a call's answer has this type: of void there is none, and of each other type a value of it
 abbrev pub IsOfType : Ty → Option Value → Type 0

@@ -1,4 +1,4 @@
--- What the calls on a world speak of beside the definitions of engine_rows.
+-- What the calls on a world speak of beside the definitions of world_rules.
 use Rattle.std.specs.Prelude.{◌≡◌, ◌<◌, ◌^◌, ℕ, List, [], Option, None, Some, slice_get}
 use Rattle.hook_table.specs.declared.hook.Known.{Known}
 use Rattle.hook_table.specs.Served.{AreStandard}
@@ -10,9 +10,9 @@ use Rattle.nwq_value.specs.declared.value.Value.{Value}
 use Rattle.stack_shape.specs.Calls.{argument_types}
 use Rattle.table_2da.specs.Look.{cell_of}
 use Rattle.table_2da.specs.declared.tables.Named.{Named}
-use Rattle.engine_rows.specs.Pure.{CellLookup}
-use Rattle.engine_rows.specs.World.{World}
-use Rattle.engine_rows.specs.Turns.{Planned}
+use Rattle.world_rules.specs.Pure.{CellLookup}
+use Rattle.world_rules.specs.World.{World}
+use Rattle.world_rules.specs.Turns.{Planned}
 use Rattle.world_core.specs.declared.start.Start.{Start}
 
 -- ---- events and starts of a plan

@@ -4,26 +4,26 @@ ghost use Rattle.std.specs.Prelude.{ℕ, Some};
 ghost use Rattle.std.specs.Prelude.{IfOk, OnOk, OnErr};
 ghost use Rattle.nwq_value.specs.Engine.{IsRoutine};
 ghost use Rattle.nwq_value.specs.declared.engine.Role.TheVariants as role;
-ghost use Rattle.engine_rows.specs.declared.data.Told.TheVariants as line;
-ghost use Rattle.engine_rows.specs.AlikeLaws.{call};
-ghost use Rattle.engine_rows.specs.Arguments.{ints_of};
-ghost use Rattle.engine_rows.specs.Changes.{told};
-ghost use Rattle.engine_rows.specs.Engine.{by_role, world_value};
-ghost use Rattle.engine_rows.specs.Kept.{IsWorld};
-ghost use Rattle.engine_rows.specs.Pure.{pure};
-ghost use Rattle.engine_rows.specs.World.{count};
+ghost use Rattle.world_rules.specs.declared.data.Told.TheVariants as line;
+ghost use Rattle.world_rules.specs.AlikeLaws.{call};
+ghost use Rattle.world_rules.specs.Arguments.{ints_of};
+ghost use Rattle.world_rules.specs.Changes.{told};
+ghost use Rattle.world_rules.specs.Engine.{by_role, world_value};
+ghost use Rattle.world_rules.specs.Kept.{IsWorld};
+ghost use Rattle.world_rules.specs.Pure.{pure};
+ghost use Rattle.world_rules.specs.World.{count};
 ghost use Rattle.hook_table.specs.Standard.{types_of};
 ghost use Rattle.stack_shape.specs.Calls.{argument_types};
 ghost use Rattle.world_core.specs.Calls.{cells_of, AreServing, IsEarly};
-ghost use Rattle.world_rows.specs.Row.{does};
+ghost use Rattle.world_parts.specs.Row.{does};
 
-use engine_rows::Told;
 use hook_table::Hooks;
 use hook_table::laws::standard_hooks_serve;
 use nwq_value::header::roles_tell;
 use nwq_value::{Args, Effect, Ints, NoMemory, Role, Routine, Text, Ty, Value};
 use std::alloc::Global;
-use world_rows::Parts;
+use world_parts::Parts;
+use world_rules::Told;
 
 /// Puts the number of an int last.
 fn push_int(ints: &mut Ints, value: &Value) -> Result<(), NoMemory>
@@ -199,7 +199,7 @@ pub(crate) fn take_room<X: Drop>(parts: &mut Parts<X>, room: u32) -> Result<(), 
 }
 
 /// A call of a routine by its role.
-#[tactic(auto, unfolding(world_rows::specs::Row::does))]
+#[tactic(auto, unfolding(world_parts::specs::Row::does))]
 pub(crate) fn by_role<X: Drop>(
     parts: &mut Parts<X>,
     room: u32,

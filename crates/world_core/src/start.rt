@@ -2,13 +2,13 @@
 ghost use Rattle.std.specs.Prelude.{◌≡◌, ◌<◌, ◌+◌, ◌^◌, drop, length, map, pos, OnOk};
 ghost use Rattle.std.specs.List.{fold};
 ghost use Rattle.delay_agenda.specs.declared.entry.Kind.TheVariants as kind;
-ghost use Rattle.engine_rows.specs.Changes.{post};
-ghost use Rattle.engine_rows.specs.Turns.{with_planned};
+ghost use Rattle.world_rules.specs.Changes.{post};
+ghost use Rattle.world_rules.specs.Turns.{with_planned};
 ghost use Rattle.world_core.specs.Calls.{planned};
 
 use delay_agenda::Kind;
 use nwq_value::{Items, NoMemory, Text};
-use world_rows::Parts;
+use world_parts::Parts;
 
 /// An event or a start of a plan: when it is due, its object, and the name of its script.
 #[derive(Drop)]

@@ -4,11 +4,11 @@ ghost use Rattle.std.specs.Fmt.{decimal, signed_decimal};
 ghost use Rattle.std.specs.List.{flat_map};
 ghost use Rattle.nwq_text.specs.Escape.{escaped};
 ghost use Rattle.nwq_text.specs.Values.{arguments_text, effect_text, object_text};
-ghost use Rattle.engine_rows.specs.Trace.{line_text, print_text, told_text, trace_text};
+ghost use Rattle.world_rules.specs.Trace.{line_text, print_text, told_text, trace_text};
 
-use engine_rows::{Line, Told};
 use nwq_text::{put_arguments, put_count, put_effect, put_number, put_object, put_text, put_value};
 use nwq_value::{Effect, NoMemory, Value};
+use world_rules::{Line, Told};
 
 /// Appends a printed value; a string stands without quotes.
 fn put_print(out: &mut Vec<u8>, value: &Value) -> Result<(), NoMemory>
@@ -121,7 +121,7 @@ fn put_head(out: &mut Vec<u8>, clock: u64, object: u32) -> Result<(), NoMemory>
 }
 
 /// Appends a line.
-#[tactic(auto, using(crate::proofs::TakenBack::taken_back, crate::proofs::TakenBack::taken_back_after), unfolding(engine_rows::specs::Trace::line_text))]
+#[tactic(auto, using(crate::proofs::TakenBack::taken_back, crate::proofs::TakenBack::taken_back_after), unfolding(world_rules::specs::Trace::line_text))]
 fn put_line(out: &mut Vec<u8>, line: &Line) -> Result<(), NoMemory>
     ensures ok { OnOk result (out.new.items ≡ out.old.items ++ line_text line.now) }
     ensures err { OnErr result (take (length out.old.items) out.new.items ≡ out.old.items) }
@@ -143,7 +143,7 @@ fn put_lines(out: &mut Vec<u8>, lines: &[Line]) -> Result<(), NoMemory>
 }
 
 /// Appends the text of lines.
-#[tactic(auto, unfolding(engine_rows::specs::Trace::trace_text))]
+#[tactic(auto, unfolding(world_rules::specs::Trace::trace_text))]
 pub(crate) fn put_trace(out: &mut Vec<u8>, lines: &[Line]) -> Result<(), NoMemory>
     ensures ok { OnOk result (out.new.items ≡ out.old.items ++ trace_text lines.now) }
     ensures err { OnErr result (out.new.items ≡ out.old.items) }

@@ -5,16 +5,16 @@ ghost use Rattle.std.specs.Prelude.{IfOk, IfSome, OnOk, OnErr, IsTrue, Some, pos
 ghost use Rattle.std.specs.List.{AllByRecursion};
 ghost use Rattle.std.specs.Option.{option_copied, option_map};
 ghost use Rattle.delay_agenda.specs.Order.{first_due};
-ghost use Rattle.engine_rows.specs.AlikeLaws.{call};
-ghost use Rattle.engine_rows.specs.Engine.{engine, may_run, no_script, too_deep};
-ghost use Rattle.engine_rows.specs.Kept.{IsActing, IsBegun, IsWorld};
-ghost use Rattle.engine_rows.specs.Trace.{trace_text};
-ghost use Rattle.engine_rows.specs.Turns.{new_world, turn, turn_done, unapply, fault, drained};
-ghost use Rattle.engine_rows.specs.Turns.{with_entries};
-ghost use Rattle.engine_rows.specs.World.{count, effects_of, queue_of};
+ghost use Rattle.world_rules.specs.AlikeLaws.{call};
+ghost use Rattle.world_rules.specs.Engine.{engine, may_run, no_script, too_deep};
+ghost use Rattle.world_rules.specs.Kept.{IsActing, IsBegun, IsWorld};
+ghost use Rattle.world_rules.specs.Trace.{trace_text};
+ghost use Rattle.world_rules.specs.Turns.{new_world, turn, turn_done, unapply, fault, drained};
+ghost use Rattle.world_rules.specs.Turns.{with_entries};
+ghost use Rattle.world_rules.specs.World.{count, effects_of, queue_of};
 ghost use Rattle.world_core.specs.Calls.{planned, cells_of, FitArguments, IsEarly, ServeRoutine};
-ghost use Rattle.world_rows.specs.Begun.{IsBegunAs};
-ghost use Rattle.world_rows.specs.Saved.{put_together};
+ghost use Rattle.world_parts.specs.Begun.{IsBegunAs};
+ghost use Rattle.world_parts.specs.Saved.{put_together};
 
 use crate::engine::{by_role, take_room};
 use crate::start::{Events, post_all};
@@ -22,12 +22,12 @@ use crate::trace::put_trace;
 use action_queue::Item;
 use area_tree::Area;
 use delay_agenda::{Entry, calls_keep_order};
-use engine_rows::{Told, calls_keep_worlds, entries_keep_worlds};
 use hook_table::Hooks;
 use nwq_value::{Args, Effect, NoMemory, Randoms, Table, Text, Value};
 use std::alloc::Global;
 use std::marker::Model;
-use world_rows::{Parts, WorldParts};
+use world_parts::{Parts, WorldParts};
+use world_rules::{Told, calls_keep_worlds, entries_keep_worlds};
 
 /// The world in which scripts run.
 ///
@@ -42,7 +42,7 @@ impl<X> Model for World<X> {
     ghost use Rattle.std.specs.Prelude.{◌≤◌};
     ghost use Rattle.std.specs.Coded.{codes};
     ghost use Rattle.gff_tree.specs.Code.{node_code};
-    ghost use Rattle.engine_rows.specs.Kept.{IsWorld};
+    ghost use Rattle.world_rules.specs.Kept.{IsWorld};
     ghost use Rattle.world_core.specs.Held.{Held};
 
     ghost Value = { Held X };
@@ -106,7 +106,7 @@ impl<X: Drop> World<X> {
         parts.into_parts()
     }
 
-    #[tactic(auto, unfolding(engine_rows::specs::Engine::engine))]
+    #[tactic(auto, unfolding(world_rules::specs::Engine::engine))]
     /// The call of a routine: what it gives, and how it leaves the world, is the routine's row.
     pub fn engine(
         &mut self,

@@ -4,8 +4,8 @@ ghost use Rattle.std.specs.List.{AllByRecursion};
 ghost use Rattle.delay_agenda.specs.declared.entry.Kind.TheVariants as variant;
 ghost use Rattle.nwq_value.specs.declared.engine.Role.TheVariants.{Pure};
 ghost use Rattle.nwq_value.specs.declared.engine.Routine.{Routine};
-ghost use Rattle.engine_rows.specs.Kept.{IsActing, IsPlaced};
-ghost use Rattle.engine_rows.specs.World.{count};
+ghost use Rattle.world_rules.specs.Kept.{IsActing, IsPlaced};
+ghost use Rattle.world_rules.specs.World.{count};
 ghost use Rattle.world_core.specs.Calls.{planned, IsEarly};
 
 use area_tree::Area;

@@ -1,6 +1,6 @@
 use Rattle.std.proofs.Common.{map, string_bytes}
 use Rattle.world_core.specs.Calls.{cells_of}
-use Rattle.nwq_work.specs.Work.{ending}
+use Rattle.command_work.specs.Work.{ending}
 use Rattle.command_words.specs.Words.{form_of}
 use Rattle.nwq_top.proofs.nwq_main.Goals as goal
 

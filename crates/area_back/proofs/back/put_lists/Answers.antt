@@ -2,7 +2,7 @@ use Rattle.std.proofs.Common.{sym, drop, ◌+◌, ◌∙◌, ap}
 use Rattle.gff_tree.specs.Tree.{plain_node}
 use Rattle.gff_tree.specs.Fields.{kind_of, fields_of, node_from, found}
 use Rattle.area_back.specs.Back.{list_back}
-use Rattle.area_objects.specs.Objects.{list_labels}
+use Rattle.area_rules.specs.Objects.{list_labels}
 use Rattle.area_tree.specs.Reading.{leaf_in}
 use Rattle.area_back.proofs.BackLemmas.{find_is, lists_turn}
 use Rattle.area_back.proofs.back.put_lists.Goals as goal

@@ -1,7 +1,7 @@
 use Rattle.std.proofs.Common.{◌≡◌, drop}
 use Rattle.gff_tree.specs.Tree.{plain_node}
 use Rattle.gff_tree.specs.Fields.{kind_of, fields_of, node_from}
-use Rattle.area_objects.specs.Objects.{list_labels}
+use Rattle.area_rules.specs.Objects.{list_labels}
 use Rattle.area_back.specs.Back.{lists_back}
 use Rattle.area_back.proofs.back.put_lists.Given as goal
 

@@ -1,7 +1,7 @@
 use Rattle.std.proofs.Common.{◌≡◌, ◌++◌, ◌+◌, map, drop, []}
 use Rattle.gff_tree.specs.Tree.{plain_node}
-use Rattle.area_objects.specs.Objects.{variables_in}
-use Rattle.area_objects.specs.Broken.{entries_places}
+use Rattle.area_rules.specs.Objects.{variables_in}
+use Rattle.area_rules.specs.Broken.{entries_places}
 use Rattle.area_tree.proofs.object.add_entries.Given as goal
 
 abbrev pub invariant-loop-entry : goal.invariant-loop-entry

@@ -2,7 +2,7 @@ use Rattle.std.proofs.Common.{◌≡◌, ◌+◌, ◌∙◌, Err, ap, arith, dro
 use Rattle.std.proofs.lemmas.Result.{err_from_is_err_and}
 use Rattle.gff_tree.specs.Tree.{plain_node}
 use Rattle.gff_tree.specs.Fields.{fields_of, found}
-use Rattle.area_objects.specs.Objects.{list_labels}
+use Rattle.area_rules.specs.Objects.{list_labels}
 use Rattle.area_tree.specs.Reading.{leaf_in, leaves_count}
 use Rattle.area_tree.proofs.ReadLemmas.{find_is, found_few, lists_next, lists_first, under_next, if_first}
 use Rattle.area_tree.proofs.object.add_lists.Goals as goal

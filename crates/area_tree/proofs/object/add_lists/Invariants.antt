@@ -1,8 +1,8 @@
 use Rattle.std.proofs.Common.{◌≡◌, ◌++◌, drop}
 use Rattle.gff_tree.specs.Tree.{plain_node}
 use Rattle.gff_tree.specs.Fields.{fields_of}
-use Rattle.area_objects.specs.Objects.{list_labels, objects_under, objects_of}
-use Rattle.area_objects.specs.Broken.{lists_places, broken_places}
+use Rattle.area_rules.specs.Objects.{list_labels, objects_under, objects_of}
+use Rattle.area_rules.specs.Broken.{lists_places, broken_places}
 use Rattle.area_tree.proofs.object.add_lists.Given as goal
 
 abbrev pub invariant-loop-list : goal.invariant-loop-list

@@ -1,8 +1,8 @@
 use Rattle.std.proofs.Common.{◌≡◌, ◌++◌, ◌+◌, ◌<◌, map, drop}
 use Rattle.gff_tree.specs.Tree.{plain_node, nodes_list}
 use Rattle.gff_tree.specs.Count.{nodes_count}
-use Rattle.area_objects.specs.Objects.{object_of}
-use Rattle.area_objects.specs.Broken.{members_places}
+use Rattle.area_rules.specs.Objects.{object_of}
+use Rattle.area_rules.specs.Broken.{members_places}
 use Rattle.area_tree.proofs.object.add_members.Given as goal
 
 abbrev pub invariant-loop-node : goal.invariant-loop-node

@@ -1,6 +1,6 @@
 use Rattle.std.proofs.Common.{◌≡◌, ◌++◌, map, drop}
 use Rattle.gff_tree.specs.Tree.{plain_field}
-use Rattle.area_objects.specs.Objects.{scripts_in}
+use Rattle.area_rules.specs.Objects.{scripts_in}
 use Rattle.area_tree.proofs.object.read_scripts.Given as goal
 
 abbrev pub invariant-loop-field : goal.invariant-loop-field

@@ -1,5 +1,5 @@
 use Rattle.std.proofs.Common.{◌≡◌, drop}
-use Rattle.area_objects.specs.Area.{script_named}
+use Rattle.area_rules.specs.Area.{script_named}
 use Rattle.area_tree.proofs.object.script_in.Given as goal
 
 abbrev pub invariant-loop-script : goal.invariant-loop-script

@@ -1,5 +1,5 @@
 use Rattle.std.proofs.Common.{◌≡◌, ◌<◌, ◌++◌, ℕ, suc, List, drop, length}
-use Rattle.area_objects.specs.Area.{tagged}
+use Rattle.area_rules.specs.Area.{tagged}
 use Rattle.area_tree.specs.Index.{numbers_under, ArePlaces}
 use Rattle.area_tree.proofs.tags.add_all.Given as goal
 

@@ -1,5 +1,5 @@
 use Rattle.nss_tree.specs.Reading.{plain_tree}
-use Rattle.nss_typing.specs.UnitReading.{typed_unit}
+use Rattle.typing_rules.specs.UnitReading.{typed_unit}
 use Rattle.code_tests.proofs.compile.typed.Goals as goal
 
 pub returns-in-Ok : goal.returns-in-Ok

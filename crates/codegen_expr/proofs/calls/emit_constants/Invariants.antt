@@ -1,5 +1,5 @@
 use Rattle.std.proofs.Common.{◌≡◌, ◌≤◌, ◌++◌, drop, length}
-use Rattle.code_emission.specs.Expressions as code
+use Rattle.emission_rules.specs.Expressions as code
 use Rattle.codegen_expr.proofs.calls.emit_constants.Given as goal
 
 abbrev pub decreases-loop-i : goal.decreases-loop-i

@@ -1,13 +1,13 @@
 use Rattle.std.proofs.Common.{◌≡◌, ◌∙◌, ◌+◌, ap, sym, refl, arith, length}
 use Rattle.std.specs.Option.{option_map}
-use Rattle.nss_typing.specs.Reading.{plain, plain_all}
-use Rattle.nss_typing.specs.Readings.{plain_assign, plain_binary, plain_call, plain_literal, plain_member, plain_name, plain_postfix, plain_prefix}
-use Rattle.nss_typing.specs.Typed.{type_of}
-use Rattle.nss_typing.specs.Types.{is_void}
+use Rattle.typing_rules.specs.Reading.{plain, plain_all}
+use Rattle.typing_rules.specs.Readings.{plain_assign, plain_binary, plain_call, plain_literal, plain_member, plain_name, plain_postfix, plain_prefix}
+use Rattle.typing_rules.specs.Typed.{type_of}
+use Rattle.typing_rules.specs.Types.{is_void}
 use Rattle.ncs_emit.specs.Labelled.{LabelledCode}
-use Rattle.code_emission.specs.Bounds.{weight, all_weight}
-use Rattle.code_emission.specs.Layout.{cells}
-use Rattle.code_emission.specs.Expressions as code
+use Rattle.emission_rules.specs.Bounds.{weight, all_weight}
+use Rattle.emission_rules.specs.Layout.{cells}
+use Rattle.emission_rules.specs.Expressions as code
 use Rattle.codegen_expr.specs.Parts.{plain_home, plain_shortcut}
 use Rattle.codegen_expr.proofs.Nodes.{and_code, arguments_step, assign_code, call_code, captured_code, extended_none, known_code, known_lines, member_read_code, or_code}
 use Rattle.codegen_expr.proofs.Ready.{argument_falls, argument_ready, assign_is_of, assign_parts, at_labels, binary_is_of, binary_parts, call_is_of, call_parts, called_ready, captured_ready, counted, falls_arguments, falls_both, falls_first, falls_one, falls_second, member_is_of, member_parts, name_type, next_left, none_left, plain_ready, postfix_is_of, postfix_parts, prefix_is_of, prefix_parts, ready_few, ready_fits, same_ready, short_first, short_second, small_depth}

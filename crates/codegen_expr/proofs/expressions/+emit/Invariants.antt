@@ -1,7 +1,7 @@
 use Rattle.std.proofs.Common.{◌≡◌, ◌≤◌, ◌+◌, drop, length}
-use Rattle.nss_typing.specs.Reading.{plain, plain_all}
-use Rattle.code_emission.specs.Bounds.{weight, all_weight}
-use Rattle.code_emission.specs.Expressions as code
+use Rattle.typing_rules.specs.Reading.{plain, plain_all}
+use Rattle.emission_rules.specs.Bounds.{weight, all_weight}
+use Rattle.emission_rules.specs.Expressions as code
 use Rattle.codegen_expr.specs.Emitted.{extended}
 use Rattle.codegen_expr.proofs.expressions.+emit.Given as goal
 

@@ -1,7 +1,7 @@
 use Rattle.std.proofs.Common.{◌≡◌, ◌++◌, drop}
 use Rattle.std.specs.List.{AllByRecursion}
-use Rattle.code_emission.specs.Bounds.{IsCell}
-use Rattle.code_emission.specs.Operations as code
+use Rattle.emission_rules.specs.Bounds.{IsCell}
+use Rattle.emission_rules.specs.Operations as code
 use Rattle.codegen_expr.proofs.lines.start_all.Given as goal
 
 abbrev pub invariant-loop-ty : goal.invariant-loop-ty

@@ -1,5 +1,5 @@
 use Rattle.std.proofs.Common.{refl}
-use Rattle.nss_typing.specs.Readings.{plain_assign, plain_binary, plain_call, plain_postfix, plain_prefix}
+use Rattle.typing_rules.specs.Readings.{plain_assign, plain_binary, plain_call, plain_postfix, plain_prefix}
 use Rattle.codegen_expr.proofs.Nodes.{no_home}
 use Rattle.codegen_expr.proofs.places.+home_of.Goals as goal
 

@@ -1,6 +1,6 @@
 use Rattle.std.proofs.Common.{◌≡◌, drop}
-use Rattle.nss_typing.specs.UnitReading.{typed_names}
-use Rattle.code_emission.specs.Statements as code
+use Rattle.typing_rules.specs.UnitReading.{typed_names}
+use Rattle.emission_rules.specs.Statements as code
 use Rattle.codegen_expr.specs.Emitted.{extended}
 use Rattle.codegen_unit.specs.Ready.{NamesReady}
 use Rattle.codegen_unit.proofs.declarations.emit_names.Given as goal

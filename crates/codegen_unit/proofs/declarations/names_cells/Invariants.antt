@@ -1,6 +1,6 @@
 use Rattle.std.proofs.Common.{◌≡◌, ◌+◌, drop}
-use Rattle.nss_typing.specs.UnitReading.{typed_names}
-use Rattle.code_emission.specs.Layout as laid
+use Rattle.typing_rules.specs.UnitReading.{typed_names}
+use Rattle.emission_rules.specs.Layout as laid
 use Rattle.codegen_unit.proofs.declarations.names_cells.Given as goal
 
 abbrev pub invariant-loop-name : goal.invariant-loop-name

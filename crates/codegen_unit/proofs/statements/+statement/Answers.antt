@@ -3,10 +3,10 @@ use Rattle.std.specs.Option.{option_map}
 use Rattle.nss_tree.specs.Readings.{tree_block, tree_break_off, tree_case_label, tree_continue_on, tree_declaration, tree_default_label, tree_do_loop, tree_empty, tree_expression, tree_for_loop, tree_if_else, tree_if_only, tree_return_from, tree_switch, tree_while_loop}
 use Rattle.nss_tree.specs.Statements.{map_stmt}
 use Rattle.ncs_emit.specs.Labelled.{LabelledCode}
-use Rattle.nss_typing.specs.Reading.{plain}
-use Rattle.nss_typing.specs.UnitReading.{typed_stmt, typed_stmts}
-use Rattle.code_emission.specs.Expressions.{labels}
-use Rattle.code_emission.specs.Statements as code
+use Rattle.typing_rules.specs.Reading.{plain}
+use Rattle.typing_rules.specs.UnitReading.{typed_stmt, typed_stmts}
+use Rattle.emission_rules.specs.Expressions.{labels}
+use Rattle.emission_rules.specs.Statements as code
 use Rattle.codegen_unit.specs.Ready.{plain_exits}
 use Rattle.codegen_unit.proofs.Arms.{block_is, block_parts, body_of_switch_ready, break_leads, continue_leads, declaration_is, do_is, do_parts, effect_part, for_is, for_parts, if_else_is, if_else_parts, if_only_is, if_only_parts, falls_row, all_size, known_code, known_lines, known_none, names_part, plain_in_loop, plain_in_switch, return_part, small, switch_is, switch_parts, while_is, while_parts}
 use Rattle.codegen_unit.proofs.Choosing.{choice_open, close_open, for_open, switch_code}

@@ -1,8 +1,8 @@
 use Rattle.std.proofs.Common.{◌≡◌, ◌+◌, drop}
-use Rattle.nss_typing.specs.UnitReading.{typed_stmt, typed_stmts}
+use Rattle.typing_rules.specs.UnitReading.{typed_stmt, typed_stmts}
 use Rattle.codegen_unit.proofs.Arms.{size, all_size}
-use Rattle.code_emission.specs.Layout.{all_declared_cells}
-use Rattle.code_emission.specs.Statements as code
+use Rattle.emission_rules.specs.Layout.{all_declared_cells}
+use Rattle.emission_rules.specs.Statements as code
 use Rattle.codegen_expr.specs.Emitted.{extended}
 use Rattle.codegen_unit.specs.Ready.{AreOpenIn, StmtsReady, plain_exits}
 use Rattle.codegen_unit.proofs.statements.+statement.Given as goal

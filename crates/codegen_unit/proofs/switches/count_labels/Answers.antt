@@ -1,5 +1,5 @@
 use Rattle.std.proofs.Common.{arith}
-use Rattle.code_emission.specs.Statements as code
+use Rattle.emission_rules.specs.Statements as code
 use Rattle.codegen_unit.proofs.Known.{count_step, stmts_past}
 use Rattle.codegen_unit.proofs.switches.count_labels.Goals as goal
 

@@ -1,7 +1,7 @@
 use Rattle.std.proofs.Common.{◌≡◌, ◌+◌, ◌≤◌, ◌++◌, drop}
 use Rattle.ncs_emit.specs.Labelled.{LabelledCode}
-use Rattle.nss_typing.specs.UnitReading.{typed_stmts}
-use Rattle.code_emission.specs.Statements as code
+use Rattle.typing_rules.specs.UnitReading.{typed_stmts}
+use Rattle.emission_rules.specs.Statements as code
 use Rattle.codegen_unit.proofs.switches.emit_tests.Given as goal
 
 abbrev pub invariant-loop-stmt : goal.invariant-loop-stmt

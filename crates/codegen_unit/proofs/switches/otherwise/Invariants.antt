@@ -1,6 +1,6 @@
 use Rattle.std.proofs.Common.{◌≡◌, ◌+◌, ◌<◌, ◌^◌, drop}
-use Rattle.nss_typing.specs.UnitReading.{typed_stmts}
-use Rattle.code_emission.specs.Statements as code
+use Rattle.typing_rules.specs.UnitReading.{typed_stmts}
+use Rattle.emission_rules.specs.Statements as code
 use Rattle.codegen_unit.proofs.switches.otherwise.Given as goal
 
 abbrev pub invariant-loop-stmt : goal.invariant-loop-stmt

@@ -1,5 +1,5 @@
 use Rattle.std.proofs.Common.{arith}
-use Rattle.nss_typing.specs.UnitReading.{typed_stmts}
+use Rattle.typing_rules.specs.UnitReading.{typed_stmts}
 use Rattle.codegen_unit.specs.Ready.{plain_exits}
 use Rattle.codegen_unit.proofs.InRow.{stmts_few}
 use Rattle.codegen_unit.proofs.Listed.{function_code}

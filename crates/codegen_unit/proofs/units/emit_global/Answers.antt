@@ -1,6 +1,6 @@
 use Rattle.std.proofs.Common.{arith, ap, sym, ◌∙◌}
 use Rattle.nss_tree.specs.Units.{global}
-use Rattle.nss_typing.specs.UnitReading.{typed_item, typed_names}
+use Rattle.typing_rules.specs.UnitReading.{typed_item, typed_names}
 use Rattle.codegen_unit.proofs.Listed.{one_few}
 use Rattle.codegen_unit.proofs.units.emit_global.Goals as goal
 

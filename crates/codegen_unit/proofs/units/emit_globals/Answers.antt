@@ -1,7 +1,7 @@
 use Rattle.std.proofs.Common.{sym, ◌∙◌}
-use Rattle.nss_typing.specs.UnitReading.{typed_items}
+use Rattle.typing_rules.specs.UnitReading.{typed_items}
 use Rattle.std.proofs.Common.{drop, ◌+◌}
-use Rattle.code_emission.specs.Units as units
+use Rattle.emission_rules.specs.Units as units
 use Rattle.codegen_expr.specs.Emitted.{extended}
 use Rattle.codegen_unit.proofs.Listed.{globals_rest, items_next}
 use Rattle.codegen_unit.proofs.units.emit_globals.Goals as goal

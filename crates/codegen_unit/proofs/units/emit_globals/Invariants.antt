@@ -1,6 +1,6 @@
 use Rattle.std.proofs.Common.{◌≡◌, drop}
-use Rattle.nss_typing.specs.UnitReading.{typed_items}
-use Rattle.code_emission.specs.Units as units
+use Rattle.typing_rules.specs.UnitReading.{typed_items}
+use Rattle.emission_rules.specs.Units as units
 use Rattle.codegen_expr.specs.Emitted.{extended}
 use Rattle.codegen_unit.specs.Ready.{GlobalsReady}
 use Rattle.codegen_unit.proofs.units.emit_globals.Given as goal

@@ -1,7 +1,7 @@
 use Rattle.std.proofs.Common.{arith, ap, ◌∙◌, ◌++◌}
 use Rattle.ncs_emit.specs.Labelled.{LabelledCode}
-use Rattle.nss_typing.specs.UnitReading.{typed_items, typed_unit}
-use Rattle.code_emission.specs.Units as units
+use Rattle.typing_rules.specs.UnitReading.{typed_items, typed_unit}
+use Rattle.emission_rules.specs.Units as units
 use Rattle.codegen_unit.proofs.Listed.{unit_functions, unit_globals, unit_open}
 use Rattle.codegen_unit.proofs.units.emit_unit.Goals as goal
 

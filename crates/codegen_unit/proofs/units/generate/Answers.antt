@@ -1,7 +1,7 @@
 use Rattle.std.proofs.Common.{◌<◌, ◌≤◌, subst, sym}
 use Rattle.ncs_emit.specs.Labelled.{LabelledCode, placements}
-use Rattle.nss_typing.specs.UnitReading.{typed_unit}
-use Rattle.code_emission.specs.Units as units
+use Rattle.typing_rules.specs.UnitReading.{typed_unit}
+use Rattle.emission_rules.specs.Units as units
 use Rattle.codegen_unit.proofs.Listed.{placed_some}
 use Rattle.codegen_unit.proofs.units.generate.Goals as goal
 

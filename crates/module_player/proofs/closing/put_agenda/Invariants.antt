@@ -1,6 +1,6 @@
 use Rattle.std.proofs.Common.{◌≡◌, ◌++◌, length}
 use Rattle.std.specs.List.{flat_map}
-use Rattle.engine_rows.specs.EndText.{due_line}
+use Rattle.world_rules.specs.EndText.{due_line}
 use Rattle.ncs_machine.specs.Host.{scripts_of}
 use Rattle.module_player.specs.CodePlays.{script_name}
 use Rattle.module_player.proofs.closing.put_agenda.Given as goal

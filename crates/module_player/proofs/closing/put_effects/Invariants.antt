@@ -1,5 +1,5 @@
 use Rattle.std.proofs.Common.{◌≡◌, ◌++◌, drop, suc}
-use Rattle.engine_rows.specs.EndText.{by_object, standing_lines}
+use Rattle.world_rules.specs.EndText.{by_object, standing_lines}
 use Rattle.module_player.proofs.closing.put_effects.Given as goal
 
 abbrev pub invariant-loop-i : goal.invariant-loop-i

@@ -1,5 +1,5 @@
 use Rattle.std.proofs.Common.{refl}
-use Rattle.engine_rows.specs.World.{effects_of}
+use Rattle.world_rules.specs.World.{effects_of}
 use Rattle.module_player.proofs.EndLemmas.{effects_end, effects_go}
 use Rattle.module_player.proofs.closing.put_effects_of.Goals as goal
 

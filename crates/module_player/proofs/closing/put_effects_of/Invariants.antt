@@ -1,5 +1,5 @@
 use Rattle.std.proofs.Common.{◌≡◌, ◌++◌, drop}
-use Rattle.engine_rows.specs.World.{effects_of}
+use Rattle.world_rules.specs.World.{effects_of}
 use Rattle.module_player.specs.EndTexts.{effects_text}
 use Rattle.module_player.proofs.closing.put_effects_of.Given as goal
 

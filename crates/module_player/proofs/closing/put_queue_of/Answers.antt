@@ -1,5 +1,5 @@
 use Rattle.std.proofs.Common.{refl}
-use Rattle.engine_rows.specs.World.{queue_of}
+use Rattle.world_rules.specs.World.{queue_of}
 use Rattle.ncs_machine.specs.Host.{scripts_of}
 use Rattle.module_player.specs.CodePlays.{script_name}
 use Rattle.module_player.proofs.EndLemmas.{items_end, items_go}

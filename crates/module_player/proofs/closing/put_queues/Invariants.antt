@@ -1,5 +1,5 @@
 use Rattle.std.proofs.Common.{◌≡◌, ◌++◌, drop, suc}
-use Rattle.engine_rows.specs.EndText.{by_object, queue_lines}
+use Rattle.world_rules.specs.EndText.{by_object, queue_lines}
 use Rattle.ncs_machine.specs.Host.{scripts_of}
 use Rattle.module_player.specs.CodePlays.{script_name}
 use Rattle.module_player.proofs.closing.put_queues.Given as goal

@@ -1,5 +1,5 @@
 use Rattle.std.proofs.Common.{◌++◌, ◌∙◌, ap}
-use Rattle.engine_rows.specs.EndText.{by_object, standing_lines}
+use Rattle.world_rules.specs.EndText.{by_object, standing_lines}
 use Rattle.ncs_machine.specs.Host.{scripts_of}
 use Rattle.module_player.specs.EndTexts.{closing_line}
 use Rattle.module_player.proofs.EndLemmas.{text_is}

@@ -1,5 +1,5 @@
 use Rattle.std.proofs.Common.{sym, subst, ap, ◌∙◌}
-use Rattle.shape_tables.specs.Safe.{IsSafeFrame}
+use Rattle.stack_rules.specs.Safe.{IsSafeFrame}
 use Rattle.ncs_machine.specs.Host.{scripts_of, tables_of}
 use Rattle.ncs_machine.specs.Steps.{Frames}
 use Rattle.ncs_machine.proofs.Beginning.{start_safe}

@@ -1,7 +1,7 @@
 use Rattle.std.proofs.Common.{◌≡◌, ◌∙◌, ◌&&◌, ◌+◌, drop, false, true, sym, ap, arith, rules}
 use Rattle.std.proofs.lemmas.List.{at_drop_all}
-use Rattle.nss_typing.specs.Reading.{plain_all}
-use Rattle.nss_typing.specs.Rules.{all_taken, others}
+use Rattle.typing_rules.specs.Reading.{plain_all}
+use Rattle.typing_rules.specs.Rules.{all_taken, others}
 use Rattle.nss_expressions.proofs.ArgumentLemmas.{all_taken_at, all_taken_end}
 use Rattle.nss_expressions.proofs.call.all_taken.Goals as goal
 

@@ -1,6 +1,6 @@
 use Rattle.std.proofs.Common.{◌≡◌, drop}
-use Rattle.nss_typing.specs.Reading.{plain_all}
-use Rattle.nss_typing.specs.Rules.{all_taken}
+use Rattle.typing_rules.specs.Reading.{plain_all}
+use Rattle.typing_rules.specs.Rules.{all_taken}
 use Rattle.nss_expressions.proofs.call.all_taken.Given as goal
 
 abbrev pub invariant-loop-x : goal.invariant-loop-x

@@ -1,5 +1,5 @@
 use Rattle.std.proofs.Common.{refl}
-use Rattle.nss_typing.specs.Readings.{plain_call, plain_member, plain_prefix, plain_postfix, plain_binary, plain_assign}
+use Rattle.typing_rules.specs.Readings.{plain_call, plain_member, plain_prefix, plain_postfix, plain_binary, plain_assign}
 use Rattle.nss_expressions.proofs.call.is_void_call.Goals as goal
 
 pub returns-in-Call : goal.returns-in-Call

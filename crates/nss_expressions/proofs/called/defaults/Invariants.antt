@@ -1,6 +1,6 @@
 use Rattle.std.proofs.Common.{◌≡◌, ◌++◌, drop}
 use Rattle.std.specs.Option.{option_map}
-use Rattle.nss_typing.specs.Rules.{defaults}
+use Rattle.typing_rules.specs.Rules.{defaults}
 use Rattle.nss_expressions.proofs.called.defaults.Given as goal
 
 abbrev pub invariant-loop-param : goal.invariant-loop-param

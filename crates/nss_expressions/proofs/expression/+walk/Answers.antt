@@ -4,11 +4,11 @@ use Rattle.std.proofs.lemmas.Result.{IfOk-from_err}
 use Rattle.nss_tree.specs.Expressions as tree
 use Rattle.nss_tree.specs.Reading.{plain_expr, plain_exprs}
 use Rattle.nss_tree.specs.Readings.{plain_call, plain_float, plain_member, plain_name, plain_object_invalid, plain_object_self, plain_prefix, plain_postfix, plain_binary, plain_assign}
-use Rattle.nss_typing.specs.Nodes.{asked, fine, kept, two}
-use Rattle.nss_typing.specs.Reading.{plain, plain_all}
-use Rattle.nss_typing.specs.Rules.{call_rows, call_rule, member_rows, member_rule, name_rows, name_rule, prefix_rows, prefix_rule, postfix_rows, postfix_rule, binary_rows, binary_rule, assign_rows, assign_rule}
-use Rattle.nss_typing.specs.Sight.{callee, name_means, types_wanted, wanted}
-use Rattle.nss_typing.specs.Verdicts.{all_faults, all_fine, faults, value, value_faults, verdict}
+use Rattle.typing_rules.specs.Nodes.{asked, fine, kept, two}
+use Rattle.typing_rules.specs.Reading.{plain, plain_all}
+use Rattle.typing_rules.specs.Rules.{call_rows, call_rule, member_rows, member_rule, name_rows, name_rule, prefix_rows, prefix_rule, postfix_rows, postfix_rule, binary_rows, binary_rule, assign_rows, assign_rule}
+use Rattle.typing_rules.specs.Sight.{callee, name_means, types_wanted, wanted}
+use Rattle.typing_rules.specs.Verdicts.{all_faults, all_fine, faults, value, value_faults, verdict}
 use Rattle.nss_expressions.specs.Views.{called_of, heads_in, sight_in}
 use Rattle.nss_expressions.proofs.ArgumentLemmas.{begin_value, next_value, next_least, end_value, end_least}
 use Rattle.nss_expressions.proofs.Nodes.{all_size, assign_is, binary_is, call_is, err_on, falls, member_is, next_falls, postfix_is, prefix_is, size}

@@ -1,9 +1,9 @@
 use Rattle.std.proofs.Common.{◌≡◌, ◌+◌, drop}
 use Rattle.std.specs.Option.{option_map}
 use Rattle.nss_tree.specs.Reading.{plain_expr, plain_exprs}
-use Rattle.nss_typing.specs.Nodes.{kept}
-use Rattle.nss_typing.specs.Reading.{plain_all}
-use Rattle.nss_typing.specs.Verdicts.{all_faults, all_fine}
+use Rattle.typing_rules.specs.Nodes.{kept}
+use Rattle.typing_rules.specs.Reading.{plain_all}
+use Rattle.typing_rules.specs.Verdicts.{all_faults, all_fine}
 use Rattle.nss_expressions.specs.Arguments.{with_others}
 use Rattle.nss_expressions.specs.Views.{heads_in, sight_in}
 use Rattle.nss_expressions.proofs.Nodes.{all_size, size}

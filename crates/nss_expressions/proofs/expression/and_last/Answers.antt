@@ -1,5 +1,5 @@
 use Rattle.std.proofs.Common.{◌∙◌, ap, Some}
-use Rattle.nss_typing.specs.Reading.{plain_all}
+use Rattle.typing_rules.specs.Reading.{plain_all}
 use Rattle.nss_expressions.proofs.ArgumentLemmas.{pushed}
 use Rattle.nss_expressions.proofs.expression.and_last.Goals as goal
 

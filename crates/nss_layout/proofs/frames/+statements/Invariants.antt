@@ -1,6 +1,6 @@
 use Rattle.std.proofs.Common.{◌≡◌, ◌++◌, drop}
-use Rattle.nss_typing.specs.UnitReading.{typed_stmts}
-use Rattle.code_emission.specs.Layout as laid
+use Rattle.typing_rules.specs.UnitReading.{typed_stmts}
+use Rattle.emission_rules.specs.Layout as laid
 use Rattle.nss_layout.proofs.frames.+statements.Given as goal
 
 abbrev pub invariant-stmts_positions-loop-stmt : goal.invariant-stmts_positions-loop-stmt

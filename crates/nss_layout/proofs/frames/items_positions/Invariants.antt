@@ -1,6 +1,6 @@
 use Rattle.std.proofs.Common.{◌≡◌, ◌+◌, ◌++◌, drop}
-use Rattle.nss_typing.specs.UnitReading.{typed_items}
-use Rattle.code_emission.specs.Layout as laid
+use Rattle.typing_rules.specs.UnitReading.{typed_items}
+use Rattle.emission_rules.specs.Layout as laid
 use Rattle.nss_layout.proofs.frames.items_positions.Given as goal
 
 abbrev pub invariant-loop-item : goal.invariant-loop-item

@@ -1,5 +1,5 @@
 use Rattle.std.proofs.Common.{◌≡◌, ◌++◌, drop}
-use Rattle.code_emission.specs.Layout as laid
+use Rattle.emission_rules.specs.Layout as laid
 use Rattle.nss_layout.proofs.frames.params_positions.Given as goal
 
 abbrev pub invariant-loop-parameter : goal.invariant-loop-parameter

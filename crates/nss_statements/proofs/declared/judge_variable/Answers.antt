@@ -1,9 +1,9 @@
 use Rattle.std.proofs.Common.{◌∙◌, sym, ap, None, Some}
 use Rattle.std.specs.Option.{option_map}
 use Rattle.nss_tree.specs.Reading.{plain_name}
-use Rattle.nss_typing.specs.Nodes.{at, fine, kept}
-use Rattle.nss_typing.specs.Reading.{plain}
-use Rattle.nss_typing.specs.Sight.{crosses_with, is_taken}
+use Rattle.typing_rules.specs.Nodes.{at, fine, kept}
+use Rattle.typing_rules.specs.Reading.{plain}
+use Rattle.typing_rules.specs.Sight.{crosses_with, is_taken}
 use Rattle.nss_scopes.specs.Views.{in_sight}
 use Rattle.nss_statements.proofs.Judged.{variable_is}
 use Rattle.nss_statements.proofs.declared.judge_variable.Goals as goal

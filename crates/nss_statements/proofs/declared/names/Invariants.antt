@@ -1,9 +1,9 @@
 use Rattle.std.proofs.Common.{◌≡◌, drop}
 use Rattle.std.specs.Option.{option_map}
 use Rattle.nss_tree.specs.Reading.{plain_names}
-use Rattle.nss_typing.specs.Nodes.{kept}
-use Rattle.nss_typing.specs.UnitReading.{typed_names}
-use Rattle.nss_typing.specs.Verdicts.{after_names, names_faults, names_fine}
+use Rattle.typing_rules.specs.Nodes.{kept}
+use Rattle.typing_rules.specs.UnitReading.{typed_names}
+use Rattle.typing_rules.specs.Verdicts.{after_names, names_faults, names_fine}
 use Rattle.nss_expressions.specs.Rows.{with_rest}
 use Rattle.nss_expressions.specs.Views.{heads_in, sight_in}
 use Rattle.nss_statements.proofs.declared.names.Given as goal

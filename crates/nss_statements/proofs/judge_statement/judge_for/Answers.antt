@@ -1,10 +1,10 @@
 use Rattle.std.proofs.Common.{◌≡◌, ap, subst, sym}
 use Rattle.std.specs.Option.{option_map}
 use Rattle.std.specs.Result.{IfOk, OnOk}
-use Rattle.nss_typing.specs.Nodes.{asked, at, fine, kept}
-use Rattle.nss_typing.specs.Reading.{plain}
-use Rattle.nss_typing.specs.Rules.{for_rows, for_rule}
-use Rattle.nss_typing.specs.UnitReading.{typed_stmt}
+use Rattle.typing_rules.specs.Nodes.{asked, at, fine, kept}
+use Rattle.typing_rules.specs.Reading.{plain}
+use Rattle.typing_rules.specs.Rules.{for_rows, for_rule}
+use Rattle.typing_rules.specs.UnitReading.{typed_stmt}
 use Rattle.nss_statements.proofs.Judged.{four_is}
 use Rattle.nss_statements.proofs.judge_statement.judge_for.Goals as goal
 

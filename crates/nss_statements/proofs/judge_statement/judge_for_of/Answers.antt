@@ -2,11 +2,11 @@ use Rattle.std.proofs.Common.{◌∙◌, Some, ap, sym}
 use Rattle.std.specs.Option.{option_map}
 use Rattle.nss_tree.specs.Statements as tree
 use Rattle.nss_tree.specs.Statements.{map_stmt}
-use Rattle.nss_typing.specs.declared.fault.FaultKind.TheVariants.{Mismatch}
-use Rattle.nss_typing.specs.Nodes.{at, fine, kept, ruled}
-use Rattle.nss_typing.specs.Reading.{plain}
-use Rattle.nss_typing.specs.Rules.{when}
-use Rattle.nss_typing.specs.UnitReading.{typed_stmt}
+use Rattle.typing_rules.specs.declared.fault.FaultKind.TheVariants.{Mismatch}
+use Rattle.typing_rules.specs.Nodes.{at, fine, kept, ruled}
+use Rattle.typing_rules.specs.Reading.{plain}
+use Rattle.typing_rules.specs.Rules.{when}
+use Rattle.typing_rules.specs.UnitReading.{typed_stmt}
 use Rattle.nss_expressions.specs.Walked.{always}
 use Rattle.nss_statements.proofs.Judged.{made_as}
 use Rattle.nss_statements.proofs.judge_statement.judge_for_of.Goals as goal

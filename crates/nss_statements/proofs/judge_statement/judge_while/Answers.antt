@@ -1,12 +1,12 @@
 use Rattle.std.proofs.Common.{Some, ap, refl}
 use Rattle.nss_tree.specs.Statements as tree
 use Rattle.nss_tree.specs.Statements.{map_stmt}
-use Rattle.nss_typing.specs.Nodes.{two}
-use Rattle.nss_typing.specs.Reading.{plain}
-use Rattle.nss_typing.specs.Rules.{if_rows, while_rule}
-use Rattle.nss_typing.specs.Types.{is_int}
-use Rattle.nss_typing.specs.Typed.{type_of}
-use Rattle.nss_typing.specs.UnitReading.{typed_stmt}
+use Rattle.typing_rules.specs.Nodes.{two}
+use Rattle.typing_rules.specs.Reading.{plain}
+use Rattle.typing_rules.specs.Rules.{if_rows, while_rule}
+use Rattle.typing_rules.specs.Types.{is_int}
+use Rattle.typing_rules.specs.Typed.{type_of}
+use Rattle.typing_rules.specs.UnitReading.{typed_stmt}
 use Rattle.nss_statements.proofs.Judged.{made_as, made_least, made_value, two_read}
 use Rattle.nss_expressions.specs.Walked.{always}
 use Rattle.nss_statements.proofs.judge_statement.judge_while.Goals as goal

@@ -1,6 +1,6 @@
 use Rattle.std.proofs.Common.{◌≡◌, drop}
-use Rattle.nss_typing.specs.UnitReading.{typed_stmts}
-use Rattle.nss_typing.specs.Returns.{have_break}
+use Rattle.typing_rules.specs.UnitReading.{typed_stmts}
+use Rattle.typing_rules.specs.Returns.{have_break}
 use Rattle.nss_statements.proofs.returns.+breaks.Given as goal
 
 abbrev pub invariant-have_break-loop-x : goal.invariant-have_break-loop-x

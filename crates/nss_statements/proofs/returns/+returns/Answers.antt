@@ -1,7 +1,7 @@
 use Rattle.std.proofs.Common.{◌≡◌, ◌∙◌, true, false, ap, refl, arith, rules, if◌then◌else◌}
-use Rattle.nss_typing.specs.UnitReading.{typed_stmt, typed_stmts}
+use Rattle.typing_rules.specs.UnitReading.{typed_stmt, typed_stmts}
 use Rattle.nss_tree.specs.Readings.{tree_break_off, tree_case_label, tree_continue_on, tree_declaration, tree_default_label, tree_empty, tree_expression, tree_for_loop, tree_if_else, tree_if_only, tree_return_from, tree_while_loop}
-use Rattle.nss_typing.specs.Returns.{is_statement, returns, some_returns}
+use Rattle.typing_rules.specs.Returns.{is_statement, returns, some_returns}
 use Rattle.nss_statements.proofs.ReturnLemmas.{and_else, and_then, any_end, any_here, any_next, last_begin, last_end, last_next}
 use Rattle.nss_statements.proofs.returns.+returns.Goals as goal
 

@@ -1,6 +1,6 @@
 use Rattle.std.proofs.Common.{◌≡◌, drop}
-use Rattle.nss_typing.specs.UnitReading.{typed_stmts}
-use Rattle.nss_typing.specs.Returns.{last_returns, some_returns}
+use Rattle.typing_rules.specs.UnitReading.{typed_stmts}
+use Rattle.typing_rules.specs.Returns.{last_returns, some_returns}
 use Rattle.nss_statements.specs.Returns.{last_or}
 use Rattle.nss_statements.proofs.returns.+returns.Given as goal
 

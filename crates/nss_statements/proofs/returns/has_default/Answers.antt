@@ -1,5 +1,5 @@
 use Rattle.std.proofs.Common.{◌≡◌, true, false, refl, arith, rules}
-use Rattle.nss_typing.specs.Returns.{has_default, is_default}
+use Rattle.typing_rules.specs.Returns.{has_default, is_default}
 use Rattle.nss_statements.proofs.ReturnLemmas.{any_end, any_here, any_next}
 use Rattle.nss_statements.proofs.returns.has_default.Goals as goal
 

@@ -1,6 +1,6 @@
 use Rattle.std.proofs.Common.{◌≡◌, drop}
-use Rattle.nss_typing.specs.UnitReading.{typed_stmts}
-use Rattle.nss_typing.specs.Returns.{has_default}
+use Rattle.typing_rules.specs.UnitReading.{typed_stmts}
+use Rattle.typing_rules.specs.Returns.{has_default}
 use Rattle.nss_statements.proofs.returns.has_default.Given as goal
 
 abbrev pub invariant-loop-x : goal.invariant-loop-x

@@ -6,12 +6,12 @@ use Rattle.nss_tree.specs.Reading.{plain_expr, plain_stmt, plain_stmts}
 use Rattle.nss_tree.specs.Readings.{tree_block, tree_break_off, tree_case_label, tree_continue_on, tree_declaration, tree_default_label, tree_do_loop, tree_empty, tree_expression, tree_for_loop, tree_if_else, tree_if_only, tree_return_from, tree_switch, tree_while_loop}
 use Rattle.nss_tree.specs.Statements as tree
 use Rattle.nss_tree.specs.Statements.{map_stmt, more_stmts, no_stmt}
-use Rattle.nss_typing.specs.Nodes.{asked, at, faults_there, fine, four, if_there, kept, passed, three, two}
-use Rattle.nss_typing.specs.Reading.{plain}
-use Rattle.nss_typing.specs.Rules.{do_rows, do_rule, for_rows, for_rule, if_else_rows, if_else_rule, if_rows, if_rule, while_rule}
-use Rattle.nss_typing.specs.Sight.{entered, inside, left, looped, switched}
-use Rattle.nss_typing.specs.UnitReading.{typed_stmt, typed_stmts}
-use Rattle.nss_typing.specs.Verdicts.{after, afters, stmt_faults, stmt_verdict, stmts_faults, stmts_fine, value, value_faults}
+use Rattle.typing_rules.specs.Nodes.{asked, at, faults_there, fine, four, if_there, kept, passed, three, two}
+use Rattle.typing_rules.specs.Reading.{plain}
+use Rattle.typing_rules.specs.Rules.{do_rows, do_rule, for_rows, for_rule, if_else_rows, if_else_rule, if_rows, if_rule, while_rule}
+use Rattle.typing_rules.specs.Sight.{entered, inside, left, looped, switched}
+use Rattle.typing_rules.specs.UnitReading.{typed_stmt, typed_stmts}
+use Rattle.typing_rules.specs.Verdicts.{after, afters, stmt_faults, stmt_verdict, stmts_faults, stmts_fine, value, value_faults}
 use Rattle.nss_statements.specs.Faults.{switch_rows_by, switch_rule_by}
 use Rattle.nss_expressions.specs.Views.{heads_in, sight_in}
 use Rattle.nss_expressions.specs.RowLaws.{row_value, row_least, row_sight, row_end_value, row_end_least, row_end_sight}

@@ -1,9 +1,9 @@
 use Rattle.std.proofs.Common.{◌≡◌, ◌+◌, drop}
 use Rattle.std.specs.Option.{option_map}
 use Rattle.nss_tree.specs.Reading.{plain_stmt, plain_stmts}
-use Rattle.nss_typing.specs.Nodes.{kept}
-use Rattle.nss_typing.specs.UnitReading.{typed_stmts}
-use Rattle.nss_typing.specs.Verdicts.{afters, stmts_faults, stmts_fine}
+use Rattle.typing_rules.specs.Nodes.{kept}
+use Rattle.typing_rules.specs.UnitReading.{typed_stmts}
+use Rattle.typing_rules.specs.Verdicts.{afters, stmts_faults, stmts_fine}
 use Rattle.nss_expressions.specs.Rows.{stmts_with_rest}
 use Rattle.nss_expressions.specs.Views.{heads_in, sight_in}
 use Rattle.nss_statements.proofs.Nodes.{size, all_size}

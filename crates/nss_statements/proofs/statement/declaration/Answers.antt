@@ -1,7 +1,7 @@
 use Rattle.std.proofs.Common.{◌∙◌, ap}
 use Rattle.nss_tree.specs.Reading.{plain_names}
-use Rattle.nss_typing.specs.Sight.{declaration_seen}
-use Rattle.nss_typing.specs.Verdicts.{after_names}
+use Rattle.typing_rules.specs.Sight.{declaration_seen}
+use Rattle.typing_rules.specs.Verdicts.{after_names}
 use Rattle.nss_expressions.specs.Views.{sight_in}
 use Rattle.nss_statements.proofs.statement.declaration.Goals as goal
 

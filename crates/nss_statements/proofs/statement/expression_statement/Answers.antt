@@ -1,6 +1,6 @@
 use Rattle.std.proofs.Common.{◌∙◌, ap}
 use Rattle.nss_tree.specs.Statements as tree
-use Rattle.nss_typing.specs.Nodes.{fine, passed}
+use Rattle.typing_rules.specs.Nodes.{fine, passed}
 use Rattle.nss_statements.proofs.statement.expression_statement.Goals as goal
 
 pub returns-clause-value : goal.returns-clause-value

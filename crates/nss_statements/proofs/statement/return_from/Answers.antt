@@ -2,11 +2,11 @@ use Rattle.std.proofs.Common.{◌∙◌, ap, refl}
 use Rattle.std.specs.Option.{option_map}
 use Rattle.nss_tree.specs.Reading.{plain_expr}
 use Rattle.nss_tree.specs.Statements as tree
-use Rattle.nss_typing.specs.Nodes.{asked, faults_there, fine, if_there, two}
-use Rattle.nss_typing.specs.Reading.{plain}
-use Rattle.nss_typing.specs.Rules.{return_rows, return_rule}
-use Rattle.nss_typing.specs.UnitReading.{typed_stmt}
-use Rattle.nss_typing.specs.Verdicts.{stmt_faults, stmt_verdict, value, value_faults}
+use Rattle.typing_rules.specs.Nodes.{asked, faults_there, fine, if_there, two}
+use Rattle.typing_rules.specs.Reading.{plain}
+use Rattle.typing_rules.specs.Rules.{return_rows, return_rule}
+use Rattle.typing_rules.specs.UnitReading.{typed_stmt}
+use Rattle.typing_rules.specs.Verdicts.{stmt_faults, stmt_verdict, value, value_faults}
 use Rattle.nss_expressions.specs.Views.{heads_in, sight_in}
 use Rattle.nss_expressions.specs.Walked.{answered, one_least}
 use Rattle.nss_statements.proofs.statement.return_from.Goals as goal

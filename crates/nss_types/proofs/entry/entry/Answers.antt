@@ -1,8 +1,8 @@
 use Rattle.std.proofs.Common.{◌∙◌, ap}
 use Rattle.std.specs.Prelude.{codes}
 use Rattle.nwq_value.specs.declared.value.Ty.TheVariants as ty
-use Rattle.nss_typing.specs.Rules.{begins, when}
-use Rattle.nss_typing.specs.Sight.{body_number}
+use Rattle.typing_rules.specs.Rules.{begins, when}
+use Rattle.typing_rules.specs.Sight.{body_number}
 use Rattle.nss_types.proofs.UnitLemmas.{none_begins, second_begins}
 use Rattle.nss_types.proofs.entry.entry.Goals as goal
 

@@ -1,6 +1,6 @@
 use Rattle.std.proofs.Common.{◌≡◌, drop}
-use Rattle.nss_typing.specs.Nodes.{kept}
-use Rattle.nss_typing.specs.Verdicts.{lines_faults, lines_fine}
+use Rattle.typing_rules.specs.Nodes.{kept}
+use Rattle.typing_rules.specs.Verdicts.{lines_faults, lines_fine}
 use Rattle.nss_types.specs.Fields.{fields_of}
 use Rattle.nss_expressions.specs.Rows.{with_rest}
 use Rattle.nss_types.proofs.field.lines.Given as goal

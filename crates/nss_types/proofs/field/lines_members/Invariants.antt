@@ -1,5 +1,5 @@
 use Rattle.std.proofs.Common.{◌≡◌, drop}
-use Rattle.nss_typing.specs.Verdicts.{members_of_lines}
+use Rattle.typing_rules.specs.Verdicts.{members_of_lines}
 use Rattle.nss_scopes.specs.Entries.{members_of}
 use Rattle.nss_types.proofs.field.lines_members.Given as goal
 

@@ -2,11 +2,11 @@ use Rattle.std.proofs.Common.{◌∙◌, ◌++◌, ◌&&◌, Bool, Option, false
 use Rattle.std.specs.Option.{option_map}
 use Rattle.nss_tree.specs.Reading.{plain_stmts}
 use Rattle.nss_tree.specs.Units as unit
-use Rattle.nss_typing.specs.Nodes.{asked, at, fine, kept, three, two}
-use Rattle.nss_typing.specs.Rules.{TypedHead, function_rows, function_rule, head_rows, signature_of}
-use Rattle.nss_typing.specs.Sight.{Head, begun, first_types, has_body, is_taken_by_other, type_means}
-use Rattle.nss_typing.specs.UnitReading.{typed_item, typed_stmts}
-use Rattle.nss_typing.specs.Verdicts.{after_body, after_params, body_faults, body_fine, function_verdict, head, head_verdict, in_body, in_function, item_faults, params_faults, params_fine}
+use Rattle.typing_rules.specs.Nodes.{asked, at, fine, kept, three, two}
+use Rattle.typing_rules.specs.Rules.{TypedHead, function_rows, function_rule, head_rows, signature_of}
+use Rattle.typing_rules.specs.Sight.{Head, begun, first_types, has_body, is_taken_by_other, type_means}
+use Rattle.typing_rules.specs.UnitReading.{typed_item, typed_stmts}
+use Rattle.typing_rules.specs.Verdicts.{after_body, after_params, body_faults, body_fine, function_verdict, head, head_verdict, in_body, in_function, item_faults, params_faults, params_fine}
 use Rattle.nss_scopes.specs.Entries.{head_of, meant_of}
 use Rattle.nss_types.specs.Heads.{head_rule_by}
 use Rattle.nss_expressions.specs.Views.{heads_in, sight_in}

@@ -3,11 +3,11 @@ use Rattle.std.specs.Option.{option_map}
 use Rattle.nss_tree.specs.Readings.{map_body}
 use Rattle.nss_tree.specs.Units as unit
 use Rattle.nss_tree.specs.Units.{map_item}
-use Rattle.nss_typing.specs.declared.fault.FaultKind.TheVariants.{NoReturn}
-use Rattle.nss_typing.specs.Nodes.{fine, ruled}
-use Rattle.nss_typing.specs.Reading.{plain}
-use Rattle.nss_typing.specs.Rules.{gives, when}
-use Rattle.nss_typing.specs.UnitReading.{typed_stmts}
+use Rattle.typing_rules.specs.declared.fault.FaultKind.TheVariants.{NoReturn}
+use Rattle.typing_rules.specs.Nodes.{fine, ruled}
+use Rattle.typing_rules.specs.Reading.{plain}
+use Rattle.typing_rules.specs.Rules.{gives, when}
+use Rattle.typing_rules.specs.UnitReading.{typed_stmts}
 use Rattle.nss_types.proofs.function.judge_function.Goals as goal
 
 pub returns-then-gives-clause-value : goal.returns-then-gives-clause-value

@@ -1,5 +1,5 @@
 use Rattle.std.proofs.Common.{◌≡◌, ◌++◌, drop}
-use Rattle.nss_typing.specs.Rules.{params_of}
+use Rattle.typing_rules.specs.Rules.{params_of}
 use Rattle.nss_types.proofs.function.params_of.Given as goal
 
 abbrev pub invariant-loop-param : goal.invariant-loop-param

@@ -1,10 +1,10 @@
 use Rattle.std.proofs.Common.{◌∙◌, false, ap}
 use Rattle.std.specs.Option.{option_map}
 use Rattle.nss_tree.specs.Reading.{plain_stmts}
-use Rattle.nss_typing.specs.Nodes.{asked, at, fine, kept, three}
-use Rattle.nss_typing.specs.Rules.{head_rows}
-use Rattle.nss_typing.specs.Sight.{first_types}
-use Rattle.nss_typing.specs.Verdicts.{after_body, body_faults, body_fine, after_params, params_fine}
+use Rattle.typing_rules.specs.Nodes.{asked, at, fine, kept, three}
+use Rattle.typing_rules.specs.Rules.{head_rows}
+use Rattle.typing_rules.specs.Sight.{first_types}
+use Rattle.typing_rules.specs.Verdicts.{after_body, body_faults, body_fine, after_params, params_fine}
 use Rattle.nss_scopes.specs.Entries.{meant_of, signature_of}
 use Rattle.nss_types.specs.Heads.{head_rule_by}
 use Rattle.nss_expressions.specs.Views.{heads_in, sight_in}

@@ -1,5 +1,5 @@
 use Rattle.std.proofs.Common.{◌≡◌, ◌≤◌, ◌-◌, drop, length}
-use Rattle.nss_typing.specs.Rules.{params_of, same_types}
+use Rattle.typing_rules.specs.Rules.{params_of, same_types}
 use Rattle.nss_types.proofs.function.same_types.Given as goal
 
 abbrev pub invariant-loop-at : goal.invariant-loop-at

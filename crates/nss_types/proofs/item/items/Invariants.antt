@@ -1,9 +1,9 @@
 use Rattle.std.proofs.Common.{◌≡◌, drop, map}
 use Rattle.std.specs.Option.{option_map}
 use Rattle.nss_tree.specs.Reading.{plain_item}
-use Rattle.nss_typing.specs.Nodes.{kept}
-use Rattle.nss_typing.specs.UnitReading.{typed_items}
-use Rattle.nss_typing.specs.Verdicts.{after_items, items_faults, items_fine}
+use Rattle.typing_rules.specs.Nodes.{kept}
+use Rattle.typing_rules.specs.UnitReading.{typed_items}
+use Rattle.typing_rules.specs.Verdicts.{after_items, items_faults, items_fine}
 use Rattle.nss_expressions.specs.Rows.{with_rest}
 use Rattle.nss_expressions.specs.Views.{heads_in, sight_in}
 use Rattle.nss_types.proofs.item.items.Given as goal

@@ -1,6 +1,6 @@
 use Rattle.std.proofs.Common.{◌∙◌, sym, ap, None, Some}
-use Rattle.nss_typing.specs.Nodes.{at, fine, kept}
-use Rattle.nss_typing.specs.Sight.{crosses_with, is_taken}
+use Rattle.typing_rules.specs.Nodes.{at, fine, kept}
+use Rattle.typing_rules.specs.Sight.{crosses_with, is_taken}
 use Rattle.nss_scopes.specs.Entries.{meant_of}
 use Rattle.nss_scopes.specs.Views.{in_sight}
 use Rattle.nss_types.proofs.JudgedParameter.{typed_is}

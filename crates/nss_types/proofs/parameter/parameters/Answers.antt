@@ -1,5 +1,5 @@
 use Rattle.nss_scopes.specs.Views.{in_sight}
-use Rattle.nss_typing.specs.Verdicts.{late_after, parameter_declared}
+use Rattle.typing_rules.specs.Verdicts.{late_after, parameter_declared}
 use Rattle.nss_types.proofs.ParameterRows.{pair_is, param_laws, params_sight}
 use Rattle.nss_expressions.specs.RowLaws.{row_value, row_least}
 use Rattle.nss_types.proofs.parameter.parameters.Goals as goal

@@ -1,6 +1,6 @@
 use Rattle.std.proofs.Common.{◌≡◌, drop, false}
-use Rattle.nss_typing.specs.Nodes.{kept}
-use Rattle.nss_typing.specs.Verdicts.{after_params, params_faults, params_fine}
+use Rattle.typing_rules.specs.Nodes.{kept}
+use Rattle.typing_rules.specs.Verdicts.{after_params, params_faults, params_fine}
 use Rattle.nss_scopes.specs.Views.{in_sight}
 use Rattle.nss_expressions.specs.Rows.{with_rest}
 use Rattle.nss_types.proofs.parameter.parameters.Given as goal

@@ -1,6 +1,6 @@
 use Rattle.std.proofs.Common.{◌∙◌, ap, map}
 use Rattle.nss_tree.specs.Reading.{plain_item}
-use Rattle.nss_typing.specs.Verdicts.{heads}
+use Rattle.typing_rules.specs.Verdicts.{heads}
 use Rattle.nss_types.proofs.unit.answer.Goals as goal
 
 pub answer_by-answered-requires : goal.answer_by-answered-requires

@@ -1,8 +1,8 @@
 use Rattle.std.proofs.Common.{◌∙◌, ap, map, sym}
 use Rattle.std.specs.Option.{option_map}
 use Rattle.nss_tree.specs.Reading.{plain_item, plain_tree}
-use Rattle.nss_typing.specs.UnitReading.{typed_items}
-use Rattle.nss_typing.specs.Verdicts.{heads}
+use Rattle.typing_rules.specs.UnitReading.{typed_items}
+use Rattle.typing_rules.specs.Verdicts.{heads}
 use Rattle.nss_types.proofs.UnitLemmas.{is_there, refuses, types}
 use Rattle.nss_types.proofs.unit.answer_by.Goals as goal
 

@@ -1,7 +1,7 @@
 use Rattle.std.proofs.Common.{◌≡◌, map, subst}
 use Rattle.std.specs.Result.{IfOk}
 use Rattle.nss_tree.specs.Reading.{plain_item}
-use Rattle.nss_typing.specs.Verdicts.{after_items}
+use Rattle.typing_rules.specs.Verdicts.{after_items}
 use Rattle.nss_types.proofs.unit.declarations.Goals as goal
 
 pub returns : goal.returns

@@ -2,9 +2,9 @@ use Rattle.std.proofs.Common.{◌≡◌, map, subst}
 use Rattle.std.specs.Option.{option_map}
 use Rattle.std.specs.Result.{IfOk, OnOk}
 use Rattle.nss_tree.specs.Reading.{plain_item}
-use Rattle.nss_typing.specs.Nodes.{kept}
-use Rattle.nss_typing.specs.UnitReading.{typed_items}
-use Rattle.nss_typing.specs.Verdicts.{items_faults, items_fine}
+use Rattle.typing_rules.specs.Nodes.{kept}
+use Rattle.typing_rules.specs.UnitReading.{typed_items}
+use Rattle.typing_rules.specs.Verdicts.{items_faults, items_fine}
 use Rattle.nss_types.proofs.unit.typed_items_of.Goals as goal
 
 pub returns-clause-value : goal.returns-clause-value

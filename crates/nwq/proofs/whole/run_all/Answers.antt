@@ -1,4 +1,4 @@
-use Rattle.nwq_work.specs.Work.{ending}
+use Rattle.command_work.specs.Work.{ending}
 use Rattle.command_words.specs.Words.{form_of}
 use Rattle.nwq_top.specs.Program.{status_numbered, words_of}
 use Rattle.nwq.proofs.whole.run_all.Goals as goal

@@ -1,5 +1,5 @@
 use Rattle.std.proofs.Common.{[], subst}
-use Rattle.nwq_work.specs.Counts.{KeepsBut}
+use Rattle.command_work.specs.Counts.{KeepsBut}
 use Rattle.command_words.specs.Words.{form_of}
 use Rattle.nwq_top.specs.Command.{MayWrite}
 use Rattle.nwq_top.specs.Program.{status_numbered, words_of}

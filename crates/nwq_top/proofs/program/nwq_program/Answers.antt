@@ -1,6 +1,6 @@
 use Rattle.std.proofs.Common.{List, String, Global, map, drop, string_bytes, sym, subst}
 use Rattle.world_core.specs.Calls.{cells_of}
-use Rattle.nwq_work.specs.Counts.{KeepsBut}
+use Rattle.command_work.specs.Counts.{KeepsBut}
 use Rattle.command_words.specs.Words.{form_of}
 use Rattle.nwq_top.specs.Command.{MayWrite}
 use Rattle.nwq_top.specs.Program.{status_numbered}

@@ -1,6 +1,6 @@
 use Rattle.std.proofs.Common.{subst}
 use Rattle.std.specs.Prelude.{MatchOption}
-use Rattle.shape_tables.specs.Rules.{WellStacked}
+use Rattle.stack_rules.specs.Rules.{WellStacked}
 use Rattle.stack_check.specs.Inference.{IsFound}
 use Rattle.stack_check.proofs.Ending.{kept_meets, kept_stands}
 use Rattle.stack_check.proofs.checked.check.Goals as goal

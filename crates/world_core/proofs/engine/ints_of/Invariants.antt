@@ -1,5 +1,5 @@
 use Rattle.std.proofs.Common.{◌≡◌, take}
-use Rattle.engine_rows.specs.Arguments.{ints_of}
+use Rattle.world_rules.specs.Arguments.{ints_of}
 use Rattle.world_core.proofs.engine.ints_of.Given as goal
 
 abbrev pub invariant-loop-value : goal.invariant-loop-value

@@ -1,6 +1,6 @@
 use Rattle.std.proofs.Common.{◌≡◌, drop, map}
 use Rattle.std.specs.List.{fold}
-use Rattle.engine_rows.specs.Turns.{with_planned}
+use Rattle.world_rules.specs.Turns.{with_planned}
 use Rattle.world_core.specs.Calls.{planned}
 use Rattle.world_core.proofs.start.post_all.Given as goal
 

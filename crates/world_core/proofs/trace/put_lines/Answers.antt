@@ -1,6 +1,6 @@
 use Rattle.std.proofs.Common.{ℕ, List, ◌++◌, ap, take, ◌∙◌}
 use Rattle.std.specs.List.{flat_map}
-use Rattle.engine_rows.specs.Trace.{line_text}
+use Rattle.world_rules.specs.Trace.{line_text}
 use Rattle.world_core.proofs.TakenBack.{taken_back_after}
 use Rattle.world_core.proofs.TraceLemmas.{one_more_line, on_err}
 use Rattle.world_core.proofs.trace.put_lines.Goals as goal

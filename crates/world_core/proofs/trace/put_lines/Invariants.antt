@@ -1,6 +1,6 @@
 use Rattle.std.proofs.Common.{◌≡◌, ◌++◌, take}
 use Rattle.std.specs.List.{flat_map}
-use Rattle.engine_rows.specs.Trace.{line_text}
+use Rattle.world_rules.specs.Trace.{line_text}
 use Rattle.world_core.proofs.trace.put_lines.Given as goal
 
 abbrev pub invariant-loop-line : goal.invariant-loop-line

@@ -1,6 +1,6 @@
 use Rattle.std.proofs.Common.{◌≡◌, refl, ap, ◌∙◌}
 use Rattle.gff_tree.specs.Tree.{plain_node, is_sound}
-use Rattle.area_objects.specs.Area.{empty_tree}
+use Rattle.area_rules.specs.Area.{empty_tree}
 use Rattle.area_tree.proofs.AreaLemmas.{empty_sound}
 use Rattle.area_tree.proofs.area.Area.empty.Goals as goal
 

@@ -1,6 +1,6 @@
 use Rattle.std.proofs.Common.{◌≡◌, length, map, sym, ap, subst, arith}
 use Rattle.gff_tree.specs.Whole.{plain_gff}
-use Rattle.area_objects.specs.Area.{bare, HaveDistinct}
+use Rattle.area_rules.specs.Area.{bare, HaveDistinct}
 use Rattle.area_tree.specs.Index.{Indexes}
 use Rattle.area_tree.proofs.area.Area.of.Goals as goal
 

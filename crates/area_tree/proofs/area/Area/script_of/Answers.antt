@@ -1,6 +1,6 @@
 use Rattle.std.proofs.Common.{◌∙◌, ap}
 use Rattle.gff_tree.specs.Whole.{plain_gff}
-use Rattle.area_objects.specs.Area.{script_named}
+use Rattle.area_rules.specs.Area.{script_named}
 use Rattle.area_tree.proofs.AreaLemmas.{place_of, object_seen}
 use Rattle.area_tree.proofs.area.Area.script_of.Goals as goal
 

@@ -1,6 +1,6 @@
 use Rattle.std.proofs.Common.{◌≡◌, ◌∙◌, ap, None, Some, Option, slice_get}
 use Rattle.std.specs.Option.{option_map}
-use Rattle.nss_typing.specs.Sight as sight
+use Rattle.typing_rules.specs.Sight as sight
 use Rattle.nss_scopes.specs.Slots.{entry_in}
 use Rattle.nss_scopes.proofs.NameLemmas.{found_by}
 use Rattle.nss_scopes.proofs.names.Names.find.Goals as goal

@@ -1,5 +1,5 @@
 use Rattle.std.proofs.Common.{◌∙◌, ap}
-use Rattle.nss_typing.specs.Sight.{cell_limit, crosses}
+use Rattle.typing_rules.specs.Sight.{cell_limit, crosses}
 use Rattle.nss_scopes.specs.Views.{in_sight}
 use Rattle.nss_scopes.proofs.sight.Sight.crosses_with.Goals as goal
 

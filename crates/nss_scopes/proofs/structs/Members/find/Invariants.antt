@@ -1,5 +1,5 @@
 use Rattle.std.proofs.Common.{◌≡◌, drop, map}
-use Rattle.nss_typing.specs.Sight.{find_member}
+use Rattle.typing_rules.specs.Sight.{find_member}
 use Rattle.nss_scopes.specs.Entries.{member_of}
 use Rattle.nss_scopes.proofs.structs.Members.find.Given as goal
 

@@ -1,6 +1,6 @@
 use Rattle.std.proofs.Common.{◌≤◌, map, sym, subst}
-use Rattle.engine_rows.specs.AlikeLaws.{call}
-use Rattle.engine_rows.specs.World.{count}
+use Rattle.world_rules.specs.AlikeLaws.{call}
+use Rattle.world_rules.specs.World.{count}
 use Rattle.world_core.specs.Calls.{cells_of}
 use Rattle.world_core.proofs.WorldLemmas.{engine_kept}
 use Rattle.world_core.proofs.world.World.engine.Goals as goal

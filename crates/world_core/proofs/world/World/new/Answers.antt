@@ -1,7 +1,7 @@
 use Rattle.std.proofs.Common.{◌∙◌, List, map, sym, ap, subst, arith}
 use Rattle.std.specs.List.{fold}
-use Rattle.engine_rows.specs.Kept.{IsWorld}
-use Rattle.engine_rows.specs.Turns.{with_planned}
+use Rattle.world_rules.specs.Kept.{IsWorld}
+use Rattle.world_rules.specs.Turns.{with_planned}
 use Rattle.world_core.specs.declared.start.Start.{Start}
 use Rattle.world_core.specs.Calls.{planned}
 use Rattle.world_core.proofs.world.World.new.Goals as goal

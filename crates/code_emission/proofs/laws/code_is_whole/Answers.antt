@@ -1,7 +1,0 @@
-use Rattle.code_emission.proofs.Whole.{unit_whole}
-use Rattle.code_emission.proofs.laws.code_is_whole.Goals as goal
-
-pub returns : goal.returns
-returns c =
-    let parts = c.part_laws.ensures.parts in
-    record { whole = unit_whole parts.placements parts.lead parts.close }

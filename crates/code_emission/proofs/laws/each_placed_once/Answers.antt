@@ -1,9 +1,0 @@
-use Rattle.code_emission.specs.Layout.{layout_of}
-use Rattle.code_emission.specs.Units.{has_globals}
-use Rattle.code_emission.proofs.Labels.{unit_placed}
-use Rattle.code_emission.proofs.laws.each_placed_once.Goals as goal
-
-pub returns : goal.returns
-returns c = record {
-  once = λ u label. unit_placed c.part_laws.ensures.parts.placements (layout_of u) (has_globals u.items) u.items u.entry label;
-}

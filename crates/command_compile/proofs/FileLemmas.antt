@@ -1,0 +1,67 @@
+-- What comes of a typed unit's code does the work of its file.
+use Rattle.std.proofs.Common.{◌≡◌, ◌≤◌, ◌<◌, ℕ, Bool, true, false, inl, List, length, None, Result, Ok, Err, refl, subst, sym}
+use Rattle.std.specs.Prelude.{nat_lt}
+use Rattle.std.proofs.lemmas.Bool.{lt-ltb, le-ltb}
+use Rattle.nwq_value.specs.Limits.{file_limit}
+use Rattle.nwq_value.specs.Engine.{EngineTable}
+use Rattle.nwq_outside.specs.Outside.{Contents}
+use Rattle.ncs_code.specs.File.{file_length}
+use Rattle.ncs_code.specs.Laws.{SizeLaws}
+use Rattle.ncs_emit.specs.declared.fault.EmitFault.{EmitFault}
+use Rattle.ncs_emit.specs.declared.fault.EmitFault.TheVariants.{Large, NoMemory}
+use Rattle.ncs_emit.specs.Faults.{Fails}
+use Rattle.ncs_emit.specs.Labelled.{program}
+use Rattle.nss_include.specs.declared.file.Source.{Source}
+use Rattle.typing_rules.specs.Typed.{TypedUnit}
+use Rattle.emission_rules.specs.Units.{unit_code, unit_file}
+use Rattle.command_work.specs.declared.cause.Cause.TheVariants as cause
+use Rattle.command_work.specs.declared.status.Status.{Status}
+use Rattle.command_work.specs.declared.status.Status.TheVariants.{Memory}
+use Rattle.command_work.specs.Work.{Does}
+use Rattle.command_work.specs.Parts.{Refuses, cut_here, refused, then_ok}
+use Rattle.command_sources.specs.Units.{PlainScript, at_spot, spot_of}
+use Rattle.command_compile.specs.Typings.{typed_in}
+use Rattle.command_compile.specs.Files.{IsTooLarge, compiled_in, file_by, file_in}
+
+-- ---- sizes
+
+pub small_file : SizeLaws → (unit : TypedUnit) (bytes : List ℕ) → bytes ≡ unit_file unit → file_length (program (unit_code unit).lines) ≤ file_limit
+    → length bytes ≤ file_limit
+small_file laws unit bytes same small =
+    subst (λ x. length x ≤ file_limit) (sym same) (subst (λ n. n ≤ file_limit) (sym (laws.file (program (unit_code unit).lines))) small)
+
+pub too_large : SizeLaws → (unit : TypedUnit) (fault : EmitFault) → Fails fault (unit_code unit).lines → IsTooLarge (unit_file unit) fault
+too_large laws unit (Large size) h =
+    subst (λ n. file_limit < n) (sym (laws.file (program (unit_code unit).lines))) (subst (λ n. file_limit < n) h.0 h.1)
+too_large laws unit NoMemory h = tt
+
+pub ruleset sizes = (small_file, too_large)
+
+-- ---- the work
+
+module _ (files : List Source) (unit : TypedUnit) (c : Contents) where
+  pub file_does : (bytes t : List ℕ) → bytes ≡ unit_file unit → length bytes ≤ file_limit
+      → Does (file_in files unit) c t (Ok bytes) c t
+  unfolding file_in
+  file_does bytes t same small =
+      subst (λ b. Does (file_by files b (unit_file unit)) c t (Ok bytes) c t) (sym (le-ltb file_limit (length (unit_file unit)) (subst (λ x. length x ≤ file_limit) same small)))
+      (subst (λ x. Does (file_by files false (unit_file unit)) c t (Ok x) c t) (sym same) (inl refl, (refl, refl)))
+
+  pub large_does : (answer : Status) (t t' : List ℕ) → file_limit < length (unit_file unit)
+      → Refuses (at_spot cause.Large (spot_of files None)) t answer t' → Does (file_in files unit) c t (Err answer) c t'
+  unfolding file_in
+  large_does answer t t' large h =
+      subst (λ b. Does (file_by files b (unit_file unit)) c t (Err answer) c t') (sym (lt-ltb file_limit (length (unit_file unit)) large))
+      (refused (at_spot cause.Large (spot_of files None)) answer c t t' h)
+
+  pub file_cut : (t : List ℕ) → Does (file_in files unit) c t (Err Memory) c t
+  file_cut t = cut_here (file_in files unit) Memory c c t t tt refl refl
+
+-- a script that was typed goes on to its file
+pub typed_then : (header : EngineTable) (script : PlainScript) (unit : TypedUnit) (files : List Source) (r : Result (List ℕ) Status) (c : Contents) (t t' t'' : List ℕ)
+    → Does (typed_in header script) c t (Ok unit) c t' → files ≡ script.files → Does (file_in files unit) c t' r c t'' → Does (compiled_in header script) c t r c t''
+unfolding compiled_in
+typed_then header script unit files r c t t' t'' typed same does =
+    then_ok (typed_in header script) (file_in script.files) unit c c c t t' t'' r typed (subst (λ fs. Does (file_in fs unit) c t' r c t'') same does)
+
+pub ruleset files = (file_does, large_does, file_cut)

@@ -1,0 +1,196 @@
+ghost use Rattle.std.specs.Prelude.{◌≡◌, ◌<◌, ◌≤◌, ◌^◌, ℕ, length, string_bytes};
+ghost use Rattle.std.specs.Prelude.{IsTrue, IfErr, IfOk};
+ghost use Rattle.nwq_value.specs.Limits.{file_limit};
+ghost use Rattle.nwq_outside.specs.Outside.{Contents};
+ghost use Rattle.typing_rules.specs.UnitReading.{typed_unit};
+ghost use Rattle.emission_rules.specs.Units.{unit_file};
+ghost use Rattle.typing_laws.specs.Laws.{HasCode};
+ghost use Rattle.command_work.specs.Work.{Does, CutsShort};
+ghost use Rattle.command_work.specs.Counts.{Counted, Tallies, Refusing, StopsSource, KeepsBut};
+ghost use Rattle.command_sources.specs.Scripts.{plain_script};
+ghost use Rattle.command_compile.specs.Files.{IsTooLarge, file_in, compiled_in, compiled_named};
+ghost use Rattle.command_compile.specs.Files.{code_name, writes_code, compiles_under, compiles};
+
+use crate::script::TypedScript;
+use crate::typing::type_script;
+use codegen_unit::{GenFault, generate};
+use command_files::write_and_put;
+use command_sources::{Script, read_table, read_unit, refuse_end};
+use command_work::{Cause, Status};
+use ncs_code::size_laws;
+use nwq_outside::{Files, Sink};
+use nwq_value::{Items, NoMemory, Table};
+use std::alloc::Global;
+use typing_rules::Typed;
+
+/// The file of a unit.
+#[tactic(auto, using(crate::proofs::FileLemmas::sizes))]
+fn code_of(alloc: Global, unit: &Typed) -> Result<Vec<u8>, GenFault>
+    requires { HasCode (typed_unit unit.now) }
+    ensures file { IfOk result (λ bytes. bytes.items ≡ unit_file (typed_unit unit.now)) }
+    ensures small { IfOk result (λ bytes. length bytes.items ≤ file_limit) }
+    ensures large { IfErr result (IsTooLarge (unit_file (typed_unit unit.now))) }
+{
+    size_laws();
+    generate(alloc, unit)
+}
+
+/// The file of a typed script. A script whose file would be too large is refused at its end.
+#[tactic(auto, using(crate::proofs::FileLemmas::files))]
+fn file_of<S: Sink>(alloc: Global, script: &TypedScript, out: &mut S) -> Result<Items<u8>, Status>
+    requires { HasCode (typed_unit script.now.typed) }
+    ensures does { IsTrue S.tells → (c : Contents) →
+        Does (file_in script.now.unit.files (typed_unit script.now.typed)) c
+        (S.taken out.old) result c (S.taken out.new) }
+    ensures counts { (faults absences longs : ℕ) → Tallies result
+        (Counted faults absences longs (S.faults out.old))
+        (Counted faults absences longs (S.faults out.new)) }
+    ensures small { IfOk result (λ bytes. length bytes ≤ file_limit) }
+    ensures only { IfErr result (Refusing Status.Script) }
+{
+    match code_of(alloc, &script.typed) {
+        Ok(bytes) => Ok(Items::of_vec(bytes)),
+        Err(GenFault::Large(_)) => Err(refuse_end(alloc, &script.unit, Cause::Large, out)),
+        Err(GenFault::NoMemory) => Err(Status::Memory),
+    }
+}
+
+/// The file of a script under a header.
+#[tactic(auto, using(crate::proofs::Steps::steps), unfolding(crate::specs::Files::compiled_in))]
+pub fn compile_script<S: Sink>(
+    alloc: Global,
+    table: &Table,
+    script: Script,
+    out: &mut S,
+) -> Result<Items<u8>, Status>
+    ensures does { IsTrue S.tells → (c : Contents) →
+        Does (compiled_in table.now (plain_script script)) c
+        (S.taken out.old) result c (S.taken out.new) }
+    ensures counts { (faults absences longs : ℕ) → Tallies result
+        (Counted faults absences longs (S.faults out.old))
+        (Counted faults absences longs (S.faults out.new)) }
+    ensures small { IfOk result (λ bytes. length bytes ≤ file_limit) }
+    ensures only { IfErr result (Refusing Status.Script) }
+{
+    match type_script(alloc, table, script, out) {
+        Err(status) => Err(status),
+        Ok(typed) => file_of(alloc, &typed, out),
+    }
+}
+
+/// The file of the script of this name under a header.
+#[tactic(auto, using(crate::proofs::Steps::steps), unfolding(crate::specs::Files::compiled_named))]
+pub fn read_compiled<F: Files, S: Sink>(
+    alloc: Global,
+    table: &Table,
+    script: &str,
+    files: &mut F,
+    out: &mut S,
+) -> Result<Items<u8>, Status>
+    ensures does { IsTrue F.tells → IsTrue S.tells →
+        Does (compiled_named table.now script.now) (F.contents files.old) (S.taken out.old)
+        result (F.contents files.new) (S.taken out.new) }
+    ensures counts { Tallies result
+        (Counted (F.faults files.old) (F.absences files.old) (F.longs files.old) (S.faults out.old))
+        (Counted (F.faults files.new) (F.absences files.new)
+        (F.longs files.new) (S.faults out.new)) }
+    ensures same { F.contents files.new ≡ F.contents files.old }
+    ensures small { IfOk result (λ bytes. length bytes ≤ file_limit) }
+    ensures only { IfErr result StopsSource }
+{
+    match read_unit(alloc, script, files, out) {
+        Err(status) => Err(status),
+        Ok(script) => compile_script(alloc, table, script, out),
+    }
+}
+
+/// The name of a script's file of bytecode.
+pub fn code_name(alloc: Global, script: &str) -> Result<String, NoMemory>
+    ensures named { IfOk result (λ name. string_bytes name ≡ code_name script.now) }
+{
+    let mut name = String::new(alloc);
+    name.push_str(script)?;
+    name.push_str(".ncs")?;
+    Ok(name)
+}
+
+/// Writes the file of a script, and puts the line that tells its size.
+#[tactic(auto, using(command_work::specs::Parts::cut_here))]
+fn write_code<F: Files, S: Sink>(
+    alloc: Global,
+    script: &str,
+    bytes: &[u8],
+    files: &mut F,
+    out: &mut S,
+) -> Result<(), Status>
+    ensures does { IsTrue F.tells → IsTrue S.tells →
+        Does (writes_code script.now bytes.now) (F.contents files.old) (S.taken out.old)
+        result (F.contents files.new) (S.taken out.new) }
+    ensures counts { Tallies result
+        (Counted (F.faults files.old) (F.absences files.old) (F.longs files.old) (S.faults out.old))
+        (Counted (F.faults files.new) (F.absences files.new)
+        (F.longs files.new) (S.faults out.new)) }
+    ensures names { KeepsBut (λ other. other ≡ code_name script.now)
+        (F.contents files.old) (F.contents files.new) }
+    ensures only { IfErr result CutsShort }
+{
+    match code_name(alloc, script) {
+        Err(NoMemory) => Err(Status::Memory),
+        Ok(name) => {
+            let size = bytes.len() as u64;
+            write_and_put(alloc, &name, bytes, "compiled ", size, files, out)
+        }
+    }
+}
+
+/// Compiles a script under a header, and writes its file.
+#[tactic(auto, using(crate::proofs::Steps::steps), unfolding(crate::specs::Files::compiles_under))]
+fn compile_under<F: Files, S: Sink>(
+    alloc: Global,
+    table: &Table,
+    script: &str,
+    files: &mut F,
+    out: &mut S,
+) -> Result<(), Status>
+    ensures does { IsTrue F.tells → IsTrue S.tells →
+        Does (compiles_under script.now table.now) (F.contents files.old) (S.taken out.old)
+        result (F.contents files.new) (S.taken out.new) }
+    ensures counts { Tallies result
+        (Counted (F.faults files.old) (F.absences files.old) (F.longs files.old) (S.faults out.old))
+        (Counted (F.faults files.new) (F.absences files.new)
+        (F.longs files.new) (S.faults out.new)) }
+    ensures names { KeepsBut (λ other. other ≡ code_name script.now)
+        (F.contents files.old) (F.contents files.new) }
+    ensures only { IfErr result StopsSource }
+{
+    match read_compiled(alloc, table, script, files, out) {
+        Err(status) => Err(status),
+        Ok(bytes) => write_code(alloc, script, bytes.as_slice(), files, out),
+    }
+}
+
+/// Compiles the script of this name under the header that a word names, and writes its file.
+#[tactic(auto, using(crate::proofs::Steps::steps), unfolding(crate::specs::Files::compiles))]
+pub fn compile_file<F: Files, S: Sink>(
+    alloc: Global,
+    header: &str,
+    script: &str,
+    files: &mut F,
+    out: &mut S,
+) -> Result<(), Status>
+    ensures does { IsTrue F.tells → IsTrue S.tells →
+        Does (compiles header.now script.now) (F.contents files.old) (S.taken out.old)
+        result (F.contents files.new) (S.taken out.new) }
+    ensures counts { Tallies result
+        (Counted (F.faults files.old) (F.absences files.old) (F.longs files.old) (S.faults out.old))
+        (Counted (F.faults files.new) (F.absences files.new)
+        (F.longs files.new) (S.faults out.new)) }
+    ensures names { KeepsBut (λ other. other ≡ code_name script.now)
+        (F.contents files.old) (F.contents files.new) }
+    ensures only { IfErr result StopsSource }
+{
+    match read_table(alloc, header, files, out) {
+        Err(status) => Err(status),
+        Ok(table) => compile_under(alloc, &table, script, files, out),
+    }
+}

@@ -1,0 +1,84 @@
+ghost use Rattle.std.specs.Prelude.{◌≡◌, ◌≤◌, ℕ, IsTrue, IfErr, IfOk};
+ghost use Rattle.nwq_value.specs.Limits.{token_limit};
+ghost use Rattle.nss_tree.specs.Reading.{plain_tree};
+ghost use Rattle.nss_parser.specs.Sizes.{IsKnownTree};
+ghost use Rattle.typing_rules.specs.Meaning.{TypesUnit};
+ghost use Rattle.typing_rules.specs.UnitReading.{typed_unit};
+ghost use Rattle.nss_types.specs.Answers.{IsFaultOf};
+ghost use Rattle.typing_laws.specs.Laws.{HasCode};
+ghost use Rattle.nwq_outside.specs.Outside.{Contents};
+ghost use Rattle.command_work.specs.Work.{Does};
+ghost use Rattle.command_work.specs.Counts.{Counted, Tallies, Refusing};
+ghost use Rattle.command_sources.specs.Scripts.{plain_script};
+ghost use Rattle.command_compile.specs.Typings.{cause_of, plain_answer, typed_in};
+
+use crate::script::TypedScript;
+use command_sources::{Script, refuse_token};
+use command_work::{Cause, Status};
+use nss_tree::Tree;
+use nss_types::{TypeFault, type_unit};
+use nwq_outside::Sink;
+use nwq_value::Table;
+use std::alloc::Global;
+use typing_laws::laws::typed_units_have_code;
+use typing_rules::{FaultKind, Typed};
+
+fn cause_of(kind: FaultKind) -> Cause
+    ensures { result ≡ cause_of kind }
+{
+    match kind {
+        FaultKind::RefusedType => Cause::RefusedType,
+        FaultKind::Unknown => Cause::Unknown,
+        FaultKind::Redeclared => Cause::Redeclared,
+        FaultKind::Arity => Cause::Arity,
+        FaultKind::NotConst => Cause::NotConst,
+        FaultKind::NotPlace => Cause::NotPlace,
+        FaultKind::Outside => Cause::Outside,
+        FaultKind::Mismatch => Cause::Mismatch,
+        FaultKind::NoReturn => Cause::NoReturn,
+        FaultKind::Cells => Cause::Cells,
+        FaultKind::Entry => Cause::Entry,
+    }
+}
+
+/// The typed unit of a tree, of which there is code.
+fn typed_of(alloc: Global, tree: Tree, table: &Table) -> Result<Typed, TypeFault>
+    requires known { IsKnownTree (plain_tree tree) }
+    requires few { (plain_tree tree).count ≤ token_limit }
+    ensures typed { IfOk result (λ t. TypesUnit table.now (plain_tree tree) (typed_unit t)) }
+    ensures code { IfOk result (λ t. HasCode (typed_unit t)) }
+    ensures fault { IfErr result (IsFaultOf table.now (plain_tree tree)) }
+{
+    table.keeps();
+    typed_units_have_code();
+    type_unit(alloc, tree, table)
+}
+
+/// The typed unit of a script under a header. A script that has none is refused at its least fault.
+#[tactic(auto, using(crate::proofs::TypingLemmas::typings))]
+pub fn type_script<S: Sink>(
+    alloc: Global,
+    table: &Table,
+    script: Script,
+    out: &mut S,
+) -> Result<TypedScript, Status>
+    ensures does { IsTrue S.tells → (c : Contents) →
+        Does (typed_in table.now (plain_script script)) c
+        (S.taken out.old) (plain_answer result) c (S.taken out.new) }
+    ensures same { IfOk result (λ typed. typed.unit ≡ script.unit) }
+    ensures code { IfOk result (λ typed. HasCode (typed_unit typed.typed)) }
+    ensures counts { (faults absences longs : ℕ) → Tallies result
+        (Counted faults absences longs (S.faults out.old))
+        (Counted faults absences longs (S.faults out.new)) }
+    ensures only { IfErr result (Refusing Status.Script) }
+{
+    let Script { unit, tree } = script;
+    match typed_of(alloc, tree, table) {
+        Ok(typed) => Ok(TypedScript { unit, typed }),
+        Err(TypeFault::NoMemory) => Err(Status::Memory),
+        Err(TypeFault::Fault(fault)) => {
+            let cause = cause_of(fault.kind);
+            Err(refuse_token(alloc, &unit, fault.token as usize, cause, out))
+        }
+    }
+}

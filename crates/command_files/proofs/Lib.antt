@@ -1,0 +1,11 @@
+mod TreeLemmas
+mod CodeLemmas
+mod AssemblyLemmas
+mod CommandLemmas
+mod OneTree
+mod OneCode
+mod OneAssembly
+mod OneCommand
+mod Steps
+mod CheckLemmas
+mod OneCheck

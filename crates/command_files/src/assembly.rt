@@ -1,0 +1,73 @@
+ghost use Rattle.std.specs.Prelude.{◌≡◌, ◌≤◌, ℕ, length, IsTrue, IfErr};
+ghost use Rattle.nwq_value.specs.Limits.{file_limit};
+ghost use Rattle.nwq_outside.specs.Outside.{Contents};
+ghost use Rattle.command_work.specs.Work.{Does};
+ghost use Rattle.command_work.specs.Counts.{Counted, Tallies, Refusing, StopsCode};
+ghost use Rattle.command_files.specs.Assemblies.{asm_flaw, assembly_in, assembly_named};
+
+use command_work::{CodeFlaw, Status, read_file, refuse_code};
+use ncs_text::{AsmFault, assemble};
+use nwq_outside::{Files, Sink};
+use nwq_value::Items;
+use std::alloc::Global;
+
+/// What is wrong with an assembler text that has no file; nothing where only memory ran out.
+fn asm_flaw(fault: AsmFault) -> Option<CodeFlaw>
+    ensures { result ≡ asm_flaw fault }
+{
+    match fault {
+        AsmFault::Line(number) => Some(CodeFlaw::Line(number)),
+        AsmFault::Large(size) => Some(CodeFlaw::Large(size)),
+        AsmFault::Target(number) => Some(CodeFlaw::LineTarget(number)),
+        AsmFault::NoMemory => None,
+    }
+}
+
+/// The file of the assembler text of this name.
+#[tactic(auto, using(crate::proofs::AssemblyLemmas::assemblies))]
+fn assembly_of_text<S: Sink>(
+    alloc: Global,
+    name: &[u8],
+    text: &[u8],
+    out: &mut S,
+) -> Result<Items<u8>, Status>
+    requires { length text.now ≤ file_limit }
+    ensures does { IsTrue S.tells → (c : Contents) →
+        Does (assembly_in name.now text.now) c (S.taken out.old) result c (S.taken out.new) }
+    ensures counts { (faults absences longs : ℕ) → Tallies result
+        (Counted faults absences longs (S.faults out.old))
+        (Counted faults absences longs (S.faults out.new)) }
+    ensures only { IfErr result (Refusing Status.Code) }
+{
+    match assemble(alloc, text) {
+        Ok(file) => Ok(Items::of_vec(file)),
+        Err(fault) => match asm_flaw(fault) {
+            Some(flaw) => Err(refuse_code(alloc, name, flaw, out)),
+            None => Err(Status::Memory),
+        },
+    }
+}
+
+/// The file that the assembler text of this name stands for.
+#[tactic(auto, using(crate::proofs::Steps::steps), unfolding(crate::specs::Assemblies::assembly_named))]
+pub fn read_assembly<F: Files, S: Sink>(
+    alloc: Global,
+    name: &str,
+    files: &mut F,
+    out: &mut S,
+) -> Result<Items<u8>, Status>
+    ensures does { IsTrue F.tells → IsTrue S.tells →
+        Does (assembly_named name.now) (F.contents files.old) (S.taken out.old)
+        result (F.contents files.new) (S.taken out.new) }
+    ensures counts { Tallies result
+        (Counted (F.faults files.old) (F.absences files.old) (F.longs files.old) (S.faults out.old))
+        (Counted (F.faults files.new) (F.absences files.new)
+        (F.longs files.new) (S.faults out.new)) }
+    ensures same { F.contents files.new ≡ F.contents files.old }
+    ensures only { IfErr result StopsCode }
+{
+    match read_file(alloc, name, files, out) {
+        Err(status) => Err(status),
+        Ok(text) => assembly_of_text(alloc, name.as_bytes(), text.as_slice(), out),
+    }
+}

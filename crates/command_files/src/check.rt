@@ -1,0 +1,146 @@
+ghost use Rattle.std.specs.Prelude.{◌≡◌, ◌++◌, ℕ, length, codes, decimal, IsTrue, IfOk, IfErr};
+ghost use Rattle.nwq_outside.specs.Outside.{Contents};
+ghost use Rattle.stack_rules.specs.Rules.{MeetsRules};
+ghost use Rattle.stack_check.specs.Checked.{kept_table};
+ghost use Rattle.command_work.specs.Work.{Does, CutsShort};
+ghost use Rattle.command_work.specs.Counts.{Counted, Tallies, Refusing, StopsCode};
+ghost use Rattle.command_files.specs.Checks.{checked_in, checked_named, plain_answer};
+ghost use Rattle.command_files.specs.Checks.{passed_line, puts_passed, checks_under, checks};
+ghost use Rattle.command_files.specs.Checks.{StopsCheck};
+
+use crate::read_code;
+use command_sources::read_table;
+use command_work::{CodeFlaw, Status, put, refuse_code};
+use ncs_file::Code;
+use nwq_outside::{Files, Sink};
+use nwq_text::put_count;
+use nwq_value::{NoMemory, Table};
+use stack_check::{CheckFault, Checked, check};
+use std::alloc::Global;
+
+/// Checks the code of the file of this name under a header.
+#[tactic(auto)]
+pub fn check_code<S: Sink>(
+    alloc: Global,
+    table: &Table,
+    name: &[u8],
+    code: Code,
+    out: &mut S,
+) -> Result<Checked, Status>
+    ensures does { IsTrue S.tells → (c : Contents) →
+        Does (checked_in table.now name.now code) c
+        (S.taken out.old) (plain_answer result) c (S.taken out.new) }
+    ensures counts { (faults absences longs : ℕ) → Tallies result
+        (Counted faults absences longs (S.faults out.old))
+        (Counted faults absences longs (S.faults out.new)) }
+    ensures meets { IfOk result (λ checked.
+        MeetsRules table.now checked.code (kept_table checked)) }
+    ensures only { IfErr result (Refusing Status.Code) }
+{
+    match check(alloc, code, table) {
+        Ok(checked) => Ok(checked),
+        Err(CheckFault::Unstacked) => Err(refuse_code(alloc, name, CodeFlaw::Unstacked, out)),
+        Err(CheckFault::NoMemory) => Err(Status::Memory),
+    }
+}
+
+/// The file of bytecode of this name, checked under a header.
+#[tactic(auto, using(crate::proofs::Steps::steps), unfolding(crate::specs::Checks::checked_named))]
+pub fn read_checked<F: Files, S: Sink>(
+    alloc: Global,
+    table: &Table,
+    name: &str,
+    files: &mut F,
+    out: &mut S,
+) -> Result<Checked, Status>
+    ensures does { IsTrue F.tells → IsTrue S.tells →
+        Does (checked_named table.now name.now) (F.contents files.old) (S.taken out.old)
+        (plain_answer result) (F.contents files.new) (S.taken out.new) }
+    ensures counts { Tallies result
+        (Counted (F.faults files.old) (F.absences files.old) (F.longs files.old) (S.faults out.old))
+        (Counted (F.faults files.new) (F.absences files.new)
+        (F.longs files.new) (S.faults out.new)) }
+    ensures same { F.contents files.new ≡ F.contents files.old }
+    // The code is well stacked by the table that is kept.
+    ensures meets { IfOk result (λ checked.
+        MeetsRules table.now checked.code (kept_table checked)) }
+    ensures only { IfErr result StopsCode }
+{
+    match read_code(alloc, name, files, out) {
+        Err(status) => Err(status),
+        Ok(code) => check_code(alloc, table, name.as_bytes(), code, out),
+    }
+}
+
+/// The line for a file that passed.
+fn passed_line(alloc: Global, count: u32) -> Result<Vec<u8>, NoMemory>
+    ensures { IfOk result (λ text. text.items ≡ passed_line count) }
+{
+    let mut text = Vec::from_slice(alloc, b"passed ")?;
+    put_count(&mut text, u64::from(count))?;
+    text.push(b'\n')?;
+    Ok(text)
+}
+
+/// Puts the line for a file that passed.
+#[tactic(auto, using(command_work::specs::Parts::puts_does))]
+fn put_passed<S: Sink>(alloc: Global, checked: &Checked, out: &mut S) -> Result<(), Status>
+    ensures does { IsTrue S.tells → (c : Contents) →
+        Does (puts_passed checked.now.code) c (S.taken out.old) result c (S.taken out.new) }
+    ensures counts { (faults absences longs : ℕ) → Tallies result
+        (Counted faults absences longs (S.faults out.old))
+        (Counted faults absences longs (S.faults out.new)) }
+    ensures only { IfErr result CutsShort }
+{
+    put(passed_line(alloc, checked.code().count()), out)
+}
+
+/// Checks the file of this name under a header.
+#[tactic(auto, using(crate::proofs::Steps::steps), unfolding(crate::specs::Checks::checks_under))]
+fn check_under<F: Files, S: Sink>(
+    alloc: Global,
+    table: &Table,
+    name: &str,
+    files: &mut F,
+    out: &mut S,
+) -> Result<(), Status>
+    ensures does { IsTrue F.tells → IsTrue S.tells →
+        Does (checks_under name.now table.now) (F.contents files.old) (S.taken out.old)
+        result (F.contents files.new) (S.taken out.new) }
+    ensures counts { Tallies result
+        (Counted (F.faults files.old) (F.absences files.old) (F.longs files.old) (S.faults out.old))
+        (Counted (F.faults files.new) (F.absences files.new)
+        (F.longs files.new) (S.faults out.new)) }
+    ensures same { F.contents files.new ≡ F.contents files.old }
+    ensures only { IfErr result StopsCode }
+{
+    match read_checked(alloc, table, name, files, out) {
+        Err(status) => Err(status),
+        Ok(checked) => put_passed(alloc, &checked, out),
+    }
+}
+
+/// Checks the file of this name, under the header that a word names.
+#[tactic(auto, using(crate::proofs::Steps::steps, crate::proofs::CheckLemmas::stops), unfolding(crate::specs::Checks::checks))]
+pub fn check_file<F: Files, S: Sink>(
+    alloc: Global,
+    header: &str,
+    name: &str,
+    files: &mut F,
+    out: &mut S,
+) -> Result<(), Status>
+    ensures does { IsTrue F.tells → IsTrue S.tells →
+        Does (checks header.now name.now) (F.contents files.old) (S.taken out.old)
+        result (F.contents files.new) (S.taken out.new) }
+    ensures counts { Tallies result
+        (Counted (F.faults files.old) (F.absences files.old) (F.longs files.old) (S.faults out.old))
+        (Counted (F.faults files.new) (F.absences files.new)
+        (F.longs files.new) (S.faults out.new)) }
+    ensures same { F.contents files.new ≡ F.contents files.old }
+    ensures only { IfErr result StopsCheck }
+{
+    match read_table(alloc, header, files, out) {
+        Err(status) => Err(status),
+        Ok(table) => check_under(alloc, &table, name, files, out),
+    }
+}

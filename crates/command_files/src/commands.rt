@@ -1,0 +1,182 @@
+//! The commands that turn a file into a text, or a text into a file.
+
+ghost use Rattle.std.specs.Prelude.{◌≡◌, ℕ, length, codes, IsTrue, IfErr};
+ghost use Rattle.nwq_outside.specs.Outside.{Contents};
+ghost use Rattle.gff_tree.specs.Whole.{plain_gff};
+ghost use Rattle.command_work.specs.Work.{Does, CutsShort};
+ghost use Rattle.command_work.specs.Counts.{Counted, Tallies, KeepsBut, StopsArea, StopsCode};
+ghost use Rattle.command_files.specs.Texts.{done_line};
+ghost use Rattle.command_files.specs.Commands.{puts_tree, shows_tree, writes_and_puts};
+ghost use Rattle.command_files.specs.Commands.{writes_listing, disassembles, writes_assembly};
+ghost use Rattle.command_files.specs.Commands.{assembles};
+
+use crate::assembly::read_assembly;
+use crate::code::read_code;
+use crate::texts::done_line;
+use crate::tree::read_tree;
+use command_work::{Status, put, write_file};
+use gff_text::tree_text;
+use gff_tree::Gff;
+use ncs_file::Code;
+use ncs_text::disassemble;
+use nwq_outside::{Files, Sink};
+use nwq_value::NoMemory;
+use std::alloc::Global;
+
+/// Puts the text of a tree.
+#[tactic(auto, using(command_work::specs::Parts::puts_does))]
+fn put_tree<S: Sink>(alloc: Global, tree: &Gff, out: &mut S) -> Result<(), Status>
+    ensures does { IsTrue S.tells → (c : Contents) →
+        Does (puts_tree (plain_gff tree.now)) c (S.taken out.old) result c (S.taken out.new) }
+    ensures counts { (faults absences longs : ℕ) → Tallies result
+        (Counted faults absences longs (S.faults out.old))
+        (Counted faults absences longs (S.faults out.new)) }
+    ensures only { IfErr result CutsShort }
+{
+    put(tree_text(alloc, tree), out)
+}
+
+/// Shows the tree of the GFF file of this name.
+#[tactic(auto, using(crate::proofs::Steps::steps), unfolding(crate::specs::Commands::shows_tree))]
+pub fn show_tree<F: Files, S: Sink>(
+    alloc: Global,
+    file: &str,
+    files: &mut F,
+    out: &mut S,
+) -> Result<(), Status>
+    ensures does { IsTrue F.tells → IsTrue S.tells →
+        Does (shows_tree file.now) (F.contents files.old) (S.taken out.old)
+        result (F.contents files.new) (S.taken out.new) }
+    ensures counts { Tallies result
+        (Counted (F.faults files.old) (F.absences files.old) (F.longs files.old) (S.faults out.old))
+        (Counted (F.faults files.new) (F.absences files.new)
+        (F.longs files.new) (S.faults out.new)) }
+    ensures same { F.contents files.new ≡ F.contents files.old }
+    ensures only { IfErr result StopsArea }
+{
+    match read_tree(alloc, file, files, out) {
+        Err(status) => Err(status),
+        Ok(tree) => put_tree(alloc, &tree, out),
+    }
+}
+
+/// Writes a file, and puts the line that tells what was done to it, with a number.
+#[tactic(auto, using(crate::proofs::Steps::steps), unfolding(crate::specs::Commands::writes_and_puts))]
+pub fn write_and_put<F: Files, S: Sink>(
+    alloc: Global,
+    to: &str,
+    bytes: &[u8],
+    done: &str,
+    count: u64,
+    files: &mut F,
+    out: &mut S,
+) -> Result<(), Status>
+    ensures does { IsTrue F.tells → IsTrue S.tells →
+        Does (writes_and_puts to.now bytes.now (done_line done.now to.now count))
+        (F.contents files.old) (S.taken out.old)
+        result (F.contents files.new) (S.taken out.new) }
+    ensures counts { Tallies result
+        (Counted (F.faults files.old) (F.absences files.old) (F.longs files.old) (S.faults out.old))
+        (Counted (F.faults files.new) (F.absences files.new)
+        (F.longs files.new) (S.faults out.new)) }
+    ensures names { KeepsBut (λ other. other ≡ to.now)
+        (F.contents files.old) (F.contents files.new) }
+    ensures only { IfErr result CutsShort }
+{
+    match write_file(to, bytes, files) {
+        Err(status) => Err(status),
+        Ok(()) => put(done_line(alloc, done, to.as_bytes(), count), out),
+    }
+}
+
+/// Writes the text of instructions.
+#[tactic(auto, using(command_work::specs::Parts::cut_here))]
+fn write_listing<F: Files, S: Sink>(
+    alloc: Global,
+    to: &str,
+    code: &Code,
+    files: &mut F,
+    out: &mut S,
+) -> Result<(), Status>
+    ensures does { IsTrue F.tells → IsTrue S.tells →
+        Does (writes_listing to.now code.now) (F.contents files.old) (S.taken out.old)
+        result (F.contents files.new) (S.taken out.new) }
+    ensures counts { Tallies result
+        (Counted (F.faults files.old) (F.absences files.old) (F.longs files.old) (S.faults out.old))
+        (Counted (F.faults files.new) (F.absences files.new)
+        (F.longs files.new) (S.faults out.new)) }
+    ensures names { KeepsBut (λ other. other ≡ to.now)
+        (F.contents files.old) (F.contents files.new) }
+    ensures only { IfErr result CutsShort }
+{
+    match disassemble(alloc, code) {
+        Err(NoMemory) => Err(Status::Memory),
+        Ok(text) => {
+            let count = u64::from(code.count());
+            write_and_put(
+                alloc,
+                to,
+                text.as_slice(),
+                "disassembled ",
+                count,
+                files,
+                out,
+            )
+        }
+    }
+}
+
+/// Writes the text of the file of bytecode of this name under another.
+#[tactic(auto, using(crate::proofs::Steps::steps), unfolding(crate::specs::Commands::disassembles))]
+pub fn disassemble_file<F: Files, S: Sink>(
+    alloc: Global,
+    file: &str,
+    to: &str,
+    files: &mut F,
+    out: &mut S,
+) -> Result<(), Status>
+    ensures does { IsTrue F.tells → IsTrue S.tells →
+        Does (disassembles file.now to.now) (F.contents files.old) (S.taken out.old)
+        result (F.contents files.new) (S.taken out.new) }
+    ensures counts { Tallies result
+        (Counted (F.faults files.old) (F.absences files.old) (F.longs files.old) (S.faults out.old))
+        (Counted (F.faults files.new) (F.absences files.new)
+        (F.longs files.new) (S.faults out.new)) }
+    ensures names { KeepsBut (λ other. other ≡ to.now)
+        (F.contents files.old) (F.contents files.new) }
+    ensures only { IfErr result StopsCode }
+{
+    match read_code(alloc, file, files, out) {
+        Err(status) => Err(status),
+        Ok(code) => write_listing(alloc, to, &code, files, out),
+    }
+}
+
+/// Writes the file of the assembler text of this name under another.
+#[tactic(auto, using(crate::proofs::Steps::steps), unfolding(crate::specs::Commands::assembles))]
+pub fn assemble_file<F: Files, S: Sink>(
+    alloc: Global,
+    file: &str,
+    to: &str,
+    files: &mut F,
+    out: &mut S,
+) -> Result<(), Status>
+    ensures does { IsTrue F.tells → IsTrue S.tells →
+        Does (assembles file.now to.now) (F.contents files.old) (S.taken out.old)
+        result (F.contents files.new) (S.taken out.new) }
+    ensures counts { Tallies result
+        (Counted (F.faults files.old) (F.absences files.old) (F.longs files.old) (S.faults out.old))
+        (Counted (F.faults files.new) (F.absences files.new)
+        (F.longs files.new) (S.faults out.new)) }
+    ensures names { KeepsBut (λ other. other ≡ to.now)
+        (F.contents files.old) (F.contents files.new) }
+    ensures only { IfErr result StopsCode }
+{
+    match read_assembly(alloc, file, files, out) {
+        Err(status) => Err(status),
+        Ok(bytes) => {
+            let size = bytes.len() as u64;
+            write_and_put(alloc, to, bytes.as_slice(), "assembled ", size, files, out)
+        }
+    }
+}

@@ -1,0 +1,120 @@
+ghost use Rattle.std.specs.Prelude.{◌≡◌, ◌≤◌, ◌<◌, ℕ, length, IsTrue, IfOk, IfErr, None};
+ghost use Rattle.nwq_value.specs.Limits.{file_limit};
+ghost use Rattle.nwq_outside.specs.Outside.{Contents};
+ghost use Rattle.gff_bytes.specs.File.{open_fault};
+ghost use Rattle.gff_tree.specs.Whole.{plain_gff};
+ghost use Rattle.gff_tree.specs.Count.{node_count};
+ghost use Rattle.command_work.specs.Work.{Does};
+ghost use Rattle.command_work.specs.Counts.{Counted, Tallies, Refusing, StopsArea};
+ghost use Rattle.command_files.specs.Trees.{open_flaw, tree_flaw, tree_in, tree_named, plain_answer};
+
+use command_work::{AreaFlaw, Status, read_file, refuse_area};
+use gff_bytes::{OpenFault, View};
+use gff_read::{TreeFault, read};
+use gff_tree::Gff;
+use nwq_outside::{Files, Sink};
+use std::alloc::Global;
+
+/// What is wrong with bytes that are no GFF file.
+fn open_flaw(fault: OpenFault) -> AreaFlaw
+    ensures { result ≡ open_flaw fault }
+{
+    match fault {
+        OpenFault::Short => AreaFlaw::Short,
+        OpenFault::Version => AreaFlaw::Version,
+        OpenFault::Section(number) => AreaFlaw::Section(number),
+    }
+}
+
+/// What is wrong with a GFF file that has no tree; nothing where only memory ran out.
+fn tree_flaw(fault: TreeFault) -> Option<AreaFlaw>
+    ensures { result ≡ tree_flaw fault }
+{
+    match fault {
+        TreeFault::Range(range) => Some(AreaFlaw::Range(range.part, range.at)),
+        TreeFault::Kind(field) => Some(AreaFlaw::Type(field)),
+        TreeFault::Shared(at) => Some(AreaFlaw::Shared(at)),
+        TreeFault::Deep(at) => Some(AreaFlaw::Deep(at)),
+        TreeFault::Label(field) => Some(AreaFlaw::Label(field)),
+        TreeFault::NoMemory => None,
+    }
+}
+
+/// The tree of a GFF file whose sections lie inside it.
+#[tactic(auto, using(crate::proofs::TreeLemmas::trees))]
+fn tree_of_view<S: Sink>(
+    alloc: Global,
+    name: &[u8],
+    view: &View<'_>,
+    out: &mut S,
+) -> Result<Gff, Status>
+    requires opens { open_fault view.now ≡ None }
+    ensures does { IsTrue S.tells → (c : Contents) →
+        Does (tree_in name.now view.now) c
+        (S.taken out.old) (plain_answer result) c (S.taken out.new) }
+    ensures counts { (faults absences longs : ℕ) → Tallies result
+        (Counted faults absences longs (S.faults out.old))
+        (Counted faults absences longs (S.faults out.new)) }
+    // The structs of a tree can be numbered by 32 bits.
+    ensures few { IfOk result (λ tree. node_count (plain_gff tree).top < 4294967296) }
+    ensures only { IfErr result (Refusing Status.Area) }
+{
+    match read(alloc, view) {
+        Ok(tree) => Ok(tree),
+        Err(fault) => match tree_flaw(fault) {
+            Some(flaw) => Err(refuse_area(alloc, name, flaw, out)),
+            None => Err(Status::Memory),
+        },
+    }
+}
+
+/// The tree in the bytes of the file of this name.
+#[tactic(auto, using(crate::proofs::TreeLemmas::unopened_does))]
+fn tree_of_bytes<S: Sink>(
+    alloc: Global,
+    name: &[u8],
+    bytes: &[u8],
+    out: &mut S,
+) -> Result<Gff, Status>
+    requires { length bytes.now ≤ file_limit }
+    ensures does { IsTrue S.tells → (c : Contents) →
+        Does (tree_in name.now bytes.now) c
+        (S.taken out.old) (plain_answer result) c (S.taken out.new) }
+    ensures counts { (faults absences longs : ℕ) → Tallies result
+        (Counted faults absences longs (S.faults out.old))
+        (Counted faults absences longs (S.faults out.new)) }
+    // The structs of a tree can be numbered by 32 bits.
+    ensures few { IfOk result (λ tree. node_count (plain_gff tree).top < 4294967296) }
+    ensures only { IfErr result (Refusing Status.Area) }
+{
+    match View::open(bytes) {
+        Err(fault) => Err(refuse_area(alloc, name, open_flaw(fault), out)),
+        Ok(view) => tree_of_view(alloc, name, &view, out),
+    }
+}
+
+/// The tree of the GFF file of this name.
+#[tactic(auto, using(crate::proofs::Steps::steps), unfolding(crate::specs::Trees::tree_named))]
+pub fn read_tree<F: Files, S: Sink>(
+    alloc: Global,
+    name: &str,
+    files: &mut F,
+    out: &mut S,
+) -> Result<Gff, Status>
+    ensures does { IsTrue F.tells → IsTrue S.tells →
+        Does (tree_named name.now) (F.contents files.old) (S.taken out.old)
+        (plain_answer result) (F.contents files.new) (S.taken out.new) }
+    ensures counts { Tallies result
+        (Counted (F.faults files.old) (F.absences files.old) (F.longs files.old) (S.faults out.old))
+        (Counted (F.faults files.new) (F.absences files.new)
+        (F.longs files.new) (S.faults out.new)) }
+    ensures same { F.contents files.new ≡ F.contents files.old }
+    // The structs of the tree can be numbered by 32 bits.
+    ensures few { IfOk result (λ tree. node_count (plain_gff tree).top < 4294967296) }
+    ensures only { IfErr result StopsArea }
+{
+    match read_file(alloc, name, files, out) {
+        Err(status) => Err(status),
+        Ok(bytes) => tree_of_bytes(alloc, name.as_bytes(), bytes.as_slice(), out),
+    }
+}

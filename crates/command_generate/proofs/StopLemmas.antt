@@ -1,0 +1,33 @@
+-- What stops the parts of the command stops it.
+use Rattle.std.proofs.Common.{inl, inr, subst, sym}
+use Rattle.command_work.specs.declared.status.Status.{Status}
+use Rattle.command_work.specs.declared.status.Status.TheVariants.{Done, Words, Script, Code, Area, Limit, Missing, Fault, Memory, Long}
+use Rattle.command_work.specs.Work.{CutsShort}
+use Rattle.command_work.specs.Counts.{Refusing}
+use Rattle.command_generate.specs.Generated.{StopsGenerate}
+
+cut_stops : (s : Status) → CutsShort s → StopsGenerate s
+cut_stops Done cut = absurd cut
+cut_stops Words cut = absurd cut
+cut_stops Script cut = tt
+cut_stops Code cut = tt
+cut_stops Area cut = absurd cut
+cut_stops Limit cut = tt
+cut_stops Missing cut = absurd cut
+cut_stops Fault cut = tt
+cut_stops Memory cut = tt
+cut_stops Long cut = absurd cut
+
+pub source_stops : (s : Status) → Refusing Script s → StopsGenerate s
+source_stops s (inl is) = subst StopsGenerate (sym is) tt
+source_stops s (inr cut) = cut_stops s cut
+
+pub code_stops : (s : Status) → Refusing Code s → StopsGenerate s
+code_stops s (inl is) = subst StopsGenerate (sym is) tt
+code_stops s (inr cut) = cut_stops s cut
+
+pub limit_stops : (s : Status) → Refusing Limit s → StopsGenerate s
+limit_stops s (inl is) = subst StopsGenerate (sym is) tt
+limit_stops s (inr cut) = cut_stops s cut
+
+pub ruleset stops = (source_stops, code_stops, limit_stops)

@@ -1,0 +1,109 @@
+-- The command `generate`: the play that is made from a number is compiled, checked and played, and a summary of it is put.
+use Rattle.std.specs.Prelude.{ℕ, ◌*◌, ◌==◌, Bool, true, false, List, [], ◌∷◌, ◌++◌, length, count_by, codes, Result, Ok, Err}
+use Rattle.std.specs.FinMap as map
+use Rattle.std.specs.Fmt.{decimal}
+use Rattle.nwq_value.specs.HeaderTable.{header_table}
+use Rattle.nwq_outside.specs.Outside.{Contents}
+use Rattle.area_rules.specs.Area.{PlainArea, area_of}
+use Rattle.ncs_code.specs.Plain.{PlainOp}
+use Rattle.saved_state.specs.declared.saved.Saved.{Saved}
+use Rattle.world_rules.specs.Pure.{CellLookup}
+use Rattle.world_rules.specs.Trace.{trace_text}
+use Rattle.plan_text.specs.declared.plan.Plan.{Plan}
+use Rattle.world_rules.specs.Plays.{Played}
+use Rattle.world_rules.specs.EndText.{end_line}
+use Rattle.play_generator.specs.Made.{creatures_of, rounds_of, area_tree, play_of}
+use Rattle.play_generator.specs.Reads.{plan_made}
+use Rattle.command_work.specs.declared.status.Status.{Status}
+use Rattle.command_work.specs.declared.status.Status.TheVariants.{Script, Code, Limit, Fault, Memory}
+use Rattle.command_work.specs.Work.{Work, Gives, Ends, Puts, Finds, then, CutsShort, Does, Finished}
+use Rattle.command_compile.specs.Files.{compiled_named}
+use Rattle.command_files.specs.Checks.{loaded_in}
+use Rattle.play_worlds.specs.Worlds.{plan_world}
+use Rattle.command_plays.specs.Plays.{ends_by, played}
+use Rattle.command_plays.specs.Scripts.{listed}
+
+-- ---- the source
+
+-- the files in which a source is compiled: it alone is there
+abbrev pub files_with : List ℕ → Contents
+files_with source = map.insert map.empty (codes "beat.nss") source
+
+-- the source is compiled under the built-in header with this answer, and this text is put
+abbrev pub Compiles : List ℕ → Result (List ℕ) Status → List ℕ → Type 0
+Compiles source answer text = Does (compiled_named header_table (codes "beat")) (files_with source) [] answer (files_with source) text
+
+-- what comes of a source: its file of bytecode, or the line by which it is refused
+pub data SourceFate : Type 0 where
+  Whole : (file : List ℕ) → SourceFate
+  Faulty : (line : List ℕ) → SourceFate
+
+pub data IsSourceFate (source : List ℕ) : SourceFate → Type 0 where
+  whole : (file text : List ℕ) → Compiles source (Ok file) text → IsSourceFate source (Whole file)
+  faulty : (status : Status) (line : List ℕ) → (CutsShort status → ⊥) → Compiles source (Err status) line → IsSourceFate source (Faulty line)
+
+abbrev pub source_by : SourceFate → Work (List ℕ)
+source_by (Whole file) = Gives file
+source_by (Faulty line) = Puts line (Ends Script)
+
+-- the file of a source, for which no file is read
+unfoldable pub source_compiled : List ℕ → Work (List ℕ)
+source_compiled source = Finds (λ (c : Contents) fate. IsSourceFate source fate) source_by
+
+-- ---- the summary
+
+-- a trace has a newline at the end of each line
+abbrev pub line_count : List ℕ → ℕ
+line_count trace = count_by (λ b. b == 10) trace
+
+-- a number behind its words
+abbrev pub counted : List ℕ → ℕ → List ℕ
+counted words n = words ++ decimal n
+
+unfoldable pub made_line : ℕ → ℕ → List ℕ → List ℕ
+made_line creatures events trace =
+    counted (codes "generated creatures ") creatures ++ (counted (codes " events ") events ++ (counted (codes " lines ") (line_count trace)
+    ++ (counted (codes " bytes ") (length trace) ++ 10 ∷ [])))
+
+-- how much was made and told, and the last line of the play's text
+unfoldable pub summary : ℕ → Played Saved → List ℕ
+summary n p =
+    made_line (creatures_of n) (creatures_of n * rounds_of n) (trace_text p.last.trace)
+    ++ end_line p.ending p.last.world.clock p.last.entries p.last.count
+
+-- ---- the play
+
+abbrev pub plan_of : ℕ → Plan
+plan_of n = plan_made (rounds_of n) (creatures_of n)
+
+abbrev pub made_area : ℕ → PlainArea
+made_area n = area_of (area_tree (creatures_of n))
+
+-- a play that a limit ended is told as others are, and its command ends with the status of limits
+abbrev pub tells : ℕ → Played Saved → Work Finished
+tells n p = Puts (summary n p) (ends_by p.ending)
+
+-- instructions are played as the one script of the plan over the area of a number
+unfoldable pub plays_made : CellLookup → ℕ → List PlainOp → Work Finished
+plays_made cell n ops = tells n (played cell header_table (plan_of n) (listed (codes "beat") ops) (plan_world (made_area n) (plan_of n)))
+
+unfoldable pub checks_made : CellLookup → ℕ → List ℕ → Work Finished
+checks_made cell n file = then (loaded_in header_table (codes "beat.ncs") file) (plays_made cell n)
+
+-- the work of the command: no file is read, and none written
+unfoldable pub generates : CellLookup → ℕ → Work Finished
+generates cell n = then (source_compiled (play_of n).source) (checks_made cell n)
+
+-- the statuses by which a work is cut short
+abbrev pub cuts : Status → Bool
+cuts Fault = true
+cuts Memory = true
+cuts _ = false
+
+-- What stops it: the source or its code is refused, a limit ended the play, or the work is cut. No law says yet that each source has a
+-- file, and that the check passes it; once one does, `Script` and `Code` go away here.
+abbrev pub StopsGenerate : Status → Type 0
+StopsGenerate Script = Unit {0}
+StopsGenerate Code = Unit {0}
+StopsGenerate Limit = Unit {0}
+StopsGenerate status = CutsShort status

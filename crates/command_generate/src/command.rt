@@ -1,0 +1,106 @@
+//! The command.
+ghost use Rattle.std.specs.Prelude.{◌≡◌, ◌≤◌, ℕ, length, map, IsTrue, IfErr};
+ghost use Rattle.nwq_value.specs.Limits.{file_limit};
+ghost use Rattle.nwq_value.specs.HeaderTable.{header_table};
+ghost use Rattle.nwq_outside.specs.Outside.{Contents};
+ghost use Rattle.world_core.specs.Calls.{AreServing, cells_of};
+ghost use Rattle.play_generator.specs.Made.{number_limit, play_of};
+ghost use Rattle.command_work.specs.Work.{Does};
+ghost use Rattle.command_work.specs.Counts.{Counted, Tallies};
+ghost use Rattle.command_generate.specs.Generated.{checks_made, generates, StopsGenerate};
+
+use crate::play::play_code;
+use crate::source::compile_source;
+use command_files::load_checked;
+use command_work::Status;
+use engine_table::built_in;
+use hook_table::Hooks;
+use nwq_outside::Sink;
+use nwq_value::{NoMemory, Table};
+use play_generator::{Made, make};
+use std::alloc::Global;
+
+/// Checks and plays the file of bytecode of a made play's source.
+#[tactic(auto, using(crate::proofs::Steps::steps, crate::proofs::StopLemmas::stops), unfolding(crate::specs::Generated::checks_made))]
+fn play_file<S: Sink>(
+    alloc: Global,
+    table: &Table,
+    number: u32,
+    made: &Made,
+    bytes: Vec<u8>,
+    hooks: &Hooks,
+    out: &mut S,
+) -> Result<(), Status>
+    requires header { table.now ≡ header_table }
+    requires number { number ≤ number_limit }
+    requires made { made.now ≡ play_of number }
+    requires small { length bytes.items ≤ file_limit }
+    requires hooks { AreServing (map (λ h. h.known) hooks.now.all.items) }
+    ensures does { IsTrue S.tells → (c : Contents) →
+        Does (checks_made (cells_of (map (λ h. h.known) hooks.now.all.items)) number bytes.items)
+        c (S.taken out.old) result c (S.taken out.new) }
+    ensures counts { (faults absences longs : ℕ) → Tallies result
+        (Counted faults absences longs (S.faults out.old))
+        (Counted faults absences longs (S.faults out.new)) }
+    ensures only { IfErr result StopsGenerate }
+{
+    match load_checked(alloc, table, b"beat.ncs", bytes, out) {
+        Err(status) => Err(status),
+        Ok(code) => play_code(alloc, table, number, made, code, hooks, out),
+    }
+}
+
+/// Compiles, checks and plays a made play under the built-in header.
+#[tactic(auto, using(crate::proofs::Steps::steps, crate::proofs::StopLemmas::stops), unfolding(crate::specs::Generated::generates))]
+fn play_made<S: Sink>(
+    alloc: Global,
+    table: &Table,
+    number: u32,
+    made: &Made,
+    hooks: &Hooks,
+    out: &mut S,
+) -> Result<(), Status>
+    requires header { table.now ≡ header_table }
+    requires number { number ≤ number_limit }
+    requires made { made.now ≡ play_of number }
+    requires hooks { AreServing (map (λ h. h.known) hooks.now.all.items) }
+    ensures does { IsTrue S.tells → (c : Contents) →
+        Does (generates (cells_of (map (λ h. h.known) hooks.now.all.items)) number)
+        c (S.taken out.old) result c (S.taken out.new) }
+    ensures counts { (faults absences longs : ℕ) → Tallies result
+        (Counted faults absences longs (S.faults out.old))
+        (Counted faults absences longs (S.faults out.new)) }
+    ensures only { IfErr result StopsGenerate }
+{
+    match compile_source(alloc, table, made.source(), out) {
+        Err(status) => Err(status),
+        Ok(bytes) => play_file(alloc, table, number, made, bytes.into_vec(), hooks, out),
+    }
+}
+
+/// Makes the play of a number, plays it and puts its summary. Scripts that it plays call the hooks.
+#[tactic(auto, using(command_work::specs::Parts::cut_here))]
+pub fn generate<S: Sink>(
+    alloc: Global,
+    number: u32,
+    hooks: &Hooks,
+    out: &mut S,
+) -> Result<(), Status>
+    requires number { number ≤ number_limit }
+    requires hooks { AreServing (map (λ h. h.known) hooks.now.all.items) }
+    ensures does { IsTrue S.tells → (c : Contents) →
+        Does (generates (cells_of (map (λ h. h.known) hooks.now.all.items)) number)
+        c (S.taken out.old) result c (S.taken out.new) }
+    ensures counts { (faults absences longs : ℕ) → Tallies result
+        (Counted faults absences longs (S.faults out.old))
+        (Counted faults absences longs (S.faults out.new)) }
+    ensures only { IfErr result StopsGenerate }
+{
+    match built_in(alloc) {
+        Err(NoMemory) => Err(Status::Memory),
+        Ok(table) => match make(alloc, number) {
+            Err(NoMemory) => Err(Status::Memory),
+            Ok(made) => play_made(alloc, &table, number, &made, hooks, out),
+        },
+    }
+}

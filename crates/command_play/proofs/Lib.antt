@@ -1,0 +1,7 @@
+mod FileLemmas
+mod OneGame
+mod PlayLemmas
+mod Steps
+mod StopLemmas
+mod TellLemmas
+mod Examples

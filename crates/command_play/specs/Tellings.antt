@@ -1,0 +1,25 @@
+-- What is said of a play's files and statuses.
+use Rattle.std.specs.Prelude.{◌≡◌, ℕ, ◌⊎◌, IsTrue, List}
+use Rattle.plan_text.specs.Fields.{is_script_name}
+use Rattle.command_work.specs.declared.status.Status.{Status}
+use Rattle.command_work.specs.declared.status.Status.TheVariants.{Script, Code, Area, Limit}
+use Rattle.command_work.specs.Counts.{StopsRead}
+use Rattle.command_compile.specs.Files.{code_name}
+
+-- the file of bytecode of some script
+pub record IsCodeFile (name : List ℕ) : Type 0 where
+  pub script : List ℕ
+  pub named : IsTrue (is_script_name script)
+  pub is : name ≡ code_name script
+
+-- what the play of a plan may write: files of bytecode, and the file in which the area is left
+abbrev pub IsGameFile : List ℕ → List ℕ → Type 0
+IsGameFile to name = IsCodeFile name ⊎ (name ≡ to)
+
+-- what stops the play of a plan: a file isn't there or is too long, one is refused, a limit was reached, or the work is cut
+abbrev pub StopsGame : Status → Type 0
+StopsGame Script = Unit {0}
+StopsGame Code = Unit {0}
+StopsGame Area = Unit {0}
+StopsGame Limit = Unit {0}
+StopsGame status = StopsRead status

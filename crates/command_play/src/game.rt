@@ -1,0 +1,150 @@
+//! The command: what a play needs is read, in order, and the plan is played.
+ghost use Rattle.std.specs.Prelude.{◌≡◌, ◌<◌, ◌^◌, length, map, IsTrue, IfErr};
+ghost use Rattle.plan_text.specs.Plans.{IsPlan};
+ghost use Rattle.stack_rules.specs.Laws.{AllMeet};
+ghost use Rattle.world_core.specs.Calls.{AreServing, cells_of};
+ghost use Rattle.ncs_machine.specs.Host.{scripts_of, tables_of};
+ghost use Rattle.command_work.specs.Work.{Does};
+ghost use Rattle.command_work.specs.Counts.{Counted, Tallies, KeepsBut};
+ghost use Rattle.command_play.specs.Games.{plays_area, plays_scripts, plays_under, plays};
+ghost use Rattle.command_play.specs.Tellings.{IsGameFile, StopsGame};
+
+use crate::play::play_plan;
+use command_sources::read_table;
+use command_work::Status;
+use hook_table::Hooks;
+use ncs_machine::Scripts;
+use nwq_outside::{Files, Sink};
+use nwq_value::Table;
+use plan_text::Plan;
+use play_inputs::{list_scripts, read_area, read_plan_file};
+use std::alloc::Global;
+
+/// Reads the area, and plays a plan over it.
+#[tactic(auto, using(crate::proofs::Steps::steps, crate::proofs::StopLemmas::stops), unfolding(crate::specs::Games::plays_area))]
+fn play_area<F: Files, S: Sink>(
+    alloc: Global,
+    table: &Table,
+    area: &str,
+    plan: &Plan,
+    to: &str,
+    scripts: &Scripts,
+    hooks: &Hooks,
+    files: &mut F,
+    out: &mut S,
+) -> Result<(), Status>
+    requires few { length scripts.now < 2 ^ 32 }
+    requires meets { AllMeet table.now (scripts_of scripts.now) (tables_of scripts.now) }
+    requires hooks { AreServing (map (λ h. h.known) hooks.now.all.items) }
+    requires plan { IsPlan plan.now }
+    ensures does { IsTrue F.tells → IsTrue S.tells →
+        Does (plays_area (cells_of (map (λ h. h.known) hooks.now.all.items)) table.now area.now
+        plan.now to.now (scripts_of scripts.now)) (F.contents files.old) (S.taken out.old)
+        result (F.contents files.new) (S.taken out.new) }
+    ensures counts { Tallies result
+        (Counted (F.faults files.old) (F.absences files.old) (F.longs files.old) (S.faults out.old))
+        (Counted (F.faults files.new) (F.absences files.new)
+        (F.longs files.new) (S.faults out.new)) }
+    ensures names { KeepsBut (λ other. other ≡ to.now)
+        (F.contents files.old) (F.contents files.new) }
+    ensures only { IfErr result StopsGame }
+{
+    match read_area(alloc, area, files, out) {
+        Err(status) => Err(status),
+        Ok(area) => play_plan(alloc, table, area, plan, scripts, hooks, to, files, out),
+    }
+}
+
+/// Lists the scripts of a plan, and plays it over the area of this name.
+#[tactic(auto, using(crate::proofs::Steps::steps, crate::proofs::StopLemmas::stops, crate::proofs::FileLemmas::keeps), unfolding(crate::specs::Games::plays_scripts))]
+fn play_scripts<F: Files, S: Sink>(
+    alloc: Global,
+    table: &Table,
+    area: &str,
+    plan: &Plan,
+    to: &str,
+    hooks: &Hooks,
+    files: &mut F,
+    out: &mut S,
+) -> Result<(), Status>
+    requires hooks { AreServing (map (λ h. h.known) hooks.now.all.items) }
+    requires plan { IsPlan plan.now }
+    ensures does { IsTrue F.tells → IsTrue S.tells →
+        Does (plays_scripts (cells_of (map (λ h. h.known) hooks.now.all.items)) area.now plan.now
+        to.now table.now) (F.contents files.old) (S.taken out.old)
+        result (F.contents files.new) (S.taken out.new) }
+    ensures counts { Tallies result
+        (Counted (F.faults files.old) (F.absences files.old) (F.longs files.old) (S.faults out.old))
+        (Counted (F.faults files.new) (F.absences files.new)
+        (F.longs files.new) (S.faults out.new)) }
+    ensures names { KeepsBut (IsGameFile to.now) (F.contents files.old) (F.contents files.new) }
+    ensures only { IfErr result StopsGame }
+{
+    match list_scripts(alloc, table, plan.scripts.as_slice(), files, out) {
+        Err(status) => Err(status),
+        Ok(scripts) => play_area(alloc, table, area, plan, to, &scripts, hooks, files, out),
+    }
+}
+
+/// Reads the header that a word names, and plays a plan under it.
+#[tactic(auto, using(crate::proofs::Steps::steps, crate::proofs::StopLemmas::stops), unfolding(crate::specs::Games::plays_under))]
+fn play_under<F: Files, S: Sink>(
+    alloc: Global,
+    header: &str,
+    area: &str,
+    plan: &Plan,
+    to: &str,
+    hooks: &Hooks,
+    files: &mut F,
+    out: &mut S,
+) -> Result<(), Status>
+    requires hooks { AreServing (map (λ h. h.known) hooks.now.all.items) }
+    requires plan { IsPlan plan.now }
+    ensures does { IsTrue F.tells → IsTrue S.tells →
+        Does (plays_under (cells_of (map (λ h. h.known) hooks.now.all.items)) header.now area.now
+        to.now plan.now) (F.contents files.old) (S.taken out.old)
+        result (F.contents files.new) (S.taken out.new) }
+    ensures counts { Tallies result
+        (Counted (F.faults files.old) (F.absences files.old) (F.longs files.old) (S.faults out.old))
+        (Counted (F.faults files.new) (F.absences files.new)
+        (F.longs files.new) (S.faults out.new)) }
+    ensures names { KeepsBut (IsGameFile to.now) (F.contents files.old) (F.contents files.new) }
+    ensures only { IfErr result StopsGame }
+{
+    match read_table(alloc, header, files, out) {
+        Err(status) => Err(status),
+        Ok(table) => play_scripts(alloc, &table, area, plan, to, hooks, files, out),
+    }
+}
+
+/// Plays a plan over an area, under the header that a word names, and leaves the area of a play
+/// that is done in the file `to`.
+#[tactic(auto, using(crate::proofs::Steps::steps, crate::proofs::StopLemmas::stops), unfolding(crate::specs::Games::plays))]
+pub fn play_files<F: Files, S: Sink>(
+    alloc: Global,
+    header: &str,
+    area: &str,
+    plan: &str,
+    to: &str,
+    hooks: &Hooks,
+    files: &mut F,
+    out: &mut S,
+) -> Result<(), Status>
+    requires hooks { AreServing (map (λ h. h.known) hooks.now.all.items) }
+    ensures does { IsTrue F.tells → IsTrue S.tells →
+        Does (plays (cells_of (map (λ h. h.known) hooks.now.all.items)) header.now area.now
+        plan.now to.now) (F.contents files.old) (S.taken out.old)
+        result (F.contents files.new) (S.taken out.new) }
+    ensures counts { Tallies result
+        (Counted (F.faults files.old) (F.absences files.old) (F.longs files.old) (S.faults out.old))
+        (Counted (F.faults files.new) (F.absences files.new)
+        (F.longs files.new) (S.faults out.new)) }
+    // The files of bytecode of scripts, and the file of the area that is left, alone are written.
+    ensures names { KeepsBut (IsGameFile to.now) (F.contents files.old) (F.contents files.new) }
+    ensures only { IfErr result StopsGame }
+{
+    match read_plan_file(alloc, plan, files, out) {
+        Err(status) => Err(status),
+        Ok(plan) => play_under(alloc, header, area, &plan, to, hooks, files, out),
+    }
+}

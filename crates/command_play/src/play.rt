@@ -1,0 +1,56 @@
+//! The play of a plan, and what it leaves.
+ghost use Rattle.std.specs.Prelude.{◌≡◌, ◌<◌, ◌^◌, length, map, IsTrue, IfErr};
+ghost use Rattle.plan_text.specs.Plans.{IsPlan};
+ghost use Rattle.stack_rules.specs.Laws.{AllMeet};
+ghost use Rattle.world_core.specs.Calls.{AreServing, cells_of};
+ghost use Rattle.ncs_machine.specs.Host.{scripts_of, tables_of};
+ghost use Rattle.command_work.specs.Work.{Does};
+ghost use Rattle.command_work.specs.Counts.{Counted, Tallies, KeepsBut};
+ghost use Rattle.command_play.specs.Games.{plays_plan};
+ghost use Rattle.command_play.specs.Tellings.{StopsGame};
+
+use crate::telling::tell_end;
+use area_tree::Area;
+use command_plays::play_lines;
+use command_work::Status;
+use hook_table::Hooks;
+use ncs_machine::Scripts;
+use nwq_outside::{Files, Sink};
+use nwq_value::Table;
+use plan_text::Plan;
+use std::alloc::Global;
+
+/// Plays a plan over an area.
+#[tactic(auto, using(crate::proofs::PlayLemmas::plays_in))]
+pub(crate) fn play_plan<F: Files, S: Sink>(
+    alloc: Global,
+    table: &Table,
+    area: Area,
+    plan: &Plan,
+    scripts: &Scripts,
+    hooks: &Hooks,
+    to: &str,
+    files: &mut F,
+    out: &mut S,
+) -> Result<(), Status>
+    requires few { length scripts.now < 2 ^ 32 }
+    requires meets { AllMeet table.now (scripts_of scripts.now) (tables_of scripts.now) }
+    requires hooks { AreServing (map (λ h. h.known) hooks.now.all.items) }
+    requires plan { IsPlan plan.now }
+    ensures does { IsTrue F.tells → IsTrue S.tells →
+        Does (plays_plan (cells_of (map (λ h. h.known) hooks.now.all.items)) table.now area
+        plan.now (scripts_of scripts.now) to.now) (F.contents files.old) (S.taken out.old)
+        result (F.contents files.new) (S.taken out.new) }
+    ensures counts { Tallies result
+        (Counted (F.faults files.old) (F.absences files.old) (F.longs files.old) (S.faults out.old))
+        (Counted (F.faults files.new) (F.absences files.new)
+        (F.longs files.new) (S.faults out.new)) }
+    ensures names { KeepsBut (λ other. other ≡ to.now)
+        (F.contents files.old) (F.contents files.new) }
+    ensures only { IfErr result StopsGame }
+{
+    match play_lines(alloc, table, area, plan, scripts, hooks, out) {
+        Err(status) => Err(status),
+        Ok((world, played)) => tell_end(alloc, world, scripts, &played, to, files, out),
+    }
+}

@@ -1,0 +1,83 @@
+-- The world of a plan: no state is stored in it, and no line is kept.
+use Rattle.std.proofs.Common.{◌≡◌, ◌<◌, ◌+◌, ◌^◌, ℕ, zero, suc, pos, Bool, true, false, List, [], ◌∷◌, length, map, if◌then◌else◌, refl, sym, ap, ◌∙◌, subst, arith}
+use Rattle.std.specs.Prelude.{replicate}
+use Rattle.std.specs.List.{AllByRecursion, fold}
+use Rattle.area_rules.specs.Area.{PlainArea}
+use Rattle.delay_agenda.specs.declared.entry.Entry.{Entry}
+use Rattle.delay_agenda.specs.declared.entry.Kind.TheVariants.{Event}
+use Rattle.delay_agenda.specs.Order.{put_entry, is_before}
+use Rattle.plan_text.specs.declared.plan.Line.{Line}
+use Rattle.plan_text.specs.declared.plan.Plan.{Plan}
+use Rattle.plan_text.specs.Plans.{IsPlan}
+use Rattle.saved_state.specs.declared.saved.Saved.{Saved}
+use Rattle.stack_rules.specs.Fits.{Tables}
+use Rattle.machine_rules.specs.Machine.{Script}
+use Rattle.world_rules.specs.World.{World}
+use Rattle.world_rules.specs.Turns.{Planned, still, with_planned, idle}
+use Rattle.ncs_machine.specs.Stored.{StatesFit, ThingsFit, EntryFits}
+use Rattle.play_worlds.specs.Worlds.{begun_by, plan_world}
+
+-- ---- what a plan's events leave as it was
+
+still_quiet : (events : List Planned) (w : World Saved) → (fold with_planned w events).trace ≡ w.trace
+still_quiet [] w = refl
+still_quiet (e ∷ events) w = still_quiet events (with_planned w e)
+
+still_things : (events : List Planned) (w : World Saved) → (fold with_planned w events).things ≡ w.things
+still_things [] w = refl
+still_things (e ∷ events) w = still_things events (with_planned w e)
+
+next_number : (events : List Planned) (w : World Saved) → (fold with_planned w events).agenda.next ≡ w.agenda.next + length events
+next_number [] w = omega arith
+next_number (e ∷ events) w = next_number events (with_planned w e) ∙ omega arith
+
+-- ---- captured states
+
+module _ (scripts : List Script) (tables : Tables) where
+  put_by : (first : Bool) (e a : Entry Saved) (rest : List (Entry Saved)) → EntryFits scripts tables e → EntryFits scripts tables a
+      → AllByRecursion (EntryFits scripts tables) rest → AllByRecursion (EntryFits scripts tables) (put_entry e rest)
+      → AllByRecursion (EntryFits scripts tables) (if first then a ∷ put_entry e rest else e ∷ a ∷ rest)
+  put_by true e a rest one here all more = (here, more)
+  put_by false e a rest one here all more = (one, (here, all))
+
+  put_fits : (e : Entry Saved) (entries : List (Entry Saved)) → EntryFits scripts tables e → AllByRecursion (EntryFits scripts tables) entries
+      → AllByRecursion (EntryFits scripts tables) (put_entry e entries)
+  put_fits e [] one all = (one, tt)
+  put_fits e (a ∷ rest) one all = put_by (is_before a e) e a rest one all.0 all.1 (put_fits e rest one all.1)
+
+  events_fit : (events : List Planned) (w : World Saved) → AllByRecursion (EntryFits scripts tables) w.agenda.entries
+      → AllByRecursion (EntryFits scripts tables) (fold with_planned w events).agenda.entries
+  events_fit [] w all = all
+  events_fit (e ∷ events) w all =
+      events_fit events (with_planned w e)
+      (put_fits (record { due = e.due; number = w.agenda.next; kind = Event e.object e.script (pos 0) }) w.agenda.entries tt all)
+
+  idle_fit : (n : ℕ) → AllByRecursion (ThingsFit scripts tables) (replicate n idle)
+  idle_fit zero = tt
+  idle_fit (suc n) = (tt, idle_fit n)
+
+  plan_fits : (area : PlainArea) (plan : Plan) → StatesFit scripts tables (plan_world area plan)
+  plan_fits area plan = record {
+    agenda = events_fit (map (begun_by area) plan.events) (still area plan.random plan.version) tt;
+    queues = subst (AllByRecursion (ThingsFit scripts tables)) (sym (still_things (map (begun_by area) plan.events) (still area plan.random plan.version)))
+        (idle_fit (length area.objects));
+  }
+
+-- ---- the world of a plan
+
+length_begun : (area : PlainArea) (lines : List Line) → length (map (begun_by area) lines) ≡ length lines
+length_begun area [] = refl
+length_begun area (line ∷ lines) = ap suc (length_begun area lines)
+
+module _ (area : PlainArea) (plan : Plan) (w : World Saved) (is : w ≡ plan_world area plan) where
+  pub world_fits : (scripts : List Script) (tables : Tables) → StatesFit scripts tables w
+  world_fits scripts tables = subst (StatesFit scripts tables) (sym is) (plan_fits scripts tables area plan)
+
+  pub world_quiet : w.trace ≡ []
+  world_quiet = ap (λ (v : World Saved). v.trace) is ∙ still_quiet (map (begun_by area) plan.events) (still area plan.random plan.version)
+
+  pub world_next : IsPlan plan → w.agenda.next < 2 ^ 61
+  world_next kept =
+      let next : w.agenda.next ≡ 0 + length (map (begun_by area) plan.events) =
+      ap (λ (v : World Saved). v.agenda.next) is ∙ next_number (map (begun_by area) plan.events) (still area plan.random plan.version) in
+      omega (arith, next, length_begun area plan.events, kept.few_events)

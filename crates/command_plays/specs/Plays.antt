@@ -1,0 +1,29 @@
+-- Plays as commands make them: the play of a plan's lines, and how a command ends by the end of its play.
+use Rattle.std.specs.Prelude.{List}
+use Rattle.nwq_value.specs.Engine.{EngineTable}
+use Rattle.plan_text.specs.declared.plan.Plan.{Plan}
+use Rattle.saved_state.specs.declared.saved.Saved.{Saved}
+use Rattle.world_rules.specs.Pure.{CellLookup}
+use Rattle.world_rules.specs.World.{World}
+use Rattle.machine_rules.specs.Machine.{Script, Host}
+use Rattle.world_rules.specs.Plays as plays
+use Rattle.world_rules.specs.Plays.{PlayEnd, Played}
+use Rattle.ncs_machine.specs.Host.{host}
+use Rattle.module_player.specs.CodePlays.{code_play}
+use Rattle.command_work.specs.declared.status.Status.TheVariants.{Limit}
+use Rattle.command_work.specs.Work.{Work, Gives, Ends, Finished}
+
+-- what listed scripts run in: the engine under a header, whose cells are looked up so
+abbrev pub host_of : CellLookup → EngineTable → List Script → Host (World Saved)
+host_of cell header scripts = host scripts (record { table = header; cell = cell })
+
+-- the play of listed scripts from a world on, with the limits of a plan
+abbrev pub played : CellLookup → EngineTable → Plan → List Script → World Saved → Played Saved
+played cell header plan scripts w = code_play (host_of cell header scripts) plan.limit plan.entries plan.until w
+
+-- a play that a limit ended is told whole, and its command ends with the status of limits
+abbrev pub ends_by : PlayEnd → Work Finished
+ends_by plays.Done = Gives tt
+ends_by plays.OutOfEntries = Ends Limit
+ends_by plays.StoppedInside = Ends Limit
+ends_by plays.Paused = Gives tt

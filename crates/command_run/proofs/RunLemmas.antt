@@ -1,0 +1,15 @@
+-- A play that is told of equal names and bytes.
+use Rattle.std.proofs.Common.{◌≡◌, ℕ, List, Result, subst}
+use Rattle.nwq_value.specs.Engine.{EngineTable}
+use Rattle.nwq_outside.specs.Outside.{Contents}
+use Rattle.world_rules.specs.Pure.{CellLookup}
+use Rattle.command_work.specs.declared.status.Status.{Status}
+use Rattle.command_work.specs.Work.{Does, Finished}
+use Rattle.command_plays.specs.Scripts.{plays_file}
+
+pub same_play : (cell : CellLookup) (header : EngineTable) (a b file code bytes items : List ℕ) (r : Result Finished Status) (c : Contents) (t t' : List ℕ)
+    → a ≡ b → file ≡ code → bytes ≡ items → Does (plays_file cell header a file bytes) c t r c t' → Does (plays_file cell header b code items) c t r c t'
+same_play cell header a b file code bytes items r c t t' name place same does =
+    subst (λ x. Does (plays_file cell header b code x) c t r c t') same
+    (subst (λ x. Does (plays_file cell header b x bytes) c t r c t') place
+    (subst (λ x. Does (plays_file cell header x file bytes) c t r c t') name does))

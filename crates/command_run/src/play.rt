@@ -1,0 +1,165 @@
+//! The play of a compiled file.
+ghost use Rattle.std.specs.Prelude.{◌≡◌, ◌≤◌, ◌<◌, ◌^◌, ℕ, List, [], length, map, IsTrue, IfErr};
+ghost use Rattle.nwq_value.specs.Limits.{file_limit};
+ghost use Rattle.nwq_outside.specs.Outside.{Contents};
+ghost use Rattle.ncs_code.specs.Plain.{PlainOp};
+ghost use Rattle.stack_rules.specs.Rules.{MeetsRules};
+ghost use Rattle.stack_rules.specs.Laws.{AllMeet};
+ghost use Rattle.stack_check.specs.Checked.{kept_table};
+ghost use Rattle.world_core.specs.Calls.{AreServing, cells_of};
+ghost use Rattle.ncs_machine.specs.Host.{scripts_of, tables_of};
+ghost use Rattle.ncs_machine.specs.Stored.{StatesFit};
+ghost use Rattle.command_work.specs.Work.{Does};
+ghost use Rattle.command_work.specs.Counts.{Counted, Tallies, Refusing};
+ghost use Rattle.command_plays.specs.Scripts.{listed, played, tells, plays_code, plays_file};
+ghost use Rattle.command_run.specs.Tellings.{StopsPlay};
+
+use crate::telling::tell_end;
+use command_files::load_checked;
+use command_plays::{list_one, told_whole};
+use command_work::Status;
+use hook_table::Hooks;
+use module_player::play;
+use ncs_machine::Scripts;
+use nwq_outside::Sink;
+use nwq_value::{NoMemory, Table};
+use play_worlds::first_world;
+use saved_state::Saved;
+use stack_check::Checked;
+use std::alloc::Global;
+use world_core::World;
+
+/// The instructions that an entry may take.
+const INSTRUCTIONS: u64 = 131_072;
+
+/// The entries that a play may take.
+const ENTRIES: u64 = 10_000;
+
+/// The milliseconds after which no entry is taken.
+const UNTIL: u64 = 60_000;
+
+/// Plays listed scripts in a world, and tells the play.
+#[tactic(auto, using(crate::proofs::TellLemmas::cut_refuses))]
+fn play_world<S: Sink>(
+    alloc: Global,
+    table: &Table,
+    scripts: &Scripts,
+    world: World<Saved>,
+    hooks: &Hooks,
+    out: &mut S,
+) -> Result<(), Status>
+    requires few { length scripts.now < 2 ^ 32 }
+    requires meets { AllMeet table.now (scripts_of scripts.now) (tables_of scripts.now) }
+    requires hooks { AreServing (map (λ h. h.known) hooks.now.all.items) }
+    requires fit { StatesFit (scripts_of scripts.now) (tables_of scripts.now) world.world }
+    requires quiet { world.world.trace ≡ [] }
+    requires next { world.world.agenda.next < 2 ^ 61 }
+    ensures does { IsTrue S.tells → (c : Contents) → Does (tells (scripts_of scripts.now)
+        (played (cells_of (map (λ h. h.known) hooks.now.all.items)) table.now
+        (scripts_of scripts.now) world.world)) c (S.taken out.old) result c (S.taken out.new) }
+    ensures counts { (faults absences longs : ℕ) → Tallies result
+        (Counted faults absences longs (S.faults out.old))
+        (Counted faults absences longs (S.faults out.new)) }
+    ensures only { IfErr result (Refusing Status.Limit) }
+{
+    let mut world = world;
+    let played = play(
+        alloc,
+        scripts,
+        &mut world,
+        hooks,
+        table,
+        INSTRUCTIONS,
+        ENTRIES,
+        UNTIL,
+        out,
+    );
+    match told_whole(played) {
+        Err(status) => {
+            drop(world);
+            Err(status)
+        }
+        Ok(played) => tell_end(alloc, world, scripts, &played, out),
+    }
+}
+
+/// Plays the one listed script from a start of it.
+#[tactic(auto, using(crate::proofs::PlayLemmas::starts))]
+fn play_listed<S: Sink>(
+    alloc: Global,
+    table: &Table,
+    name: &[u8],
+    scripts: &Scripts,
+    hooks: &Hooks,
+    out: &mut S,
+) -> Result<(), Status>
+    requires few { length scripts.now < 2 ^ 32 }
+    requires meets { AllMeet table.now (scripts_of scripts.now) (tables_of scripts.now) }
+    requires hooks { AreServing (map (λ h. h.known) hooks.now.all.items) }
+    ensures does { IsTrue S.tells → (ops : List PlainOp) →
+        scripts_of scripts.now ≡ listed name.now ops → (c : Contents) →
+        Does (plays_code (cells_of (map (λ h. h.known) hooks.now.all.items)) table.now name.now ops)
+        c (S.taken out.old) result c (S.taken out.new) }
+    ensures counts { (faults absences longs : ℕ) → Tallies result
+        (Counted faults absences longs (S.faults out.old))
+        (Counted faults absences longs (S.faults out.new)) }
+    ensures only { IfErr result (Refusing Status.Limit) }
+{
+    match first_world(alloc, name) {
+        Err(NoMemory) => Err(Status::Memory),
+        Ok(world) => play_world(alloc, table, scripts, world, hooks, out),
+    }
+}
+
+/// Plays checked code as the one script of this name.
+#[tactic(auto, using(crate::proofs::PlayLemmas::code_cut))]
+fn play_code<S: Sink>(
+    alloc: Global,
+    table: &Table,
+    name: &[u8],
+    code: Checked,
+    hooks: &Hooks,
+    out: &mut S,
+) -> Result<(), Status>
+    requires meets { MeetsRules table.now code.code (kept_table code) }
+    requires hooks { AreServing (map (λ h. h.known) hooks.now.all.items) }
+    ensures does { IsTrue S.tells → (c : Contents) →
+        Does (plays_code (cells_of (map (λ h. h.known) hooks.now.all.items)) table.now
+        name.now code.code) c (S.taken out.old) result c (S.taken out.new) }
+    ensures counts { (faults absences longs : ℕ) → Tallies result
+        (Counted faults absences longs (S.faults out.old))
+        (Counted faults absences longs (S.faults out.new)) }
+    ensures only { IfErr result (Refusing Status.Limit) }
+{
+    match list_one(alloc, name, code) {
+        Err(NoMemory) => Err(Status::Memory),
+        Ok(scripts) => play_listed(alloc, table, name, &scripts, hooks, out),
+    }
+}
+
+/// Loads the bytes of the file of a compiled script, checks its code and plays it.
+#[tactic(auto, using(crate::proofs::Steps::steps, crate::proofs::PlayLemmas::stops), unfolding(command_plays::specs::Scripts::plays_file))]
+pub fn play_file<S: Sink>(
+    alloc: Global,
+    table: &Table,
+    name: &[u8],
+    file: &[u8],
+    bytes: Vec<u8>,
+    hooks: &Hooks,
+    out: &mut S,
+) -> Result<(), Status>
+    requires small { length bytes.items ≤ file_limit }
+    requires hooks { AreServing (map (λ h. h.known) hooks.now.all.items) }
+    ensures does { IsTrue S.tells → (c : Contents) →
+        Does (plays_file (cells_of (map (λ h. h.known) hooks.now.all.items)) table.now
+        name.now file.now bytes.items) c (S.taken out.old) result c (S.taken out.new) }
+    ensures counts { (faults absences longs : ℕ) → Tallies result
+        (Counted faults absences longs (S.faults out.old))
+        (Counted faults absences longs (S.faults out.new)) }
+    ensures only { IfErr result StopsPlay }
+{
+    match load_checked(alloc, table, file, bytes, out) {
+        Err(status) => Err(status),
+        Ok(code) => play_code(alloc, table, name, code, hooks, out),
+    }
+}

@@ -1,0 +1,109 @@
+ghost use Rattle.std.specs.Prelude.{◌≡◌, ◌≤◌, ℕ, length, map, IsTrue, IfErr};
+ghost use Rattle.nwq_value.specs.Limits.{file_limit};
+ghost use Rattle.nwq_outside.specs.Outside.{Contents};
+ghost use Rattle.world_core.specs.Calls.{cells_of, AreServing};
+ghost use Rattle.command_work.specs.Work.{Does};
+ghost use Rattle.command_work.specs.Counts.{Counted, Tallies};
+ghost use Rattle.command_compile.specs.Files.{code_name};
+ghost use Rattle.command_plays.specs.Scripts.{plays_file};
+ghost use Rattle.command_run.specs.Tellings.{StopsPlay};
+ghost use Rattle.command_run.specs.Runs.{runs_under, runs, StopsRun};
+
+use crate::play::play_file;
+use command_compile::{code_name, read_compiled};
+use command_sources::read_table;
+use command_work::Status;
+use hook_table::Hooks;
+use nwq_outside::{Files, Sink};
+use nwq_value::{Items, NoMemory, Table};
+use std::alloc::Global;
+
+/// Plays the bytes of a script's file, which isn't written.
+#[tactic(auto, using(command_work::specs::Parts::cut_here))]
+fn play_compiled<S: Sink>(
+    alloc: Global,
+    table: &Table,
+    script: &str,
+    bytes: Items<u8>,
+    hooks: &Hooks,
+    out: &mut S,
+) -> Result<(), Status>
+    requires small { length bytes ≤ file_limit }
+    requires hooks { AreServing (map (λ h. h.known) hooks.now.all.items) }
+    ensures does { IsTrue S.tells → (c : Contents) →
+        Does (plays_file (cells_of (map (λ h. h.known) hooks.now.all.items)) table.now
+        script.now (code_name script.now) bytes) c (S.taken out.old) result c (S.taken out.new) }
+    ensures counts { (faults absences longs : ℕ) → Tallies result
+        (Counted faults absences longs (S.faults out.old))
+        (Counted faults absences longs (S.faults out.new)) }
+    ensures only { IfErr result StopsPlay }
+{
+    match code_name(alloc, script) {
+        Err(NoMemory) => Err(Status::Memory),
+        Ok(file) => play_file(
+            alloc,
+            table,
+            script.as_bytes(),
+            file.as_bytes(),
+            bytes.into_vec(),
+            hooks,
+            out,
+        ),
+    }
+}
+
+/// Plays one start entry of the script of this name under a header.
+#[tactic(auto, using(crate::proofs::Steps::steps, crate::proofs::StopLemmas::runs_stop), unfolding(crate::specs::Runs::runs_under))]
+fn run_under<F: Files, S: Sink>(
+    alloc: Global,
+    table: &Table,
+    script: &str,
+    files: &mut F,
+    out: &mut S,
+    hooks: &Hooks,
+) -> Result<(), Status>
+    requires hooks { AreServing (map (λ h. h.known) hooks.now.all.items) }
+    ensures does { IsTrue F.tells → IsTrue S.tells →
+        Does (runs_under (cells_of (map (λ h. h.known) hooks.now.all.items)) script.now table.now)
+        (F.contents files.old) (S.taken out.old)
+        result (F.contents files.new) (S.taken out.new) }
+    ensures counts { Tallies result
+        (Counted (F.faults files.old) (F.absences files.old) (F.longs files.old) (S.faults out.old))
+        (Counted (F.faults files.new) (F.absences files.new)
+        (F.longs files.new) (S.faults out.new)) }
+    ensures same { F.contents files.new ≡ F.contents files.old }
+    ensures only { IfErr result StopsRun }
+{
+    match read_compiled(alloc, table, script, files, out) {
+        Err(status) => Err(status),
+        Ok(bytes) => play_compiled(alloc, table, script, bytes, hooks, out),
+    }
+}
+
+/// Plays one start entry of the script of this name, under the header that a word names.
+#[tactic(auto, using(crate::proofs::Steps::steps, crate::proofs::StopLemmas::runs_stop), unfolding(crate::specs::Runs::runs))]
+pub fn run<F: Files, S: Sink>(
+    alloc: Global,
+    header: &str,
+    script: &str,
+    files: &mut F,
+    out: &mut S,
+    hooks: &Hooks,
+) -> Result<(), Status>
+    requires hooks { AreServing (map (λ h. h.known) hooks.now.all.items) }
+    ensures does { IsTrue F.tells → IsTrue S.tells →
+        Does (runs (cells_of (map (λ h. h.known) hooks.now.all.items)) header.now script.now)
+        (F.contents files.old) (S.taken out.old)
+        result (F.contents files.new) (S.taken out.new) }
+    ensures counts { Tallies result
+        (Counted (F.faults files.old) (F.absences files.old) (F.longs files.old) (S.faults out.old))
+        (Counted (F.faults files.new) (F.absences files.new)
+        (F.longs files.new) (S.faults out.new)) }
+    ensures same { F.contents files.new ≡ F.contents files.old }
+    ensures only { IfErr result StopsRun }
+{
+    match read_table(alloc, header, files, out) {
+        Err(status) => Err(status),
+        Ok(table) => run_under(alloc, &table, script, files, out, hooks),
+    }
+}

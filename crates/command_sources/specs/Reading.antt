@@ -1,0 +1,26 @@
+-- What private clauses say of a unit while it is read.
+use Rattle.std.specs.Prelude.{ℕ, Err}
+use Rattle.nwq_outside.specs.Outside.{file_counts}
+use Rattle.nss_tree.specs.Source.{SourceTree}
+use Rattle.nss_symbols.specs.Nest.{IsWithinNest}
+use Rattle.nss_parser.specs.declared.fault.ParseFault.{ParseFault}
+use Rattle.nss_parser.specs.Fault.{Refuses}
+use Rattle.nss_parser.specs.Sentence.{Parses}
+use Rattle.nss_include.specs.declared.fault.GatherFault.{GatherFault}
+use Rattle.nss_include.specs.View.{Gathered}
+use Rattle.nss_include.specs.Gather.{CountsGathered}
+use Rattle.command_sources.specs.Units.{grammar_symbols}
+
+-- the counts of files, each before and now, as a reading left them that ended in this fault
+abbrev pub IsCounted : GatherFault → ℕ → ℕ → ℕ → ℕ → ℕ → ℕ → Type 0
+IsCounted fault faults faults' absences absences' longs longs' =
+    CountsGathered {A = Gathered} (Err fault) (file_counts faults absences longs) (file_counts faults' absences' longs')
+
+-- a unit has this tree, and nests within the limit
+pub record HasTree (unit : Gathered) (tree : SourceTree) : Type 0 where
+  pub nest : IsWithinNest (grammar_symbols unit.tokens)
+  pub parses : Parses (grammar_symbols unit.tokens) tree
+
+-- a unit is refused for this
+abbrev pub HasFault : Gathered → ParseFault → Type 0
+HasFault unit fault = Refuses (grammar_symbols unit.tokens) fault

@@ -1,0 +1,125 @@
+ghost use Rattle.std.specs.Prelude.{◌≡◌, ◌≤◌, ℕ, List, length, IsTrue, IfErr, Err, bytes_eq, codes};
+ghost use Rattle.nwq_value.specs.Limits.{file_limit};
+ghost use Rattle.nwq_value.specs.Engine.{EngineTable};
+ghost use Rattle.nwq_outside.specs.Outside.{Contents};
+ghost use Rattle.engine_table.specs.Headers.{IsRefused, IsWithin};
+ghost use Rattle.command_work.specs.Work.{Does};
+ghost use Rattle.command_work.specs.Counts.{Counted, Tallies, TalliesEnd, Refusing, StopsSource};
+ghost use Rattle.command_sources.specs.Headers.{table_in, table_named, table_of};
+
+use command_work::{Cause, Status, read_file, refuse_at};
+use engine_table::{HeaderFault, built_in, read_header};
+use nwq_outside::{Files, Sink};
+use nwq_text::line_of;
+use nwq_value::{NoMemory, Table};
+use std::alloc::Global;
+
+/// Refuses a header's text, which is that of the file of this name.
+#[tactic(auto, using(crate::proofs::HeaderLemmas::fates))]
+fn refuse_header<S: Sink>(
+    alloc: Global,
+    name: &[u8],
+    bytes: &[u8],
+    fault: HeaderFault,
+    out: &mut S,
+) -> Status
+    requires size { length bytes.now ≤ file_limit }
+    requires within { IsWithin (length bytes.now) fault }
+    ensures does { IsTrue S.tells → IsRefused bytes.now fault → (c : Contents) →
+        Does (table_in name.now bytes.now) c (S.taken out.old) (Err result) c (S.taken out.new) }
+    ensures counts { (faults absences longs : ℕ) → TalliesEnd result
+        (Counted faults absences longs (S.faults out.old))
+        (Counted faults absences longs (S.faults out.new)) }
+    ensures only { Refusing Status.Script result }
+{
+    match fault {
+        HeaderFault::Bad(at) => refuse_at(alloc, name, line_of(bytes, at), at, Cause::Bad, out),
+        HeaderFault::Header(at) => {
+            refuse_at(alloc, name, line_of(bytes, at), at, Cause::Header, out)
+        }
+        HeaderFault::Twice(at) => {
+            refuse_at(alloc, name, line_of(bytes, at), at, Cause::Twice, out)
+        }
+        HeaderFault::Many(at) => refuse_at(alloc, name, line_of(bytes, at), at, Cause::Many, out),
+        HeaderFault::NoMemory => Status::Memory,
+    }
+}
+
+/// The table of a header's text, which is that of the file of this name.
+#[tactic(auto, using(crate::proofs::HeaderLemmas::table_does))]
+fn table_of_text<S: Sink>(
+    alloc: Global,
+    name: &[u8],
+    bytes: &[u8],
+    out: &mut S,
+) -> Result<Table, Status>
+    requires { length bytes.now ≤ file_limit }
+    ensures does { IsTrue S.tells → (c : Contents) →
+        Does (table_in name.now bytes.now) c (S.taken out.old) result c (S.taken out.new) }
+    ensures counts { (faults absences longs : ℕ) → Tallies result
+        (Counted faults absences longs (S.faults out.old))
+        (Counted faults absences longs (S.faults out.new)) }
+    ensures only { IfErr result (Refusing Status.Script) }
+{
+    match read_header(alloc, bytes) {
+        Ok(table) => Ok(table),
+        Err(fault) => Err(refuse_header(alloc, name, bytes, fault, out)),
+    }
+}
+
+/// The table of the header file of this name.
+#[tactic(auto, using(crate::proofs::Steps::steps), unfolding(crate::specs::Headers::table_named))]
+fn table_of_file<F: Files, S: Sink>(
+    alloc: Global,
+    name: &str,
+    files: &mut F,
+    out: &mut S,
+) -> Result<Table, Status>
+    ensures does { IsTrue F.tells → IsTrue S.tells →
+        Does (table_named name.now) (F.contents files.old) (S.taken out.old)
+        result (F.contents files.new) (S.taken out.new) }
+    ensures counts { Tallies result
+        (Counted (F.faults files.old) (F.absences files.old) (F.longs files.old) (S.faults out.old))
+        (Counted (F.faults files.new) (F.absences files.new)
+        (F.longs files.new) (S.faults out.new)) }
+    ensures same { F.contents files.new ≡ F.contents files.old }
+    ensures only { IfErr result StopsSource }
+{
+    match read_file(alloc, name, files, out) {
+        Err(status) => Err(status),
+        Ok(bytes) => table_of_text(alloc, name.as_bytes(), bytes.as_slice(), out),
+    }
+}
+
+fn is_dash(word: &str) -> bool
+    ensures { result ≡ bytes_eq word.now (codes "-") }
+{
+    word == "-"
+}
+
+/// The table of the header that a word names: `-` is the built-in one, every other word a file.
+#[tactic(auto, using(command_work::specs::Parts::cut_here), unfolding(crate::specs::Headers::table_of))]
+pub fn read_table<F: Files, S: Sink>(
+    alloc: Global,
+    header: &str,
+    files: &mut F,
+    out: &mut S,
+) -> Result<Table, Status>
+    ensures does { IsTrue F.tells → IsTrue S.tells →
+        Does (table_of header.now) (F.contents files.old) (S.taken out.old)
+        result (F.contents files.new) (S.taken out.new) }
+    ensures counts { Tallies result
+        (Counted (F.faults files.old) (F.absences files.old) (F.longs files.old) (S.faults out.old))
+        (Counted (F.faults files.new) (F.absences files.new)
+        (F.longs files.new) (S.faults out.new)) }
+    ensures same { F.contents files.new ≡ F.contents files.old }
+    ensures only { IfErr result StopsSource }
+{
+    if !is_dash(header) {
+        return table_of_file(alloc, header, files, out);
+    }
+    match built_in(alloc) {
+        Ok(table) => Ok(table),
+        Err(NoMemory) => Err(Status::Memory),
+    }
+}

@@ -1,0 +1,37 @@
+use Rattle.std.proofs.Common.{◌≡◌, ◌∷◌, ◌++◌, map, sym, ap, ◌∙◌}
+use Rattle.command_tables.proofs.NameLemmas.{next_named, next_new}
+use Rattle.command_tables.proofs.ReadLemmas.{tables_go_on, tables_stop, tables_done}
+use Rattle.command_tables.proofs.read.add_tables.Goals as goal
+
+pub add_table-requires-clause-name : goal.add_table-requires-clause-name
+add_table-requires-clause-name g c =
+    next_named c.args.names.now c.loop-name.tables c.in-Some.name.now c.in-Some.others.now c.requires.names
+    (ap (λ xs. map (λ t. t.name) c.loop-name.tables ++ xs) (sym c.in-Some.ensures.cases.0) ∙ c.loop-name.invariant.so_far.all)
+
+pub add_table-requires-clause-new_name : goal.add_table-requires-clause-new_name
+add_table-requires-clause-new_name g c =
+    next_new c.args.names.now c.loop-name.tables c.in-Some.name.now c.in-Some.others.now c.requires.names
+    (ap (λ xs. map (λ t. t.name) c.loop-name.tables ++ xs) (sym c.in-Some.ensures.cases.0) ∙ c.loop-name.invariant.so_far.all)
+
+pub returns-in-Err-clause-does : goal.returns-in-Err-clause-does
+returns-in-Err-clause-does g c =
+    tables_stop g.F.Files.tells g.S.Sink.tells (g.F.Files.contents c.args.files.now) (g.S.Sink.taken c.args.out.now) c.args.names.now
+    c.loop-name.rest.now c.in-Some.others.now c.in-Some.name.now c.loop-name.tables (g.F.Files.contents c.loop-name.files)
+    (g.S.Sink.taken c.loop-name.out) c.in-Err.status (g.F.Files.contents c.add_table.new.files) (g.S.Sink.taken c.add_table.new.out)
+    c.loop-name.invariant.so_far c.in-Some.ensures.cases.0 c.in-Err.ensures.does
+
+pub loop-name-preserved : goal.loop-name-preserved
+loop-name-preserved g c = record {
+  so_far = tables_go_on g.F.Files.tells g.S.Sink.tells (g.F.Files.contents c.args.files.now) (g.S.Sink.taken c.args.out.now) c.args.names.now
+      c.loop-name.rest.now c.in-Some.others.now c.in-Some.name.now c.loop-name.tables (g.F.Files.contents c.loop-name.files)
+      (g.S.Sink.taken c.loop-name.out) c.add_table.new.tables (g.F.Files.contents c.add_table.new.files) (g.S.Sink.taken c.add_table.new.out)
+      c.loop-name.invariant.so_far c.in-Some.ensures.cases.0 c.in-Ok.ensures.tables c.in-Ok.ensures.does;
+  counts = c.in-Ok.ensures.counts ∙ c.loop-name.invariant.counts;
+  same = c.in-Ok.ensures.same ∙ c.loop-name.invariant.same;
+}
+
+pub returns-clause-does : goal.returns-clause-does
+returns-clause-does g c =
+    tables_done g.F.Files.tells g.S.Sink.tells (g.F.Files.contents c.args.files.now) (g.S.Sink.taken c.args.out.now) c.args.names.now
+    c.loop-name.rest.now c.loop-name.tables (g.F.Files.contents c.loop-name.files) (g.S.Sink.taken c.loop-name.out)
+    c.loop-name.invariant.so_far c.in_default.ensures.cases

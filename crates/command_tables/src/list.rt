@@ -1,0 +1,129 @@
+ghost use Rattle.std.specs.Prelude.{◌≡◌, ℕ, true, [], ◌∷◌, ◌++◌, IsTrue, IfOk, IfErr, OnOk};
+ghost use Rattle.std.specs.List.{list_any};
+ghost use Rattle.table_2da.specs.Look.{same_name};
+ghost use Rattle.nwq_outside.specs.Outside.{Contents};
+ghost use Rattle.command_work.specs.Work.{Does};
+ghost use Rattle.command_work.specs.Counts.{Counted, Tallies, Refusing, StopsArea};
+ghost use Rattle.command_tables.specs.Lists.{may_follow, AreNames, HasNames, IsFaulty, names_in};
+ghost use Rattle.command_tables.specs.Lists.{names_listed};
+
+use command_work::{AreaFlaw, Status, read_file, refuse_area};
+use nwq_outside::{Files, Sink};
+use nwq_value::{Items, NoMemory, Text};
+use plan_text::laws::texts_have_lines;
+use plan_text::{names_script, next_line};
+use std::alloc::Global;
+use table_2da::table::same_name;
+
+/// How many tables a list names at most.
+const MOST_TABLES: usize = 64;
+
+/// The names of tables, in order.
+pub(crate) type Names = Items<Text>;
+
+/// Why a text lists no names.
+#[derive(Clone, Copy)]
+pub(crate) enum ListFault {
+    /// The first line that is no further name, counted from 1.
+    Line(u64),
+    NoMemory,
+}
+
+/// Whether this name is among them.
+fn is_among(names: &[Text], name: &[u8]) -> bool
+    ensures among { result ≡ list_any (λ other. same_name other name.now) names.now }
+{
+    names.iter().any(|other| same_name(other.bytes(), name))
+}
+
+/// Whether a line is a name that may follow these.
+#[tactic(auto, unfolding(crate::specs::Lists::may_follow))]
+fn may_follow(names: &[Text], line: &[u8]) -> bool
+    ensures follows { result ≡ may_follow names.now line.now }
+{
+    names_script(line) && !is_among(names, line) && names.len() < MOST_TABLES
+}
+
+/// Puts a name last.
+#[tactic(auto, using(crate::proofs::ListLemmas::text_whole))]
+fn put_name(alloc: Global, names: &mut Names, name: &[u8]) -> Result<(), NoMemory>
+    requires follows { may_follow names.old name.now ≡ true }
+    ensures ok { OnOk result (names.new ≡ names.old ++ name.now ∷ []) }
+{
+    names.push(Text::of(alloc, name)?)
+}
+
+/// The names that a text lists, or its first line that is no further name.
+#[tactic(auto, using(crate::proofs::ListLemmas::names_begin))]
+fn names_of_text(alloc: Global, bytes: &[u8]) -> Result<Names, ListFault>
+    ensures names { IfOk result (λ names. HasNames bytes.now names) }
+    ensures fault { IfErr result (IsFaulty bytes.now) }
+{
+    texts_have_lines();
+    let mut names = Names::new(alloc);
+    let mut rest = bytes;
+    while let Some((line, after)) = next_line(rest) {
+        if !may_follow(names.as_slice(), line) {
+            let number = names.len() as u64 + 1;
+            drop(names);
+            return Err(ListFault::Line(number));
+        }
+        match put_name(alloc, &mut names, line) {
+            Err(NoMemory) => {
+                drop(names);
+                return Err(ListFault::NoMemory);
+            }
+            Ok(()) => {}
+        }
+        rest = after;
+    }
+    Ok(names)
+}
+
+/// The names in the text of the file of this name.
+#[tactic(auto, using(crate::proofs::ListLemmas::lists))]
+fn names_of_bytes<S: Sink>(
+    alloc: Global,
+    list: &[u8],
+    bytes: &[u8],
+    out: &mut S,
+) -> Result<Names, Status>
+    ensures does { IsTrue S.tells → (c : Contents) →
+        Does (names_in list.now bytes.now) c (S.taken out.old) result c (S.taken out.new) }
+    ensures counts { (faults absences longs : ℕ) → Tallies result
+        (Counted faults absences longs (S.faults out.old))
+        (Counted faults absences longs (S.faults out.new)) }
+    ensures names { IfOk result AreNames }
+    ensures only { IfErr result (Refusing Status.Area) }
+{
+    match names_of_text(alloc, bytes) {
+        Ok(names) => Ok(names),
+        Err(ListFault::Line(line)) => Err(refuse_area(alloc, list, AreaFlaw::Line(line), out)),
+        Err(ListFault::NoMemory) => Err(Status::Memory),
+    }
+}
+
+/// The names that the file of this name lists.
+#[tactic(auto, using(crate::proofs::Steps::steps), unfolding(crate::specs::Lists::names_listed))]
+pub(crate) fn read_list<F: Files, S: Sink>(
+    alloc: Global,
+    list: &str,
+    files: &mut F,
+    out: &mut S,
+) -> Result<Names, Status>
+    ensures does { IsTrue F.tells → IsTrue S.tells →
+        Does (names_listed list.now) (F.contents files.old) (S.taken out.old)
+        result (F.contents files.new) (S.taken out.new) }
+    ensures counts { Tallies result
+        (Counted (F.faults files.old) (F.absences files.old) (F.longs files.old) (S.faults out.old))
+        (Counted (F.faults files.new) (F.absences files.new)
+        (F.longs files.new) (S.faults out.new)) }
+    ensures same { F.contents files.new ≡ F.contents files.old }
+    ensures names { IfOk result AreNames }
+    ensures only { IfErr result StopsArea }
+{
+    match read_file(alloc, list, files, out) {
+        Err(status) => Err(status),
+        Ok(bytes) => names_of_bytes(alloc, list.as_bytes(), bytes.as_slice(), out),
+    }
+}

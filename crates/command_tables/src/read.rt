@@ -1,0 +1,197 @@
+ghost use Rattle.std.specs.Prelude.{◌≡◌, [], ◌∷◌, ◌++◌, map, None, Ok, IsTrue, IfErr, OnOk};
+ghost use Rattle.std.specs.Option.{option_map};
+ghost use Rattle.plan_text.specs.Fields.{is_script_name};
+ghost use Rattle.table_2da.specs.Look.{table_named};
+ghost use Rattle.command_work.specs.Work.{Does};
+ghost use Rattle.command_work.specs.Counts.{Counted, Tallies, StopsArea};
+ghost use Rattle.command_tables.specs.Lists.{AreNames};
+ghost use Rattle.command_tables.specs.Reading.{with_tables};
+ghost use Rattle.command_tables.specs.Tables.{table_file, table_of, with_table, one_more, all_behind};
+ghost use Rattle.command_tables.specs.Tables.{tables_listed, tables_given};
+
+use crate::list::read_list;
+use crate::table::{file_of, read_named};
+use command_work::Status;
+use nwq_outside::{Files, Sink};
+use nwq_value::{NoMemory, Text};
+use std::alloc::Global;
+use table_2da::{Table2, Tables};
+
+/// The table of this name.
+#[tactic(auto, using(command_work::specs::Parts::cut_here))]
+fn read_one<F: Files, S: Sink>(
+    alloc: Global,
+    name: &[u8],
+    files: &mut F,
+    out: &mut S,
+) -> Result<Table2, Status>
+    requires name { IsTrue (is_script_name name.now) }
+    ensures does { IsTrue F.tells → IsTrue S.tells →
+        Does (table_of (table_file name.now)) (F.contents files.old) (S.taken out.old)
+        result (F.contents files.new) (S.taken out.new) }
+    ensures counts { Tallies result
+        (Counted (F.faults files.old) (F.absences files.old) (F.longs files.old) (S.faults out.old))
+        (Counted (F.faults files.new) (F.absences files.new)
+        (F.longs files.new) (S.faults out.new)) }
+    ensures same { F.contents files.new ≡ F.contents files.old }
+    ensures only { IfErr result StopsArea }
+{
+    match file_of(alloc, name) {
+        Err(NoMemory) => Err(Status::Memory),
+        Ok(file) => read_named(alloc, &file, files, out),
+    }
+}
+
+/// Puts a table under a copy of the name last.
+fn put_table(alloc: Global, name: &Text, table: Table2, tables: &mut Tables) -> Result<(), NoMemory>
+    requires new_name { table_named name.now tables.old ≡ None }
+    ensures ok { OnOk result (tables.new ≡ with_table tables.old name.now table) }
+{
+    match name.copy(alloc) {
+        Err(NoMemory) => {
+            drop(table);
+            Err(NoMemory)
+        }
+        Ok(copy) => tables.push(copy, table),
+    }
+}
+
+/// Reads the table of this name and puts it last.
+#[tactic(auto, using(crate::proofs::Steps::steps, crate::proofs::ReadLemmas::more_tables), unfolding(crate::specs::Tables::one_more))]
+fn add_table<F: Files, S: Sink>(
+    alloc: Global,
+    name: &Text,
+    tables: &mut Tables,
+    files: &mut F,
+    out: &mut S,
+) -> Result<(), Status>
+    requires name { IsTrue (is_script_name name.now) }
+    requires new_name { table_named name.now tables.old ≡ None }
+    ensures does { IsTrue F.tells → IsTrue S.tells →
+        Does (one_more tables.old name.now) (F.contents files.old) (S.taken out.old)
+        (with_tables tables.new result) (F.contents files.new) (S.taken out.new) }
+    ensures tables { OnOk result (map (λ t. t.name) tables.new
+        ≡ map (λ t. t.name) tables.old ++ name.now ∷ []) }
+    ensures counts { Tallies result
+        (Counted (F.faults files.old) (F.absences files.old) (F.longs files.old) (S.faults out.old))
+        (Counted (F.faults files.new) (F.absences files.new)
+        (F.longs files.new) (S.faults out.new)) }
+    ensures same { F.contents files.new ≡ F.contents files.old }
+    ensures only { IfErr result StopsArea }
+{
+    match read_one(alloc, name.bytes(), files, out) {
+        Err(status) => Err(status),
+        Ok(table) => match put_table(alloc, name, table, tables) {
+            Err(NoMemory) => Err(Status::Memory),
+            Ok(()) => Ok(()),
+        },
+    }
+}
+
+/// Reads the tables of these names in order and puts them last.
+fn add_tables<F: Files, S: Sink>(
+    alloc: Global,
+    names: &[Text],
+    tables: &mut Tables,
+    files: &mut F,
+    out: &mut S,
+) -> Result<(), Status>
+    requires names { AreNames names.now }
+    requires none { tables.old ≡ [] }
+    ensures does { IsTrue F.tells → IsTrue S.tells →
+        Does (all_behind [] names.now) (F.contents files.old) (S.taken out.old)
+        (with_tables tables.new result) (F.contents files.new) (S.taken out.new) }
+    ensures counts { Tallies result
+        (Counted (F.faults files.old) (F.absences files.old) (F.longs files.old) (S.faults out.old))
+        (Counted (F.faults files.new) (F.absences files.new)
+        (F.longs files.new) (S.faults out.new)) }
+    ensures same { F.contents files.new ≡ F.contents files.old }
+    ensures only { IfErr result StopsArea }
+{
+    let mut rest = names;
+    while let Some((name, others)) = rest.split_first() {
+        match add_table(alloc, name, tables, files, out) {
+            Err(status) => return Err(status),
+            Ok(()) => {}
+        }
+        rest = others;
+    }
+    Ok(())
+}
+
+/// The tables of these names.
+fn read_all<F: Files, S: Sink>(
+    alloc: Global,
+    names: &[Text],
+    files: &mut F,
+    out: &mut S,
+) -> Result<Tables, Status>
+    requires names { AreNames names.now }
+    ensures does { IsTrue F.tells → IsTrue S.tells →
+        Does (all_behind [] names.now) (F.contents files.old) (S.taken out.old)
+        result (F.contents files.new) (S.taken out.new) }
+    ensures counts { Tallies result
+        (Counted (F.faults files.old) (F.absences files.old) (F.longs files.old) (S.faults out.old))
+        (Counted (F.faults files.new) (F.absences files.new)
+        (F.longs files.new) (S.faults out.new)) }
+    ensures same { F.contents files.new ≡ F.contents files.old }
+    ensures only { IfErr result StopsArea }
+{
+    let mut tables = Tables::new(alloc);
+    match add_tables(alloc, names, &mut tables, files, out) {
+        Err(status) => {
+            drop(tables);
+            Err(status)
+        }
+        Ok(()) => Ok(tables),
+    }
+}
+
+/// The tables that the file of this name lists. The list is tested whole before the first is read.
+#[tactic(auto, using(crate::proofs::Steps::steps), unfolding(crate::specs::Tables::tables_listed))]
+fn read_listed<F: Files, S: Sink>(
+    alloc: Global,
+    list: &str,
+    files: &mut F,
+    out: &mut S,
+) -> Result<Tables, Status>
+    ensures does { IsTrue F.tells → IsTrue S.tells →
+        Does (tables_listed list.now) (F.contents files.old) (S.taken out.old)
+        result (F.contents files.new) (S.taken out.new) }
+    ensures counts { Tallies result
+        (Counted (F.faults files.old) (F.absences files.old) (F.longs files.old) (S.faults out.old))
+        (Counted (F.faults files.new) (F.absences files.new)
+        (F.longs files.new) (S.faults out.new)) }
+    ensures same { F.contents files.new ≡ F.contents files.old }
+    ensures only { IfErr result StopsArea }
+{
+    match read_list(alloc, list, files, out) {
+        Err(status) => Err(status),
+        Ok(names) => read_all(alloc, names.as_slice(), files, out),
+    }
+}
+
+/// The tables that a command is given: those that its list names, and none where it has no list.
+pub fn read_tables<F: Files, S: Sink>(
+    alloc: Global,
+    list: Option<&str>,
+    files: &mut F,
+    out: &mut S,
+) -> Result<Tables, Status>
+    ensures does { IsTrue F.tells → IsTrue S.tells →
+        Does (tables_given (option_map (λ name. name.now) list.entry))
+        (F.contents files.old) (S.taken out.old)
+        result (F.contents files.new) (S.taken out.new) }
+    ensures counts { Tallies result
+        (Counted (F.faults files.old) (F.absences files.old) (F.longs files.old) (S.faults out.old))
+        (Counted (F.faults files.new) (F.absences files.new)
+        (F.longs files.new) (S.faults out.new)) }
+    ensures same { F.contents files.new ≡ F.contents files.old }
+    ensures only { IfErr result StopsArea }
+    ensures none { list.entry ≡ None → result ≡ Ok [] }
+{
+    match list {
+        None => Ok(Tables::new(alloc)),
+        Some(name) => read_listed(alloc, name, files, out),
+    }
+}

@@ -1,0 +1,69 @@
+ghost use Rattle.std.specs.Prelude.{◌≡◌, ℕ, string_bytes, IsTrue, IfOk, IfErr};
+ghost use Rattle.nwq_outside.specs.Outside.{Contents};
+ghost use Rattle.plan_text.specs.Fields.{is_script_name};
+ghost use Rattle.command_work.specs.Work.{Does};
+ghost use Rattle.command_work.specs.Counts.{Counted, Tallies, Refusing, StopsArea};
+ghost use Rattle.command_tables.specs.Tables.{table_file, table_in, table_of};
+
+use command_work::{AreaFlaw, Status, read_file, refuse_area};
+use nwq_outside::{Files, Sink};
+use nwq_value::NoMemory;
+use std::alloc::Global;
+use table_2da::{Table2, TableFault, read_table};
+
+/// The name of the file of a table.
+#[tactic(auto, using(crate::proofs::NameLemmas::name_plain))]
+pub(crate) fn file_of(alloc: Global, name: &[u8]) -> Result<String, NoMemory>
+    requires name { IsTrue (is_script_name name.now) }
+    ensures file { IfOk result (λ file. string_bytes file ≡ table_file name.now) }
+{
+    let mut file = String::from_utf8_lossy(alloc, name)?;
+    file.push_str(".2da")?;
+    Ok(file)
+}
+
+/// The table in the bytes of the file of this name.
+#[tactic(auto, using(crate::proofs::TableLemmas::tables))]
+fn table_of_bytes<S: Sink>(
+    alloc: Global,
+    file: &[u8],
+    bytes: &[u8],
+    out: &mut S,
+) -> Result<Table2, Status>
+    ensures does { IsTrue S.tells → (c : Contents) →
+        Does (table_in file.now bytes.now) c (S.taken out.old) result c (S.taken out.new) }
+    ensures counts { (faults absences longs : ℕ) → Tallies result
+        (Counted faults absences longs (S.faults out.old))
+        (Counted faults absences longs (S.faults out.new)) }
+    ensures only { IfErr result (Refusing Status.Area) }
+{
+    match read_table(alloc, bytes) {
+        Ok(table) => Ok(table),
+        Err(TableFault::Line(line)) => Err(refuse_area(alloc, file, AreaFlaw::Line(line), out)),
+        Err(TableFault::NoMemory) => Err(Status::Memory),
+    }
+}
+
+/// The table in the file of this name.
+#[tactic(auto, using(crate::proofs::Steps::steps), unfolding(crate::specs::Tables::table_of))]
+pub(crate) fn read_named<F: Files, S: Sink>(
+    alloc: Global,
+    file: &str,
+    files: &mut F,
+    out: &mut S,
+) -> Result<Table2, Status>
+    ensures does { IsTrue F.tells → IsTrue S.tells →
+        Does (table_of file.now) (F.contents files.old) (S.taken out.old)
+        result (F.contents files.new) (S.taken out.new) }
+    ensures counts { Tallies result
+        (Counted (F.faults files.old) (F.absences files.old) (F.longs files.old) (S.faults out.old))
+        (Counted (F.faults files.new) (F.absences files.new)
+        (F.longs files.new) (S.faults out.new)) }
+    ensures same { F.contents files.new ≡ F.contents files.old }
+    ensures only { IfErr result StopsArea }
+{
+    match read_file(alloc, file, files, out) {
+        Err(status) => Err(status),
+        Ok(bytes) => table_of_bytes(alloc, file.as_bytes(), bytes.as_slice(), out),
+    }
+}

@@ -1,5 +1,0 @@
-use Rattle.emitted_shapes.proofs.Typing.{switches_fit, first_values_call_engine}
-use Rattle.emitted_shapes.proofs.laws.typed_units_fit.Goals as goal
-
-pub returns : goal.returns
-returns c = record { switches = switches_fit; values = first_values_call_engine }

@@ -1,6 +1,0 @@
-ghost use Rattle.engine_rows.specs.GoingOn.{PlaysGoOn};
-
-/// A play that is broken off after some entries and then goes on is the unbroken play.
-pub fn plays_go_on<X>()
-    ensures goes_on { PlaysGoOn X }
-{}

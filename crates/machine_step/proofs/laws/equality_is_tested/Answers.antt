@@ -1,5 +1,0 @@
-use Rattle.machine_step.proofs.ValueLemmas.{equality_is_tested}
-use Rattle.machine_step.proofs.laws.equality_is_tested.Goals as goal
-
-pub returns : goal.returns
-returns c = record { tested = equality_is_tested }

@@ -1,5 +1,0 @@
-use Rattle.machine_step.proofs.RunLemmas.{few_wait}
-use Rattle.machine_step.proofs.laws.few_scripts_wait.Goals as goal
-
-pub returns : goal.returns
-returns g c = record { few = few_wait }

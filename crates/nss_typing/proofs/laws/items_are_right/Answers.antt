@@ -1,5 +1,0 @@
-use Rattle.nss_typing.proofs.UnitLaws.{items_are_right}
-use Rattle.nss_typing.proofs.laws.items_are_right.Goals as goal
-
-pub returns : goal.returns
-returns c = record { typed = items_are_right }

@@ -1,8 +1,0 @@
-use Rattle.nss_typing.proofs.UnitLaws.{some_answer, one_token}
-use Rattle.nss_typing.proofs.laws.one_answer.Goals as goal
-
-pub returns-clause-some : goal.returns-clause-some
-returns-clause-some c = some_answer
-
-pub returns-clause-token : goal.returns-clause-token
-returns-clause-token c = one_token

@@ -1,6 +1,0 @@
-mod AreaLemmas
-mod PlanLemmas
-mod FinalLemmas
-mod OneArea
-mod OnePlan
-mod Steps

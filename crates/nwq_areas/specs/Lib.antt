@@ -1,4 +1,0 @@
-pub mod Areas
-pub mod Plans
-pub mod Finals
-pub mod Laws

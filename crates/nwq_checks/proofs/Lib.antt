@@ -1,3 +1,0 @@
-mod CheckLemmas
-mod OneCheck
-mod Steps

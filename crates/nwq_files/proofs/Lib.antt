@@ -1,9 +1,0 @@
-mod TreeLemmas
-mod CodeLemmas
-mod AssemblyLemmas
-mod CommandLemmas
-mod OneTree
-mod OneCode
-mod OneAssembly
-mod OneCommand
-mod Steps

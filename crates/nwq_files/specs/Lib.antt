@@ -1,6 +1,0 @@
-pub mod Trees
-pub mod Codes
-pub mod Assemblies
-pub mod Texts
-pub mod Commands
-pub mod Laws

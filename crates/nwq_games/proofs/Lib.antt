@@ -1,7 +1,0 @@
-mod FileLemmas
-mod OneGame
-mod PlayLemmas
-mod Steps
-mod StopLemmas
-mod TellLemmas
-mod Worked

@@ -1,7 +1,0 @@
-mod CodeLemmas
-mod ListingLemmas
-mod NameLemmas
-mod OneListing
-mod Steps
-mod StopLemmas
-mod Worked

@@ -1,5 +1,0 @@
-use Rattle.nwq_runs.proofs.OneRun.{sure_runs}
-use Rattle.nwq_runs.proofs.laws.one_run.Goals as goal
-
-pub returns : goal.returns
-returns c = record { runs = sure_runs c.one_source.ensures.tables c.one_script.ensures.compiled c.one_code.ensures.plays }

@@ -1,8 +1,0 @@
-use Rattle.nwq_work.specs.Counts.{Counted}
-use Rattle.nwq_runs.proofs.TellLemmas.{limit_counts}
-use Rattle.nwq_runs.proofs.telling.tell_end.Goals as goal
-
-pub returns-in-Ok-clause-counts : goal.returns-in-Ok-clause-counts
-returns-in-Ok-clause-counts g c = λ faults absences longs.
-    limit_counts c.ending_of.result (Counted faults absences longs (g.S.Sink.faults c.args.out.now)) (Counted faults absences longs (g.S.Sink.faults c.put_end.new.out))
-    c.ending_of.ensures.only (c.in-Ok.ensures.counts faults absences longs)

@@ -1,3 +1,0 @@
-mod Counting
-mod Nodes
-mod Whole

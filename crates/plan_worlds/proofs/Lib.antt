@@ -1,4 +1,0 @@
-mod BeginLemmas
-mod ObjectLemmas
-mod WorldLemmas
-mod Worked

@@ -1,7 +1,0 @@
-use Rattle.std.proofs.Common.{◌≡◌, map, take}
-use Rattle.world_core.specs.Calls.{planned}
-use Rattle.plan_worlds.specs.Worlds.{begun_by}
-use Rattle.plan_worlds.proofs.begin.begun_by_all.Given as goal
-
-abbrev pub invariant-loop-line : goal.invariant-loop-line
-invariant-loop-line l = map planned l.events ≡ map (begun_by l.area) (take l.line-index l.lines)

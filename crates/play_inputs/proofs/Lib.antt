@@ -1,0 +1,12 @@
+mod AreaLemmas
+mod PlanLemmas
+mod FinalLemmas
+mod OneArea
+mod OnePlan
+mod Steps
+mod CodeLemmas
+mod ListingLemmas
+mod NameLemmas
+mod OneListing
+mod StopLemmas
+mod Examples

@@ -1,0 +1,125 @@
+-- Scripts are listed one after the other: what is left, from here, does what the whole does from the start.
+use Rattle.std.proofs.Common.{◌≡◌, ◌<◌, ◌≤◌, ◌+◌, ℕ, zero, suc, Bool, inl, inr, List, [], ◌∷◌, ◌++◌, length, get_or, drop, Some, Result, Ok, Err, IsTrue, refl, sym, ap, ◌∙◌, subst, arith}
+use Rattle.std.proofs.Math.Seq.{drop-cons}
+use Rattle.std.proofs.lemmas.List.{drop_all, map_push, length-append}
+use Rattle.nwq_value.specs.Engine.{EngineTable}
+use Rattle.nwq_outside.specs.Outside.{Contents}
+use Rattle.plan_text.specs.declared.plan.Script.{Script as ScriptLine}
+use Rattle.plan_text.specs.Fields.{is_script_name}
+use Rattle.plan_text.specs.Plans.{AreListed}
+use Rattle.machine_rules.specs.Machine.{Script}
+use Rattle.stack_rules.specs.Rules.{MeetsRules}
+use Rattle.stack_rules.specs.Laws.{AllMeet}
+use Rattle.stack_check.specs.Checked.{kept_table}
+use Rattle.ncs_machine.specs.Host.{script_of, scripts_of, tables_of}
+use Rattle.ncs_machine.specs.declared.scripts.Loaded.{Loaded}
+use Rattle.command_work.specs.declared.status.Status.{Status}
+use Rattle.command_work.specs.declared.status.Status.TheVariants.{Memory}
+use Rattle.command_work.specs.Work.{Does}
+use Rattle.command_work.specs.Counts.{KeepsBut}
+use Rattle.command_work.specs.Parts.{cut_here, then_ok, then_err}
+use Rattle.play_inputs.specs.Listings.{script_in, lists_on, IsOwnFile, IsSourceFile}
+
+-- ---- the work
+
+pub record SoFar (files_tell sink_tells : Bool) (header : EngineTable) (lines : List ScriptLine) (i : ℕ) (first scripts : List Script) (c0 c : Contents) (t0 t : List ℕ) : Type 0 where
+  pub by : IsTrue files_tell → IsTrue sink_tells → (r : Result (List Script) Status) (c' : Contents) (t' : List ℕ)
+      → Does (lists_on header scripts (drop i lines)) c t r c' t' → Does (lists_on header first lines) c0 t0 r c' t'
+
+drop_here : (lines : List ScriptLine) (i : ℕ) (line d : ScriptLine) → i < length lines → line ≡ get_or lines i d → drop i lines ≡ line ∷ drop (i + 1) lines
+drop_here lines i line d lt is =
+    let next : suc i ≡ i + 1 = omega arith in
+    drop-cons lines i d lt ∙ (ap (λ (y : ScriptLine). y ∷ drop (suc i) lines) (sym is) ∙ ap (λ (k : ℕ). line ∷ drop k lines) next)
+
+module _ (files_tell sink_tells : Bool) (header : EngineTable) (lines : List ScriptLine) (first : List Script) (c0 : Contents) (t0 : List ℕ) where
+  pub begins : SoFar files_tell sink_tells header lines 0 first first c0 c0 t0 t0
+  begins = record { by = λ files sink r c' t' does. does }
+
+  -- the work that is left, one script further
+  further : (i : ℕ) (line d : ScriptLine) (scripts : List Script) (c : Contents) (t : List ℕ) (r : Result (List Script) Status) (c' : Contents) (t' : List ℕ)
+      → i < length lines → line ≡ get_or lines i d → Does (lists_on header scripts (line ∷ drop (i + 1) lines)) c t r c' t'
+      → Does (lists_on header scripts (drop i lines)) c t r c' t'
+  further i line d scripts c t r c' t' lt is does = subst (λ ls. Does (lists_on header scripts ls) c t r c' t') (sym (drop_here lines i line d lt is)) does
+
+  pub goes_on : (i : ℕ) (line d : ScriptLine) (script : Script) (scripts : List Script) (c c1 : Contents) (t t1 : List ℕ)
+      → SoFar files_tell sink_tells header lines i first scripts c0 c t0 t → i < length lines → line ≡ get_or lines i d
+      → (IsTrue files_tell → IsTrue sink_tells → Does (script_in header line) c t (Ok script) c1 t1)
+      → SoFar files_tell sink_tells header lines (i + 1) first (scripts ++ script ∷ []) c0 c1 t0 t1
+  unfolding lists_on
+  goes_on i line d script scripts c c1 t t1 so lt is does = record {
+    by = λ files sink r c' t' goes. so.by files sink r c' t'
+        (further i line d scripts c t r c' t' lt is
+        (then_ok (script_in header line) (λ s. lists_on header (scripts ++ s ∷ []) (drop (i + 1) lines)) script c c1 c' t t1 t' r (does files sink) goes));
+  }
+
+  pub stops : (i : ℕ) (line d : ScriptLine) (e : Status) (scripts : List Script) (c c1 : Contents) (t t1 : List ℕ)
+      → SoFar files_tell sink_tells header lines i first scripts c0 c t0 t → i < length lines → line ≡ get_or lines i d → IsTrue files_tell → IsTrue sink_tells
+      → Does (script_in header line) c t (Err e) c1 t1 → Does (lists_on header first lines) c0 t0 (Err e) c1 t1
+  unfolding lists_on
+  stops i line d e scripts c c1 t t1 so lt is files sink does = so.by files sink (Err e) c1 t1
+      (further i line d scripts c t (Err e) c1 t1 lt is
+      (then_err (script_in header line) (λ s. lists_on header (scripts ++ s ∷ []) (drop (i + 1) lines)) e c c1 t t1 does))
+
+  -- memory is wanted for one script more
+  pub cut_on : (i : ℕ) (line d : ScriptLine) (script : Script) (scripts : List Script) (c c1 : Contents) (t t1 : List ℕ)
+      → SoFar files_tell sink_tells header lines i first scripts c0 c t0 t → i < length lines → line ≡ get_or lines i d → IsTrue files_tell → IsTrue sink_tells
+      → Does (script_in header line) c t (Ok script) c1 t1 → Does (lists_on header first lines) c0 t0 (Err Memory) c1 t1
+  cut_on i line d script scripts c c1 t t1 so lt is files sink does =
+      (goes_on i line d script scripts c c1 t t1 so lt is (λ f s. does)).by files sink (Err Memory) c1 t1
+      (cut_here (lists_on header (scripts ++ script ∷ []) (drop (i + 1) lines)) Memory c1 c1 t1 t1 tt refl refl)
+
+  pub is_done : (i : ℕ) (scripts : List Script) (c : Contents) (t : List ℕ) → SoFar files_tell sink_tells header lines i first scripts c0 c t0 t
+      → length lines ≤ i → IsTrue files_tell → IsTrue sink_tells → Does (lists_on header first lines) c0 t0 (Ok scripts) c t
+  unfolding lists_on
+  is_done i scripts c t so over files sink =
+      let none : drop i lines ≡ [] = drop_all i lines over in
+      so.by files sink (Ok scripts) c t (subst (λ ls. Does (lists_on header scripts ls) c t (Ok scripts) c t) (sym none) (inl refl, (refl, refl)))
+
+-- ---- the list
+
+pub scripts_more : (loaded : List Loaded) (x : Loaded) → scripts_of (loaded ++ x ∷ []) ≡ scripts_of loaded ++ script_of x ∷ []
+scripts_more loaded x = map_push script_of loaded x
+
+some_same : {A : Type 0} {x y : A} → Some x ≡ Some y → x ≡ y
+some_same e = cc
+
+pub meets_more : (header : EngineTable) (loaded : List Loaded) (x : Loaded) → AllMeet header (scripts_of loaded) (tables_of loaded)
+    → MeetsRules header x.code.code (kept_table x.code) → AllMeet header (scripts_of (loaded ++ x ∷ [])) (tables_of (loaded ++ x ∷ []))
+meets_more header [] x all one zero script is = subst (λ s. MeetsRules header s.code (kept_table x.code)) (some_same is) one
+meets_more header [] x all one (suc n) script is = absurd cc
+meets_more header (y ∷ loaded) x all one zero script is = all zero script is
+meets_more header (y ∷ loaded) x all one (suc n) script is = meets_more header loaded x (λ m s e. all (suc m) s e) one n script is
+
+-- the same by how the list is now
+module _ (loaded now : List Loaded) (x : Loaded) (is : now ≡ loaded ++ x ∷ []) where
+  pub meets_on : (header : EngineTable) → AllMeet header (scripts_of loaded) (tables_of loaded) → MeetsRules header x.code.code (kept_table x.code)
+      → AllMeet header (scripts_of now) (tables_of now)
+  meets_on header all one = subst (λ l. AllMeet header (scripts_of l) (tables_of l)) (sym is) (meets_more header loaded x all one)
+
+  pub scripts_on : scripts_of now ≡ scripts_of loaded ++ script_of x ∷ []
+  scripts_on = ap scripts_of is ∙ scripts_more loaded x
+
+  pub count_on : (first i : ℕ) → length loaded ≡ first + i → length now ≡ first + (i + 1)
+  count_on first i count = omega (arith, ap length is, length-append loaded (x ∷ []), count)
+
+pub none_meet : (header : EngineTable) → AllMeet header [] (tables_of [])
+none_meet header n script is = absurd cc
+
+-- ---- names
+
+pub own_file : (lines : List ScriptLine) (i : ℕ) (line d : ScriptLine) (name : List ℕ) → i < length lines → line ≡ get_or lines i d → IsOwnFile line name
+    → IsSourceFile lines name
+own_file [] i line d name lt is own = absurd (omega (arith, lt))
+own_file (l ∷ lines) zero line d name lt is own = inl (subst (λ x. IsOwnFile x name) is own)
+own_file (l ∷ lines) (suc i) line d name lt is own = inr (own_file lines i line d name (omega (arith, lt)) is own)
+
+pub keeps_on : (lines : List ScriptLine) (i : ℕ) (line d : ScriptLine) (c0 c c1 : Contents) → i < length lines → line ≡ get_or lines i d
+    → KeepsBut (IsSourceFile lines) c0 c → KeepsBut (IsOwnFile line) c c1 → KeepsBut (IsSourceFile lines) c0 c1
+keeps_on lines i line d c0 c c1 lt is before now name may_not =
+    now name (λ own. may_not (own_file lines i line d name lt is own)) ∙ before name may_not
+
+-- each line names a script
+pub named_at : (lines : List ScriptLine) (i : ℕ) (line d : ScriptLine) → AreListed lines → i < length lines → line ≡ get_or lines i d → IsTrue (is_script_name line.name)
+named_at [] i line d all lt is = absurd (omega (arith, lt))
+named_at (l ∷ lines) zero line d all lt is = subst (λ (x : ScriptLine). IsTrue (is_script_name x.name)) (sym is) all.0
+named_at (l ∷ lines) (suc i) line d all lt is = named_at lines i line d all.2 (omega (arith, lt)) is

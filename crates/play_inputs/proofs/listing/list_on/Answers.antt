@@ -1,0 +1,61 @@
+use Rattle.std.proofs.Common.{length, ◌∙◌, sym, subst, ◌+◌}
+use Rattle.ncs_machine.specs.Host.{script_of, scripts_of}
+use Rattle.play_inputs.proofs.ListingLemmas.{SoFar, goes_on, stops, cut_on, is_done, named_at, keeps_on, meets_on, scripts_on, count_on}
+use Rattle.play_inputs.proofs.listing.list_on.Goals as goal
+
+pub loop-line-preserved : goal.loop-line-preserved
+loop-line-preserved g c =
+    let first = scripts_of c.args.scripts.now in
+    let c0 = g.F.Files.contents c.args.files.now in
+    let c1 = g.F.Files.contents c.read_script.new.files in
+    let t0 = g.S.Sink.taken c.args.out.now in
+    let t1 = g.S.Sink.taken c.read_script.new.out in
+    let pushed = c.in-Ok-push.ensures.ok in (
+      subst (λ ss. SoFar g.F.Files.tells g.S.Sink.tells c.args.table.now c.args.lines.now (c.loop-line.line-index + 1) first ss c0 c1 t0 t1)
+          (sym (scripts_on c.loop-line.scripts c.push.new.self c.in-Ok.script pushed))
+          (goes_on g.F.Files.tells g.S.Sink.tells c.args.table.now c.args.lines.now first c0 t0 c.loop-line.line-index c.line-item.result _ (script_of c.in-Ok.script)
+          (scripts_of c.loop-line.scripts) (g.F.Files.contents c.loop-line.files) c1 (g.S.Sink.taken c.loop-line.out) t1 c.loop-line.invariant.0 c.loop-line-test.true
+          c.line-item.is c.in-Ok.ensures.does),
+      c.in-Ok.ensures.counts ∙ c.loop-line.invariant.1,
+      keeps_on c.args.lines.now c.loop-line.line-index c.line-item.result _ c0 (g.F.Files.contents c.loop-line.files) c1 c.loop-line-test.true c.line-item.is
+          c.loop-line.invariant.2 c.in-Ok.ensures.names,
+      meets_on c.loop-line.scripts c.push.new.self c.in-Ok.script pushed c.args.table.now c.loop-line.invariant.3 c.in-Ok.ensures.meets,
+      count_on c.loop-line.scripts c.push.new.self c.in-Ok.script pushed (length c.args.scripts.now) c.loop-line.line-index c.loop-line.invariant.4,
+    )
+
+pub read_script-requires : goal.read_script-requires
+read_script-requires g c = record {
+  named = named_at c.args.lines.now c.loop-line.line-index c.line-item.result _ c.requires.named c.loop-line-test.true c.line-item.is;
+}
+
+pub returns-in-Err-clause-does : goal.returns-in-Err-clause-does
+returns-in-Err-clause-does g c = λ files_tell sink_tells.
+    stops g.F.Files.tells g.S.Sink.tells c.args.table.now c.args.lines.now (scripts_of c.args.scripts.now) (g.F.Files.contents c.args.files.now)
+    (g.S.Sink.taken c.args.out.now) c.loop-line.line-index c.line-item.result _ c.in-Err.status (scripts_of c.loop-line.scripts) (g.F.Files.contents c.loop-line.files)
+    (g.F.Files.contents c.read_script.new.files) (g.S.Sink.taken c.loop-line.out) (g.S.Sink.taken c.read_script.new.out) c.loop-line.invariant.0 c.loop-line-test.true
+    c.line-item.is files_tell sink_tells
+    (c.in-Err.ensures.does files_tell sink_tells)
+
+pub returns-in-Err-clause-names : goal.returns-in-Err-clause-names
+returns-in-Err-clause-names g c =
+    keeps_on c.args.lines.now c.loop-line.line-index c.line-item.result _ (g.F.Files.contents c.args.files.now) (g.F.Files.contents c.loop-line.files)
+    (g.F.Files.contents c.read_script.new.files) c.loop-line-test.true c.line-item.is c.loop-line.invariant.2 c.in-Err.ensures.names
+
+pub returns-in-Err-push-clause-does : goal.returns-in-Err-push-clause-does
+returns-in-Err-push-clause-does g c = λ files_tell sink_tells.
+    cut_on g.F.Files.tells g.S.Sink.tells c.args.table.now c.args.lines.now (scripts_of c.args.scripts.now) (g.F.Files.contents c.args.files.now)
+    (g.S.Sink.taken c.args.out.now) c.loop-line.line-index c.line-item.result _ (script_of c.in-Ok.script) (scripts_of c.loop-line.scripts) (g.F.Files.contents c.loop-line.files)
+    (g.F.Files.contents c.read_script.new.files) (g.S.Sink.taken c.loop-line.out) (g.S.Sink.taken c.read_script.new.out) c.loop-line.invariant.0 c.loop-line-test.true
+    c.line-item.is files_tell sink_tells
+    (c.in-Ok.ensures.does files_tell sink_tells)
+
+pub returns-in-Err-push-clause-names : goal.returns-in-Err-push-clause-names
+returns-in-Err-push-clause-names g c =
+    keeps_on c.args.lines.now c.loop-line.line-index c.line-item.result _ (g.F.Files.contents c.args.files.now) (g.F.Files.contents c.loop-line.files)
+    (g.F.Files.contents c.read_script.new.files) c.loop-line-test.true c.line-item.is c.loop-line.invariant.2 c.in-Ok.ensures.names
+
+pub returns-clause-does : goal.returns-clause-does
+returns-clause-does g c = λ files_tell sink_tells.
+    is_done g.F.Files.tells g.S.Sink.tells c.args.table.now c.args.lines.now (scripts_of c.args.scripts.now) (g.F.Files.contents c.args.files.now)
+    (g.S.Sink.taken c.args.out.now) c.loop-line.line-index (scripts_of c.loop-line.scripts)
+    (g.F.Files.contents c.loop-line.files) (g.S.Sink.taken c.loop-line.out) c.loop-line.invariant.0 c.loop-line-test.false files_tell sink_tells

@@ -1,0 +1,17 @@
+use Rattle.std.proofs.Common.{◌≡◌, ◌+◌, length}
+use Rattle.stack_rules.specs.Laws.{AllMeet}
+use Rattle.ncs_machine.specs.Host.{scripts_of, tables_of}
+use Rattle.command_work.specs.Counts.{Counted, KeepsBut}
+use Rattle.play_inputs.specs.Listings.{IsSourceFile}
+use Rattle.play_inputs.proofs.ListingLemmas.{SoFar}
+use Rattle.play_inputs.proofs.listing.list_on.Given as goal
+
+abbrev pub invariant-loop-line : goal.invariant-loop-line
+invariant-loop-line g l =
+    SoFar g.F.Files.tells g.S.Sink.tells l.table l.lines l.line-index (scripts_of l.fn.scripts) (scripts_of l.scripts)
+    (g.F.Files.contents l.fn.files) (g.F.Files.contents l.files) (g.S.Sink.taken l.fn.out) (g.S.Sink.taken l.out)
+    × (Counted (g.F.Files.faults l.files) (g.F.Files.absences l.files) (g.F.Files.longs l.files) (g.S.Sink.faults l.out)
+    ≡ Counted (g.F.Files.faults l.fn.files) (g.F.Files.absences l.fn.files) (g.F.Files.longs l.fn.files) (g.S.Sink.faults l.fn.out))
+    × KeepsBut (IsSourceFile l.lines) (g.F.Files.contents l.fn.files) (g.F.Files.contents l.files)
+    × AllMeet l.table (scripts_of l.scripts) (tables_of l.scripts)
+    × (length l.scripts ≡ length l.fn.scripts + l.line-index)

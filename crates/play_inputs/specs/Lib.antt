@@ -1,0 +1,6 @@
+pub mod Areas
+pub mod Plans
+pub mod Finals
+pub mod Laws
+pub mod Listings
+pub mod ListingLaws

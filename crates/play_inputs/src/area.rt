@@ -1,0 +1,78 @@
+ghost use Rattle.std.specs.Prelude.{◌≡◌, ◌<◌, ℕ, IsTrue, IfErr};
+ghost use Rattle.nwq_outside.specs.Outside.{Contents};
+ghost use Rattle.gff_tree.specs.Whole.{plain_gff};
+ghost use Rattle.gff_tree.specs.Count.{node_count};
+ghost use Rattle.command_work.specs.Work.{Does};
+ghost use Rattle.command_work.specs.Counts.{Counted, Tallies, Refusing, StopsArea};
+ghost use Rattle.play_inputs.specs.Areas.{area_flaw, area_in, area_named};
+
+use area_rules::AreaFault;
+use area_tree::Area;
+use command_files::read_tree;
+use command_work::{AreaFlaw, Status, refuse_area};
+use gff_tree::Gff;
+use nwq_outside::{Files, Sink};
+use std::alloc::Global;
+
+/// What is wrong with a tree that is no area; nothing where only memory ran out.
+fn area_flaw(fault: AreaFault) -> Option<AreaFlaw>
+    ensures { result ≡ area_flaw fault }
+{
+    match fault {
+        AreaFault::Shape {
+            list,
+            member,
+            entry,
+        } => Some(AreaFlaw::Shape {
+            list,
+            member,
+            entry,
+        }),
+        AreaFault::NoMemory => None,
+    }
+}
+
+/// The area that the tree of the file of this name tells.
+#[tactic(auto, using(crate::proofs::AreaLemmas::areas))]
+fn area_of_tree<S: Sink>(alloc: Global, name: &[u8], tree: Gff, out: &mut S) -> Result<Area, Status>
+    requires few { node_count (plain_gff tree).top < 4294967296 }
+    ensures does { IsTrue S.tells → (c : Contents) →
+        Does (area_in name.now (plain_gff tree)) c
+        (S.taken out.old) result c (S.taken out.new) }
+    ensures counts { (faults absences longs : ℕ) → Tallies result
+        (Counted faults absences longs (S.faults out.old))
+        (Counted faults absences longs (S.faults out.new)) }
+    ensures only { IfErr result (Refusing Status.Area) }
+{
+    match Area::of(alloc, tree) {
+        Ok(area) => Ok(area),
+        Err(fault) => match area_flaw(fault) {
+            Some(flaw) => Err(refuse_area(alloc, name, flaw, out)),
+            None => Err(Status::Memory),
+        },
+    }
+}
+
+/// The area of the GFF file of this name.
+#[tactic(auto, using(crate::proofs::Steps::steps), unfolding(crate::specs::Areas::area_named))]
+pub fn read_area<F: Files, S: Sink>(
+    alloc: Global,
+    name: &str,
+    files: &mut F,
+    out: &mut S,
+) -> Result<Area, Status>
+    ensures does { IsTrue F.tells → IsTrue S.tells →
+        Does (area_named name.now) (F.contents files.old) (S.taken out.old)
+        result (F.contents files.new) (S.taken out.new) }
+    ensures counts { Tallies result
+        (Counted (F.faults files.old) (F.absences files.old) (F.longs files.old) (S.faults out.old))
+        (Counted (F.faults files.new) (F.absences files.new)
+        (F.longs files.new) (S.faults out.new)) }
+    ensures same { F.contents files.new ≡ F.contents files.old }
+    ensures only { IfErr result StopsArea }
+{
+    match read_tree(alloc, name, files, out) {
+        Err(status) => Err(status),
+        Ok(tree) => area_of_tree(alloc, name.as_bytes(), tree, out),
+    }
+}

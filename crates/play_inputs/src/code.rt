@@ -1,0 +1,192 @@
+//! The code of a script that a plan lists.
+ghost use Rattle.std.specs.Prelude.{◌≡◌, ◌≤◌, ℕ, false, length, string_bytes, IsTrue, IfOk, IfErr};
+ghost use Rattle.nwq_value.specs.Limits.{file_limit};
+ghost use Rattle.plan_text.specs.Fields.{is_script_name};
+ghost use Rattle.stack_rules.specs.Rules.{MeetsRules};
+ghost use Rattle.stack_check.specs.Checked.{kept_table};
+ghost use Rattle.command_work.specs.Work.{Does};
+ghost use Rattle.command_work.specs.Counts.{Counted, Tallies, KeepsBut};
+ghost use Rattle.command_files.specs.Checks.{plain_answer};
+ghost use Rattle.command_compile.specs.Files.{code_name};
+ghost use Rattle.play_inputs.specs.Listings.{writes_loaded, source_named, code_by, script_in};
+ghost use Rattle.play_inputs.specs.Listings.{IsOwnFile, StopsListing, script_answer};
+
+use command_compile::{code_name, read_compiled};
+use command_files::{load_checked, read_checked};
+use command_work::{Status, write_file};
+use ncs_machine::Loaded;
+use nwq_outside::{Files, Sink};
+use nwq_value::{Items, NoMemory, Table};
+use plan_text::Script;
+use stack_check::Checked;
+use std::alloc::Global;
+
+/// The name of a script.
+#[tactic(auto, using(crate::proofs::NameLemmas::script_is_utf8))]
+fn script_name(alloc: Global, name: &[u8]) -> Result<String, NoMemory>
+    requires named { IsTrue (is_script_name name.now) }
+    ensures same { IfOk result (λ text. string_bytes text ≡ name.now) }
+{
+    Ok(String::from_utf8_lossy(alloc, name)?)
+}
+
+/// Writes the bytes of a file of bytecode, and checks its code under a header.
+#[tactic(auto, using(crate::proofs::CodeLemmas::codes, crate::proofs::StopLemmas::stops))]
+fn write_loaded<F: Files, S: Sink>(
+    alloc: Global,
+    table: &Table,
+    file: &str,
+    bytes: Items<u8>,
+    files: &mut F,
+    out: &mut S,
+) -> Result<Checked, Status>
+    requires small { length bytes ≤ file_limit }
+    ensures does { IsTrue F.tells → IsTrue S.tells →
+        Does (writes_loaded table.now file.now bytes) (F.contents files.old) (S.taken out.old)
+        (plain_answer result) (F.contents files.new) (S.taken out.new) }
+    ensures counts { Tallies result
+        (Counted (F.faults files.old) (F.absences files.old) (F.longs files.old) (S.faults out.old))
+        (Counted (F.faults files.new) (F.absences files.new)
+        (F.longs files.new) (S.faults out.new)) }
+    ensures names { KeepsBut (λ other. other ≡ file.now)
+        (F.contents files.old) (F.contents files.new) }
+    ensures meets { IfOk result (λ checked.
+        MeetsRules table.now checked.code (kept_table checked)) }
+    ensures only { IfErr result StopsListing }
+{
+    match write_file(file, bytes.as_slice(), files) {
+        Err(status) => {
+            drop(bytes);
+            Err(status)
+        }
+        Ok(()) => load_checked(alloc, table, file.as_bytes(), bytes.into_vec(), out),
+    }
+}
+
+/// Compiles the source of this name under a header, and writes its file.
+#[tactic(auto, using(crate::proofs::Steps::steps, crate::proofs::StopLemmas::stops), unfolding(crate::specs::Listings::source_named))]
+fn read_source<F: Files, S: Sink>(
+    alloc: Global,
+    table: &Table,
+    name: &str,
+    file: &str,
+    files: &mut F,
+    out: &mut S,
+) -> Result<Checked, Status>
+    requires file { file.now ≡ code_name name.now }
+    ensures does { IsTrue F.tells → IsTrue S.tells →
+        Does (source_named table.now name.now) (F.contents files.old) (S.taken out.old)
+        (plain_answer result) (F.contents files.new) (S.taken out.new) }
+    ensures counts { Tallies result
+        (Counted (F.faults files.old) (F.absences files.old) (F.longs files.old) (S.faults out.old))
+        (Counted (F.faults files.new) (F.absences files.new)
+        (F.longs files.new) (S.faults out.new)) }
+    ensures names { KeepsBut (λ other. other ≡ code_name name.now)
+        (F.contents files.old) (F.contents files.new) }
+    ensures meets { IfOk result (λ checked.
+        MeetsRules table.now checked.code (kept_table checked)) }
+    ensures only { IfErr result StopsListing }
+{
+    match read_compiled(alloc, table, name, files, out) {
+        Err(status) => Err(status),
+        Ok(bytes) => write_loaded(alloc, table, file, bytes, files, out),
+    }
+}
+
+/// The code of the script of this name, which is there as a binary or as a source.
+#[tactic(auto, using(crate::proofs::StopLemmas::stops))]
+fn read_by<F: Files, S: Sink>(
+    alloc: Global,
+    table: &Table,
+    binary: bool,
+    name: &str,
+    file: &str,
+    files: &mut F,
+    out: &mut S,
+) -> Result<Checked, Status>
+    requires file { file.now ≡ code_name name.now }
+    ensures does { IsTrue F.tells → IsTrue S.tells →
+        Does (code_by binary table.now name.now) (F.contents files.old) (S.taken out.old)
+        (plain_answer result) (F.contents files.new) (S.taken out.new) }
+    ensures counts { Tallies result
+        (Counted (F.faults files.old) (F.absences files.old) (F.longs files.old) (S.faults out.old))
+        (Counted (F.faults files.new) (F.absences files.new)
+        (F.longs files.new) (S.faults out.new)) }
+    ensures names { KeepsBut (λ other. (binary ≡ false) × (other ≡ code_name name.now))
+        (F.contents files.old) (F.contents files.new) }
+    ensures meets { IfOk result (λ checked.
+        MeetsRules table.now checked.code (kept_table checked)) }
+    ensures only { IfErr result StopsListing }
+{
+    if binary {
+        read_checked(alloc, table, file, files, out)
+    } else {
+        read_source(alloc, table, name, file, files, out)
+    }
+}
+
+/// The code of the script of a plan's line.
+#[tactic(auto, using(command_work::specs::Parts::cut_here))]
+fn read_code<F: Files, S: Sink>(
+    alloc: Global,
+    table: &Table,
+    line: &Script,
+    files: &mut F,
+    out: &mut S,
+) -> Result<Checked, Status>
+    requires named { IsTrue (is_script_name line.now.name) }
+    ensures does { IsTrue F.tells → IsTrue S.tells →
+        Does (code_by line.now.binary table.now line.now.name)
+        (F.contents files.old) (S.taken out.old)
+        (plain_answer result) (F.contents files.new) (S.taken out.new) }
+    ensures counts { Tallies result
+        (Counted (F.faults files.old) (F.absences files.old) (F.longs files.old) (S.faults out.old))
+        (Counted (F.faults files.new) (F.absences files.new)
+        (F.longs files.new) (S.faults out.new)) }
+    ensures names { KeepsBut (IsOwnFile line.now) (F.contents files.old) (F.contents files.new) }
+    ensures meets { IfOk result (λ checked.
+        MeetsRules table.now checked.code (kept_table checked)) }
+    ensures only { IfErr result StopsListing }
+{
+    match script_name(alloc, line.name.bytes()) {
+        Err(NoMemory) => Err(Status::Memory),
+        Ok(name) => match code_name(alloc, &name) {
+            Err(NoMemory) => Err(Status::Memory),
+            Ok(file) => read_by(alloc, table, line.binary, &name, &file, files, out),
+        },
+    }
+}
+
+/// The script of a plan's line, by which it is played.
+#[tactic(auto, using(crate::proofs::Steps::steps, command_work::specs::Parts::cut_here), unfolding(crate::specs::Listings::script_in))]
+pub(crate) fn read_script<F: Files, S: Sink>(
+    alloc: Global,
+    table: &Table,
+    line: &Script,
+    files: &mut F,
+    out: &mut S,
+) -> Result<Loaded, Status>
+    requires named { IsTrue (is_script_name line.now.name) }
+    ensures does { IsTrue F.tells → IsTrue S.tells →
+        Does (script_in table.now line.now) (F.contents files.old) (S.taken out.old)
+        (script_answer result) (F.contents files.new) (S.taken out.new) }
+    ensures counts { Tallies result
+        (Counted (F.faults files.old) (F.absences files.old) (F.longs files.old) (S.faults out.old))
+        (Counted (F.faults files.new) (F.absences files.new)
+        (F.longs files.new) (S.faults out.new)) }
+    ensures names { KeepsBut (IsOwnFile line.now) (F.contents files.old) (F.contents files.new) }
+    ensures meets { IfOk result (λ loaded.
+        MeetsRules table.now loaded.code.code (kept_table loaded.code)) }
+    ensures only { IfErr result StopsListing }
+{
+    match line.name.copy(alloc) {
+        Err(NoMemory) => Err(Status::Memory),
+        Ok(name) => match read_code(alloc, table, line, files, out) {
+            Err(status) => {
+                drop(name);
+                Err(status)
+            }
+            Ok(code) => Ok(Loaded { name, code }),
+        },
+    }
+}

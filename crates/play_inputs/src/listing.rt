@@ -1,0 +1,93 @@
+//! The scripts that a plan lists.
+ghost use Rattle.std.specs.Prelude.{◌≡◌, ◌+◌, ℕ, length, IsTrue, IfOk, IfErr, OnOk};
+ghost use Rattle.plan_text.specs.Plans.{AreListed};
+ghost use Rattle.stack_rules.specs.Laws.{AllMeet};
+ghost use Rattle.ncs_machine.specs.Host.{scripts_of, tables_of};
+ghost use Rattle.command_work.specs.Work.{Does};
+ghost use Rattle.command_work.specs.Counts.{Counted, Tallies, KeepsBut};
+ghost use Rattle.play_inputs.specs.Listings.{lists_on, scripts_listed, listed_by, listed_answer};
+ghost use Rattle.play_inputs.specs.Listings.{IsSourceFile, StopsListing};
+
+use crate::code::read_script;
+use command_work::Status;
+use ncs_machine::Scripts;
+use nwq_outside::{Files, Sink};
+use nwq_value::{Items, NoMemory, Table};
+use plan_text::Script;
+use std::alloc::Global;
+
+/// Reads the scripts of these lines, one after the other, and puts each last.
+#[tactic(auto)]
+fn list_on<F: Files, S: Sink>(
+    alloc: Global,
+    table: &Table,
+    lines: &[Script],
+    scripts: &mut Scripts,
+    files: &mut F,
+    out: &mut S,
+) -> Result<(), Status>
+    requires named { AreListed lines.now }
+    requires meets { AllMeet table.now (scripts_of scripts.old) (tables_of scripts.old) }
+    ensures does { IsTrue F.tells → IsTrue S.tells →
+        Does (lists_on table.now (scripts_of scripts.old) lines.now)
+        (F.contents files.old) (S.taken out.old)
+        (listed_by result scripts.new) (F.contents files.new) (S.taken out.new) }
+    ensures counts { Tallies result
+        (Counted (F.faults files.old) (F.absences files.old) (F.longs files.old) (S.faults out.old))
+        (Counted (F.faults files.new) (F.absences files.new)
+        (F.longs files.new) (S.faults out.new)) }
+    ensures names { KeepsBut (IsSourceFile lines.now)
+        (F.contents files.old) (F.contents files.new) }
+    ensures meets { OnOk result
+        (AllMeet table.now (scripts_of scripts.new) (tables_of scripts.new)) }
+    ensures count { OnOk result (length scripts.new ≡ length scripts.old + length lines.now) }
+    ensures only { IfErr result StopsListing }
+{
+    for line in lines {
+        match read_script(alloc, table, line, files, out) {
+            Err(status) => return Err(status),
+            Ok(script) => match scripts.push(script) {
+                Err(NoMemory) => return Err(Status::Memory),
+                Ok(()) => {}
+            },
+        }
+    }
+    Ok(())
+}
+
+/// The scripts that a plan lists, checked under a header. The file of each source is written at
+/// once, also where a later one is refused.
+#[tactic(auto, using(crate::proofs::ListingLemmas::none_meet), unfolding(crate::specs::Listings::scripts_listed))]
+pub fn list_scripts<F: Files, S: Sink>(
+    alloc: Global,
+    table: &Table,
+    lines: &[Script],
+    files: &mut F,
+    out: &mut S,
+) -> Result<Scripts, Status>
+    requires named { AreListed lines.now }
+    ensures does { IsTrue F.tells → IsTrue S.tells →
+        Does (scripts_listed table.now lines.now) (F.contents files.old) (S.taken out.old)
+        (listed_answer result) (F.contents files.new) (S.taken out.new) }
+    ensures counts { Tallies result
+        (Counted (F.faults files.old) (F.absences files.old) (F.longs files.old) (S.faults out.old))
+        (Counted (F.faults files.new) (F.absences files.new)
+        (F.longs files.new) (S.faults out.new)) }
+    // The files of the sources alone are written.
+    ensures names { KeepsBut (IsSourceFile lines.now)
+        (F.contents files.old) (F.contents files.new) }
+    // All are well stacked, by the tables that are kept.
+    ensures meets { IfOk result (λ scripts.
+        AllMeet table.now (scripts_of scripts) (tables_of scripts)) }
+    ensures count { IfOk result (λ scripts. length scripts ≡ length lines.now) }
+    ensures only { IfErr result StopsListing }
+{
+    let mut scripts = Items::new(alloc);
+    match list_on(alloc, table, lines, &mut scripts, files, out) {
+        Err(status) => {
+            drop(scripts);
+            Err(status)
+        }
+        Ok(()) => Ok(scripts),
+    }
+}

@@ -1,0 +1,4 @@
+mod BeginLemmas
+mod ObjectLemmas
+mod WorldLemmas
+mod Examples

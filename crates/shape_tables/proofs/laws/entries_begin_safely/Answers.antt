@@ -1,6 +1,0 @@
-use Rattle.shape_tables.proofs.EntryLemmas.{continues_safely}
-use Rattle.shape_tables.proofs.laws.entries_begin_safely.Goals as goal
-
--- src/laws.rt:5:1
-pub returns-clause-states : goal.returns-clause-states
-returns-clause-states c = continues_safely

@@ -1,9 +1,0 @@
-mod Lists
-mod InSight
-mod Callees
-mod LabelLaws
-mod Expressions
-mod Statements
-mod Cells
-mod Items
-mod Whole

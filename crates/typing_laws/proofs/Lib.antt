@@ -1,0 +1,12 @@
+mod Lists
+mod InSight
+mod Callees
+mod LabelLaws
+mod Expressions
+mod Statements
+mod Cells
+mod Items
+mod Whole
+mod Counting
+mod Nodes
+mod LeastFault

@@ -1,0 +1,111 @@
+//! The arguments of a call, read at their places.
+ghost use Rattle.std.specs.Prelude.{◌≡◌, None, slice_get};
+ghost use Rattle.world_rules.specs.Arguments.{int_at, text_at, object_at, effect_at, event_at};
+ghost use Rattle.world_rules.specs.Arguments.{effect_in, text_in};
+
+use nwq_value::value::NO_ROUTINE;
+use nwq_value::{Args, Effect, Ints, Text, Value};
+use std::alloc::Global;
+
+pub(crate) fn int_at(args: &Args, i: usize) -> i32
+    ensures int { result ≡ int_at i args.now }
+{
+    match args.get(i) {
+        Some(Value::Int(n)) => *n,
+        Some(Value::Text(_) | Value::Object(_) | Value::Effect(_) | Value::Event(_)) | None => 0,
+    }
+}
+
+pub(crate) fn object_at(args: &Args, i: usize) -> u32
+    ensures object { result ≡ object_at i args.now }
+{
+    match args.get(i) {
+        Some(Value::Object(o)) => *o,
+        Some(Value::Text(_) | Value::Int(_) | Value::Effect(_) | Value::Event(_)) | None => 0,
+    }
+}
+
+pub(crate) fn event_at(args: &Args, i: usize) -> i32
+    ensures event { result ≡ event_at i args.now }
+{
+    match args.get(i) {
+        Some(Value::Event(n)) => *n,
+        Some(Value::Text(_) | Value::Int(_) | Value::Effect(_) | Value::Object(_)) | None => 0,
+    }
+}
+
+pub(crate) fn text_at(args: &Args, i: usize) -> &[u8]
+    ensures text { result.now ≡ text_at i args.now }
+{
+    match args.get(i) {
+        Some(Value::Text(text)) => text.bytes(),
+        Some(Value::Event(_) | Value::Int(_) | Value::Effect(_) | Value::Object(_)) | None => &[],
+    }
+}
+
+/// The argument at a place; the others are dropped.
+fn taken(args: Args, i: usize) -> Option<Value>
+    ensures value { result ≡ slice_get args i }
+{
+    let mut values = args.into_vec();
+    if i < values.len() {
+        Some(values.swap_remove(i))
+    } else {
+        None
+    }
+}
+
+fn text_of(alloc: Global, value: Option<Value>) -> Text
+    ensures text { result ≡ text_in value }
+{
+    match value {
+        Some(Value::Text(text)) => text,
+        Some(Value::Int(_)) => Text::empty(alloc),
+        Some(Value::Object(_)) => Text::empty(alloc),
+        Some(Value::Event(_)) => Text::empty(alloc),
+        Some(Value::Effect(effect)) => {
+            drop(effect);
+            Text::empty(alloc)
+        }
+        None => Text::empty(alloc),
+    }
+}
+
+fn no_effect(alloc: Global) -> Effect
+    ensures effect { result ≡ effect_in None }
+{
+    Effect {
+        routine: NO_ROUTINE,
+        ints: Ints::new(alloc),
+    }
+}
+
+fn effect_of(alloc: Global, value: Option<Value>) -> Effect
+    ensures effect { result ≡ effect_in value }
+{
+    match value {
+        Some(Value::Effect(effect)) => effect,
+        Some(Value::Int(_)) => no_effect(alloc),
+        Some(Value::Object(_)) => no_effect(alloc),
+        Some(Value::Event(_)) => no_effect(alloc),
+        Some(Value::Text(text)) => {
+            drop(text);
+            no_effect(alloc)
+        }
+        None => no_effect(alloc),
+    }
+}
+
+/// The string at a place; the other arguments are dropped.
+pub(crate) fn take_text(alloc: Global, args: Args, i: usize) -> Text
+    ensures text { result ≡ text_at i args }
+{
+    text_of(alloc, taken(args, i))
+}
+
+/// The effect at a place; the other arguments are dropped.
+pub(crate) fn take_effect(alloc: Global, args: Args, i: usize) -> Effect
+    ensures effect { result ≡ effect_at i args }
+{
+    effect_of(alloc, taken(args, i))
+}

@@ -1,0 +1,119 @@
+//! What is kept of objects beside the area, changed for one object at a time.
+ghost use Rattle.std.specs.Prelude.{◌≡◌, ◌<◌, ◌≤◌, ◌∷◌, ◌++◌, [], drop, length, slice_get, Some};
+ghost use Rattle.std.specs.Prelude.{OnOk, OnErr};
+ghost use Rattle.std.specs.List.{remove};
+ghost use Rattle.world_rules.specs.Changes.{changed_object};
+ghost use Rattle.world_rules.specs.World.{things_at, queue_in, effects_in};
+
+use action_queue::Item;
+use nwq_value::{Items, NoMemory};
+use std::alloc::Global;
+use std::mem;
+use world_rules::{Stood, Things};
+
+/// Sets an object's mark; its actions stay.
+pub(crate) fn set_busy<X: Drop>(things: &mut Vec<Things<X>>, o: u32, busy: bool)
+    requires first { 1 ≤ o }
+    requires within { o ≤ length things.old.items }
+    ensures mark { things.new.items ≡ changed_object o (λ t. record t {
+      queue = record (queue_in (things_at o things.old.items)) { busy = busy };
+    }) things.old.items }
+{
+    let object = &mut things[o as usize - 1];
+    object.queue.set_busy(busy);
+}
+
+/// Drops an object's actions; its mark stays.
+pub(crate) fn clear<X: Drop>(things: &mut Vec<Things<X>>, o: u32)
+    requires first { 1 ≤ o }
+    requires within { o ≤ length things.old.items }
+    ensures empty { things.new.items ≡ changed_object o (λ t. record t {
+      queue = record (queue_in (things_at o things.old.items)) { actions = [] };
+    }) things.old.items }
+{
+    let object = &mut things[o as usize - 1];
+    object.queue.clear();
+}
+
+/// Puts an action last in an object's queue. After `NoMemory` it is dropped, and the queue as
+/// before.
+pub(crate) fn append<X: Drop>(
+    things: &mut Vec<Things<X>>,
+    o: u32,
+    item: Item<X>,
+) -> Result<(), NoMemory>
+    requires first { 1 ≤ o }
+    requires within { o ≤ length things.old.items }
+    ensures ok { OnOk result (things.new.items ≡ changed_object o (λ t. record t {
+      queue = record (queue_in (things_at o things.old.items)) {
+        actions = (queue_in (things_at o things.old.items)).actions ++ item ∷ [];
+      };
+    }) things.old.items) }
+    ensures err { OnErr result (things.new.items ≡ things.old.items) }
+{
+    let object = &mut things[o as usize - 1];
+    object.queue.append(item)
+}
+
+/// Takes the first action off an object's queue.
+pub(crate) fn take_head<X: Drop>(things: &mut Vec<Things<X>>, o: u32) -> Option<Item<X>>
+    requires first { 1 ≤ o }
+    requires within { o ≤ length things.old.items }
+    ensures taken { result ≡ slice_get (queue_in (things_at o things.old.items)).actions 0 }
+    ensures left { things.new.items ≡ changed_object o (λ t. record t {
+      queue = record (queue_in (things_at o things.old.items)) {
+        actions = drop 1 (queue_in (things_at o things.old.items)).actions;
+      };
+    }) things.old.items }
+{
+    let object = &mut things[o as usize - 1];
+    object.queue.take_head()
+}
+
+/// Puts an effect last on an object. After `NoMemory` it is dropped, and the others as before.
+pub(crate) fn add_effect<X: Drop>(
+    things: &mut Vec<Things<X>>,
+    o: u32,
+    stood: Stood,
+) -> Result<(), NoMemory>
+    requires first { 1 ≤ o }
+    requires within { o ≤ length things.old.items }
+    ensures ok { OnOk result (things.new.items ≡ changed_object o (λ t. record t {
+      effects = effects_in (things_at o things.old.items) ++ stood ∷ [];
+    }) things.old.items) }
+    ensures err { OnErr result (things.new.items ≡ things.old.items) }
+{
+    let object = &mut things[o as usize - 1];
+    object.effects.push(stood)
+}
+
+/// Takes the effect at a place off an object.
+pub(crate) fn take_effect<X: Drop>(
+    alloc: Global,
+    things: &mut Vec<Things<X>>,
+    o: u32,
+    at: usize,
+) -> Stood
+    requires first { 1 ≤ o }
+    requires within { o ≤ length things.old.items }
+    requires there { at < length (effects_in (things_at o things.old.items)) }
+    ensures taken { slice_get (effects_in (things_at o things.old.items)) at ≡ Some result }
+    ensures left { things.new.items ≡ changed_object o (λ t. record t {
+      effects = remove (effects_in (things_at o things.old.items)) at;
+    }) things.old.items }
+{
+    let object = &mut things[o as usize - 1];
+    let mut effects = mem::replace(&mut object.effects, Items::new(alloc)).into_vec();
+    let taken = effects.remove(at);
+    drop(mem::replace(&mut object.effects, Items::of_vec(effects)));
+    taken
+}
+
+/// What is kept of an object.
+pub(crate) fn of_object<X>(things: &[Things<X>], o: u32) -> &Things<X>
+    requires first { 1 ≤ o }
+    requires within { o ≤ length things.now }
+    ensures object { things_at o things.now ≡ Some result.now }
+{
+    &things[o as usize - 1]
+}

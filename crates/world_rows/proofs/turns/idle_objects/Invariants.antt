@@ -1,6 +1,0 @@
-use Rattle.std.proofs.Common.{◌≡◌, replicate}
-use Rattle.engine_rows.specs.Turns.{idle}
-use Rattle.world_rows.proofs.turns.idle_objects.Given as goal
-
-abbrev pub invariant-loop-done : goal.invariant-loop-done
-invariant-loop-done g l = l.objects.items ≡ replicate l.done idle

@@ -1,0 +1,12 @@
+mod Played
+mod Examples
+mod Edges
+mod MapLemmas
+mod RowMaps
+mod TurnMaps
+mod AlikeLemmas
+mod KeptLemmas
+mod RowsKept
+mod TurnsKept
+mod PlayLemmas
+mod PlayExamples

@@ -1,0 +1,224 @@
+-- Each routine keeps what worlds keep.
+use Rattle.std.proofs.Common.{◌≡◌, ◌≢◌, ℕ, ℤ, pos, negsuc, ◌+◌, ◌≤◌, zero, suc, Bool, true, false, not, List, [], ◌∷◌, ◌++◌, Option, None, Some, refl, sym, ap, ◌∙◌, arith, slice_get, cond}
+use Rattle.std.specs.Prelude.{if◌then◌else◌, ◌==◌, IsTrue}
+use Rattle.std.specs.List.{AllByRecursion, find, list_any}
+use Rattle.std.proofs.lemmas.Bool.Decides.{nat_tests}
+use Rattle.action_queue.specs.declared.queue.Item.{Item}
+use Rattle.action_queue.specs.declared.queue.Item.TheVariants.{Do, Wait, Speak}
+use Rattle.area_rules.specs.Area.{object}
+use Rattle.local_variables.specs.Variables.{Variable}
+use Rattle.delay_agenda.specs.Waiting.{turn_count}
+use Rattle.delay_agenda.specs.declared.entry.Kind.TheVariants.{Event, Stored, Turn, Unapply}
+use Rattle.nwq_value.specs.Engine.{EngineTable}
+use Rattle.nwq_value.specs.declared.engine.Role.{Role}
+use Rattle.nwq_value.specs.declared.engine.Role.TheVariants as role
+use Rattle.nwq_value.specs.declared.engine.Routine.{Routine}
+use Rattle.nwq_value.specs.declared.value.Effect.{Effect}
+use Rattle.world_rules.specs.declared.data.Told.{Told}
+use Rattle.world_rules.specs.declared.data.Told.TheVariants as line
+use Rattle.world_rules.specs.Arguments.{int_at, text_at, object_at, effect_at, event_at, at_least_zero}
+use Rattle.world_rules.specs.Pure.{CellLookup}
+use Rattle.world_rules.specs.World.{World, count, is_valid, queue_of, effects_of}
+use Rattle.world_rules.specs.Changes.{told, post, later, with_action, with_actions, with_busy, with_effect, with_effects, with_variables, has_turn, without_turn, without_first, is_effect}
+use Rattle.world_rules.specs.Rows.{Call, Answered, Row, rows, drawn_from, drawn, assigned, delayed, awake, appended, appended_do, at_rest, cleared, changed_variables, applied, applied_to, removed, event_script, signalled}
+use Rattle.world_rules.specs.Engine.{row_numbered, by_row, by_role, by_routine, engine}
+use Rattle.world_rules.specs.Kept.{IsWorld, IsStep, EngineKeeps}
+use Rattle.world_rules.proofs.KeptLemmas.{AgendaLaws, SameShape, same_shape, shapes_join, shape_if, shape_effects, shape_actions, shape_variables, shape_kept, shape_step, step_after, step_if, post_step, valid_tells, awake_if, rest_step}
+
+pub shape_told : {X : Type 0} (o : ℕ) (what : Told) (w : World X) → SameShape w (told o what w)
+shape_told o what w = record { clock = refl; objects = refl; things = refl; agenda = refl; busy = λ p. refl }
+
+shape_random : {X : Type 0} (rest : List ℕ) (w : World X) → SameShape w (record w { random = rest })
+shape_random rest w = record { clock = refl; objects = refl; things = refl; agenda = refl; busy = λ p. refl }
+
+shape_drawn_from : {X : Type 0} (rs : List ℕ) (n : ℕ) (w : World X) → SameShape w (drawn_from rs n w).world
+shape_drawn_from [] n w = same_shape w
+shape_drawn_from (r ∷ rs) n w = shape_random rs w
+
+shape_drawn : {X : Type 0} (n : ℤ) (w : World X) → SameShape w (drawn n w).world
+shape_drawn (negsuc n) w = same_shape w
+shape_drawn (pos zero) w = same_shape w
+shape_drawn (pos (suc n)) w = shape_drawn_from w.random (suc n) w
+
+step_assigned : {X : Type 0} (laws : AgendaLaws X) (o : ℕ) (a : Option X) (w : World X) → IsWorld w → IsStep w (assigned o a w)
+step_assigned laws o None w h = shape_step w w (same_shape w) h
+step_assigned laws o (Some x) w h = step_if (is_valid o w) w (post w.clock (Stored o x) w) h
+    (λ valid. post_step laws w.clock (Stored o x) w h (valid_tells o w valid).1 (omega arith) (λ p. refl))
+
+step_delayed : {X : Type 0} (laws : AgendaLaws X) (o : ℕ) (ms : ℤ) (a : Option X) (w : World X) → IsWorld w → o ≤ count w → IsStep w (delayed o ms a w)
+step_delayed laws o ms None w h most = shape_step w w (same_shape w) h
+step_delayed laws o ms (Some x) w h most = post_step laws (later ms w) (Stored o x) w h most (omega arith) (λ p. refl)
+
+step_appended : {X : Type 0} (laws : AgendaLaws X) (o : ℕ) (item : Item X) (w : World X) → IsWorld w → IsStep w (appended o item w)
+step_appended laws o item w h = step_if (is_valid o w) w (awake o (with_action o item w)) h
+    (λ valid. let s = shape_actions o ((queue_of o w).actions ++ item ∷ []) w in
+    step_after w (with_action o item w) (awake o (with_action o item w)) s
+    (awake_if laws (queue_of o (with_action o item w)).busy o (with_action o item w) refl (shape_kept w (with_action o item w) s h)
+    (valid_tells o w valid).0 (valid_tells o w valid).1))
+
+step_appended_do : {X : Type 0} (laws : AgendaLaws X) (o : ℕ) (a : Option X) (w : World X) → IsWorld w → IsStep w (appended_do o a w)
+step_appended_do laws o None w h = shape_step w w (same_shape w) h
+step_appended_do laws o (Some x) w h = step_appended laws o (Do x) w h
+
+some_turn : (n : ℕ) → IsTrue (not (n == 0)) → n ≢ 0
+some_turn n h same = absurd (grind (arith, nat_tests, h, same))
+
+step_at_rest : {X : Type 0} (laws : AgendaLaws X) (o : ℕ) (w : World X) → IsWorld w → IsStep w (at_rest o w)
+step_at_rest laws o w h = step_if (has_turn o w) w (with_busy o false (without_turn o w)) h
+    (λ some. rest_step laws o w h (some_turn (turn_count o w.agenda.entries) some))
+
+step_cleared : {X : Type 0} (laws : AgendaLaws X) (o : ℕ) (w : World X) → IsWorld w → IsStep w (cleared o w)
+step_cleared laws o w h =
+    let s = shape_actions o [] w in
+    let kept = shape_kept w (with_actions o [] w) s h in
+    step_after w (with_actions o [] w) (cleared o w) s
+    (step_if (w.version == 2) (with_actions o [] w) (at_rest o (with_actions o [] w)) kept (λ second. step_at_rest laws o (with_actions o [] w) kept))
+
+step_variables : {X : Type 0} (o : ℕ) (change : List Variable → List Variable) (w : World X) → IsWorld w → IsStep w (changed_variables o change w)
+step_variables o change w h = shape_step w (changed_variables o change w) (shape_if (is_valid o w) w (with_variables o change w) (shape_variables o change w)) h
+
+shape_effect : {X : Type 0} (o : ℕ) (number : Option ℕ) (e : Effect) (w : World X) → SameShape w (with_effect o number e w)
+shape_effect o number e w = shape_effects o (effects_of o w ++ record { number = number; effect = e } ∷ []) w
+
+step_applied : {X : Type 0} (laws : AgendaLaws X) (duration : ℤ) (o : ℕ) (e : Effect) (ms : ℤ) (w : World X) → IsWorld w → 1 ≤ o → o ≤ count w → IsStep w (applied duration o e ms w)
+step_applied laws (pos zero) o e ms w h one most = shape_step w (told o (line.Apply (pos 0) e) w) (shape_told o (line.Apply (pos 0) e) w) h
+step_applied laws (pos (suc zero)) o e ms w h one most =
+    let t = told o (line.Apply (pos 1) e) w in
+    let v = with_effect o (Some w.agenda.next) e t in
+    let s = shapes_join w t v (shape_told o (line.Apply (pos 1) e) w) (shape_effect o (Some w.agenda.next) e t) in
+    step_after w v (post (later ms w) (Unapply o) v) s
+    (post_step laws (later ms w) (Unapply o) v (shape_kept w v s h) (one, most) (omega arith) (λ p. refl))
+step_applied laws (pos (suc (suc zero))) o e ms w h one most =
+    let t = told o (line.Apply (pos 2) e) w in
+    shape_step w (with_effect o None e t) (shapes_join w t (with_effect o None e t) (shape_told o (line.Apply (pos 2) e) w) (shape_effect o None e t)) h
+step_applied laws (pos (suc (suc (suc n)))) o e ms w h one most = shape_step w w (same_shape w) h
+step_applied laws (negsuc n) o e ms w h one most = shape_step w w (same_shape w) h
+
+step_applied_to : {X : Type 0} (laws : AgendaLaws X) (duration : ℤ) (o : ℕ) (e : Effect) (ms : ℤ) (w : World X) → IsWorld w → IsStep w (applied_to duration o e ms w)
+step_applied_to laws duration o e ms w h = step_if (is_valid o w) w (applied duration o e ms w) h
+    (λ valid. step_applied laws duration o e ms w h (valid_tells o w valid).0 (valid_tells o w valid).1)
+
+step_removed : {X : Type 0} (o : ℕ) (e : Effect) (w : World X) → IsWorld w → IsStep w (removed o e w)
+step_removed o e w h =
+    let v = with_effects o (without_first (is_effect e) (effects_of o w)) w in
+    shape_step w (removed o e w) (shape_if (list_any (is_effect e) (effects_of o w)) w (told o (line.Remove e) v)
+    (shapes_join w v (told o (line.Remove e) v) (shape_effects o (without_first (is_effect e) (effects_of o w)) w) (shape_told o (line.Remove e) v))) h
+
+step_signalled : {X : Type 0} (laws : AgendaLaws X) (o : ℕ) (user : ℤ) (w : World X) → IsWorld w → IsStep w (signalled o user w)
+step_signalled laws o user w h = step_if (is_valid o w) w (post w.clock (Event o (event_script (object w.area o).scripts) user) w) h
+    (λ valid. post_step laws w.clock (Event o (event_script (object w.area o).scripts) user) w h (valid_tells o w valid).1 (omega arith) (λ p. refl))
+
+-- ---- the rows
+
+record RowKeeps {X : Type 0} (r : Row X) : Type 0 where
+  by : (c : Call X) (w : World X) → IsWorld w → c.caller ≤ count w → IsStep w (r.does c w).world
+
+told_keeps : {X : Type 0} (o : ℕ) (what : Told) (w : World X) → IsWorld w → IsStep w (told o what w)
+told_keeps o what w h = shape_step w (told o what w) (shape_told o what w) h
+
+stays : {X : Type 0} (w : World X) → IsWorld w → IsStep w w
+stays w h = shape_step w w (same_shape w) h
+
+rows_keep : {X : Type 0} → AgendaLaws X → AllByRecursion RowKeeps (rows {X = X})
+rows_keep laws = (
+  record { by = λ c w h most. shape_step w (drawn (int_at 0 c.values) w).world (shape_drawn (int_at 0 c.values) w) h },
+  (
+    record { by = λ c w h most. told_keeps c.caller _ w h },
+    (
+      record { by = λ c w h most. told_keeps c.caller _ w h },
+      (
+        record { by = λ c w h most. told_keeps c.caller _ w h },
+        (
+          record { by = λ c w h most. step_assigned laws (object_at 0 c.values) c.action w h },
+          (
+            record { by = λ c w h most. step_delayed laws c.caller (int_at 0 c.values) c.action w h most },
+            (
+              record { by = λ c w h most. step_cleared laws c.caller w h },
+              (
+                record { by = λ c w h most. step_appended_do laws c.caller c.action w h },
+                (
+                  record { by = λ c w h most. step_appended laws c.caller (Wait (int_at 0 c.values)) w h },
+                  (
+                    record { by = λ c w h most. step_appended laws c.caller (Speak (text_at 0 c.values)) w h },
+                    (
+                      record { by = λ c w h most. told_keeps c.caller _ w h },
+                      (
+                        record { by = λ c w h most. stays w h },
+                        (
+                          record { by = λ c w h most. stays w h },
+                          (
+                            record { by = λ c w h most. stays w h },
+                            (
+                              record { by = λ c w h most. stays w h },
+                              (
+                                record { by = λ c w h most. step_variables (object_at 0 c.values) _ w h },
+                                (
+                                  record { by = λ c w h most. stays w h },
+                                  (
+                                    record { by = λ c w h most. step_variables (object_at 0 c.values) _ w h },
+                                    (
+                                      record { by = λ c w h most. step_variables (object_at 0 c.values) _ w h },
+                                      (
+                                        record { by = λ c w h most. step_variables (object_at 0 c.values) _ w h },
+                                        (
+                                          record { by = λ c w h most. step_applied_to laws (int_at 0 c.values) (object_at 2 c.values) (effect_at 1 c.values) (int_at 3 c.values) w h },
+                                          (
+                                            record { by = λ c w h most. step_removed (object_at 0 c.values) (effect_at 1 c.values) w h },
+                                            (
+                                              record { by = λ c w h most. stays w h },
+                                              (
+                                                record { by = λ c w h most. step_signalled laws (object_at 0 c.values) (event_at 1 c.values) w h },
+                                                (
+                                                  record { by = λ c w h most. stays w h },
+                                                  tt,
+                                                ),
+                                              ),
+                                            ),
+                                          ),
+                                        ),
+                                      ),
+                                    ),
+                                  ),
+                                ),
+                              ),
+                            ),
+                          ),
+                        ),
+                      ),
+                    ),
+                  ),
+                ),
+              ),
+            ),
+          ),
+        ),
+      ),
+    ),
+  ),
+)
+
+chosen_keeps : {X : Type 0} (b : Bool) (r : Row X) (rest : Option (Row X)) (c : Call X) (w : World X)
+    → IsStep w (r.does c w).world → IsStep w (by_row rest c w).world → IsStep w (by_row (cond b (Some r) rest) c w).world
+chosen_keeps true r rest c w own next = own
+chosen_keeps false r rest c w own next = next
+
+row_keeps : {X : Type 0} (all : List (Row X)) → AllByRecursion RowKeeps all → (n : ℕ) (c : Call X) (w : World X)
+    → IsWorld w → c.caller ≤ count w → IsStep w (by_row (row_numbered n all) c w).world
+row_keeps [] keep n c w h most = stays w h
+row_keeps (r ∷ rest) keep n c w h most = chosen_keeps (r.number == n) r (row_numbered n rest) c w (keep.0.by c w h most) (row_keeps rest keep.1 n c w h most)
+
+role_keeps : {X : Type 0} (laws : AgendaLaws X) (cell : CellLookup) (n : ℕ) (r : Routine) (kind : Role) (c : Call X) (w : World X)
+    → IsWorld w → c.caller ≤ count w → IsStep w (by_role cell n r kind c w).world
+role_keeps laws cell n r (role.Built own) c w h most = row_keeps rows (rows_keep laws) own c w h most
+role_keeps laws cell n r (role.Pure k) c w h most = stays w h
+role_keeps laws cell n r role.World c w h most = told_keeps c.caller (line.Call r.name c.values) w h
+role_keeps laws cell n r role.Uncallable c w h most = stays w h
+
+routine_keeps : {X : Type 0} (laws : AgendaLaws X) (cell : CellLookup) (n : ℕ) (r : Option Routine) (c : Call X) (w : World X)
+    → IsWorld w → c.caller ≤ count w → IsStep w (by_routine cell n r c w).world
+routine_keeps laws cell n None c w h most = stays w h
+routine_keeps laws cell n (Some r) c w h most = role_keeps laws cell n r r.role c w h most
+
+pub engine_keeps : {X : Type 0} → AgendaLaws X → EngineKeeps X
+unfolding engine
+engine_keeps laws table cell n c w h most = routine_keeps laws cell n (slice_get table.routines n) c w h most
