@@ -1,7 +1,7 @@
 //! The code of a typed unit, and the bytes of its file.
 //!
-//! Promised: [`generate`] gives exactly the file that `emission_rules/specs/Units.antt` says, or the
-//! size of one that is too large. Each node is visited once, and the body of each switch a few
+//! Promised: [`generate`] gives exactly the file that `emission_rules/specs/Units.antt` says, or
+//! the size of one that is too large. Each node is visited once, and the body of each switch a few
 //! times more. The page is docs/CODE.md.
 #![tactic(auto)]
 

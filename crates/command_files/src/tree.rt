@@ -6,7 +6,8 @@ ghost use Rattle.gff_tree.specs.Whole.{plain_gff};
 ghost use Rattle.gff_tree.specs.Count.{node_count};
 ghost use Rattle.command_work.specs.Work.{Does};
 ghost use Rattle.command_work.specs.Counts.{Counted, Tallies, Refusing, StopsArea};
-ghost use Rattle.command_files.specs.Trees.{open_flaw, tree_flaw, tree_in, tree_named, plain_answer};
+ghost use Rattle.command_files.specs.Trees.{open_flaw, tree_flaw, tree_in, tree_named};
+ghost use Rattle.command_files.specs.Trees.{plain_answer};
 
 use command_work::{AreaFlaw, Status, read_file, refuse_area};
 use gff_bytes::{OpenFault, View};

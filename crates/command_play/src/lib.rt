@@ -2,9 +2,9 @@
 //!
 //! `specs/Games.antt` has the whole work of the command: the plan and the header are read, the
 //! scripts are listed ([`play_inputs`](../../play_inputs/specs/Listings.antt)), the area is read
-//! and the plan played ([`command_plays`](../../command_plays/specs/Plays.antt)) in the world of both
-//! ([`play_worlds`](../../play_worlds/specs/Worlds.antt)); the trace is put, and a play that is
-//! done leaves its area in a file before its end is told. What plans are is docs/PLAN.md, what
+//! and the plan played ([`command_plays`](../../command_plays/specs/Plays.antt)) in the world of
+//! both ([`play_worlds`](../../play_worlds/specs/Worlds.antt)); the trace is put, and a play that
+//! is done leaves its area in a file before its end is told. What plans are is docs/PLAN.md, what
 //! plays are docs/PLAYS.md.
 #![tactic(auto)]
 

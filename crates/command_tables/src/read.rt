@@ -6,7 +6,8 @@ ghost use Rattle.command_work.specs.Work.{Does};
 ghost use Rattle.command_work.specs.Counts.{Counted, Tallies, StopsArea};
 ghost use Rattle.command_tables.specs.Lists.{AreNames};
 ghost use Rattle.command_tables.specs.Reading.{with_tables};
-ghost use Rattle.command_tables.specs.Tables.{table_file, table_of, with_table, one_more, all_behind};
+ghost use Rattle.command_tables.specs.Tables.{table_file, table_of, with_table, one_more};
+ghost use Rattle.command_tables.specs.Tables.{all_behind};
 ghost use Rattle.command_tables.specs.Tables.{tables_listed, tables_given};
 
 use crate::list::read_list;

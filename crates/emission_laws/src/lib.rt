@@ -3,9 +3,9 @@
 //! There is no code here that runs. A table of shapes is given for the code of each typed unit, by
 //! the structure of its tree: `specs/Spots.antt` says what is known in front of a line of labelled
 //! code and when lines in a row go by the rules, and `specs/Table.antt` which table that gives.
-//! `specs/WellTyped.antt` says what the unit has to keep besides the bounds of `emission_rules`. The
-//! functions of this crate do nothing: each is a law, whose contract is proved of the definitions.
-//! The page on it is docs/SHAPES.md.
+//! `specs/WellTyped.antt` says what the unit has to keep besides the bounds of `emission_rules`.
+//! The functions of this crate do nothing: each is a law, whose contract is proved of the
+//! definitions. The page on it is docs/SHAPES.md.
 #![tactic(auto)]
 
 mod laws;

@@ -1,4 +1,5 @@
-ghost use Rattle.machine_rules.specs.Laws.{CallsAreFollowed, CountsInstructions, EffectsAreFollowed};
+ghost use Rattle.machine_rules.specs.Laws.{CallsAreFollowed, CountsInstructions};
+ghost use Rattle.machine_rules.specs.Laws.{EffectsAreFollowed};
 ghost use Rattle.machine_rules.specs.Laws.{EqualityIsTested, FewWait, RunsGoOn, StoresAreFollowed};
 
 /// The definition's test of two values tells whether they are equal.

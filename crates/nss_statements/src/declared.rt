@@ -4,7 +4,8 @@ ghost use Rattle.std.specs.Prelude.{◌≡◌, ◌++◌, ◌&&◌, not, IfOk, On
 ghost use Rattle.std.specs.Option.{option_map};
 ghost use Rattle.nss_tree.specs.Reading.{plain_expr, plain_name, plain_names};
 ghost use Rattle.typing_rules.specs.declared.fault.FaultKind.TheVariants as kind;
-ghost use Rattle.typing_rules.specs.Nodes.{asked, at, faults_there, fine, first_kind, if_there, kept};
+ghost use Rattle.typing_rules.specs.Nodes.{asked, at, faults_there, fine, first_kind, if_there};
+ghost use Rattle.typing_rules.specs.Nodes.{kept};
 ghost use Rattle.typing_rules.specs.Nodes.{no_row, row, two};
 ghost use Rattle.typing_rules.specs.Reading.{plain};
 ghost use Rattle.typing_rules.specs.Rules.{value_fits, variable_rows, variable_rule};

@@ -10,10 +10,12 @@ ghost use Rattle.typing_rules.specs.Rules.{constant_name_rows, constant_name_rul
 ghost use Rattle.typing_rules.specs.Rules.{no_fields, struct_rule};
 ghost use Rattle.typing_rules.specs.UnitReading.{typed_item, typed_items, typed_names};
 ghost use Rattle.typing_rules.specs.Verdicts.{after_item, after_items, constant_item};
-ghost use Rattle.typing_rules.specs.Verdicts.{constant_meaning, global_item, item_faults, item_fine};
+ghost use Rattle.typing_rules.specs.Verdicts.{constant_meaning, global_item, item_faults};
+ghost use Rattle.typing_rules.specs.Verdicts.{item_fine};
 ghost use Rattle.typing_rules.specs.Verdicts.{items_faults, items_fine, lines_faults, lines_fine};
 ghost use Rattle.typing_rules.specs.Verdicts.{constant_faults, constant_line_verdict};
-ghost use Rattle.typing_rules.specs.Verdicts.{constant_name_verdict, struct_members, struct_verdict};
+ghost use Rattle.typing_rules.specs.Verdicts.{constant_name_verdict, struct_members};
+ghost use Rattle.typing_rules.specs.Verdicts.{struct_verdict};
 ghost use Rattle.nss_scopes.specs.Entries.{members_of};
 ghost use Rattle.nss_scopes.specs.Slots.{meaning_of};
 ghost use Rattle.nss_scopes.specs.Views.{in_sight};

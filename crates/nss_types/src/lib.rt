@@ -1,8 +1,8 @@
 //! Types a unit of NWScript, or finds its least fault.
 //!
-//! [`type_unit`] answers the typed tree that the rules of `typing_rules` give a unit, or the node at
-//! fault of least token with its kind (`specs/Answers.antt`). The walk goes over each item once for
-//! what it declares and once more to type it; its statements are typed by `nss_statements`, its
+//! [`type_unit`] answers the typed tree that the rules of `typing_rules` give a unit, or the node
+//! at fault of least token with its kind (`specs/Answers.antt`). The walk goes over each item once
+//! for what it declares and once more to type it; its statements are typed by `nss_statements`, its
 //! expressions by `nss_expressions`. It doesn't stop at a fault: a node is judged by a small
 //! function over the answers of its parts, and the least fault so far is kept.
 //!

@@ -3,7 +3,8 @@
 ghost use Rattle.std.specs.Prelude.{◌≡◌, ◌++◌, ◌&&◌, not, false, IfOk, OnOk, Some};
 ghost use Rattle.std.specs.Option.{option_map};
 ghost use Rattle.typing_rules.specs.declared.fault.FaultKind.TheVariants as kind;
-ghost use Rattle.typing_rules.specs.Nodes.{asked, at, faults_there, fine, first_kind, if_there, kept};
+ghost use Rattle.typing_rules.specs.Nodes.{asked, at, faults_there, fine, first_kind, if_there};
+ghost use Rattle.typing_rules.specs.Nodes.{kept};
 ghost use Rattle.typing_rules.specs.Nodes.{no_row, only, row, two};
 ghost use Rattle.typing_rules.specs.Rules.{default_fits, is_behind, is_missing, is_refused};
 ghost use Rattle.typing_rules.specs.Rules.{parameter_rows, parameter_rule};

@@ -1,10 +1,10 @@
 //! The top call: what the words of a command do with files and a sink, in order, and how it ends.
 //!
 //! [`nwq_main`] does the work of the words; [`program_tables`] and [`nwq_program`] are what
-//! `run_all` of `nwq` calls. What a command does is a [`Work`](../../command_work/specs/Work.antt), a
-//! function of the form of its words (`specs/Command.antt`), and the clause `does` says that the
-//! call did it. The parts of that work that read sources are `command_sources`', and its commands over
-//! other files `command_files`'.
+//! `run_all` of `nwq` calls. What a command does is a [`Work`](../../command_work/specs/Work.antt),
+//! a function of the form of its words (`specs/Command.antt`), and the clause `does` says that the
+//! call did it. The parts of that work that read sources are `command_sources`', and its commands
+//! over other files `command_files`'.
 //!
 //! The clause `means` says what the work is in the words of the subject: headers, scripts, plans,
 //! areas. `specs/Accepting.antt` and `specs/Refusing.antt` say what a command accepts, and why it

@@ -1,6 +1,7 @@
 //! What scripts mean, and that the code of their expressions, statements and functions does it.
 //!
-//! There is no code here that runs. The meaning is told by cases on the typed tree of `typing_rules`:
+//! There is no code here that runs. The meaning is told by cases on the typed tree of
+//! `typing_rules`:
 //! `specs/Values.antt` says what values and operators are, `specs/Evaluation.antt` how an
 //! evaluation takes its steps, `specs/Expressions.antt`, `specs/Statements.antt` and
 //! `specs/Scripts.antt` what each node of a typed unit comes to, in the world of `world_rules`. It
