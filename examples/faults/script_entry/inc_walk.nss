@@ -1,0 +1,4 @@
+void Walk(string sPost, int nPosts)
+{
+    ActionWait(500 * nPosts);
+}

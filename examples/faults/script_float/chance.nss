@@ -1,0 +1,5 @@
+float fChance = 0.25;
+
+void main()
+{
+}

@@ -1,0 +1,6 @@
+#include "inc_price"
+
+void main()
+{
+    PrintInteger(Price("rope", 2));
+}

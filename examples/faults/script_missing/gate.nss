@@ -1,0 +1,7 @@
+#include "inc_gate"
+#include "inc_lock"
+
+void main()
+{
+    Open(OBJECT_SELF);
+}

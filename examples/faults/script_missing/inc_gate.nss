@@ -1,0 +1,4 @@
+void Open(object oGate)
+{
+    SpeakString("The gate is open.");
+}

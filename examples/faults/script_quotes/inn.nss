@@ -1,0 +1,5 @@
+#include inc_inn
+
+void main()
+{
+}

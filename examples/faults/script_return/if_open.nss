@@ -1,0 +1,7 @@
+int StartingConditional()
+{
+    while (TRUE)
+    {
+        if (GetLocalInt(OBJECT_SELF, "open")) return TRUE;
+    }
+}

@@ -1,0 +1,9 @@
+void Shout()
+{
+    SpeakString("Who goes there?");
+}
+
+void main()
+{
+	DelayCommand(1.5, Shout());
+}
