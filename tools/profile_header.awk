@@ -48,7 +48,11 @@ function masked_line(line, number,   out, at, kind) {
             gsub(/ /, "x", kind)
             out = out "\"" substr(kind, 3) "\""
             line = substr(line, RLENGTH + 1)
-        } else return out line
+        } else {
+            # A string that isn't closed: its quote begins no token.
+            out = out "\001"
+            line = substr(line, 2)
+        }
     }
     return out
 }
@@ -65,6 +69,7 @@ function clean_line(number,   at, found) {
 
 # A declaration as a comment, line by line; the rest of its last line goes on below where it must.
 function commented(text, rest) {
+    if (sub(/\n$/, "", text)) rest = "more"
     gsub(/\n/, "\n// ", text)
     sub(/\n.*/, "", rest)
     return "// " text (rest ~ /^[ \t\r]*(\/\/.*)?$/ ? "" : "\n")
@@ -210,6 +215,10 @@ function declaration(hidden, text, line,   lead, words, count, type, name, is_co
 
 function constant(hidden, text, line, head, type, name,   from, size, shown, value) {
     if (type != "int" && type != "string" && type != "object") {
+        if (!is_balanced(substr(hidden, head + 2, length(hidden) - head - 2))) {
+            take_out(line, text, "the value of " name " ends early")
+            return
+        }
         printf "%s", text
         if (is_left_out(type)) forgotten++
         return
@@ -231,6 +240,17 @@ function constant(hidden, text, line, head, type, name,   from, size, shown, val
         constants[name] = value_of[type, name] = value
         printf "%s", text
     }
+}
+
+# Whether a value goes on to its end: a comma or a `)` outside brackets would end it.
+function is_balanced(hidden,   depth) {
+    while (match(hidden, /[][(){},]/)) {
+        if (index("([{", substr(hidden, RSTART, 1))) depth++
+        else if (depth && substr(hidden, RSTART, 1) != ",") depth--
+        else if (!depth && index(",)", substr(hidden, RSTART, 1))) return 0
+        hidden = substr(hidden, RSTART + 1)
+    }
+    return !depth
 }
 
 # The parameters of a list in parentheses, as raw and masked texts; -1 where they don't end.
@@ -478,7 +498,6 @@ END {
     if (!is_blank(hidden)) {
         after = ""
         take_out(start, text, "a declaration without an end")
-        printf "\n"
     }
     print "profile_header: " told + 0 " changes, " outs + 0 " of them taken out; of " \
         function_count + 0 " functions " uncallable + 0 " can't be called, and " forgotten + 0 \

@@ -41,4 +41,3 @@ sqlquery SqlPrepare(cassowary cSolver, json jQuery=JSON_NULL);
  // int switch(int nCase);
 // int GetLast(int nCount)
 // /* déjà vu, and left open*/
-// 
