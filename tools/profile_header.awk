@@ -110,22 +110,27 @@ function is_type(word) { return (word in types) || (word in engine_types) }
 
 function is_left_out(word) { return (word in left_out) || (word in engine_types) }
 
+# A directive as a comment. A comment that begins behind it stays as it is.
+function drop_directive(number, why,   size) {
+    size = match(masked[number], /[ \t\r]+$/) ? RSTART - 1 : length(masked[number])
+    after = substr(raw[number], size + 1)
+    take_out(number, substr(raw[number], 1, size), why)
+    print after
+}
+
 # `#define`, `#include` and whatever else a line with a # may be.
 function directive(number,   line, words, digit) {
     line = trimmed(masked[number])
     sub(/^#[ \t]*/, "", line)
-    after = ""
     if (line !~ /^define[ \t]/) {
-        take_out(number, raw[number], "a directive that headers haven't")
-        printf "\n"
+        drop_directive(number, "a directive that headers haven't")
         return
     }
     if (split(line, words, /[ \t\r]+/) != 3 || words[2] !~ /^[A-Za-z_][A-Za-z0-9_]*$/ || \
         (words[2] in reserved) || \
         (words[3] !~ /^[A-Za-z_][A-Za-z0-9_]*$/ && int_value(words[3]) !~ /^int/) || \
         words[3] ~ /^-/) {
-        take_out(number, raw[number], "a define of another form than a name and a name or int")
-        printf "\n"
+        drop_directive(number, "a define of another form than a name and a name or int")
         return
     }
     if (words[2] !~ /^ENGINE_STRUCTURE_[0-9]+$/ || words[3] !~ /^[A-Za-z_]/) {
@@ -135,10 +140,7 @@ function directive(number,   line, words, digit) {
     digit = substr(words[2], 18)
     if (words[3] == "effect" || words[3] == "event") {
         if (digit == (words[3] == "event")) print raw[number]
-        else {
-            take_out(number, raw[number], words[3] " has another number here, and needs no define")
-            printf "\n"
-        }
+        else drop_directive(number, words[3] " has another number here, and needs no define")
         return
     }
     if (words[3] in reserved) {
