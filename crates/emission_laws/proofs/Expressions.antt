@@ -29,9 +29,10 @@ use Rattle.typing_rules.specs.declared.places.Callee.{Callee as Target}
 use Rattle.typing_rules.specs.declared.places.Callee.TheVariants.{Unit as InUnit, Engine}
 use Rattle.typing_rules.specs.Types.{is_void, binary_type, assigned_type, same_type}
 use Rattle.typing_rules.specs.Typed.{TypedExpr, TypedExprs, TypedParameter, literal, name, call, member, prefix, postfix, binary, assign, no_typed, more_typed, type_of, is_place}
-use Rattle.emission_rules.specs.Layout.{Structs, Layout, cell_types, cells, position}
+use Rattle.typing_rules.specs.Cells.{Structs, cell_types, cells, is_captured}
+use Rattle.emission_rules.specs.Layout.{Layout, position}
 use Rattle.emission_rules.specs.Operations.{beneath, bytes_of, cell_kind, constant, int_constant, literal_of, started, top_again, operation, combination}
-use Rattle.emission_rules.specs.Expressions.{Home, InFrame, InGlobals, moved, home, at_home, read, write, increment, decrement, member_code, prefix_code, postfix_code, shortcut, shortcut_labels, binary_code, is_set, read_first, cells_first, constants, result_room, called as called_line, is_captured, argument_labels, argument_code, count_arguments, arguments_cells, emit, emit_all, labels, all_labels}
+use Rattle.emission_rules.specs.Expressions.{Home, InFrame, InGlobals, moved, home, at_home, read, write, increment, decrement, member_code, prefix_code, postfix_code, shortcut, shortcut_labels, binary_code, is_set, read_first, cells_first, constants, result_room, called as called_line, argument_labels, argument_code, count_arguments, arguments_cells, emit, emit_all, labels, all_labels}
 use Rattle.emission_rules.specs.Bounds.{IsCell, IsType, IsExpr, AreExprs}
 use Rattle.stack_shape.specs.declared.shape.Slot.{Slot}
 use Rattle.stack_shape.specs.declared.shape.Slot.TheVariants.{Of, Base}

@@ -17,7 +17,8 @@ use Rattle.typing_rules.specs.declared.places.EntryPoint.{EntryPoint}
 use Rattle.typing_rules.specs.declared.places.EntryPoint.TheVariants.{Main, Conditional}
 use Rattle.typing_rules.specs.Typed.{TypedName, TypedParameter, TypedItem, TypedUnit}
 use Rattle.typing_rules.specs.Numbers.{number_of}
-use Rattle.emission_rules.specs.Layout.{Structs, Layout, layout_of, cells, position, params_cells, names_cells, all_declared_cells, global_cells}
+use Rattle.typing_rules.specs.Cells.{Structs, cells}
+use Rattle.emission_rules.specs.Layout.{Layout, layout_of, position, params_cells, names_cells, all_declared_cells, global_cells}
 use Rattle.emission_rules.specs.Operations.{beneath}
 use Rattle.emission_rules.specs.Statements.{no_exits, some_labels, names_labels, emit_names, initial, all_stmt_labels}
 use Rattle.emission_rules.specs.Units.{body_count, functions_labels, emit_function, emit_functions, has_globals, globals_labels, emit_globals, entry_call, start_labels, emit_start, unit_code}

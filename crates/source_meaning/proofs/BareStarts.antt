@@ -16,11 +16,12 @@ use Rattle.typing_rules.specs.declared.places.EntryPoint.{EntryPoint}
 use Rattle.typing_rules.specs.declared.places.EntryPoint.TheVariants.{Main, Conditional}
 use Rattle.typing_rules.specs.Numbers.{number_of}
 use Rattle.typing_rules.specs.Typed.{TypedItem, TypedName, TypedUnit}
+use Rattle.typing_rules.specs.Cells.{Structs, cell_types}
 use Rattle.saved_state.specs.declared.cell.Cell.{Cell}
 use Rattle.saved_state.specs.declared.cell.Cell.TheVariants.{Value as Holds}
 use Rattle.saved_state.specs.declared.saved.Saved.{Saved}
 use Rattle.emission_rules.specs.Laws.{CodeStands}
-use Rattle.emission_rules.specs.Layout.{Structs, cell_types, global_cells, layout_of}
+use Rattle.emission_rules.specs.Layout.{global_cells, layout_of}
 use Rattle.emission_rules.specs.Operations.{beneath, cell_kind}
 use Rattle.emission_rules.specs.Units.{body_count, start_labels, has_globals, emit_start, emit_functions, unit_code}
 use Rattle.world_rules.specs.World.{World}

@@ -13,12 +13,12 @@ use Rattle.nwq_value.specs.Engine.{const_type}
 use Rattle.nwq_value.specs.Values.{type_of as type_of_value}
 use Rattle.nwq_value.specs.Roles.{ty_eq}
 use Rattle.typing_rules.specs.Typed.{TypedExpr, TypedExprs, no_typed, more_typed, type_of}
+use Rattle.typing_rules.specs.Cells.{Structs, cell_types, is_captured}
 use Rattle.saved_state.specs.declared.cell.Cell.{Cell}
 use Rattle.saved_state.specs.declared.cell.Cell.TheVariants.{Value as Holds}
 use Rattle.saved_state.specs.declared.saved.Saved.{Saved}
 use Rattle.stack_shape.specs.Calls.{is_action, action_count, argument_types as parameter_types}
-use Rattle.emission_rules.specs.Layout.{Structs, cell_types}
-use Rattle.emission_rules.specs.Expressions.{is_captured, count_arguments}
+use Rattle.emission_rules.specs.Expressions.{count_arguments}
 use Rattle.machine_rules.specs.Cells.{value_types}
 use Rattle.machine_rules.specs.Calls.{Taken, with_value, with_action, value_taken, action_taken, taken}
 use Rattle.source_meaning.specs.Expressions.{all_parts}

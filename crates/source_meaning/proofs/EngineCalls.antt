@@ -23,15 +23,15 @@ use Rattle.ncs_emit.specs.Standing.{LinesStand}
 use Rattle.typing_rules.specs.declared.places.Callee.TheVariants.{Engine}
 use Rattle.typing_rules.specs.Types.{is_void}
 use Rattle.typing_rules.specs.Typed.{TypedExpr, TypedExprs, call, no_typed, more_typed, type_of}
+use Rattle.typing_rules.specs.Cells.{Structs, cell_types, is_captured}
 use Rattle.saved_state.specs.declared.cell.Cell.{Cell}
 use Rattle.saved_state.specs.declared.cell.Cell.TheVariants.{Value as Holds}
 use Rattle.saved_state.specs.declared.saved.Saved.{Saved}
 use Rattle.saved_state.specs.Cells.{StackView, cells_beneath, captured}
 use Rattle.stack_shape.specs.Ranges.{cell_count}
 use Rattle.stack_shape.specs.Calls.{is_callable, action_count, argument_types as parameter_types}
-use Rattle.emission_rules.specs.Layout.{Structs, cell_types}
 use Rattle.emission_rules.specs.Operations.{bytes_of, literal_of, constant}
-use Rattle.emission_rules.specs.Expressions.{constants, is_captured, argument_labels, argument_code, count_arguments, arguments_cells, emit, emit_all, all_labels}
+use Rattle.emission_rules.specs.Expressions.{constants, argument_labels, argument_code, count_arguments, arguments_cells, emit, emit_all, all_labels}
 use Rattle.world_rules.specs.Alike.{OptionAlike}
 use Rattle.world_rules.specs.AlikeLaws.{call as source_call}
 use Rattle.world_rules.specs.Engine.{engine}

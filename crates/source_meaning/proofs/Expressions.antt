@@ -20,6 +20,7 @@ use Rattle.nwq_value.specs.declared.engine.Const.{Const}
 use Rattle.nwq_value.specs.declared.engine.Const.TheVariants as const
 use Rattle.nwq_value.specs.Engine.{const_type}
 use Rattle.nwq_value.specs.Values.{type_of as type_of_value}
+use Rattle.nwq_value.specs.Operators.{as_int, is_zero, either}
 use Rattle.ncs_code.specs.Plain.{PlainOp}
 use Rattle.ncs_code.specs.Plain as ops
 use Rattle.ncs_code.specs.Spelling.{op_size}
@@ -30,15 +31,15 @@ use Rattle.ncs_emit.specs.Standing.{LinesStand}
 use Rattle.typing_rules.specs.declared.places.Place.TheVariants.{Local, Global, Const as IsConst}
 use Rattle.typing_rules.specs.Types.{same_type, binary_type}
 use Rattle.typing_rules.specs.Typed.{TypedExpr, literal, name, member, prefix, postfix, binary, assign, type_of, is_place}
+use Rattle.typing_rules.specs.Cells.{Structs, cell_types}
 use Rattle.saved_state.specs.declared.cell.Cell.{Cell}
 use Rattle.saved_state.specs.declared.cell.Cell.TheVariants.{Value as Holds}
 use Rattle.saved_state.specs.declared.saved.Saved.{Saved}
-use Rattle.emission_rules.specs.Layout.{Structs, cell_types, position}
+use Rattle.emission_rules.specs.Layout.{position}
 use Rattle.emission_rules.specs.Operations.{bytes_of, constant, int_constant, top_again, operation, combination}
 use Rattle.emission_rules.specs.Expressions.{Home, InFrame, InGlobals, home, at_home, read, write, increment, decrement, member_code, Shortcut, Never, shortcut, shortcut_labels, binary_code, is_set, read_first, cells_first, emit, labels}
 use Rattle.world_rules.specs.Pure.{CellLookup}
 use Rattle.world_rules.specs.World.{World}
-use Rattle.machine_rules.specs.Operators.{as_int, is_zero, either}
 use Rattle.machine_rules.specs.Cells.{value_types, of_int, zero_on_top}
 use Rattle.machine_rules.specs.Frames.{Frame}
 use Rattle.machine_rules.specs.Act.{act, moved, cells_after, place_after, is_division}

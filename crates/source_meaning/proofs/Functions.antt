@@ -14,10 +14,11 @@ use Rattle.ncs_emit.specs.Standing.{LinesStand}
 use Rattle.typing_rules.specs.declared.places.Callee.TheVariants.{Unit as InUnit, Engine}
 use Rattle.typing_rules.specs.declared.places.Place.TheVariants.{Local, Global, Const as IsConst}
 use Rattle.typing_rules.specs.Typed.{TypedExpr, TypedExprs, TypedParameter, literal, name, call, member, prefix, postfix, binary, assign, no_typed, more_typed}
+use Rattle.typing_rules.specs.Cells.{cell_types}
 use Rattle.saved_state.specs.declared.cell.Cell.{Cell}
 use Rattle.saved_state.specs.declared.saved.Saved.{Saved}
 use Rattle.emission_rules.specs.Bounds.{IsCell}
-use Rattle.emission_rules.specs.Layout.{cell_types, params_cells, position, all_declared_cells}
+use Rattle.emission_rules.specs.Layout.{params_cells, position, all_declared_cells}
 use Rattle.emission_rules.specs.Operations.{dropped}
 use Rattle.emission_rules.specs.Statements.{no_exits, emit_stmts}
 use Rattle.world_rules.specs.Pure.{CellLookup}

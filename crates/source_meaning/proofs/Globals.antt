@@ -11,8 +11,9 @@ use Rattle.typing_rules.specs.Numbers.{number_of}
 use Rattle.typing_rules.specs.Typed.{TypedExpr, TypedExprs, TypedName, TypedItem, literal, name, call, member, prefix, postfix, binary, assign, no_typed, more_typed}
 use Rattle.ncs_emit.specs.Labelled.{lines_size}
 use Rattle.ncs_emit.specs.Standing.{LinesStand}
+use Rattle.typing_rules.specs.Cells.{Structs, cell_types, cells}
 use Rattle.saved_state.specs.declared.saved.Saved.{Saved}
-use Rattle.emission_rules.specs.Layout.{Structs, Layout, cell_types, cells, position, names_cells, item_cells, global_cells}
+use Rattle.emission_rules.specs.Layout.{Layout, position, names_cells, item_cells, global_cells}
 use Rattle.emission_rules.specs.Statements.{no_exits, some_labels, initial, names_labels, emit_names}
 use Rattle.emission_rules.specs.Units.{emit_globals}
 use Rattle.world_rules.specs.Pure.{CellLookup}

@@ -15,18 +15,17 @@ use Rattle.nwq_value.specs.declared.value.Value.TheVariants.{Int, Text}
 use Rattle.nwq_value.specs.Engine.{EngineTable}
 use Rattle.nwq_value.specs.Roles.{tys_eq}
 use Rattle.nwq_value.specs.Values.{type_of}
+use Rattle.nwq_value.specs.Operators.{as_int, is_zero, both, either, bits_and, bits_or, bits_xor, shift_left, shift_right, shift_right_unsigned, sum, difference, product, quotient, remainder, less, less_or_equal, greater, greater_or_equal, values_eq, value_eq, joined_texts}
 use Rattle.ncs_code.specs.Spelling.{op_size}
 use Rattle.ncs_emit.specs.Labelled.{Instruction}
+use Rattle.typing_rules.specs.Cells.{Structs, cell_types}
 use Rattle.saved_state.specs.declared.cell.Cell.{Cell}
 use Rattle.saved_state.specs.declared.cell.Cell.TheVariants.{Value as Holds}
 use Rattle.stack_shape.specs.StackEffects.{type_of_both}
 use Rattle.stack_shape.specs.Ranges.{cell_count}
-use Rattle.emission_rules.specs.Layout.{Structs, cell_types}
 use Rattle.emission_rules.specs.Operations.{operation, combination, bytes_of, comparison_kind, comparison_size}
 use Rattle.emission_rules.specs.Expressions.{is_set}
 use Rattle.typing_rules.specs.Types.{same_type, is_compared, of_ints as ints_type, sum_type, comparison_type, binary_type, assigned_type}
-use Rattle.machine_rules.specs.Operators.{as_int, is_zero, both, either, bits_and, bits_or, bits_xor, shift_left, shift_right, shift_right_unsigned, sum, difference, product, quotient, remainder, less, less_or_equal, greater, greater_or_equal}
-use Rattle.machine_rules.specs.Values.{values_eq, value_eq, joined_texts}
 use Rattle.machine_rules.specs.Cells.{values_on, value_types, of_int, of_ints, of_texts, zero_on_top, runs_eq, runs_compared, pair_compared}
 use Rattle.machine_rules.specs.Frames.{Frame}
 use Rattle.machine_rules.specs.Act.{act, moved, cells_after, compared, is_division, place_after}

@@ -9,18 +9,19 @@ use Rattle.nwq_value.specs.declared.value.Ty.TheVariants.{Int as IntTy}
 use Rattle.nwq_value.specs.declared.value.Value.{Value}
 use Rattle.nwq_value.specs.declared.value.Value.TheVariants.{Int}
 use Rattle.nwq_value.specs.Values.{type_of as type_of_value}
+use Rattle.nwq_value.specs.Operators.{sum, difference}
 use Rattle.ncs_code.specs.Plain.{PlainOp}
 use Rattle.ncs_code.specs.File.{op_at}
 use Rattle.typing_rules.specs.declared.places.Place.TheVariants.{Local, Global, Const as IsConst}
 use Rattle.typing_rules.specs.Typed.{TypedExpr, literal, name, call, member, prefix, postfix, binary, assign, type_of, is_place}
 use Rattle.ncs_emit.specs.Labelled.{Line, Instruction}
+use Rattle.typing_rules.specs.Cells.{cell_types}
 use Rattle.saved_state.specs.declared.cell.Cell.{Cell}
 use Rattle.saved_state.specs.declared.cell.Cell.TheVariants.{Value as Holds}
 use Rattle.saved_state.specs.declared.saved.Saved.{Saved}
-use Rattle.emission_rules.specs.Layout.{Layout, cell_types, position}
+use Rattle.emission_rules.specs.Layout.{Layout, position}
 use Rattle.emission_rules.specs.Expressions.{Home, InFrame, InGlobals, moved, home, read, write, increment, decrement, member_code, emit}
 use Rattle.world_rules.specs.World.{World}
-use Rattle.machine_rules.specs.Operators.{sum, difference}
 use Rattle.machine_rules.specs.Cells.{value_types}
 use Rattle.machine_rules.specs.Machine.{Goes, step}
 use Rattle.source_meaning.specs.Values.{parts_of, with_parts, one_int}

@@ -13,11 +13,12 @@ use Rattle.ncs_emit.specs.Standing.{LinesStand}
 use Rattle.typing_rules.specs.declared.places.EntryPoint.{EntryPoint}
 use Rattle.typing_rules.specs.declared.places.EntryPoint.TheVariants.{Main, Conditional}
 use Rattle.typing_rules.specs.Typed.{TypedName}
+use Rattle.typing_rules.specs.Cells.{cell_types}
 use Rattle.saved_state.specs.declared.cell.Cell.{Cell}
 use Rattle.saved_state.specs.declared.cell.Cell.TheVariants.{Value as Holds, Base}
 use Rattle.saved_state.specs.declared.saved.Saved.{Saved}
 use Rattle.emission_rules.specs.Laws.{CodeStands}
-use Rattle.emission_rules.specs.Layout.{cell_types, names_cells, layout_of}
+use Rattle.emission_rules.specs.Layout.{names_cells, layout_of}
 use Rattle.emission_rules.specs.Operations.{dropped}
 use Rattle.emission_rules.specs.Statements.{emit_names}
 use Rattle.emission_rules.specs.Units.{body_count, start_labels, has_globals, emit_start, emit_functions, entry_call}

@@ -11,24 +11,25 @@ use Rattle.nwq_value.specs.declared.value.Value.{Value}
 use Rattle.nwq_value.specs.declared.value.Value.TheVariants.{Int}
 use Rattle.nwq_value.specs.declared.engine.Const.{Const}
 use Rattle.nwq_value.specs.Values.{type_of as type_of_value}
+use Rattle.nwq_value.specs.Operators.{is_zero}
 use Rattle.ncs_code.specs.Plain as ops
 use Rattle.ncs_code.specs.File.{op_at, jump_place}
 use Rattle.ncs_emit.specs.declared.jump.Jump.TheVariants.{Jmp, Jz, Jnz}
 use Rattle.ncs_emit.specs.Labelled.{Instruction, JumpTo, Label, lines_size}
 use Rattle.ncs_emit.specs.Standing.{LinesStand}
 use Rattle.typing_rules.specs.Typed.{TypedExpr, TypedName, TypedStmt, TypedStmts, type_of}
+use Rattle.typing_rules.specs.Cells.{cell_types, cells}
 use Rattle.saved_state.specs.declared.cell.Cell.{Cell}
 use Rattle.saved_state.specs.declared.cell.Cell.TheVariants.{Value as Holds, Base}
 use Rattle.saved_state.specs.declared.saved.Saved.{Saved}
 use Rattle.stack_shape.specs.StackEffects.{type_of_one}
 use Rattle.emission_rules.specs.Bounds.{IsCell}
-use Rattle.emission_rules.specs.Layout.{cell_types, cells, position, names_cells, declared_cells, all_declared_cells}
+use Rattle.emission_rules.specs.Layout.{position, names_cells, declared_cells, all_declared_cells}
 use Rattle.emission_rules.specs.Operations.{beneath, bytes_of, dropped, int_constant, started, cell_kind}
 use Rattle.emission_rules.specs.Expressions.{emit, labels}
 use Rattle.emission_rules.specs.Statements.{Exits, in_loop, some_labels, evaluated, tested, stored, initial, emit_names, stmt_labels, emit_stmt, emit_stmts}
 use Rattle.world_rules.specs.Pure.{CellLookup}
 use Rattle.world_rules.specs.World.{World}
-use Rattle.machine_rules.specs.Operators.{is_zero}
 use Rattle.machine_rules.specs.Values.{starting_value}
 use Rattle.machine_rules.specs.Cells.{value_types, value_pushed}
 use Rattle.machine_rules.specs.Act.{act, cells_after, Moves}

@@ -11,6 +11,7 @@ use Rattle.nwq_value.specs.declared.value.Value.{Value}
 use Rattle.nwq_value.specs.declared.value.Value.TheVariants.{Int}
 use Rattle.nwq_value.specs.declared.engine.Const.{Const}
 use Rattle.nwq_value.specs.declared.engine.Const.TheVariants as const
+use Rattle.nwq_value.specs.Operators.{sum, difference, is_zero}
 use Rattle.typing_rules.specs.Types.{binary_type}
 use Rattle.ncs_code.specs.Plain.{PlainOp}
 use Rattle.ncs_code.specs.Plain as ops
@@ -18,14 +19,13 @@ use Rattle.ncs_code.specs.Spelling.{op_size}
 use Rattle.ncs_code.specs.File.{op_at, jump_place}
 use Rattle.ncs_emit.specs.Labelled.{Line, lines_size, line_size}
 use Rattle.ncs_emit.specs.Standing.{LinesStand}
+use Rattle.typing_rules.specs.Cells.{Structs, cell_types}
 use Rattle.saved_state.specs.declared.cell.Cell.{Cell}
 use Rattle.saved_state.specs.declared.cell.Cell.TheVariants.{Value as Holds}
 use Rattle.saved_state.specs.declared.saved.Saved.{Saved}
 use Rattle.stack_shape.specs.Ranges.{cell_count}
-use Rattle.emission_rules.specs.Layout.{Structs, cell_types}
 use Rattle.emission_rules.specs.Operations.{beneath, bytes_of, literal_of, operation}
 use Rattle.world_rules.specs.World.{World}
-use Rattle.machine_rules.specs.Operators.{sum, difference, is_zero}
 use Rattle.machine_rules.specs.Values.{literal_value}
 use Rattle.machine_rules.specs.Cells.{values_on, values_at, value_types, with_values, overwritten, from_bp, of_int, value_pushed, range_pushed, range_written, int_written, int_changed, values_dropped, values_kept, zero_on_top}
 use Rattle.machine_rules.specs.Act.{Act, Moves, act, moved, cells_after, place_after, is_division, bp_range, one_more, one_less}

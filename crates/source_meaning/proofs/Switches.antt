@@ -10,22 +10,22 @@ use Rattle.nwq_value.specs.declared.value.Value.TheVariants.{Int}
 use Rattle.nwq_value.specs.declared.engine.Const.{Const}
 use Rattle.nwq_value.specs.declared.engine.Const.TheVariants as const
 use Rattle.nwq_value.specs.Engine.{const_type}
+use Rattle.nwq_value.specs.Operators.{as_int, is_zero, values_eq}
 use Rattle.ncs_code.specs.Plain.{PlainOp}
 use Rattle.ncs_emit.specs.declared.jump.Jump.TheVariants.{Jmp}
 use Rattle.ncs_emit.specs.Labelled.{Line, JumpTo, Label, line_size, lines_size}
 use Rattle.ncs_emit.specs.Standing.{LinesStand}
 use Rattle.typing_rules.specs.Typed.{TypedExpr, TypedStmt, TypedStmts, type_of}
+use Rattle.typing_rules.specs.Cells.{Structs, cell_types}
 use Rattle.saved_state.specs.declared.cell.Cell.{Cell}
 use Rattle.saved_state.specs.declared.cell.Cell.TheVariants.{Value as Holds}
 use Rattle.saved_state.specs.declared.saved.Saved.{Saved}
-use Rattle.emission_rules.specs.Layout.{Layout, Structs, cell_types, position, declared_cells, all_declared_cells}
+use Rattle.emission_rules.specs.Layout.{Layout, position, declared_cells, all_declared_cells}
 use Rattle.emission_rules.specs.Operations.{dropped, constant}
 use Rattle.emission_rules.specs.Expressions.{emit, labels}
 use Rattle.emission_rules.specs.Statements.{Exits, in_switch, is_label, is_default, count_labels, behind, test_of, tests, otherwise, stmt_labels, emit_stmt, emit_stmts}
 use Rattle.world_rules.specs.Pure.{CellLookup}
 use Rattle.world_rules.specs.World.{World}
-use Rattle.machine_rules.specs.Operators.{as_int, is_zero}
-use Rattle.machine_rules.specs.Values.{values_eq}
 use Rattle.machine_rules.specs.Cells.{value_types}
 use Rattle.machine_rules.specs.Laws.{EqualityIsTested}
 use Rattle.machine_rules.specs.Machine.{Goes, step}

@@ -17,12 +17,12 @@ use Rattle.ncs_emit.specs.Labelled.{JumpTo, lines_size}
 use Rattle.ncs_emit.specs.Standing.{LinesStand}
 use Rattle.typing_rules.specs.declared.places.Callee.TheVariants.{Unit as InUnit}
 use Rattle.typing_rules.specs.Typed.{TypedExpr, TypedExprs, TypedParameter, call, no_typed, more_typed, type_of}
+use Rattle.typing_rules.specs.Cells.{Structs, cell_types, is_captured}
 use Rattle.saved_state.specs.declared.cell.Cell.{Cell}
 use Rattle.saved_state.specs.declared.saved.Saved.{Saved}
 use Rattle.emission_rules.specs.Bounds.{IsCell}
-use Rattle.emission_rules.specs.Layout.{Structs, cell_types}
 use Rattle.emission_rules.specs.Operations.{started}
-use Rattle.emission_rules.specs.Expressions.{constants, is_captured, emit_all}
+use Rattle.emission_rules.specs.Expressions.{constants, emit_all}
 use Rattle.world_rules.specs.Pure.{CellLookup}
 use Rattle.world_rules.specs.World.{World}
 use Rattle.machine_rules.specs.Act.{act, Moves}

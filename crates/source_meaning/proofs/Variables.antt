@@ -10,8 +10,9 @@ use Rattle.nwq_value.specs.Values.{type_of as type_of_value}
 use Rattle.nwq_value.specs.Engine.{EngineTable}
 use Rattle.typing_rules.specs.declared.places.Place.TheVariants.{Local, Global, Const as IsConst}
 use Rattle.typing_rules.specs.Typed.{TypedExpr, literal, name, call, member, prefix, postfix, binary, assign, type_of, is_place}
+use Rattle.typing_rules.specs.Cells.{cell_types}
 use Rattle.saved_state.specs.declared.cell.Cell.{Cell}
-use Rattle.emission_rules.specs.Layout.{cell_types, position}
+use Rattle.emission_rules.specs.Layout.{position}
 use Rattle.emission_rules.specs.Expressions.{Home, InFrame, InGlobals, moved, home}
 use Rattle.machine_rules.specs.Cells.{value_types}
 use Rattle.source_meaning.specs.Values.{parts_of, with_parts}

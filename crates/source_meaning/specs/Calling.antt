@@ -11,12 +11,12 @@ use Rattle.ncs_code.specs.Plain as ops
 use Rattle.ncs_code.specs.File.{resume_place}
 use Rattle.ncs_emit.specs.Labelled.{Instruction}
 use Rattle.ncs_emit.specs.Standing.{LinesStand}
+use Rattle.typing_rules.specs.Cells.{Structs, cell_types, is_captured}
 use Rattle.saved_state.specs.declared.cell.Cell.{Cell}
 use Rattle.saved_state.specs.declared.saved.Saved.{Saved}
 use Rattle.saved_state.specs.Cells.{captured}
 use Rattle.stack_shape.specs.Calls.{argument_types, result_types, is_callable}
-use Rattle.emission_rules.specs.Layout.{Structs, cell_types}
-use Rattle.emission_rules.specs.Expressions.{is_captured, emit}
+use Rattle.emission_rules.specs.Expressions.{emit}
 use Rattle.world_rules.specs.Pure.{CellLookup}
 use Rattle.world_rules.specs.World.{World}
 use Rattle.world_rules.specs.Engine.{engine}

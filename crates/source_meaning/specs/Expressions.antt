@@ -16,8 +16,8 @@ use Rattle.typing_rules.specs.declared.places.Place.TheVariants.{Local, Global, 
 use Rattle.typing_rules.specs.declared.places.Callee.{Callee}
 use Rattle.typing_rules.specs.declared.places.Callee.TheVariants.{Unit as InUnit, Engine}
 use Rattle.typing_rules.specs.Typed.{TypedExpr, TypedExprs, literal, name, call, member, prefix, postfix, binary, assign, no_typed, more_typed}
-use Rattle.emission_rules.specs.Layout.{Structs, cell_types, cells}
-use Rattle.emission_rules.specs.Expressions.{Shortcut, WhereTrue, WhereFalse, Never, shortcut, is_captured}
+use Rattle.typing_rules.specs.Cells.{Structs, cell_types, cells, is_captured}
+use Rattle.emission_rules.specs.Expressions.{Shortcut, WhereTrue, WhereFalse, Never, shortcut}
 use Rattle.world_rules.specs.Pure.{CellLookup}
 use Rattle.world_rules.specs.Rows.{Answered}
 use Rattle.world_rules.specs.Engine.{engine}

@@ -11,8 +11,7 @@ use Rattle.typing_rules.specs.declared.places.Callee.{Callee}
 use Rattle.typing_rules.specs.declared.places.Callee.TheVariants.{Unit as InUnit, Engine}
 use Rattle.typing_rules.specs.Types.{binary_type, assigned_type}
 use Rattle.typing_rules.specs.Typed.{TypedExpr, TypedExprs, TypedParameter, literal, name, call, member, prefix, postfix, binary, assign, no_typed, more_typed, type_of, is_place}
-use Rattle.emission_rules.specs.Layout.{Structs, cell_types, cells}
-use Rattle.emission_rules.specs.Expressions.{is_captured}
+use Rattle.typing_rules.specs.Cells.{Structs, cell_types, cells, is_captured}
 use Rattle.stack_shape.specs.Calls.{is_action, is_callable, action_count, result_types}
 use Rattle.source_meaning.specs.Expressions.{is_step}
 use Rattle.source_meaning.specs.Scripts.{Function}

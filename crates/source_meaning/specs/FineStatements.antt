@@ -6,8 +6,9 @@ use Rattle.nwq_value.specs.declared.value.Ty.TheVariants.{Void, Int}
 use Rattle.nwq_value.specs.Engine.{EngineTable, const_type}
 use Rattle.typing_rules.specs.Typed.{TypedExpr, TypedName, TypedStmt, TypedStmts, type_of}
 use Rattle.std.specs.List.{AllByRecursion}
+use Rattle.typing_rules.specs.Cells.{cell_types, cells}
 use Rattle.emission_rules.specs.Bounds.{IsCell}
-use Rattle.emission_rules.specs.Layout.{cell_types, cells, position, declared_cells}
+use Rattle.emission_rules.specs.Layout.{position, declared_cells}
 use Rattle.emission_rules.specs.Statements.{is_label}
 use Rattle.source_meaning.specs.Scripts.{Function}
 use Rattle.source_meaning.specs.Kept.{Site}

@@ -9,10 +9,11 @@ use Rattle.source_meaning.specs.FineStatements.{AreFineStmts}
 use Rattle.nwq_value.specs.declared.value.Ty.{Ty}
 use Rattle.nwq_value.specs.declared.value.Value.{Value}
 use Rattle.typing_rules.specs.Typed.{TypedExpr, TypedParameter}
+use Rattle.typing_rules.specs.Cells.{cell_types}
 use Rattle.world_rules.specs.Pure.{CellLookup}
 use Rattle.saved_state.specs.declared.cell.Cell.{Cell}
 use Rattle.saved_state.specs.declared.saved.Saved.{Saved}
-use Rattle.emission_rules.specs.Layout.{cell_types, params_cells, position}
+use Rattle.emission_rules.specs.Layout.{params_cells, position}
 use Rattle.machine_rules.specs.Cells.{value_types}
 use Rattle.source_meaning.specs.Values.{start_parts}
 use Rattle.source_meaning.specs.Evaluation.{no_variables, Deferred, Progress}

@@ -3,10 +3,11 @@ use Rattle.std.specs.Prelude.{◌≡◌, ◌≤◌, ◌⊎◌, ℕ, ◌+◌, Lis
 use Rattle.nwq_value.specs.declared.value.Ty.{Ty}
 use Rattle.nwq_value.specs.declared.value.Value.{Value}
 use Rattle.ncs_code.specs.Plain.{PlainOp}
+use Rattle.typing_rules.specs.Cells.{cell_types, cells}
 use Rattle.saved_state.specs.declared.cell.Cell.{Cell}
 use Rattle.saved_state.specs.declared.cell.Cell.TheVariants.{Value as Holds, Base}
 use Rattle.saved_state.specs.declared.saved.Saved.{Saved}
-use Rattle.emission_rules.specs.Layout.{Layout, cell_types, cells, position}
+use Rattle.emission_rules.specs.Layout.{Layout, position}
 use Rattle.world_rules.specs.World.{World}
 use Rattle.world_rules.specs.Alike.{Alike}
 use Rattle.machine_rules.specs.Frames.{Frame}

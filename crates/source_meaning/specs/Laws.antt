@@ -4,7 +4,7 @@ use Rattle.nss_tree.specs.Statements.{block, empty, expression, if_only, if_else
 use Rattle.nwq_value.specs.declared.value.Ty.{Ty}
 use Rattle.typing_rules.specs.declared.places.Callee.TheVariants.{Unit as InUnit, Engine}
 use Rattle.typing_rules.specs.Typed.{TypedExpr, TypedExprs, TypedName, TypedStmt, TypedStmts, literal, name, call, member, prefix, postfix, binary, assign, no_typed, more_typed}
-use Rattle.emission_rules.specs.Expressions.{is_captured}
+use Rattle.typing_rules.specs.Cells.{is_captured}
 use Rattle.world_rules.specs.Pure.{CellLookup}
 use Rattle.machine_rules.specs.Frames.{Frame}
 use Rattle.source_meaning.specs.Expressions.{Caller}

@@ -11,7 +11,7 @@ use Rattle.nwq_value.specs.Engine.{EngineTable}
 use Rattle.typing_rules.specs.declared.places.EntryPoint.{EntryPoint}
 use Rattle.typing_rules.specs.declared.places.EntryPoint.TheVariants.{Main, Conditional}
 use Rattle.typing_rules.specs.Typed.{TypedParameter, TypedStmts, TypedName, TypedItem, TypedUnit}
-use Rattle.emission_rules.specs.Layout.{structs_from, cell_types}
+use Rattle.typing_rules.specs.Cells.{structs_from, cell_types}
 use Rattle.world_rules.specs.Pure.{CellLookup}
 use Rattle.world_rules.specs.World.{World}
 use Rattle.world_rules.specs.Engine.{may_run, no_script, too_deep}

@@ -5,9 +5,9 @@ use Rattle.nwq_value.specs.declared.value.Value.{Value}
 use Rattle.typing_rules.specs.Typed.{TypedExpr, type_of}
 use Rattle.ncs_emit.specs.Labelled.{lines_size}
 use Rattle.ncs_emit.specs.Standing.{LinesStand}
+use Rattle.typing_rules.specs.Cells.{cell_types}
 use Rattle.saved_state.specs.declared.cell.Cell.{Cell}
 use Rattle.saved_state.specs.declared.saved.Saved.{Saved}
-use Rattle.emission_rules.specs.Layout.{cell_types}
 use Rattle.emission_rules.specs.Expressions.{emit}
 use Rattle.world_rules.specs.Pure.{CellLookup}
 use Rattle.machine_rules.specs.Cells.{value_types}

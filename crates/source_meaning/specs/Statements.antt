@@ -4,9 +4,9 @@ use Rattle.nss_tree.specs.Statements.{block, empty, expression, if_only, if_else
 use Rattle.nwq_value.specs.declared.value.Ty.{Ty}
 use Rattle.nwq_value.specs.declared.value.Value.{Value}
 use Rattle.nwq_value.specs.declared.value.Value.TheVariants.{Int}
+use Rattle.nwq_value.specs.Operators.{values_eq}
 use Rattle.typing_rules.specs.Typed.{TypedExpr, TypedName, TypedStmt, TypedStmts}
-use Rattle.emission_rules.specs.Layout.{cell_types}
-use Rattle.machine_rules.specs.Values.{values_eq}
+use Rattle.typing_rules.specs.Cells.{cell_types}
 use Rattle.source_meaning.specs.Values.{constant_value, is_true}
 use Rattle.source_meaning.specs.Evaluation.{Progress, Outcome, Gives, OutOfSteps, bind, spend, chosen, with_variable}
 use Rattle.source_meaning.specs.Expressions.{Running, Caller, made, eval}

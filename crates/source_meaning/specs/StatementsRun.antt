@@ -5,9 +5,10 @@ use Rattle.nwq_value.specs.declared.value.Value.{Value}
 use Rattle.typing_rules.specs.Typed.{TypedStmt}
 use Rattle.ncs_emit.specs.Labelled.{lines_size}
 use Rattle.ncs_emit.specs.Standing.{LinesStand}
+use Rattle.typing_rules.specs.Cells.{cell_types}
 use Rattle.saved_state.specs.declared.cell.Cell.{Cell}
 use Rattle.saved_state.specs.declared.saved.Saved.{Saved}
-use Rattle.emission_rules.specs.Layout.{cell_types, position, declared_cells}
+use Rattle.emission_rules.specs.Layout.{position, declared_cells}
 use Rattle.emission_rules.specs.Statements.{Exits, emit_stmt}
 use Rattle.world_rules.specs.Pure.{CellLookup}
 use Rattle.machine_rules.specs.Cells.{value_types}

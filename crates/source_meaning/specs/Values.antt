@@ -16,8 +16,7 @@ use Rattle.nwq_value.specs.declared.engine.Const.{Const}
 use Rattle.nwq_value.specs.declared.engine.Const.TheVariants as const
 use Rattle.nwq_value.specs.Values.{start_value}
 use Rattle.nwq_value.specs.Limits.{text_limit}
-use Rattle.machine_rules.specs.Operators.{as_int, is_zero, both, either, negation, bits_and, bits_or, bits_xor, complement, shift_left, shift_right, shift_right_unsigned, sum, difference, product, quotient, remainder, opposite, less, less_or_equal, greater, greater_or_equal}
-use Rattle.machine_rules.specs.Values.{joined_texts, values_eq}
+use Rattle.nwq_value.specs.Operators.{as_int, is_zero, both, either, negation, bits_and, bits_or, bits_xor, complement, shift_left, shift_right, shift_right_unsigned, sum, difference, product, quotient, remainder, opposite, less, less_or_equal, greater, greater_or_equal, joined_texts, values_eq}
 
 -- ---- constants and starting values
 

@@ -25,8 +25,9 @@ use Rattle.typing_rules.specs.Meaning.{TypesNames, TypesFields, TypesLines, Type
 use Rattle.typing_rules.specs.Meaning as rules
 use Rattle.typing_rules.specs.Verdicts.{after_names, line_type, struct_verdict, struct_members, constant_meaning, constant_name_verdict, parameter_declared, late_after, after_params, in_function, in_body, after_item}
 use Rattle.typing_rules.specs.Laws.{ItemsAreRight}
+use Rattle.typing_rules.specs.Cells.{Structs, cell_types, cells, line_cells, structs_from}
 use Rattle.emission_rules.specs.Bounds.{IsCell}
-use Rattle.emission_rules.specs.Layout.{Structs, cell_types, cells, line_cells, structs_from, params_cells, names_cells, item_cells, params_positions, names_positions, all_positions, body_positions, item_positions, items_positions, position}
+use Rattle.emission_rules.specs.Layout.{params_cells, names_cells, item_cells, params_positions, names_positions, all_positions, body_positions, item_positions, items_positions, position}
 use Rattle.stack_shape.specs.Calls.{action_count}
 use Rattle.source_meaning.specs.Scripts.{Function, functions, global_names}
 use Rattle.source_meaning.specs.Kept.{Site, In}

@@ -23,7 +23,8 @@ use Rattle.typing_rules.specs.Meaning.{TypesValue, TypesNames, VariableParts, Ty
 use Rattle.typing_rules.specs.Meaning as rules
 use Rattle.typing_rules.specs.Verdicts as verdicts
 use Rattle.typing_rules.specs.Verdicts.{line_type, after, afters, after_then, constant_value}
-use Rattle.emission_rules.specs.Layout.{Structs, cells, position, declared_cells, names_positions, positions, all_positions}
+use Rattle.typing_rules.specs.Cells.{Structs, cells}
+use Rattle.emission_rules.specs.Layout.{position, declared_cells, names_positions, positions, all_positions}
 use Rattle.emission_rules.specs.Statements.{is_label}
 use Rattle.stack_shape.specs.Calls.{action_count}
 use Rattle.source_meaning.specs.Scripts.{Function}
