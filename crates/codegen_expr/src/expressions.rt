@@ -7,6 +7,7 @@ ghost use Rattle.ncs_code.specs.Spelling.{HasRow};
 ghost use Rattle.typing_rules.specs.Reading.{plain, plain_all};
 ghost use Rattle.typing_rules.specs.Typed as typed;
 ghost use Rattle.typing_rules.specs.Typed.{type_of};
+ghost use Rattle.typing_rules.specs.Cells.{cells, is_captured};
 ghost use Rattle.emission_rules.specs.Bounds.{
   IsCallee,
   IsExpr,
@@ -14,7 +15,6 @@ ghost use Rattle.emission_rules.specs.Bounds.{
   IsType,
   depth_limit,
   weight,
-ghost use Rattle.typing_rules.specs.Cells.{cells, is_captured};
 };
 ghost use Rattle.emission_rules.specs.Operations as operations;
 ghost use Rattle.emission_rules.specs.Expressions as code;
