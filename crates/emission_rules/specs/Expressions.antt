@@ -20,7 +20,7 @@ use Rattle.typing_rules.specs.declared.places.Place.TheVariants.{Local, Global, 
 use Rattle.typing_rules.specs.declared.places.Callee.{Callee}
 use Rattle.typing_rules.specs.declared.places.Callee.TheVariants.{Unit as InUnit, Engine}
 use Rattle.typing_rules.specs.Typed.{TypedExpr, TypedExprs, literal, name, call, member, prefix, postfix, binary, assign, no_typed, more_typed, type_of}
-use Rattle.typing_rules.specs.Cells.{cell_types, cells}
+use Rattle.typing_rules.specs.Cells.{cell_types, cells, is_captured}
 use Rattle.emission_rules.specs.Layout.{Layout, position}
 use Rattle.emission_rules.specs.Operations.{bytes_of, beneath, top_again, constant, int_constant, started, operation, combination}
 
