@@ -9,9 +9,9 @@ use Rattle.module_player.specs.CodePlays.{code_runner, code_play, code_end_text}
 use Rattle.source_meaning.specs.Evaluation.{Deferred}
 use Rattle.source_meaning.specs.Scripts.{Listed, Setting}
 use Rattle.source_meaning.specs.Plays.{source_play}
-use Rattle.source_meaning.specs.Ledger.{MachineHost, step_cost}
-use Rattle.source_meaning.specs.Carries.{Carries}
-use Rattle.source_meaning.specs.Executing.{script_of}
+use Rattle.source_laws.specs.Ledger.{MachineHost, step_cost}
+use Rattle.source_laws.specs.Carries.{Carries}
+use Rattle.source_laws.specs.Executing.{script_of}
 use Rattle.play_meaning.specs.Together.{PlayEnds, PlayStops, PlaysAlike}
 use Rattle.play_meaning.specs.EndTexts.{source_end_text}
 use Rattle.command_plays.specs.Plays.{host_of}

@@ -15,7 +15,7 @@ use Rattle.module_player.specs.CodePlays.{code_runner, code_end_text}
 use Rattle.source_meaning.specs.Evaluation.{Deferred}
 use Rattle.source_meaning.specs.Scripts.{Setting}
 use Rattle.source_meaning.specs.Plays.{source_play}
-use Rattle.source_meaning.specs.Carries.{Carries}
+use Rattle.source_laws.specs.Carries.{Carries}
 use Rattle.play_meaning.specs.Together.{Begins, PlaysAlike, StoppedAt}
 use Rattle.play_meaning.specs.EndTexts.{source_end_text}
 use Rattle.command_work.specs.declared.status.Status.{Status}

@@ -20,7 +20,7 @@ use Rattle.typing_rules.specs.Typed as e
 use Rattle.typing_rules.specs.Cells.{is_captured}
 use Rattle.stack_shape.specs.Calls.{is_action, is_callable}
 use Rattle.source_meaning.specs.Scripts.{Function, functions}
-use Rattle.source_meaning.specs.Fine.{IsArgument, CallsFunction, CallsRoutine, IsFine}
+use Rattle.source_laws.specs.Fine.{IsArgument, CallsFunction, CallsRoutine, IsFine}
 use Rattle.emission_laws.specs.WellTyped.{site, IsFineFunction, IsWellTyped}
 
 abbrev stmts : List TypedStmt → TypedStmts

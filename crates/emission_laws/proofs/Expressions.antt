@@ -42,9 +42,9 @@ use Rattle.stack_shape.specs.Stored.{stored_types}
 use Rattle.stack_shape.specs.Rule.{affected, rule, called}
 use Rattle.stack_rules.specs.Tables.{Callee}
 use Rattle.source_meaning.specs.Scripts.{Function}
-use Rattle.source_meaning.specs.Kept.{Site, In}
-use Rattle.source_meaning.specs.Laws.{CallsEngine, AllCallEngine}
-use Rattle.source_meaning.specs.Fine.{AreParts, argument_type, argument_types, AreValues, AreSingle, IsArgument, parameter_type, CallsFunction, CallsRoutine, IsFine, AreFine}
+use Rattle.source_laws.specs.Kept.{Site, In}
+use Rattle.source_laws.specs.Laws.{CallsEngine, AllCallEngine}
+use Rattle.source_laws.specs.Fine.{AreParts, argument_type, argument_types, AreValues, AreSingle, IsArgument, parameter_type, CallsFunction, CallsRoutine, IsFine, AreFine}
 use Rattle.emission_laws.specs.Spots.{Resumes, Spot, GoesStraight}
 use Rattle.emission_laws.proofs.Cells.{Ground, over, spot_over, affects, exchanged, Seen, seen_over, seen_part, stored_there, on_top}
 use Rattle.emission_laws.proofs.Ops.{of_int_types, of_sum_types, same_is, Sees, Turns, const_turns, int_turns, started_turns, read_turns, write_turns, increment_turns, decrement_turns, again_turns, cut_turns, negate_turns, complement_turns, not_turns, operation_turns}

@@ -25,10 +25,10 @@ use Rattle.stack_shape.specs.StackEffects.{no_effect, where_alike, written, stac
 use Rattle.stack_shape.specs.Rule.{rule}
 use Rattle.stack_rules.specs.Tables.{Callee}
 use Rattle.source_meaning.specs.Scripts.{Function}
-use Rattle.source_meaning.specs.Kept.{Site, In}
-use Rattle.source_meaning.specs.Laws.{CallsEngine}
-use Rattle.source_meaning.specs.Fine.{IsFine}
-use Rattle.source_meaning.specs.FineStatements.{after_names, after_stmt, DeclaresNothing, IsFineValue, IsFineMaybe, IsFineTest, AreFineNames, IsFineReturn, IsFineStmt, AreFineStmts}
+use Rattle.source_laws.specs.Kept.{Site, In}
+use Rattle.source_laws.specs.Laws.{CallsEngine}
+use Rattle.source_laws.specs.Fine.{IsFine}
+use Rattle.source_laws.specs.FineStatements.{after_names, after_stmt, DeclaresNothing, IsFineValue, IsFineMaybe, IsFineTest, AreFineNames, IsFineReturn, IsFineStmt, AreFineStmts}
 use Rattle.emission_laws.specs.WellTyped.{LabelsFirst, FitsSwitches, AllFitSwitches, SomeCallsEngine, NamesCallEngine}
 use Rattle.emission_laws.specs.Spots.{Runs, Spot}
 use Rattle.emission_laws.proofs.Cells.{Ground, spot_over, affects, Seen, seen_over, types_there, drop_there, range_there, alike}

@@ -30,9 +30,9 @@ use Rattle.stack_shape.specs.Rule.{rule}
 use Rattle.stack_rules.specs.Tables.{Callee}
 use Rattle.stack_rules.specs.Rules.{WellStacked}
 use Rattle.source_meaning.specs.Scripts.{Function, functions, global_names}
-use Rattle.source_meaning.specs.Kept.{Site, In}
-use Rattle.source_meaning.specs.FineStatements.{after_names}
-use Rattle.source_meaning.specs.FunctionsRun.{AreParameters, parameter_scope}
+use Rattle.source_laws.specs.Kept.{Site, In}
+use Rattle.source_laws.specs.FineStatements.{after_names}
+use Rattle.source_laws.specs.FunctionsRun.{AreParameters, parameter_scope}
 use Rattle.emission_laws.specs.WellTyped.{site, start_site, IsBegin, IsFineEntry, IsWellTyped}
 use Rattle.emission_laws.specs.Spots.{Starts, Runs, Spot}
 use Rattle.emission_laws.specs.Table.{table_of, first_spot}

@@ -10,11 +10,11 @@ use Rattle.typing_rules.specs.Typed.{TypedExpr, TypedName, TypedStmt, TypedStmts
 use Rattle.emission_rules.specs.Layout.{layout_of, params_cells}
 use Rattle.emission_rules.specs.Statements.{count_labels}
 use Rattle.source_meaning.specs.Scripts.{Function, functions, global_names}
-use Rattle.source_meaning.specs.Kept.{Site}
-use Rattle.source_meaning.specs.Laws.{CallsEngine}
-use Rattle.source_meaning.specs.Carries.{unit_site}
-use Rattle.source_meaning.specs.FineStatements.{DeclaresNothing, AreFineNames, AreFineStmts}
-use Rattle.source_meaning.specs.FunctionsRun.{AreParameters, parameter_scope}
+use Rattle.source_laws.specs.Kept.{Site}
+use Rattle.source_laws.specs.Laws.{CallsEngine}
+use Rattle.source_laws.specs.Carries.{unit_site}
+use Rattle.source_laws.specs.FineStatements.{DeclaresNothing, AreFineNames, AreFineStmts}
+use Rattle.source_laws.specs.FunctionsRun.{AreParameters, parameter_scope}
 
 -- ---- the labels of a switch
 

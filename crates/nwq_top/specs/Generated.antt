@@ -11,9 +11,9 @@ use Rattle.world_rules.specs.EndText.{end_line}
 use Rattle.module_player.specs.CodePlays.{code_runner}
 use Rattle.source_meaning.specs.Evaluation.{Deferred}
 use Rattle.source_meaning.specs.Scripts.{Listed, Setting}
-use Rattle.source_meaning.specs.Ledger.{step_cost}
-use Rattle.source_meaning.specs.Carries.{Carries}
-use Rattle.source_meaning.specs.Executing.{script_of}
+use Rattle.source_laws.specs.Ledger.{step_cost}
+use Rattle.source_laws.specs.Carries.{Carries}
+use Rattle.source_laws.specs.Executing.{script_of}
 use Rattle.play_meaning.specs.Together.{Begins, PlaysAlike, StoppedAt}
 use Rattle.play_generator.specs.Made.{creatures_of, rounds_of, play_of}
 use Rattle.command_work.specs.declared.status.Status.{Status}

@@ -14,9 +14,9 @@ use Rattle.module_player.specs.CodePlays.{code_runner, code_end_text}
 use Rattle.source_meaning.specs.Evaluation.{Deferred}
 use Rattle.source_meaning.specs.Scripts.{Listed, Setting}
 use Rattle.source_meaning.specs.Plays.{source_play}
-use Rattle.source_meaning.specs.Ledger.{step_cost}
-use Rattle.source_meaning.specs.Carries.{Carries}
-use Rattle.source_meaning.specs.Executing.{script_of}
+use Rattle.source_laws.specs.Ledger.{step_cost}
+use Rattle.source_laws.specs.Carries.{Carries}
+use Rattle.source_laws.specs.Executing.{script_of}
 use Rattle.play_meaning.specs.Together.{Begins, PlaysAlike, StoppedAt}
 use Rattle.play_meaning.specs.EndTexts.{source_end_text}
 use Rattle.command_work.specs.declared.status.Status.{Status}

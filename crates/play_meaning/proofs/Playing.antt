@@ -5,8 +5,8 @@ use Rattle.world_rules.specs.World.{World}
 use Rattle.world_rules.specs.Turns.{Begun, begin}
 use Rattle.world_rules.specs.Alike.{Alike, BegunAlike}
 use Rattle.world_rules.specs.Plays.{Runner, Entered, Bounds, Progress, PlayEnd, Done, StoppedInside, Paused, Played, entered, further, full, after_entry, next_entry, plays, unplayed, play}
-use Rattle.source_meaning.specs.StayAlike.{EntriesStayAlike}
-use Rattle.source_meaning.specs.Ledger.{step_cost}
+use Rattle.source_laws.specs.StayAlike.{EntriesStayAlike}
+use Rattle.source_laws.specs.Ledger.{step_cost}
 use Rattle.play_meaning.specs.Together.{Begins, RunEnds, RunStops, RunnersAre, PlaysAlike, PlayEnds, PlayStops}
 use Rattle.play_meaning.proofs.Beginnings.{whole_begins, longer_begins, begins_then, behind_begins}
 use Rattle.play_meaning.proofs.Entering.{EnteredAlike, EntryEnds, EntryStops, entries_go, finish_ends, quiet_ends, finish_stops, quiet_stops}

@@ -8,11 +8,11 @@ use Rattle.module_player.specs.CodePlays.{code_runner, code_play}
 use Rattle.source_meaning.specs.Evaluation.{Deferred}
 use Rattle.source_meaning.specs.Scripts.{Setting}
 use Rattle.source_meaning.specs.Plays.{source_play}
-use Rattle.source_meaning.specs.Ledger.{MachineHost, step_cost}
-use Rattle.source_meaning.specs.Carries.{Carries}
-use Rattle.source_meaning.specs.EngineHost.{AnswersAreTyped}
-use Rattle.source_meaning.specs.Executing.{IsHostOf}
-use Rattle.source_meaning.specs.Listed.{AreReady}
+use Rattle.source_laws.specs.Ledger.{MachineHost, step_cost}
+use Rattle.source_laws.specs.Carries.{Carries}
+use Rattle.source_laws.specs.EngineHost.{AnswersAreTyped}
+use Rattle.source_laws.specs.Executing.{IsHostOf}
+use Rattle.source_laws.specs.Listed.{AreReady}
 use Rattle.play_meaning.specs.Together.{PlayEnds, PlayStops}
 
 -- Where each entry of the play of source ends in n steps, the play of code whose entries may take 16 instructions for each of these ends as

@@ -5,7 +5,7 @@ use Rattle.world_rules.specs.World.{World}
 use Rattle.world_rules.specs.Turns.{Begun, begin}
 use Rattle.world_rules.specs.Alike.{Alike}
 use Rattle.world_rules.specs.Plays.{Stopped, Run, Runner, Progress, StoppedInside, Played, entered, further}
-use Rattle.source_meaning.specs.Ledger.{step_cost}
+use Rattle.source_laws.specs.Ledger.{step_cost}
 
 -- the one list is a beginning of the other, or all of it
 pub record Begins {A : Type 0} (part whole : List A) : Type 0 where

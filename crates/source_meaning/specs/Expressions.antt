@@ -1,14 +1,17 @@
 -- What an expression means in a running script: its value, with the steps that it takes and what it changes. Operands are evaluated left
 -- to right, arguments last to first.
-use Rattle.std.specs.Prelude.{ℕ, Bool, true, false, List, [], ◌∷◌, Option, None, Some, slice_get}
+use Rattle.std.specs.Prelude.{ℕ, ◌==◌, Bool, true, false, List, [], ◌∷◌, Option, None, Some, slice_get}
 use Rattle.std.specs.List.{flat_map}
 use Rattle.nss_tree.specs.declared.operators.PrefixOperator.{PrefixOperator}
 use Rattle.nss_tree.specs.declared.operators.PrefixOperator.TheVariants as pre
 use Rattle.nss_tree.specs.declared.operators.BinaryOperator.{BinaryOperator}
+use Rattle.nss_tree.specs.declared.operators.BinaryOperator.TheVariants as bin
 use Rattle.nwq_value.specs.declared.value.Ty.{Ty}
 use Rattle.nwq_value.specs.declared.value.Value.{Value}
 use Rattle.nwq_value.specs.declared.value.Value.TheVariants.{Text, Object}
 use Rattle.nwq_value.specs.declared.engine.Const.{Const}
+use Rattle.nwq_value.specs.declared.engine.Role.{Role}
+use Rattle.nwq_value.specs.declared.engine.Role.TheVariants.{Built}
 use Rattle.nwq_value.specs.declared.engine.Routine.{Routine}
 use Rattle.nwq_value.specs.Engine.{EngineTable}
 use Rattle.typing_rules.specs.declared.places.Place.{Place}
@@ -17,11 +20,9 @@ use Rattle.typing_rules.specs.declared.places.Callee.{Callee}
 use Rattle.typing_rules.specs.declared.places.Callee.TheVariants.{Unit as InUnit, Engine}
 use Rattle.typing_rules.specs.Typed.{TypedExpr, TypedExprs, literal, name, call, member, prefix, postfix, binary, assign, no_typed, more_typed}
 use Rattle.typing_rules.specs.Cells.{Structs, cell_types, cells, is_captured}
-use Rattle.emission_rules.specs.Expressions.{Shortcut, WhereTrue, WhereFalse, Never, shortcut}
 use Rattle.world_rules.specs.Pure.{CellLookup}
 use Rattle.world_rules.specs.Rows.{Answered}
 use Rattle.world_rules.specs.Engine.{engine}
-use Rattle.machine_rules.specs.Calls.{is_execute_script}
 use Rattle.source_meaning.specs.Values.{constant_value, start_part, parts_of, is_true, one_int, test_value, operate, divides_by_zero, applied, prefixed, postfixed}
 use Rattle.source_meaning.specs.Evaluation.{Deferred, Progress, Outcome, Gives, Divides, bind, spend, chosen}
 use Rattle.source_meaning.specs.Spots.{Spot, further, spot, read_at, written_at}
@@ -60,7 +61,14 @@ all_parts values = flat_map (λ parts. parts) values
 abbrev pub answered : Answered Deferred → Progress → Outcome (List Value)
 answered a p = Gives (parts_in a.value) (record p { world = a.world })
 
--- is it the routine that runs another script?
+-- ExecuteScript, the engine's own routine that runs another script at once
+abbrev pub execute_script : ℕ
+execute_script = 8
+
+abbrev pub is_execute_script : Role → Bool
+is_execute_script (Built n) = n == execute_script
+is_execute_script _ = false
+
 abbrev pub runs_script_in : Option Routine → Bool
 runs_script_in None = false
 runs_script_in (Some r) = is_execute_script r.role
@@ -134,13 +142,13 @@ operated self o v w write p = chosen (divides_by_zero o w) (λ q. Divides self q
 abbrev pub unwritten : List Value → Progress → Progress
 unwritten parts p = p
 
--- `||` and `&&` leave their right operand out where the left one decides
-abbrev pub combined : ℕ → BinaryOperator → Shortcut → (Progress → Outcome (List Value)) → (Progress → Outcome (List Value)) → Progress → Outcome (List Value)
-combined self o WhereTrue left right p = bind (left p) (λ v q. chosen (is_true v)
-    (λ r. spend r (λ s. Gives (test_value true) s)) (λ r. bind (right r) (λ w s. operated self o v w unwritten s)) q)
-combined self o WhereFalse left right p = bind (left p) (λ v q. chosen (is_true v)
-    (λ r. bind (right r) (λ w s. operated self o v w unwritten s)) (λ r. spend r (λ s. Gives (test_value false) s)) q)
-combined self o Never left right p = bind (left p) (λ v q. bind (right q) (λ w r. operated self o v w unwritten r))
+-- `&&` leaves its right operand out where the left one is 0, and `||` where it isn't.
+abbrev pub combined : ℕ → BinaryOperator → (Progress → Outcome (List Value)) → (Progress → Outcome (List Value)) → Progress → Outcome (List Value)
+combined self bin.And left right p = bind (left p) (λ v q. chosen (is_true v)
+    (λ r. bind (right r) (λ w s. operated self bin.And v w unwritten s)) (λ r. spend r (λ s. Gives (test_value false) s)) q)
+combined self bin.Or left right p = bind (left p) (λ v q. chosen (is_true v)
+    (λ r. spend r (λ s. Gives (test_value true) s)) (λ r. bind (right r) (λ w s. operated self bin.Or v w unwritten s)) q)
+combined self o left right p = bind (left p) (λ v q. bind (right q) (λ w r. operated self o v w unwritten r))
 
 abbrev pub write_there : Option Spot → List Value → Progress → Progress
 write_there None parts p = p
@@ -176,7 +184,7 @@ module _ (c : Running) (caller : Caller) where
     eval (member t x before) p = member_of (spot x) before (cells c.structs t) (λ q. eval x q) p
     eval (prefix t o x) p = before_operand o (is_step o) (spot x) (λ q. eval x q) p
     eval (postfix t o x) p = stepped (spot x) (one_int (postfixed o)) (λ old new. old) p
-    eval (binary t o x y) p = combined c.self o (shortcut o) (λ q. eval x q) (λ q. eval y q) p
+    eval (binary t o x y) p = combined c.self o (λ q. eval x q) (λ q. eval y q) p
     eval (assign t o x y) p = assigned c.self (applied o) (spot x) (cells c.structs t) (λ q. eval y q) p
 
     -- the arguments in front of these

@@ -15,7 +15,6 @@ use Rattle.typing_rules.specs.Cells.{structs_from, cell_types}
 use Rattle.world_rules.specs.Pure.{CellLookup}
 use Rattle.world_rules.specs.World.{World}
 use Rattle.world_rules.specs.Engine.{may_run, no_script, too_deep}
-use Rattle.machine_rules.specs.Machine.{depth_limit}
 use Rattle.source_meaning.specs.Values.{start_parts}
 use Rattle.source_meaning.specs.Evaluation.{Variables, no_variables, with_variable, Deferred, Progress, Outcome, Gives, OutOfSteps, bind, spend, chosen}
 use Rattle.source_meaning.specs.Expressions.{Running, Caller, made, eval}
@@ -146,6 +145,10 @@ executing s start self (b ∷ name) target p =
 abbrev pub started : Setting → ℕ → Starter
 started s zero script self p = listed_started s (executing s None) script self (slice_get s.scripts script) p
 started s (suc room) script self p = listed_started s (executing s (Some (started s room))) script self (slice_get s.scripts script) p
+
+-- how many scripts at most wait for one that they execute
+abbrev pub depth_limit : ℕ
+depth_limit = 8
 
 abbrev pub next_starter : Setting → ℕ → Option Starter
 next_starter s zero = None

@@ -28,8 +28,8 @@ use Rattle.stack_shape.specs.Calls as shape
 use Rattle.stack_shape.specs.Calls.{is_callable, is_uncallable, action_count, result_types}
 use Rattle.source_meaning.specs.Expressions as meaning
 use Rattle.source_meaning.specs.Scripts.{Function}
-use Rattle.source_meaning.specs.Kept.{Site, In}
-use Rattle.source_meaning.specs.Fine.{AreParts, argument_type, argument_types, AreValues, IsSingle, AreSingle, IsCall, IsFine, AreFine}
+use Rattle.source_laws.specs.Kept.{Site, In}
+use Rattle.source_laws.specs.Fine.{AreParts, argument_type, argument_types, AreValues, IsSingle, AreSingle, IsCall, IsFine, AreFine}
 use Rattle.typed_laws.proofs.Types.{same_type_is, int_is, action_is, IsValueType, IsField, AreStructs, all_found}
 use Rattle.typed_laws.proofs.Bodies.{when_is, both_are, not_is, DefaultFits, AreSignatureParams, AreHeads, first_is_head, AreBodies}
 

@@ -30,11 +30,11 @@ use Rattle.emission_rules.specs.Bounds.{IsCell}
 use Rattle.emission_rules.specs.Layout.{params_cells, names_cells, item_cells, params_positions, names_positions, all_positions, body_positions, item_positions, items_positions, position}
 use Rattle.stack_shape.specs.Calls.{action_count}
 use Rattle.source_meaning.specs.Scripts.{Function, functions, global_names}
-use Rattle.source_meaning.specs.Kept.{Site, In}
-use Rattle.source_meaning.specs.Carries.{type_of_name, type_of_parameter, all_declared_types, body_types, item_types, items_types}
-use Rattle.source_meaning.specs.FineStatements.{after_names as scope_after, AreFineNames, AreFineStmts}
-use Rattle.source_meaning.specs.FunctionsRun.{AreParameters, parameter_scope}
-use Rattle.source_meaning.specs.Starts.{making}
+use Rattle.source_laws.specs.Kept.{Site, In}
+use Rattle.source_laws.specs.Carries.{type_of_name, type_of_parameter, all_declared_types, body_types, item_types, items_types}
+use Rattle.source_laws.specs.FineStatements.{after_names as scope_after, AreFineNames, AreFineStmts}
+use Rattle.source_laws.specs.FunctionsRun.{AreParameters, parameter_scope}
+use Rattle.source_laws.specs.Starts.{making}
 use Rattle.typed_laws.proofs.Grammar.{HasName, HasField, IsMadeBody, AreMadeItems}
 use Rattle.typed_laws.proofs.Types.{IsValueType, IsStruct, AreStructs, IsDeclared, declared_is, result_is, void_is, struct_of, all_last}
 use Rattle.typed_laws.proofs.Bodies.{when_is, AreHeads, AreBodies, IsDeclaredHead, head_is, parameter_is}
