@@ -28,7 +28,8 @@ use Rattle.source_meaning.specs.Scripts.{Function}
 use Rattle.source_laws.specs.Kept.{Site, In}
 use Rattle.source_laws.specs.Laws.{CallsEngine}
 use Rattle.source_laws.specs.Fine.{IsFine}
-use Rattle.source_laws.specs.FineStatements.{after_names, after_stmt, DeclaresNothing, IsFineValue, IsFineMaybe, IsFineTest, AreFineNames, IsFineReturn, IsFineStmt, AreFineStmts}
+use Rattle.source_laws.specs.FineStatements.{DeclaresNothing, IsFineValue, IsFineMaybe, IsFineTest, AreFineNames, IsFineReturn, IsFineStmt, AreFineStmts}
+use Rattle.source_meaning.specs.Statements.{after_names, after_stmt}
 use Rattle.emission_laws.specs.WellTyped.{LabelsFirst, FitsSwitches, AllFitSwitches, SomeCallsEngine, NamesCallEngine}
 use Rattle.emission_laws.specs.Spots.{Runs, Spot}
 use Rattle.emission_laws.proofs.Cells.{Ground, spot_over, affects, Seen, seen_over, types_there, drop_there, range_there, alike}

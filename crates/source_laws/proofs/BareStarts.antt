@@ -95,7 +95,7 @@ plain_started : (c : Running) (u : TypedUnit) (f : ℕ) (p : Progress) → globa
     → unit_started c u p ≡ calls c (functions u.items) (suc p.left) f [] (globals_made (without_variables p))
 unfolding bind
 plain_started c u f p names entry =
-    ap (λ (ns : List TypedName). bind (declared c no_functions ns (without_variables p)) (λ flow q. entry_called (calling c (functions u.items) q) u.entry (globals_made q))) names
+    ap (λ (ns : List TypedName). bind (declared c no_functions [] ns (without_variables p)) (λ flow q. entry_called (calling c (functions u.items) q) u.entry (globals_made q))) names
     ∙ ap (λ (e : EntryPoint). entry_called (calling c (functions u.items) (without_variables p)) e (globals_made (without_variables p))) entry
 
 module _ (host : MachineHost) (R : Saved → Deferred → Type 0) (x : Site) (none : x.globals ≡ []) (bottom : x.bp ≡ 0) where
@@ -175,7 +175,7 @@ condition_started : (c : Running) (u : TypedUnit) (f : ℕ) (p : Progress) → g
     → unit_started c u p ≡ bind (made (Int ∷ []) (globals_made (without_variables p))) (λ parts q. calls c (functions u.items) (suc p.left) f [] q)
 unfolding bind
 condition_started c u f p names entry =
-    ap (λ (ns : List TypedName). bind (declared c no_functions ns (without_variables p)) (λ flow q. entry_called (calling c (functions u.items) q) u.entry (globals_made q))) names
+    ap (λ (ns : List TypedName). bind (declared c no_functions [] ns (without_variables p)) (λ flow q. entry_called (calling c (functions u.items) q) u.entry (globals_made q))) names
     ∙ ap (λ (e : EntryPoint). entry_called (calling c (functions u.items) (without_variables p)) e (globals_made (without_variables p))) entry
 
 one_made : (p : Progress) → made (Int ∷ []) p ≡ spend p (λ q. Gives (start_part Int ∷ []) q)

@@ -68,7 +68,6 @@ captures_are_carried s host tables execute script self waiting l same is scope s
       is = is;
       label = n;
       stands = subst (λ d. LinesStand x.code x.places (resume_place place) (emit x.layout n d e ++ Instruction ops.Retn ∷ [])) (sym count) stands;
-      scope = scope;
       fine = λ other others. fine_elsewhere script l.unit self waiting other others s.table (functions l.unit.items) scope e
           (subst (λ t. IsFine t (functions l.unit.items) x scope e) same fine);
       locals = λ other others. subst (λ t. Vars (unit_site script l.unit other others) scope t p.locals) (sym locals_are)

@@ -251,7 +251,7 @@ module _ (host : MachineHost) (R : Saved → Deferred → Type 0) (tested : Equa
       (scope : List ℕ) (size n depth place c : ℕ) (a : Arguments) (p : Progress) (K : Kept R x scope size p.globals p.locals p.world) (base between : List Cell) (calls : List ℕ) (pending : List Saved)
       → AreFine host.table functions x scope es → LinesStand x.code x.places place (emit_all x.layout n depth es) → length (pushed_all a.values base) + size ≡ depth → p.left ≤ most → AreHeld base → actions_in es ≤ 1
       → Sim host R (HasArguments scope size es a pending) (arguments_place scope size es a (place + lines_size (emit_all x.layout n depth es)) base between calls pending)
-      p.left c (spot_at R x place (pushed_all a.values base) between calls pending K) (λ b. spare es c) (evals here caller es a p)
+      p.left c (spot_at R x place (pushed_all a.values base) between calls pending K) (λ b. spare es c) (evals here caller scope es a p)
 
   none_run : ArgumentsRun no_typed
   unfolding spare
@@ -267,12 +267,12 @@ module _ (host : MachineHost) (R : Saved → Deferred → Type 0) (tested : Equa
       (base between : List Cell) (calls : List ℕ) → Runs e → is_captured e ≡ false → IsFine host.table functions x scope e → LinesStand x.code x.places place (emit x.layout label depth e) → place + lines_size (emit x.layout label depth e) ≡ next
       → length (pushed_all b.values base) + size ≡ depth → q.left ≤ most → AreHeld base
       → Sim host R (HasArguments scope size (more_typed e es) a pending) (arguments_place scope size (more_typed e es) a next base between calls pending)
-      q.left c (spot_at R x place (pushed_all b.values base) between calls h.now h.kept) (λ d. suc c) (argument here false e (λ r. eval here caller e r) b q)
+      q.left c (spot_at R x place (pushed_all b.values base) between calls h.now h.kept) (λ d. suc c) (argument here scope false e (λ r. eval here caller scope e r) b q)
   value_case e es a b pending scope size label depth place next c q h base between calls re plain fine stands goes deep le held =
       let B = HasArguments scope size (more_typed e es) a pending in
       sim_bind host R (HoldsValue R x scope size (type_of e)) (value_place R x scope size (type_of e) (place + lines_size (emit x.layout label depth e)) (pushed_all b.values base) between calls h.now)
       B (arguments_place scope size (more_typed e es) a next base between calls pending)
-      q.left c (spot_at R x place (pushed_all b.values base) between calls h.now h.kept) (value_credits c) (λ d. suc c) (eval here caller e q) (λ parts r. Gives (with_argument parts b) r)
+      q.left c (spot_at R x place (pushed_all b.values base) between calls h.now h.kept) (value_credits c) (λ d. suc c) (eval here caller scope e q) (λ parts r. Gives (with_argument parts b) r)
       (re scope size label depth place c q h.kept (pushed_all b.values base) between calls h.now fine stands deep le (held_all b.values base held))
       (λ v r k less.
       let counts : (m : ℕ) → actions_in (more_typed e es) ≡ m → actions_in es ≡ m = λ m is. no_more (actions_in es) ∙ ap (λ (t : Bool). one_if t + actions_in es) (sym plain) ∙ is in (
@@ -297,7 +297,7 @@ module _ (host : MachineHost) (R : Saved → Deferred → Type 0) (tested : Equa
       → LinesStand x.code x.places place (argument_code x.layout here_label depth true (emit x.layout label depth e)) → place + lines_size (argument_code x.layout here_label depth true (emit x.layout label depth e)) ≡ next
       → length (pushed_all b.values base) + size ≡ depth → AreHeld base → actions_in (more_typed e es) ≤ 1
       → Sim host R (HasArguments scope size (more_typed e es) a pending) (arguments_place scope size (more_typed e es) a next base between calls pending)
-      q.left c (spot_at R x place (pushed_all b.values base) between calls h.now h.kept) (λ d. suc c) (argument here true e (λ r. eval here caller e r) b q)
+      q.left c (spot_at R x place (pushed_all b.values base) between calls h.now h.kept) (λ d. suc c) (argument here scope true e (λ r. eval here caller scope e r) b q)
   action_case e es a b pending scope size label here_label depth place next c q h base between calls captures action fine full stands goes deep held few =
       let value = emit x.layout label depth e in
       let retn = Instruction ops.Retn ∷ [] in
@@ -318,7 +318,7 @@ module _ (host : MachineHost) (R : Saved → Deferred → Type 0) (tested : Equa
       let rest_none : actions_in es ≡ 0 = let all = ap (λ (t : Bool). one_if t + actions_in es) action in omega (arith, all, few) in
       let before = h.none rest_none in
       sim_paid host R (HasArguments scope size (more_typed e es) a pending) (arguments_place scope size (more_typed e es) a next base between calls pending) c s0 (λ d. suc c) q
-      (λ r. Gives (record b { action = Some (deferred here e r) }) r) K.alike
+      (λ r. Gives (record b { action = Some (deferred here scope e r) }) r) K.alike
       (λ m left.
       let r = record q { left = m } in (
         s1,
@@ -331,7 +331,7 @@ module _ (host : MachineHost) (R : Saved → Deferred → Type 0) (tested : Equa
             none = λ is. absurd (let all = ap (λ (t : Bool). one_if t + actions_in es) action in omega (arith, all, is));
             one = λ is. record {
               saved = saved;
-              deferred = deferred here e r;
+              deferred = deferred here scope e r;
               is = refl;
               stored = ap (λ ps. saved ∷ ps) before.1;
               carries = captures scope size label depth place e r K temps between fine with_retn deep temps_held full;
@@ -353,7 +353,7 @@ module _ (host : MachineHost) (R : Saved → Deferred → Type 0) (tested : Equa
       → place + lines_size (argument_code x.layout first depth t (emit x.layout (second + argument_labels t) depth e)) ≡ next
       → length (pushed_all b.values base) + size ≡ depth → q.left ≤ most → AreHeld base → actions_in (more_typed e es) ≤ 1
       → Sim host R (HasArguments scope size (more_typed e es) a pending) (arguments_place scope size (more_typed e es) a next base between calls pending)
-      q.left c (spot_at R x place (pushed_all b.values base) between calls h.now h.kept) (λ d. suc c) (argument here t e (λ r. eval here caller e r) b q)
+      q.left c (spot_at R x place (pushed_all b.values base) between calls h.now h.kept) (λ d. suc c) (argument here scope t e (λ r. eval here caller scope e r) b q)
   argument_case true e es a b pending scope size first second depth place next c q h base between calls captures re is fine fits stands goes deep le held few =
       action_case e es a b pending scope size (second + argument_labels true) first depth place next c q h base between calls captures is fine (fits.made is) stands goes deep held few
   argument_case false e es a b pending scope size first second depth place next c q h base between calls captures re is fine fits stands goes deep le held few =
@@ -376,7 +376,7 @@ module _ (host : MachineHost) (R : Saved → Deferred → Type 0) (tested : Equa
       let goes : middle + lines_size code ≡ next = let h = sizes first code in omega (arith, h) in
       sim_bind host R (HasArguments scope size es a pending) (arguments_place scope size es a middle base between calls pending)
       (HasArguments scope size (more_typed e es) a pending) (arguments_place scope size (more_typed e es) a next base between calls pending)
-      p.left c (spot_at R x place (pushed_all a.values base) between calls pending K) (λ d. spare es c) (λ d. suc (spare es c)) (evals here caller es a p) (λ d q. argument here (is_captured e) e (λ r. eval here caller e r) d q)
+      p.left c (spot_at R x place (pushed_all a.values base) between calls pending K) (λ d. spare es c) (λ d. suc (spare es c)) (evals here caller scope es a p) (λ d q. argument here scope (is_captured e) e (λ r. eval here caller scope e r) d q)
       (res scope size n depth place c a p K base between calls pending fine.2 b.0 deep le held (fewer_actions (is_captured e) (actions_in es) few))
       (λ d q h less.
       let before = all_length a.values base in
@@ -402,8 +402,8 @@ module _ (host : MachineHost) (R : Saved → Deferred → Type 0) (tested : Equa
   abbrev pub call_place : (scope : List ℕ) (size : ℕ) (es : TypedExprs) (ks : List Const) → ℕ → List Cell → List Cell → List ℕ → (pending : List Saved) → (b : Arguments) (q : Progress) → HasCall scope size es ks pending b q → Machine
   call_place scope size es ks next base between calls pending b q h = spot_at R x next (pushed_all b.values base) between calls h.now h.kept
 
-  abbrev pub arguments_of : TypedExprs → List Const → Progress → Outcome Arguments
-  arguments_of es ks p = bind (defaults x.self ks p) (λ values q. evals here caller es (record { values = values; action = None }) q)
+  abbrev pub arguments_of : List ℕ → TypedExprs → List Const → Progress → Outcome Arguments
+  arguments_of scope es ks p = bind (defaults x.self ks p) (λ values q. evals here caller scope es (record { values = values; action = None }) q)
 
   constants_total : (ks : List Const) → total (constant_types ks) ≡ length ks
   unfolding total
@@ -414,7 +414,7 @@ module _ (host : MachineHost) (R : Saved → Deferred → Type 0) (tested : Equa
       → (scope : List ℕ) (size n depth place c : ℕ) (p : Progress) (K : Kept R x scope size p.globals p.locals p.world) (base between : List Cell) (calls : List ℕ) (pending : List Saved)
       → AreFine host.table functions x scope es → LinesStand x.code x.places place (constants ks ++ emit_all x.layout n depth es) → length base + length ks + size ≡ depth → p.left ≤ most → AreHeld base → actions_in es ≤ 1
       → Sim host R (HasCall scope size es ks pending) (call_place scope size es ks (place + lines_size (constants ks ++ emit_all x.layout n depth es)) base between calls pending)
-      p.left c (spot_at R x place base between calls pending K) (λ b. spare es (spare_defaults ks c)) (arguments_of es ks p)
+      p.left c (spot_at R x place base between calls pending K) (λ b. spare es (spare_defaults ks c)) (arguments_of scope es ks p)
   call_arguments_run es ks captures each scope size n depth place c p K base between calls pending fine stands deep le held few =
       let first = constants ks in
       let second = emit_all x.layout n depth es in
@@ -424,7 +424,7 @@ module _ (host : MachineHost) (R : Saved → Deferred → Type 0) (tested : Equa
       let goes : middle + lines_size second ≡ next = let h = sizes first second in omega (arith, h) in
       sim_bind host R (HasDefaults scope size ks) (defaults_place scope size ks middle base between calls pending)
       (HasCall scope size es ks pending) (call_place scope size es ks next base between calls pending)
-      p.left c (spot_at R x place base between calls pending K) (λ vs. spare_defaults ks c) (λ d. spare es (spare_defaults ks c)) (defaults x.self ks p) (λ vs q. evals here caller es (record { values = vs; action = None }) q)
+      p.left c (spot_at R x place base between calls pending K) (λ vs. spare_defaults ks c) (λ d. spare es (spare_defaults ks c)) (defaults x.self ks p) (λ vs q. evals here caller scope es (record { values = vs; action = None }) q)
       (defaults_run ks scope size place c p K base between calls pending b.0)
       (λ vs q h less.
       let a : Arguments = record { values = vs; action = None } in
@@ -432,7 +432,7 @@ module _ (host : MachineHost) (R : Saved → Deferred → Type 0) (tested : Equa
       let types = ap total h.0 in
       let defaults_size = constants_total ks in
       sim_map host R (HasArguments scope size es a pending) (arguments_place scope size es a (middle + lines_size second) base between calls pending)
-      (HasCall scope size es ks pending) (call_place scope size es ks next base between calls pending) q.left (spare_defaults ks c) (spot_at R x middle (pushed_all vs base) between calls pending h.1) (λ d. spare es (spare_defaults ks c)) (λ d. spare es (spare_defaults ks c)) (evals here caller es a q)
+      (HasCall scope size es ks pending) (call_place scope size es ks next base between calls pending) q.left (spare_defaults ks c) (spot_at R x middle (pushed_all vs base) between calls pending h.1) (λ d. spare es (spare_defaults ks c)) (λ d. spare es (spare_defaults ks c)) (evals here caller scope es a q)
       (arguments_run es captures each scope size n depth middle (spare_defaults ks c) a q h.1 base between calls pending fine b.1 (omega (arith, count, types, defaults_size, deep)) (omega (arith, less, le)) held few)
       (λ d r g. (
         record { types = g.types ∙ ap (types_before x.layout.structs es) h.0; kept = g.kept; now = g.now; none = g.none; one = g.one },
@@ -591,7 +591,7 @@ module _ (host : MachineHost) (R : Saved → Deferred → Type 0) (tested : Equa
       let few = call_fine.actions in
       sim_bind host R (HasCall scope size es ks pending) (call_place scope size es ks middle temps between calls pending)
       (HoldsValue R x scope size t) (value_place R x scope size t next temps between calls pending)
-      p.left c (spot_at R x place temps between calls pending K) (λ b. spare es (spare_defaults ks c)) (value_credits c) (arguments_of es ks p) (λ a q. engine_called here routine a q)
+      p.left c (spot_at R x place temps between calls pending K) (λ b. spare es (spare_defaults ks c)) (value_credits c) (arguments_of scope es ks p) (λ a q. engine_called here routine a q)
       (call_arguments_run es ks captures each scope size n within place c p K temps between calls pending fine.1 b.0 (omega (arith, deep)) le held (omega (arith, actions, few)))
       (λ a q h less.
       let all = spare es (spare_defaults ks c) in

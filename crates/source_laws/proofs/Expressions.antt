@@ -90,8 +90,8 @@ module _ (host : MachineHost) (R : Saved → Deferred → Type 0) (tested : Equa
   abbrev Runs : TypedExpr → Type 0
   Runs e = ExprRuns host R x tables execute functions caller most e
 
-  abbrev value_of : TypedExpr → Progress → Outcome (List Value)
-  value_of e p = eval (running_at host tables execute x) caller e p
+  abbrev value_of : List ℕ → TypedExpr → Progress → Outcome (List Value)
+  value_of scope e p = eval (running_at host tables execute x) caller scope e p
 
   -- an instruction on values over the frame
   over_frame : (place next : ℕ) (v w : List Value) (temps rest : List Cell) (calls : List ℕ) (pending : List Saved) (world : World Saved)
@@ -193,7 +193,7 @@ module _ (host : MachineHost) (R : Saved → Deferred → Type 0) (tested : Equa
       let line = Instruction (read x.layout depth count (home_of x scope whole.where_is)) ∷ [] in
       let is = place_code x.layout n depth (member t e before) (home_of x scope whole.where_is) there whole.home_is in
       subst (λ o. Sim host R (HoldsValue R x scope size t) (value_place R x scope size t (place + lines_size (emit x.layout n depth (member t e before))) temps between calls pending)
-      p.left c (spot_at R x place temps between calls pending K) (value_credits c) (member_of o before count (λ q. value_of e q) p)) (sym inner.is)
+      p.left c (spot_at R x place temps between calls pending K) (value_credits c) (member_of o before count (λ q. value_of scope e q) p)) (sym inner.is)
       (subst (λ s. Sim host R (HoldsValue R x scope size t) (value_place R x scope size t (place + lines_size (emit x.layout n depth (member t e before))) temps between calls pending)
       p.left c (spot_at R x place temps between calls pending K) (value_credits c) (spend p (λ q. Gives (read_at s count q) q))) (sym same)
       (by_code scope size place c p t (spend p (λ q. Gives (read_at whole.where_is count q) q)) temps between calls pending (spot_at R x place temps between calls pending K)
@@ -217,9 +217,9 @@ module _ (host : MachineHost) (R : Saved → Deferred → Type 0) (tested : Equa
       let value = emit x.layout n depth e in
       let cut = Instruction (ops.Destruct (bytes_of total) (bytes_of before) (bytes_of count)) ∷ [] in
       let is : emit x.layout n depth (member t e before) ≡ value ++ cut = ap (λ h. member_code x.layout depth total before count h value) none.home_is in
-      let result = bind (value_of e p) (λ parts q. spend q (λ r. Gives (parts_of before count parts) r)) in
+      let result = bind (value_of scope e p) (λ parts q. spend q (λ r. Gives (parts_of before count parts) r)) in
       subst (λ o. Sim host R (HoldsValue R x scope size t) (value_place R x scope size t (place + lines_size (emit x.layout n depth (member t e before))) temps between calls pending)
-      p.left c (spot_at R x place temps between calls pending K) (value_credits c) (member_of o before count (λ q. value_of e q) p)) (sym none.spot_is)
+      p.left c (spot_at R x place temps between calls pending K) (value_credits c) (member_of o before count (λ q. value_of scope e q) p)) (sym none.spot_is)
       (by_code scope size place c p t result temps between calls pending (spot_at R x place temps between calls pending K) (emit x.layout n depth (member t e before)) (value ++ cut) is
       (λ lines.
       let b = both_stand x.code x.places place value cut lines in
@@ -228,7 +228,7 @@ module _ (host : MachineHost) (R : Saved → Deferred → Type 0) (tested : Equa
       let goes : middle + 8 ≡ next = let h = sizes value cut in omega (arith, h) in
       sim_bind host R (HoldsValue R x scope size (type_of e)) (value_place R x scope size (type_of e) middle temps between calls pending)
       (HoldsValue R x scope size t) (value_place R x scope size t next temps between calls pending) p.left c (spot_at R x place temps between calls pending K) (value_credits c) (value_credits c)
-      (value_of e p) (λ parts q. spend q (λ r. Gives (parts_of before count parts) r))
+      (value_of scope e p) (λ parts q. spend q (λ r. Gives (parts_of before count parts) r))
       (r scope size n depth place c p K temps between calls pending fine.0 b.0 deep le held)
       (λ v q h less.
       sim_paid host R (HoldsValue R x scope size t) (value_place R x scope size t next temps between calls pending) (8 + c) (spot_at R x middle (pushed v temps) between calls pending h.1) (value_credits c)
@@ -260,7 +260,7 @@ module _ (host : MachineHost) (R : Saved → Deferred → Type 0) (tested : Equa
       → (scope : List ℕ) (size n depth place c : ℕ) (p : Progress) (K : Kept R x scope size p.globals p.locals p.world) (temps between : List Cell) (calls : List ℕ) (pending : List Saved)
       → IsFine host.table functions x scope e → type_of e ≡ IntTy → (t : Ty) → t ≡ IntTy → LinesStand x.code x.places place (emit x.layout n depth e ++ Instruction op ∷ []) → length temps + size ≡ depth → p.left ≤ most → AreHeld temps
       → Sim host R (HoldsValue R x scope size t) (value_place R x scope size t (place + lines_size (emit x.layout n depth e ++ Instruction op ∷ [])) temps between calls pending)
-      p.left c (spot_at R x place temps between calls pending K) (value_credits c) (bind (value_of e p) (λ parts q. spend q (λ r. Gives (one_int (prefixed o) parts) r)))
+      p.left c (spot_at R x place temps between calls pending K) (value_credits c) (bind (value_of scope e p) (λ parts q. spend q (λ r. Gives (one_int (prefixed o) parts) r)))
   unary_runs e o op r acts after undivided passes scope size n depth place c p K temps between calls pending fine int t is_int stands deep le held =
       let value = emit x.layout n depth e in
       let b = both_stand x.code x.places place value (Instruction op ∷ []) stands in
@@ -269,7 +269,7 @@ module _ (host : MachineHost) (R : Saved → Deferred → Type 0) (tested : Equa
       let goes : middle + op_size op ≡ next = let h = sizes value (Instruction op ∷ []) in omega (arith, h) in
       sim_bind host R (HoldsValue R x scope size (type_of e)) (value_place R x scope size (type_of e) middle temps between calls pending)
       (HoldsValue R x scope size t) (value_place R x scope size t next temps between calls pending) p.left c (spot_at R x place temps between calls pending K) (value_credits c) (value_credits c)
-      (value_of e p) (λ parts q. spend q (λ r. Gives (one_int (prefixed o) parts) r))
+      (value_of scope e p) (λ parts q. spend q (λ r. Gives (one_int (prefixed o) parts) r))
       (r scope size n depth place c p K temps between calls pending fine b.0 deep le held)
       (λ v q h less.
       let ints = int_types x.layout.structs v (type_of e) int h.0 in
@@ -467,7 +467,7 @@ module _ (host : MachineHost) (R : Saved → Deferred → Type 0) (tested : Equa
   both_run : (t : Ty) (o : BinaryOperator) (d e : TypedExpr) → Runs d → Runs e
       → (first second : ℕ) (scope : List ℕ) (size depth place c : ℕ) (p : Progress) (K : Kept R x scope size p.globals p.locals p.world) (temps between : List Cell) (calls : List ℕ) (pending : List Saved)
       → IsFine host.table functions x scope d → IsFine host.table functions x scope e → binary_type o (type_of d) (type_of e) ≡ Some t → length temps + size ≡ depth → p.left ≤ most → AreHeld temps
-      → CodeRuns scope size place c p t (bind (value_of d p) (λ v q. bind (value_of e q) (λ w r. operated x.self o v w unwritten r))) temps between calls pending (spot_at R x place temps between calls pending K)
+      → CodeRuns scope size place c p t (bind (value_of scope d p) (λ v q. bind (value_of scope e q) (λ w r. operated x.self o v w unwritten r))) temps between calls pending (spot_at R x place temps between calls pending K)
       (emit x.layout first depth d ++ (emit x.layout second (depth + length (cell_types x.layout.structs (type_of d))) e ++ Instruction (operation o (type_of d) (length (cell_types x.layout.structs (type_of d)))) ∷ []))
   both_run t o d e rd re first second scope size depth place c p K temps between calls pending fine_d fine_e typed deep le held lines =
       let structs = x.layout.structs in
@@ -483,14 +483,14 @@ module _ (host : MachineHost) (R : Saved → Deferred → Type 0) (tested : Equa
       let goes : two + op_size (operation o (type_of d) wide) ≡ next = let h = sizes left (right ++ op) in let k = sizes right op in omega (arith, h, k) in
       sim_bind host R (HoldsValue R x scope size (type_of d)) (value_place R x scope size (type_of d) one temps between calls pending)
       (HoldsValue R x scope size t) (value_place R x scope size t next temps between calls pending) p.left c (spot_at R x place temps between calls pending K) (value_credits c) (value_credits c)
-      (value_of d p) (λ v q. bind (value_of e q) (λ w r. operated x.self o v w unwritten r))
+      (value_of scope d p) (λ v q. bind (value_of scope e q) (λ w r. operated x.self o v w unwritten r))
       (rd scope size first depth place c p K temps between calls pending fine_d a.0 deep le held)
       (λ v q h less.
       let long = typed_length v (cell_types structs (type_of d)) h.0 in
       let size_is = pushed_length v temps in
       sim_bind host R (HoldsValue R x scope size (type_of e)) (value_place R x scope size (type_of e) two (pushed v temps) between calls pending)
       (HoldsValue R x scope size t) (value_place R x scope size t next temps between calls pending) q.left (8 + c) (spot_at R x one (pushed v temps) between calls pending h.1) (value_credits (8 + c)) (value_credits c)
-      (value_of e q) (λ w r. operated x.self o v w unwritten r)
+      (value_of scope e q) (λ w r. operated x.self o v w unwritten r)
       (re scope size second (depth + wide) one (8 + c) q h.1 (pushed v temps) between calls pending fine_e b.0 (omega (arith, long, size_is, deep)) (omega (arith, less, le)) (held_pushed v temps held))
       (λ w r k fewer. operator_runs o (type_of d) (type_of e) t v w typed h.0 k.0 scope size two next (8 + (8 + c)) c r k.1 temps between calls pending b.1.0 goes (omega arith) (omega arith)))
 
@@ -526,7 +526,7 @@ module _ (host : MachineHost) (R : Saved → Deferred → Type 0) (tested : Equa
       let there = value_place R x scope size t next temps between calls pending in
       sim_bind host R (HoldsValue R x scope size (type_of d)) (value_place R x scope size (type_of d) one temps between calls pending) B there
       p.left c (spot_at R x place temps between calls pending K) (value_credits c) (value_credits c)
-      (value_of d p) (λ v q. chosen (is_true v) (λ r. bind (value_of e r) (λ w s. operated x.self bin.And v w unwritten s)) (λ r. spend r (λ s. Gives (test_value false) s)) q)
+      (value_of scope d p) (λ v q. chosen (is_true v) (λ r. bind (value_of scope e r) (λ w s. operated x.self bin.And v w unwritten s)) (λ r. spend r (λ s. Gives (test_value false) s)) q)
       (rd scope size (n + 1) depth place c p K temps between calls pending fine.0 a.0 deep le held)
       (λ v q h less.
       let value = as_int_value v (int_types structs v (type_of d) ints.left h.0) in
@@ -538,17 +538,17 @@ module _ (host : MachineHost) (R : Saved → Deferred → Type 0) (tested : Equa
       let s1 = spot_at R x (one + 8) (Holds (Int number) ∷ Holds (Int number) ∷ temps) between calls pending L in
       let first : step host s0 ≡ Some (Goes s1) = top_copied host x listed one (one + 8) (Int number) (temps ++ rest) calls pending L.machine a.1.0 refl in
       subst (λ u. Sim host R B there q.left (8 + c) (spot_at R x one (pushed u temps) between calls pending L) (value_credits c)
-      (chosen (is_true u) (λ r. bind (value_of e r) (λ w s. operated x.self bin.And u w unwritten s)) (λ r. spend r (λ s. Gives (test_value false) s)) q)) (sym value.1)
+      (chosen (is_true u) (λ r. bind (value_of scope e r) (λ w s. operated x.self bin.And u w unwritten s)) (λ r. spend r (λ s. Gives (test_value false) s)) q)) (sym value.1)
       (sim_chosen host R B there q.left (8 + c) s0 (value_credits c) (is_true (Int number ∷ []))
-      (λ r. bind (value_of e r) (λ w s. operated x.self bin.And (Int number ∷ []) w unwritten s)) (λ r. spend r (λ s. Gives (test_value false) s)) q
+      (λ r. bind (value_of scope e r) (λ w s. operated x.self bin.And (Int number ∷ []) w unwritten s)) (λ r. spend r (λ s. Gives (test_value false) s)) q
       (λ holds.
       let nonzero = not_true (is_zero number) holds in
       let s2 = spot_at R x (one + 8 + 6) (Holds (Int number) ∷ temps) between calls pending L in
       let second : step host s1 ≡ Some (Goes s2) = other_passes host x listed (one + 8) (one + 8 + 6) _ number (Holds (Int number) ∷ (temps ++ rest)) calls pending L.machine a.1.1.0.begins nonzero refl in
-      sim_after host R B there (value_credits c) (bind (value_of e q) (λ w s. operated x.self bin.And (Int number ∷ []) w unwritten s))
+      sim_after host R B there (value_credits c) (bind (value_of scope e q) (λ w s. operated x.self bin.And (Int number ∷ []) w unwritten s))
       (took_then host (took_cost host q.left (8 + c) (7 + c) s0 s1 (omega arith) first) (took_cost host q.left (7 + c) (6 + c) s1 s2 (omega arith) second))
       (sim_bind host R (HoldsValue R x scope size (type_of e)) (value_place R x scope size (type_of e) two (Holds (Int number) ∷ temps) between calls pending) B there
-      q.left (6 + c) s2 (value_credits (6 + c)) (value_credits c) (value_of e q) (λ w s. operated x.self bin.And (Int number ∷ []) w unwritten s)
+      q.left (6 + c) s2 (value_credits (6 + c)) (value_credits c) (value_of scope e q) (λ w s. operated x.self bin.And (Int number ∷ []) w unwritten s)
       (re scope size (n + 1 + labels d) (depth + wide) (one + 8 + 6) (6 + c) q L (Holds (Int number) ∷ temps) between calls pending fine.1 b.0
       (let long = typed_length (Int number ∷ []) (cell_types structs (type_of d)) typed in omega (arith, long, deep)) (omega (arith, less, le)) (tt, held))
       (λ w r k fewer. operator_runs bin.And (type_of d) (type_of e) t (Int number ∷ []) w fine.2 typed k.0 scope size two next (8 + (6 + c)) c r k.1 temps between calls pending b.1.0 ending (omega arith) (omega arith))))
@@ -590,7 +590,7 @@ module _ (host : MachineHost) (R : Saved → Deferred → Type 0) (tested : Equa
       let there = value_place R x scope size t next temps between calls pending in
       sim_bind host R (HoldsValue R x scope size (type_of d)) (value_place R x scope size (type_of d) one temps between calls pending) B there
       p.left c (spot_at R x place temps between calls pending K) (value_credits c) (value_credits c)
-      (value_of d p) (λ v q. chosen (is_true v) (λ r. spend r (λ s. Gives (test_value true) s)) (λ r. bind (value_of e r) (λ w s. operated x.self bin.Or v w unwritten s)) q)
+      (value_of scope d p) (λ v q. chosen (is_true v) (λ r. spend r (λ s. Gives (test_value true) s)) (λ r. bind (value_of scope e r) (λ w s. operated x.self bin.Or v w unwritten s)) q)
       (rd scope size (n + 2) depth place c p K temps between calls pending fine.0 a.0 deep le held)
       (λ v q h less.
       let value = as_int_value v (int_types structs v (type_of d) ints.left h.0) in
@@ -602,9 +602,9 @@ module _ (host : MachineHost) (R : Saved → Deferred → Type 0) (tested : Equa
       let s1 = spot_at R x (one + 8) (Holds (Int number) ∷ Holds (Int number) ∷ temps) between calls pending L in
       let first : step host s0 ≡ Some (Goes s1) = top_copied host x listed one (one + 8) (Int number) (temps ++ rest) calls pending L.machine a.1.0 refl in
       subst (λ u. Sim host R B there q.left (8 + c) (spot_at R x one (pushed u temps) between calls pending L) (value_credits c)
-      (chosen (is_true u) (λ r. spend r (λ s. Gives (test_value true) s)) (λ r. bind (value_of e r) (λ w s. operated x.self bin.Or u w unwritten s)) q)) (sym value.1)
+      (chosen (is_true u) (λ r. spend r (λ s. Gives (test_value true) s)) (λ r. bind (value_of scope e r) (λ w s. operated x.self bin.Or u w unwritten s)) q)) (sym value.1)
       (sim_chosen host R B there q.left (8 + c) s0 (value_credits c) (is_true (Int number ∷ []))
-      (λ r. spend r (λ s. Gives (test_value true) s)) (λ r. bind (value_of e r) (λ w s. operated x.self bin.Or (Int number ∷ []) w unwritten s)) q
+      (λ r. spend r (λ s. Gives (test_value true) s)) (λ r. bind (value_of scope e r) (λ w s. operated x.self bin.Or (Int number ∷ []) w unwritten s)) q
       (λ holds.
       let nonzero = not_true (is_zero number) holds in
       let one_typed_as = ap (cell_types structs) (sym ints.right) in
@@ -636,23 +636,23 @@ module _ (host : MachineHost) (R : Saved → Deferred → Type 0) (tested : Equa
       let s2 = spot_at R x start (Holds (Int number) ∷ temps) between calls pending L in
       let label : x.places n ≡ start = a.1.1.1.1.1.1.0 ∙ omega arith in
       let second : step host s1 ≡ Some (Goes s2) = zero_jumps host x listed (one + 8) start _ number (Holds (Int number) ∷ (temps ++ rest)) calls pending L.machine a.1.1.0.begins nothing (a.1.1.0.leads ∙ label) in
-      sim_after host R B there (value_credits c) (bind (value_of e q) (λ w s. operated x.self bin.Or (Int number ∷ []) w unwritten s))
+      sim_after host R B there (value_credits c) (bind (value_of scope e q) (λ w s. operated x.self bin.Or (Int number ∷ []) w unwritten s))
       (took_then host (took_cost host q.left (8 + c) (7 + c) s0 s1 (omega arith) first) (took_cost host q.left (7 + c) (6 + c) s1 s2 (omega arith) second))
       (sim_bind host R (HoldsValue R x scope size (type_of e)) (value_place R x scope size (type_of e) two (Holds (Int number) ∷ temps) between calls pending) B there
-      q.left (6 + c) s2 (value_credits (6 + c)) (value_credits c) (value_of e q) (λ w s. operated x.self bin.Or (Int number ∷ []) w unwritten s)
+      q.left (6 + c) s2 (value_credits (6 + c)) (value_credits c) (value_of scope e q) (λ w s. operated x.self bin.Or (Int number ∷ []) w unwritten s)
       (re scope size (n + 2 + labels d) (depth + wide) start (6 + c) q L (Holds (Int number) ∷ temps) between calls pending fine.1 b.0
       (let long = typed_length (Int number ∷ []) (cell_types structs (type_of d)) typed in omega (arith, long, deep)) (omega (arith, less, le)) (tt, held))
       (λ w r k fewer. operator_runs bin.Or (type_of d) (type_of e) t (Int number ∷ []) w fine.2 typed k.0 scope size two next (8 + (6 + c)) c r k.1 temps between calls pending b.1.0 ending (omega arith) (omega arith))))))
 
   -- an operator that isn't one of these two
   plain_runs : (t : Ty) (o : BinaryOperator) (d e : TypedExpr) → shortcut o ≡ Never
-      → ((p : Progress) → combined x.self o (λ q. value_of d q) (λ q. value_of e q) p ≡ bind (value_of d p) (λ v q. bind (value_of e q) (λ w r. operated x.self o v w unwritten r)))
+      → ((scope : List ℕ) (p : Progress) → combined x.self o (λ q. value_of scope d q) (λ q. value_of scope e q) p ≡ bind (value_of scope d p) (λ v q. bind (value_of scope e q) (λ w r. operated x.self o v w unwritten r)))
       → Runs d → Runs e → Runs (binary t o d e)
   plain_runs t o d e never both rd re scope size n depth place c p K temps between calls pending fine stands deep le held =
       let wide = length (cell_types x.layout.structs (type_of d)) in
       let code = λ (k : Shortcut). binary_code n k (operation o (type_of d) wide) (emit x.layout (n + shortcut_labels k) depth d) (emit x.layout (n + shortcut_labels k + labels d) (depth + wide) e) in
-      subst (λ (out : Outcome (List Value)). CodeRuns scope size place c p t out temps between calls pending (spot_at R x place temps between calls pending K) (code (shortcut o))) (sym (both p))
-      (subst (λ (k : Shortcut). CodeRuns scope size place c p t (bind (value_of d p) (λ v q. bind (value_of e q) (λ w r. operated x.self o v w unwritten r))) temps between calls pending (spot_at R x place temps between calls pending K)
+      subst (λ (out : Outcome (List Value)). CodeRuns scope size place c p t out temps between calls pending (spot_at R x place temps between calls pending K) (code (shortcut o))) (sym (both scope p))
+      (subst (λ (k : Shortcut). CodeRuns scope size place c p t (bind (value_of scope d p) (λ v q. bind (value_of scope e q) (λ w r. operated x.self o v w unwritten r))) temps between calls pending (spot_at R x place temps between calls pending K)
       (binary_code n k (operation o (type_of d) wide) (emit x.layout (n + shortcut_labels k) depth d) (emit x.layout (n + shortcut_labels k + labels d) (depth + wide) e))) (sym never)
       (both_run t o d e rd re (n + 0) (n + 0 + labels d) scope size depth place c p K temps between calls pending fine.0 fine.1 fine.2 deep le held))
       stands
@@ -660,7 +660,7 @@ module _ (host : MachineHost) (R : Saved → Deferred → Type 0) (tested : Equa
   pub binary_runs : (t : Ty) (o : BinaryOperator) (d e : TypedExpr) → Runs d → Runs e → Runs (binary t o d e)
   binary_runs t bin.Or d e rd re = or_runs t d e rd re
   binary_runs t bin.And d e rd re = and_runs t d e rd re
-  binary_runs t o d e rd re = plain_runs t o d e refl (λ p. refl) rd re
+  binary_runs t o d e rd re = plain_runs t o d e refl (λ scope p. refl) rd re
 
   -- ---- assignments
 
@@ -680,8 +680,8 @@ module _ (host : MachineHost) (R : Saved → Deferred → Type 0) (tested : Equa
       let store = Instruction (write x.layout (depth + wide) wide h) ∷ [] in
       let is : emit x.layout n depth (assign t asg.Set d e) ≡ right ++ store = ap (λ o. right ++ at_home (write x.layout (depth + wide) wide) o) found.home_is in
       let B = HoldsValue R x scope size t in
-      subst (λ o. CodeRuns scope size place c p t (assigned x.self None o wide (λ q. value_of e q) p) temps between calls pending (spot_at R x place temps between calls pending K) (emit x.layout n depth (assign t asg.Set d e))) (sym found.is)
-      (by_code scope size place c p t (assigned x.self None (Some s) wide (λ q. value_of e q) p) temps between calls pending (spot_at R x place temps between calls pending K)
+      subst (λ o. CodeRuns scope size place c p t (assigned x.self None o wide (λ q. value_of scope e q) p) temps between calls pending (spot_at R x place temps between calls pending K) (emit x.layout n depth (assign t asg.Set d e))) (sym found.is)
+      (by_code scope size place c p t (assigned x.self None (Some s) wide (λ q. value_of scope e q) p) temps between calls pending (spot_at R x place temps between calls pending K)
       (emit x.layout n depth (assign t asg.Set d e)) (right ++ store) is
       (λ lines.
       let b = both_stand x.code x.places place right store lines in
@@ -689,7 +689,7 @@ module _ (host : MachineHost) (R : Saved → Deferred → Type 0) (tested : Equa
       let next = place + lines_size (right ++ store) in
       let goes : middle + 8 ≡ next = let h1 = sizes right store in let h2 = written_on middle (depth + wide) wide h in omega (arith, h1, h2) in
       sim_bind host R (HoldsValue R x scope size (type_of e)) (value_place R x scope size (type_of e) middle temps between calls pending) B (value_place R x scope size t next temps between calls pending)
-      p.left c (spot_at R x place temps between calls pending K) (value_credits c) (value_credits c) (value_of e p) (λ parts q. spend q (λ r. Gives parts (written_at s parts r)))
+      p.left c (spot_at R x place temps between calls pending K) (value_credits c) (value_credits c) (value_of scope e p) (λ parts q. spend q (λ r. Gives parts (written_at s parts r)))
       (re scope size n (depth + 0) place c p K temps between calls pending fine.1 b.0 (omega (arith, deep)) le held)
       (λ v q there less.
       let typed : value_types v ≡ cell_types structs t = there.0 ∙ ap (cell_types structs) of_value in
@@ -719,7 +719,7 @@ module _ (host : MachineHost) (R : Saved → Deferred → Type 0) (tested : Equa
   compound_runs : (t : Ty) (b : BinaryOperator) (e : TypedExpr) (s : Spot) → Runs e
       → (scope : List ℕ) (size n depth place c : ℕ) (p : Progress) (K : Kept R x scope size p.globals p.locals p.world) (temps between : List Cell) (calls : List ℕ) (pending : List Saved)
       → IsSpot x scope t s → IsFine host.table functions x scope e → binary_type b t (type_of e) ≡ Some t → length temps + size ≡ depth → p.left ≤ most → AreHeld temps
-      → CodeRuns scope size place c p t (assigned x.self (Some b) (Some s) (length (cell_types x.layout.structs t)) (λ q. value_of e q) p) temps between calls pending (spot_at R x place temps between calls pending K)
+      → CodeRuns scope size place c p t (assigned x.self (Some b) (Some s) (length (cell_types x.layout.structs t)) (λ q. value_of scope e q) p) temps between calls pending (spot_at R x place temps between calls pending K)
       (compound_lines n depth b t e (home_of x scope s))
   unfolding compound_lines
   compound_runs t b e s re scope size n depth place c p K temps between calls pending spot_fine fine typed deep le held lines =
@@ -742,7 +742,7 @@ module _ (host : MachineHost) (R : Saved → Deferred → Type 0) (tested : Equa
       let B = HoldsValue R x scope size t in
       let there = value_place R x scope size t next temps between calls pending in
       sim_paid host R B there c (spot_at R x place temps between calls pending K) (value_credits c) p
-      (λ q. bind (value_of e q) (λ w r. operated x.self b (read_at s wide q) w (written_at s) r)) K.alike
+      (λ q. bind (value_of scope e q) (λ w r. operated x.self b (read_at s wide q) w (written_at s) r)) K.alike
       (λ m left.
       let q = record p { left = m } in
       let old = read_at s wide q in
@@ -753,7 +753,7 @@ module _ (host : MachineHost) (R : Saved → Deferred → Type 0) (tested : Equa
         s1,
         got.goes,
         sim_bind host R (HoldsValue R x scope size (type_of e)) (value_place R x scope size (type_of e) two (pushed old temps) between calls pending) B there
-            m (15 + c) s1 (value_credits (15 + c)) (value_credits c) (value_of e q) (λ w r. operated x.self b old w (written_at s) r)
+            m (15 + c) s1 (value_credits (15 + c)) (value_credits c) (value_of scope e q) (λ w r. operated x.self b old w (written_at s) r)
             (re scope size n (depth + wide) one (15 + c) q K (pushed old temps) between calls pending fine a.0 (omega (arith, size_is, long, deep)) (omega (arith, left, le)) (held_pushed old temps held))
             (λ w r result less.
             let L = result.1 in
@@ -798,9 +798,9 @@ module _ (host : MachineHost) (R : Saved → Deferred → Type 0) (tested : Equa
       let spot_fine = subst (λ (u : Ty). IsSpot x scope u s) (sym of_place) found.fine in
       let typed : binary_type b t (type_of e) ≡ Some t = ap (λ u. binary_type b u (type_of e)) of_place ∙ applied_type o b (type_of d) (type_of e) t is_applied fine.3 in
       let wide = length (cell_types x.layout.structs t) in
-      subst (λ a. CodeRuns scope size place c p t (assigned x.self a (spot d) wide (λ q. value_of e q) p) temps between calls pending (spot_at R x place temps between calls pending K) (emit x.layout n depth (assign t o d e))) (sym is_applied)
-      (subst (λ u. CodeRuns scope size place c p t (assigned x.self (Some b) u wide (λ q. value_of e q) p) temps between calls pending (spot_at R x place temps between calls pending K) (emit x.layout n depth (assign t o d e))) (sym found.is)
-      (by_code scope size place c p t (assigned x.self (Some b) (Some s) wide (λ q. value_of e q) p) temps between calls pending (spot_at R x place temps between calls pending K)
+      subst (λ a. CodeRuns scope size place c p t (assigned x.self a (spot d) wide (λ q. value_of scope e q) p) temps between calls pending (spot_at R x place temps between calls pending K) (emit x.layout n depth (assign t o d e))) (sym is_applied)
+      (subst (λ u. CodeRuns scope size place c p t (assigned x.self (Some b) u wide (λ q. value_of scope e q) p) temps between calls pending (spot_at R x place temps between calls pending K) (emit x.layout n depth (assign t o d e))) (sym found.is)
+      (by_code scope size place c p t (assigned x.self (Some b) (Some s) wide (λ q. value_of scope e q) p) temps between calls pending (spot_at R x place temps between calls pending K)
       (emit x.layout n depth (assign t o d e)) (compound_lines n depth b t e (home_of x scope s)) (code n depth (home_of x scope s) found.home_is)
       (compound_runs t b e s re scope size n depth place c p K temps between calls pending spot_fine fine.1 typed deep le held)))
       stands

@@ -29,7 +29,7 @@ use Rattle.source_meaning.specs.Values.{start_part, start_parts}
 use Rattle.source_meaning.specs.Evaluation.{Variables, no_variables, Deferred, Progress, Gives}
 use Rattle.source_meaning.specs.Expressions.{Caller}
 use Rattle.source_meaning.specs.Statements.{Flow, Next, Broke, Continued, Returned, execs}
-use Rattle.source_meaning.specs.Scripts.{Function, bound, result_of, body_run, calls}
+use Rattle.source_meaning.specs.Scripts.{Function, bound, result_of, body_run, calls, parameter_names}
 use Rattle.source_laws.specs.Ledger.{MachineHost, Took, Sim}
 use Rattle.source_laws.specs.Kept.{pushed, Site, IsListed, at, In, part_types, Vars, Kept, spot_at}
 use Rattle.source_laws.specs.Carries.{Carries}
@@ -37,7 +37,7 @@ use Rattle.source_laws.specs.Simulation.{Executor, running_at, ExprRuns}
 use Rattle.source_laws.specs.Calling.{pushed_all, all_types, EngineRuns, CapturesCarry, ExecutesRun}
 use Rattle.source_laws.specs.FineStatements.{after_stmts}
 use Rattle.source_laws.specs.StatementsRun.{IsExit, FlowHolds, flow_place, one_of, flow_credits}
-use Rattle.source_laws.specs.FunctionsRun.{KeepsGlobals, parameter_types, HasResult, result_place, CallsRun, AreParameters, parameter_scope, IsPlaced, FunctionsRun}
+use Rattle.source_laws.specs.FunctionsRun.{KeepsGlobals, parameter_types, HasResult, result_place, CallsRun, AreParameters, IsPlaced, FunctionsRun}
 use Rattle.source_laws.proofs.Cells.{pushed_over, pushed_length}
 use Rattle.source_laws.proofs.Ledger.{took_none, took_cost, took_then, took_less, sim_bind}
 use Rattle.source_laws.proofs.Steps.{both_stand}
@@ -76,7 +76,7 @@ module _ (host : MachineHost) (R : Saved → Deferred → Type 0) (tested : Equa
 -- ---- parameters
 
 pub record Bound (x : Site) (ps : List TypedParameter) (values : List (List Value)) : Type 0 where
-  pub variables : Vars x (parameter_scope ps) (pushed_all values []) (bound ps values)
+  pub variables : Vars x (parameter_names ps) (pushed_all values []) (bound ps values)
   pub size : length (pushed_all values []) ≡ params_cells x.layout.structs ps
 
 pub bound_are : (x : Site) (ps : List TypedParameter) (values : List (List Value)) → AreParameters x ps → all_types values ≡ parameter_types x ps → Bound x ps values
@@ -91,7 +91,7 @@ bound_are x (p ∷ ps) (v ∷ vs) h types =
     let n = pushed_length v (pushed_all vs []) in
     let m = b.size in
     record {
-      variables = vars_new x (parameter_scope ps) (pushed_all vs []) (bound ps vs) p.name.number v b.variables (b.size ∙ sym h.0) (first ∙ ap (cell_types x.layout.structs) (sym h.1));
+      variables = vars_new x (parameter_names ps) (pushed_all vs []) (bound ps vs) p.name.number v b.variables (b.size ∙ sym h.0) (first ∙ ap (cell_types x.layout.structs) (sym h.1));
       size = omega (arith, long, n, m);
     }
 
@@ -149,7 +149,7 @@ module _ (host : MachineHost) (R : Saved → Deferred → Type 0) (tested : Equa
       let room = start_parts (cell_types structs fn.result) in
       let size = params_cells structs fn.parameters in
       let many = all_declared_cells structs fn.body in
-      let scope = parameter_scope fn.parameters in
+      let scope = parameter_names fn.parameters in
       let body = emit_stmts x.layout no_exits placed.label size None fn.body in
       let last = dropped many ++ (dropped size ++ Instruction ops.Retn ∷ []) in
       let start = x.places f + 0 in
@@ -183,7 +183,7 @@ module _ (host : MachineHost) (R : Saved → Deferred → Type 0) (tested : Equa
       (sim_bind host R (FlowHolds R x fn.result (record { allowed = false; scope = []; depth = 0; label = 0 }) (record { allowed = false; scope = []; depth = 0; label = 0 }) (after_stmts fn.body scope) (size + many))
       (flow_place R x fn.result (record { allowed = false; scope = []; depth = 0; label = 0 }) (record { allowed = false; scope = []; depth = 0; label = 0 }) (after_stmts fn.body scope) (size + many) one room lower back calls pending)
       (HasResult R x fn.result) (result_place R x fn.result back lower calls pending) p.left c (spot_at R x start [] (pushed room lower) (back ∷ calls) pending K0) (flow_credits c many) (λ v. d)
-      (execs (running_at host tables execute x) caller fn.body q) (λ flow r. Gives (result_of (cell_types structs fn.result) flow) r)
+      (execs (running_at host tables execute x) caller (parameter_names fn.parameters) fn.body q) (λ flow r. Gives (result_of (cell_types structs fn.result) flow) r)
       (stmts_do host R tested x listed tables execute functions caller most fn.result (λ e. Unit {0}) (λ e u. runs e) fn.body (all_too (λ e. Unit {0}) (λ e. tt) fn.body)
       no_exits (record { allowed = false; scope = []; depth = 0; label = 0 }) (record { allowed = false; scope = []; depth = 0; label = 0 }) scope size placed.label start c q K0 room lower back calls pending placed.fine a.0
       (record { break_label = refl; break_depth = refl; continue_label = refl; continue_depth = refl }) (not_allowed x scope size) (not_allowed x scope size) typed le)

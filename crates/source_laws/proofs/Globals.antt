@@ -20,12 +20,12 @@ use Rattle.world_rules.specs.Pure.{CellLookup}
 use Rattle.machine_rules.specs.Laws.{EqualityIsTested}
 use Rattle.source_meaning.specs.Evaluation.{no_variables, with_variable, Deferred, Progress, Outcome, Gives, Divides, OutOfSteps, bind}
 use Rattle.source_meaning.specs.Expressions.{Running, Caller}
-use Rattle.source_meaning.specs.Statements.{Flow, Next, Broke, Continued, Returned, initial as initial_value, declared}
+use Rattle.source_meaning.specs.Statements.{Flow, Next, Broke, Continued, Returned, initial as initial_value, declared, after_names}
 use Rattle.source_meaning.specs.Scripts.{Function, global_names, no_functions}
 use Rattle.source_laws.specs.Ledger.{Machine, MachineHost, Took, Sim}
 use Rattle.source_laws.specs.Kept.{Site, IsListed, at, In, part_types, Vars, Kept}
 use Rattle.source_laws.specs.Fine.{IsFine, AreFine}
-use Rattle.source_laws.specs.FineStatements.{after_names, IsFineValue, AreFineNames}
+use Rattle.source_laws.specs.FineStatements.{IsFineValue, AreFineNames}
 use Rattle.source_laws.specs.Simulation.{Executor, running_at, ExprRuns}
 use Rattle.source_laws.specs.Calling.{EngineRuns, CapturesCarry, ExecutesRun}
 use Rattle.source_laws.specs.FunctionsRun.{CallsRun}
@@ -92,11 +92,11 @@ only_bind P (Gives a p) go h = h a p
 only_bind P (Divides self p) go h = tt
 only_bind P (OutOfSteps p) go h = tt
 
-goes_on : (c : Running) (caller : Caller) (ds : List TypedName) (p : Progress) → Only (λ f. f ≡ Next) (declared c caller ds p)
-goes_on c caller [] p = refl
-goes_on c caller (d ∷ ds) p =
-    only_bind (λ f. f ≡ Next) (initial_value c caller d.name.ty d.value p) (λ parts q. declared c caller ds (record q { locals = with_variable q.locals d.name.number parts }))
-    (λ parts q. goes_on c caller ds (record q { locals = with_variable q.locals d.name.number parts }))
+goes_on : (c : Running) (caller : Caller) (sight : List ℕ) (ds : List TypedName) (p : Progress) → Only (λ f. f ≡ Next) (declared c caller sight ds p)
+goes_on c caller sight [] p = refl
+goes_on c caller sight (d ∷ ds) p =
+    only_bind (λ f. f ≡ Next) (initial_value c caller sight d.name.ty d.value p) (λ parts q. declared c caller (d.name.number ∷ sight) ds (record q { locals = with_variable q.locals d.name.number parts }))
+    (λ parts q. goes_on c caller (d.name.number ∷ sight) ds (record q { locals = with_variable q.locals d.name.number parts }))
 
 sim_only : {A : Type 0} (host : MachineHost) (R : Saved → Deferred → Type 0) (P : A → Type 0) (B : A → Progress → Type 0) (place : (a : A) (p : Progress) → B a p → Machine)
     (D : A → Progress → Type 0) (there : (a : A) (p : Progress) → D a p → Machine) (n c : ℕ) (s : Machine) (d e : A → ℕ) (r : Outcome A)
@@ -148,16 +148,16 @@ module _ (host : MachineHost) (R : Saved → Deferred → Type 0) (tested : Equa
   pub names_made : (ds : List TypedName) (n place back c : ℕ) (p : Progress) (K : Kept R x [] 0 p.globals p.locals p.world)
       → AreFineNames host.table [] x Void 0 [] ds → LinesStand x.code x.places place (emit_names x.layout n 0 ds) → p.left ≤ most
       → Sim host R (AreMade ds) (made_place ds (place + lines_size (emit_names x.layout n 0 ds)) back) p.left c (at x place (K.frame ++ K.under) (back ∷ []) [] K.machine) (λ f. c)
-      (declared (running_at host tables execute x) no_functions ds p)
+      (declared (running_at host tables execute x) no_functions [] ds p)
   names_made ds n place back c p K fine lines le =
       let many = names_cells x.layout.structs ds in
       let next = place + lines_size (emit_names x.layout n 0 ds) in
       sim_only host R (λ f. f ≡ Next) (FlowHolds R x Void no_exit no_exit (after_names ds []) (0 + many)) (flow_place R x Void no_exit no_exit (after_names ds []) (0 + many) next [] [] back [] [])
-      (AreMade ds) (made_place ds next back) p.left c (at x place (K.frame ++ K.under) (back ∷ []) [] K.machine) (flow_credits c many) (λ f. c) (declared (running_at host tables execute x) no_functions ds p)
+      (AreMade ds) (made_place ds next back) p.left c (at x place (K.frame ++ K.under) (back ∷ []) [] K.machine) (flow_credits c many) (λ f. c) (declared (running_at host tables execute x) no_functions [] ds p)
       (declaration_does host R x listed tables execute [] no_functions most Void 0 Void ds (names_run ds)
       no_exits no_exit no_exit [] 0 n place c p K [] [] back [] [] fine lines
       (record { break_label = refl; break_depth = refl; continue_label = refl; continue_depth = refl }) (not_allowed x [] 0) (not_allowed x [] 0) refl le)
-      (goes_on (running_at host tables execute x) no_functions ds p)
+      (goes_on (running_at host tables execute x) no_functions [] ds p)
       (λ f q h only. left_by f q h only)
     where
       left_by : (f : Flow) (q : Progress) (h : FlowHolds R x Void no_exit no_exit (after_names ds []) (0 + names_cells x.layout.structs ds) f q) → f ≡ Next

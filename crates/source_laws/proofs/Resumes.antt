@@ -42,7 +42,7 @@ resumed_run tested s host self saved d carried p w same listed engine_runs execu
     let lines = emit (layout_of u) carried.label depth d.call in
     let b = both_stand x.code x.places saved.place lines (Instruction ops.Retn ∷ []) carried.stands in
     let next = resumed_return carried in
-    let K : Kept R x carried.scope depth d.globals d.locals p.world = record {
+    let K : Kept R x d.sight depth d.globals d.locals p.world = record {
       under = reverse saved.globals;
       frame = reverse saved.locals;
       machine = w;
@@ -69,11 +69,11 @@ resumed_run tested s host self saved d carried p w same listed engine_runs execu
       world = w;
     } in
     let begins : entry (continued saved self) w ≡ start = ap (λ (k : ℕ). frame_of k (length saved.globals)) carried.script ∙ ap (frame_of d.script) carried.size in
-    let fine = subst (λ (t : EngineTable). IsFine t fs x carried.scope d.call) (sym same) (carried.fine self []) in
+    let fine = subst (λ (t : EngineTable). IsFine t fs x d.sight d.call) (sym same) (carried.fine self []) in
     let runs = (functions_run tested s host x s.tables execute fs listed engine_runs (captures_are_carried s host s.tables execute d.script self [] l same carried.is) executes placed (suc p.left)).1 d.call
-    carried.scope depth carried.label depth saved.place 0 q K [] between [] [] fine b.0 (omega arith) (omega arith) tt in
-    let ended = sim_map host R (HoldsValue R x carried.scope depth (type_of d.call)) (value_place R x carried.scope depth (type_of d.call) next [] between [] [])
-    (IsOver R) (over_place R x next) p.left 0 start (value_credits 0) (λ v. 1) (eval here (calling here fs q) d.call q)
+    d.sight depth carried.label depth saved.place 0 q K [] between [] [] fine b.0 (omega arith) (omega arith) tt in
+    let ended = sim_map host R (HoldsValue R x d.sight depth (type_of d.call)) (value_place R x d.sight depth (type_of d.call) next [] between [] [])
+    (IsOver R) (over_place R x next) p.left 0 start (value_credits 0) (λ v. 1) (eval here (calling here fs q) d.sight d.call q)
     runs
     (λ v r h. (
       record { cells = pushed v [] ++ (h.1.frame ++ (between ++ h.1.under)); world = h.1.machine; alike = h.1.alike },
@@ -82,5 +82,5 @@ resumed_run tested s host self saved d carried p w same listed engine_runs execu
       b.1.0,
       subst (λ (m : Machine). Sim host R (IsOver R) (over_place R x next) p.left 0 m (λ v. 1) (call_resumed s d self (slice_get s.scripts d.script) p)) (sym begins)
           (subst (λ (o : Option Listed). Sim host R (IsOver R) (over_place R x next) p.left 0 start (λ v. 1) (call_resumed s d self o p)) (sym carried.is)
-          (subst (λ (c : Running). Sim host R (IsOver R) (over_place R x next) p.left 0 start (λ v. 1) (eval c (calling c fs q) d.call q)) same_running ended)),
+          (subst (λ (c : Running). Sim host R (IsOver R) (over_place R x next) p.left 0 start (λ v. 1) (eval c (calling c fs q) d.sight d.call q)) same_running ended)),
     )

@@ -32,12 +32,12 @@ use Rattle.machine_rules.specs.Laws.{EqualityIsTested}
 use Rattle.source_meaning.specs.Values.{start_part, start_parts}
 use Rattle.source_meaning.specs.Evaluation.{no_variables, Deferred, Progress, Outcome, Gives, bind, spend, spend_of}
 use Rattle.source_meaning.specs.Expressions.{Running, Caller, made}
-use Rattle.source_meaning.specs.Statements.{declared}
+use Rattle.source_meaning.specs.Statements.{declared, after_names}
 use Rattle.source_meaning.specs.Scripts.{Function, Listed, Setting, Starter, functions, calls, calling, no_functions, without_variables, globals_made, global_names, entry_called, executing, running, unit_started, listed_started}
 use Rattle.source_laws.specs.Ledger.{Machine, MachineHost, Took, Sim}
 use Rattle.source_laws.specs.Kept.{pushed, AreHeld, Site, IsListed, at, Vars, Kept, spot_at}
 use Rattle.source_laws.specs.Carries.{Carries, unit_site}
-use Rattle.source_laws.specs.FineStatements.{after_names, AreFineNames}
+use Rattle.source_laws.specs.FineStatements.{AreFineNames}
 use Rattle.source_laws.specs.Simulation.{Executor, running_at}
 use Rattle.source_laws.specs.Calling.{pushed_all, EngineRuns, CapturesCarry, ExecutesRun}
 use Rattle.source_laws.specs.StatementsRun.{one_of}
@@ -287,7 +287,7 @@ module _ (tested : EqualityIsTested) (stand : CodeStands) (s : Setting) (host : 
       let B = EndsAlike R in
       let there = end_place R (making x) 19 in
       let whole : Running → EntryPoint → Progress → Outcome (List Value) = λ c f q.
-      bind (bind (declared c no_functions names (without_variables q)) (λ flow r. entry_called (calling c fs r) f (globals_made r))) (λ parts r. Gives [] r) in
+      bind (bind (declared c no_functions [] names (without_variables q)) (λ flow r. entry_called (calling c fs r) f (globals_made r))) (λ parts r. Gives [] r) in
       sim_paid host R B there 0 (at y 13 [] [] [] w) (λ v. 1) p (λ q. bind (unit_started own u q) (λ parts r. Gives [] r)) alike
       (λ m left.
       let q : Progress = record p { left = m } in
@@ -309,10 +309,10 @@ module _ (tested : EqualityIsTested) (stand : CodeStands) (s : Setting) (host : 
         subst (λ (c : Running). Sim host R B there m 15 s1 (λ v. 1) (whole c u.entry q)) same_running
             (subst (λ (f : EntryPoint). Sim host R B there m 15 s1 (λ v. 1) (whole here f q)) (sym begins)
             (sim_bind host R (λ v r. KeepsGlobals R x r) (λ v r K. at x two (Base 0 ∷ K.under) (19 ∷ []) [] K.machine) B there m 15 s1 (λ v. 9) (λ v. 1)
-            (bind (declared here no_functions names q0) (λ flow r. entry_called (calling here fs r) e (globals_made r))) (λ parts r. Gives [] r)
+            (bind (declared here no_functions [] names q0) (λ flow r. entry_called (calling here fs r) e (globals_made r))) (λ parts r. Gives [] r)
             (sim_bind host R (AreMade host R tested y low s.tables execute m engine_runs captures (low_executes m) names) (made_place host R tested y low s.tables execute m engine_runs captures (low_executes m) names one 19)
             (λ v r. KeepsGlobals R x r) (λ v r K. at x two (Base 0 ∷ K.under) (19 ∷ []) [] K.machine) m 15 s1 (λ f. 15) (λ v. 9)
-            (declared here no_functions names q0) (λ flow r. entry_called (calling here fs r) e (globals_made r))
+            (declared here no_functions [] names q0) (λ flow r. entry_called (calling here fs r) e (globals_made r))
             (names_made host R tested y low s.tables execute m engine_runs captures (low_executes m) names (n + 1) 21 19 15 q0 K0 fine a.0 (omega arith))
             (λ flow r K less.
             let size = K.frame_size in

@@ -37,12 +37,12 @@ use Rattle.machine_rules.specs.Machine.{Goes, step}
 use Rattle.source_meaning.specs.Values.{start_part, start_parts, is_true}
 use Rattle.source_meaning.specs.Evaluation.{Variables, with_variable, Deferred, Progress, Outcome, Gives, bind, spend, chosen}
 use Rattle.source_meaning.specs.Expressions.{Running, Caller, made, eval}
-use Rattle.source_meaning.specs.Statements.{Flow, Next, Broke, Continued, Returned, on_next, on_body, turns, looped, maybe, tested as tested_value, initial as initial_value, declared, exec, execs}
+use Rattle.source_meaning.specs.Statements.{Flow, Next, Broke, Continued, Returned, on_next, on_body, turns, looped, maybe, tested as tested_value, initial as initial_value, declared, exec, execs, after_names, after_stmt}
 use Rattle.source_meaning.specs.Scripts.{Function}
 use Rattle.source_laws.specs.Ledger.{Machine, MachineHost, Took, Sim}
 use Rattle.source_laws.specs.Kept.{pushed, Stands, AreHeld, Site, IsListed, at, In, part_types, Vars, Kept, spot_at}
 use Rattle.source_laws.specs.Simulation.{Executor, running_at, HoldsValue, value_place, value_credits, ExprRuns}
-use Rattle.source_laws.specs.FineStatements.{after_names, after_stmt, after_stmts, DeclaresNothing, IsFineValue, IsFineTest, IsFineMaybe, AreFineNames, IsFineStmt, AreFineStmts}
+use Rattle.source_laws.specs.FineStatements.{after_stmts, DeclaresNothing, IsFineValue, IsFineTest, IsFineMaybe, AreFineNames, IsFineStmt, AreFineStmts}
 use Rattle.source_laws.specs.StatementsRun.{Exit, IsExit, AreExits, FlowHolds, flow_place, one_of, flow_credits, StmtRuns}
 use Rattle.source_laws.proofs.Cells.{parted, held_over, pushed_alone, held_parts, held_pushed, pushed_over, pushed_length, pushed_append, stands_over, stands_length}
 use Rattle.source_laws.proofs.Ledger.{took_none, took_cost, took_then, took_less, sim_after, sim_bind, sim_paid, sim_chosen, sim_map}
@@ -257,7 +257,7 @@ module _ (host : MachineHost) (R : Saved → Deferred → Type 0) (x : Site) (li
       → IsFineStmt host.table functions x result breaks.allowed continues.allowed size scope s → LinesStand x.code x.places place (emit_stmt x.layout out n size s)
       → AreExits out breaks continues → IsExit x scope size breaks → IsExit x scope size continues → value_types room ≡ cell_types x.layout.structs result → p.left ≤ most
       → Sim host R (Holds' breaks continues scope (size + 0)) (place_of_flow breaks continues scope (size + 0) (place + lines_size (emit_stmt x.layout out n size s)) room lower back calls pending)
-      p.left c (spot_at R x place [] (pushed room lower) (back ∷ calls) pending K) (flow_credits c 0) (exec here caller s p)
+      p.left c (spot_at R x place [] (pushed room lower) (back ∷ calls) pending K) (flow_credits c 0) (exec here caller scope s p)
 
   keeps : (s : TypedStmt) → DeclaresNothing s → Does s → Keeps s
   keeps (block m xs) h d = d
@@ -338,7 +338,7 @@ module _ (host : MachineHost) (R : Saved → Deferred → Type 0) (x : Site) (li
       let between = pushed room lower in
       sim_bind host R (HoldsValue R x scope size (type_of e)) (value_place R x scope size (type_of e) middle [] between (back ∷ calls) pending)
       (Holds' breaks continues scope (size + 0)) (place_of_flow breaks continues scope (size + 0) next room lower back calls pending)
-      p.left c (spot_at R x place [] between (back ∷ calls) pending K) (value_credits c) (flow_credits c 0) (eval here caller e p) (λ parts q. Gives Next q)
+      p.left c (spot_at R x place [] between (back ∷ calls) pending K) (value_credits c) (flow_credits c 0) (eval here caller scope e p) (λ parts q. Gives Next q)
       (r scope size n size place c p K [] between (back ∷ calls) pending fine b.0 (omega arith) le tt)
       (λ v q h less.
       let long : length v ≡ count = sym (length-map v type_of_value) ∙ ap length h.0 in (
@@ -399,19 +399,19 @@ module _ (host : MachineHost) (R : Saved → Deferred → Type 0) (x : Site) (li
       let between = pushed room lower in
       sim_bind host R (HoldsValue R x scope size (type_of e)) (value_place R x scope size (type_of e) middle [] between (back ∷ calls) pending)
       (Holds' breaks continues scope (size + 0)) (place_of_flow breaks continues scope (size + 0) next room lower back calls pending)
-      p.left c (spot_at R x place [] between (back ∷ calls) pending K) (value_credits c) (flow_credits c 0) (eval here caller e p) (λ v q. chosen (is_true v) (λ u. exec here caller a u) (λ u. Gives Next u) q)
+      p.left c (spot_at R x place [] between (back ∷ calls) pending K) (value_credits c) (flow_credits c 0) (eval here caller scope e p) (λ v q. chosen (is_true v) (λ u. exec here caller scope a u) (λ u. Gives Next u) q)
       (r scope size (n + 1) size place c p K [] between (back ∷ calls) pending fine.0.0 b.0 (omega arith) le tt)
       (λ v q h less.
       let L = h.1 in
       let rest = L.frame ++ (between ++ L.under) in
-      tested_then breaks continues scope size (8 + c) c middle q L next room lower back calls pending v (λ u. exec here caller a u) (λ u. Gives Next u) (h.0 ∙ ap (cell_types x.layout.structs) fine.0.1)
+      tested_then breaks continues scope size (8 + c) c middle q L next room lower back calls pending v (λ u. exec here caller scope a u) (λ u. Gives Next u) (h.0 ∙ ap (cell_types x.layout.structs) fine.0.1)
       (λ k nonzero.
       let s0 = spot_at R x middle (Holds (Int k) ∷ []) between (back ∷ calls) pending L in
       let s1 = spot_at R x (middle + 6) [] between (back ∷ calls) pending L in
       let jump = other_passes host x listed middle (middle + 6) _ k rest (back ∷ calls) pending L.machine b.1.0.begins nonzero refl in
-      sim_after host R (Holds' breaks continues scope (size + 0)) (place_of_flow breaks continues scope (size + 0) next room lower back calls pending) (flow_credits c 0) (exec here caller a q)
+      sim_after host R (Holds' breaks continues scope (size + 0)) (place_of_flow breaks continues scope (size + 0) next room lower back calls pending) (flow_credits c 0) (exec here caller scope a q)
       (took_cost host q.left (8 + c) (7 + c) s0 s1 (omega arith) jump)
-      (flow_same breaks continues scope size (middle + 6 + lines_size body) next q.left c (7 + c) s1 room lower back calls pending (exec here caller a q) (omega arith) ending
+      (flow_same breaks continues scope size (middle + 6 + lines_size body) next q.left c (7 + c) s1 room lower back calls pending (exec here caller scope a q) (omega arith) ending
       (keeps a fine.2 da out breaks continues scope size (n + 1 + labels e) (middle + 6) (7 + c) q L room lower back calls pending fine.1 d.0 exits ends starts typed (omega (arith, less, le)))))
       (λ k nought.
       let s0 = spot_at R x middle (Holds (Int k) ∷ []) between (back ∷ calls) pending L in
@@ -438,28 +438,28 @@ module _ (host : MachineHost) (R : Saved → Deferred → Type 0) (x : Site) (li
       let between = pushed room lower in
       sim_bind host R (HoldsValue R x scope size (type_of e)) (value_place R x scope size (type_of e) middle [] between (back ∷ calls) pending)
       (Holds' breaks continues scope (size + 0)) (place_of_flow breaks continues scope (size + 0) next room lower back calls pending)
-      p.left c (spot_at R x place [] between (back ∷ calls) pending K) (value_credits c) (flow_credits c 0) (eval here caller e p) (λ v q. chosen (is_true v) (λ u. exec here caller a u) (λ u. exec here caller o u) q)
+      p.left c (spot_at R x place [] between (back ∷ calls) pending K) (value_credits c) (flow_credits c 0) (eval here caller scope e p) (λ v q. chosen (is_true v) (λ u. exec here caller scope a u) (λ u. exec here caller scope o u) q)
       (r scope size (n + 2) size place c p K [] between (back ∷ calls) pending fine.0.0 b.0 (omega arith) le tt)
       (λ v q h less.
       let L = h.1 in
       let rest = L.frame ++ (between ++ L.under) in
-      tested_then breaks continues scope size (8 + c) c middle q L next room lower back calls pending v (λ u. exec here caller a u) (λ u. exec here caller o u) (h.0 ∙ ap (cell_types x.layout.structs) fine.0.1)
+      tested_then breaks continues scope size (8 + c) c middle q L next room lower back calls pending v (λ u. exec here caller scope a u) (λ u. exec here caller scope o u) (h.0 ∙ ap (cell_types x.layout.structs) fine.0.1)
       (λ k nonzero.
       let s0 = spot_at R x middle (Holds (Int k) ∷ []) between (back ∷ calls) pending L in
       let s1 = spot_at R x (middle + 6) [] between (back ∷ calls) pending L in
       let jump = other_passes host x listed middle (middle + 6) _ k rest (back ∷ calls) pending L.machine b.1.0.begins nonzero refl in
-      sim_after host R (Holds' breaks continues scope (size + 0)) (place_of_flow breaks continues scope (size + 0) next room lower back calls pending) (flow_credits c 0) (exec here caller a q)
+      sim_after host R (Holds' breaks continues scope (size + 0)) (place_of_flow breaks continues scope (size + 0) next room lower back calls pending) (flow_credits c 0) (exec here caller scope a q)
       (took_cost host q.left (8 + c) (7 + c) s0 s1 (omega arith) jump)
-      (flow_on breaks continues scope size jumps next q.left c (7 + c) s1 room lower back calls pending (exec here caller a q) (omega arith)
+      (flow_on breaks continues scope size jumps next q.left c (7 + c) s1 room lower back calls pending (exec here caller scope a q) (omega arith)
       (λ w M. jump_goes host x listed jumps next _ (M.frame ++ (between ++ M.under)) (back ∷ calls) pending M.machine d.1.0.begins (d.1.0.leads ∙ over))
       (keeps a fine.3 da out breaks continues scope size (n + 2 + labels e) (middle + 6) (7 + c) q L room lower back calls pending fine.1 d.0 exits ends starts typed (omega (arith, less, le)))))
       (λ k nought.
       let s0 = spot_at R x middle (Holds (Int k) ∷ []) between (back ∷ calls) pending L in
       let s1 = spot_at R x (jumps + 6 + 0) [] between (back ∷ calls) pending L in
       let jump = zero_jumps host x listed middle (jumps + 6 + 0) _ k rest (back ∷ calls) pending L.machine b.1.0.begins nought (b.1.0.leads ∙ otherwise) in
-      sim_after host R (Holds' breaks continues scope (size + 0)) (place_of_flow breaks continues scope (size + 0) next room lower back calls pending) (flow_credits c 0) (exec here caller o q)
+      sim_after host R (Holds' breaks continues scope (size + 0)) (place_of_flow breaks continues scope (size + 0) next room lower back calls pending) (flow_credits c 0) (exec here caller scope o q)
       (took_cost host q.left (8 + c) (7 + c) s0 s1 (omega arith) jump)
-      (flow_same breaks continues scope size (jumps + 6 + 0 + lines_size second) next q.left c (7 + c) s1 room lower back calls pending (exec here caller o q) (omega arith) ending
+      (flow_same breaks continues scope size (jumps + 6 + 0 + lines_size second) next q.left c (7 + c) s1 room lower back calls pending (exec here caller scope o q) (omega arith) ending
       (keeps o fine.4 db out breaks continues scope size (n + 2 + labels e + stmt_labels a) (jumps + 6 + 0) (7 + c) q L room lower back calls pending fine.2 f.0 exits ends starts typed (omega (arith, less, le))))))
 
   -- ---- lists of statements
@@ -486,7 +486,7 @@ module _ (host : MachineHost) (R : Saved → Deferred → Type 0) (x : Site) (li
       → AreExits out breaks continues → IsExit x scope size breaks → IsExit x scope size continues → value_types room ≡ cell_types x.layout.structs result → p.left ≤ most
       → Sim host R (Holds' breaks continues (after_stmts ss scope) (size + all_declared_cells x.layout.structs ss))
       (place_of_flow breaks continues (after_stmts ss scope) (size + all_declared_cells x.layout.structs ss) (place + lines_size (emit_stmts x.layout out n size None ss)) room lower back calls pending)
-      p.left c (spot_at R x place [] (pushed room lower) (back ∷ calls) pending K) (flow_credits c (all_declared_cells x.layout.structs ss)) (execs here caller ss p)
+      p.left c (spot_at R x place [] (pushed room lower) (back ∷ calls) pending K) (flow_credits c (all_declared_cells x.layout.structs ss)) (execs here caller scope ss p)
 
   pub none_do : DoAll no_stmt
   none_do out breaks continues scope size n place c p K room lower back calls pending fine stands exits ends starts typed le =
@@ -532,7 +532,7 @@ module _ (host : MachineHost) (R : Saved → Deferred → Type 0) (x : Site) (li
       let B = Holds' breaks continues last (size + (one + many)) in
       let there = place_of_flow breaks continues last (size + (one + many)) next room lower back calls pending in
       sim_bind host R (Holds' breaks continues (after_stmt s scope) (size + one)) (place_of_flow breaks continues (after_stmt s scope) (size + one) middle room lower back calls pending) B there
-      p.left c (spot_at R x place [] between (back ∷ calls) pending K) (flow_credits c one) (flow_credits c (one + many)) (exec here caller s p) (λ f q. on_next f (λ r. execs here caller ss r) q)
+      p.left c (spot_at R x place [] between (back ∷ calls) pending K) (flow_credits c one) (flow_credits c (one + many)) (exec here caller scope s p) (λ f q. on_next f (λ r. execs here caller (after_stmt s scope) ss r) q)
       (ds out breaks continues scope size n place c p K room lower back calls pending fine.0 b.0 exits ends starts typed le)
       (λ f q h less. on_first s ss dss out breaks continues scope size n place c p.left room lower back calls pending fine.1 middle next b.1 ending exits ends starts typed le f q h less)
     where
@@ -545,7 +545,7 @@ module _ (host : MachineHost) (R : Saved → Deferred → Type 0) (x : Site) (li
           → Sim host R (Holds' breaks continues (after_stmts ss (after_stmt s scope)) (size + (declared_cells x.layout.structs s + all_declared_cells x.layout.structs ss)))
           (place_of_flow breaks continues (after_stmts ss (after_stmt s scope)) (size + (declared_cells x.layout.structs s + all_declared_cells x.layout.structs ss)) next room lower back calls pending)
           q.left (flow_credits c (declared_cells x.layout.structs s) f) (place_of_flow breaks continues (after_stmt s scope) (size + declared_cells x.layout.structs s) middle room lower back calls pending f q h)
-          (flow_credits c (declared_cells x.layout.structs s + all_declared_cells x.layout.structs ss)) (on_next f (λ r. execs here caller ss r) q)
+          (flow_credits c (declared_cells x.layout.structs s + all_declared_cells x.layout.structs ss)) (on_next f (λ r. execs here caller (after_stmt s scope) ss r) q)
       on_first s ss dss out breaks continues scope size n place c left room lower back calls pending fine middle next lines ending exits ends starts typed le Next q h less =
           let structs = x.layout.structs in
           let d = declared_cells structs s in
@@ -556,7 +556,7 @@ module _ (host : MachineHost) (R : Saved → Deferred → Type 0) (x : Site) (li
           let enough = sum_of d e in
           sim_map host R (Holds' breaks continues scope' (size + d + e)) (place_of_flow breaks continues scope' (size + d + e) (middle + lines_size rest) room lower back calls pending)
           (Holds' breaks continues scope' (size + (d + e))) (place_of_flow breaks continues scope' (size + (d + e)) next room lower back calls pending)
-          q.left (c + one_of d) (spot_at R x middle [] (pushed room lower) (back ∷ calls) pending h) (flow_credits (c + one_of d) e) (flow_credits c (d + e)) (execs here caller ss q)
+          q.left (c + one_of d) (spot_at R x middle [] (pushed room lower) (back ∷ calls) pending h) (flow_credits (c + one_of d) e) (flow_credits c (d + e)) (execs here caller (after_stmt s scope) ss q)
           (dss out breaks continues (after_stmt s scope) (size + d) (n + stmt_labels s) middle (c + one_of d) q h room lower back calls pending fine lines exits (exit_later s scope size breaks ends) (exit_later s scope size continues starts) typed (omega (arith, less, le)))
           (λ f r g. regrouped breaks continues scope' size d e (middle + lines_size rest) next c room lower back calls pending ending whole enough f r g)
       on_first s ss dss out breaks continues scope size n place c left room lower back calls pending fine middle next lines ending exits ends starts typed le Broke q h less =
@@ -578,7 +578,7 @@ module _ (host : MachineHost) (R : Saved → Deferred → Type 0) (x : Site) (li
       let ending : middle + lines_size (dropped many) ≡ next = let h = sizes inner (dropped many) in omega (arith, h) in
       sim_map host R (Holds' breaks continues (after_stmts ss scope) (size + many)) (place_of_flow breaks continues (after_stmts ss scope) (size + many) middle room lower back calls pending)
       (Holds' breaks continues scope (size + 0)) (place_of_flow breaks continues scope (size + 0) next room lower back calls pending)
-      p.left c (spot_at R x place [] (pushed room lower) (back ∷ calls) pending K) (flow_credits c many) (flow_credits c 0) (execs here caller ss p)
+      p.left c (spot_at R x place [] (pushed room lower) (back ∷ calls) pending K) (flow_credits c many) (flow_credits c 0) (execs here caller scope ss p)
       (dss out breaks continues scope size n place c p K room lower back calls pending fine b.0 exits ends starts typed le)
       (λ f q g. on_end breaks continues ss scope size many middle next c room lower back calls pending b.1 ending (λ i j. fits (position x.layout i + length (part_types x i)) (length K.frame) size (within x scope K.frame p.locals K.local_values i j) K.frame_size) f q g)
     where
@@ -712,7 +712,7 @@ module _ (host : MachineHost) (R : Saved → Deferred → Type 0) (x : Site) (li
       let B = Holds' breaks continues scope (size + 0) in
       let there = place_of_flow breaks continues scope (size + 0) next room lower back calls pending in
       sim_bind host R (HoldsValue R x scope size (type_of e)) (value_place R x scope size (type_of e) middle [] between (back ∷ calls) pending) B there
-      p.left c (spot_at R x place [] between (back ∷ calls) pending K) (value_credits c) (flow_credits c 0) (eval here caller e p) (λ parts q. spend q (λ u. Gives (Returned parts) u))
+      p.left c (spot_at R x place [] between (back ∷ calls) pending K) (value_credits c) (flow_credits c 0) (eval here caller scope e p) (λ parts q. spend q (λ u. Gives (Returned parts) u))
       (r scope size n size place c p K [] between (back ∷ calls) pending fine.0 b.0 (omega arith) le tt)
       (λ v q h less.
       let L = h.1 in
@@ -845,7 +845,7 @@ module _ (host : MachineHost) (R : Saved → Deferred → Type 0) (x : Site) (li
   initial_runs : (t : Ty) (o : Option TypedExpr) → MaybeRuns o → (scope : List ℕ) (size n place c : ℕ) (p : Progress) (K : Kept R x scope size p.globals p.locals p.world) (between : List Cell) (calls : List ℕ) (pending : List Saved)
       → IsFineValue host.table functions x result scope t o → LinesStand x.code x.places place (initial x.layout n size t o) → p.left ≤ most
       → Sim host R (HoldsValue R x scope size t) (value_place R x scope size t (place + lines_size (initial x.layout n size t o)) [] between calls pending) p.left c (spot_at R x place [] between calls pending K)
-      (λ v. c + one_of (length (cell_types x.layout.structs t))) (initial_value here caller t o p)
+      (λ v. c + one_of (length (cell_types x.layout.structs t))) (initial_value here caller scope t o p)
   initial_runs t None r scope size n place c p K between calls pending fine lines le =
       let ts = cell_types x.layout.structs t in
       let next = place + lines_size (started ts) in
@@ -857,7 +857,7 @@ module _ (host : MachineHost) (R : Saved → Deferred → Type 0) (x : Site) (li
       let next = place + lines_size (emit x.layout n size e) in
       let few = few_ones (length (cell_types x.layout.structs t)) in
       sim_map host R (HoldsValue R x scope size (type_of e)) (value_place R x scope size (type_of e) next [] between calls pending)
-      (HoldsValue R x scope size t) (value_place R x scope size t next [] between calls pending) p.left c (spot_at R x place [] between calls pending K) (value_credits c) (λ v. c + one_of (length (cell_types x.layout.structs t))) (eval here caller e p)
+      (HoldsValue R x scope size t) (value_place R x scope size t next [] between calls pending) p.left c (spot_at R x place [] between calls pending K) (value_credits c) (λ v. c + one_of (length (cell_types x.layout.structs t))) (eval here caller scope e p)
       (r scope size n size place c p K [] between calls pending fine.0 lines (omega arith) le tt)
       (λ v q h. ((h.0 ∙ ap (cell_types x.layout.structs) fine.1, h.1), took_less host (c + one_of (length (cell_types x.layout.structs t))) (omega (arith, few)) (took_none host q.left (8 + c) (spot_at R x next (pushed v []) between calls pending h.1))))
 
@@ -887,7 +887,7 @@ module _ (host : MachineHost) (R : Saved → Deferred → Type 0) (x : Site) (li
       → AreFineNames host.table functions x result size scope ds → LinesStand x.code x.places place (emit_names x.layout n size ds) → p.left ≤ most
       → Sim host R (Holds' breaks continues (after_names ds scope) (size + names_cells x.layout.structs ds))
       (place_of_flow breaks continues (after_names ds scope) (size + names_cells x.layout.structs ds) (place + lines_size (emit_names x.layout n size ds)) room lower back calls pending)
-      p.left c (spot_at R x place [] (pushed room lower) (back ∷ calls) pending K) (flow_credits c (names_cells x.layout.structs ds)) (declared here caller ds p)
+      p.left c (spot_at R x place [] (pushed room lower) (back ∷ calls) pending K) (flow_credits c (names_cells x.layout.structs ds)) (declared here caller scope ds p)
 
   names_do : (ds : List TypedName) → EachName ds → NamesDo ds
   unfolding NamesDo
@@ -912,7 +912,7 @@ module _ (host : MachineHost) (R : Saved → Deferred → Type 0) (x : Site) (li
       let enough = sum_of wide many in
       sim_bind host R (HoldsValue R x scope size t) (value_place R x scope size t middle [] between (back ∷ calls) pending)
       (Holds' breaks continues scope' (size + (wide + many))) (place_of_flow breaks continues scope' (size + (wide + many)) next room lower back calls pending)
-      p.left c (spot_at R x place [] between (back ∷ calls) pending K) (λ v. c + one_of wide) (flow_credits c (wide + many)) (initial_value here caller t d.value p) (λ parts q. declared here caller ds (record q { locals = with_variable q.locals d.name.number parts }))
+      p.left c (spot_at R x place [] between (back ∷ calls) pending K) (λ v. c + one_of wide) (flow_credits c (wide + many)) (initial_value here caller scope t d.value p) (λ parts q. declared here caller (d.name.number ∷ scope) ds (record q { locals = with_variable q.locals d.name.number parts }))
       (initial_runs t d.value each.0 scope size n place c p K between (back ∷ calls) pending fine.2 b.0 le)
       (λ v q h less.
       let L = h.1 in
@@ -923,10 +923,10 @@ module _ (host : MachineHost) (R : Saved → Deferred → Type 0) (x : Site) (li
       let cells_are : pushed v [] ++ (L.frame ++ (between ++ L.under)) ≡ pushed v L.frame ++ (between ++ L.under) =
       sym (append_assoc (pushed v []) L.frame (between ++ L.under)) ∙ ap (λ z. z ++ (between ++ L.under)) (sym (pushed_alone v L.frame)) in
       subst (λ (z : List Cell). Sim host R (Holds' breaks continues scope' (size + (wide + many))) (place_of_flow breaks continues scope' (size + (wide + many)) next room lower back calls pending)
-      q.left (c + one_of wide) (at x middle z (back ∷ calls) pending L.machine) (flow_credits c (wide + many)) (declared here caller ds r)) (sym cells_are)
+      q.left (c + one_of wide) (at x middle z (back ∷ calls) pending L.machine) (flow_credits c (wide + many)) (declared here caller (d.name.number ∷ scope) ds r)) (sym cells_are)
       (sim_map host R (Holds' breaks continues scope' (size + wide + many)) (place_of_flow breaks continues scope' (size + wide + many) (middle + lines_size rest) room lower back calls pending)
       (Holds' breaks continues scope' (size + (wide + many))) (place_of_flow breaks continues scope' (size + (wide + many)) next room lower back calls pending)
-      q.left (c + one_of wide) (spot_at R x middle [] between (back ∷ calls) pending M) (flow_credits (c + one_of wide) many) (flow_credits c (wide + many)) (declared here caller ds r)
+      q.left (c + one_of wide) (spot_at R x middle [] between (back ∷ calls) pending M) (flow_credits (c + one_of wide) many) (flow_credits c (wide + many)) (declared here caller (d.name.number ∷ scope) ds r)
       (names_do ds each.1 breaks continues (d.name.number ∷ scope) (size + wide) (n + some_labels d.value) middle (c + one_of wide) r M room lower back calls pending fine.3 b.1 (omega (arith, less, le)))
       (λ f u g. regrouped breaks continues scope' size wide many (middle + lines_size rest) next c room lower back calls pending ending whole enough f u g)))
 
@@ -1067,11 +1067,11 @@ module _ (host : MachineHost) (R : Saved → Deferred → Type 0) (x : Site) (li
 
   -- a test of an int
   as_test : (e : TypedExpr) (scope : List ℕ) (size place next c : ℕ) (p : Progress) (K : Kept R x scope size p.globals p.locals p.world) (between : List Cell) (calls : List ℕ) (pending : List Saved) → type_of e ≡ IntTy
-      → Sim host R (HoldsValue R x scope size (type_of e)) (value_place R x scope size (type_of e) next [] between calls pending) p.left c (spot_at R x place [] between calls pending K) (value_credits c) (eval here caller e p)
-      → Sim host R (HoldsValue R x scope size IntTy) (value_place R x scope size IntTy next [] between calls pending) p.left c (spot_at R x place [] between calls pending K) (value_credits c) (eval here caller e p)
+      → Sim host R (HoldsValue R x scope size (type_of e)) (value_place R x scope size (type_of e) next [] between calls pending) p.left c (spot_at R x place [] between calls pending K) (value_credits c) (eval here caller scope e p)
+      → Sim host R (HoldsValue R x scope size IntTy) (value_place R x scope size IntTy next [] between calls pending) p.left c (spot_at R x place [] between calls pending K) (value_credits c) (eval here caller scope e p)
   as_test e scope size place next c p K between calls pending is h =
       sim_map host R (HoldsValue R x scope size (type_of e)) (value_place R x scope size (type_of e) next [] between calls pending) (HoldsValue R x scope size IntTy) (value_place R x scope size IntTy next [] between calls pending)
-      p.left c (spot_at R x place [] between calls pending K) (value_credits c) (value_credits c) (eval here caller e p) h
+      p.left c (spot_at R x place [] between calls pending K) (value_credits c) (value_credits c) (eval here caller scope e p) h
       (λ v q g. ((g.0 ∙ ap (cell_types x.layout.structs) is, g.1), took_none host q.left (8 + c) (spot_at R x next (pushed v []) between calls pending g.1)))
 
   pub while_does : (m : ℕ) (e : TypedExpr) (a : TypedStmt) → Runs e → Does a → Does (while_loop m e a)
@@ -1093,8 +1093,8 @@ module _ (host : MachineHost) (R : Saved → Deferred → Type 0) (x : Site) (li
       let broken : x.places (n + 1) ≡ next = d.1.1.0 ∙ ending in
       let again : x.places n ≡ head = stands.0 ∙ same in
       subst (λ k. Sim host R (Holds' breaks continues scope (size + 0)) (place_of_flow breaks continues scope (size + 0) next room lower back calls pending) p.left c (spot_at R x k [] between (back ∷ calls) pending K) (flow_credits c 0)
-      (looped (λ q. eval here caller e q) (λ q. exec here caller a q) (λ q. Gives [] q) p)) (sym same)
-      (looped_run breaks continues scope size room lower back calls pending head decides start body_end head next (n + 1) n c (λ q. eval here caller e q) (λ q. exec here caller a q) (λ q. Gives [] q)
+      (looped (λ q. eval here caller scope e q) (λ q. exec here caller scope a q) (λ q. Gives [] q) p)) (sym same)
+      (looped_run breaks continues scope size room lower back calls pending head decides start body_end head next (n + 1) n c (λ q. eval here caller scope e q) (λ q. exec here caller scope a q) (λ q. Gives [] q)
       (record {
         break_is = broken;
         continue_is = again;
@@ -1113,7 +1113,7 @@ module _ (host : MachineHost) (R : Saved → Deferred → Type 0) (x : Site) (li
 
   evaluated_runs : (o : Option TypedExpr) → MaybeRuns o → (scope : List ℕ) (size n place c : ℕ) (p : Progress) (K : Kept R x scope size p.globals p.locals p.world) (between : List Cell) (calls : List ℕ) (pending : List Saved)
       → IsFineMaybe host.table functions x result scope o → LinesStand x.code x.places place (evaluated x.layout n size o) → p.left ≤ most
-      → Sim host R (λ w q. Kept R x scope size q.globals q.locals q.world) (λ w q L. spot_at R x (place + lines_size (evaluated x.layout n size o)) [] between calls pending L) p.left c (spot_at R x place [] between calls pending K) (λ w. c) (maybe here caller o p)
+      → Sim host R (λ w q. Kept R x scope size q.globals q.locals q.world) (λ w q L. spot_at R x (place + lines_size (evaluated x.layout n size o)) [] between calls pending L) p.left c (spot_at R x place [] between calls pending K) (λ w. c) (maybe here caller scope o p)
   evaluated_runs None r scope size n place c p K between calls pending fine lines le =
       let same : place ≡ place + 0 = omega arith in
       let s = spot_at R x place [] between calls pending K in
@@ -1126,7 +1126,7 @@ module _ (host : MachineHost) (R : Saved → Deferred → Type 0) (x : Site) (li
       let next = place + lines_size (value ++ dropped count) in
       let goes : middle + lines_size (dropped count) ≡ next = let h = sizes value (dropped count) in omega (arith, h) in
       sim_map host R (HoldsValue R x scope size (type_of e)) (value_place R x scope size (type_of e) middle [] between calls pending)
-      (λ w q. Kept R x scope size q.globals q.locals q.world) (λ w q L. spot_at R x next [] between calls pending L) p.left c (spot_at R x place [] between calls pending K) (value_credits c) (λ w. c) (eval here caller e p)
+      (λ w q. Kept R x scope size q.globals q.locals q.world) (λ w q L. spot_at R x next [] between calls pending L) p.left c (spot_at R x place [] between calls pending K) (value_credits c) (λ w. c) (eval here caller scope e p)
       (r scope size n size place c p K [] between calls pending fine b.0 (omega arith) le tt)
       (λ v q h.
       let long : length v ≡ count = sym (length-map v type_of_value) ∙ ap length h.0 in (
@@ -1137,7 +1137,7 @@ module _ (host : MachineHost) (R : Saved → Deferred → Type 0) (x : Site) (li
 
   tested_runs : (o : Option TypedExpr) → MaybeRuns o → (scope : List ℕ) (size n place c : ℕ) (p : Progress) (K : Kept R x scope size p.globals p.locals p.world) (between : List Cell) (calls : List ℕ) (pending : List Saved)
       → IsFineTest host.table functions x result scope o → LinesStand x.code x.places place (tested x.layout n size o) → p.left ≤ most
-      → Sim host R (HoldsValue R x scope size IntTy) (value_place R x scope size IntTy (place + lines_size (tested x.layout n size o)) [] between calls pending) p.left c (spot_at R x place [] between calls pending K) (value_credits c) (tested_value here caller o p)
+      → Sim host R (HoldsValue R x scope size IntTy) (value_place R x scope size IntTy (place + lines_size (tested x.layout n size o)) [] between calls pending) p.left c (spot_at R x place [] between calls pending K) (value_credits c) (tested_value here caller scope o p)
   tested_runs None r scope size n place c p K between calls pending fine lines le =
       let next = place + lines_size (int_constant (pos 1) ∷ []) in
       let t = spot_at R x next (Holds (Int (pos 1)) ∷ []) between calls pending K in
@@ -1179,12 +1179,12 @@ module _ (host : MachineHost) (R : Saved → Deferred → Type 0) (x : Site) (li
       let goes_on : x.places (n + 1) ≡ third_at = f.1.0 ∙ same_third in
       sim_bind host R (λ w q. Kept R x scope size q.globals q.locals q.world) (λ w q L. spot_at R x loop_at [] between (back ∷ calls) pending L)
       (Holds' breaks continues scope (size + 0)) (place_of_flow breaks continues scope (size + 0) next room lower back calls pending) p.left c (spot_at R x place [] between (back ∷ calls) pending K) (λ w. c) (flow_credits c 0)
-      (maybe here caller e p) (λ parts q. looped (λ u. tested_value here caller y u) (λ u. exec here caller a u) (λ u. maybe here caller z u) q)
+      (maybe here caller scope e p) (λ parts q. looped (λ u. tested_value here caller scope y u) (λ u. exec here caller scope a u) (λ u. maybe here caller scope z u) q)
       (evaluated_runs e re scope size (n + 3) place c p K between (back ∷ calls) pending fine.0 b.0 le)
       (λ w q M less.
       subst (λ k. Sim host R (Holds' breaks continues scope (size + 0)) (place_of_flow breaks continues scope (size + 0) next room lower back calls pending) q.left c (spot_at R x k [] between (back ∷ calls) pending M) (flow_credits c 0)
-      (looped (λ u. tested_value here caller y u) (λ u. exec here caller a u) (λ u. maybe here caller z u) q)) (sym same_head)
-      (looped_run breaks continues scope size room lower back calls pending head decides start body_end third_at next (n + 2) (n + 1) c (λ u. tested_value here caller y u) (λ u. exec here caller a u) (λ u. maybe here caller z u)
+      (looped (λ u. tested_value here caller scope y u) (λ u. exec here caller scope a u) (λ u. maybe here caller scope z u) q)) (sym same_head)
+      (looped_run breaks continues scope size room lower back calls pending head decides start body_end third_at next (n + 2) (n + 1) c (λ u. tested_value here caller scope y u) (λ u. exec here caller scope a u) (λ u. maybe here caller scope z u)
       (record {
         break_is = broken;
         continue_is = goes_on;
@@ -1197,7 +1197,7 @@ module _ (host : MachineHost) (R : Saved → Deferred → Type 0) (x : Site) (li
         to_third = λ u L k. subst (λ t. Took host k (8 + c) (spot_at R x body_end [] between (back ∷ calls) pending L) k (7 + c) (spot_at R x t [] between (back ∷ calls) pending L)) same_third
             (took_less host (7 + c) (omega arith) (took_none host k (8 + c) (spot_at R x body_end [] between (back ∷ calls) pending L)));
         third_runs = λ u L few. sim_map host R (λ w q. Kept R x scope size q.globals q.locals q.world) (λ w q N. spot_at R x third_end [] between (back ∷ calls) pending N)
-            (λ w q. Kept R x scope size q.globals q.locals q.world) (λ w q N. spot_at R x head [] between (back ∷ calls) pending N) u.left (7 + c) (spot_at R x third_at [] between (back ∷ calls) pending L) (λ w. 7 + c) (λ w. c) (maybe here caller z u)
+            (λ w q. Kept R x scope size q.globals q.locals q.world) (λ w q N. spot_at R x head [] between (back ∷ calls) pending N) u.left (7 + c) (spot_at R x third_at [] between (back ∷ calls) pending L) (λ w. 7 + c) (λ w. c) (maybe here caller scope z u)
             (evaluated_runs z rz scope size (n + 3 + some_labels e + some_labels y + stmt_labels a) third_at (7 + c) u L between (back ∷ calls) pending fine.2 g.0 few)
             (λ w q N. (
               N,
@@ -1242,7 +1242,7 @@ module _ (host : MachineHost) (R : Saved → Deferred → Type 0) (x : Site) (li
       let broken : x.places (n + 2) ≡ next = d.1.1.0 ∙ ending in
       let continued : x.places (n + 1) ≡ head = b.1.0 ∙ same_head in
       let again : x.places n ≡ start = stands.0 ∙ same in
-      let runs : LoopRuns breaks continues scope size room lower back calls pending head decides start body_end head next (n + 2) (n + 1) c (λ q. eval here caller e q) (λ q. exec here caller a q) (λ q. Gives [] q) = record {
+      let runs : LoopRuns breaks continues scope size room lower back calls pending head decides start body_end head next (n + 2) (n + 1) c (λ q. eval here caller scope e q) (λ q. exec here caller scope a q) (λ q. Gives [] q) = record {
         break_is = broken;
         continue_is = continued;
         test_runs = λ q L few. as_test e scope size head decides c q L between (back ∷ calls) pending fine.1.1 (r scope size (n + 3 + stmt_labels a) size head c q L [] between (back ∷ calls) pending fine.1.0 d.0 (omega arith) few tt);
@@ -1256,16 +1256,16 @@ module _ (host : MachineHost) (R : Saved → Deferred → Type 0) (x : Site) (li
         third_runs = λ q L few. (L, took_less host c (omega arith) (took_none host q.left (7 + c) (spot_at R x head [] between (back ∷ calls) pending L)));
       } in
       subst (λ k. Sim host R (Holds' breaks continues scope (size + 0)) (place_of_flow breaks continues scope (size + 0) next room lower back calls pending) p.left c (spot_at R x k [] between (back ∷ calls) pending K) (flow_credits c 0)
-      (bind (exec here caller a p) (λ f q. on_body f (λ u. looped (λ w. eval here caller e w) (λ w. exec here caller a w) (λ w. Gives [] w) u) q))) (sym same)
+      (bind (exec here caller scope a p) (λ f q. on_body f (λ u. looped (λ w. eval here caller scope e w) (λ w. exec here caller scope a w) (λ w. Gives [] w) u) q))) (sym same)
       (sim_bind host R (Holds' (record { allowed = true; scope = scope; depth = size; label = n + 2 }) (record { allowed = true; scope = scope; depth = size; label = n + 1 }) scope (size + 0))
       (place_of_flow (record { allowed = true; scope = scope; depth = size; label = n + 2 }) (record { allowed = true; scope = scope; depth = size; label = n + 1 }) scope (size + 0) body_end room lower back calls pending)
       (Holds' breaks continues scope (size + 0)) (place_of_flow breaks continues scope (size + 0) next room lower back calls pending)
-      p.left c (spot_at R x start [] between (back ∷ calls) pending K) (flow_credits c 0) (flow_credits c 0) (exec here caller a p) (λ f q. on_body f (λ u. looped (λ w. eval here caller e w) (λ w. exec here caller a w) (λ w. Gives [] w) u) q)
+      p.left c (spot_at R x start [] between (back ∷ calls) pending K) (flow_credits c 0) (flow_credits c 0) (exec here caller scope a p) (λ f q. on_body f (λ u. looped (λ w. eval here caller scope e w) (λ w. exec here caller scope a w) (λ w. Gives [] w) u) q)
       (keeps a fine.2 da inner (record { allowed = true; scope = scope; depth = size; label = n + 2 }) (record { allowed = true; scope = scope; depth = size; label = n + 1 }) scope size (n + 3) start c p K
       room lower back calls pending fine.0 b.0 (record { break_label = refl; break_depth = refl; continue_label = refl; continue_depth = refl })
       (exit_here scope K.frame p.locals size (n + 2) K.local_values K.frame_size) (exit_here scope K.frame p.locals size (n + 1) K.local_values K.frame_size) typed le)
-      (λ f q g less. first_body breaks continues scope size room lower back calls pending head next body_end (n + 2) (n + 1) c (λ w. looped (λ w. eval here caller e w) (λ w. exec here caller a w) (λ w. Gives [] w) w) broken continued same_head
-      (λ q L few. looped_run breaks continues scope size room lower back calls pending head decides start body_end head next (n + 2) (n + 1) c (λ q. eval here caller e q) (λ q. exec here caller a q) (λ q. Gives [] q) runs q L few) f q g (omega (arith, less, le))))
+      (λ f q g less. first_body breaks continues scope size room lower back calls pending head next body_end (n + 2) (n + 1) c (λ w. looped (λ w. eval here caller scope e w) (λ w. exec here caller scope a w) (λ w. Gives [] w) w) broken continued same_head
+      (λ q L few. looped_run breaks continues scope size room lower back calls pending head decides start body_end head next (n + 2) (n + 1) c (λ q. eval here caller scope e q) (λ q. exec here caller scope a q) (λ q. Gives [] q) runs q L few) f q g (omega (arith, less, le))))
     where
       first_body : (breaks continues : Exit) (scope : List ℕ) (size : ℕ) (room : List Value) (lower : List Cell) (back : ℕ) (calls : List ℕ) (pending : List Saved) (head next body_end break_label continue_label c : ℕ) (loop : Progress → Outcome Flow)
           → x.places break_label ≡ next → x.places continue_label ≡ head → body_end ≡ head
@@ -1335,7 +1335,7 @@ module _ (host : MachineHost) (R : Saved → Deferred → Type 0) (x : Site) (li
       let there = place_of_flow breaks continues scope (size + 0) next room lower back calls pending in
       let d = both_stand x.code x.places place (dropped size) (Instruction ops.Retn ∷ []) stands in
       sim_bind host R (λ w q. (w ≡ []) × Kept R x scope size q.globals q.locals q.world) (λ w q h. spot_at R x place [] between (back ∷ calls) pending h.1) B there p.left c s (λ w. c) (flow_credits c 0)
-      (maybe here caller None p) (λ parts q. spend q (λ u. Gives (Returned parts) u)) ((refl, K), took_none host p.left c s)
+      (maybe here caller scope None p) (λ parts q. spend q (λ u. Gives (Returned parts) u)) ((refl, K), took_none host p.left c s)
       (λ w q h less.
       subst (λ (v : List Value). Sim host R B there q.left c (spot_at R x place [] between (back ∷ calls) pending h.1) (flow_credits c 0) (spend q (λ u. Gives (Returned v) u))) (sym h.0)
       (subst (λ (v : List Value). Sim host R B there q.left c (spot_at R x place [] (pushed v lower) (back ∷ calls) pending h.1) (flow_credits c 0) (spend q (λ u. Gives (Returned []) u))) (sym no_room)

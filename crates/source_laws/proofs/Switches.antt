@@ -32,12 +32,12 @@ use Rattle.machine_rules.specs.Machine.{Goes, step}
 use Rattle.source_meaning.specs.Values.{constant_value}
 use Rattle.source_meaning.specs.Evaluation.{Variables, Deferred, Progress, Outcome, Gives, bind, chosen}
 use Rattle.source_meaning.specs.Expressions.{Running, Caller, eval}
-use Rattle.source_meaning.specs.Statements.{Flow, Next, Broke, Continued, Returned, on_switch, execs, selected, from_default}
+use Rattle.source_meaning.specs.Statements.{Flow, Next, Broke, Continued, Returned, on_switch, execs, selected, from_default, after_stmt}
 use Rattle.source_meaning.specs.Scripts.{Function}
 use Rattle.source_laws.specs.Ledger.{Machine, MachineHost, Took, Sim}
 use Rattle.source_laws.specs.Kept.{pushed, Site, IsListed, at, In, part_types, Kept, spot_at}
 use Rattle.source_laws.specs.Simulation.{Executor, running_at, HoldsValue, value_place, value_credits, ExprRuns}
-use Rattle.source_laws.specs.FineStatements.{after_stmt, DeclaresNothing, HasNoLabels, LabelsStandFirst, AreFineStmts}
+use Rattle.source_laws.specs.FineStatements.{DeclaresNothing, HasNoLabels, LabelsStandFirst, AreFineStmts}
 use Rattle.source_laws.specs.StatementsRun.{Exit, IsExit, AreExits, FlowHolds, flow_place, flow_credits, StmtRuns}
 use Rattle.source_laws.proofs.Cells.{stands_over}
 use Rattle.source_laws.proofs.Ledger.{took_none, took_cost, took_then, took_less, sim_after, sim_bind, sim_paid, sim_chosen}
@@ -123,8 +123,9 @@ module _ (here : Running) (caller : Caller) where
     pub no_label : is_label s ≡ false
     pub no_default : is_default s ≡ false
     pub untested : (label : ℕ) → test_of label s ≡ []
-    pub selects : (v : List Value) (other : Progress → Outcome Flow) (ss : TypedStmts) (p : Progress) → selected here caller v other (more_stmts s ss) p ≡ selected here caller v other ss p
-    pub defaults : (ss : TypedStmts) (p : Progress) → from_default here caller (more_stmts s ss) p ≡ from_default here caller ss p
+    pub selects : (sight : List ℕ) (v : List Value) (other : Progress → Outcome Flow) (ss : TypedStmts) (p : Progress)
+        → selected here caller sight v other (more_stmts s ss) p ≡ selected here caller (after_stmt s sight) v other ss p
+    pub defaults : (sight : List ℕ) (ss : TypedStmts) (p : Progress) → from_default here caller sight (more_stmts s ss) p ≡ from_default here caller (after_stmt s sight) ss p
 
   pub data Kind : TypedStmt → Type 0 where
     a_case : (m : ℕ) (k : Const) → Kind (case_label m k)
@@ -132,31 +133,31 @@ module _ (here : Running) (caller : Caller) where
     neither : (s : TypedStmt) → Passes s → Kind s
 
   pub kind_of : (s : TypedStmt) → Kind s
-  kind_of (block m xs) = neither (block m xs) (record { no_label = refl; no_default = refl; untested = λ label. refl; selects = λ v o ss p. refl; defaults = λ ss p. refl })
-  kind_of (empty m) = neither (empty m) (record { no_label = refl; no_default = refl; untested = λ label. refl; selects = λ v o ss p. refl; defaults = λ ss p. refl })
-  kind_of (expression m e) = neither (expression m e) (record { no_label = refl; no_default = refl; untested = λ label. refl; selects = λ v o ss p. refl; defaults = λ ss p. refl })
-  kind_of (if_only m e a) = neither (if_only m e a) (record { no_label = refl; no_default = refl; untested = λ label. refl; selects = λ v o ss p. refl; defaults = λ ss p. refl })
-  kind_of (if_else m e a b) = neither (if_else m e a b) (record { no_label = refl; no_default = refl; untested = λ label. refl; selects = λ v o ss p. refl; defaults = λ ss p. refl })
-  kind_of (while_loop m e a) = neither (while_loop m e a) (record { no_label = refl; no_default = refl; untested = λ label. refl; selects = λ v o ss p. refl; defaults = λ ss p. refl })
-  kind_of (do_loop m a e) = neither (do_loop m a e) (record { no_label = refl; no_default = refl; untested = λ label. refl; selects = λ v o ss p. refl; defaults = λ ss p. refl })
-  kind_of (for_loop m e y z a) = neither (for_loop m e y z a) (record { no_label = refl; no_default = refl; untested = λ label. refl; selects = λ v o ss p. refl; defaults = λ ss p. refl })
-  kind_of (switch m e xs) = neither (switch m e xs) (record { no_label = refl; no_default = refl; untested = λ label. refl; selects = λ v o ss p. refl; defaults = λ ss p. refl })
-  kind_of (break_off m) = neither (break_off m) (record { no_label = refl; no_default = refl; untested = λ label. refl; selects = λ v o ss p. refl; defaults = λ ss p. refl })
-  kind_of (continue_on m) = neither (continue_on m) (record { no_label = refl; no_default = refl; untested = λ label. refl; selects = λ v o ss p. refl; defaults = λ ss p. refl })
-  kind_of (return_from m e) = neither (return_from m e) (record { no_label = refl; no_default = refl; untested = λ label. refl; selects = λ v o ss p. refl; defaults = λ ss p. refl })
-  kind_of (declaration m t ds) = neither (declaration m t ds) (record { no_label = refl; no_default = refl; untested = λ label. refl; selects = λ v o ss p. refl; defaults = λ ss p. refl })
+  kind_of (block m xs) = neither (block m xs) (record { no_label = refl; no_default = refl; untested = λ label. refl; selects = λ sight v o ss p. refl; defaults = λ sight ss p. refl })
+  kind_of (empty m) = neither (empty m) (record { no_label = refl; no_default = refl; untested = λ label. refl; selects = λ sight v o ss p. refl; defaults = λ sight ss p. refl })
+  kind_of (expression m e) = neither (expression m e) (record { no_label = refl; no_default = refl; untested = λ label. refl; selects = λ sight v o ss p. refl; defaults = λ sight ss p. refl })
+  kind_of (if_only m e a) = neither (if_only m e a) (record { no_label = refl; no_default = refl; untested = λ label. refl; selects = λ sight v o ss p. refl; defaults = λ sight ss p. refl })
+  kind_of (if_else m e a b) = neither (if_else m e a b) (record { no_label = refl; no_default = refl; untested = λ label. refl; selects = λ sight v o ss p. refl; defaults = λ sight ss p. refl })
+  kind_of (while_loop m e a) = neither (while_loop m e a) (record { no_label = refl; no_default = refl; untested = λ label. refl; selects = λ sight v o ss p. refl; defaults = λ sight ss p. refl })
+  kind_of (do_loop m a e) = neither (do_loop m a e) (record { no_label = refl; no_default = refl; untested = λ label. refl; selects = λ sight v o ss p. refl; defaults = λ sight ss p. refl })
+  kind_of (for_loop m e y z a) = neither (for_loop m e y z a) (record { no_label = refl; no_default = refl; untested = λ label. refl; selects = λ sight v o ss p. refl; defaults = λ sight ss p. refl })
+  kind_of (switch m e xs) = neither (switch m e xs) (record { no_label = refl; no_default = refl; untested = λ label. refl; selects = λ sight v o ss p. refl; defaults = λ sight ss p. refl })
+  kind_of (break_off m) = neither (break_off m) (record { no_label = refl; no_default = refl; untested = λ label. refl; selects = λ sight v o ss p. refl; defaults = λ sight ss p. refl })
+  kind_of (continue_on m) = neither (continue_on m) (record { no_label = refl; no_default = refl; untested = λ label. refl; selects = λ sight v o ss p. refl; defaults = λ sight ss p. refl })
+  kind_of (return_from m e) = neither (return_from m e) (record { no_label = refl; no_default = refl; untested = λ label. refl; selects = λ sight v o ss p. refl; defaults = λ sight ss p. refl })
+  kind_of (declaration m t ds) = neither (declaration m t ds) (record { no_label = refl; no_default = refl; untested = λ label. refl; selects = λ sight v o ss p. refl; defaults = λ sight ss p. refl })
   kind_of (case_label m k) = a_case m k
   kind_of (default_label m) = a_default m
 
   -- where no label stands, nothing is tested, and none is jumped to
   pub record NoneTested (ss : TypedStmts) : Type 0 where
     pub untested : (label : ℕ) → tests label ss ≡ []
-    pub selects : (v : List Value) (other : Progress → Outcome Flow) (p : Progress) → selected here caller v other ss p ≡ other p
-    pub defaults : (p : Progress) → from_default here caller ss p ≡ Gives Next p
+    pub selects : (sight : List ℕ) (v : List Value) (other : Progress → Outcome Flow) (p : Progress) → selected here caller sight v other ss p ≡ other p
+    pub defaults : (sight : List ℕ) (p : Progress) → from_default here caller sight ss p ≡ Gives Next p
     pub goes_on : (end label : ℕ) → otherwise end label ss ≡ end
 
   pub none_tested : (ss : TypedStmts) → HasNoLabels ss → NoneTested ss
-  none_tested no_stmt h = record { untested = λ label. refl; selects = λ v o p. refl; defaults = λ p. refl; goes_on = λ end label. refl }
+  none_tested no_stmt h = record { untested = λ label. refl; selects = λ sight v o p. refl; defaults = λ sight p. refl; goes_on = λ end label. refl }
   none_tested (more_stmts s ss) h = of_kind s ss h (kind_of s) (none_tested ss h.1)
     where
       of_kind : (s : TypedStmt) (ss : TypedStmts) → HasNoLabels (more_stmts s ss) → Kind s → NoneTested ss → NoneTested (more_stmts s ss)
@@ -164,8 +165,8 @@ module _ (here : Running) (caller : Caller) where
       of_kind s ss h (a_default m) rest = let never = h.0 in absurd cc
       of_kind s ss h (neither s2 passes) rest = record {
         untested = λ label. ap (λ t. t ++ tests (behind label s) ss) (passes.untested label) ∙ rest.untested (behind label s);
-        selects = λ v o p. passes.selects v o ss p ∙ rest.selects v o p;
-        defaults = λ p. passes.defaults ss p ∙ rest.defaults p;
+        selects = λ sight v o p. passes.selects sight v o ss p ∙ rest.selects (after_stmt s sight) v o p;
+        defaults = λ sight p. passes.defaults sight ss p ∙ rest.defaults (after_stmt s sight) p;
         goes_on = λ end label. ap (λ (b : Bool). if b then label else otherwise end (behind label s) ss) passes.no_default ∙ rest.goes_on end (behind label s);
       }
 
@@ -260,7 +261,7 @@ module _ (host : MachineHost) (R : Saved → Deferred → Type 0) (tested : Equa
 
     falls : (ss : TypedStmts) → Does (block 0 ss) → Around → (n label place : ℕ) → IsAt ss n label place
         → (q : Progress) (L : Kept R x scope (base + 1) q.globals q.locals q.world) → q.left ≤ most
-        → Sim host R Inner inner_place q.left (7 + c) (there place L) (flow_credits (7 + c) 0) (execs here caller ss q)
+        → Sim host R Inner inner_place q.left (7 + c) (there place L) (flow_credits (7 + c) 0) (execs here caller scope ss q)
     falls ss does a n label place h q L le =
         let l = x.layout in
         let body = emit_stmts l out n (base + 1) None ss in
@@ -275,7 +276,7 @@ module _ (host : MachineHost) (R : Saved → Deferred → Type 0) (tested : Equa
         let drops_size = ap (λ d. lines_size (dropped d)) h.count in
         let stopped = a.ending in
         let finish : place + lines_size (body ++ dropped cells) ≡ last = omega (arith, all_size, drops_size, stopped, stop) in
-        subst (λ k. Sim host R Inner (λ f p g. flow_place R x result breaks continues scope (base + 1 + 0) k room lower back calls pending f p g) q.left (7 + c) (there place L) (flow_credits (7 + c) 0) (execs here caller ss q)) finish
+        subst (λ k. Sim host R Inner (λ f p g. flow_place R x result breaks continues scope (base + 1 + 0) k room lower back calls pending f p g) q.left (7 + c) (there place L) (flow_credits (7 + c) 0) (execs here caller scope ss q)) finish
         (does out breaks continues scope (base + 1) n place (7 + c) q L room lower back calls pending h.fine all a.exits a.ended a.continued a.typed le)
 
     -- at the end, with nothing left to do
@@ -288,7 +289,7 @@ module _ (host : MachineHost) (R : Saved → Deferred → Type 0) (tested : Equa
 
     from_default_runs : (ss : TypedStmts) → EachRest ss → Around → (n label place : ℕ) → IsAt ss n label place → LabelsStandFirst ss
         → (q : Progress) (L : Kept R x scope (base + 1) q.globals q.locals q.world) → q.left ≤ most
-        → Sim host R Inner inner_place q.left (7 + c) (there (x.places (otherwise end_label label ss)) L) (flow_credits (7 + c) 0) (from_default here caller ss q)
+        → Sim host R Inner inner_place q.left (7 + c) (there (x.places (otherwise end_label label ss)) L) (flow_credits (7 + c) 0) (from_default here caller scope ss q)
     from_default_runs no_stmt rests a n label place h first q L le = ends_here (x.places end_label) a.over q L
     from_default_runs (more_stmts s ss) rests a n label place h first q L le =
         of_kind s ss rests a n label place h first q L le (kind_of here caller s)
@@ -296,25 +297,28 @@ module _ (host : MachineHost) (R : Saved → Deferred → Type 0) (tested : Equa
       where
         of_kind : (s : TypedStmt) (ss : TypedStmts) → EachRest (more_stmts s ss) → Around → (n label place : ℕ) → IsAt (more_stmts s ss) n label place → LabelsStandFirst (more_stmts s ss)
             → (q : Progress) (L : Kept R x scope (base + 1) q.globals q.locals q.world) → q.left ≤ most → Kind here caller s
-            → ((m l k : ℕ) → IsAt ss m l k → Sim host R Inner inner_place q.left (7 + c) (there (x.places (otherwise end_label l ss)) L) (flow_credits (7 + c) 0) (from_default here caller ss q))
-            → Sim host R Inner inner_place q.left (7 + c) (there (x.places (otherwise end_label label (more_stmts s ss))) L) (flow_credits (7 + c) 0) (from_default here caller (more_stmts s ss) q)
+            → ((m l k : ℕ) → IsAt ss m l k → Sim host R Inner inner_place q.left (7 + c) (there (x.places (otherwise end_label l ss)) L) (flow_credits (7 + c) 0) (from_default here caller scope ss q))
+            → Sim host R Inner inner_place q.left (7 + c) (there (x.places (otherwise end_label label (more_stmts s ss))) L) (flow_credits (7 + c) 0) (from_default here caller scope (more_stmts s ss) q)
         of_kind s ss rests a n label place h first q L le (a_default m) rest =
             let here_is : x.places label ≡ place + 0 = h.lines.0 ∙ omega arith in
-            subst (λ k. Sim host R Inner inner_place q.left (7 + c) (there k L) (flow_credits (7 + c) 0) (execs here caller ss q)) (sym here_is)
+            subst (λ k. Sim host R Inner inner_place q.left (7 + c) (there k L) (flow_credits (7 + c) 0) (execs here caller scope ss q)) (sym here_is)
             (falls ss rests.0 a (n + 0) (label + 1) (place + 0) (later (default_label m) ss n label place tt h) q L le)
         of_kind s ss rests a n label place h first q L le (a_case m k) rest = rest (n + 0) (label + 1) (place + 0) (later (case_label m k) ss n label place tt h)
         of_kind s ss rests a n label place h first q L le (neither s2 passes) rest =
             let skips : otherwise end_label label (more_stmts s ss) ≡ otherwise end_label (behind label s) ss =
             ap (λ (b : Bool). if b then label else otherwise end_label (behind label s) ss) passes.no_default in
-            subst (λ r. Sim host R Inner inner_place q.left (7 + c) (there (x.places (otherwise end_label label (more_stmts s ss))) L) (flow_credits (7 + c) 0) r) (sym (passes.defaults ss q))
-            (subst (λ k. Sim host R Inner inner_place q.left (7 + c) (there (x.places k) L) (flow_credits (7 + c) 0) (from_default here caller ss q)) (sym skips)
+            subst (λ r. Sim host R Inner inner_place q.left (7 + c) (there (x.places (otherwise end_label label (more_stmts s ss))) L) (flow_credits (7 + c) 0) r) (sym (passes.defaults scope ss q))
+            (subst (λ k. Sim host R Inner inner_place q.left (7 + c) (there (x.places k) L) (flow_credits (7 + c) 0) (from_default here caller (after_stmt s scope) ss q)) (sym skips)
             (by_labels first.0))
           where
-            by_labels : DeclaresNothing s ⊎ HasNoLabels ss → Sim host R Inner inner_place q.left (7 + c) (there (x.places (otherwise end_label (behind label s) ss)) L) (flow_credits (7 + c) 0) (from_default here caller ss q)
-            by_labels (inl nothing) = rest (n + stmt_labels s) (behind label s) (place + lines_size (emit_stmt x.layout out n (base + 1) s)) (later s ss n label place nothing h)
+            by_labels : DeclaresNothing s ⊎ HasNoLabels ss → Sim host R Inner inner_place q.left (7 + c) (there (x.places (otherwise end_label (behind label s) ss)) L) (flow_credits (7 + c) 0)
+                (from_default here caller (after_stmt s scope) ss q)
+            by_labels (inl nothing) =
+                subst (λ z. Sim host R Inner inner_place q.left (7 + c) (there (x.places (otherwise end_label (behind label s) ss)) L) (flow_credits (7 + c) 0) (from_default here caller z ss q)) (sym (same_scope s scope nothing))
+                (rest (n + stmt_labels s) (behind label s) (place + lines_size (emit_stmt x.layout out n (base + 1) s)) (later s ss n label place nothing h))
             by_labels (inr none) =
                 let t = none_tested here caller ss none in
-                subst (λ r. Sim host R Inner inner_place q.left (7 + c) (there (x.places (otherwise end_label (behind label s) ss)) L) (flow_credits (7 + c) 0) r) (sym (t.defaults q))
+                subst (λ r. Sim host R Inner inner_place q.left (7 + c) (there (x.places (otherwise end_label (behind label s) ss)) L) (flow_credits (7 + c) 0) r) (sym (t.defaults (after_stmt s scope) q))
                 (ends_here (x.places (otherwise end_label (behind label s) ss)) (ap x.places (t.goes_on end_label (behind label s)) ∙ a.over) q L)
 
     -- ---- the tests
@@ -370,7 +374,7 @@ module _ (host : MachineHost) (R : Saved → Deferred → Type 0) (tested : Equa
         → Sim host R Inner inner_place q.left (8 + c) (there jump (topped K k)) (flow_credits (7 + c) 0) (other q))
         → (n label test place : ℕ) → LinesStand x.code x.places test (tests label ss) → test + lines_size (tests label ss) ≡ jump → IsAt ss n label place → LabelsStandFirst ss
         → (q : Progress) (K : Kept R x scope base q.globals q.locals q.world) → q.left ≤ most
-        → Sim host R Inner inner_place q.left (8 + c) (there test (topped K k)) (flow_credits (7 + c) 0) (selected here caller (Int k ∷ []) other ss q)
+        → Sim host R Inner inner_place q.left (8 + c) (there test (topped K k)) (flow_credits (7 + c) 0) (selected here caller scope (Int k ∷ []) other ss q)
     selected_runs no_stmt rests a k jump other behind_them n label test place lines ending h first q K le =
         let same : jump ≡ test = omega (arith, ending) in
         subst (λ t. Sim host R Inner inner_place q.left (8 + c) (there t (topped K k)) (flow_credits (7 + c) 0) (other q)) same (behind_them q K le)
@@ -385,8 +389,8 @@ module _ (host : MachineHost) (R : Saved → Deferred → Type 0) (tested : Equa
             → LabelsStandFirst (more_stmts s ss) → (q : Progress) (K : Kept R x scope base q.globals q.locals q.world) → q.left ≤ most → Kind here caller s
             → ((m l t p : ℕ) → LinesStand x.code x.places t (tests l ss) → t + lines_size (tests l ss) ≡ jump → IsAt ss m l p
             → (r : Progress) (L : Kept R x scope base r.globals r.locals r.world) → r.left ≤ most
-            → Sim host R Inner inner_place r.left (8 + c) (there t (topped L k)) (flow_credits (7 + c) 0) (selected here caller (Int k ∷ []) other ss r))
-            → Sim host R Inner inner_place q.left (8 + c) (there test (topped K k)) (flow_credits (7 + c) 0) (selected here caller (Int k ∷ []) other (more_stmts s ss) q)
+            → Sim host R Inner inner_place r.left (8 + c) (there t (topped L k)) (flow_credits (7 + c) 0) (selected here caller scope (Int k ∷ []) other ss r))
+            → Sim host R Inner inner_place q.left (8 + c) (there test (topped K k)) (flow_credits (7 + c) 0) (selected here caller scope (Int k ∷ []) other (more_stmts s ss) q)
         of_kind s ss rests a k jump other behind_them n label test place lines ending h first q K le (a_case m j) rest =
             let cells = K.frame ++ (pushed room lower ++ K.under) in
             let own = test_of label (case_label 0 j) in
@@ -397,35 +401,36 @@ module _ (host : MachineHost) (R : Saved → Deferred → Type 0) (tested : Equa
             let on = later (case_label m j) ss n label place tt h in
             let here_is : x.places label ≡ place + 0 = h.lines.0 ∙ omega arith in
             sim_paid host R Inner inner_place (8 + c) (there test (topped K k)) (flow_credits (7 + c) 0) q
-            (λ r. chosen (values_eq (Int k ∷ []) (constant_value x.self j ∷ [])) (λ u. execs here caller ss u) (λ u. selected here caller (Int k ∷ []) other ss u) r) K.alike
+            (λ r. chosen (values_eq (Int k ∷ []) (constant_value x.self j ∷ [])) (λ u. execs here caller scope ss u) (λ u. selected here caller scope (Int k ∷ []) other ss u) r) K.alike
             (λ m left.
             let r = record q { left = m } in (
               t.first,
               t.copies,
-              sim_chosen host R Inner inner_place m (15 + (8 + c)) t.first (flow_credits (7 + c) 0) (values_eq (Int k ∷ []) (constant_value x.self j ∷ [])) (λ u. execs here caller ss u)
-                  (λ u. selected here caller (Int k ∷ []) other ss u) r
-                  (λ yes. sim_after host R Inner inner_place (flow_credits (7 + c) 0) (execs here caller ss r) (t.holds m yes)
-                  (subst (λ u. Sim host R Inner inner_place m (7 + c) (there u (topped K k)) (flow_credits (7 + c) 0) (execs here caller ss r)) (sym here_is)
+              sim_chosen host R Inner inner_place m (15 + (8 + c)) t.first (flow_credits (7 + c) 0) (values_eq (Int k ∷ []) (constant_value x.self j ∷ [])) (λ u. execs here caller scope ss u)
+                  (λ u. selected here caller scope (Int k ∷ []) other ss u) r
+                  (λ yes. sim_after host R Inner inner_place (flow_credits (7 + c) 0) (execs here caller scope ss r) (t.holds m yes)
+                  (subst (λ u. Sim host R Inner inner_place m (7 + c) (there u (topped K k)) (flow_credits (7 + c) 0) (execs here caller scope ss r)) (sym here_is)
                   (falls ss rests.0 a (n + 0) (label + 1) (place + 0) on r (topped K k) (omega (arith, left, le)))))
-                  (λ no. sim_after host R Inner inner_place (flow_credits (7 + c) 0) (selected here caller (Int k ∷ []) other ss r) (t.fails m next refl no)
+                  (λ no. sim_after host R Inner inner_place (flow_credits (7 + c) 0) (selected here caller scope (Int k ∷ []) other ss r) (t.fails m next refl no)
                   (rest (n + 0) (label + 1) next (place + 0) b.1 (omega (arith, whole, ending)) on r K (omega (arith, left, le)))),
             ))
         of_kind s ss rests a k jump other behind_them n label test place lines ending h first q K le (a_default m) rest =
             rest (n + 0) (label + 1) test (place + 0) lines ending (later (default_label m) ss n label place tt h) q K le
         of_kind s ss rests a k jump other behind_them n label test place lines ending h first q K le (neither s2 passes) rest =
             let untested : tests label (more_stmts s ss) ≡ tests (behind label s) ss = ap (λ t. t ++ tests (behind label s) ss) (passes.untested label) in
-            subst (λ r. Sim host R Inner inner_place q.left (8 + c) (there test (topped K k)) (flow_credits (7 + c) 0) r) (sym (passes.selects (Int k ∷ []) other ss q))
+            subst (λ r. Sim host R Inner inner_place q.left (8 + c) (there test (topped K k)) (flow_credits (7 + c) 0) r) (sym (passes.selects scope (Int k ∷ []) other ss q))
             (by_labels first.0 (subst (LinesStand x.code x.places test) untested lines) (subst (λ t. test + lines_size t ≡ jump) untested ending))
           where
             by_labels : DeclaresNothing s ⊎ HasNoLabels ss → LinesStand x.code x.places test (tests (behind label s) ss) → test + lines_size (tests (behind label s) ss) ≡ jump
-                → Sim host R Inner inner_place q.left (8 + c) (there test (topped K k)) (flow_credits (7 + c) 0) (selected here caller (Int k ∷ []) other ss q)
+                → Sim host R Inner inner_place q.left (8 + c) (there test (topped K k)) (flow_credits (7 + c) 0) (selected here caller (after_stmt s scope) (Int k ∷ []) other ss q)
             by_labels (inl nothing) lines' ending' =
-                rest (n + stmt_labels s) (behind label s) test (place + lines_size (emit_stmt x.layout out n (base + 1) s)) lines' ending' (later s ss n label place nothing h) q K le
+                subst (λ z. Sim host R Inner inner_place q.left (8 + c) (there test (topped K k)) (flow_credits (7 + c) 0) (selected here caller z (Int k ∷ []) other ss q)) (sym (same_scope s scope nothing))
+                (rest (n + stmt_labels s) (behind label s) test (place + lines_size (emit_stmt x.layout out n (base + 1) s)) lines' ending' (later s ss n label place nothing h) q K le)
             by_labels (inr none) lines' ending' =
                 let t = none_tested here caller ss none in
                 let no_size : lines_size (tests (behind label s) ss) ≡ 0 = ap lines_size (t.untested (behind label s)) in
                 let same : jump ≡ test = omega (arith, ending', no_size) in
-                subst (λ r. Sim host R Inner inner_place q.left (8 + c) (there test (topped K k)) (flow_credits (7 + c) 0) r) (sym (t.selects (Int k ∷ []) other q))
+                subst (λ r. Sim host R Inner inner_place q.left (8 + c) (there test (topped K k)) (flow_credits (7 + c) 0) r) (sym (t.selects (after_stmt s scope) (Int k ∷ []) other q))
                 (subst (λ u. Sim host R Inner inner_place q.left (8 + c) (there u (topped K k)) (flow_credits (7 + c) 0) (other q)) same (behind_them q K le))
 
   -- ---- the whole statement
@@ -486,18 +491,18 @@ module _ (host : MachineHost) (R : Saved → Deferred → Type 0) (tested : Equa
       let list : IsAt inner breaks' continues scope size room lower back calls pending c many stop last n ss (n + 1 + count_labels ss + labels e) (n + 1) first = record { lines = f.0; ending = refl; count = refl; fine = fine.1 } in
       sim_bind host R (HoldsValue R x scope size (type_of e)) (value_place R x scope size (type_of e) test [] between (back ∷ calls) pending)
       (FlowHolds R x result breaks continues scope (size + 0)) (flow_place R x result breaks continues scope (size + 0) next room lower back calls pending)
-      p.left c (spot_at R x place [] between (back ∷ calls) pending K) (value_credits c) (flow_credits c 0) (eval here caller e p)
-      (λ v q. bind (selected here caller v (λ u. from_default here caller ss u) ss q) (λ t u. Gives (on_switch t) u))
+      p.left c (spot_at R x place [] between (back ∷ calls) pending K) (value_credits c) (flow_credits c 0) (eval here caller scope e p)
+      (λ v q. bind (selected here caller scope v (λ u. from_default here caller scope ss u) ss q) (λ t u. Gives (on_switch t) u))
       (r scope size (n + 1 + count_labels ss) size place c p K [] between (back ∷ calls) pending fine.0.0 b.0 (omega arith) le tt)
       (λ v q h less.
       let k = an_int host R x listed tables execute functions caller most result v (h.0 ∙ ap (cell_types l.structs) fine.0.1) in
       subst (λ u. Sim host R (FlowHolds R x result breaks continues scope (size + 0)) (flow_place R x result breaks continues scope (size + 0) next room lower back calls pending)
-      q.left (8 + c) (spot_at R x test (pushed u []) between (back ∷ calls) pending h.1) (flow_credits c 0) (bind (selected here caller u (λ w. from_default here caller ss w) ss q) (λ t w. Gives (on_switch t) w))) (sym k.1)
+      q.left (8 + c) (spot_at R x test (pushed u []) between (back ∷ calls) pending h.1) (flow_credits c 0) (bind (selected here caller scope u (λ w. from_default here caller scope ss w) ss q) (λ t w. Gives (on_switch t) w))) (sym k.1)
       (sim_bind host R (FlowHolds R x result breaks' continues scope (size + 1 + 0)) (flow_place R x result breaks' continues scope (size + 1 + 0) last room lower back calls pending)
       (FlowHolds R x result breaks continues scope (size + 0)) (flow_place R x result breaks continues scope (size + 0) next room lower back calls pending)
-      q.left (8 + c) (spot_at R x test [] between (back ∷ calls) pending (topped h.1 k.0)) (flow_credits (7 + c) 0) (flow_credits c 0) (selected here caller (Int k.0 ∷ []) (λ u. from_default here caller ss u) ss q) (λ t u. Gives (on_switch t) u)
-      (selected_runs inner breaks' continues scope size room lower back calls pending c many stop last n ss rests a k.0 jump (λ u. from_default here caller ss u)
-      (λ u L enough. sim_after host R (FlowHolds R x result breaks' continues scope (size + 1 + 0)) (flow_place R x result breaks' continues scope (size + 1 + 0) last room lower back calls pending) (flow_credits (7 + c) 0) (from_default here caller ss u)
+      q.left (8 + c) (spot_at R x test [] between (back ∷ calls) pending (topped h.1 k.0)) (flow_credits (7 + c) 0) (flow_credits c 0) (selected here caller scope (Int k.0 ∷ []) (λ u. from_default here caller scope ss u) ss q) (λ t u. Gives (on_switch t) u)
+      (selected_runs inner breaks' continues scope size room lower back calls pending c many stop last n ss rests a k.0 jump (λ u. from_default here caller scope ss u)
+      (λ u L enough. sim_after host R (FlowHolds R x result breaks' continues scope (size + 1 + 0)) (flow_place R x result breaks' continues scope (size + 1 + 0) last room lower back calls pending) (flow_credits (7 + c) 0) (from_default here caller scope ss u)
       (took_cost host u.left (8 + c) (7 + c) (spot_at R x jump [] between (back ∷ calls) pending (topped L k.0)) (spot_at R x (x.places target) [] between (back ∷ calls) pending (topped L k.0)) (omega arith)
       (jump_goes host x listed jump (x.places target) _ ((topped L k.0).frame ++ (between ++ L.under)) (back ∷ calls) pending L.machine d.1.0.begins d.1.0.leads))
       (from_default_runs inner breaks' continues scope size room lower back calls pending c many stop last n ss rests a (n + 1 + count_labels ss + labels e) (n + 1) first list fine.2 u (topped L k.0) enough))

@@ -193,15 +193,15 @@ module _ (host : MachineHost) (R : Saved → Deferred → Type 0) (tested : Equa
       let there = value_place R x scope size t next temps between calls pending in
       let none = no_action es call_fine.values in
       sim_bind host R (HasParts host R x listed tables execute functions caller most t scope size ts) (parts_place host R x listed tables execute functions caller most t scope size ts one temps between calls pending) B there
-      p.left c (spot_at R x place temps between calls pending K) (λ v. c + one_of wide) (value_credits c) (made ts p) (λ parts q. bind (arguments_of host R tested x listed tables execute functions caller most es ks q) (λ a r. unit_called caller f a r))
+      p.left c (spot_at R x place temps between calls pending K) (λ v. c + one_of wide) (value_credits c) (made ts p) (λ parts q. bind (arguments_of host R tested x listed tables execute functions caller most scope es ks q) (λ a r. unit_called caller f a r))
       (made_runs host R x listed tables execute functions caller most t ts all_cells scope size place c p K temps between calls pending b.0)
       (λ v q h less.
       let long : length v ≡ wide = sym (length-map v type_of_value) ∙ ap length h.1 in
       let size_is = pushed_length v temps in
       let H = HasCall host R tested x listed tables execute functions caller most scope size es ks pending in
-      subst (λ (u : List Value). Sim host R B there q.left (c + one_of wide) (spot_at R x one (pushed u temps) between calls pending h.2) (value_credits c) (bind (arguments_of host R tested x listed tables execute functions caller most es ks q) (λ a r. unit_called caller f a r))) (sym h.0)
+      subst (λ (u : List Value). Sim host R B there q.left (c + one_of wide) (spot_at R x one (pushed u temps) between calls pending h.2) (value_credits c) (bind (arguments_of host R tested x listed tables execute functions caller most scope es ks q) (λ a r. unit_called caller f a r))) (sym h.0)
       (sim_bind host R H (call_place host R tested x listed tables execute functions caller most scope size es ks two (pushed (start_parts ts) temps) between calls pending) B there
-      q.left (c + one_of wide) (spot_at R x one (pushed (start_parts ts) temps) between calls pending h.2) (λ a. spare es (spare_defaults ks (c + one_of wide))) (value_credits c) (arguments_of host R tested x listed tables execute functions caller most es ks q) (λ a r. unit_called caller f a r)
+      q.left (c + one_of wide) (spot_at R x one (pushed (start_parts ts) temps) between calls pending h.2) (λ a. spare es (spare_defaults ks (c + one_of wide))) (value_credits c) (arguments_of host R tested x listed tables execute functions caller most scope es ks q) (λ a r. unit_called caller f a r)
       (call_arguments_run host R tested x listed tables execute functions caller most es ks captures each scope size n within one (c + one_of wide) q h.2 (pushed (start_parts ts) temps) between calls pending fine.1 d.0
       (let starts_long = ap length h.0 in let z = pushed_length (start_parts ts) temps in omega (arith, long, starts_long, z, deep)) (omega (arith, less, le)) (held_pushed (start_parts ts) temps held) (omega (arith, none)))
       (λ a r g fewer. sim_less host R B there r.left c (spare es (spare_defaults ks (c + one_of wide))) (spot_at R x two (pushed_all a.values (pushed (start_parts ts) temps)) between calls g.now g.kept) (value_credits c) (unit_called caller f a r) (let z = spare_more es ks (c + one_of wide) in omega (arith, z))

@@ -82,8 +82,8 @@ unit_site script u self waiting = record {
   bp = (layout_of u).globals;
 }
 
--- A captured state carries a deferred call: it is of the same script, its place is that of the call's code, and the values of the
--- variables stand on its cells, those of the globals and those of the variables that were in sight. Other cells hold any value.
+-- A captured state carries a deferred call: it is of the same script, its place is that of the call's code, and the copied values stand on its
+-- cells: that of each global, and that of each variable of the frame that was in sight. Other cells hold any value.
 pub record Carries (s : Setting) (c : Saved) (d : Deferred) : Type 0 where
   pub script : c.script ≡ d.script
   pub listed : Listed
@@ -91,9 +91,8 @@ pub record Carries (s : Setting) (c : Saved) (d : Deferred) : Type 0 where
   pub label : ℕ
   pub stands : LinesStand (program (unit_code listed.unit).lines) (place_of (unit_code listed.unit).lines) c.place
       (emit (layout_of listed.unit) label (length c.locals) d.call ++ Instruction ops.Retn ∷ [])
-  pub scope : List ℕ
-  pub fine : (self : ℕ) (waiting : List Frame) → IsFine s.table (functions listed.unit.items) (unit_site d.script listed.unit self waiting) scope d.call
-  pub locals : (self : ℕ) (waiting : List Frame) → Vars (unit_site d.script listed.unit self waiting) scope (reverse c.locals) d.locals
+  pub fine : (self : ℕ) (waiting : List Frame) → IsFine s.table (functions listed.unit.items) (unit_site d.script listed.unit self waiting) d.sight d.call
+  pub locals : (self : ℕ) (waiting : List Frame) → Vars (unit_site d.script listed.unit self waiting) d.sight (reverse c.locals) d.locals
   pub globals : (self : ℕ) (waiting : List Frame)
       → Vars (unit_site d.script listed.unit self waiting) (map number_of (global_names listed.unit.items)) (reverse c.globals) d.globals
   pub size : length c.globals ≡ (layout_of listed.unit).globals

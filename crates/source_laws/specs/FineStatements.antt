@@ -10,19 +10,12 @@ use Rattle.typing_rules.specs.Cells.{cell_types, cells}
 use Rattle.emission_rules.specs.Bounds.{IsCell}
 use Rattle.emission_rules.specs.Layout.{position, declared_cells}
 use Rattle.emission_rules.specs.Statements.{is_label}
+use Rattle.source_meaning.specs.Statements.{after_names, after_stmt}
 use Rattle.source_meaning.specs.Scripts.{Function}
 use Rattle.source_laws.specs.Kept.{Site}
 use Rattle.source_laws.specs.Fine.{IsFine}
 
--- the names in sight behind declarations
-abbrev pub after_names : List TypedName → List ℕ → List ℕ
-after_names [] scope = scope
-after_names (d ∷ ds) scope = after_names ds (d.name.number ∷ scope)
-
-abbrev pub after_stmt : TypedStmt → List ℕ → List ℕ
-after_stmt (declaration m t ds) scope = after_names ds scope
-after_stmt _ scope = scope
-
+-- the names in sight behind statements
 abbrev pub after_stmts : TypedStmts → List ℕ → List ℕ
 after_stmts no_stmt scope = scope
 after_stmts (more_stmts s ss) scope = after_stmts ss (after_stmt s scope)

@@ -18,7 +18,7 @@ use Rattle.machine_rules.specs.Cells.{value_types}
 use Rattle.source_meaning.specs.Values.{start_parts}
 use Rattle.source_meaning.specs.Evaluation.{no_variables, Deferred, Progress}
 use Rattle.source_meaning.specs.Expressions.{Caller}
-use Rattle.source_meaning.specs.Scripts.{Function, Setting, calls}
+use Rattle.source_meaning.specs.Scripts.{Function, Setting, parameter_names, calls}
 use Rattle.source_laws.specs.Ledger.{Machine, MachineHost, Sim}
 use Rattle.source_laws.specs.Kept.{pushed, Site, IsListed, at, Kept}
 use Rattle.source_laws.specs.Carries.{Carries}
@@ -30,16 +30,12 @@ abbrev pub AreParameters : Site → List TypedParameter → Type 0
 AreParameters x [] = Unit {0}
 AreParameters x (p ∷ ps) = (position x.layout p.name.number ≡ params_cells x.layout.structs ps) × (x.types p.name.number ≡ p.ty) × AreParameters x ps
 
-abbrev pub parameter_scope : List TypedParameter → List ℕ
-parameter_scope [] = []
-parameter_scope (p ∷ ps) = p.name.number ∷ parameter_scope ps
-
 -- The code of a function stands at its label, and its statements are fine.
 pub record IsPlaced (table : EngineTable) (functions : List Function) (x : Site) (f : ℕ) (fn : Function) : Type 0 where
   pub label : ℕ
   pub stands : LinesStand x.code x.places (x.places f) (emit_function x.layout label f fn.parameters fn.body)
   pub parameters : AreParameters x fn.parameters
-  pub fine : AreFineStmts table functions x fn.result false false (params_cells x.layout.structs fn.parameters) (parameter_scope fn.parameters) fn.body
+  pub fine : AreFineStmts table functions x fn.result false false (params_cells x.layout.structs fn.parameters) (parameter_names fn.parameters) fn.body
   pub cells : AllByRecursion IsCell (cell_types x.layout.structs fn.result)
 
 -- the globals are kept, and no frame

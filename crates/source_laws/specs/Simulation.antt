@@ -48,4 +48,4 @@ ExprRuns host R x tables execute functions caller most e =
     (temps between : List Cell) (calls : List ℕ) (pending : List Saved)
     → IsFine host.table functions x scope e → LinesStand x.code x.places place (emit x.layout n depth e) → length temps + size ≡ depth → p.left ≤ most → AreHeld temps
     → Sim host R (HoldsValue R x scope size (type_of e)) (value_place R x scope size (type_of e) (place + lines_size (emit x.layout n depth e)) temps between calls pending)
-    p.left c (spot_at R x place temps between calls pending kept) (value_credits c) (eval (running_at host tables execute x) caller e p)
+    p.left c (spot_at R x place temps between calls pending kept) (value_credits c) (eval (running_at host tables execute x) caller scope e p)

@@ -14,12 +14,12 @@ use Rattle.world_rules.specs.Pure.{CellLookup}
 use Rattle.machine_rules.specs.Cells.{value_types}
 use Rattle.source_meaning.specs.Evaluation.{Deferred, Progress}
 use Rattle.source_meaning.specs.Expressions.{Caller}
-use Rattle.source_meaning.specs.Statements.{Flow, Next, Broke, Continued, Returned, exec}
+use Rattle.source_meaning.specs.Statements.{Flow, Next, Broke, Continued, Returned, exec, after_stmt}
 use Rattle.source_meaning.specs.Scripts.{Function}
 use Rattle.source_laws.specs.Ledger.{Machine, MachineHost, Sim}
 use Rattle.source_laws.specs.Kept.{pushed, Site, In, part_types, Kept, spot_at}
 use Rattle.source_laws.specs.Simulation.{Executor, running_at}
-use Rattle.source_laws.specs.FineStatements.{after_stmt, IsFineStmt}
+use Rattle.source_laws.specs.FineStatements.{IsFineStmt}
 
 -- where `break` or `continue` leads: to a depth of the frame with fewer variables in sight
 pub record Exit : Type 0 where
@@ -77,4 +77,4 @@ StmtRuns host R x tables execute functions caller most result s =
     → AreExits out breaks continues → IsExit x scope size breaks → IsExit x scope size continues → value_types room ≡ cell_types x.layout.structs result → p.left ≤ most
     → Sim host R (FlowHolds R x result breaks continues (after_stmt s scope) (size + declared_cells x.layout.structs s))
     (flow_place R x result breaks continues (after_stmt s scope) (size + declared_cells x.layout.structs s) (place + lines_size (emit_stmt x.layout out n size s)) room lower back calls pending)
-    p.left c (spot_at R x place [] (pushed room lower) (back ∷ calls) pending kept) (flow_credits c (declared_cells x.layout.structs s)) (exec (running_at host tables execute x) caller s p)
+    p.left c (spot_at R x place [] (pushed room lower) (back ∷ calls) pending kept) (flow_credits c (declared_cells x.layout.structs s)) (exec (running_at host tables execute x) caller scope s p)

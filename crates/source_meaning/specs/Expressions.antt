@@ -163,18 +163,19 @@ abbrev pub assigned : ℕ → Option BinaryOperator → Option Spot → ℕ → 
 assigned self None s count value p = bind (value p) (λ parts q. spend q (λ r. Gives parts (write_there s parts r)))
 assigned self (Some o) s count value p = spend p (λ q. bind (value q) (λ w r. operated self o (read_there s count q) w (write_there s) r))
 
--- what is captured of an action: its call, and the variables as they are
-abbrev pub deferred : Running → TypedExpr → Progress → Deferred
-deferred c e p = record { script = c.script; call = e; globals = p.globals; locals = p.locals }
+-- what is captured of an action: its call, the names in sight, and the variables as they are
+abbrev pub deferred : Running → List ℕ → TypedExpr → Progress → Deferred
+deferred c sight e p = record { script = c.script; call = e; sight = sight; globals = p.globals; locals = p.locals }
 
 -- an argument that is an action is captured, which is a step
-abbrev pub argument : Running → Bool → TypedExpr → (Progress → Outcome (List Value)) → Arguments → Progress → Outcome Arguments
-argument c true e value a p = spend p (λ q. Gives (record a { action = Some (deferred c e q) }) q)
-argument c false e value a p = bind (value p) (λ parts q. Gives (with_argument parts a) q)
+abbrev pub argument : Running → List ℕ → Bool → TypedExpr → (Progress → Outcome (List Value)) → Arguments → Progress → Outcome Arguments
+argument c sight true e value a p = spend p (λ q. Gives (record a { action = Some (deferred c sight e q) }) q)
+argument c sight false e value a p = bind (value p) (λ parts q. Gives (with_argument parts a) q)
 
 -- ---- expressions
 
-module _ (c : Running) (caller : Caller) where
+-- in a running script, where these variables of the frame are in sight
+module _ (c : Running) (caller : Caller) (sight : List ℕ) where
   abbrev mutual
     pub eval : TypedExpr → Progress → Outcome (List Value)
     eval (literal k) p = spend p (λ q. Gives (constant_value c.self k ∷ []) q)
@@ -190,4 +191,4 @@ module _ (c : Running) (caller : Caller) where
     -- the arguments in front of these
     pub evals : TypedExprs → Arguments → Progress → Outcome Arguments
     evals no_typed a p = Gives a p
-    evals (more_typed x xs) a p = bind (evals xs a p) (λ b q. argument c (is_captured x) x (λ r. eval x r) b q)
+    evals (more_typed x xs) a p = bind (evals xs a p) (λ b q. argument c sight (is_captured x) x (λ r. eval x r) b q)

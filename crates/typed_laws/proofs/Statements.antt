@@ -31,7 +31,8 @@ use Rattle.source_meaning.specs.Scripts.{Function}
 use Rattle.source_laws.specs.Kept.{Site}
 use Rattle.source_laws.specs.Carries.{type_of_name, declared_types, all_declared_types}
 use Rattle.source_laws.specs.Fine.{IsFine}
-use Rattle.source_laws.specs.FineStatements.{after_names, after_stmt, DeclaresNothing, HasNoLabels, LabelsStandFirst, IsFineValue, IsFineMaybe, IsFineTest, AreFineNames, IsFineReturn, IsFineStmt, AreFineStmts}
+use Rattle.source_laws.specs.FineStatements.{DeclaresNothing, HasNoLabels, LabelsStandFirst, IsFineValue, IsFineMaybe, IsFineTest, AreFineNames, IsFineReturn, IsFineStmt, AreFineStmts}
+use Rattle.source_meaning.specs.Statements.{after_names, after_stmt}
 use Rattle.typed_laws.proofs.Grammar.{IsNoDeclaration, IsMade, AreMade}
 use Rattle.typed_laws.proofs.Types.{same_type_is, int_is, void_is, IsValueType, declared_is, all_last}
 use Rattle.typed_laws.proofs.Bodies.{when_is, both_are, not_is, asked_is, AreHeads, AreBodies}
