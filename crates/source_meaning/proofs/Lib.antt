@@ -1,2 +1,4 @@
 mod Trees
 mod Examples
+mod ExpressionExamples
+mod StatementExamples
