@@ -2,3 +2,4 @@ mod Trees
 mod Examples
 mod ExpressionExamples
 mod StatementExamples
+mod Steps

@@ -5,3 +5,4 @@ pub mod Expressions
 pub mod Statements
 pub mod Scripts
 pub mod Plays
+pub mod Laws
