@@ -15,9 +15,10 @@ use Rattle.typing_rules.specs.declared.places.Callee.{Callee}
 use Rattle.typing_rules.specs.declared.places.Callee.TheVariants.{Unit as InUnit, Engine}
 use Rattle.typing_rules.specs.Reading.{plain, plain_all}
 use Rattle.typing_rules.specs.Typed.{TypedExpr, TypedExprs, literal, name, call, member, prefix, postfix, binary, assign, no_typed, more_typed, type_of}
+use Rattle.typing_rules.specs.Cells.{cells, is_captured}
 use Rattle.emission_rules.specs.Bounds.{weight, all_weight, IsType, IsCallee, IsOperator, IsExpr, AreExprs}
-use Rattle.emission_rules.specs.Layout.{Layout, cells}
-use Rattle.emission_rules.specs.Expressions.{Shortcut, labels, all_labels, shortcut, shortcut_labels, is_set, cells_first, result_room, is_captured, argument_labels, count_arguments, arguments_cells, called}
+use Rattle.emission_rules.specs.Layout.{Layout}
+use Rattle.emission_rules.specs.Expressions.{Shortcut, labels, all_labels, shortcut, shortcut_labels, is_set, cells_first, result_room, argument_labels, count_arguments, arguments_cells, called}
 use Rattle.codegen_expr.specs.Emitted.{AreReady, IsReady}
 
 -- ---- more functions have labels

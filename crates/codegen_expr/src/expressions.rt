@@ -7,6 +7,7 @@ ghost use Rattle.ncs_code.specs.Spelling.{HasRow};
 ghost use Rattle.typing_rules.specs.Reading.{plain, plain_all};
 ghost use Rattle.typing_rules.specs.Typed as typed;
 ghost use Rattle.typing_rules.specs.Typed.{type_of};
+ghost use Rattle.typing_rules.specs.Cells.{cells, is_captured};
 ghost use Rattle.emission_rules.specs.Bounds.{
   IsCallee,
   IsExpr,
@@ -15,7 +16,6 @@ ghost use Rattle.emission_rules.specs.Bounds.{
   depth_limit,
   weight,
 };
-ghost use Rattle.emission_rules.specs.Layout.{cells};
 ghost use Rattle.emission_rules.specs.Operations as operations;
 ghost use Rattle.emission_rules.specs.Expressions as code;
 ghost use Rattle.codegen_expr.specs.Emitted.{AreReady, IsReady, extended};
@@ -399,14 +399,14 @@ fn argument(
     depth: u32,
 ) -> Result<(), NoMemory>
     requires ready { IsReady
-        (out.old.labels + code.argument_labels (code.is_captured (plain given.now)))
+        (out.old.labels + code.argument_labels (is_captured (plain given.now)))
         layout.now depth (plain given.now) }
     ensures { OnOk result (out.new ≡ extended out.old
-        (code.argument_code layout.now out.old.labels depth (code.is_captured (plain given.now))
+        (code.argument_code layout.now out.old.labels depth (is_captured (plain given.now))
         (code.emit layout.now
-        (out.old.labels + code.argument_labels (code.is_captured (plain given.now))) depth
+        (out.old.labels + code.argument_labels (is_captured (plain given.now))) depth
         (plain given.now)))
-        (code.argument_labels (code.is_captured (plain given.now))
+        (code.argument_labels (is_captured (plain given.now))
         + code.labels (plain given.now))) }
 {
     part_laws();

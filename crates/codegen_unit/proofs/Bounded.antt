@@ -9,9 +9,10 @@ use Rattle.ncs_emit.specs.Labelled.{Line, LabelledCode}
 use Rattle.typing_rules.specs.declared.places.Callee.{Callee}
 use Rattle.typing_rules.specs.declared.places.Callee.TheVariants.{Unit as InUnit, Engine}
 use Rattle.typing_rules.specs.Typed.{TypedExpr, TypedExprs, TypedName, TypedStmt, TypedStmts, no_typed, more_typed, literal, name, call, member, prefix, postfix, binary, assign, type_of}
+use Rattle.typing_rules.specs.Cells.{cells}
 use Rattle.emission_rules.specs.Bounds.{IsExpr, AreExprs, IsSome, AreNames, IsStmt, AreStmts, IsCallee}
 use Rattle.emission_rules.specs.Expressions.{count_arguments}
-use Rattle.emission_rules.specs.Layout.{Layout, cells}
+use Rattle.emission_rules.specs.Layout.{Layout}
 use Rattle.codegen_expr.specs.Emitted.{IsReady, extended}
 
 const_few : (l : Layout) (k : Const) → cells l.structs (type_of (literal k)) ≤ struct_cell_limit

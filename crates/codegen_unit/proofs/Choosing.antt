@@ -7,8 +7,9 @@ use Rattle.ncs_emit.specs.declared.jump.Jump.TheVariants.{Jmp, Jz}
 use Rattle.ncs_emit.specs.Labelled.{Line, JumpTo, Label, LabelledCode, placements}
 use Rattle.ncs_emit.specs.Laws.{PlacementsAdd}
 use Rattle.typing_rules.specs.Typed.{TypedExpr, TypedStmt, TypedStmts, type_of}
+use Rattle.typing_rules.specs.Cells.{cells}
 use Rattle.emission_rules.specs.Parts.{ExprsPlaceAbove, StmtPlacesAbove}
-use Rattle.emission_rules.specs.Layout.{Layout, cells, declared_cells, all_declared_cells}
+use Rattle.emission_rules.specs.Layout.{Layout, declared_cells, all_declared_cells}
 use Rattle.emission_rules.specs.Operations.{dropped}
 use Rattle.emission_rules.specs.Expressions.{emit, labels}
 use Rattle.emission_rules.specs.Statements.{Exits, in_switch, is_label, is_default, count_labels, behind, placed, placed_on, test_of, tests, otherwise, evaluated, tested, some_labels, stmt_labels, all_stmt_labels, emit_stmt, emit_stmts}

@@ -14,7 +14,8 @@ use Rattle.typing_rules.specs.declared.places.Variable.{Variable}
 use Rattle.typing_rules.specs.Reading.{plain}
 use Rattle.typing_rules.specs.UnitReading.{typed_stmt, typed_stmts}
 use Rattle.typing_rules.specs.Typed.{TypedStmts}
-use Rattle.emission_rules.specs.Layout.{Structs, declared_cells}
+use Rattle.typing_rules.specs.Cells.{Structs}
+use Rattle.emission_rules.specs.Layout.{declared_cells}
 use Rattle.emission_rules.specs.Statements.{is_label, is_default, count_labels, behind, test_of, tests, otherwise}
 
 pub known_label : (the : Stmt Expression Const Ty Variable) (s : PlainStmt Expression Const Ty Variable) (v : Bool) → tree_of_stmt the ≡ s → is_label (map_stmt plain s) ≡ v → v ≡ is_label (typed_stmt the)

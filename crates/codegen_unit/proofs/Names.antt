@@ -9,7 +9,8 @@ use Rattle.typing_rules.specs.declared.places.Variable.{Variable}
 use Rattle.typing_rules.specs.Reading.{plain}
 use Rattle.typing_rules.specs.Typed.{TypedName}
 use Rattle.typing_rules.specs.UnitReading.{typed_name, typed_names}
-use Rattle.emission_rules.specs.Layout.{Layout, cells}
+use Rattle.typing_rules.specs.Cells.{cells}
+use Rattle.emission_rules.specs.Layout.{Layout}
 use Rattle.emission_rules.specs.Statements.{emit_names, initial, names_labels, some_labels}
 use Rattle.codegen_expr.specs.Emitted.{extended}
 use Rattle.codegen_unit.specs.Ready.{NamesReady}

@@ -4,8 +4,8 @@ use Rattle.nwq_value.specs.Engine.{IsTable}
 use Rattle.module_player.specs.CodePlays.{code_end_text}
 use Rattle.ncs_machine.specs.Host.{host}
 use Rattle.source_meaning.specs.Scripts.{Setting}
-use Rattle.source_meaning.specs.Executing.{IsHostOf}
-use Rattle.source_meaning.specs.Listed.{AreReady}
+use Rattle.source_laws.specs.Executing.{IsHostOf}
+use Rattle.source_laws.specs.Listed.{AreReady}
 use Rattle.play_meaning.specs.EndTexts.{EndTextsAgree}
 use Rattle.play_meaning.specs.PlaysRun.{SourcePlaysEnd, CodePlaysEnd}
 use Rattle.play_meaning.specs.TypedScripts.{TypedScriptsAreReady}

@@ -9,14 +9,14 @@ use Rattle.saved_state.specs.declared.saved.Saved.{Saved}
 use Rattle.world_rules.specs.Pure.{CellLookup}
 use Rattle.world_rules.specs.Trace.{trace_text}
 use Rattle.world_rules.specs.Alike.{Alike}
-use Rattle.world_rules.specs.Plays.{Played}
+use Rattle.world_rules.specs.Plays.{Played, unplayed}
 use Rattle.module_player.specs.CodePlays.{code_runner, code_end_text}
 use Rattle.source_meaning.specs.Evaluation.{Deferred}
 use Rattle.source_meaning.specs.Scripts.{Listed, Setting}
-use Rattle.source_meaning.specs.Ledger.{step_cost}
-use Rattle.source_meaning.specs.Carries.{Carries}
-use Rattle.source_meaning.specs.StayAlike.{EntriesKeepAlike}
-use Rattle.play_meaning.specs.Together.{PlayEnds, PlayStops, PlaysAlike}
+use Rattle.source_laws.specs.Ledger.{step_cost}
+use Rattle.source_laws.specs.Carries.{Carries}
+use Rattle.source_laws.specs.StayAlike.{EntriesKeepAlike}
+use Rattle.play_meaning.specs.Together.{PlayEnds, PlayStops, PlaysAlike, whole}
 use Rattle.play_meaning.specs.EndTexts.{source_end_text}
 use Rattle.command_work.specs.declared.status.Status.{Status}
 use Rattle.command_work.specs.Work.{IsCut, Does, Finished}
@@ -84,7 +84,7 @@ module _ (plays : FilesPlayTheirCode) (texts : ListedTextsAgree) (keep : Entries
         (first_world name) (source_world name) begins_alike
 
     run_stops : ListedPlaysStop → PlayStops (Carries (setting_of cell header name u)) (code_runner (host_of cell header (listed name (code_of u))) default_instruction_limit)
-        default_until default_instruction_limit (code_played cell header name u) (source_played cell header name u default_instruction_limit)
+        (whole default_entry_limit default_until) default_instruction_limit (unplayed (first_world name)) (code_played cell header name u) (source_played cell header name u default_instruction_limit)
     unfolding code_played source_played
     run_stops stops =
         stops (setting_of cell header name u) table units default_instruction_limit default_entry_limit default_until

@@ -8,11 +8,11 @@ use Rattle.typing_rules.specs.declared.places.EntryPoint.{EntryPoint}
 use Rattle.typing_rules.specs.declared.places.EntryPoint.TheVariants.{Main, Conditional}
 use Rattle.typing_rules.specs.declared.places.Place.TheVariants.{Local, Global, Const as IsConst}
 use Rattle.typing_rules.specs.Typed.{TypedExpr, TypedExprs, TypedName, literal, name, call, member, prefix, postfix, binary, assign, no_typed, more_typed}
-use Rattle.emission_rules.specs.Layout.{cells}
+use Rattle.typing_rules.specs.Cells.{cells}
 use Rattle.source_meaning.specs.Scripts.{Function, functions, global_names}
-use Rattle.source_meaning.specs.Kept.{Site}
-use Rattle.source_meaning.specs.Fine.{IsFine, AreFine}
-use Rattle.source_meaning.specs.FineStatements.{IsFineValue, AreFineNames}
+use Rattle.source_laws.specs.Kept.{Site}
+use Rattle.source_laws.specs.Fine.{IsFine, AreFine}
+use Rattle.source_laws.specs.FineStatements.{IsFineValue, AreFineNames}
 use Rattle.emission_laws.specs.WellTyped.{start_site, IsBegin, IsFineEntry}
 use Rattle.emission_laws.specs.Laws.{SwitchesFit, FirstValuesCallEngine}
 use Rattle.typed_laws.specs.Laws.{FunctionsArePlaced, GlobalsAreFine, HasEntry, EntriesArePlain}

@@ -4,15 +4,15 @@ use Rattle.nwq_value.specs.Engine.{EngineTable, IsTable}
 use Rattle.saved_state.specs.declared.saved.Saved.{Saved}
 use Rattle.world_rules.specs.World.{World}
 use Rattle.world_rules.specs.Alike.{Alike}
-use Rattle.world_rules.specs.Plays.{Played}
+use Rattle.world_rules.specs.Plays.{Played, unplayed}
 use Rattle.module_player.specs.CodePlays.{code_runner, code_play, code_end_text}
 use Rattle.source_meaning.specs.Evaluation.{Deferred}
 use Rattle.source_meaning.specs.Scripts.{Listed, Setting}
 use Rattle.source_meaning.specs.Plays.{source_play}
-use Rattle.source_meaning.specs.Ledger.{MachineHost, step_cost}
-use Rattle.source_meaning.specs.Carries.{Carries}
-use Rattle.source_meaning.specs.Executing.{script_of}
-use Rattle.play_meaning.specs.Together.{PlayEnds, PlayStops, PlaysAlike}
+use Rattle.source_laws.specs.Ledger.{MachineHost, step_cost}
+use Rattle.source_laws.specs.Carries.{Carries}
+use Rattle.source_laws.specs.Executing.{script_of}
+use Rattle.play_meaning.specs.Together.{PlayEnds, PlayStops, PlaysAlike, whole}
 use Rattle.play_meaning.specs.EndTexts.{source_end_text}
 use Rattle.command_plays.specs.Plays.{host_of}
 use Rattle.command_meaning.specs.Units.{IsUnitOf}
@@ -36,7 +36,7 @@ ListedPlaysEnd =
 abbrev pub ListedPlaysStop : Type 0
 ListedPlaysStop =
     (s : Setting) → IsTable s.table → AreUnitsOf s.table s.scripts → (limit entries until : ℕ) → (w : World Saved) (v : World Deferred) → Alike (Carries s) w v
-    → PlayStops (Carries s) (code_runner (machine_of s) limit) until limit (code_play (machine_of s) limit entries until w) (source_play s limit entries until v)
+    → PlayStops (Carries s) (code_runner (machine_of s) limit) (whole entries until) limit (unplayed w) (code_play (machine_of s) limit entries until w) (source_play s limit entries until v)
 
 -- Plays that are alike have one text of their end, with the number of instructions that the code made.
 abbrev pub ListedTextsAgree : Type 0

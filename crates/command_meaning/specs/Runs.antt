@@ -10,13 +10,13 @@ use Rattle.world_rules.specs.Pure.{CellLookup}
 use Rattle.world_rules.specs.Trace.{trace_text}
 use Rattle.world_rules.specs.Turns.{new_world}
 use Rattle.world_rules.specs.World.{World}
-use Rattle.world_rules.specs.Plays.{PlayEnd, Done, OutOfEntries, StoppedInside, Paused, Played}
+use Rattle.world_rules.specs.Plays.{PlayEnd, Done, OutOfEntries, StoppedInside, Paused, Played, unplayed}
 use Rattle.module_player.specs.CodePlays.{code_runner, code_end_text}
 use Rattle.source_meaning.specs.Evaluation.{Deferred}
 use Rattle.source_meaning.specs.Scripts.{Setting}
 use Rattle.source_meaning.specs.Plays.{source_play}
-use Rattle.source_meaning.specs.Carries.{Carries}
-use Rattle.play_meaning.specs.Together.{Begins, PlaysAlike, StoppedAt}
+use Rattle.source_laws.specs.Carries.{Carries}
+use Rattle.play_meaning.specs.Together.{Begins, PlaysAlike, StoppedAt, whole}
 use Rattle.play_meaning.specs.EndTexts.{source_end_text}
 use Rattle.command_work.specs.declared.status.Status.{Status}
 use Rattle.command_work.specs.declared.status.Status.TheVariants.{Limit}
@@ -73,12 +73,12 @@ pub record TellsMeaning (s : Setting) (code : Played Saved) (source : Played Def
   pub answer : r ≡ answer_by source.ending
   pub contents : c' ≡ c
 
--- The play was stopped in an entry for which all the instructions were made that it may take. The lines that were put are a beginning of those
+-- The play was stopped in its last entry, for which all the instructions were made that it may take. The lines that were put are a beginning of those
 -- that the play of source tells.
 pub record TellsBeginning (cell : CellLookup) (header : EngineTable) (name : List ℕ) (u : TypedUnit) (c : Contents) (t : List ℕ) (r : Result Finished Status)
     (c' : Contents) (t' : List ℕ) : Type 0 where
-  pub stopped : StoppedAt (code_runner (host_of cell header (listed name (code_of u))) default_instruction_limit) default_until default_instruction_limit
-      (code_played cell header name u)
+  pub stopped : StoppedAt (code_runner (host_of cell header (listed name (code_of u))) default_instruction_limit) (whole default_entry_limit default_until) default_instruction_limit
+      (unplayed (first_world name)) (code_played cell header name u)
   pub begins : Begins (code_played cell header name u).last.trace (source_played cell header name u default_instruction_limit).last.trace
   pub taken : t' ≡ t ++ (trace_text (code_played cell header name u).last.trace ++ code_end_text (listed name (code_of u)) (code_played cell header name u))
   pub answer : r ≡ Err Limit

@@ -14,7 +14,7 @@ use Rattle.ncs_emit.specs.Labelled.{program}
 use Rattle.emission_rules.specs.Units.{unit_code, unit_file}
 use Rattle.stack_rules.specs.Rules.{WellStacked}
 use Rattle.world_rules.specs.Pure.{CellLookup}
-use Rattle.source_meaning.specs.EngineHost.{AnswersAreTyped}
+use Rattle.source_laws.specs.EngineHost.{AnswersAreTyped}
 use Rattle.emission_laws.specs.WellTyped.{IsWellTyped}
 
 -- the instructions of a unit's code

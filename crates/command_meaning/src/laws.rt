@@ -14,7 +14,7 @@ use ncs_code::size_laws;
 use nss_lexer::laws::values_are_bytes;
 use play_meaning::{code_plays_end, end_texts_agree, source_plays_end, typed_scripts_are_ready};
 use saved_state::Saved;
-use source_meaning::entries_stay_alike;
+use source_laws::entries_stay_alike;
 use stack_rules::tables_type_execute_script;
 use typed_laws::{entries_are_plain, functions_are_placed, globals_are_fine};
 use typing_laws::laws::typed_units_have_code;

@@ -17,10 +17,10 @@ use Rattle.typing_rules.specs.declared.places.Callee.TheVariants.{Unit as InUnit
 use Rattle.typing_rules.specs.declared.places.EntryPoint.TheVariants.{Main}
 use Rattle.typing_rules.specs.Typed.{TypedExpr, TypedExprs, TypedName, TypedStmt, TypedStmts, TypedUnit, no_typed, more_typed, type_of}
 use Rattle.typing_rules.specs.Typed as e
-use Rattle.emission_rules.specs.Expressions.{is_captured}
+use Rattle.typing_rules.specs.Cells.{is_captured}
 use Rattle.stack_shape.specs.Calls.{is_action, is_callable}
 use Rattle.source_meaning.specs.Scripts.{Function, functions}
-use Rattle.source_meaning.specs.Fine.{IsArgument, CallsFunction, CallsRoutine, IsFine}
+use Rattle.source_laws.specs.Fine.{IsArgument, CallsFunction, CallsRoutine, IsFine}
 use Rattle.emission_laws.specs.WellTyped.{site, IsFineFunction, IsWellTyped}
 
 abbrev stmts : List TypedStmt → TypedStmts

@@ -29,9 +29,10 @@ use Rattle.typing_rules.specs.declared.places.Callee.{Callee as Target}
 use Rattle.typing_rules.specs.declared.places.Callee.TheVariants.{Unit as InUnit, Engine}
 use Rattle.typing_rules.specs.Types.{is_void, binary_type, assigned_type, same_type}
 use Rattle.typing_rules.specs.Typed.{TypedExpr, TypedExprs, TypedParameter, literal, name, call, member, prefix, postfix, binary, assign, no_typed, more_typed, type_of, is_place}
-use Rattle.emission_rules.specs.Layout.{Structs, Layout, cell_types, cells, position}
+use Rattle.typing_rules.specs.Cells.{Structs, cell_types, cells, is_captured}
+use Rattle.emission_rules.specs.Layout.{Layout, position}
 use Rattle.emission_rules.specs.Operations.{beneath, bytes_of, cell_kind, constant, int_constant, literal_of, started, top_again, operation, combination}
-use Rattle.emission_rules.specs.Expressions.{Home, InFrame, InGlobals, moved, home, at_home, read, write, increment, decrement, member_code, prefix_code, postfix_code, shortcut, shortcut_labels, binary_code, is_set, read_first, cells_first, constants, result_room, called as called_line, is_captured, argument_labels, argument_code, count_arguments, arguments_cells, emit, emit_all, labels, all_labels}
+use Rattle.emission_rules.specs.Expressions.{Home, InFrame, InGlobals, moved, home, at_home, read, write, increment, decrement, member_code, prefix_code, postfix_code, shortcut, shortcut_labels, binary_code, is_set, read_first, cells_first, constants, result_room, called as called_line, argument_labels, argument_code, count_arguments, arguments_cells, emit, emit_all, labels, all_labels}
 use Rattle.emission_rules.specs.Bounds.{IsCell, IsType, IsExpr, AreExprs}
 use Rattle.stack_shape.specs.declared.shape.Slot.{Slot}
 use Rattle.stack_shape.specs.declared.shape.Slot.TheVariants.{Of, Base}
@@ -41,9 +42,9 @@ use Rattle.stack_shape.specs.Stored.{stored_types}
 use Rattle.stack_shape.specs.Rule.{affected, rule, called}
 use Rattle.stack_rules.specs.Tables.{Callee}
 use Rattle.source_meaning.specs.Scripts.{Function}
-use Rattle.source_meaning.specs.Kept.{Site, In}
-use Rattle.source_meaning.specs.Laws.{CallsEngine, AllCallEngine}
-use Rattle.source_meaning.specs.Fine.{AreParts, argument_type, argument_types, AreValues, AreSingle, IsArgument, parameter_type, CallsFunction, CallsRoutine, IsFine, AreFine}
+use Rattle.source_laws.specs.Kept.{Site, In}
+use Rattle.source_laws.specs.Laws.{CallsEngine, AllCallEngine}
+use Rattle.source_laws.specs.Fine.{AreParts, argument_type, argument_types, AreValues, AreSingle, IsArgument, parameter_type, CallsFunction, CallsRoutine, IsFine, AreFine}
 use Rattle.emission_laws.specs.Spots.{Resumes, Spot, GoesStraight}
 use Rattle.emission_laws.proofs.Cells.{Ground, over, spot_over, affects, exchanged, Seen, seen_over, seen_part, stored_there, on_top}
 use Rattle.emission_laws.proofs.Ops.{of_int_types, of_sum_types, same_is, Sees, Turns, const_turns, int_turns, started_turns, read_turns, write_turns, increment_turns, decrement_turns, again_turns, cut_turns, negate_turns, complement_turns, not_turns, operation_turns}

@@ -16,7 +16,8 @@ use Rattle.ncs_emit.specs.declared.jump.Jump.{Jump}
 use Rattle.ncs_emit.specs.declared.jump.Jump.TheVariants.{Jmp, Jsr, Jz, Jnz}
 use Rattle.ncs_emit.specs.Labelled.{jump_over}
 use Rattle.typing_rules.specs.Types.{is_compared, same_type, of_ints, sum_type, comparison_type, binary_type}
-use Rattle.emission_rules.specs.Layout.{Structs, Layout, cell_types, cells}
+use Rattle.typing_rules.specs.Cells.{Structs, cell_types, cells}
+use Rattle.emission_rules.specs.Layout.{Layout}
 use Rattle.emission_rules.specs.Operations.{beneath, bytes_of, cell_kind, literal_of, operation}
 use Rattle.emission_rules.specs.Expressions.{Home, InFrame, InGlobals, read, write, increment, decrement}
 use Rattle.emission_rules.specs.Bounds.{IsCell}

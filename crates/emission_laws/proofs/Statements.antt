@@ -11,7 +11,8 @@ use Rattle.ncs_code.specs.Plain as ops
 use Rattle.ncs_emit.specs.declared.jump.Jump.TheVariants.{Jmp, Jz, Jnz}
 use Rattle.ncs_emit.specs.Labelled.{Line, Instruction, JumpTo}
 use Rattle.typing_rules.specs.Typed.{TypedExpr, TypedName, TypedStmt, TypedStmts, type_of}
-use Rattle.emission_rules.specs.Layout.{Structs, Layout, cell_types, cells, position, names_cells, declared_cells, all_declared_cells}
+use Rattle.typing_rules.specs.Cells.{Structs, cell_types, cells}
+use Rattle.emission_rules.specs.Layout.{Layout, position, names_cells, declared_cells, all_declared_cells}
 use Rattle.emission_rules.specs.Operations.{beneath, bytes_of, dropped, top_again, constant, literal_of}
 use Rattle.emission_rules.specs.Expressions.{emit, labels}
 use Rattle.emission_rules.specs.Statements.{Exits, in_loop, in_switch, some_labels, evaluated, tested, returned, initial, names_labels, emit_names, count_labels, tests, otherwise, placed, placed_on, stmt_labels, all_stmt_labels, emit_stmt, emit_stmts}
@@ -24,10 +25,11 @@ use Rattle.stack_shape.specs.StackEffects.{no_effect, where_alike, written, stac
 use Rattle.stack_shape.specs.Rule.{rule}
 use Rattle.stack_rules.specs.Tables.{Callee}
 use Rattle.source_meaning.specs.Scripts.{Function}
-use Rattle.source_meaning.specs.Kept.{Site, In}
-use Rattle.source_meaning.specs.Laws.{CallsEngine}
-use Rattle.source_meaning.specs.Fine.{IsFine}
-use Rattle.source_meaning.specs.FineStatements.{after_names, after_stmt, DeclaresNothing, IsFineValue, IsFineMaybe, IsFineTest, AreFineNames, IsFineReturn, IsFineStmt, AreFineStmts}
+use Rattle.source_laws.specs.Kept.{Site, In}
+use Rattle.source_laws.specs.Laws.{CallsEngine}
+use Rattle.source_laws.specs.Fine.{IsFine}
+use Rattle.source_laws.specs.FineStatements.{DeclaresNothing, IsFineValue, IsFineMaybe, IsFineTest, AreFineNames, IsFineReturn, IsFineStmt, AreFineStmts}
+use Rattle.source_meaning.specs.Statements.{after_names, after_stmt}
 use Rattle.emission_laws.specs.WellTyped.{LabelsFirst, FitsSwitches, AllFitSwitches, SomeCallsEngine, NamesCallEngine}
 use Rattle.emission_laws.specs.Spots.{Runs, Spot}
 use Rattle.emission_laws.proofs.Cells.{Ground, spot_over, affects, Seen, seen_over, types_there, drop_there, range_there, alike}

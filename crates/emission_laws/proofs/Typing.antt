@@ -21,8 +21,8 @@ use Rattle.typing_rules.specs.Verdicts.{after, after_names, after_item}
 use Rattle.typing_rules.specs.Meaning.{Types, AllTypes, TypesValue, TypesNames, TypesStmt, TypesStmts, TypesItem, TypesItems}
 use Rattle.emission_rules.specs.Statements.{is_label, count_labels}
 use Rattle.source_meaning.specs.Scripts.{Function, functions, global_names}
-use Rattle.source_meaning.specs.Laws.{CallsEngine, AllCallEngine}
-use Rattle.source_meaning.specs.FineStatements.{DeclaresNothing}
+use Rattle.source_laws.specs.Laws.{CallsEngine, AllCallEngine}
+use Rattle.source_laws.specs.FineStatements.{DeclaresNothing}
 use Rattle.emission_laws.specs.WellTyped.{LabelsFirst, FitsSwitches, AllFitSwitches, SomeCallsEngine, NamesCallEngine}
 use Rattle.emission_laws.specs.Laws.{SwitchesFit, FirstValuesCallEngine}
 

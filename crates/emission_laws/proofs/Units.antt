@@ -17,7 +17,8 @@ use Rattle.typing_rules.specs.declared.places.EntryPoint.{EntryPoint}
 use Rattle.typing_rules.specs.declared.places.EntryPoint.TheVariants.{Main, Conditional}
 use Rattle.typing_rules.specs.Typed.{TypedName, TypedParameter, TypedItem, TypedUnit}
 use Rattle.typing_rules.specs.Numbers.{number_of}
-use Rattle.emission_rules.specs.Layout.{Structs, Layout, layout_of, cells, position, params_cells, names_cells, all_declared_cells, global_cells}
+use Rattle.typing_rules.specs.Cells.{Structs, cells}
+use Rattle.emission_rules.specs.Layout.{Layout, layout_of, position, params_cells, names_cells, all_declared_cells, global_cells}
 use Rattle.emission_rules.specs.Operations.{beneath}
 use Rattle.emission_rules.specs.Statements.{no_exits, some_labels, names_labels, emit_names, initial, all_stmt_labels}
 use Rattle.emission_rules.specs.Units.{body_count, functions_labels, emit_function, emit_functions, has_globals, globals_labels, emit_globals, entry_call, start_labels, emit_start, unit_code}
@@ -28,10 +29,10 @@ use Rattle.stack_shape.specs.declared.shape.Slot.TheVariants.{Of, Base}
 use Rattle.stack_shape.specs.Rule.{rule}
 use Rattle.stack_rules.specs.Tables.{Callee}
 use Rattle.stack_rules.specs.Rules.{WellStacked}
-use Rattle.source_meaning.specs.Scripts.{Function, functions, global_names}
-use Rattle.source_meaning.specs.Kept.{Site, In}
-use Rattle.source_meaning.specs.FineStatements.{after_names}
-use Rattle.source_meaning.specs.FunctionsRun.{AreParameters, parameter_scope}
+use Rattle.source_meaning.specs.Scripts.{Function, functions, global_names, parameter_names}
+use Rattle.source_laws.specs.Kept.{Site, In}
+use Rattle.source_meaning.specs.Statements.{after_names}
+use Rattle.source_laws.specs.FunctionsRun.{AreParameters}
 use Rattle.emission_laws.specs.WellTyped.{site, start_site, IsBegin, IsFineEntry, IsWellTyped}
 use Rattle.emission_laws.specs.Spots.{Starts, Runs, Spot}
 use Rattle.emission_laws.specs.Table.{table_of, first_spot}
@@ -178,10 +179,10 @@ parameters_deep : (structs : Structs) (ps : List TypedParameter) → params_cell
 parameters_deep structs [] = refl
 parameters_deep structs (p ∷ ps) = omega (arith, parameters_deep structs ps, value_length structs p.ty, length-append (value_types structs p.ty) (parameter_cells structs ps))
 
-parameters_seen : (x : Site) (ps : List TypedParameter) → AreParameters x ps → Sighted x (parameter_scope ps) (parameter_cells x.layout.structs ps)
+parameters_seen : (x : Site) (ps : List TypedParameter) → AreParameters x ps → Sighted x (parameter_names ps) (parameter_cells x.layout.structs ps)
 parameters_seen x [] are n h = absurd h
 parameters_seen x (p ∷ ps) are n h =
-    sight_more x (parameter_scope ps) (parameter_cells x.layout.structs ps) p.name.number p.ty (are.0 ∙ parameters_deep x.layout.structs ps) are.1 (parameters_seen x ps are.2) n h
+    sight_more x (parameter_names ps) (parameter_cells x.layout.structs ps) p.name.number p.ty (are.0 ∙ parameters_deep x.layout.structs ps) are.1 (parameters_seen x ps are.2) n h
 
 -- what makes the globals takes nothing and gives nothing
 abbrev start_callee : Callee
@@ -246,7 +247,7 @@ module _ (header : EngineTable) (u : TypedUnit) (bounded : IsBounded u) (typed :
       line_and header total callee_of (mark header total callee_of f (λ spot_of holds. holds.0 f fn is))
       (and_line header total callee_of
       (stmts_flow header fs (site u) bodies total callee_of globals callees seen (λ made. globals_many) refl f fn is fn.body Known n _ (params_cells l.structs fn.parameters)
-      (parameter_scope fn.parameters) ps false false false false no_exits None (parameters_seen (site u) fn.parameters fine.parameters) fine.body fine.switches are few deep
+      (parameter_names fn.parameters) ps false false false false no_exits None (parameters_seen (site u) fn.parameters fine.parameters) fine.body fine.switches are few deep
       (λ h. absurd (none h)) (λ h. absurd (none h)) tt).by
       (line_and header total callee_of
       (dropped_flows header fs (site u) bodies total callee_of globals callees seen (λ made. globals_many) (ground header fs (site u) bodies total callee_of globals callees seen (λ made. globals_many) refl f fn is)

@@ -9,12 +9,12 @@ use Rattle.typing_rules.specs.declared.places.EntryPoint.TheVariants.{Main, Cond
 use Rattle.typing_rules.specs.Typed.{TypedExpr, TypedName, TypedStmt, TypedStmts, TypedUnit}
 use Rattle.emission_rules.specs.Layout.{layout_of, params_cells}
 use Rattle.emission_rules.specs.Statements.{count_labels}
-use Rattle.source_meaning.specs.Scripts.{Function, functions, global_names}
-use Rattle.source_meaning.specs.Kept.{Site}
-use Rattle.source_meaning.specs.Laws.{CallsEngine}
-use Rattle.source_meaning.specs.Carries.{unit_site}
-use Rattle.source_meaning.specs.FineStatements.{DeclaresNothing, AreFineNames, AreFineStmts}
-use Rattle.source_meaning.specs.FunctionsRun.{AreParameters, parameter_scope}
+use Rattle.source_meaning.specs.Scripts.{Function, functions, global_names, parameter_names}
+use Rattle.source_laws.specs.Kept.{Site}
+use Rattle.source_laws.specs.Laws.{CallsEngine}
+use Rattle.source_laws.specs.Carries.{unit_site}
+use Rattle.source_laws.specs.FineStatements.{DeclaresNothing, AreFineNames, AreFineStmts}
+use Rattle.source_laws.specs.FunctionsRun.{AreParameters}
 
 -- ---- the labels of a switch
 
@@ -58,7 +58,7 @@ start_site u = record (unit_site 0 u 0 []) { globals = []; bp = 0 }
 
 pub record IsFineFunction (table : EngineTable) (u : TypedUnit) (f : Function) : Type 0 where
   pub parameters : AreParameters (site u) f.parameters
-  pub body : AreFineStmts table (functions u.items) (site u) f.result false false (params_cells (layout_of u).structs f.parameters) (parameter_scope f.parameters) f.body
+  pub body : AreFineStmts table (functions u.items) (site u) f.result false false (params_cells (layout_of u).structs f.parameters) (parameter_names f.parameters) f.body
   pub switches : AllFitSwitches f.body
 
 abbrev pub SomeCallsEngine : Option TypedExpr → Type 0

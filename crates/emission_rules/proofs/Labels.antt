@@ -22,9 +22,10 @@ use Rattle.typing_rules.specs.declared.places.Callee.TheVariants.{Unit as InUnit
 use Rattle.typing_rules.specs.declared.places.EntryPoint.{EntryPoint}
 use Rattle.typing_rules.specs.declared.places.EntryPoint.TheVariants.{Main, Conditional}
 use Rattle.typing_rules.specs.Typed.{TypedExpr, TypedExprs, TypedName, TypedStmt, TypedStmts, TypedItem, literal, name, call, member, prefix, postfix, binary, assign, no_typed, more_typed, type_of}
-use Rattle.emission_rules.specs.Layout.{Layout, cell_types, cells, declared_cells, all_declared_cells, params_cells, item_cells}
+use Rattle.typing_rules.specs.Cells.{cell_types, cells, is_captured}
+use Rattle.emission_rules.specs.Layout.{Layout, declared_cells, all_declared_cells, params_cells, item_cells}
 use Rattle.emission_rules.specs.Operations.{started, dropped, combination, operation}
-use Rattle.emission_rules.specs.Expressions.{Home, increment, decrement, moved, home, at_home, read, write, name_code, member_code, prefix_code, postfix_code, Shortcut, WhereTrue, WhereFalse, Never, shortcut, shortcut_labels, binary_code, is_set, read_first, cells_first, constants, result_room, called, is_captured, argument_labels, argument_code, count_arguments, arguments_cells, emit, emit_all, labels, all_labels}
+use Rattle.emission_rules.specs.Expressions.{Home, increment, decrement, moved, home, at_home, read, write, name_code, member_code, prefix_code, postfix_code, Shortcut, WhereTrue, WhereFalse, Never, shortcut, shortcut_labels, binary_code, is_set, read_first, cells_first, constants, result_room, called, argument_labels, argument_code, count_arguments, arguments_cells, emit, emit_all, labels, all_labels}
 use Rattle.emission_rules.specs.Statements.{Exits, no_exits, in_loop, in_switch, some_labels, evaluated, tested, returned, initial, names_labels, emit_names, is_label, count_labels, behind, test_of, tests, placed, placed_on, stmt_labels, all_stmt_labels, emit_stmt, emit_stmts}
 use Rattle.emission_rules.specs.Units.{body_count, functions_labels, emit_function, emit_functions, globals_labels, emit_globals, entry_call, start_labels, emit_start}
 

@@ -5,7 +5,8 @@ use Rattle.nss_tree.specs.Statements.{block, empty, expression, if_only, if_else
 use Rattle.nss_tree.specs.Units.{structure, constant, global, function}
 use Rattle.typing_rules.specs.Typed.{TypedName, TypedStmt, TypedStmts, TypedParameter, TypedItem, TypedUnit}
 use Rattle.typing_rules.specs.Numbers.{number_of, number_of_parameter, numbers, all_numbers, body_numbers, item_numbers, items_numbers, numbers_from}
-use Rattle.emission_rules.specs.Layout.{Structs, cells, params_cells, declared_cells, item_cells, params_positions, names_positions, positions, all_positions, body_positions, item_positions, items_positions, layout_of, position}
+use Rattle.typing_rules.specs.Cells.{Structs, cells}
+use Rattle.emission_rules.specs.Layout.{params_cells, declared_cells, item_cells, params_positions, names_positions, positions, all_positions, body_positions, item_positions, items_positions, layout_of, position}
 
 -- ---- as many positions as numbers
 

@@ -35,9 +35,10 @@ use Rattle.typing_rules.specs.declared.places.Callee.TheVariants.{Unit as InUnit
 use Rattle.typing_rules.specs.declared.places.EntryPoint.{EntryPoint}
 use Rattle.typing_rules.specs.declared.places.EntryPoint.TheVariants.{Main, Conditional}
 use Rattle.typing_rules.specs.Typed.{TypedExpr, TypedExprs, TypedName, TypedStmt, TypedStmts, TypedItem, TypedParameter, TypedUnit, literal, name, call, member, prefix, postfix, binary, assign, no_typed, more_typed, type_of}
-use Rattle.emission_rules.specs.Layout.{Layout, layout_of, cell_types, cells, names_cells, declared_cells, all_declared_cells, params_cells, item_cells, global_cells}
+use Rattle.typing_rules.specs.Cells.{cell_types, cells, is_captured}
+use Rattle.emission_rules.specs.Layout.{Layout, layout_of, names_cells, declared_cells, all_declared_cells, params_cells, item_cells, global_cells}
 use Rattle.emission_rules.specs.Operations.{beneath, bytes_of, dropped, literal_of, cell_kind, started, sum_kind, operation, combination}
-use Rattle.emission_rules.specs.Expressions.{Home, InFrame, InGlobals, increment, decrement, moved, home, at_home, read, write, name_code, member_code, prefix_code, postfix_code, Shortcut, WhereTrue, WhereFalse, Never, shortcut, shortcut_labels, binary_code, is_set, read_first, cells_first, constants, result_room, called, is_captured, argument_labels, argument_code, count_arguments, arguments_cells, emit, emit_all, labels, all_labels}
+use Rattle.emission_rules.specs.Expressions.{Home, InFrame, InGlobals, increment, decrement, moved, home, at_home, read, write, name_code, member_code, prefix_code, postfix_code, Shortcut, WhereTrue, WhereFalse, Never, shortcut, shortcut_labels, binary_code, is_set, read_first, cells_first, constants, result_room, called, argument_labels, argument_code, count_arguments, arguments_cells, emit, emit_all, labels, all_labels}
 use Rattle.emission_rules.specs.Statements.{Exits, no_exits, in_loop, in_switch, some_labels, evaluated, tested, returned, initial, names_labels, emit_names, is_label, count_labels, behind, test_of, tests, is_default, otherwise, placed, placed_on, stmt_labels, all_stmt_labels, emit_stmt, emit_stmts}
 use Rattle.emission_rules.specs.Units.{unit_code, has_globals, body_count, functions_labels, emit_function, emit_functions, globals_labels, emit_globals, entry_call, start_labels, emit_start}
 use Rattle.nwq_value.specs.Engine.{IsConstant}

@@ -18,7 +18,8 @@ use Rattle.typing_rules.specs.declared.places.EntryPoint.{EntryPoint}
 use Rattle.typing_rules.specs.declared.places.EntryPoint.TheVariants.{Main, Conditional}
 use Rattle.typing_rules.specs.Types.{is_compared}
 use Rattle.typing_rules.specs.Typed.{TypedExpr, TypedExprs, TypedName, TypedStmt, TypedStmts, TypedItem, TypedUnit, literal, name, call, member, prefix, postfix, binary, assign, no_typed, more_typed, type_of}
-use Rattle.emission_rules.specs.Layout.{Layout, layout_of, cell_types, cells, params_cells}
+use Rattle.typing_rules.specs.Cells.{cell_types, cells}
+use Rattle.emission_rules.specs.Layout.{Layout, layout_of, params_cells}
 use Rattle.emission_rules.specs.Expressions.{count_arguments}
 use Rattle.emission_rules.specs.Units.{body_count}
 

@@ -19,9 +19,9 @@ use Rattle.typing_rules.specs.declared.places.Place.{Place}
 use Rattle.typing_rules.specs.declared.places.Place.TheVariants.{Local, Global, Const as IsConst}
 use Rattle.typing_rules.specs.declared.places.Callee.{Callee}
 use Rattle.typing_rules.specs.declared.places.Callee.TheVariants.{Unit as InUnit, Engine}
-use Rattle.typing_rules.specs.Types.{is_void}
 use Rattle.typing_rules.specs.Typed.{TypedExpr, TypedExprs, literal, name, call, member, prefix, postfix, binary, assign, no_typed, more_typed, type_of}
-use Rattle.emission_rules.specs.Layout.{Layout, cell_types, cells, position}
+use Rattle.typing_rules.specs.Cells.{cell_types, cells, is_captured}
+use Rattle.emission_rules.specs.Layout.{Layout, position}
 use Rattle.emission_rules.specs.Operations.{bytes_of, beneath, top_again, constant, int_constant, started, operation, combination}
 
 -- ---- places
@@ -143,10 +143,6 @@ result_room l (Engine routine) t = []
 abbrev pub called : Callee → ℕ → Line
 called (InUnit f) count = JumpTo Jsr f
 called (Engine routine) count = Instruction (ops.Action routine count)
-
--- an argument without a value is an action
-abbrev pub is_captured : TypedExpr → Bool
-is_captured x = is_void (type_of x)
 
 abbrev pub argument_labels : Bool → ℕ
 argument_labels captured = if captured then 1 else 0

@@ -6,7 +6,8 @@ use Rattle.ncs_emit.specs.declared.jump.Jump.TheVariants.{Jmp, Jz, Jnz}
 use Rattle.ncs_emit.specs.Labelled.{Line, Instruction, JumpTo, Label}
 use Rattle.typing_rules.specs.Typed.{TypedExpr, TypedName, TypedStmt, TypedStmts, type_of}
 use Rattle.nwq_value.specs.declared.value.Ty.{Ty}
-use Rattle.emission_rules.specs.Layout.{Layout, cell_types, cells, declared_cells, all_declared_cells}
+use Rattle.typing_rules.specs.Cells.{cell_types, cells}
+use Rattle.emission_rules.specs.Layout.{Layout, declared_cells, all_declared_cells}
 use Rattle.emission_rules.specs.Operations.{bytes_of, beneath, dropped, top_again, constant, int_constant, started, two_ints}
 use Rattle.emission_rules.specs.Expressions.{emit, labels}
 

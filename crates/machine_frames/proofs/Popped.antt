@@ -2,11 +2,11 @@
 use Rattle.std.proofs.Common.{arith, ◌≡◌, ◌≢◌, ◌≤◌, ◌+◌, ℕ, suc, List, [], ◌∷◌, length, drop, Option, Some, None, sym, ap, ◌∙◌, refl}
 use Rattle.std.specs.Prelude.{ℤ, slice_get, slice_set}
 use Rattle.nwq_value.specs.declared.value.Value.TheVariants.{Int, Text, Object, Effect, Event}
+use Rattle.nwq_value.specs.Operators.{is_zero}
 use Rattle.saved_state.specs.declared.cell.Cell.{Cell}
 use Rattle.saved_state.specs.declared.cell.Cell.TheVariants.{Value as Holds, Base}
 use Rattle.machine_rules.specs.Cells.{on_int, on_text, of_int, of_ints, of_texts, zero_on_top}
 use Rattle.machine_rules.specs.Act.{int_dropped}
-use Rattle.machine_rules.specs.Operators.{is_zero}
 use Rattle.machine_frames.specs.Tops.{HasValue, HasInt, HasText}
 
 -- ---- an int on top

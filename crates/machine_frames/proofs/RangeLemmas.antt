@@ -9,13 +9,12 @@ use Rattle.nwq_value.specs.declared.value.Ty.{Ty}
 use Rattle.nwq_value.specs.declared.value.Value.{Value}
 use Rattle.nwq_value.specs.declared.value.Value.TheVariants.{Int, Text, Object, Effect, Event}
 use Rattle.nwq_value.specs.Roles.{tys_eq}
+use Rattle.nwq_value.specs.Operators.{as_int, value_eq, values_eq}
 use Rattle.saved_state.specs.declared.cell.Cell.{Cell}
 use Rattle.saved_state.specs.declared.cell.Cell.TheVariants.{Value as Holds, Base}
 use Rattle.saved_state.specs.Cells.{StackView}
 use Rattle.stack_shape.specs.declared.range.CellRange.{CellRange}
 use Rattle.stack_shape.specs.Ranges.{cell_count, depth_of, range_of, range_at}
-use Rattle.machine_rules.specs.Operators.{as_int}
-use Rattle.machine_rules.specs.Values.{value_eq, values_eq}
 use Rattle.machine_rules.specs.Cells.{values_on, values_at, value_types, with_values, overwritten, from_bp, range_pushed, values_written, range_written, int_written, int_changed, values_dropped, values_kept, runs_eq, runs_compared, pair_eq, pair_compared}
 use Rattle.machine_rules.specs.Act.{bp_range}
 use Rattle.machine_rules.specs.Laws.{EqualityIsTested}

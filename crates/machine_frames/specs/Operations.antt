@@ -1,8 +1,8 @@
 -- The operations of one and of two ints by name.
 use Rattle.std.specs.Prelude.{ℕ, ℤ, Bool, true, false, Option, None, Some}
+use Rattle.nwq_value.specs.Operators.{both, either, negation, bits_and, bits_or, bits_xor, complement, shift_left, shift_right, shift_right_unsigned, sum, difference, product, quotient, remainder, opposite, less, less_or_equal, greater, greater_or_equal}
 use Rattle.ncs_code.specs.Plain.{PlainOp}
 use Rattle.ncs_code.specs.Plain as ops
-use Rattle.machine_rules.specs.Operators.{both, either, negation, bits_and, bits_or, bits_xor, complement, shift_left, shift_right, shift_right_unsigned, sum, difference, product, quotient, remainder, opposite, less, less_or_equal, greater, greater_or_equal}
 use Rattle.machine_rules.specs.Act.{one_less, one_more}
 use Rattle.machine_frames.specs.declared.operation.Binary.{Binary}
 use Rattle.machine_frames.specs.declared.operation.Binary.TheVariants as binary

@@ -3,11 +3,11 @@ use Rattle.std.specs.Prelude.{◌≡◌, ◌≢◌, ℕ, ℤ, List, ◌∷◌, O
 use Rattle.std.specs.Option.{option_and_then}
 use Rattle.nwq_value.specs.declared.value.Value.{Value}
 use Rattle.nwq_value.specs.declared.value.Value.TheVariants.{Int, Text}
+use Rattle.nwq_value.specs.Operators.{opposite}
 use Rattle.saved_state.specs.declared.cell.Cell.{Cell}
 use Rattle.saved_state.specs.declared.cell.Cell.TheVariants.{Value as Holds, Base}
 use Rattle.stack_shape.specs.declared.range.CellRange.{CellRange}
 use Rattle.machine_rules.specs.Cells.{of_int, on_int, values_at, values_on}
-use Rattle.machine_rules.specs.Operators.{opposite}
 
 pub record HasValue (depth : ℕ) (cells : List Cell) : Type 0 where
   pub value : Value

@@ -1,5 +1,5 @@
 ghost use Rattle.std.specs.Prelude.{◌≡◌, ◌&&◌, false};
-ghost use Rattle.machine_rules.specs.Operators.{as_int, is_zero};
+ghost use Rattle.nwq_value.specs.Operators.{as_int, is_zero};
 ghost use Rattle.machine_frames.specs.Operations.{binary_of, divides, unary_of};
 
 /// An operation of two ints. The second one was on top.

@@ -1,11 +1,11 @@
 //! Instructions that name cells by offsets and sizes.
 ghost use Rattle.std.specs.Prelude.{◌≡◌, ◌≢◌, ◌+◌, ◌≤◌, ◌<◌, ◌^◌, None, Some, OnOk, IfSome, drop};
 ghost use Rattle.std.specs.Prelude.{length};
+ghost use Rattle.nwq_value.specs.Operators.{values_eq};
 ghost use Rattle.machine_rules.specs.Act.{bp_range, compared};
 ghost use Rattle.machine_rules.specs.Cells.{int_changed, pair_compared, range_kept, range_pushed};
 ghost use Rattle.machine_rules.specs.Cells.{range_written, runs_compared, values_dropped};
 ghost use Rattle.machine_rules.specs.Cells.{values_kept, values_on};
-ghost use Rattle.machine_rules.specs.Values.{values_eq};
 ghost use Rattle.stack_shape.specs.StackEffects.{type_of_both};
 ghost use Rattle.machine_frames.specs.Operations.{unary_of};
 ghost use Rattle.machine_frames.specs.Tops.{AreValues, answer_of, int_at, reached};

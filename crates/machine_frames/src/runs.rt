@@ -1,9 +1,9 @@
 //! Instructions that read and write runs of values.
 ghost use Rattle.std.specs.Prelude.{◌≡◌, ◌≢◌, ◌≤◌, ◌<◌, ◌+◌, ◌^◌, Some, OnOk, IfSome, drop, length};
+ghost use Rattle.nwq_value.specs.Operators.{values_eq};
 ghost use Rattle.machine_rules.specs.Cells.{int_changed, overwritten, range_kept, range_pushed};
 ghost use Rattle.machine_rules.specs.Cells.{range_written, runs_compared, pair_compared};
 ghost use Rattle.machine_rules.specs.Cells.{values_dropped, values_on, with_values};
-ghost use Rattle.machine_rules.specs.Values.{values_eq};
 ghost use Rattle.machine_frames.specs.Operations.{unary_of};
 ghost use Rattle.machine_frames.specs.Tops.{AreValues, answer_of};
 

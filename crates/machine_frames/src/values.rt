@@ -1,10 +1,10 @@
 //! Instructions that pop and push values.
 ghost use Rattle.std.specs.Prelude.{◌≡◌, ◌≢◌, ◌&&◌, false, None, Some, OnOk};
+ghost use Rattle.nwq_value.specs.Operators.{opposite, joined_texts};
 ghost use Rattle.ncs_code.specs.Plain.{plain_lit};
 ghost use Rattle.machine_rules.specs.Act.{added, if_ints, int_dropped};
 ghost use Rattle.machine_rules.specs.Cells.{of_int, of_ints, of_texts, value_pushed, zero_on_top};
-ghost use Rattle.machine_rules.specs.Operators.{opposite};
-ghost use Rattle.machine_rules.specs.Values.{joined_texts, literal_value, starting_value};
+ghost use Rattle.machine_rules.specs.Values.{literal_value, starting_value};
 ghost use Rattle.machine_frames.specs.Operations.{binary_of, divides, unary_of};
 ghost use Rattle.machine_frames.specs.Tops.{negated};
 

@@ -6,6 +6,7 @@ use Rattle.nwq_value.specs.declared.value.Value.TheVariants.{Int, Text, Object}
 use Rattle.nwq_value.specs.Header.{header_routines}
 use Rattle.nwq_value.specs.HeaderTable.{header_table}
 use Rattle.nwq_value.specs.Roles.{ty_eq, tys_eq, role_without_row}
+use Rattle.nwq_value.specs.Operators.{value_eq}
 use Rattle.ncs_code.specs.Plain.{PlainOp}
 use Rattle.ncs_code.specs.Plain as ops
 use Rattle.ncs_code.specs.File.{op_at}
@@ -16,7 +17,6 @@ use Rattle.stack_shape.specs.StackEffects.{type_of_one, type_of_both}
 use Rattle.saved_state.specs.declared.cell.Cell.{Cell}
 use Rattle.saved_state.specs.declared.cell.Cell.TheVariants.{Value as Holds, Base}
 use Rattle.saved_state.specs.Cells.{StackView}
-use Rattle.machine_rules.specs.Values.{value_eq}
 use Rattle.machine_rules.specs.Act.{cells_after, act}
 use Rattle.machine_rules.specs.Machine.{Script, Answered, Host, step}
 use Rattle.machine_rules.specs.Runs.{Ending, Over, ZeroDivisor, OutOfInstructions, StackFault, Ran, run_script, run_stored}

@@ -5,6 +5,7 @@ use Rattle.nwq_value.specs.declared.value.Value.{Value}
 use Rattle.nwq_value.specs.declared.value.Value.TheVariants.{Text, Object}
 use Rattle.nwq_value.specs.declared.engine.Routine.{Routine}
 use Rattle.nwq_value.specs.Engine.{EngineTable}
+use Rattle.nwq_value.specs.Operators.{both, either, negation, bits_and, bits_or, bits_xor, complement, shift_left, shift_right, shift_right_unsigned, sum, difference, product, quotient, remainder, opposite, less, less_or_equal, greater, greater_or_equal, joined_texts}
 use Rattle.ncs_code.specs.Plain.{PlainOp}
 use Rattle.ncs_code.specs.Plain as ops
 use Rattle.ncs_code.specs.Spelling.{op_size}
@@ -16,8 +17,7 @@ use Rattle.saved_state.specs.Cells.{StackView, cells_beneath, captured}
 use Rattle.stack_shape.specs.declared.range.CellRange.{CellRange}
 use Rattle.stack_shape.specs.Ranges.{cell_count, depth_of, range_at}
 use Rattle.stack_shape.specs.StackEffects.{type_of_both}
-use Rattle.machine_rules.specs.Operators.{both, either, negation, bits_and, bits_or, bits_xor, complement, shift_left, shift_right, shift_right_unsigned, sum, difference, product, quotient, remainder, opposite, less, less_or_equal, greater, greater_or_equal}
-use Rattle.machine_rules.specs.Values.{joined_texts, literal_value, starting_value}
+use Rattle.machine_rules.specs.Values.{literal_value, starting_value}
 use Rattle.machine_rules.specs.Cells.{values_on, from_bp, of_int, of_ints, of_texts, on_int, zero_on_top, value_pushed, range_pushed, range_written, int_changed, values_dropped, range_kept, runs_compared, pair_compared}
 use Rattle.machine_rules.specs.Frames.{Frame}
 use Rattle.machine_rules.specs.Calls.{Taken, arguments, is_execute_script}

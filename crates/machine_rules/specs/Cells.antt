@@ -6,13 +6,12 @@ use Rattle.nwq_value.specs.declared.value.Value.{Value}
 use Rattle.nwq_value.specs.declared.value.Value.TheVariants.{Int, Text}
 use Rattle.nwq_value.specs.Values.{type_of}
 use Rattle.nwq_value.specs.Roles.{tys_eq}
+use Rattle.nwq_value.specs.Operators.{as_int, is_zero, values_eq}
 use Rattle.saved_state.specs.declared.cell.Cell.{Cell}
 use Rattle.saved_state.specs.declared.cell.Cell.TheVariants.{Value as Holds, Base}
 use Rattle.saved_state.specs.Cells.{StackView}
 use Rattle.stack_shape.specs.declared.range.CellRange.{CellRange}
 use Rattle.stack_shape.specs.Ranges.{cell_count}
-use Rattle.machine_rules.specs.Operators.{as_int, is_zero}
-use Rattle.machine_rules.specs.Values.{values_eq}
 
 -- ---- values
 

@@ -12,7 +12,7 @@ use Rattle.stack_shape.specs.StackEffects.{stack_effect}
 use Rattle.stack_shape.specs.Calls.{action_count, argument_types, call_effect, result_types}
 use Rattle.stack_shape.specs.Stored.{stored_types}
 use Rattle.nwq_value.specs.declared.value.Value.{Value}
-use Rattle.machine_rules.specs.Values.{value_eq}
+use Rattle.nwq_value.specs.Operators.{value_eq}
 use Rattle.machine_rules.specs.Cells.{value_types}
 use Rattle.machine_rules.specs.Frames.{Frame}
 use Rattle.machine_rules.specs.Calls.{Taken, arguments}

@@ -1,4 +1,3 @@
-pub mod Operators
 pub mod Values
 pub mod Cells
 pub mod Frames

@@ -6,6 +6,7 @@ use Rattle.area_rules.specs.Area.{PlainArea}
 use Rattle.nwq_value.specs.Header.{header_routines}
 use Rattle.nwq_value.specs.HeaderTable.{header_table}
 use Rattle.nwq_value.specs.Roles.{ty_eq, tys_eq, role_without_row}
+use Rattle.nwq_value.specs.Operators.{value_eq}
 use Rattle.nwq_text.specs.Escape.{escaped, spelling}
 use Rattle.nwq_text.specs.Values.{value_text}
 use Rattle.ncs_code.specs.Plain.{PlainOp}
@@ -15,7 +16,6 @@ use Rattle.saved_state.specs.declared.saved.Saved.{Saved}
 use Rattle.stack_shape.specs.Ranges.{cell_count, depth_of, range_of, range_at}
 use Rattle.stack_shape.specs.Calls.{is_callable}
 use Rattle.stack_shape.specs.StackEffects.{type_of_one, type_of_both}
-use Rattle.machine_rules.specs.Values.{value_eq}
 use Rattle.machine_rules.specs.Act.{cells_after, act}
 use Rattle.machine_rules.specs.Machine.{Script, Host, step}
 use Rattle.world_rules.specs.Engine.{engine}

@@ -14,7 +14,8 @@ use Rattle.typing_rules.specs.declared.places.Variable.{Variable}
 use Rattle.typing_rules.specs.Reading.{plain}
 use Rattle.typing_rules.specs.Typed.{TypedItem}
 use Rattle.typing_rules.specs.UnitReading.{typed_item, typed_items, typed_stmt, typed_stmts}
-use Rattle.emission_rules.specs.Layout.{Structs, declared_cells, positions, all_positions, structs_from}
+use Rattle.typing_rules.specs.Cells.{Structs, structs_from}
+use Rattle.emission_rules.specs.Layout.{declared_cells, positions, all_positions}
 
 -- the next member
 next : {X Y : Type 0} (F : List X → Y) (xs : List X) (i : ℕ) (x : X) → x ≡ get_or xs i x → i < length xs → F (drop i xs) ≡ F (x ∷ drop (i + 1) xs)

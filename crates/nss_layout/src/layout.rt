@@ -1,7 +1,8 @@
 ghost use Rattle.std.specs.Prelude.{◌≡◌, ◌<◌, ◌^◌, slice_index_or, IfOk};
 ghost use Rattle.std.specs.Prelude.{[]};
 ghost use Rattle.typing_rules.specs.UnitReading.{typed_unit};
-ghost use Rattle.emission_rules.specs.Layout.{cells, layout_of, position};
+ghost use Rattle.typing_rules.specs.Cells.{cells};
+ghost use Rattle.emission_rules.specs.Layout.{layout_of, position};
 
 use crate::frames::items_positions;
 use crate::structs::{cells_of, struct_types, structs_of};

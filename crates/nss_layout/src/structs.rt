@@ -5,7 +5,7 @@ ghost use Rattle.std.specs.Prelude.{IfOk, OnOk};
 ghost use Rattle.std.specs.List.{flat_map};
 ghost use Rattle.typing_rules.specs.Typed as typed;
 ghost use Rattle.typing_rules.specs.UnitReading.{typed_item, typed_items};
-ghost use Rattle.emission_rules.specs.Layout.{cell_types, cells, line_cells, structs_from};
+ghost use Rattle.typing_rules.specs.Cells.{cell_types, cells, line_cells, structs_from};
 
 use nss_tree::Item;
 use nwq_value::{Items, NoMemory, Ty};

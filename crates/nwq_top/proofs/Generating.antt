@@ -7,7 +7,7 @@ use Rattle.typing_rules.specs.Typed.{TypedUnit}
 use Rattle.emission_rules.specs.Units.{unit_file}
 use Rattle.world_rules.specs.Pure.{CellLookup}
 use Rattle.source_meaning.specs.Scripts.{Listed}
-use Rattle.source_meaning.specs.Executing.{script_of}
+use Rattle.source_laws.specs.Executing.{script_of}
 use Rattle.typing_laws.specs.FaultLaws.{LeastIsTheKept}
 use Rattle.engine_table.specs.KeptTables.{BuiltInIsTable}
 use Rattle.play_generator.specs.Made.{play_of}

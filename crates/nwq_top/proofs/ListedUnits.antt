@@ -6,7 +6,7 @@ use Rattle.typing_laws.specs.FaultLaws.{LeastIsTheKept}
 use Rattle.plan_text.specs.declared.plan.Script.{Script as ScriptLine}
 use Rattle.machine_rules.specs.Machine.{Script}
 use Rattle.source_meaning.specs.Scripts.{Listed}
-use Rattle.source_meaning.specs.Executing.{script_of}
+use Rattle.source_laws.specs.Executing.{script_of}
 use Rattle.command_work.specs.Parts.{value_or}
 use Rattle.command_files.specs.CheckLaws.{SureLoaded}
 use Rattle.play_inputs.specs.Listings.{scripts_listed}

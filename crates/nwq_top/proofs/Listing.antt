@@ -18,7 +18,7 @@ use Rattle.emission_rules.specs.Units.{unit_file}
 use Rattle.plan_text.specs.declared.plan.Script.{Script as ScriptLine}
 use Rattle.machine_rules.specs.Machine.{Script}
 use Rattle.source_meaning.specs.Scripts.{Listed}
-use Rattle.source_meaning.specs.Executing.{script_of}
+use Rattle.source_laws.specs.Executing.{script_of}
 use Rattle.command_work.specs.declared.status.Status.{Status}
 use Rattle.command_work.specs.Refusal.{Refusal, line_of, status_of}
 use Rattle.command_work.specs.Work.{Gives, IsCut, Does, writes}

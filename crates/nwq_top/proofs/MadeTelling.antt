@@ -9,7 +9,7 @@ use Rattle.world_rules.specs.Plays.{Played}
 use Rattle.world_rules.specs.EndText.{end_line}
 use Rattle.source_meaning.specs.Evaluation.{Deferred}
 use Rattle.source_meaning.specs.Scripts.{Setting}
-use Rattle.source_meaning.specs.Carries.{Carries}
+use Rattle.source_laws.specs.Carries.{Carries}
 use Rattle.play_meaning.specs.Together.{PlaysAlike}
 use Rattle.play_generator.specs.Made.{creatures_of, rounds_of}
 use Rattle.command_work.specs.declared.status.Status.{Status}

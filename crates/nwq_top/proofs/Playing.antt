@@ -15,7 +15,7 @@ use Rattle.plan_text.specs.declared.plan.Plan.{Plan}
 use Rattle.machine_rules.specs.Machine.{Script}
 use Rattle.world_rules.specs.Pure.{CellLookup}
 use Rattle.source_meaning.specs.Scripts.{Listed, Setting}
-use Rattle.source_meaning.specs.Executing.{script_of}
+use Rattle.source_laws.specs.Executing.{script_of}
 use Rattle.typing_laws.specs.FaultLaws.{LeastIsTheKept}
 use Rattle.engine_table.specs.KeptTables.{HeadersHaveTables, BuiltInIsTable}
 use Rattle.command_work.specs.declared.status.Status.{Status}

@@ -13,9 +13,9 @@ use Rattle.world_rules.specs.Plays.{PlayEnd, Played}
 use Rattle.module_player.specs.CodePlays.{code_end_text}
 use Rattle.source_meaning.specs.Evaluation.{Deferred}
 use Rattle.source_meaning.specs.Scripts.{Listed, Setting}
-use Rattle.source_meaning.specs.Carries.{Carries}
-use Rattle.source_meaning.specs.Executing.{script_of}
-use Rattle.source_meaning.specs.StayAlike.{EntriesKeepAlike}
+use Rattle.source_laws.specs.Carries.{Carries}
+use Rattle.source_laws.specs.Executing.{script_of}
+use Rattle.source_laws.specs.StayAlike.{EntriesKeepAlike}
 use Rattle.play_meaning.specs.Together.{PlaysAlike}
 use Rattle.play_meaning.specs.EndTexts.{source_end_text}
 use Rattle.command_work.specs.declared.status.Status.{Status}

@@ -6,21 +6,22 @@ use Rattle.typing_rules.specs.Typed.{TypedUnit}
 use Rattle.saved_state.specs.declared.saved.Saved.{Saved}
 use Rattle.world_rules.specs.Pure.{CellLookup}
 use Rattle.world_rules.specs.Trace.{trace_text}
-use Rattle.world_rules.specs.Plays.{StoppedInside, Played}
+use Rattle.world_rules.specs.Plays.{StoppedInside, Played, unplayed}
 use Rattle.world_rules.specs.EndText.{end_line}
 use Rattle.module_player.specs.CodePlays.{code_runner}
 use Rattle.source_meaning.specs.Evaluation.{Deferred}
 use Rattle.source_meaning.specs.Scripts.{Listed, Setting}
-use Rattle.source_meaning.specs.Ledger.{step_cost}
-use Rattle.source_meaning.specs.Carries.{Carries}
-use Rattle.source_meaning.specs.Executing.{script_of}
-use Rattle.play_meaning.specs.Together.{Begins, PlaysAlike, StoppedAt}
+use Rattle.source_laws.specs.Ledger.{step_cost}
+use Rattle.source_laws.specs.Carries.{Carries}
+use Rattle.source_laws.specs.Executing.{script_of}
+use Rattle.play_meaning.specs.Together.{Begins, PlaysAlike, StoppedAt, whole}
 use Rattle.play_generator.specs.Made.{creatures_of, rounds_of, play_of}
 use Rattle.command_work.specs.declared.status.Status.{Status}
 use Rattle.command_work.specs.declared.status.Status.TheVariants.{Script, Limit}
 use Rattle.command_work.specs.Refusal.{Refusal, line_of}
 use Rattle.command_work.specs.Work.{Finished}
 use Rattle.command_plays.specs.Plays.{host_of}
+use Rattle.play_worlds.specs.Worlds.{plan_world}
 use Rattle.command_generate.specs.Generated.{files_with, made_line, summary, plan_of, made_area}
 use Rattle.command_meaning.specs.Runs.{answer_by}
 use Rattle.nwq_top.specs.SourcePlans.{listing_of, source_plan_played, code_plan_played}
@@ -60,11 +61,11 @@ pub record TellsMade (n : ℕ) (s : Setting) (code : Played Saved) (source : Pla
   pub answer : r ≡ answer_by source.ending
   pub contents : c' ≡ c
 
--- the play was stopped in an entry for which all the instructions were made that it may take; its lines are a beginning of the source's
+-- the play was stopped in its last entry, for which all the instructions were made that it may take; its lines are a beginning of the source's
 pub record TellsMadeBeginning (cell : CellLookup) (n : ℕ) (unit : TypedUnit) (c : Contents) (t : List ℕ) (r : Result Finished Status)
     (c' : Contents) (t' : List ℕ) : Type 0 where
-  pub stopped : StoppedAt (code_runner (host_of cell header_table (script_of (record { name = codes "beat"; unit = unit }) ∷ [])) (plan_of n).limit) (plan_of n).until
-      (plan_of n).limit (code_made cell n unit)
+  pub stopped : StoppedAt (code_runner (host_of cell header_table (script_of (record { name = codes "beat"; unit = unit }) ∷ [])) (plan_of n).limit)
+      (whole (plan_of n).entries (plan_of n).until) (plan_of n).limit (unplayed (plan_world (made_area n) (plan_of n))) (code_made cell n unit)
   pub begins : Begins (code_made cell n unit).last.trace (source_made cell n unit (plan_of n).limit).last.trace
   pub taken : t' ≡ t ++ summary n (code_made cell n unit)
   pub answer : r ≡ Err Limit

@@ -6,7 +6,7 @@ use Rattle.nwq_outside.specs.Outside.{Contents}
 use Rattle.plan_text.specs.declared.plan.Script.{Script as ScriptLine}
 use Rattle.machine_rules.specs.Machine.{Script}
 use Rattle.source_meaning.specs.Scripts.{Listed}
-use Rattle.source_meaning.specs.Executing.{script_of}
+use Rattle.source_laws.specs.Executing.{script_of}
 use Rattle.command_work.specs.Work.{Does}
 use Rattle.play_inputs.specs.Listings.{scripts_listed}
 use Rattle.command_meaning.specs.Units.{IsUnitOf}

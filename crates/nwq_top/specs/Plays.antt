@@ -14,7 +14,7 @@ use Rattle.world_rules.specs.Plays.{Done, StoppedInside, Played}
 use Rattle.play_meaning.specs.EndTexts.{source_end_text}
 use Rattle.source_meaning.specs.Evaluation.{Deferred}
 use Rattle.source_meaning.specs.Scripts.{Listed, Setting}
-use Rattle.source_meaning.specs.Ledger.{step_cost}
+use Rattle.source_laws.specs.Ledger.{step_cost}
 use Rattle.command_work.specs.declared.status.Status.{Status}
 use Rattle.command_work.specs.Refusal.{Refusal}
 use Rattle.command_work.specs.Work.{Finished, Does}

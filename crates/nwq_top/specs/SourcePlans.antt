@@ -9,15 +9,15 @@ use Rattle.world_rules.specs.Pure.{CellLookup}
 use Rattle.world_rules.specs.Trace.{trace_text}
 use Rattle.world_rules.specs.Turns.{new_world}
 use Rattle.world_rules.specs.World.{World}
-use Rattle.world_rules.specs.Plays.{StoppedInside, Played}
+use Rattle.world_rules.specs.Plays.{StoppedInside, Played, unplayed}
 use Rattle.module_player.specs.CodePlays.{code_runner, code_end_text}
 use Rattle.source_meaning.specs.Evaluation.{Deferred}
 use Rattle.source_meaning.specs.Scripts.{Listed, Setting}
 use Rattle.source_meaning.specs.Plays.{source_play}
-use Rattle.source_meaning.specs.Ledger.{step_cost}
-use Rattle.source_meaning.specs.Carries.{Carries}
-use Rattle.source_meaning.specs.Executing.{script_of}
-use Rattle.play_meaning.specs.Together.{Begins, PlaysAlike, StoppedAt}
+use Rattle.source_laws.specs.Ledger.{step_cost}
+use Rattle.source_laws.specs.Carries.{Carries}
+use Rattle.source_laws.specs.Executing.{script_of}
+use Rattle.play_meaning.specs.Together.{Begins, PlaysAlike, StoppedAt, whole}
 use Rattle.play_meaning.specs.EndTexts.{source_end_text}
 use Rattle.command_work.specs.declared.status.Status.{Status}
 use Rattle.command_work.specs.declared.status.Status.TheVariants.{Limit}
@@ -66,12 +66,12 @@ pub record DoesMeaning (to : List ℕ) (s : Setting) (code : Played Saved) (sour
   pub alike : PlaysAlike (Carries s) code source
   pub does : Does (tells_source to s code.last.count source) c t r c' t'
 
--- The play was stopped in an entry for which all the instructions were made that it may take. The lines that it tells are a beginning of those
+-- The play was stopped in its last entry, for which all the instructions were made that it may take. The lines that it tells are a beginning of those
 -- that the play of source tells, and no area is left.
 pub record DoesBeginning (cell : CellLookup) (header : EngineTable) (area : PlainArea) (plan : Plan) (scripts : List Listed) (c : Contents) (t : List ℕ)
     (r : Result Finished Status) (c' : Contents) (t' : List ℕ) : Type 0 where
-  pub stopped : StoppedAt (code_runner (host_of cell header (map script_of scripts)) plan.limit) plan.until plan.limit
-      (code_plan_played cell header area plan scripts)
+  pub stopped : StoppedAt (code_runner (host_of cell header (map script_of scripts)) plan.limit) (whole plan.entries plan.until) plan.limit
+      (unplayed (plan_world area plan)) (code_plan_played cell header area plan scripts)
   pub begins : Begins (code_plan_played cell header area plan scripts).last.trace (source_plan_played cell header area plan scripts plan.limit).last.trace
   pub does : Does (Puts (trace_text (code_plan_played cell header area plan scripts).last.trace)
       (Puts (code_end_text (map script_of scripts) (code_plan_played cell header area plan scripts)) (Ends Limit))) c t r c' t'

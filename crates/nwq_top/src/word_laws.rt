@@ -16,7 +16,7 @@ use command_plays::laws::one_code;
 use command_sources::laws::one_source;
 use engine_table::headers_have_tables;
 use play_inputs::laws::{one_area, one_listing};
-use source_meaning::entries_stay_alike;
+use source_laws::entries_stay_alike;
 use typing_laws::laws::one_least_fault;
 
 /// What is listed of a plan of sources is the code of their units.

@@ -1,6 +1,7 @@
 mod FoundLemmas
 mod IndexLemmas
 mod NameLemmas
+mod OperatorExamples
 mod RoleLemmas
 mod RowLemmas
 mod TableLemmas

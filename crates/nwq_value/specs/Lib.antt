@@ -4,6 +4,7 @@ pub mod Header
 pub mod HeaderTable
 pub mod Index
 pub mod Limits
+pub mod Operators
 pub mod Roles
 pub mod Rows
 pub mod Values

@@ -5,8 +5,8 @@ use Rattle.saved_state.specs.declared.saved.Saved.{Saved}
 use Rattle.machine_rules.specs.Machine.{Next, Goes, Ends, Divided, step}
 use Rattle.machine_rules.specs.Runs.{Ran, OutOfInstructions, counted, after_step, run}
 use Rattle.source_meaning.specs.Scripts.{Setting}
-use Rattle.source_meaning.specs.Ledger.{Machine, MachineHost}
-use Rattle.source_meaning.specs.Executing.{IsHostOf}
+use Rattle.source_laws.specs.Ledger.{Machine, MachineHost}
+use Rattle.source_laws.specs.Executing.{IsHostOf}
 use Rattle.play_meaning.specs.Together.{Begins}
 use Rattle.play_meaning.proofs.Beginnings.{whole_begins, begins_then}
 use Rattle.play_meaning.proofs.Growing.{step_grows}

@@ -21,9 +21,9 @@ use Rattle.world_rules.specs.EndText.{by_object, standing_lines, item_text, item
 use Rattle.module_player.specs.CodePlays.{name_in, script_name}
 use Rattle.source_meaning.specs.Evaluation.{Deferred}
 use Rattle.source_meaning.specs.Scripts.{Listed, Setting}
-use Rattle.source_meaning.specs.Ledger.{MachineHost}
-use Rattle.source_meaning.specs.Carries.{Carries}
-use Rattle.source_meaning.specs.Executing.{script_of, IsHostOf}
+use Rattle.source_laws.specs.Ledger.{MachineHost}
+use Rattle.source_laws.specs.Carries.{Carries}
+use Rattle.source_laws.specs.Executing.{script_of, IsHostOf}
 use Rattle.play_meaning.specs.EndTexts.{listed_name, deferred_name, EndTextsAgree}
 
 -- ---- for two ways to name stored actions that name those alike which belong together

@@ -7,8 +7,8 @@ use Rattle.world_rules.specs.Engine.{no_script}
 use Rattle.world_rules.specs.Turns.{Begun, turn, turn_done, unapply, fault}
 use Rattle.world_rules.specs.Alike.{Alike, OptionAlike, KindAlike, EntryAlike}
 use Rattle.world_rules.specs.Plays.{Ending, Over, Divided, Stopped, Run, Runner, Entered, quiet, finished_as, finished, named_entry, event_entry, turn_entry, entered_as, entered}
-use Rattle.source_meaning.specs.StayAlike.{EntriesStayAlike}
-use Rattle.source_meaning.specs.Ledger.{step_cost}
+use Rattle.source_laws.specs.StayAlike.{EntriesStayAlike}
+use Rattle.source_laws.specs.Ledger.{step_cost}
 use Rattle.play_meaning.specs.Together.{Begins, RunsAlike, RunEnds, RunStops, RunnersAre}
 use Rattle.play_meaning.proofs.Beginnings.{whole_begins, longer_begins, begins_then}
 use Rattle.play_meaning.proofs.Growing.{turn_done_grows}

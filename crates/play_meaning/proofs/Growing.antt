@@ -27,8 +27,8 @@ use Rattle.machine_rules.specs.Frames.{Frame}
 use Rattle.machine_rules.specs.Act.{Act, Moves, Asks, Executes, Returns, Divides, act}
 use Rattle.machine_rules.specs.Machine.{Next, Goes, Ends, Divided, depth_limit, begun, executed, over, followed, next_op, script_named, step}
 use Rattle.source_meaning.specs.Scripts.{Setting}
-use Rattle.source_meaning.specs.Ledger.{Machine, MachineHost}
-use Rattle.source_meaning.specs.Executing.{IsHostOf}
+use Rattle.source_laws.specs.Ledger.{Machine, MachineHost}
+use Rattle.source_laws.specs.Executing.{IsHostOf}
 use Rattle.play_meaning.specs.Together.{Begins}
 use Rattle.play_meaning.proofs.Beginnings.{whole_begins, longer_begins}
 

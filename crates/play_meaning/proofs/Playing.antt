@@ -5,9 +5,9 @@ use Rattle.world_rules.specs.World.{World}
 use Rattle.world_rules.specs.Turns.{Begun, begin}
 use Rattle.world_rules.specs.Alike.{Alike, BegunAlike}
 use Rattle.world_rules.specs.Plays.{Runner, Entered, Bounds, Progress, PlayEnd, Done, StoppedInside, Paused, Played, entered, further, full, after_entry, next_entry, plays, unplayed, play}
-use Rattle.source_meaning.specs.StayAlike.{EntriesStayAlike}
-use Rattle.source_meaning.specs.Ledger.{step_cost}
-use Rattle.play_meaning.specs.Together.{Begins, RunEnds, RunStops, RunnersAre, PlaysAlike, PlayEnds, PlayStops}
+use Rattle.source_laws.specs.StayAlike.{EntriesStayAlike}
+use Rattle.source_laws.specs.Ledger.{step_cost}
+use Rattle.play_meaning.specs.Together.{Begins, RunEnds, RunStops, RunnersAre, PlaysAlike, PlayEnds, StoppedAt, PlayStops, whole}
 use Rattle.play_meaning.proofs.Beginnings.{whole_begins, longer_begins, begins_then, behind_begins}
 use Rattle.play_meaning.proofs.Entering.{EnteredAlike, EntryEnds, EntryStops, entries_go, finish_ends, quiet_ends, finish_stops, quiet_stops}
 
@@ -110,63 +110,93 @@ module _ {X Y : Type 0} (R : X → Y → Type 0) (stay : EntriesStayAlike R) (co
 
   module _ (limit : ℕ) (runners : RunnersAre R (RunStops R limit) code source) where
     abbrev Stops : (Progress X → Played X) → (Progress Y → Played Y) → Type 0
-    Stops go on = (p : Progress X) (q : Progress Y) → ProgressAlike R p q → PlayStops R code bounds.until limit (go p) (on q)
+    Stops go on = (p : Progress X) (q : Progress Y) → ProgressAlike R p q → PlayStops R code bounds limit p (go p) (on q)
 
-    goes_on : (c : Played X) (r : Played Y) → (c.ending ≡ StoppedInside → ⊥) → PlaysAlike R c r → PlayStops R code bounds.until limit c r
-    goes_on c r on h = record { ends = λ goes. h; stopped = λ is. absurd (on is); told = λ is. absurd (on is) }
+    goes_on : (from : Progress X) (c : Played X) (r : Played Y) → (c.ending ≡ StoppedInside → ⊥) → PlaysAlike R c r → PlayStops R code bounds limit from c r
+    goes_on from c r on h = record { ends = λ goes. h; stopped = λ is. absurd (on is); told = λ is. absurd (on is) }
 
     full_goes : (b : Option (Begun X)) → full b ≡ StoppedInside → ⊥
     full_goes None h = absurd cc
     full_goes (Some b) h = absurd cc
 
+    -- an entry before those that a play took till it was stopped
+    entry_before : (b : Begun X) (p : Progress X) (played : Played X) → (p.entries == bounds.entries) ≡ false → begin bounds.until p.world ≡ Some b → (entered code b).stopped ≡ false
+        → StoppedAt code bounds limit (further (entered code b) p) played → StoppedAt code bounds limit p played
+    entry_before b p played unfull begins passes h = record {
+      less = suc h.less;
+      before = h.before;
+      goes =
+          ap (λ (t : Bool). if t then record { ending = full (begin bounds.until p.world); last = p } else next_entry code (begin bounds.until p.world) p (plays code bounds h.less)) unfull
+          ∙ ap (λ (next : Option (Begun X)). next_entry code next p (plays code bounds h.less)) begins
+          ∙ ap (λ (t : Bool). after_entry t (further (entered code b) p) (plays code bounds h.less)) passes
+          ∙ h.goes;
+      entries = let e = h.entries in omega arith;
+      begun = h.begun;
+      is = h.is;
+      stopped = h.stopped;
+      count = h.count;
+      last = h.last;
+    }
+
     after_stops : (go : Progress X → Played X) (on : Progress Y → Played Y) → Stops go on → ((q : Progress Y) → Begins q.trace (on q).last.trace)
-        → (b : Begun X) (d : Begun Y) → EntryStops R limit (entered code b) (entered source d) → (p : Progress X) (q : Progress Y) → begin bounds.until p.world ≡ Some b → ProgressAlike R p q
+        → (b : Begun X) (d : Begun Y) → EntryStops R limit (entered code b) (entered source d) → (p : Progress X) (q : Progress Y) → (p.entries == bounds.entries) ≡ false → begin bounds.until p.world ≡ Some b → ProgressAlike R p q
         → (stopped other : Bool) → (entered code b).stopped ≡ stopped → (entered source d).stopped ≡ other
-        → PlayStops R code bounds.until limit (after_entry stopped (further (entered code b) p) go) (after_entry other (further (entered source d) q) on)
-    after_stops go on rest tells b d h p q begins k true other is other_is =
+        → PlayStops R code bounds limit p (after_entry stopped (further (entered code b) p) go) (after_entry other (further (entered source d) q) on)
+    after_stops go on rest tells b d h p q unfull begins k true other is other_is =
         let e = entered code b in
         let f = entered source d in
         let first : Begins (p.trace ++ e.world.trace) (q.trace ++ f.world.trace) =
         subst (λ l. Begins (p.trace ++ e.world.trace) (l ++ f.world.trace)) k.trace (behind_begins p.trace (h.told is)) in
         record {
           ends = λ goes. absurd (goes refl);
-          stopped = λ stops. record { before = p; begun = b; is = begins; last = refl; count = h.count is };
+          stopped = λ stops. record {
+            less = 0;
+            before = p;
+            goes = refl;
+            entries = omega arith;
+            begun = b;
+            is = begins;
+            stopped = is;
+            count = h.count is;
+            last = refl;
+          };
           told = λ stops. begins_then first (after_tells source bounds on tells other (further f q));
         }
-    after_stops go on rest tells b d h p q begins k false false is other_is =
-        rest (further (entered code b) p) (further (entered source d) q) (further_alike (entered code b) (entered source d) p q (h.ends (λ stops. absurd cc)) k)
-    after_stops go on rest tells b d h p q begins k false true is other_is =
+    after_stops go on rest tells b d h p q unfull begins k false false is other_is =
+        let so = rest (further (entered code b) p) (further (entered source d) q) (further_alike (entered code b) (entered source d) p q (h.ends (λ stops. absurd cc)) k) in
+        record { ends = so.ends; stopped = λ stops. entry_before b p (go (further (entered code b) p)) unfull begins is (so.stopped stops); told = so.told }
+    after_stops go on rest tells b d h p q unfull begins k false true is other_is =
         let a = h.ends (λ stops. absurd cc) in
         let same = a.stopped in
         absurd cc
 
     next_stops : (go : Progress X → Played X) (on : Progress Y → Played Y) → Stops go on → ((q : Progress Y) → Begins q.trace (on q).last.trace)
-        → (b : Option (Begun X)) (d : Option (Begun Y)) → BegunAlike R b d → (p : Progress X) (q : Progress Y) → begin bounds.until p.world ≡ b → ProgressAlike R p q
-        → PlayStops R code bounds.until limit (next_entry code b p go) (next_entry source d q on)
-    next_stops go on rest tells None None h p q begins k = goes_on (record { ending = Done; last = p }) (record { ending = Done; last = q }) (λ is. absurd cc) (ended_alike Done Done p q refl k)
-    next_stops go on rest tells (Some b) (Some d) h p q begins k =
+        → (b : Option (Begun X)) (d : Option (Begun Y)) → BegunAlike R b d → (p : Progress X) (q : Progress Y) → (p.entries == bounds.entries) ≡ false → begin bounds.until p.world ≡ b → ProgressAlike R p q
+        → PlayStops R code bounds limit p (next_entry code b p go) (next_entry source d q on)
+    next_stops go on rest tells None None h p q unfull begins k = goes_on p (record { ending = Done; last = p }) (record { ending = Done; last = q }) (λ is. absurd cc) (ended_alike Done Done p q refl k)
+    next_stops go on rest tells (Some b) (Some d) h p q unfull begins k =
         after_stops go on rest tells b d (entries_go R stay (RunStops R limit) (EntryStops R limit) code source runners (quiet_stops R stay limit) (finish_stops R stay limit) b d h.0 h.1)
-        p q begins k (entered code b).stopped (entered source d).stopped refl refl
-    next_stops go on rest tells None (Some d) h p q begins k = absurd h
-    next_stops go on rest tells (Some b) None h p q begins k = absurd h
+        p q unfull begins k (entered code b).stopped (entered source d).stopped refl refl
+    next_stops go on rest tells None (Some d) h p q unfull begins k = absurd h
+    next_stops go on rest tells (Some b) None h p q unfull begins k = absurd h
 
     turn_stops : (go : Progress X → Played X) (on : Progress Y → Played Y) → Stops go on → ((q : Progress Y) → Begins q.trace (on q).last.trace)
-        → (is_full : Bool) (b : Option (Begun X)) (d : Option (Begun Y)) → BegunAlike R b d → (p : Progress X) (q : Progress Y) → begin bounds.until p.world ≡ b → ProgressAlike R p q
-        → PlayStops R code bounds.until limit (if is_full then record { ending = full b; last = p } else next_entry code b p go) (if is_full then record { ending = full d; last = q } else next_entry source d q on)
-    turn_stops go on rest tells true b d h p q begins k =
-        goes_on (record { ending = full b; last = p }) (record { ending = full d; last = q }) (full_goes b) (ended_alike (full b) (full d) p q (full_alike b d h) k)
-    turn_stops go on rest tells false b d h p q begins k = next_stops go on rest tells b d h p q begins k
+        → (is_full : Bool) (b : Option (Begun X)) (d : Option (Begun Y)) → BegunAlike R b d → (p : Progress X) (q : Progress Y) → (p.entries == bounds.entries) ≡ is_full → begin bounds.until p.world ≡ b → ProgressAlike R p q
+        → PlayStops R code bounds limit p (if is_full then record { ending = full b; last = p } else next_entry code b p go) (if is_full then record { ending = full d; last = q } else next_entry source d q on)
+    turn_stops go on rest tells true b d h p q fullness begins k =
+        goes_on p (record { ending = full b; last = p }) (record { ending = full d; last = q }) (full_goes b) (ended_alike (full b) (full d) p q (full_alike b d h) k)
+    turn_stops go on rest tells false b d h p q fullness begins k = next_stops go on rest tells b d h p q fullness begins k
 
     pub plays_stop : (left : ℕ) → Stops (plays code bounds left) (plays source bounds left)
-    plays_stop zero p q k = goes_on (record { ending = Paused; last = p }) (record { ending = Paused; last = q }) (λ is. absurd cc) (ended_alike Paused Paused p q refl k)
+    plays_stop zero p q k = goes_on p (record { ending = Paused; last = p }) (record { ending = Paused; last = q }) (λ is. absurd cc) (ended_alike Paused Paused p q refl k)
     plays_stop (suc left) p q k =
         let go = plays code bounds left in
         let on = plays source bounds left in
         let b = begin bounds.until p.world in
         let d = begin bounds.until q.world in
-        subst (λ (t : Bool). PlayStops R code bounds.until limit (if p.entries == bounds.entries then record { ending = full b; last = p } else next_entry code b p go) (if t then record { ending = full d; last = q } else next_entry source d q on))
+        subst (λ (t : Bool). PlayStops R code bounds limit p (if p.entries == bounds.entries then record { ending = full b; last = p } else next_entry code b p go) (if t then record { ending = full d; last = q } else next_entry source d q on))
         (ap (λ (n : ℕ). n == bounds.entries) k.entries)
-        (turn_stops go on (plays_stop left) (plays_tell source bounds left) (p.entries == bounds.entries) b d (stay.begins bounds.until p.world q.world k.world) p q refl k)
+        (turn_stops go on (plays_stop left) (plays_tell source bounds left) (p.entries == bounds.entries) b d (stay.begins bounds.until p.world q.world k.world) p q refl refl k)
 
 -- ---- whole plays
 
@@ -180,7 +210,7 @@ whole_ends R stay code source runners entries until w v a =
     plays_end R stay code source bounds runners _ (unplayed w) (unplayed v) (unplayed_alike R w v a)
 
 pub whole_stops : {X Y : Type 0} (R : X → Y → Type 0) → EntriesStayAlike R → (code : Runner X) (source : Runner Y) (limit : ℕ) → RunnersAre R (RunStops R limit) code source
-    → (entries until : ℕ) (w : World X) (v : World Y) → Alike R w v → PlayStops R code until limit (play code entries until w) (play source entries until v)
+    → (entries until : ℕ) (w : World X) (v : World Y) → Alike R w v → PlayStops R code (whole entries until) limit (unplayed w) (play code entries until w) (play source entries until v)
 whole_stops R stay code source limit runners entries until w v a =
     let bounds : Bounds = record { entries = entries; until = until; stop = entries + 1 } in
     plays_stop R stay code source bounds limit runners _ (unplayed w) (unplayed v) (unplayed_alike R w v a)

@@ -5,12 +5,12 @@ use Rattle.machine_rules.specs.Runs.{entry}
 use Rattle.module_player.specs.CodePlays.{code_runner}
 use Rattle.source_meaning.specs.Scripts.{Setting, run_script, run_deferred}
 use Rattle.source_meaning.specs.Plays.{runner}
-use Rattle.source_meaning.specs.Ledger.{MachineHost, step_cost}
-use Rattle.source_meaning.specs.Carries.{Carries}
-use Rattle.source_meaning.specs.Executing.{IsHostOf}
-use Rattle.source_meaning.specs.Entries.{EntriesRun, EntriesDo}
-use Rattle.source_meaning.specs.Listed.{ListedScriptsDo}
-use Rattle.source_meaning.specs.StayAlike.{EntriesKeepAlike}
+use Rattle.source_laws.specs.Ledger.{MachineHost, step_cost}
+use Rattle.source_laws.specs.Carries.{Carries}
+use Rattle.source_laws.specs.Executing.{IsHostOf}
+use Rattle.source_laws.specs.Entries.{EntriesRun, EntriesDo}
+use Rattle.source_laws.specs.Listed.{ListedScriptsDo}
+use Rattle.source_laws.specs.StayAlike.{EntriesKeepAlike}
 use Rattle.play_meaning.specs.Together.{RunEnds, RunStops, RunnersAre}
 use Rattle.play_meaning.specs.PlaysRun.{SourcePlaysEnd, CodePlaysEnd}
 use Rattle.play_meaning.proofs.Runs.{run_ends, run_stops}

@@ -13,9 +13,9 @@ use Rattle.module_player.specs.CodePlays as code
 use Rattle.source_meaning.specs.Evaluation.{Deferred, Progress, Outcome, Gives, Divides, OutOfSteps}
 use Rattle.source_meaning.specs.Scripts.{Setting}
 use Rattle.source_meaning.specs.Plays as source
-use Rattle.source_meaning.specs.Ledger.{Machine, MachineHost, later, step_cost}
-use Rattle.source_meaning.specs.Executing.{IsHostOf}
-use Rattle.source_meaning.specs.Entries.{EndsAs, EntryRuns}
+use Rattle.source_laws.specs.Ledger.{Machine, MachineHost, later, step_cost}
+use Rattle.source_laws.specs.Executing.{IsHostOf}
+use Rattle.source_laws.specs.Entries.{EndsAs, EntryRuns}
 use Rattle.play_meaning.specs.Together.{Begins, RunsAlike, RunEnds, RunStops}
 use Rattle.play_meaning.proofs.Earlier.{Earlier, earlier}
 

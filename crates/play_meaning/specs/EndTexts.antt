@@ -6,9 +6,9 @@ use Rattle.world_rules.specs.EndText.{end_text}
 use Rattle.module_player.specs.CodePlays.{code_end_text}
 use Rattle.source_meaning.specs.Evaluation.{Deferred}
 use Rattle.source_meaning.specs.Scripts.{Listed, Setting}
-use Rattle.source_meaning.specs.Ledger.{MachineHost}
-use Rattle.source_meaning.specs.Carries.{Carries}
-use Rattle.source_meaning.specs.Executing.{IsHostOf}
+use Rattle.source_laws.specs.Ledger.{MachineHost}
+use Rattle.source_laws.specs.Carries.{Carries}
+use Rattle.source_laws.specs.Executing.{IsHostOf}
 use Rattle.play_meaning.specs.Together.{PlaysAlike}
 
 abbrev pub listed_name : Option Listed → List ℕ

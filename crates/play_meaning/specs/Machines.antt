@@ -6,7 +6,7 @@ use Rattle.ncs_machine.specs.declared.scripts.Loaded.{Loaded}
 use Rattle.ncs_machine.specs.Host.{scripts_of}
 use Rattle.module_player.specs.CodePlays.{host_of}
 use Rattle.source_meaning.specs.Scripts.{Setting}
-use Rattle.source_meaning.specs.Executing.{script_of, IsHostOf}
+use Rattle.source_laws.specs.Executing.{script_of, IsHostOf}
 
 -- Where the loaded scripts are the code of a setting's texts, and the hooks look cells up in its tables, the player runs them in a machine of
 -- that setting.

@@ -4,16 +4,17 @@ use Rattle.std.specs.Prelude.{◌≤◌, ℕ, ◌*◌}
 use Rattle.saved_state.specs.declared.saved.Saved.{Saved}
 use Rattle.world_rules.specs.World.{World}
 use Rattle.world_rules.specs.Alike.{Alike}
+use Rattle.world_rules.specs.Plays.{unplayed}
 use Rattle.module_player.specs.CodePlays.{code_runner, code_play}
 use Rattle.source_meaning.specs.Evaluation.{Deferred}
 use Rattle.source_meaning.specs.Scripts.{Setting}
 use Rattle.source_meaning.specs.Plays.{source_play}
-use Rattle.source_meaning.specs.Ledger.{MachineHost, step_cost}
-use Rattle.source_meaning.specs.Carries.{Carries}
-use Rattle.source_meaning.specs.EngineHost.{AnswersAreTyped}
-use Rattle.source_meaning.specs.Executing.{IsHostOf}
-use Rattle.source_meaning.specs.Listed.{AreReady}
-use Rattle.play_meaning.specs.Together.{PlayEnds, PlayStops}
+use Rattle.source_laws.specs.Ledger.{MachineHost, step_cost}
+use Rattle.source_laws.specs.Carries.{Carries}
+use Rattle.source_laws.specs.EngineHost.{AnswersAreTyped}
+use Rattle.source_laws.specs.Executing.{IsHostOf}
+use Rattle.source_laws.specs.Listed.{AreReady}
+use Rattle.play_meaning.specs.Together.{PlayEnds, PlayStops, whole}
 
 -- Where each entry of the play of source ends in n steps, the play of code whose entries may take 16 instructions for each of these ends as
 -- it does: after as many entries, with the same lines told, in a world that is alike.
@@ -29,4 +30,4 @@ abbrev pub CodePlaysEnd : Type 0
 CodePlaysEnd =
     (s : Setting) (host : MachineHost) → IsHostOf host s → AnswersAreTyped s.table s.tables → AreReady s → (limit entries until : ℕ)
     → (w : World Saved) (v : World Deferred) → Alike (Carries s) w v
-    → PlayStops (Carries s) (code_runner host limit) until limit (code_play host limit entries until w) (source_play s limit entries until v)
+    → PlayStops (Carries s) (code_runner host limit) (whole entries until) limit (unplayed w) (code_play host limit entries until w) (source_play s limit entries until v)

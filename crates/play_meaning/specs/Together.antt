@@ -1,11 +1,11 @@
 -- Two plays that go together: in the one code is run, and in the other source is evaluated. What is said here is said of any two ways to run
 -- the scripts of an entry, and of any relation between stored actions.
-use Rattle.std.specs.Prelude.{◌≡◌, ◌≤◌, ℕ, ◌*◌, List, ◌++◌, Some}
+use Rattle.std.specs.Prelude.{◌≡◌, ◌≤◌, ℕ, ◌+◌, ◌*◌, List, ◌++◌, true, Some}
 use Rattle.world_rules.specs.World.{World}
 use Rattle.world_rules.specs.Turns.{Begun, begin}
 use Rattle.world_rules.specs.Alike.{Alike}
-use Rattle.world_rules.specs.Plays.{Stopped, Run, Runner, Progress, StoppedInside, Played, entered, further}
-use Rattle.source_meaning.specs.Ledger.{step_cost}
+use Rattle.world_rules.specs.Plays.{Stopped, Run, Runner, Progress, StoppedInside, Paused, Played, Bounds, entered, further, plays}
+use Rattle.source_laws.specs.Ledger.{step_cost}
 
 -- the one list is a beginning of the other, or all of it
 pub record Begins {A : Type 0} (part whole : List A) : Type 0 where
@@ -55,17 +55,27 @@ pub record PlaysAlike {X Y : Type 0} (R : X → Y → Type 0) (code : Played X) 
 abbrev pub PlayEnds : {X Y : Type 0} → (X → Y → Type 0) → Played X → Played Y → Type 0
 PlayEnds R code source = (source.ending ≡ StoppedInside → ⊥) → PlaysAlike R code source
 
--- A play was stopped in an entry for which so much was counted.
-pub record StoppedAt {X : Type 0} (runner : Runner X) (until limit : ℕ) (p : Played X) : Type 0 where
+-- how far a whole play goes, which isn't broken off
+abbrev pub whole : ℕ → ℕ → Bounds
+whole entries until = record { entries = entries; until = until; stop = entries + 1 }
+
+-- A play that goes on from here was stopped in its last entry. Up to that one it goes as it does where it is broken off after one entry less;
+-- that entry is the one that is due next there, it was stopped, and so much was counted for it.
+pub record StoppedAt {X : Type 0} (runner : Runner X) (bounds : Bounds) (limit : ℕ) (from : Progress X) (p : Played X) : Type 0 where
+  -- the entries that the play took from here on, less one
+  pub less : ℕ
   pub before : Progress X
+  pub goes : plays runner bounds less from ≡ record { ending = Paused; last = before }
+  pub entries : p.last.entries ≡ from.entries + less + 1
   pub begun : Begun X
-  pub is : begin until before.world ≡ Some begun
-  pub last : p.last ≡ further (entered runner begun) before
+  pub is : begin bounds.until before.world ≡ Some begun
+  pub stopped : (entered runner begun).stopped ≡ true
   pub count : (entered runner begun).count ≡ limit
+  pub last : p.last ≡ further (entered runner begun) before
 
 -- So where the play of code isn't stopped. Where it is, all the instructions that an entry may take were made in its last entry, and what it
 -- has told is a beginning of what the play of source tells.
-pub record PlayStops {X Y : Type 0} (R : X → Y → Type 0) (runner : Runner X) (until limit : ℕ) (code : Played X) (source : Played Y) : Type 0 where
+pub record PlayStops {X Y : Type 0} (R : X → Y → Type 0) (runner : Runner X) (bounds : Bounds) (limit : ℕ) (from : Progress X) (code : Played X) (source : Played Y) : Type 0 where
   pub ends : (code.ending ≡ StoppedInside → ⊥) → PlaysAlike R code source
-  pub stopped : code.ending ≡ StoppedInside → StoppedAt runner until limit code
+  pub stopped : code.ending ≡ StoppedInside → StoppedAt runner bounds limit from code
   pub told : code.ending ≡ StoppedInside → Begins code.last.trace source.last.trace

@@ -7,7 +7,7 @@ use Rattle.nwq_value.specs.Engine.{EngineTable, IsTable}
 use Rattle.typing_rules.specs.Typed.{TypedUnit}
 use Rattle.typing_rules.specs.Meaning.{TypesUnit}
 use Rattle.source_meaning.specs.Scripts.{Listed, Setting}
-use Rattle.source_meaning.specs.Listed.{AreReady}
+use Rattle.source_laws.specs.Listed.{AreReady}
 
 -- a unit that is typed under a header's table, from a tree that its tokens have
 pub record IsTyped (table : EngineTable) (u : TypedUnit) : Type 0 where

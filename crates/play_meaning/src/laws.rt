@@ -4,7 +4,7 @@ ghost use Rattle.play_meaning.specs.Machines.{PlayersAreHosts};
 ghost use Rattle.play_meaning.specs.PlaysRun.{CodePlaysEnd, SourcePlaysEnd};
 ghost use Rattle.play_meaning.specs.TypedScripts.{TypedScriptsAreReady};
 
-use source_meaning::{entries_do, entries_stay_alike, listed_scripts_do};
+use source_laws::{entries_do, entries_stay_alike, listed_scripts_do};
 use typed_laws::units_are_ready;
 
 /// Where each entry of the play of source texts ends in so many steps, the play of their code ends

@@ -14,6 +14,7 @@ use Rattle.nwq_value.specs.Header.{header_routines}
 use Rattle.nwq_value.specs.HeaderTable.{header_table}
 use Rattle.nwq_value.specs.declared.value.Ty.TheVariants as t
 use Rattle.nwq_value.specs.declared.engine.Const.TheVariants as c
+use Rattle.nwq_value.specs.Operators.{value_eq}
 use Rattle.typing_rules.specs.declared.places.EntryPoint.TheVariants.{Main, Conditional}
 use Rattle.typing_rules.specs.declared.places.Place.TheVariants.{Local}
 use Rattle.typing_rules.specs.declared.places.Callee.TheVariants.{Engine}
@@ -21,7 +22,6 @@ use Rattle.typing_rules.specs.Typed.{TypedExpr, TypedUnit}
 use Rattle.typing_rules.specs.Typed as e
 use Rattle.world_rules.specs.Engine.{engine}
 use Rattle.world_rules.specs.Trace.{line_text, trace_text}
-use Rattle.machine_rules.specs.Values.{value_eq}
 use Rattle.world_rules.specs.Plays.{Done, StoppedInside}
 use Rattle.source_meaning.specs.Evaluation.{bind, spend}
 use Rattle.source_meaning.proofs.Trees.{stmts, int, text, local, global, two, assign, routine, function_call, print, print_string, delay, execute, execute_here, does, sets, declare, param, global_of, function, unit_of, only_main, listed, creature, played, alone, printed}

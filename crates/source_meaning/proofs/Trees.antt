@@ -13,6 +13,7 @@ use Rattle.area_rules.specs.Objects.{AreaObject}
 use Rattle.nwq_value.specs.HeaderTable.{header_table}
 use Rattle.nwq_value.specs.declared.value.Ty.{Ty}
 use Rattle.nwq_value.specs.declared.value.Ty.TheVariants as t
+use Rattle.nwq_value.specs.declared.value.Value.TheVariants.{Int}
 use Rattle.nwq_value.specs.declared.engine.Const.TheVariants as c
 use Rattle.typing_rules.specs.declared.places.Place.TheVariants.{Local, Global}
 use Rattle.typing_rules.specs.declared.places.Callee.TheVariants.{Unit as InUnit, Engine}
@@ -25,7 +26,8 @@ use Rattle.world_rules.specs.Trace.{trace_text}
 use Rattle.world_rules.specs.Turns.{Planned, new_world}
 use Rattle.world_rules.specs.World.{World}
 use Rattle.world_rules.specs.Plays.{Played}
-use Rattle.source_meaning.specs.Evaluation.{Deferred}
+use Rattle.source_meaning.specs.Evaluation.{Deferred, Progress, Gives, no_variables, with_variable}
+use Rattle.source_meaning.specs.Expressions.{Running}
 use Rattle.source_meaning.specs.Scripts.{Listed, Setting}
 use Rattle.source_meaning.specs.Plays.{source_play}
 
@@ -143,3 +145,18 @@ alone u n area = played (listed "p" u ∷ []) area [] 0 "p" n
 
 abbrev pub printed : Played Deferred → List ℕ
 printed p = trace_text p.last.trace
+
+-- ---- single expressions and statements
+
+-- a script that runs alone, as object 0
+abbrev pub here : Running
+here = record { table = header_table; tables = no_cell; structs = []; script = 0; self = 0; execute = λ name target p. Gives [] p }
+
+-- before ten steps, where the local 0 holds 7 and the global 0 holds 40
+abbrev pub begun : World Deferred → Progress
+begun w = record {
+  left = 10;
+  globals = with_variable no_variables 0 (Int (pos 40) ∷ []);
+  locals = with_variable no_variables 0 (Int (pos 7) ∷ []);
+  world = w;
+}

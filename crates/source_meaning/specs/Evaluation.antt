@@ -14,11 +14,14 @@ no_variables n = []
 abbrev pub with_variable : Variables → ℕ → List Value → Variables
 with_variable variables n parts = λ m. if m == n then parts else variables m
 
--- An action that was deferred: the call, as it stands in the source of its script, with the values that the variables had then.
+-- An action that was deferred: the call, as it stands in the source of its script, the variables of the frame that were in sight there, and the
+-- values that the variables had then.
 pub record Deferred : Type 0 where
   -- the script's number
   pub script : ℕ
   pub call : TypedExpr
+  -- by their numbers, the newest first
+  pub sight : List ℕ
   pub globals : Variables
   pub locals : Variables
 

@@ -1,14 +1,17 @@
 -- What an expression means in a running script: its value, with the steps that it takes and what it changes. Operands are evaluated left
 -- to right, arguments last to first.
-use Rattle.std.specs.Prelude.{ℕ, Bool, true, false, List, [], ◌∷◌, Option, None, Some, slice_get}
+use Rattle.std.specs.Prelude.{ℕ, ◌==◌, Bool, true, false, List, [], ◌∷◌, Option, None, Some, slice_get}
 use Rattle.std.specs.List.{flat_map}
 use Rattle.nss_tree.specs.declared.operators.PrefixOperator.{PrefixOperator}
 use Rattle.nss_tree.specs.declared.operators.PrefixOperator.TheVariants as pre
 use Rattle.nss_tree.specs.declared.operators.BinaryOperator.{BinaryOperator}
+use Rattle.nss_tree.specs.declared.operators.BinaryOperator.TheVariants as bin
 use Rattle.nwq_value.specs.declared.value.Ty.{Ty}
 use Rattle.nwq_value.specs.declared.value.Value.{Value}
 use Rattle.nwq_value.specs.declared.value.Value.TheVariants.{Text, Object}
 use Rattle.nwq_value.specs.declared.engine.Const.{Const}
+use Rattle.nwq_value.specs.declared.engine.Role.{Role}
+use Rattle.nwq_value.specs.declared.engine.Role.TheVariants.{Built}
 use Rattle.nwq_value.specs.declared.engine.Routine.{Routine}
 use Rattle.nwq_value.specs.Engine.{EngineTable}
 use Rattle.typing_rules.specs.declared.places.Place.{Place}
@@ -16,12 +19,10 @@ use Rattle.typing_rules.specs.declared.places.Place.TheVariants.{Local, Global, 
 use Rattle.typing_rules.specs.declared.places.Callee.{Callee}
 use Rattle.typing_rules.specs.declared.places.Callee.TheVariants.{Unit as InUnit, Engine}
 use Rattle.typing_rules.specs.Typed.{TypedExpr, TypedExprs, literal, name, call, member, prefix, postfix, binary, assign, no_typed, more_typed}
-use Rattle.emission_rules.specs.Layout.{Structs, cell_types, cells}
-use Rattle.emission_rules.specs.Expressions.{Shortcut, WhereTrue, WhereFalse, Never, shortcut, is_captured}
+use Rattle.typing_rules.specs.Cells.{Structs, cell_types, cells, is_captured}
 use Rattle.world_rules.specs.Pure.{CellLookup}
 use Rattle.world_rules.specs.Rows.{Answered}
 use Rattle.world_rules.specs.Engine.{engine}
-use Rattle.machine_rules.specs.Calls.{is_execute_script}
 use Rattle.source_meaning.specs.Values.{constant_value, start_part, parts_of, is_true, one_int, test_value, operate, divides_by_zero, applied, prefixed, postfixed}
 use Rattle.source_meaning.specs.Evaluation.{Deferred, Progress, Outcome, Gives, Divides, bind, spend, chosen}
 use Rattle.source_meaning.specs.Spots.{Spot, further, spot, read_at, written_at}
@@ -60,7 +61,14 @@ all_parts values = flat_map (λ parts. parts) values
 abbrev pub answered : Answered Deferred → Progress → Outcome (List Value)
 answered a p = Gives (parts_in a.value) (record p { world = a.world })
 
--- is it the routine that runs another script?
+-- ExecuteScript, the engine's own routine that runs another script at once
+abbrev pub execute_script : ℕ
+execute_script = 8
+
+abbrev pub is_execute_script : Role → Bool
+is_execute_script (Built n) = n == execute_script
+is_execute_script _ = false
+
 abbrev pub runs_script_in : Option Routine → Bool
 runs_script_in None = false
 runs_script_in (Some r) = is_execute_script r.role
@@ -134,13 +142,13 @@ operated self o v w write p = chosen (divides_by_zero o w) (λ q. Divides self q
 abbrev pub unwritten : List Value → Progress → Progress
 unwritten parts p = p
 
--- `||` and `&&` leave their right operand out where the left one decides
-abbrev pub combined : ℕ → BinaryOperator → Shortcut → (Progress → Outcome (List Value)) → (Progress → Outcome (List Value)) → Progress → Outcome (List Value)
-combined self o WhereTrue left right p = bind (left p) (λ v q. chosen (is_true v)
-    (λ r. spend r (λ s. Gives (test_value true) s)) (λ r. bind (right r) (λ w s. operated self o v w unwritten s)) q)
-combined self o WhereFalse left right p = bind (left p) (λ v q. chosen (is_true v)
-    (λ r. bind (right r) (λ w s. operated self o v w unwritten s)) (λ r. spend r (λ s. Gives (test_value false) s)) q)
-combined self o Never left right p = bind (left p) (λ v q. bind (right q) (λ w r. operated self o v w unwritten r))
+-- `&&` leaves its right operand out where the left one is 0, and `||` where it isn't.
+abbrev pub combined : ℕ → BinaryOperator → (Progress → Outcome (List Value)) → (Progress → Outcome (List Value)) → Progress → Outcome (List Value)
+combined self bin.And left right p = bind (left p) (λ v q. chosen (is_true v)
+    (λ r. bind (right r) (λ w s. operated self bin.And v w unwritten s)) (λ r. spend r (λ s. Gives (test_value false) s)) q)
+combined self bin.Or left right p = bind (left p) (λ v q. chosen (is_true v)
+    (λ r. spend r (λ s. Gives (test_value true) s)) (λ r. bind (right r) (λ w s. operated self bin.Or v w unwritten s)) q)
+combined self o left right p = bind (left p) (λ v q. bind (right q) (λ w r. operated self o v w unwritten r))
 
 abbrev pub write_there : Option Spot → List Value → Progress → Progress
 write_there None parts p = p
@@ -155,18 +163,19 @@ abbrev pub assigned : ℕ → Option BinaryOperator → Option Spot → ℕ → 
 assigned self None s count value p = bind (value p) (λ parts q. spend q (λ r. Gives parts (write_there s parts r)))
 assigned self (Some o) s count value p = spend p (λ q. bind (value q) (λ w r. operated self o (read_there s count q) w (write_there s) r))
 
--- what is captured of an action: its call, and the variables as they are
-abbrev pub deferred : Running → TypedExpr → Progress → Deferred
-deferred c e p = record { script = c.script; call = e; globals = p.globals; locals = p.locals }
+-- what is captured of an action: its call, the names in sight, and the variables as they are
+abbrev pub deferred : Running → List ℕ → TypedExpr → Progress → Deferred
+deferred c sight e p = record { script = c.script; call = e; sight = sight; globals = p.globals; locals = p.locals }
 
 -- an argument that is an action is captured, which is a step
-abbrev pub argument : Running → Bool → TypedExpr → (Progress → Outcome (List Value)) → Arguments → Progress → Outcome Arguments
-argument c true e value a p = spend p (λ q. Gives (record a { action = Some (deferred c e q) }) q)
-argument c false e value a p = bind (value p) (λ parts q. Gives (with_argument parts a) q)
+abbrev pub argument : Running → List ℕ → Bool → TypedExpr → (Progress → Outcome (List Value)) → Arguments → Progress → Outcome Arguments
+argument c sight true e value a p = spend p (λ q. Gives (record a { action = Some (deferred c sight e q) }) q)
+argument c sight false e value a p = bind (value p) (λ parts q. Gives (with_argument parts a) q)
 
 -- ---- expressions
 
-module _ (c : Running) (caller : Caller) where
+-- in a running script, where these variables of the frame are in sight
+module _ (c : Running) (caller : Caller) (sight : List ℕ) where
   abbrev mutual
     pub eval : TypedExpr → Progress → Outcome (List Value)
     eval (literal k) p = spend p (λ q. Gives (constant_value c.self k ∷ []) q)
@@ -176,10 +185,10 @@ module _ (c : Running) (caller : Caller) where
     eval (member t x before) p = member_of (spot x) before (cells c.structs t) (λ q. eval x q) p
     eval (prefix t o x) p = before_operand o (is_step o) (spot x) (λ q. eval x q) p
     eval (postfix t o x) p = stepped (spot x) (one_int (postfixed o)) (λ old new. old) p
-    eval (binary t o x y) p = combined c.self o (shortcut o) (λ q. eval x q) (λ q. eval y q) p
+    eval (binary t o x y) p = combined c.self o (λ q. eval x q) (λ q. eval y q) p
     eval (assign t o x y) p = assigned c.self (applied o) (spot x) (cells c.structs t) (λ q. eval y q) p
 
     -- the arguments in front of these
     pub evals : TypedExprs → Arguments → Progress → Outcome Arguments
     evals no_typed a p = Gives a p
-    evals (more_typed x xs) a p = bind (evals xs a p) (λ b q. argument c (is_captured x) x (λ r. eval x r) b q)
+    evals (more_typed x xs) a p = bind (evals xs a p) (λ b q. argument c sight (is_captured x) x (λ r. eval x r) b q)

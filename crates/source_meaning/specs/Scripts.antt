@@ -11,11 +11,10 @@ use Rattle.nwq_value.specs.Engine.{EngineTable}
 use Rattle.typing_rules.specs.declared.places.EntryPoint.{EntryPoint}
 use Rattle.typing_rules.specs.declared.places.EntryPoint.TheVariants.{Main, Conditional}
 use Rattle.typing_rules.specs.Typed.{TypedParameter, TypedStmts, TypedName, TypedItem, TypedUnit}
-use Rattle.emission_rules.specs.Layout.{structs_from, cell_types}
+use Rattle.typing_rules.specs.Cells.{structs_from, cell_types}
 use Rattle.world_rules.specs.Pure.{CellLookup}
 use Rattle.world_rules.specs.World.{World}
 use Rattle.world_rules.specs.Engine.{may_run, no_script, too_deep}
-use Rattle.machine_rules.specs.Machine.{depth_limit}
 use Rattle.source_meaning.specs.Values.{start_parts}
 use Rattle.source_meaning.specs.Evaluation.{Variables, no_variables, with_variable, Deferred, Progress, Outcome, Gives, OutOfSteps, bind, spend, chosen}
 use Rattle.source_meaning.specs.Expressions.{Running, Caller, made, eval}
@@ -51,6 +50,9 @@ bound [] values = no_variables
 bound (p ∷ ps) [] = no_variables
 bound (p ∷ ps) (parts ∷ values) = with_variable (bound ps values) p.name.number parts
 
+abbrev pub parameter_names : List TypedParameter → List ℕ
+parameter_names ps = map (λ p. p.name.number) ps
+
 -- a function that is left at its end gives its type's starting value
 abbrev pub result_of : List Ty → Flow → List Value
 result_of types (Returned parts) = parts
@@ -61,7 +63,7 @@ result_of types Continued = start_parts types
 abbrev pub body_run : Running → Caller → Option Function → List (List Value) → Progress → Outcome (List Value)
 body_run c caller None values p = Gives [] p
 body_run c caller (Some f) values p =
-    bind (execs c caller f.body (record p { locals = bound f.parameters values })) (λ flow q. Gives (result_of (cell_types c.structs f.result) flow) q)
+    bind (execs c caller (parameter_names f.parameters) f.body (record p { locals = bound f.parameters values })) (λ flow q. Gives (result_of (cell_types c.structs f.result) flow) q)
 
 -- The functions of a unit, where calls may nest so deep.
 abbrev pub calls : Running → List Function → ℕ → Caller
@@ -96,7 +98,7 @@ entry_called caller (Main f) p = caller f [] p
 entry_called caller (Conditional f) p = bind (made (Int ∷ []) p) (λ parts q. caller f [] q)
 
 abbrev pub unit_started : Running → TypedUnit → Progress → Outcome (List Value)
-unit_started c u p = bind (declared c no_functions (global_names u.items) (without_variables p))
+unit_started c u p = bind (declared c no_functions [] (global_names u.items) (without_variables p))
     (λ flow q. entry_called (calling c (functions u.items) q) u.entry (globals_made q))
 
 -- ---- scripts that run others
@@ -147,6 +149,10 @@ abbrev pub started : Setting → ℕ → Starter
 started s zero script self p = listed_started s (executing s None) script self (slice_get s.scripts script) p
 started s (suc room) script self p = listed_started s (executing s (Some (started s room))) script self (slice_get s.scripts script) p
 
+-- how many scripts at most wait for one that they execute
+abbrev pub depth_limit : ℕ
+depth_limit = 8
+
 abbrev pub next_starter : Setting → ℕ → Option Starter
 next_starter s zero = None
 next_starter s (suc room) = Some (started s room)
@@ -157,9 +163,9 @@ next_starter s (suc room) = Some (started s room)
 abbrev pub first_starter : Setting → Option Starter
 first_starter s = next_starter s depth_limit
 
--- A deferred call is evaluated in its script, with the variables as they were captured.
+-- A deferred call is evaluated in its script, with the names in sight and the variables as they were captured.
 abbrev pub call_evaluated : Running → Deferred → List Function → Progress → Outcome (List Value)
-call_evaluated c d fs p = eval c (calling c fs p) d.call p
+call_evaluated c d fs p = eval c (calling c fs p) d.sight d.call p
 
 abbrev pub call_resumed : Setting → Deferred → ℕ → Option Listed → Progress → Outcome (List Value)
 call_resumed s d self None p = Gives [] p

@@ -4,9 +4,9 @@ use Rattle.nss_tree.specs.Statements.{block, empty, expression, if_only, if_else
 use Rattle.nwq_value.specs.declared.value.Ty.{Ty}
 use Rattle.nwq_value.specs.declared.value.Value.{Value}
 use Rattle.nwq_value.specs.declared.value.Value.TheVariants.{Int}
+use Rattle.nwq_value.specs.Operators.{values_eq}
 use Rattle.typing_rules.specs.Typed.{TypedExpr, TypedName, TypedStmt, TypedStmts}
-use Rattle.emission_rules.specs.Layout.{cell_types}
-use Rattle.machine_rules.specs.Values.{values_eq}
+use Rattle.typing_rules.specs.Cells.{cell_types}
 use Rattle.source_meaning.specs.Values.{constant_value, is_true}
 use Rattle.source_meaning.specs.Evaluation.{Progress, Outcome, Gives, OutOfSteps, bind, spend, chosen, with_variable}
 use Rattle.source_meaning.specs.Expressions.{Running, Caller, made, eval}
@@ -53,60 +53,73 @@ turns (suc n) test body third p = bind (test p) (λ v q. spend q (λ r. chosen (
 abbrev pub looped : (Progress → Outcome (List Value)) → (Progress → Outcome Flow) → (Progress → Outcome (List Value)) → Progress → Outcome Flow
 looped test body third p = turns (suc p.left) test body third p
 
+-- ---- the names in sight: those that are declared in front, in the same block or around it
+
+abbrev pub after_names : List TypedName → List ℕ → List ℕ
+after_names [] sight = sight
+after_names (x ∷ xs) sight = after_names xs (x.name.number ∷ sight)
+
+abbrev pub after_stmt : TypedStmt → List ℕ → List ℕ
+after_stmt (declaration m t xs) sight = after_names xs sight
+after_stmt _ sight = sight
+
+-- ---- statements
+
 module _ (c : Running) (caller : Caller) where
   -- an expression that may be left out
-  abbrev pub maybe : Option TypedExpr → Progress → Outcome (List Value)
-  maybe None p = Gives [] p
-  maybe (Some x) p = eval c caller x p
+  abbrev pub maybe : List ℕ → Option TypedExpr → Progress → Outcome (List Value)
+  maybe sight None p = Gives [] p
+  maybe sight (Some x) p = eval c caller sight x p
 
   -- a test that is left out is true, and has the step of a literal
-  abbrev pub tested : Option TypedExpr → Progress → Outcome (List Value)
-  tested None p = spend p (λ q. Gives (Int (pos 1) ∷ []) q)
-  tested (Some x) p = eval c caller x p
+  abbrev pub tested : List ℕ → Option TypedExpr → Progress → Outcome (List Value)
+  tested sight None p = spend p (λ q. Gives (Int (pos 1) ∷ []) q)
+  tested sight (Some x) p = eval c caller sight x p
 
   -- the value with which a variable is declared
-  abbrev pub initial : Ty → Option TypedExpr → Progress → Outcome (List Value)
-  initial t None p = made (cell_types c.structs t) p
-  initial t (Some x) p = eval c caller x p
+  abbrev pub initial : List ℕ → Ty → Option TypedExpr → Progress → Outcome (List Value)
+  initial sight t None p = made (cell_types c.structs t) p
+  initial sight t (Some x) p = eval c caller sight x p
 
   -- A name is in sight after its own value.
-  abbrev pub declared : List TypedName → Progress → Outcome Flow
-  declared [] p = Gives Next p
-  declared (x ∷ xs) p = bind (initial x.name.ty x.value p) (λ parts q. declared xs (record q { locals = with_variable q.locals x.name.number parts }))
+  abbrev pub declared : List ℕ → List TypedName → Progress → Outcome Flow
+  declared sight [] p = Gives Next p
+  declared sight (x ∷ xs) p = bind (initial sight x.name.ty x.value p)
+      (λ parts q. declared (x.name.number ∷ sight) xs (record q { locals = with_variable q.locals x.name.number parts }))
 
   abbrev mutual
-    pub exec : TypedStmt → Progress → Outcome Flow
-    exec (block m xs) p = execs xs p
-    exec (empty m) p = Gives Next p
-    exec (expression m x) p = bind (eval c caller x p) (λ parts q. Gives Next q)
-    exec (if_only m x a) p = bind (eval c caller x p) (λ v q. chosen (is_true v) (λ r. exec a r) (λ r. Gives Next r) q)
-    exec (if_else m x a b) p = bind (eval c caller x p) (λ v q. chosen (is_true v) (λ r. exec a r) (λ r. exec b r) q)
-    exec (while_loop m x a) p = looped (λ q. eval c caller x q) (λ q. exec a q) (λ q. Gives [] q) p
+    pub exec : List ℕ → TypedStmt → Progress → Outcome Flow
+    exec sight (block m xs) p = execs sight xs p
+    exec sight (empty m) p = Gives Next p
+    exec sight (expression m x) p = bind (eval c caller sight x p) (λ parts q. Gives Next q)
+    exec sight (if_only m x a) p = bind (eval c caller sight x p) (λ v q. chosen (is_true v) (λ r. exec sight a r) (λ r. Gives Next r) q)
+    exec sight (if_else m x a b) p = bind (eval c caller sight x p) (λ v q. chosen (is_true v) (λ r. exec sight a r) (λ r. exec sight b r) q)
+    exec sight (while_loop m x a) p = looped (λ q. eval c caller sight x q) (λ q. exec sight a q) (λ q. Gives [] q) p
     -- the body once, then as `while`
-    exec (do_loop m a x) p = bind (exec a p) (λ f q. on_body f (λ r. looped (λ s. eval c caller x s) (λ s. exec a s) (λ s. Gives [] s) r) q)
-    exec (for_loop m x y z a) p = bind (maybe x p) (λ parts q. looped (λ r. tested y r) (λ r. exec a r) (λ r. maybe z r) q)
-    exec (switch m x xs) p = bind (eval c caller x p) (λ v q. bind (selected v (λ r. from_default xs r) xs q) (λ f r. Gives (on_switch f) r))
-    exec (break_off m) p = spend p (λ q. Gives Broke q)
-    exec (continue_on m) p = spend p (λ q. Gives Continued q)
-    exec (return_from m x) p = bind (maybe x p) (λ parts q. spend q (λ r. Gives (Returned parts) r))
-    exec (declaration m t xs) p = declared xs p
-    exec (case_label m k) p = Gives Next p
-    exec (default_label m) p = Gives Next p
+    exec sight (do_loop m a x) p = bind (exec sight a p) (λ f q. on_body f (λ r. looped (λ s. eval c caller sight x s) (λ s. exec sight a s) (λ s. Gives [] s) r) q)
+    exec sight (for_loop m x y z a) p = bind (maybe sight x p) (λ parts q. looped (λ r. tested sight y r) (λ r. exec sight a r) (λ r. maybe sight z r) q)
+    exec sight (switch m x xs) p = bind (eval c caller sight x p) (λ v q. bind (selected sight v (λ r. from_default sight xs r) xs q) (λ f r. Gives (on_switch f) r))
+    exec sight (break_off m) p = spend p (λ q. Gives Broke q)
+    exec sight (continue_on m) p = spend p (λ q. Gives Continued q)
+    exec sight (return_from m x) p = bind (maybe sight x p) (λ parts q. spend q (λ r. Gives (Returned parts) r))
+    exec sight (declaration m t xs) p = declared sight xs p
+    exec sight (case_label m k) p = Gives Next p
+    exec sight (default_label m) p = Gives Next p
 
-    pub execs : TypedStmts → Progress → Outcome Flow
-    execs no_stmt p = Gives Next p
-    execs (more_stmts x xs) p = bind (exec x p) (λ f q. on_next f (λ r. execs xs r) q)
+    pub execs : List ℕ → TypedStmts → Progress → Outcome Flow
+    execs sight no_stmt p = Gives Next p
+    execs sight (more_stmts x xs) p = bind (exec sight x p) (λ f q. on_next f (λ r. execs (after_stmt x sight) xs r) q)
 
     -- The cases of a switch are tested in order, each a step; the statements from the first one that fits on are executed. Where none
     -- fits, it goes on otherwise.
-    pub selected : List Value → (Progress → Outcome Flow) → TypedStmts → Progress → Outcome Flow
-    selected v otherwise no_stmt p = otherwise p
-    selected v otherwise (more_stmts (case_label m k) xs) p = spend p (λ q.
-        chosen (values_eq v (constant_value c.self k ∷ [])) (λ r. execs xs r) (λ r. selected v otherwise xs r) q)
-    selected v otherwise (more_stmts _ xs) p = selected v otherwise xs p
+    pub selected : List ℕ → List Value → (Progress → Outcome Flow) → TypedStmts → Progress → Outcome Flow
+    selected sight v otherwise no_stmt p = otherwise p
+    selected sight v otherwise (more_stmts (case_label m k) xs) p = spend p (λ q.
+        chosen (values_eq v (constant_value c.self k ∷ [])) (λ r. execs sight xs r) (λ r. selected sight v otherwise xs r) q)
+    selected sight v otherwise (more_stmts x xs) p = selected (after_stmt x sight) v otherwise xs p
 
     -- the statements from `default` on, where there is one
-    pub from_default : TypedStmts → Progress → Outcome Flow
-    from_default no_stmt p = Gives Next p
-    from_default (more_stmts (default_label m) xs) p = execs xs p
-    from_default (more_stmts _ xs) p = from_default xs p
+    pub from_default : List ℕ → TypedStmts → Progress → Outcome Flow
+    from_default sight no_stmt p = Gives Next p
+    from_default sight (more_stmts (default_label m) xs) p = execs sight xs p
+    from_default sight (more_stmts x xs) p = from_default (after_stmt x sight) xs p

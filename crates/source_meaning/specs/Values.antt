@@ -1,6 +1,6 @@
 -- Values of expressions: lists of parts, the values of one cell. A struct's parts are those of its fields in order; every other value
 -- has one part, and a call that gives nothing has none.
-use Rattle.std.specs.Prelude.{ℕ, ℤ, pos, ◌+◌, Bool, false, not, List, [], ◌∷◌, ◌++◌, length, map, take, drop, Option, None, Some}
+use Rattle.std.specs.Prelude.{ℕ, ℤ, pos, ◌+◌, Bool, false, not, ◌&&◌, ◌||◌, List, [], ◌∷◌, ◌++◌, length, map, take, drop, Option, None, Some}
 use Rattle.nss_tree.specs.declared.operators.PrefixOperator.{PrefixOperator}
 use Rattle.nss_tree.specs.declared.operators.PrefixOperator.TheVariants as pre
 use Rattle.nss_tree.specs.declared.operators.PostfixOperator.{PostfixOperator}
@@ -16,8 +16,7 @@ use Rattle.nwq_value.specs.declared.engine.Const.{Const}
 use Rattle.nwq_value.specs.declared.engine.Const.TheVariants as const
 use Rattle.nwq_value.specs.Values.{start_value}
 use Rattle.nwq_value.specs.Limits.{text_limit}
-use Rattle.machine_rules.specs.Operators.{as_int, is_zero, both, either, negation, bits_and, bits_or, bits_xor, complement, shift_left, shift_right, shift_right_unsigned, sum, difference, product, quotient, remainder, opposite, less, less_or_equal, greater, greater_or_equal}
-use Rattle.machine_rules.specs.Values.{joined_texts, values_eq}
+use Rattle.nwq_value.specs.Operators.{as_int, is_zero, negation, bits_and, bits_or, bits_xor, complement, shift_left, shift_right, shift_right_unsigned, sum, difference, product, quotient, remainder, opposite, less, less_or_equal, greater, greater_or_equal, joined_texts, values_eq}
 
 -- ---- constants and starting values
 
@@ -80,8 +79,8 @@ test_value b = Int (as_int b) ∷ []
 
 -- what an operator gives of two values; sums, differences and products wrap, and division truncates towards 0
 abbrev pub operate : BinaryOperator → List Value → List Value → List Value
-operate bin.Or v w = two_ints either v w
-operate bin.And v w = two_ints both v w
+operate bin.Or v w = test_value (is_true v || is_true w)
+operate bin.And v w = test_value (is_true v && is_true w)
 operate bin.BitOr v w = two_ints bits_or v w
 operate bin.BitXor v w = two_ints bits_xor v w
 operate bin.BitAnd v w = two_ints bits_and v w

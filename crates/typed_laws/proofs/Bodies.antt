@@ -24,7 +24,7 @@ use Rattle.typing_rules.specs.Meaning.{TypesParams, TypesHead, TypesItem, TypesI
 use Rattle.typing_rules.specs.Verdicts.{after_names, after_item, after_items, line_type, in_function, in_body, head, head_verdict, body_fine}
 use Rattle.typing_rules.specs.Laws.{ItemsAreRight}
 use Rattle.source_meaning.specs.Scripts.{Function, functions}
-use Rattle.source_meaning.specs.Fine.{parameter_type}
+use Rattle.source_laws.specs.Fine.{parameter_type}
 use Rattle.typed_laws.proofs.Types.{same_type_is, no_action_declared}
 
 -- ---- tests

@@ -13,7 +13,7 @@ use Rattle.typing_rules.specs.Sight.{Head, Signature, has_body, first_types, bod
 use Rattle.typing_rules.specs.Rules.{when, is_empty, is_plain, begins}
 use Rattle.typing_rules.specs.Verdicts.{heads}
 use Rattle.typing_rules.specs.Laws.{ItemsAreRight}
-use Rattle.source_meaning.specs.Fine.{parameter_type}
+use Rattle.source_laws.specs.Fine.{parameter_type}
 use Rattle.source_meaning.specs.Scripts.{Function, functions}
 use Rattle.typed_laws.specs.Laws.{HasEntry, EntriesArePlain}
 use Rattle.typed_laws.proofs.Types.{same_type_is}

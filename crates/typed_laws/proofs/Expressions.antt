@@ -23,14 +23,13 @@ use Rattle.typing_rules.specs.Sight.{Meaning, variable, constant, Entry, Member,
 use Rattle.typing_rules.specs.Rules.{when, named, defaults, filled, is_void_call, takes, all_taken, is_of_unit, is_barred, called, call_of, takes_action, others, member_at, member_rule, assigned}
 use Rattle.typing_rules.specs.Meaning.{Types, AllTypes}
 use Rattle.typing_rules.specs.Meaning as rules
-use Rattle.emission_rules.specs.Layout.{Structs, cell_types}
-use Rattle.emission_rules.specs.Expressions.{is_captured}
+use Rattle.typing_rules.specs.Cells.{Structs, cell_types, is_captured}
 use Rattle.stack_shape.specs.Calls as shape
 use Rattle.stack_shape.specs.Calls.{is_callable, is_uncallable, action_count, result_types}
 use Rattle.source_meaning.specs.Expressions as meaning
 use Rattle.source_meaning.specs.Scripts.{Function}
-use Rattle.source_meaning.specs.Kept.{Site, In}
-use Rattle.source_meaning.specs.Fine.{AreParts, argument_type, argument_types, AreValues, IsSingle, AreSingle, IsCall, IsFine, AreFine}
+use Rattle.source_laws.specs.Kept.{Site, In}
+use Rattle.source_laws.specs.Fine.{AreParts, argument_type, argument_types, AreValues, IsSingle, AreSingle, IsCall, IsFine, AreFine}
 use Rattle.typed_laws.proofs.Types.{same_type_is, int_is, action_is, IsValueType, IsField, AreStructs, all_found}
 use Rattle.typed_laws.proofs.Bodies.{when_is, both_are, not_is, DefaultFits, AreSignatureParams, AreHeads, first_is_head, AreBodies}
 

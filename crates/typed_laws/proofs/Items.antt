@@ -25,15 +25,17 @@ use Rattle.typing_rules.specs.Meaning.{TypesNames, TypesFields, TypesLines, Type
 use Rattle.typing_rules.specs.Meaning as rules
 use Rattle.typing_rules.specs.Verdicts.{after_names, line_type, struct_verdict, struct_members, constant_meaning, constant_name_verdict, parameter_declared, late_after, after_params, in_function, in_body, after_item}
 use Rattle.typing_rules.specs.Laws.{ItemsAreRight}
+use Rattle.typing_rules.specs.Cells.{Structs, cell_types, cells, line_cells, structs_from}
 use Rattle.emission_rules.specs.Bounds.{IsCell}
-use Rattle.emission_rules.specs.Layout.{Structs, cell_types, cells, line_cells, structs_from, params_cells, names_cells, item_cells, params_positions, names_positions, all_positions, body_positions, item_positions, items_positions, position}
+use Rattle.emission_rules.specs.Layout.{params_cells, names_cells, item_cells, params_positions, names_positions, all_positions, body_positions, item_positions, items_positions, position}
 use Rattle.stack_shape.specs.Calls.{action_count}
-use Rattle.source_meaning.specs.Scripts.{Function, functions, global_names}
-use Rattle.source_meaning.specs.Kept.{Site, In}
-use Rattle.source_meaning.specs.Carries.{type_of_name, type_of_parameter, all_declared_types, body_types, item_types, items_types}
-use Rattle.source_meaning.specs.FineStatements.{after_names as scope_after, AreFineNames, AreFineStmts}
-use Rattle.source_meaning.specs.FunctionsRun.{AreParameters, parameter_scope}
-use Rattle.source_meaning.specs.Starts.{making}
+use Rattle.source_meaning.specs.Scripts.{Function, functions, global_names, parameter_names}
+use Rattle.source_laws.specs.Kept.{Site, In}
+use Rattle.source_laws.specs.Carries.{type_of_name, type_of_parameter, all_declared_types, body_types, item_types, items_types}
+use Rattle.source_laws.specs.FineStatements.{AreFineNames, AreFineStmts}
+use Rattle.source_meaning.specs.Statements.{after_names as scope_after}
+use Rattle.source_laws.specs.FunctionsRun.{AreParameters}
+use Rattle.source_laws.specs.Starts.{making}
 use Rattle.typed_laws.proofs.Grammar.{HasName, HasField, IsMadeBody, AreMadeItems}
 use Rattle.typed_laws.proofs.Types.{IsValueType, IsStruct, AreStructs, IsDeclared, declared_is, result_is, void_is, struct_of, all_last}
 use Rattle.typed_laws.proofs.Bodies.{when_is, AreHeads, AreBodies, IsDeclaredHead, head_is, parameter_is}
@@ -261,7 +263,7 @@ are_parameters x (p ∷ ps) places types =
     (place, type, are_parameters x ps places' types')
 
 params_seen : (x : Site) (table : EngineTable) (result : Ty) (scope : List ℕ) (c : Sight) → Sees x table result false scope c → (late : Bool) (ps : List SourceParameter) (us : List TypedParameter) → TypesParams c late ps us → AreParameters x us
-    → ((n : ℕ) → In n (parameter_scope us) → In n scope) → Sees x table result false scope (after_params c ps)
+    → ((n : ℕ) → In n (parameter_names us) → In n scope) → Sees x table result false scope (after_params c ps)
 params_seen x table result scope c s late ps us (rules.TypesParams.none d l) are within = s
 params_seen x table result scope c s late ps us (rules.TypesParams.more d l {p = p} {ps = qs} {t = t} {ts = ts} f k) are within =
     let i = parameter_is c late p t f in
@@ -316,7 +318,7 @@ all_more x scope own within (e ∷ es) h = ((λ m same. more_scope x scope own w
 -- the body of a function is fine
 pub record IsBody (table : EngineTable) (fs : List Function) (x : Site) (fn : Function) : Type 0 where
   pub parameters : AreParameters x fn.parameters
-  pub fine : AreFineStmts table fs x fn.result false false (params_cells x.layout.structs fn.parameters) (parameter_scope fn.parameters) fn.body
+  pub fine : AreFineStmts table fs x fn.result false false (params_cells x.layout.structs fn.parameters) (parameter_names fn.parameters) fn.body
   pub cells : AllByRecursion IsCell (cell_types x.layout.structs fn.result)
 
 -- ---- globals
@@ -365,7 +367,7 @@ module _ (right : ItemsAreRight) (x : Site) (table : EngineTable) (kept : IsTabl
       let p = split_map (position x.layout) (map number_of_parameter h.params) (all_numbers ts) (params_positions structs h.params) (all_positions structs size ts) l.places (params_as_many structs h.params) in
       let q = split_map x.types (map number_of_parameter h.params) (all_numbers ts) (map type_of_parameter h.params) (all_declared_types ts) l.types (length-map h.params type_of_parameter ∙ sym (length-map h.params number_of_parameter)) in
       let are = are_parameters x h.params p.0 q.0 in
-      let own = parameter_scope h.params in
+      let own = parameter_names h.params in
       let gives : result_type c.structs t ≡ Some h.result = ap (option_and_then any_type) d.means ∙ d.result in
       let begun : Sees x table h.result false own (in_function c t) = record {
         names = all_more x scope own s.within c.names s.sees.names;

@@ -23,12 +23,12 @@ use Rattle.typing_rules.specs.Verdicts.{heads}
 use Rattle.emission_rules.specs.Laws.{PositionsByNumber}
 use Rattle.machine_rules.specs.Frames.{Frame}
 use Rattle.stack_shape.specs.Calls.{action_count}
-use Rattle.source_meaning.specs.Kept.{Site}
-use Rattle.source_meaning.specs.FineStatements.{AreFineNames}
+use Rattle.source_laws.specs.Kept.{Site}
+use Rattle.source_laws.specs.FineStatements.{AreFineNames}
 use Rattle.source_meaning.specs.Scripts.{Function, functions, global_names}
-use Rattle.source_meaning.specs.Carries.{item_types, items_types, variable_type, unit_site}
-use Rattle.source_meaning.specs.Placing.{FunctionsStand}
-use Rattle.source_meaning.specs.Starts.{making, BeginsWith}
+use Rattle.source_laws.specs.Carries.{item_types, items_types, variable_type, unit_site}
+use Rattle.source_laws.specs.Placing.{FunctionsStand}
+use Rattle.source_laws.specs.Starts.{making, BeginsWith}
 use Rattle.typed_laws.specs.Laws.{HasEntry, FunctionsArePlaced, GlobalsAreFine, UnitsAreReady}
 use Rattle.typed_laws.proofs.Grammar.{items_made}
 use Rattle.typed_laws.proofs.Bodies.{Declared, after_all}

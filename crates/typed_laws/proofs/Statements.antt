@@ -23,14 +23,16 @@ use Rattle.typing_rules.specs.Meaning.{TypesValue, TypesNames, VariableParts, Ty
 use Rattle.typing_rules.specs.Meaning as rules
 use Rattle.typing_rules.specs.Verdicts as verdicts
 use Rattle.typing_rules.specs.Verdicts.{line_type, after, afters, after_then, constant_value}
-use Rattle.emission_rules.specs.Layout.{Structs, cells, position, declared_cells, names_positions, positions, all_positions}
+use Rattle.typing_rules.specs.Cells.{Structs, cells}
+use Rattle.emission_rules.specs.Layout.{position, declared_cells, names_positions, positions, all_positions}
 use Rattle.emission_rules.specs.Statements.{is_label}
 use Rattle.stack_shape.specs.Calls.{action_count}
 use Rattle.source_meaning.specs.Scripts.{Function}
-use Rattle.source_meaning.specs.Kept.{Site}
-use Rattle.source_meaning.specs.Carries.{type_of_name, declared_types, all_declared_types}
-use Rattle.source_meaning.specs.Fine.{IsFine}
-use Rattle.source_meaning.specs.FineStatements.{after_names, after_stmt, DeclaresNothing, HasNoLabels, LabelsStandFirst, IsFineValue, IsFineMaybe, IsFineTest, AreFineNames, IsFineReturn, IsFineStmt, AreFineStmts}
+use Rattle.source_laws.specs.Kept.{Site}
+use Rattle.source_laws.specs.Carries.{type_of_name, declared_types, all_declared_types}
+use Rattle.source_laws.specs.Fine.{IsFine}
+use Rattle.source_laws.specs.FineStatements.{DeclaresNothing, HasNoLabels, LabelsStandFirst, IsFineValue, IsFineMaybe, IsFineTest, AreFineNames, IsFineReturn, IsFineStmt, AreFineStmts}
+use Rattle.source_meaning.specs.Statements.{after_names, after_stmt}
 use Rattle.typed_laws.proofs.Grammar.{IsNoDeclaration, IsMade, AreMade}
 use Rattle.typed_laws.proofs.Types.{same_type_is, int_is, void_is, IsValueType, declared_is, all_last}
 use Rattle.typed_laws.proofs.Bodies.{when_is, both_are, not_is, asked_is, AreHeads, AreBodies}

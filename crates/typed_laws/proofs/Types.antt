@@ -15,8 +15,8 @@ use Rattle.typing_rules.specs.Sight as sight
 use Rattle.typing_rules.specs.Types.{is_void, is_int, is_action, same_type}
 use Rattle.typing_rules.specs.Typed.{TypedLine}
 use Rattle.typing_rules.specs.Verdicts.{members_of_line, members_of_lines, no_members, struct_members}
+use Rattle.typing_rules.specs.Cells.{Structs, cell_types, line_cells}
 use Rattle.emission_rules.specs.Bounds.{IsCell}
-use Rattle.emission_rules.specs.Layout.{Structs, cell_types, line_cells}
 
 -- ---- types
 

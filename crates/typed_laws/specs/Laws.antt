@@ -11,10 +11,10 @@ use Rattle.typing_rules.specs.Typed.{TypedUnit}
 use Rattle.typing_rules.specs.Meaning.{TypesUnit}
 use Rattle.machine_rules.specs.Frames.{Frame}
 use Rattle.source_meaning.specs.Scripts.{Function, functions, global_names}
-use Rattle.source_meaning.specs.Carries.{unit_site}
-use Rattle.source_meaning.specs.FineStatements.{AreFineNames}
-use Rattle.source_meaning.specs.FunctionsRun.{IsPlaced}
-use Rattle.source_meaning.specs.Starts.{making, BeginsWith}
+use Rattle.source_laws.specs.Carries.{unit_site}
+use Rattle.source_laws.specs.FineStatements.{AreFineNames}
+use Rattle.source_laws.specs.FunctionsRun.{IsPlaced}
+use Rattle.source_laws.specs.Starts.{making, BeginsWith}
 
 -- Each function of a typed unit stands at its label, and its parameters and statements are fine: whatever tokens the unit has, under the
 -- table of any header.

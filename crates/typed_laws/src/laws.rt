@@ -4,7 +4,7 @@ ghost use Rattle.typed_laws.specs.Laws.{UnitsAreReady};
 
 use emission_rules::laws::positions_by_number;
 use nwq_value::header::roles_tell;
-use source_meaning::functions_stand;
+use source_laws::functions_stand;
 use typing_rules::laws::{items_are_right, numbered_in_order};
 
 /// Each function of a typed unit stands at its label, and what its statements hold is as its types

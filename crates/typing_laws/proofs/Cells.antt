@@ -21,8 +21,9 @@ use Rattle.typing_rules.specs.Typed.{TypedLine, TypedParameter}
 use Rattle.typing_rules.specs.Sight.{Members, Structure, Sight, Meant, type_means, value_type, declared_type, cells, cells_if, cells_of_members, counted, crosses, cell_limit, crosses_with, is_taken}
 use Rattle.typing_rules.specs.Rules.{Fields, is_among, fields_with, crosses_fields, field_rule, field_rows, default_fits, is_behind, parameter_of, parameter_rule, parameter_rows, params_of}
 use Rattle.typing_rules.specs.Verdicts.{line_type, constant_value, field_added, field_verdict, after_fields, fields_fine, line_of, line_fine, after_line, lines_fine, members_of_line, members_of_lines, parameter_verdict, parameter_declared, late_after, params_fine}
+use Rattle.typing_rules.specs.Cells.{Structs, cell_types, line_cells}
 use Rattle.emission_rules.specs.Bounds.{IsCell}
-use Rattle.emission_rules.specs.Layout.{Structs, cell_types, line_cells, params_cells}
+use Rattle.emission_rules.specs.Layout.{params_cells}
 use Rattle.nss_parser.specs.Sizes.{IsKnownDefault, AreKnownParams}
 use Rattle.typing_laws.proofs.Lists.{Holds, holds_of, all_last, map_is, then_is, when_is, one_more_is, two_is, asked_is}
 use Rattle.typing_laws.proofs.InSight.{IsValue, IsMember, InBounds, line_bounds, value_bounds, declared_bounds, declared_keeps, constant_bounds}

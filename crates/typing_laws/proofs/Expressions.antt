@@ -28,8 +28,9 @@ use Rattle.typing_rules.specs.Nodes.{There}
 use Rattle.typing_rules.specs.Nodes as node
 use Rattle.typing_rules.specs.Meaning.{Types, AllTypes, TypesValue}
 use Rattle.typing_rules.specs.Meaning as rule
+use Rattle.typing_rules.specs.Cells.{Structs, cell_types}
 use Rattle.emission_rules.specs.Bounds.{weight, all_weight, some_weight, IsCell, IsType, IsPlace, IsCallee, IsOperator, IsExpr, AreExprs, IsSome}
-use Rattle.emission_rules.specs.Layout.{Layout, Structs, cell_types}
+use Rattle.emission_rules.specs.Layout.{Layout}
 use Rattle.nss_parser.specs.Sizes.{size, all_size, some_size, IsKnown, AreKnown, IsSomeKnown}
 use Rattle.typing_laws.proofs.Lists.{Holds, holds_of, all_at, map_is, when_is, if_is}
 use Rattle.typing_laws.proofs.InSight.{IsValue, IsMeaning, IsMember, IsStructure, InBounds, name_bounds}

@@ -19,8 +19,9 @@ use Rattle.typing_rules.specs.Verdicts.{line_type, constant_line_verdict, consta
 use Rattle.typing_rules.specs.Meaning.{TypesBody, TypesItem}
 use Rattle.typing_rules.specs.Meaning as rules
 use Rattle.typing_rules.specs.Laws.{ItemsAreRight}
+use Rattle.typing_rules.specs.Cells.{Structs, line_cells, structs_from}
 use Rattle.emission_rules.specs.Bounds.{globals_weight, AreItems}
-use Rattle.emission_rules.specs.Layout.{Layout, Structs, line_cells, structs_from}
+use Rattle.emission_rules.specs.Layout.{Layout}
 use Rattle.emission_rules.specs.Units.{body_count, functions_labels, globals_labels}
 use Rattle.nss_parser.specs.Sizes.{names_size, body_size, item_size, items_size, IsKnownConstant, IsKnownBody, IsKnownItem, AreKnownItems, AreKnownNames, AreKnownParams}
 use Rattle.typing_laws.proofs.LabelLaws.{names_few}

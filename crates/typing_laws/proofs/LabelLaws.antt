@@ -2,8 +2,9 @@
 use Rattle.std.proofs.Common.{◌≡◌, ◌≤◌, ◌+◌, ℕ, Bool, true, false, List, [], ◌∷◌, Option, Some, None, arith, refl}
 use Rattle.std.specs.Prelude.{if◌then◌else◌}
 use Rattle.typing_rules.specs.Typed.{TypedExpr, TypedExprs, TypedItem, TypedName, literal, name, call, member, prefix, postfix, binary, assign, no_typed, more_typed}
+use Rattle.typing_rules.specs.Cells.{is_captured}
 use Rattle.emission_rules.specs.Bounds.{weight, all_weight, some_weight, names_weight}
-use Rattle.emission_rules.specs.Expressions.{Shortcut, WhereTrue, WhereFalse, Never, argument_labels, shortcut, shortcut_labels, is_captured, labels, all_labels}
+use Rattle.emission_rules.specs.Expressions.{Shortcut, WhereTrue, WhereFalse, Never, argument_labels, shortcut, shortcut_labels, labels, all_labels}
 use Rattle.emission_rules.specs.Statements.{names_labels, some_labels}
 use Rattle.emission_rules.specs.Units.{globals_labels, start_labels}
 

@@ -16,8 +16,9 @@ use Rattle.typing_rules.specs.Rules.{is_plain, begins, entry_rule, entry_rows}
 use Rattle.typing_rules.specs.Verdicts.{items_fine, heads, entry_verdict, unit_of}
 use Rattle.typing_rules.specs.Typed.{TypedUnit}
 use Rattle.typing_rules.specs.Laws.{ItemsAreRight, VerdictsAreRight}
+use Rattle.typing_rules.specs.Cells.{structs_from}
 use Rattle.emission_rules.specs.Bounds.{AreItems, IsEntry}
-use Rattle.emission_rules.specs.Layout.{structs_from, layout_of}
+use Rattle.emission_rules.specs.Layout.{layout_of}
 use Rattle.emission_rules.specs.Units.{body_count, has_globals}
 use Rattle.nss_parser.specs.Sizes.{items_size, AreKnownItems, EachTreeIsKnown}
 use Rattle.typing_laws.specs.Laws.{HasCode, EachTypedTreeHasCode, EachTypedUnitHasCode}

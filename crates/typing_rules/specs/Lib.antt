@@ -1,5 +1,6 @@
 pub mod Types
 pub mod Typed
+pub mod Cells
 pub mod Nodes
 pub mod Sight
 pub mod Returns

@@ -5,8 +5,8 @@ use Rattle.typing_rules.specs.Readings.{plain_assign, plain_binary, plain_call, 
 use Rattle.typing_rules.specs.Typed.{type_of}
 use Rattle.typing_rules.specs.Types.{is_void}
 use Rattle.ncs_emit.specs.Labelled.{LabelledCode}
+use Rattle.typing_rules.specs.Cells.{cells}
 use Rattle.emission_rules.specs.Bounds.{weight, all_weight}
-use Rattle.emission_rules.specs.Layout.{cells}
 use Rattle.emission_rules.specs.Expressions as code
 use Rattle.codegen_expr.specs.Parts.{plain_home, plain_shortcut}
 use Rattle.codegen_expr.proofs.Nodes.{and_code, arguments_step, assign_code, call_code, captured_code, extended_none, known_code, known_lines, member_read_code, or_code}

@@ -1,6 +1,6 @@
 use Rattle.std.proofs.Common.{◌≡◌, ◌++◌, drop}
 use Rattle.std.specs.List.{flat_map}
-use Rattle.emission_rules.specs.Layout.{line_cells}
+use Rattle.typing_rules.specs.Cells.{line_cells}
 use Rattle.nss_layout.proofs.structs.fields_cells.Given as goal
 
 abbrev pub invariant-loop-line : goal.invariant-loop-line

@@ -1,6 +1,6 @@
 use Rattle.std.proofs.Common.{◌≡◌, ◌++◌, drop}
 use Rattle.std.specs.List.{flat_map}
-use Rattle.emission_rules.specs.Layout.{cell_types}
+use Rattle.typing_rules.specs.Cells.{cell_types}
 use Rattle.nss_layout.proofs.structs.put_line.Given as goal
 
 abbrev pub invariant-loop-name : goal.invariant-loop-name

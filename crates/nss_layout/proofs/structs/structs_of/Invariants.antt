@@ -1,6 +1,6 @@
 use Rattle.std.proofs.Common.{◌≡◌, drop, []}
 use Rattle.typing_rules.specs.UnitReading.{typed_items}
-use Rattle.emission_rules.specs.Layout.{structs_from}
+use Rattle.typing_rules.specs.Cells.{structs_from}
 use Rattle.nss_layout.proofs.structs.structs_of.Given as goal
 
 abbrev pub invariant-loop-item : goal.invariant-loop-item

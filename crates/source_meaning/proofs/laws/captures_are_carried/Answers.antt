@@ -1,5 +1,0 @@
-use Rattle.source_meaning.proofs.Captures.{captures_are_carried}
-use Rattle.source_meaning.proofs.laws.captures_are_carried.Goals as goal
-
-pub returns : goal.returns
-returns c = record { carried = captures_are_carried }

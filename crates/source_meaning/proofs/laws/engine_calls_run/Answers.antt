@@ -1,5 +1,0 @@
-use Rattle.source_meaning.proofs.Induction.{engine_calls_run}
-use Rattle.source_meaning.proofs.laws.engine_calls_run.Goals as goal
-
-pub returns : goal.returns
-returns c = record { runs = engine_calls_run c.equality_is_tested.ensures.tested }

@@ -1,5 +1,0 @@
-use Rattle.source_meaning.proofs.EngineAlike.{engine_is_run}
-use Rattle.source_meaning.proofs.laws.engine_is_run.Goals as goal
-
-pub returns : goal.returns
-returns c = record { run = engine_is_run }

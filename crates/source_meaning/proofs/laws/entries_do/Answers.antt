@@ -1,5 +1,0 @@
-use Rattle.source_meaning.proofs.Entries.{entries_do}
-use Rattle.source_meaning.proofs.laws.entries_do.Goals as goal
-
-pub returns : goal.returns
-returns c = record { run = entries_do }

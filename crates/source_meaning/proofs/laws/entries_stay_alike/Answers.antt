@@ -1,6 +1,0 @@
-use Rattle.source_meaning.specs.Carries.{Carries}
-use Rattle.source_meaning.proofs.StayAlike.{entries_stay_alike}
-use Rattle.source_meaning.proofs.laws.entries_stay_alike.Goals as goal
-
-pub returns : goal.returns
-returns c = record { alike = λ s. entries_stay_alike (Carries s) }

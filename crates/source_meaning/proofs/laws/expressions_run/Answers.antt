@@ -1,5 +1,0 @@
-use Rattle.source_meaning.proofs.Induction.{expressions_run}
-use Rattle.source_meaning.proofs.laws.expressions_run.Goals as goal
-
-pub returns : goal.returns
-returns c = record { runs = expressions_run c.equality_is_tested.ensures.tested }

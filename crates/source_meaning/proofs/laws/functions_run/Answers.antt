@@ -1,5 +1,0 @@
-use Rattle.source_meaning.proofs.Functions.{functions_run}
-use Rattle.source_meaning.proofs.laws.functions_run.Goals as goal
-
-pub returns : goal.returns
-returns c = record { runs = functions_run c.equality_is_tested.ensures.tested }

@@ -1,5 +1,0 @@
-use Rattle.source_meaning.proofs.Placing.{functions_stand}
-use Rattle.source_meaning.proofs.laws.functions_stand.Goals as goal
-
-pub returns : goal.returns
-returns c = record { stand = functions_stand c.code_stands.ensures.stands }

@@ -1,5 +1,0 @@
-use Rattle.source_meaning.proofs.Listed.{listed_scripts_do}
-use Rattle.source_meaning.proofs.laws.listed_scripts_do.Goals as goal
-
-pub returns : goal.returns
-returns c = record { run = listed_scripts_do c.equality_is_tested.ensures.tested c.code_stands.ensures.stands }

@@ -1,5 +1,0 @@
-use Rattle.source_meaning.proofs.Resumes.{resumed_run}
-use Rattle.source_meaning.proofs.laws.resumed_run.Goals as goal
-
-pub returns : goal.returns
-returns c = record { runs = resumed_run c.equality_is_tested.ensures.tested }
