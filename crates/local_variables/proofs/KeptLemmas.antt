@@ -1,5 +1,5 @@
 -- What is found among the slots of variables, put into them and taken out of them.
-use Rattle.std.proofs.Common.{◌≡◌, ◌≢◌, if◌then◌else◌, ◌<◌, ◌≤◌, ◌+◌, ◌-◌, ◌==◌, ℕ, ℤ, zero, suc, Bool, true, false, cond, not, ◌||◌, List, [], ◌∷◌, ◌++◌, map, filter, take, drop, length, nat_lt, get_or, slice_get, Option, None, Some, is_some, IsSome, Less, Greater, Result, Ok, Err, refl, sym, ap, subst, ◌∙◌, arith}
+use Rattle.std.proofs.Common.{◌≡◌, ◌≢◌, if◌then◌else◌, ◌<◌, ◌≤◌, ◌+◌, ◌==◌, ℕ, ℤ, zero, suc, Bool, true, false, cond, not, ◌||◌, List, [], ◌∷◌, ◌++◌, filter, take, drop, length, nat_lt, get_or, slice_get, Option, None, Some, is_some, IsSome, Less, Greater, Result, Ok, Err, refl, sym, ap, subst, ◌∙◌, arith}
 use Rattle.std.specs.List.{list_any, IsDistinct, AllByRecursion}
 use Rattle.std.proofs.lemmas.List.{length_push}
 use Rattle.std.specs.List.Sorted.{IsSearchInRange, IsBinarySearchResult, IsNonDecreasingBy}
@@ -215,7 +215,6 @@ seen_last (e ∷ slots) s h = ap (seen_before e.1) (seen_last slots s h) ∙ bef
 distinct_last : (slots : List Slot) (s : ℕ) (h : Held) → IsDistinct same_variable (seen slots) → list_any (same_variable (variable_in h)) (seen slots) ≡ false → IsDistinct same_variable (seen (slots ++ (s, Some h) ∷ []))
 distinct_last slots s h d new = subst (IsDistinct same_variable) (sym (seen_last slots s h)) (IsDistinct-push same_equiv (seen slots) (variable_in h) d new)
 
-
 -- ---- what is written in its place
 
 keys_stay : (slots : List Slot) (i : ℕ) (new : Option Held) → keys_of (set_value_at slots i new) ≡ keys_of slots
@@ -416,17 +415,17 @@ pub record Left (next live : ℕ) (slots : List Slot) (ints texts : List (List �
 
 pub settled : {next live : ℕ} {slots fewer : List Slot} {ints texts : List (List ℕ × ℕ)} {vars : List Variable} → AreKept next live slots ints texts → seen slots ≡ vars → fewer ≡ full slots → Left next live fewer ints texts vars
 settled {next} {live} {slots} {fewer} {ints} {texts} {vars} kept view is = rw is (record {
-    kept = record {
-      ascend = ascend_full 0 slots kept.ascend;
-      below = below_full next slots kept.below;
-      counted = kept.counted ∙ ap length (sym (seen_full slots));
-      fewer = kept.fewer;
-      ints = λ x. kept.ints x ∙ sym (stamp_full (is_int x) slots);
-      texts = λ x. kept.texts x ∙ sym (stamp_full (is_text x) slots);
-      distinct = subst (IsDistinct same_variable) (sym (seen_full slots)) kept.distinct;
-    };
-    view = seen_full slots ∙ view;
-  })
+  kept = record {
+    ascend = ascend_full 0 slots kept.ascend;
+    below = below_full next slots kept.below;
+    counted = kept.counted ∙ ap length (sym (seen_full slots));
+    fewer = kept.fewer;
+    ints = λ x. kept.ints x ∙ sym (stamp_full (is_int x) slots);
+    texts = λ x. kept.texts x ∙ sym (stamp_full (is_text x) slots);
+    distinct = subst (IsDistinct same_variable) (sym (seen_full slots)) kept.distinct;
+  };
+  view = seen_full slots ∙ view;
+})
 
 -- ---- what is read, and what a change leaves
 

@@ -1,4 +1,4 @@
-use Rattle.std.proofs.Common.{◌∙◌, length, ap, sym, subst}
+use Rattle.std.proofs.Common.{◌∙◌, ap, sym, subst}
 use Rattle.std.specs.List.Sorted.{IsSearchInRange}
 use Rattle.indexmap.specs.IndexMap.{keys}
 use Rattle.local_variables.specs.Kept.{at_stamp}

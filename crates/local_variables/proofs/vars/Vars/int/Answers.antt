@@ -1,4 +1,4 @@
-use Rattle.std.proofs.Common.{rules, Some, ◌∙◌, sym, ap}
+use Rattle.std.proofs.Common.{rules, ◌∙◌, sym, ap}
 use Rattle.local_variables.specs.Variables.{int_of}
 use Rattle.local_variables.proofs.KeptLemmas.{int_at, no_int, at_variable}
 use Rattle.local_variables.proofs.vars.Vars.int.Goals as goal

@@ -2,7 +2,6 @@ use Rattle.std.specs.Int.{w32}
 use Rattle.std.proofs.lemmas.Int.{to_z-of_z}
 use Rattle.std.proofs.Common.{refl, arith, ◌≡◌, ◌+◌, ◌++◌, ◌∷◌, [], ap, ◌∙◌}
 use Rattle.local_variables.specs.Variables.{IntVar}
-use Rattle.local_variables.specs.Kept.{seen}
 use Rattle.local_variables.proofs.KeptLemmas.{int_pushed}
 use Rattle.local_variables.proofs.vars.Vars.push_int.Goals as goal
 

@@ -1,5 +1,4 @@
 use Rattle.std.proofs.Common.{refl, arith, ◌≡◌, ◌+◌}
-use Rattle.local_variables.specs.Kept.{seen}
 use Rattle.local_variables.proofs.KeptLemmas.{text_pushed}
 use Rattle.local_variables.proofs.vars.Vars.push_text.Goals as goal
 

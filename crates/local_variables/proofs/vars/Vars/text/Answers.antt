@@ -1,4 +1,4 @@
-use Rattle.std.proofs.Common.{Some, ◌∙◌, sym, ap}
+use Rattle.std.proofs.Common.{◌∙◌, sym, ap}
 use Rattle.local_variables.specs.Variables.{text_of}
 use Rattle.local_variables.proofs.KeptLemmas.{text_at, no_text, at_variable}
 use Rattle.local_variables.proofs.vars.Vars.text.Goals as goal
