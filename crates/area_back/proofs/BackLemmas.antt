@@ -138,22 +138,6 @@ take_next {X = X} xs k x e = ap (λ (n : ℕ). take n xs) (one_more k) ∙ take_
     one_more : (n : ℕ) → n + 1 ≡ suc n
     one_more n = omega arith
 
--- ---- the variables that no entry tells
-
-pub others_next : (test : Variable → Bool) (vars : List Variable) (i : ℕ) (v : Variable) (before_i now whole : List PlainNode) → slice_get vars i ≡ Some v →
-    before_i ≡ whole ++ map new_entry (filter test (take i vars)) → now ≡ before_i ++ map new_entry (filter test (v ∷ [])) → now ≡ whole ++ map new_entry (filter test (take (i + 1) vars))
-others_next test vars i v before_i now whole at before grown =
-    let more : take (i + 1) vars ≡ take i vars ++ v ∷ [] = take_next vars i v at in
-    grown ∙ (ap (λ (ns : List PlainNode). ns ++ map new_entry (filter test (v ∷ []))) before
-    ∙ (append_assoc whole (map new_entry (filter test (take i vars))) (map new_entry (filter test (v ∷ [])))
-    ∙ ap (λ (ns : List PlainNode). whole ++ ns) (sym (map-append new_entry (filter test (take i vars)) (filter test (v ∷ [])))
-    ∙ ap (map new_entry) (sym (filter-append test (take i vars) (v ∷ [])) ∙ ap (filter test) (sym more)))))
-
-pub take_past : {X : Type 0} (xs : List X) (i : ℕ) → slice_get xs i ≡ None → take i xs ≡ xs
-take_past [] i e = take_none i
-take_past (x ∷ xs) zero e = absurd cc
-take_past {X = X} (x ∷ xs) (suc i) e = ap (λ (zs : List X). x ∷ zs) (take_past xs i e)
-
 -- ---- the members of a list
 
 members_end : (objects : List AreaObject) (nodes : List PlainNode) (n : ℕ) → length nodes ≤ n → members_back (take n objects) nodes ≡ members_back objects nodes

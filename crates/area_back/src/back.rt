@@ -223,11 +223,9 @@ fn add_others(
     ensures { OnOk result (map plain_node entries.new.items ≡ map plain_node entries.old.items
         ++ map new_entry (filter (λ v. not (list_any (same_variable v) told.now)) vars.now)) }
 {
-    for i in 0..vars.len() {
-        match vars.get(i) {
-            None => return Ok(()),
-            Some(v) => add_other(alloc, v, told, entries)?,
-        }
+    let mut walk = vars.walk();
+    while let Some(v) = walk.next() {
+        add_other(alloc, v, told, entries)?;
     }
     Ok(())
 }

@@ -1,2 +1,3 @@
 pub mod Reading
 pub mod Index
+pub mod Scripts

@@ -13,6 +13,7 @@
 
 mod area;
 mod object;
+mod scripts;
 mod tags;
 
 pub use area::Area;

@@ -3,7 +3,7 @@
 ghost use Rattle.std.specs.Prelude.{◌≡◌, ◌<◌, ◌+◌, ◌++◌, ◌∷◌, [], map, filter, not, drop, codes};
 ghost use Rattle.std.specs.Prelude.{length, OnOk, OnErr, IfOk, IfErr};
 ghost use Rattle.std.specs.Option.{option_map};
-ghost use Rattle.gff_tree.specs.Tree.{plain_node, plain_field, nodes_list};
+ghost use Rattle.gff_tree.specs.Tree.{plain_node, nodes_list};
 ghost use Rattle.gff_tree.specs.Count.{node_count, nodes_count};
 ghost use Rattle.gff_tree.specs.Fields.{fields_of, found};
 ghost use Rattle.local_variables.specs.Variables.{IntVar, TextVar, is_int, is_text, put};
@@ -11,42 +11,27 @@ ghost use Rattle.local_variables.specs.Variables.{variable_of};
 ghost use Rattle.area_rules.specs.Area.{script_named, with_vars};
 ghost use Rattle.area_rules.specs.Objects.{dword_in, int_in, string_in, int_entry, text_entry};
 ghost use Rattle.area_rules.specs.Objects.{entry_of, variables_in, structs_in, tag_in};
-ghost use Rattle.area_rules.specs.Objects.{with_script, scripts_in, object_of, list_labels};
-ghost use Rattle.area_rules.specs.Objects.{objects_of};
+ghost use Rattle.area_rules.specs.Objects.{object_of, list_labels, objects_of};
 ghost use Rattle.area_rules.specs.Broken.{IsFirst, at_entry, entry_places, with_later};
 ghost use Rattle.area_rules.specs.Broken.{entries_places, tag_places, table_places};
 ghost use Rattle.area_rules.specs.Broken.{member_places, members_places, list_places};
 ghost use Rattle.area_rules.specs.Broken.{broken_places};
 ghost use Rattle.area_tree.specs.Reading.{Reads, leaf_in, leaves_count, entry_told};
 
+use crate::scripts::{Scripts, read_scripts};
 use area_rules::AreaFault;
-use gff_tree::{Field, Leaf, Node};
+use gff_tree::{Leaf, Node};
 use local_variables::{Var, Vars};
 use nwq_value::{Items, NoMemory};
 use std::alloc::Global;
 use std::marker::Model;
 use std::mem;
 
-/// The name of a resource under its label.
-#[derive(Drop)]
-pub struct ScriptField {
-    label: Items<u8>,
-    name: Items<u8>,
-}
-
-impl Model for ScriptField {
-    ghost use Rattle.area_rules.specs.Objects.{Script};
-
-    ghost Value = { Script };
-
-    ghost view = { λ s. record { label = s.label; name = s.name } };
-}
-
 /// One object of an area.
 pub struct Object {
     tag: Items<u8>,
     vars: Vars,
-    scripts: Vec<ScriptField>,
+    scripts: Scripts,
 }
 
 impl Model for Object {
@@ -54,7 +39,7 @@ impl Model for Object {
 
     ghost Value = { AreaObject };
 
-    ghost view = { λ o. record { tag = o.tag; vars = o.vars; scripts = o.scripts.items } };
+    ghost view = { λ o. record { tag = o.tag; vars = o.vars; scripts = o.scripts } };
 }
 
 impl Drop for Object {
@@ -77,7 +62,7 @@ impl Object {
     pub fn script(&self, label: &[u8]) -> &[u8]
         ensures name { result.now ≡ script_named label.now self.now.scripts }
     {
-        script_in(&self.scripts, label)
+        self.scripts.name(label)
     }
 
     pub fn vars(&self) -> &Vars
@@ -121,31 +106,6 @@ impl Object {
         ensures vars { self.new ≡ with_vars (λ _. vars) self.old }
     {
         drop(mem::replace(&mut self.vars, vars));
-    }
-}
-
-fn script_in<'a>(scripts: &'a [ScriptField], label: &[u8]) -> &'a [u8]
-    ensures { result.now ≡ script_named label.now scripts.now }
-{
-    for script in scripts {
-        if label == script.label() {
-            return script.name();
-        }
-    }
-    &[]
-}
-
-impl ScriptField {
-    fn label(&self) -> &[u8]
-        ensures { result.now ≡ self.now.label }
-    {
-        self.label.as_slice()
-    }
-
-    fn name(&self) -> &[u8]
-        ensures { result.now ≡ self.now.name }
-    {
-        self.name.as_slice()
     }
 }
 
@@ -331,29 +291,6 @@ fn read_tag(
             entry: 0,
         }),
     }
-}
-
-/// Puts a field last, if it holds the name of a resource.
-fn add_script(alloc: Global, field: &Field, scripts: &mut Vec<ScriptField>) -> Result<(), NoMemory>
-    ensures { OnOk result (scripts.new.items ≡ scripts.old.items
-        ++ with_script field.now.label (plain_field field.now).leaf []) }
-{
-    if let Leaf::Res(text) = &field.leaf {
-        let label = Items::of_slice(alloc, field.label.bytes())?;
-        let name = Items::of_slice(alloc, text.as_slice())?;
-        scripts.push(ScriptField { label, name })?;
-    }
-    Ok(())
-}
-
-fn read_scripts(alloc: Global, fields: &[Field]) -> Result<Vec<ScriptField>, NoMemory>
-    ensures { IfOk result (λ scripts. scripts.items ≡ scripts_in (map plain_field fields.now)) }
-{
-    let mut scripts = Vec::new(alloc);
-    for field in fields {
-        add_script(alloc, field, &mut scripts)?;
-    }
-    Ok(scripts)
 }
 
 /// The object that a member of a list is.

@@ -1,5 +1,5 @@
 -- Laws of variables by type and name.
-use Rattle.std.specs.Prelude.{◌≡◌, Bool, ◌||◌, List, if◌then◌else◌, not, filter, Option, None, Some}
+use Rattle.std.specs.Prelude.{◌≡◌, Bool, ◌||◌, List, if◌then◌else◌, not, filter, None, Some}
 use Rattle.std.specs.List.{list_any, IsDistinct}
 use Rattle.std.specs.Cmp.{IsEquivalence}
 use Rattle.local_variables.specs.Variables.{Variable, same_variable, matching, put}

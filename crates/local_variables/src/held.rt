@@ -1,13 +1,19 @@
 //! A variable as it is kept, and how one is found and put last. Its name leads to its stamp, and
-//! the stamp, by a binary search, to its place: so a variable that is taken out renumbers no other.
+//! the stamp, by a binary search, to its slot, so that no names or numbers make a search longer. A
+//! variable that is taken out leaves its slot empty, and renumbers no other.
 
 ghost use Rattle.std.specs.Prelude.{◌≡◌, [], ◌∷◌, ◌++◌, ◌<◌, length, Some, OnOk, OnErr, IfOk};
 ghost use Rattle.std.specs.Prelude.{IfSome};
+ghost use Rattle.std.specs.List.{AllByRecursion};
+ghost use Rattle.std.specs.Option.{option_map};
+ghost use Rattle.indexmap.specs.IndexMap.{keys};
 ghost use Rattle.nwq_value.specs.Index.{number_under, Puts};
 ghost use Rattle.local_variables.specs.Variables.{variable_of, int_of, text_of};
-ghost use Rattle.local_variables.specs.Kept.{variable_in, at_stamp, Ascend};
+ghost use Rattle.local_variables.specs.Kept.{variable_in, variable_at, with_content, at_stamp};
+ghost use Rattle.local_variables.specs.Kept.{Ascend};
 
 use crate::vars::Var;
+use indexmap::IndexMap;
 use nwq_value::{Items, NameIndex, NoMemory};
 use std::alloc::Global;
 
@@ -17,12 +23,15 @@ pub enum Content {
     Text(Items<u8>),
 }
 
-/// A variable with its stamp, which is above those of the variables before it.
+/// A variable.
 pub struct Held {
-    pub stamp: usize,
     pub name: Items<u8>,
     pub content: Content,
 }
+
+/// The variables under their stamps, in the order of their first sight. The slot of one that was
+/// taken out is empty.
+pub type Slots = IndexMap<usize, Option<Held>>;
 
 impl Drop for Content {
     fn drop(self) {
@@ -35,11 +44,7 @@ impl Drop for Content {
 
 impl Drop for Held {
     fn drop(self) {
-        let Held {
-            stamp: _,
-            name,
-            content,
-        } = self;
+        let Held { name, content } = self;
         drop(name);
         drop(content);
     }
@@ -47,13 +52,11 @@ impl Drop for Held {
 
 impl Held {
     /// A copy of a variable.
-    pub fn of(alloc: Global, stamp: usize, v: Var<'_>) -> Result<Held, NoMemory>
-        ensures stamp { IfOk result (λ h. h.stamp ≡ stamp) }
+    pub fn of(alloc: Global, v: Var<'_>) -> Result<Held, NoMemory>
         ensures variable { IfOk result (λ h. variable_in h ≡ variable_of v.entry) }
     {
         match v {
             Var::Int(name, n) => Ok(Held {
-                stamp,
                 name: Items::of_slice(alloc, name)?,
                 content: Content::Int(n),
             }),
@@ -61,7 +64,6 @@ impl Held {
                 let name = Items::of_slice(alloc, name)?;
                 let text = Items::of_slice(alloc, text)?;
                 Ok(Held {
-                    stamp,
                     name,
                     content: Content::Text(text),
                 })
@@ -79,7 +81,7 @@ impl Held {
     }
 
     /// Its int, or 0 where it is a string.
-    pub fn int(&self) -> i32
+    fn int(&self) -> i32
         ensures { result ≡ int_of (Some (variable_in self.now)) }
     {
         match &self.content {
@@ -89,7 +91,7 @@ impl Held {
     }
 
     /// Its string, or the empty one where it is an int.
-    pub fn text(&self) -> &[u8]
+    fn text(&self) -> &[u8]
         ensures { result.now ≡ text_of (Some (variable_in self.now)) }
     {
         match &self.content {
@@ -99,33 +101,64 @@ impl Held {
     }
 }
 
-/// The place of the variable whose stamp stands under a name.
-pub fn find(all: &[Held], stamps: &NameIndex, name: &[u8]) -> Option<usize>
-    requires ascend { Ascend 0 all.now }
-    ensures place { result ≡ at_stamp (number_under name.now stamps.now) all.now }
-    ensures inside { IfSome result (λ i. i < length all.now) }
+/// The int in a slot, or 0 where there is none.
+pub fn int_in(slot: &Option<Held>) -> i32
+    ensures { result ≡ int_of (variable_at slot.now) }
 {
-    let stamp = stamps.get(name)?;
-    all.binary_search_by_key(&stamp, |held| held.stamp).ok()
+    match slot {
+        Some(held) => held.int(),
+        None => 0,
+    }
 }
 
-/// Puts a variable last, and its stamp under its name.
+/// The string in a slot, or the empty one where there is none.
+pub fn text_in(slot: &Option<Held>) -> &[u8]
+    ensures { result.now ≡ text_of (variable_at slot.now) }
+{
+    match slot {
+        Some(held) => held.text(),
+        None => &[],
+    }
+}
+
+/// Gives the variable in a slot another content.
+pub fn write(slot: &mut Option<Held>, content: Content)
+    ensures { slot.new ≡ option_map (with_content content) slot.old }
+{
+    match slot {
+        Some(held) => held.content = content,
+        None => drop(content),
+    }
+}
+
+/// The place of the slot whose stamp stands under a name.
+pub fn find(slots: &Slots, stamps: &NameIndex, name: &[u8]) -> Option<usize>
+    requires ascend { Ascend 0 (keys slots.now) }
+    ensures place { result ≡ at_stamp (number_under name.now stamps.now) (keys slots.now) }
+    ensures inside { IfSome result (λ i. i < length slots.now.entries) }
+{
+    let stamp = stamps.get(name)?;
+    slots.binary_search_keys(&stamp).ok()
+}
+
+/// Puts a variable last under a stamp, and the stamp under its name.
 pub fn add(
-    all: &mut Vec<Held>,
+    slots: &mut Slots,
     stamps: &mut NameIndex,
     name: &[u8],
+    stamp: usize,
     held: Held,
 ) -> Result<(), NoMemory>
-    ensures all { OnOk result (all.new.items ≡ all.old.items ++ held ∷ []) }
-    ensures stamps { OnOk result (Puts name.now (Some held.stamp) stamps.old stamps.new) }
-    ensures same_all { OnErr result (all.new.items ≡ all.old.items) }
+    requires above { AllByRecursion (λ s. s < stamp) (keys slots.old) }
+    ensures all { OnOk result (slots.new.entries ≡ slots.old.entries ++ (stamp, Some held) ∷ []) }
+    ensures stamps { OnOk result (Puts name.now (Some stamp) stamps.old stamps.new) }
+    ensures same_all { OnErr result (slots.new.entries ≡ slots.old.entries) }
     ensures same_stamps { OnErr result (stamps.new ≡ stamps.old) }
 {
-    let stamp = held.stamp;
-    all.push(held)?;
+    slots.insert(stamp, Some(held))?;
     if stamps.set(name, stamp).is_ok() {
         return Ok(());
     }
-    all.pop();
+    slots.pop();
     Err(NoMemory)
 }

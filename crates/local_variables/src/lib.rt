@@ -9,6 +9,8 @@
 mod held;
 mod laws;
 mod vars;
+mod walk;
 
 pub use laws::{variables_stay, variables_tell};
 pub use vars::{Var, Vars};
+pub use walk::Walk;

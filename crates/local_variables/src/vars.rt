@@ -1,13 +1,14 @@
 //! The variables of an object.
 
 ghost use Rattle.std.specs.Prelude.{◌≡◌, [], ◌∷◌, ◌++◌, not, false, filter, length, slice_get};
-ghost use Rattle.std.specs.Prelude.{OnOk, OnErr};
+ghost use Rattle.std.specs.Prelude.{is_some, OnOk, OnErr};
 ghost use Rattle.std.specs.List.{list_any, IsDistinct};
 ghost use Rattle.std.specs.Option.{option_map};
 ghost use Rattle.local_variables.specs.Variables.{IntVar, TextVar, variable_of, is_int, is_text};
 ghost use Rattle.local_variables.specs.Variables.{same_variable, int_named, text_named, put};
 
-use crate::held::{Content, Held, add, find};
+use crate::held::{Content, Held, Slots, add, find, int_in, text_in, write};
+use crate::walk::Walk;
 use nwq_value::{Items, NameIndex, NoMemory};
 use std::alloc::Global;
 use std::marker::Model;
@@ -25,22 +26,24 @@ pub struct Vars {
     alloc: Global,
     /// The stamp of the next new variable.
     next: usize,
-    all: Vec<Held>,
+    slots: Slots,
+    /// How many slots aren't empty.
+    live: usize,
     /// The stamps of the ints by their names, and below those of the strings.
     ints: NameIndex,
     texts: NameIndex,
 }
 
 impl Model for Vars {
-    ghost use Rattle.std.specs.Prelude.{List, map};
+    ghost use Rattle.std.specs.Prelude.{List};
     ghost use Rattle.local_variables.specs.Variables.{Variable};
-    ghost use Rattle.local_variables.specs.Kept.{variable_in, AreKept};
+    ghost use Rattle.local_variables.specs.Kept.{seen, AreKept};
 
     ghost Value = { List Variable };
 
-    ghost view = { λ v. map variable_in v.all.items };
+    ghost view = { λ v. seen v.slots.entries };
 
-    ghost invariant = { λ v. AreKept v.next v.all.items v.ints v.texts };
+    ghost invariant = { λ v. AreKept v.next v.live v.slots.entries v.ints v.texts };
 }
 
 impl Drop for Vars {
@@ -48,11 +51,12 @@ impl Drop for Vars {
         let Vars {
             alloc: _,
             next: _,
-            all,
+            slots,
+            live: _,
             ints,
             texts,
         } = self;
-        drop(all);
+        drop(slots);
         drop(ints);
         drop(texts);
     }
@@ -66,7 +70,8 @@ impl Vars {
         Vars {
             alloc,
             next: 0,
-            all: Vec::new(alloc),
+            slots: Slots::new(alloc),
+            live: 0,
             ints: NameIndex::new(alloc),
             texts: NameIndex::new(alloc),
         }
@@ -75,17 +80,26 @@ impl Vars {
     pub fn len(&self) -> usize
         ensures len { result ≡ length self.now }
     {
-        self.all.len()
+        self.live
     }
 
-    /// The variable at place `i`, counted from 0.
+    /// A walk over all variables, each in constant time.
+    pub fn walk(&self) -> Walk<'_>
+        ensures all { result ≡ self.now }
+    {
+        Walk::over(&self.slots)
+    }
+
+    /// The variable at place `i`, counted from 0, which passes those before it: a walk goes over
+    /// all.
     pub fn get(&self, i: usize) -> Option<Var<'_>>
         ensures variable { option_map variable_of result ≡ slice_get self.now i }
     {
-        match self.all.get(i) {
-            Some(held) => Some(held.variable()),
-            None => None,
+        let mut walk = self.walk();
+        for _ in 0..i {
+            walk.next();
         }
+        walk.next()
     }
 
     /// Is there a variable of this type and name?
@@ -102,8 +116,8 @@ impl Vars {
     pub fn int(&self, name: &[u8]) -> i32
         ensures value { result ≡ int_named name.now self.now }
     {
-        match find(&self.all, &self.ints, name) {
-            Some(i) => self.all[i].int(),
+        match find(&self.slots, &self.ints, name) {
+            Some(i) => int_in(&self.slots[i]),
             None => 0,
         }
     }
@@ -112,8 +126,8 @@ impl Vars {
     pub fn text(&self, name: &[u8]) -> &[u8]
         ensures value { result.now ≡ text_named name.now self.now }
     {
-        match find(&self.all, &self.texts, name) {
-            Some(i) => self.all[i].text(),
+        match find(&self.slots, &self.texts, name) {
+            Some(i) => text_in(&self.slots[i]),
             None => &[],
         }
     }
@@ -125,9 +139,10 @@ impl Vars {
         ensures err { OnErr result (self.new ≡ self.old) }
     {
         let next = self.next.checked_add(1).ok_or(NoMemory)?;
-        let held = Held::of(self.alloc, self.next, Var::Int(name, n))?;
-        add(&mut self.all, &mut self.ints, name, held)?;
+        let held = Held::of(self.alloc, Var::Int(name, n))?;
+        add(&mut self.slots, &mut self.ints, name, self.next, held)?;
         self.next = next;
+        self.live += 1;
         Ok(())
     }
 
@@ -138,9 +153,10 @@ impl Vars {
         ensures err { OnErr result (self.new ≡ self.old) }
     {
         let next = self.next.checked_add(1).ok_or(NoMemory)?;
-        let held = Held::of(self.alloc, self.next, Var::Text(name, text))?;
-        add(&mut self.all, &mut self.texts, name, held)?;
+        let held = Held::of(self.alloc, Var::Text(name, text))?;
+        add(&mut self.slots, &mut self.texts, name, self.next, held)?;
         self.next = next;
+        self.live += 1;
         Ok(())
     }
 
@@ -162,10 +178,10 @@ impl Vars {
         ensures ok { OnOk result (self.new ≡ put (IntVar name.now n) self.old) }
         ensures err { OnErr result (self.new ≡ self.old) }
     {
-        match find(&self.all, &self.ints, name) {
+        match find(&self.slots, &self.ints, name) {
             None => self.push_int(name, n),
             Some(i) => {
-                self.all[i].content = Content::Int(n);
+                write(&mut self.slots[i], Content::Int(n));
                 Ok(())
             }
         }
@@ -176,11 +192,11 @@ impl Vars {
         ensures ok { OnOk result (self.new ≡ put (TextVar name.now text.now) self.old) }
         ensures err { OnErr result (self.new ≡ self.old) }
     {
-        match find(&self.all, &self.texts, name) {
+        match find(&self.slots, &self.texts, name) {
             None => self.push_text(name, text),
             Some(i) => {
                 let new = Items::of_slice(self.alloc, text)?;
-                self.all[i].content = Content::Text(new);
+                write(&mut self.slots[i], Content::Text(new));
                 Ok(())
             }
         }
@@ -198,13 +214,29 @@ impl Vars {
         }
     }
 
+    /// Lets the empty slots go where they are more than half of all, so that they cost no more than
+    /// the variables that were taken out.
+    fn settle(&mut self)
+        ensures same { self.new ≡ self.old }
+    {
+        if self.live < self.slots.len() / 2 {
+            self.slots.retain(
+                |_stamp: &usize, slot: &mut Option<Held>| -> bool
+                    ensures { (result ≡ is_some slot.old) × (slot.new ≡ slot.old) }
+                { slot.is_some() },
+            );
+        }
+    }
+
     /// Takes the int of a name out; the others keep their order.
     pub fn delete_int(&mut self, name: &[u8])
         ensures gone { self.new ≡ filter (λ v. not (is_int name.now v)) self.old }
     {
-        if let Some(i) = find(&self.all, &self.ints, name) {
+        if let Some(i) = find(&self.slots, &self.ints, name) {
             self.ints.remove(name);
-            self.all.remove(i);
+            self.slots[i] = None;
+            self.live -= 1;
+            self.settle();
         }
     }
 
@@ -212,9 +244,11 @@ impl Vars {
     pub fn delete_text(&mut self, name: &[u8])
         ensures gone { self.new ≡ filter (λ v. not (is_text name.now v)) self.old }
     {
-        if let Some(i) = find(&self.all, &self.texts, name) {
+        if let Some(i) = find(&self.slots, &self.texts, name) {
             self.texts.remove(name);
-            self.all.remove(i);
+            self.slots[i] = None;
+            self.live -= 1;
+            self.settle();
         }
     }
 
@@ -222,6 +256,6 @@ impl Vars {
     pub fn keeps(&self)
         ensures distinct { IsDistinct same_variable self.now }
     {
-        let _ = &self.all;
+        let _ = &self.slots;
     }
 }

@@ -7,7 +7,12 @@ use Rattle.nss_include.specs.declared.file.Source.{Source}
 use Rattle.nss_include.specs.declared.step.Span.{Span}
 use Rattle.nss_include.specs.Steps.{lexeme_in}
 use Rattle.nss_include.specs.Units.{is_among, HaveDistinctNames, source}
-use Rattle.nss_include.specs.View.{IsSpan, StandsIn, lexeme_of, bytes_of}
+use Rattle.nss_include.specs.View.{IsSpan, StandsIn, IsSound, HasNames, lexeme_of, bytes_of, file_count_limit}
+use Rattle.nwq_value.specs.Limits.{file_limit}
+use Rattle.std.proofs.lemmas.List.{length_push}
+use Rattle.nwq_value.specs.Index.{number_under, Puts}
+use Rattle.std.specs.Cmp.Lexicographic.{nat_list_eq_equiv}
+use Rattle.std.specs.Prelude.{Some, is_some, if◌then◌else◌}
 
 -- what a list has at a place stays where the list grows
 pub slice_get-append : {A : Type 0} (xs ys : List A) (i : ℕ) → i < length xs → slice_get (xs ++ ys) i ≡ slice_get xs i
@@ -72,3 +77,36 @@ lexemes_stay files more (span ∷ spans) h =
 pub stand_in : (files : List Source) (spans : List Span) → AllByRecursion (IsSpan files) spans → AllByRecursion (StandsIn files) (map (lexeme_of files) spans)
 stand_in files [] h = tt
 stand_in files (span ∷ spans) h = (record { file = h.0.file; order = h.0.order; within = h.0.within }, stand_in files spans h.1)
+
+-- the names with that of one more file
+pub names_more : (files : List Source) (file : Source) (n : ℕ) (old new : List (List ℕ × ℕ)) → HasNames files old → Puts file.name (Some n) old new → HasNames (files ++ file ∷ []) new
+unfolding is_among
+names_more files file n old new has put name = ap is_some (put name) ∙ by (bytes_eq name file.name) refl ∙ sym (among_last files)
+  where
+    among_last : (fs : List Source) → list_any (λ f. bytes_eq f.name name) (fs ++ file ∷ []) ≡ (bytes_eq name file.name || list_any (λ f. bytes_eq f.name name) fs)
+    among_last [] = ap (λ b. b || false) (nat_list_eq_equiv.symm file.name name)
+    among_last (f ∷ fs) = ap (λ b. bytes_eq f.name name || b) (among_last fs) ∙ swapped (bytes_eq f.name name) (bytes_eq name file.name) (list_any (λ g. bytes_eq g.name name) fs)
+      where
+        swapped : (a b c : Bool) → (a || (b || c)) ≡ (b || (a || c))
+        swapped true true c = refl
+        swapped true false c = refl
+        swapped false b c = refl
+
+    by : (b : Bool) → bytes_eq name file.name ≡ b → is_some (if b then Some n else number_under name old) ≡ (b || list_any (λ f. bytes_eq f.name name) files)
+    by true is = refl
+    by false is = has name
+
+pub no_names : (names : List (List ℕ × ℕ)) → names ≡ [] → HasNames [] names
+unfolding is_among
+no_names names none name = ap (λ ns. is_some (number_under name ns)) none
+
+pub sound_more : (files : List Source) (file : Source) (spans : List Span) → length file.bytes ≤ file_limit → length files < file_count_limit → IsSound files spans → IsSound (files ++ file ∷ []) spans
+sound_more files file spans size few sound = record {
+  sizes = all_push (λ f. length f.bytes ≤ file_limit) files file sound.sizes size;
+  few = omega (arith, few, length_push files file);
+  short = sound.short;
+  inside = all_map (IsSpan files) (IsSpan (files ++ file ∷ [])) spans (span_stays files (file ∷ [])) sound.inside;
+}
+
+pub sound_none : (files : List Source) (spans : List Span) → files ≡ [] → spans ≡ [] → IsSound files spans
+sound_none files spans p q = rw (p, q) (record { sizes = tt; few = omega arith; short = omega arith; inside = tt })

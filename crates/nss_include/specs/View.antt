@@ -1,12 +1,14 @@
 -- A unit as contracts see it, and what each unit keeps.
-use Rattle.std.specs.Prelude.{ℕ, ◌<◌, ◌≤◌, List, [], length, slice_get, Option, Some, None}
+use Rattle.std.specs.Prelude.{◌≡◌, ℕ, ◌<◌, ◌≤◌, List, [], length, slice_get, Option, Some, None, is_some}
 use Rattle.std.specs.List.{AllByRecursion}
 use Rattle.nwq_value.specs.Limits.{file_limit, token_limit}
 use Rattle.nss_lexer.specs.Lexemes.{IsLexeme}
 use Rattle.nss_lexer.specs.Splitting.{Lexeme}
 use Rattle.nss_include.specs.declared.file.Source.{Source}
 use Rattle.nss_include.specs.declared.step.Span.{Span}
+use Rattle.nwq_value.specs.Index.{number_under}
 use Rattle.nss_include.specs.Steps.{lexeme_in}
+use Rattle.nss_include.specs.Units.{is_among}
 
 -- the files of a unit, in order of first mention, and its tokens
 pub record Gathered : Type 0 where
@@ -45,3 +47,7 @@ pub record IsSound (files : List Source) (spans : List Span) : Type 0 where
   pub few : length files ≤ file_count_limit
   pub short : length spans ≤ token_limit
   pub inside : AllByRecursion (IsSpan files) spans
+
+-- an index has the names of these files, and no others
+abbrev pub HasNames : List Source → List (List ℕ × ℕ) → Type 0
+HasNames files names = (name : List ℕ) → is_some (number_under name names) ≡ is_among files name

@@ -7,33 +7,52 @@ ghost use Rattle.nss_lexer.specs.Lexemes.{IsToken};
 ghost use Rattle.nss_lexer.specs.Splitting.{plain};
 ghost use Rattle.nss_include.specs.Names.{spot_in};
 ghost use Rattle.nss_include.specs.Units.{is_among, source};
-ghost use Rattle.nss_include.specs.View.{IsSpan, StandsIn, lexeme_of, bytes_of, file_count_limit};
+ghost use Rattle.nss_include.specs.View.{IsSpan, StandsIn, HasNames, lexeme_of, bytes_of};
+ghost use Rattle.nss_include.specs.View.{file_count_limit};
 
 use crate::fault::Spot;
 use crate::file::Source;
 use crate::step::Span;
 use nss_lexer::Token;
 use nwq_text::line_of;
-use nwq_value::{Items, NoMemory, Text};
+use nwq_value::{Items, NameIndex, NoMemory, Text};
 use std::alloc::Global;
 use std::marker::Model;
 
 /// The files of a script and its includes, and their tokens in a row.
 #[derive(Drop)]
 pub struct Unit {
-    files: Items<Source>,
+    files: Vec<Source>,
+    /// The names of the files, each with a number that nothing asks for.
+    names: NameIndex,
     spans: Items<Span>,
 }
 
 impl Model for Unit {
     ghost use Rattle.std.specs.Prelude.{map};
-    ghost use Rattle.nss_include.specs.View.{Gathered, lexeme_of, IsSound};
+    ghost use Rattle.nss_include.specs.View.{Gathered, lexeme_of, IsSound, HasNames};
 
     ghost Value = { Gathered };
 
-    ghost view = { λ u. record { files = u.files; tokens = map (lexeme_of u.files) u.spans } };
+    ghost view = { λ u. record {
+      files = u.files.items;
+      tokens = map (lexeme_of u.files.items) u.spans;
+    } };
 
-    ghost invariant = { λ u. IsSound u.files u.spans };
+    ghost invariant = { λ u. IsSound u.files.items u.spans × HasNames u.files.items u.names };
+}
+
+/// Puts a file last, and its name to the names. With room for the file nothing is to be undone.
+fn push_file(files: &mut Vec<Source>, names: &mut NameIndex, file: Source) -> Result<(), NoMemory>
+    requires names { HasNames files.old.items names.old }
+    ensures ok { OnOk result (files.new.items ≡ files.old.items ++ file ∷ []) }
+    ensures err { OnErr result (files.new.items ≡ files.old.items) }
+    ensures names { HasNames files.new.items names.new }
+{
+    files.reserve(1)?;
+    names.set(file.name.as_slice(), files.len())?;
+    files.push(file)?;
+    Ok(())
 }
 
 impl Unit {
@@ -42,7 +61,8 @@ impl Unit {
         ensures { result ≡ record { files = []; tokens = [] } }
     {
         Unit {
-            files: Items::new(alloc),
+            files: Vec::new(alloc),
+            names: NameIndex::new(alloc),
             spans: Items::new(alloc),
         }
     }
@@ -86,14 +106,10 @@ impl Unit {
     }
 
     /// Whether a file of this name is in the unit.
-    #[tactic(auto, unfolding(crate::specs::Units::is_among))]
     pub(crate) fn has(&self, name: &[u8]) -> bool
         ensures { result ≡ is_among self.now.files name.now }
     {
-        self.files
-            .as_slice()
-            .iter()
-            .any(|file| file.name.as_slice() == name)
+        self.names.get(name).is_some()
     }
 
     /// Puts a file last.
@@ -106,7 +122,7 @@ impl Unit {
         }) }
         ensures err { OnErr result (self.new ≡ self.old) }
     {
-        self.files.push(Source { name, bytes })?;
+        push_file(&mut self.files, &mut self.names, Source { name, bytes })?;
         Ok(())
     }
 

@@ -7,15 +7,15 @@ use Rattle.local_variables.proofs.KeptLemmas.{no_int, int_written, put_ok}
 use Rattle.local_variables.proofs.vars.Vars.set_int.Goals as goal
 
 pub push_int-requires : goal.push_int-requires
-push_int-requires c = record { new = (no_int c.args.name.now c.self.invariant c.self.view_is c.deref.ensures.value c.in-None.ensures.place).1 }
+push_int-requires c = record { new = (no_int c.args.name.now c.self.invariant c.self.view_is c.in-None.ensures.place).1 }
 
 pub returns-in-None-clause-ok : goal.returns-in-None-clause-ok
 returns-in-None-clause-ok c =
-    let none = (no_int c.args.name.now c.self.invariant c.self.view_is c.deref.ensures.value c.in-None.ensures.place).1 in
+    let none = (no_int c.args.name.now c.self.invariant c.self.view_is c.in-None.ensures.place).1 in
     put_ok c.push_int.new.self _ _ c.push_int.result (put_last (IntVar c.args.name.now c.args.n) c.args.self.now none ∙ ap (λ m. c.args.self.now ++ IntVar c.args.name.now m ∷ []) (sym (to_z-of_z w32 c.args.n c.ranges.n))) c.push_int.ensures.ok
 
 pub invariant_of-self : goal.invariant_of-self
-invariant_of-self c = (int_written c.args.name.now c.self.invariant c.self.view_is c.deref.ensures.value c.args.n c.in-Some.ensures.place c.index_mut.ensures.value (search rules)).kept
+invariant_of-self c = (int_written c.args.name.now c.self.invariant c.self.view_is c.args.n c.in-Some.ensures.place c.index_mut.ensures.value (search rules) c.write.ensures).kept
 
 pub returns-in-Some-clause-ok : goal.returns-in-Some-clause-ok
-returns-in-Some-clause-ok c = (int_written c.args.name.now c.self.invariant c.self.view_is c.deref.ensures.value c.args.n c.in-Some.ensures.place c.index_mut.ensures.value (search rules)).view
+returns-in-Some-clause-ok c = (int_written c.args.name.now c.self.invariant c.self.view_is c.args.n c.in-Some.ensures.place c.index_mut.ensures.value (search rules) c.write.ensures).view

@@ -4,15 +4,15 @@ use Rattle.local_variables.proofs.KeptLemmas.{no_text, text_written, put_ok}
 use Rattle.local_variables.proofs.vars.Vars.set_text.Goals as goal
 
 pub push_text-requires : goal.push_text-requires
-push_text-requires c = record { new = (no_text c.args.name.now c.self.invariant c.self.view_is c.deref.ensures.value c.in-None.ensures.place).1 }
+push_text-requires c = record { new = (no_text c.args.name.now c.self.invariant c.self.view_is c.in-None.ensures.place).1 }
 
 pub returns-in-None-clause-ok : goal.returns-in-None-clause-ok
 returns-in-None-clause-ok c =
-    let none = (no_text c.args.name.now c.self.invariant c.self.view_is c.deref.ensures.value c.in-None.ensures.place).1 in
+    let none = (no_text c.args.name.now c.self.invariant c.self.view_is c.in-None.ensures.place).1 in
     put_ok c.push_text.new.self _ _ c.push_text.result (put_last (TextVar c.args.name.now c.args.text.now) c.args.self.now none) c.push_text.ensures.ok
 
 pub invariant_of-self : goal.invariant_of-self
-invariant_of-self c = (text_written c.args.name.now c.self.invariant c.self.view_is c.deref.ensures.value c.args.text.now c.in-Some.ensures.place c.index_mut.ensures.value c.in_ok-new-in-Some.ensures.ok).kept
+invariant_of-self c = (text_written c.args.name.now c.self.invariant c.self.view_is c.args.text.now c.in-Some.ensures.place c.index_mut.ensures.value c.in_ok-new-in-Some.ensures.ok c.write.ensures).kept
 
 pub returns-in_ok-new-in-Some-clause-ok : goal.returns-in_ok-new-in-Some-clause-ok
-returns-in_ok-new-in-Some-clause-ok c = (text_written c.args.name.now c.self.invariant c.self.view_is c.deref.ensures.value c.args.text.now c.in-Some.ensures.place c.index_mut.ensures.value c.in_ok-new-in-Some.ensures.ok).view
+returns-in_ok-new-in-Some-clause-ok c = (text_written c.args.name.now c.self.invariant c.self.view_is c.args.text.now c.in-Some.ensures.place c.index_mut.ensures.value c.in_ok-new-in-Some.ensures.ok c.write.ensures).view

@@ -1,5 +1,5 @@
 use Rattle.area_tree.proofs.ReadLemmas.{scripts_next}
-use Rattle.area_tree.proofs.object.read_scripts.Goals as goal
+use Rattle.area_tree.proofs.scripts.add_scripts.Goals as goal
 
 pub loop-field-preserved : goal.loop-field-preserved
 loop-field-preserved c =
