@@ -10,11 +10,15 @@
 #![tactic(auto)]
 
 pub mod answer;
+pub mod counts;
+mod disk;
+mod links;
 pub mod memory;
 pub mod real;
 pub mod traits;
 
 pub use answer::{Done, Read};
+pub use counts::{CountOf, FileCounts};
 pub use memory::{MemFiles, MemSink};
-pub use real::{RealFiles, RealSink};
+pub use real::{RealFiles, RealSink, Trouble};
 pub use traits::{Files, Sink};
