@@ -26,7 +26,7 @@ use Rattle.nss_include.specs.Walks.{Walks, step_fault, ends, fails, gives, again
 use Rattle.nss_include.specs.View.{lexeme_of, bytes_of}
 use Rattle.nss_include.proofs.PieceLemmas.{reads, of_file}
 use Rattle.nss_include.proofs.UnitLemmas.{bytes_stay, all_map, all_push, distinct_more}
-use Rattle.nwq_outside.specs.Outside.{FileCounts}
+use Rattle.nwq_outside.specs.declared.counts.FileCounts.{FileCounts}
 use Rattle.nss_include.specs.Gather.{HoldsFiles, Claims, CountsGathered}
 use Rattle.nss_include.specs.Progress.{Rest, closed, stops, goes, Ends, Leads, Stops, HasStep, Explains, ExplainsRead, IsReadFault, ReadFails, Includes, IsOpen, IsReady, IsOwnFault, Begins, ComesTo, Extends, RunSoFar, Advances, StopsBy, Halts, passed, reopened}
 
