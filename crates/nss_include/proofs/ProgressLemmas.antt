@@ -510,8 +510,8 @@ halts-own tells outside r (Bad spot) own _ = absurd own
 halts-own tells outside r (Include spot) own _ = absurd own
 
 pub counts-own : (A : Type 0) (fault : GatherFault) (counts : FileCounts) → IsOwnFault fault → CountsGathered {A = A} (Err fault) counts counts
-counts-own A (Tokens spot) counts own = (refl, refl, refl)
-counts-own A NoMemory counts own = (refl, refl, refl)
+counts-own A (Tokens spot) counts own = refl
+counts-own A NoMemory counts own = refl
 counts-own A (Missing name) counts own = absurd own
 counts-own A (Long name) counts own = absurd own
 counts-own A Fault counts own = absurd own

@@ -57,10 +57,10 @@ CountsWrite done.Failed before now = Rose Faults before now
 CountsWrite done.NoMemory before now = NoneRose before now
 
 -- what a sink's count of faults is after a put with this answer
-abbrev pub CountsPut : Done → ℕ → ℕ → Type 0
-CountsPut done.Ok before now = now ≡ before
-CountsPut done.Failed before now = Rises before now
-CountsPut done.NoMemory before now = now ≡ before
+abbrev pub CountsDone : Done → ℕ → ℕ → Type 0
+CountsDone done.Ok before now = now ≡ before
+CountsDone done.Failed before now = Rises before now
+CountsDone done.NoMemory before now = now ≡ before
 
 -- what stands under each name are bytes
 unfoldable pub AreBytes : Contents → Type 0

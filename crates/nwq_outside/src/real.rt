@@ -190,7 +190,7 @@ impl<W: Write> RealSink<W> {
 }
 
 impl<W: Write> Sink for RealSink<W> {
-    ghost use Rattle.nwq_outside.specs.Outside.{CountsPut};
+    ghost use Rattle.nwq_outside.specs.Outside.{CountsDone};
     ghost use Rattle.nwq_outside.specs.Written.{Hands};
 
     ghost tells = { false };
@@ -201,7 +201,7 @@ impl<W: Write> Sink for RealSink<W> {
 
     /// A writer that takes nothing of a piece that is not empty is a fault, as `write_all` has it.
     fn put(&mut self, piece: &[u8]) -> Done
-        ensures counts { CountsPut result self.old.faults self.new.faults }
+        ensures counts { CountsDone result self.old.faults self.new.faults }
         ensures hands { Hands piece.now self.old.known self.new.known result }
     {
         match self.writer.write_all(piece) {

@@ -1,7 +1,7 @@
 ghost use Rattle.std.specs.Prelude.{◌≡◌, ℕ, Bool, List, IsTrue};
 ghost use Rattle.std.specs.FinMap as map;
 ghost use Rattle.nwq_outside.specs.declared.counts.FileCounts.{FileCounts};
-ghost use Rattle.nwq_outside.specs.Outside.{Contents, AreBytes, CountsRead, CountsWrite, CountsPut};
+ghost use Rattle.nwq_outside.specs.Outside.{Contents, AreBytes, CountsRead, CountsWrite, CountsDone};
 ghost use Rattle.nwq_outside.specs.Outside.{ReadsContent, IsFileSize, KeepsOthers, Leaves, Takes};
 
 use crate::answer::{Done, Read};
@@ -53,5 +53,5 @@ pub trait Sink {
     /// Takes the piece after what was taken before.
     fn put(&mut self, piece: &[u8]) -> Done
         ensures taken { IsTrue tells → Takes piece.now (taken self.old) (taken self.new) result }
-        ensures counts { CountsPut result (faults self.old) (faults self.new) };
+        ensures counts { CountsDone result (faults self.old) (faults self.new) };
 }
