@@ -5,6 +5,7 @@ ghost use Rattle.nwq_outside.specs.Outside.{Contents};
 ghost use Rattle.typing_rules.specs.UnitReading.{typed_unit};
 ghost use Rattle.emission_rules.specs.Units.{unit_file};
 ghost use Rattle.typing_laws.specs.Laws.{HasCode};
+ghost use Rattle.nwq_outside.specs.declared.counts.FileCounts.{FileCounts};
 ghost use Rattle.command_work.specs.Work.{Does, CutsShort};
 ghost use Rattle.command_work.specs.Counts.{Counted, Tallies, Refusing, StopsSource, KeepsBut};
 ghost use Rattle.command_sources.specs.Scripts.{plain_script};
@@ -42,9 +43,8 @@ fn file_of<S: Sink>(alloc: Global, script: &TypedScript, out: &mut S) -> Result<
     ensures does { IsTrue S.tells → (c : Contents) →
         Does (file_in script.now.unit.files (typed_unit script.now.typed)) c
         (S.taken out.old) result c (S.taken out.new) }
-    ensures counts { (faults absences longs : ℕ) → Tallies result
-        (Counted faults absences longs (S.faults out.old))
-        (Counted faults absences longs (S.faults out.new)) }
+    ensures counts { (counts : FileCounts) → Tallies result (Counted counts (S.faults out.old))
+        (Counted counts (S.faults out.new)) }
     ensures small { IfOk result (λ bytes. length bytes ≤ file_limit) }
     ensures only { IfErr result (Refusing Status.Script) }
 {
@@ -66,9 +66,8 @@ pub fn compile_script<S: Sink>(
     ensures does { IsTrue S.tells → (c : Contents) →
         Does (compiled_in table.now (plain_script script)) c
         (S.taken out.old) result c (S.taken out.new) }
-    ensures counts { (faults absences longs : ℕ) → Tallies result
-        (Counted faults absences longs (S.faults out.old))
-        (Counted faults absences longs (S.faults out.new)) }
+    ensures counts { (counts : FileCounts) → Tallies result (Counted counts (S.faults out.old))
+        (Counted counts (S.faults out.new)) }
     ensures small { IfOk result (λ bytes. length bytes ≤ file_limit) }
     ensures only { IfErr result (Refusing Status.Script) }
 {
@@ -90,10 +89,8 @@ pub fn read_compiled<F: Files, S: Sink>(
     ensures does { IsTrue F.tells → IsTrue S.tells →
         Does (compiled_named table.now script.now) (F.contents files.old) (S.taken out.old)
         result (F.contents files.new) (S.taken out.new) }
-    ensures counts { Tallies result
-        (Counted (F.faults files.old) (F.absences files.old) (F.longs files.old) (S.faults out.old))
-        (Counted (F.faults files.new) (F.absences files.new)
-        (F.longs files.new) (S.faults out.new)) }
+    ensures counts { Tallies result (Counted (F.counts files.old) (S.faults out.old))
+        (Counted (F.counts files.new) (S.faults out.new)) }
     ensures same { F.contents files.new ≡ F.contents files.old }
     ensures small { IfOk result (λ bytes. length bytes ≤ file_limit) }
     ensures only { IfErr result StopsSource }
@@ -126,10 +123,8 @@ fn write_code<F: Files, S: Sink>(
     ensures does { IsTrue F.tells → IsTrue S.tells →
         Does (writes_code script.now bytes.now) (F.contents files.old) (S.taken out.old)
         result (F.contents files.new) (S.taken out.new) }
-    ensures counts { Tallies result
-        (Counted (F.faults files.old) (F.absences files.old) (F.longs files.old) (S.faults out.old))
-        (Counted (F.faults files.new) (F.absences files.new)
-        (F.longs files.new) (S.faults out.new)) }
+    ensures counts { Tallies result (Counted (F.counts files.old) (S.faults out.old))
+        (Counted (F.counts files.new) (S.faults out.new)) }
     ensures names { KeepsBut (λ other. other ≡ code_name script.now)
         (F.contents files.old) (F.contents files.new) }
     ensures only { IfErr result CutsShort }
@@ -155,10 +150,8 @@ fn compile_under<F: Files, S: Sink>(
     ensures does { IsTrue F.tells → IsTrue S.tells →
         Does (compiles_under script.now table.now) (F.contents files.old) (S.taken out.old)
         result (F.contents files.new) (S.taken out.new) }
-    ensures counts { Tallies result
-        (Counted (F.faults files.old) (F.absences files.old) (F.longs files.old) (S.faults out.old))
-        (Counted (F.faults files.new) (F.absences files.new)
-        (F.longs files.new) (S.faults out.new)) }
+    ensures counts { Tallies result (Counted (F.counts files.old) (S.faults out.old))
+        (Counted (F.counts files.new) (S.faults out.new)) }
     ensures names { KeepsBut (λ other. other ≡ code_name script.now)
         (F.contents files.old) (F.contents files.new) }
     ensures only { IfErr result StopsSource }
@@ -181,10 +174,8 @@ pub fn compile_file<F: Files, S: Sink>(
     ensures does { IsTrue F.tells → IsTrue S.tells →
         Does (compiles header.now script.now) (F.contents files.old) (S.taken out.old)
         result (F.contents files.new) (S.taken out.new) }
-    ensures counts { Tallies result
-        (Counted (F.faults files.old) (F.absences files.old) (F.longs files.old) (S.faults out.old))
-        (Counted (F.faults files.new) (F.absences files.new)
-        (F.longs files.new) (S.faults out.new)) }
+    ensures counts { Tallies result (Counted (F.counts files.old) (S.faults out.old))
+        (Counted (F.counts files.new) (S.faults out.new)) }
     ensures names { KeepsBut (λ other. other ≡ code_name script.now)
         (F.contents files.old) (F.contents files.new) }
     ensures only { IfErr result StopsSource }

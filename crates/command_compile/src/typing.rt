@@ -7,6 +7,7 @@ ghost use Rattle.typing_rules.specs.UnitReading.{typed_unit};
 ghost use Rattle.nss_types.specs.Answers.{IsFaultOf};
 ghost use Rattle.typing_laws.specs.Laws.{HasCode};
 ghost use Rattle.nwq_outside.specs.Outside.{Contents};
+ghost use Rattle.nwq_outside.specs.declared.counts.FileCounts.{FileCounts};
 ghost use Rattle.command_work.specs.Work.{Does};
 ghost use Rattle.command_work.specs.Counts.{Counted, Tallies, Refusing};
 ghost use Rattle.command_sources.specs.Scripts.{plain_script};
@@ -67,9 +68,8 @@ pub fn type_script<S: Sink>(
         (S.taken out.old) (plain_answer result) c (S.taken out.new) }
     ensures same { IfOk result (λ typed. typed.unit ≡ script.unit) }
     ensures code { IfOk result (λ typed. HasCode (typed_unit typed.typed)) }
-    ensures counts { (faults absences longs : ℕ) → Tallies result
-        (Counted faults absences longs (S.faults out.old))
-        (Counted faults absences longs (S.faults out.new)) }
+    ensures counts { (counts : FileCounts) → Tallies result (Counted counts (S.faults out.old))
+        (Counted counts (S.faults out.new)) }
     ensures only { IfErr result (Refusing Status.Script) }
 {
     let Script { unit, tree } = script;

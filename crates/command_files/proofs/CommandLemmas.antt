@@ -1,5 +1,6 @@
 -- A file is written, and then a line is put.
 use Rattle.std.proofs.Common.{◌≡◌, ℕ, List, Result, Ok, subst}
+use Rattle.nwq_outside.specs.declared.counts.FileCounts.{FileCounts}
 use Rattle.nwq_outside.specs.Outside.{Contents}
 use Rattle.command_work.specs.declared.status.Status.{Status}
 use Rattle.command_work.specs.Work.{Does, Finished, puts, writes}
@@ -13,8 +14,6 @@ unfolding writes_and_puts
 written_told name bytes line done r c c1 t t' wrote told =
     then_ok (writes name bytes) (λ d. puts line) done c c1 c1 t t t' r wrote (puts_does line r c1 t t' told)
 
-pub written_counted : (faults absences longs faults' absences' longs' put put' : ℕ) (r : Result Finished Status)
-    → ((p : ℕ) → Counted faults' absences' longs' p ≡ Counted faults absences longs p) → Tallies r (Counted faults' absences' longs' put) (Counted faults' absences' longs' put')
-    → Tallies r (Counted faults absences longs put) (Counted faults' absences' longs' put')
-written_counted faults absences longs faults' absences' longs' put put' r same tallies =
-    subst (λ before. Tallies r before (Counted faults' absences' longs' put')) (same put) tallies
+pub written_counted : (files files' : FileCounts) (put put' : ℕ) (r : Result Finished Status) → ((p : ℕ) → Counted files' p ≡ Counted files p)
+    → Tallies r (Counted files' put) (Counted files' put') → Tallies r (Counted files put) (Counted files' put')
+written_counted files files' put put' r same tallies = subst (λ before. Tallies r before (Counted files' put')) (same put) tallies

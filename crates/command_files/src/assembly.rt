@@ -1,6 +1,7 @@
 ghost use Rattle.std.specs.Prelude.{◌≡◌, ◌≤◌, ℕ, length, IsTrue, IfErr};
 ghost use Rattle.nwq_value.specs.Limits.{file_limit};
 ghost use Rattle.nwq_outside.specs.Outside.{Contents};
+ghost use Rattle.nwq_outside.specs.declared.counts.FileCounts.{FileCounts};
 ghost use Rattle.command_work.specs.Work.{Does};
 ghost use Rattle.command_work.specs.Counts.{Counted, Tallies, Refusing, StopsCode};
 ghost use Rattle.command_files.specs.Assemblies.{asm_flaw, assembly_in, assembly_named};
@@ -34,9 +35,8 @@ fn assembly_of_text<S: Sink>(
     requires { length text.now ≤ file_limit }
     ensures does { IsTrue S.tells → (c : Contents) →
         Does (assembly_in name.now text.now) c (S.taken out.old) result c (S.taken out.new) }
-    ensures counts { (faults absences longs : ℕ) → Tallies result
-        (Counted faults absences longs (S.faults out.old))
-        (Counted faults absences longs (S.faults out.new)) }
+    ensures counts { (counts : FileCounts) → Tallies result (Counted counts (S.faults out.old))
+        (Counted counts (S.faults out.new)) }
     ensures only { IfErr result (Refusing Status.Code) }
 {
     match assemble(alloc, text) {
@@ -59,10 +59,8 @@ pub fn read_assembly<F: Files, S: Sink>(
     ensures does { IsTrue F.tells → IsTrue S.tells →
         Does (assembly_named name.now) (F.contents files.old) (S.taken out.old)
         result (F.contents files.new) (S.taken out.new) }
-    ensures counts { Tallies result
-        (Counted (F.faults files.old) (F.absences files.old) (F.longs files.old) (S.faults out.old))
-        (Counted (F.faults files.new) (F.absences files.new)
-        (F.longs files.new) (S.faults out.new)) }
+    ensures counts { Tallies result (Counted (F.counts files.old) (S.faults out.old))
+        (Counted (F.counts files.new) (S.faults out.new)) }
     ensures same { F.contents files.new ≡ F.contents files.old }
     ensures only { IfErr result StopsCode }
 {

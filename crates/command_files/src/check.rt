@@ -2,6 +2,7 @@ ghost use Rattle.std.specs.Prelude.{◌≡◌, ◌++◌, ℕ, length, codes, dec
 ghost use Rattle.nwq_outside.specs.Outside.{Contents};
 ghost use Rattle.stack_rules.specs.Rules.{MeetsRules};
 ghost use Rattle.stack_check.specs.Checked.{kept_table};
+ghost use Rattle.nwq_outside.specs.declared.counts.FileCounts.{FileCounts};
 ghost use Rattle.command_work.specs.Work.{Does, CutsShort};
 ghost use Rattle.command_work.specs.Counts.{Counted, Tallies, Refusing, StopsCode};
 ghost use Rattle.command_files.specs.Checks.{checked_in, checked_named, plain_answer};
@@ -30,9 +31,8 @@ pub fn check_code<S: Sink>(
     ensures does { IsTrue S.tells → (c : Contents) →
         Does (checked_in table.now name.now code) c
         (S.taken out.old) (plain_answer result) c (S.taken out.new) }
-    ensures counts { (faults absences longs : ℕ) → Tallies result
-        (Counted faults absences longs (S.faults out.old))
-        (Counted faults absences longs (S.faults out.new)) }
+    ensures counts { (counts : FileCounts) → Tallies result (Counted counts (S.faults out.old))
+        (Counted counts (S.faults out.new)) }
     ensures meets { IfOk result (λ checked.
         MeetsRules table.now checked.code (kept_table checked)) }
     ensures only { IfErr result (Refusing Status.Code) }
@@ -56,10 +56,8 @@ pub fn read_checked<F: Files, S: Sink>(
     ensures does { IsTrue F.tells → IsTrue S.tells →
         Does (checked_named table.now name.now) (F.contents files.old) (S.taken out.old)
         (plain_answer result) (F.contents files.new) (S.taken out.new) }
-    ensures counts { Tallies result
-        (Counted (F.faults files.old) (F.absences files.old) (F.longs files.old) (S.faults out.old))
-        (Counted (F.faults files.new) (F.absences files.new)
-        (F.longs files.new) (S.faults out.new)) }
+    ensures counts { Tallies result (Counted (F.counts files.old) (S.faults out.old))
+        (Counted (F.counts files.new) (S.faults out.new)) }
     ensures same { F.contents files.new ≡ F.contents files.old }
     // The code is well stacked by the table that is kept.
     ensures meets { IfOk result (λ checked.
@@ -87,9 +85,8 @@ fn passed_line(alloc: Global, count: u32) -> Result<Vec<u8>, NoMemory>
 fn put_passed<S: Sink>(alloc: Global, checked: &Checked, out: &mut S) -> Result<(), Status>
     ensures does { IsTrue S.tells → (c : Contents) →
         Does (puts_passed checked.now.code) c (S.taken out.old) result c (S.taken out.new) }
-    ensures counts { (faults absences longs : ℕ) → Tallies result
-        (Counted faults absences longs (S.faults out.old))
-        (Counted faults absences longs (S.faults out.new)) }
+    ensures counts { (counts : FileCounts) → Tallies result (Counted counts (S.faults out.old))
+        (Counted counts (S.faults out.new)) }
     ensures only { IfErr result CutsShort }
 {
     put(passed_line(alloc, checked.code().count()), out)
@@ -107,10 +104,8 @@ fn check_under<F: Files, S: Sink>(
     ensures does { IsTrue F.tells → IsTrue S.tells →
         Does (checks_under name.now table.now) (F.contents files.old) (S.taken out.old)
         result (F.contents files.new) (S.taken out.new) }
-    ensures counts { Tallies result
-        (Counted (F.faults files.old) (F.absences files.old) (F.longs files.old) (S.faults out.old))
-        (Counted (F.faults files.new) (F.absences files.new)
-        (F.longs files.new) (S.faults out.new)) }
+    ensures counts { Tallies result (Counted (F.counts files.old) (S.faults out.old))
+        (Counted (F.counts files.new) (S.faults out.new)) }
     ensures same { F.contents files.new ≡ F.contents files.old }
     ensures only { IfErr result StopsCode }
 {
@@ -132,10 +127,8 @@ pub fn check_file<F: Files, S: Sink>(
     ensures does { IsTrue F.tells → IsTrue S.tells →
         Does (checks header.now name.now) (F.contents files.old) (S.taken out.old)
         result (F.contents files.new) (S.taken out.new) }
-    ensures counts { Tallies result
-        (Counted (F.faults files.old) (F.absences files.old) (F.longs files.old) (S.faults out.old))
-        (Counted (F.faults files.new) (F.absences files.new)
-        (F.longs files.new) (S.faults out.new)) }
+    ensures counts { Tallies result (Counted (F.counts files.old) (S.faults out.old))
+        (Counted (F.counts files.new) (S.faults out.new)) }
     ensures same { F.contents files.new ≡ F.contents files.old }
     ensures only { IfErr result StopsCheck }
 {

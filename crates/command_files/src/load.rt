@@ -4,6 +4,7 @@ ghost use Rattle.nwq_value.specs.Limits.{file_limit};
 ghost use Rattle.nwq_outside.specs.Outside.{Contents};
 ghost use Rattle.stack_rules.specs.Rules.{MeetsRules};
 ghost use Rattle.stack_check.specs.Checked.{kept_table};
+ghost use Rattle.nwq_outside.specs.declared.counts.FileCounts.{FileCounts};
 ghost use Rattle.command_work.specs.Work.{Does};
 ghost use Rattle.command_work.specs.Counts.{Counted, Tallies, Refusing};
 ghost use Rattle.command_files.specs.Checks.{loaded_in, plain_answer};
@@ -29,9 +30,8 @@ pub fn load_checked<S: Sink>(
     ensures does { IsTrue S.tells → (c : Contents) →
         Does (loaded_in table.now name.now bytes.items) c
         (S.taken out.old) (plain_answer result) c (S.taken out.new) }
-    ensures counts { (faults absences longs : ℕ) → Tallies result
-        (Counted faults absences longs (S.faults out.old))
-        (Counted faults absences longs (S.faults out.new)) }
+    ensures counts { (counts : FileCounts) → Tallies result (Counted counts (S.faults out.old))
+        (Counted counts (S.faults out.new)) }
     ensures meets { IfOk result (λ checked.
         MeetsRules table.now checked.code (kept_table checked)) }
     ensures only { IfErr result (Refusing Status.Code) }

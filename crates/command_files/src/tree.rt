@@ -4,6 +4,7 @@ ghost use Rattle.nwq_outside.specs.Outside.{Contents};
 ghost use Rattle.gff_bytes.specs.File.{open_fault};
 ghost use Rattle.gff_tree.specs.Whole.{plain_gff};
 ghost use Rattle.gff_tree.specs.Count.{node_count};
+ghost use Rattle.nwq_outside.specs.declared.counts.FileCounts.{FileCounts};
 ghost use Rattle.command_work.specs.Work.{Does};
 ghost use Rattle.command_work.specs.Counts.{Counted, Tallies, Refusing, StopsArea};
 ghost use Rattle.command_files.specs.Trees.{open_flaw, tree_flaw, tree_in, tree_named};
@@ -53,9 +54,8 @@ fn tree_of_view<S: Sink>(
     ensures does { IsTrue S.tells → (c : Contents) →
         Does (tree_in name.now view.now) c
         (S.taken out.old) (plain_answer result) c (S.taken out.new) }
-    ensures counts { (faults absences longs : ℕ) → Tallies result
-        (Counted faults absences longs (S.faults out.old))
-        (Counted faults absences longs (S.faults out.new)) }
+    ensures counts { (counts : FileCounts) → Tallies result (Counted counts (S.faults out.old))
+        (Counted counts (S.faults out.new)) }
     // The structs of a tree can be numbered by 32 bits.
     ensures few { IfOk result (λ tree. node_count (plain_gff tree).top < 4294967296) }
     ensures only { IfErr result (Refusing Status.Area) }
@@ -81,9 +81,8 @@ fn tree_of_bytes<S: Sink>(
     ensures does { IsTrue S.tells → (c : Contents) →
         Does (tree_in name.now bytes.now) c
         (S.taken out.old) (plain_answer result) c (S.taken out.new) }
-    ensures counts { (faults absences longs : ℕ) → Tallies result
-        (Counted faults absences longs (S.faults out.old))
-        (Counted faults absences longs (S.faults out.new)) }
+    ensures counts { (counts : FileCounts) → Tallies result (Counted counts (S.faults out.old))
+        (Counted counts (S.faults out.new)) }
     // The structs of a tree can be numbered by 32 bits.
     ensures few { IfOk result (λ tree. node_count (plain_gff tree).top < 4294967296) }
     ensures only { IfErr result (Refusing Status.Area) }
@@ -105,10 +104,8 @@ pub fn read_tree<F: Files, S: Sink>(
     ensures does { IsTrue F.tells → IsTrue S.tells →
         Does (tree_named name.now) (F.contents files.old) (S.taken out.old)
         (plain_answer result) (F.contents files.new) (S.taken out.new) }
-    ensures counts { Tallies result
-        (Counted (F.faults files.old) (F.absences files.old) (F.longs files.old) (S.faults out.old))
-        (Counted (F.faults files.new) (F.absences files.new)
-        (F.longs files.new) (S.faults out.new)) }
+    ensures counts { Tallies result (Counted (F.counts files.old) (S.faults out.old))
+        (Counted (F.counts files.new) (S.faults out.new)) }
     ensures same { F.contents files.new ≡ F.contents files.old }
     // The structs of the tree can be numbered by 32 bits.
     ensures few { IfOk result (λ tree. node_count (plain_gff tree).top < 4294967296) }

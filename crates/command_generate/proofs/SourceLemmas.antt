@@ -1,7 +1,8 @@
 -- A source that is compiled over files of its own.
-use Rattle.std.proofs.Common.{◌≡◌, ◌≢◌, ℕ, inl, inr, true, false, List, [], ◌++◌, codes, Result, Ok, Err, refl, subst, ◌∙◌, arith}
+use Rattle.std.proofs.Common.{◌≡◌, ◌≢◌, ℕ, inl, inr, true, false, List, [], ◌++◌, codes, Result, Ok, Err, refl, ap, subst, ◌∙◌, arith}
 use Rattle.nwq_value.specs.Engine.{EngineTable}
 use Rattle.nwq_value.specs.HeaderTable.{header_table}
+use Rattle.nwq_outside.specs.declared.counts.FileCounts.{FileCounts}
 use Rattle.nwq_outside.specs.Outside.{Contents, TookPrefix}
 use Rattle.command_work.specs.declared.status.Status.{Status}
 use Rattle.command_work.specs.declared.status.Status.TheVariants.{Done, Words, Script, Code, Area, Limit, Missing, Fault, Memory, Long}
@@ -9,7 +10,7 @@ use Rattle.command_work.specs.Work.{Does, CutsShort}
 use Rattle.command_work.specs.Counts.{Counted, TalliesEnd, Refusing}
 use Rattle.command_work.specs.Parts.{cut_here}
 use Rattle.command_compile.specs.Files.{compiled_named}
-use Rattle.command_generate.specs.Generated.{files_with, Compiles, Faulty, Whole, faulty, whole, source_compiled, cuts}
+use Rattle.command_generate.specs.Generated.{files_with, faultless, Compiles, Faulty, Whole, faulty, whole, source_compiled, cuts}
 
 -- ---- which statuses cut a work short
 
@@ -52,18 +53,18 @@ pub source_cut : (s : Status) (source : List ℕ) (c : Contents) (t : List ℕ) 
 source_cut s source c t cut = cut_here (source_compiled source) s c c t t cut refl refl
 
 -- only want of memory leaves the counts
-pub cut_counts : (s : Status) (faults absences longs puts : ℕ) → s ≢ Fault → CutsShort s
-    → TalliesEnd s (Counted faults absences longs puts) (Counted faults absences longs puts)
-cut_counts Done faults absences longs puts other cut = absurd cut
-cut_counts Words faults absences longs puts other cut = absurd cut
-cut_counts Script faults absences longs puts other cut = absurd cut
-cut_counts Code faults absences longs puts other cut = absurd cut
-cut_counts Area faults absences longs puts other cut = absurd cut
-cut_counts Limit faults absences longs puts other cut = absurd cut
-cut_counts Missing faults absences longs puts other cut = absurd cut
-cut_counts Fault faults absences longs puts other cut = absurd (other refl)
-cut_counts Memory faults absences longs puts other cut = (refl, refl, inl (refl, refl))
-cut_counts Long faults absences longs puts other cut = absurd cut
+pub cut_counts : (s : Status) (files : FileCounts) (puts : ℕ) → s ≢ Fault → CutsShort s
+    → TalliesEnd s (Counted files puts) (Counted files puts)
+cut_counts Done files puts other cut = absurd cut
+cut_counts Words files puts other cut = absurd cut
+cut_counts Script files puts other cut = absurd cut
+cut_counts Code files puts other cut = absurd cut
+cut_counts Area files puts other cut = absurd cut
+cut_counts Limit files puts other cut = absurd cut
+cut_counts Missing files puts other cut = absurd cut
+cut_counts Fault files puts other cut = absurd (other refl)
+cut_counts Memory files puts other cut = (inl refl, refl)
+cut_counts Long files puts other cut = absurd cut
 
 pub cut_refuses : (s : Status) → CutsShort s → Refusing Script s
 cut_refuses s cut = inr cut
@@ -72,12 +73,13 @@ pub ruleset refuses = (is_cut, line_put, line_cut, source_cut, cut_counts, cut_r
 
 -- ---- files and a sink without faults
 
-pub no_fault : (s : Status) (absences longs absences' longs' : ℕ) → TalliesEnd s (Counted 0 absences longs 0) (Counted 0 absences' longs' 0) → s ≢ Fault
+pub no_fault : (s : Status) (absences longs absences' longs' : ℕ)
+    → TalliesEnd s (Counted (faultless absences longs) 0) (Counted (faultless absences' longs') 0) → s ≢ Fault
 no_fault s absences longs absences' longs' tallies is =
-    by_case (subst (λ x. TalliesEnd x (Counted 0 absences longs 0) (Counted 0 absences' longs' 0)) is tallies)
+    by_case (subst (λ x. TalliesEnd x (Counted (faultless absences longs) 0) (Counted (faultless absences' longs') 0)) is tallies)
   where
-    by_case : TalliesEnd Fault (Counted 0 absences longs 0) (Counted 0 absences' longs' 0) → ⊥
-    by_case (inl files) = omega (arith, files.0)
+    by_case : TalliesEnd Fault (Counted (faultless absences longs) 0) (Counted (faultless absences' longs') 0) → ⊥
+    by_case (inl files) = let rose : 0 ≡ 1 = ap (λ (f : FileCounts). f.faults) files.0 in omega (arith, rose)
     by_case (inr sink) = omega (arith, sink.1)
 
 -- ---- a source that is compiled

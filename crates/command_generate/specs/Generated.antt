@@ -3,6 +3,7 @@ use Rattle.std.specs.Prelude.{ℕ, ◌*◌, ◌==◌, Bool, true, false, List, [
 use Rattle.std.specs.FinMap as map
 use Rattle.std.specs.Fmt.{decimal}
 use Rattle.nwq_value.specs.HeaderTable.{header_table}
+use Rattle.nwq_outside.specs.declared.counts.FileCounts.{FileCounts}
 use Rattle.nwq_outside.specs.Outside.{Contents}
 use Rattle.area_rules.specs.Area.{PlainArea, area_of}
 use Rattle.ncs_code.specs.Plain.{PlainOp}
@@ -28,6 +29,10 @@ use Rattle.command_plays.specs.Scripts.{listed}
 -- the files in which a source is compiled: it alone is there
 abbrev pub files_with : List ℕ → Contents
 files_with source = map.insert map.empty (codes "beat.nss") source
+
+-- the counts of files of which no call failed
+abbrev pub faultless : (absences longs : ℕ) → FileCounts
+faultless absences longs = record { faults = 0; absences = absences; longs = longs }
 
 -- the source is compiled under the built-in header with this answer, and this text is put
 abbrev pub Compiles : List ℕ → Result (List ℕ) Status → List ℕ → Type 0

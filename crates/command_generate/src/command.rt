@@ -5,6 +5,7 @@ ghost use Rattle.nwq_value.specs.HeaderTable.{header_table};
 ghost use Rattle.nwq_outside.specs.Outside.{Contents};
 ghost use Rattle.world_core.specs.Calls.{AreServing, cells_of};
 ghost use Rattle.play_generator.specs.Made.{number_limit, play_of};
+ghost use Rattle.nwq_outside.specs.declared.counts.FileCounts.{FileCounts};
 ghost use Rattle.command_work.specs.Work.{Does};
 ghost use Rattle.command_work.specs.Counts.{Counted, Tallies};
 ghost use Rattle.command_generate.specs.Generated.{checks_made, generates, StopsGenerate};
@@ -39,9 +40,8 @@ fn play_file<S: Sink>(
     ensures does { IsTrue S.tells → (c : Contents) →
         Does (checks_made (cells_of (map (λ h. h.known) hooks.now.all.items)) number bytes.items)
         c (S.taken out.old) result c (S.taken out.new) }
-    ensures counts { (faults absences longs : ℕ) → Tallies result
-        (Counted faults absences longs (S.faults out.old))
-        (Counted faults absences longs (S.faults out.new)) }
+    ensures counts { (counts : FileCounts) → Tallies result (Counted counts (S.faults out.old))
+        (Counted counts (S.faults out.new)) }
     ensures only { IfErr result StopsGenerate }
 {
     match load_checked(alloc, table, b"beat.ncs", bytes, out) {
@@ -67,9 +67,8 @@ fn play_made<S: Sink>(
     ensures does { IsTrue S.tells → (c : Contents) →
         Does (generates (cells_of (map (λ h. h.known) hooks.now.all.items)) number)
         c (S.taken out.old) result c (S.taken out.new) }
-    ensures counts { (faults absences longs : ℕ) → Tallies result
-        (Counted faults absences longs (S.faults out.old))
-        (Counted faults absences longs (S.faults out.new)) }
+    ensures counts { (counts : FileCounts) → Tallies result (Counted counts (S.faults out.old))
+        (Counted counts (S.faults out.new)) }
     ensures only { IfErr result StopsGenerate }
 {
     match compile_source(alloc, table, made.source(), out) {
@@ -91,9 +90,8 @@ pub fn generate<S: Sink>(
     ensures does { IsTrue S.tells → (c : Contents) →
         Does (generates (cells_of (map (λ h. h.known) hooks.now.all.items)) number)
         c (S.taken out.old) result c (S.taken out.new) }
-    ensures counts { (faults absences longs : ℕ) → Tallies result
-        (Counted faults absences longs (S.faults out.old))
-        (Counted faults absences longs (S.faults out.new)) }
+    ensures counts { (counts : FileCounts) → Tallies result (Counted counts (S.faults out.old))
+        (Counted counts (S.faults out.new)) }
     ensures only { IfErr result StopsGenerate }
 {
     match built_in(alloc) {

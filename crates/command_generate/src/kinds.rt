@@ -1,18 +1,10 @@
 //! Files and a sink in memory that don't fail: a call may only find no memory.
 ghost use Rattle.std.specs.Prelude.{◌≡◌, [], true, IfOk};
-ghost use Rattle.nwq_outside.specs.Outside.{next};
-ghost use Rattle.command_generate.specs.Generated.{files_with};
+ghost use Rattle.command_generate.specs.Generated.{files_with, faultless};
 
 use nwq_outside::{Done, Files, MemFiles, Read, Sink};
 use nwq_value::{FILE_BYTES, Items, NoMemory};
 use std::alloc::Global;
-
-/// The next number of a count, which stays at the greatest one.
-fn raised(count: u64) -> u64
-    ensures { result ≡ next count }
-{
-    count.saturating_add(1)
-}
 
 /// Files that are read and not written.
 #[derive(Drop)]
@@ -47,20 +39,20 @@ impl Files for Shelf {
 
     ghost contents = { λ shelf. shelf.held.contents };
 
-    ghost faults = { λ _. 0 };
+    ghost counts = { λ shelf. faultless shelf.absences shelf.longs };
 
-    ghost absences = { λ shelf. shelf.absences };
-
-    ghost longs = { λ shelf. shelf.longs };
+    fn contents_are_bytes(&self) {
+        self.held.contents_are_bytes();
+    }
 
     fn read(&mut self, alloc: Global, name: &str) -> Read {
         match self.held.get(name) {
             None => {
-                self.absences = raised(self.absences);
+                self.absences = self.absences.saturating_add(1);
                 Read::Missing
             }
             Some(bytes) if bytes.len() > FILE_BYTES => {
-                self.longs = raised(self.longs);
+                self.longs = self.longs.saturating_add(1);
                 Read::Long
             }
             Some(bytes) => match Vec::from_slice(alloc, bytes) {

@@ -14,6 +14,7 @@ ghost use Rattle.play_generator.specs.Made.{number_limit, play_of};
 ghost use Rattle.play_worlds.specs.Worlds.{plan_world};
 ghost use Rattle.command_plays.specs.Plays.{played};
 ghost use Rattle.command_plays.specs.Scripts.{listed};
+ghost use Rattle.nwq_outside.specs.declared.counts.FileCounts.{FileCounts};
 ghost use Rattle.command_work.specs.Work.{Does};
 ghost use Rattle.command_work.specs.Counts.{Counted, Tallies, Refusing};
 ghost use Rattle.command_generate.specs.Generated.{plan_of, made_area, tells, plays_made};
@@ -54,9 +55,8 @@ fn play_over<S: Sink>(
         (played (cells_of (map (λ h. h.known) hooks.now.all.items)) table.now plan.now
         (scripts_of scripts.now) (plan_world area plan.now)))
         c (S.taken out.old) result c (S.taken out.new) }
-    ensures counts { (faults absences longs : ℕ) → Tallies result
-        (Counted faults absences longs (S.faults out.old))
-        (Counted faults absences longs (S.faults out.new)) }
+    ensures counts { (counts : FileCounts) → Tallies result (Counted counts (S.faults out.old))
+        (Counted counts (S.faults out.new)) }
     ensures only { IfErr result (Refusing Status.Limit) }
 {
     let mut trace = Kept::new(alloc);
@@ -91,9 +91,8 @@ fn play_listed<S: Sink>(
         scripts_of scripts.now ≡ listed (codes "beat") ops → (c : Contents) →
         Does (plays_made (cells_of (map (λ h. h.known) hooks.now.all.items)) number ops)
         c (S.taken out.old) result c (S.taken out.new) }
-    ensures counts { (faults absences longs : ℕ) → Tallies result
-        (Counted faults absences longs (S.faults out.old))
-        (Counted faults absences longs (S.faults out.new)) }
+    ensures counts { (counts : FileCounts) → Tallies result (Counted counts (S.faults out.old))
+        (Counted counts (S.faults out.new)) }
     ensures only { IfErr result (Refusing Status.Limit) }
 {
     match made_area(alloc, made.creatures()) {
@@ -127,9 +126,8 @@ pub(crate) fn play_code<S: Sink>(
     ensures does { IsTrue S.tells → (c : Contents) →
         Does (plays_made (cells_of (map (λ h. h.known) hooks.now.all.items)) number code.code)
         c (S.taken out.old) result c (S.taken out.new) }
-    ensures counts { (faults absences longs : ℕ) → Tallies result
-        (Counted faults absences longs (S.faults out.old))
-        (Counted faults absences longs (S.faults out.new)) }
+    ensures counts { (counts : FileCounts) → Tallies result (Counted counts (S.faults out.old))
+        (Counted counts (S.faults out.new)) }
     ensures only { IfErr result (Refusing Status.Limit) }
 {
     match list_one(alloc, b"beat", code) {

@@ -3,6 +3,7 @@ ghost use Rattle.std.specs.Prelude.{◌≡◌, ◌≢◌, ◌≤◌, Err, ℕ, L
 ghost use Rattle.nwq_value.specs.Limits.{file_limit};
 ghost use Rattle.nwq_value.specs.HeaderTable.{header_table};
 ghost use Rattle.nwq_outside.specs.Outside.{Contents};
+ghost use Rattle.nwq_outside.specs.declared.counts.FileCounts.{FileCounts};
 ghost use Rattle.command_work.specs.Work.{Does};
 ghost use Rattle.command_work.specs.Counts.{Counted, Tallies, TalliesEnd, Refusing};
 ghost use Rattle.command_generate.specs.Generated.{Compiles, cuts, files_with, source_compiled};
@@ -32,9 +33,8 @@ fn refuse<S: Sink>(status: Status, said: Kept, out: &mut S) -> Status
     ensures does { IsTrue S.tells → (source : List ℕ) → Compiles source (Err status) said.taken →
         (c : Contents) → Does (source_compiled source) c
         (S.taken out.old) (Err result) c (S.taken out.new) }
-    ensures counts { (faults absences longs : ℕ) → TalliesEnd result
-        (Counted faults absences longs (S.faults out.old))
-        (Counted faults absences longs (S.faults out.new)) }
+    ensures counts { (counts : FileCounts) → TalliesEnd result (Counted counts (S.faults out.old))
+        (Counted counts (S.faults out.new)) }
     ensures only { Refusing Status.Script result }
 {
     if cuts(status) {
@@ -60,9 +60,8 @@ fn compile_on<S: Sink>(
         shelf.held.contents ≡ files_with source →
         (c : Contents) → Does (source_compiled source) c
         (S.taken out.old) result c (S.taken out.new) }
-    ensures counts { (faults absences longs : ℕ) → Tallies result
-        (Counted faults absences longs (S.faults out.old))
-        (Counted faults absences longs (S.faults out.new)) }
+    ensures counts { (counts : FileCounts) → Tallies result (Counted counts (S.faults out.old))
+        (Counted counts (S.faults out.new)) }
     ensures small { IfOk result (λ bytes. length bytes ≤ file_limit) }
     ensures only { IfErr result (Refusing Status.Script) }
 {
@@ -89,9 +88,8 @@ pub(crate) fn compile_source<S: Sink>(
     ensures does { IsTrue S.tells → (c : Contents) →
         Does (source_compiled source.now) c
         (S.taken out.old) result c (S.taken out.new) }
-    ensures counts { (faults absences longs : ℕ) → Tallies result
-        (Counted faults absences longs (S.faults out.old))
-        (Counted faults absences longs (S.faults out.new)) }
+    ensures counts { (counts : FileCounts) → Tallies result (Counted counts (S.faults out.old))
+        (Counted counts (S.faults out.new)) }
     ensures small { IfOk result (λ bytes. length bytes ≤ file_limit) }
     ensures only { IfErr result (Refusing Status.Script) }
 {

@@ -7,6 +7,7 @@ ghost use Rattle.world_rules.specs.World.{World as WorldView};
 ghost use Rattle.world_rules.specs.Plays.{Played as PlayedView};
 ghost use Rattle.play_generator.specs.Made.{creatures_of, number_limit, rounds_of};
 ghost use Rattle.module_player.specs.EndTexts.{HasText, IsEnding};
+ghost use Rattle.nwq_outside.specs.declared.counts.FileCounts.{FileCounts};
 ghost use Rattle.command_work.specs.Work.{Does, CutsShort};
 ghost use Rattle.command_work.specs.Parts.{PutsWhole};
 ghost use Rattle.command_work.specs.Counts.{Counted, Tallies, Refusing};
@@ -111,9 +112,8 @@ fn put_summary<S: Sink>(
     ensures puts { IsTrue S.tells → (p : PlayedView SavedView) (w : WorldView SavedView) →
         IsEnding played.now p w → trace.now ≡ trace_text p.last.trace → clock ≡ w.clock →
         PutsWhole (summary number p) (S.taken out.old) result (S.taken out.new) }
-    ensures counts { (faults absences longs : ℕ) → Tallies result
-        (Counted faults absences longs (S.faults out.old))
-        (Counted faults absences longs (S.faults out.new)) }
+    ensures counts { (counts : FileCounts) → Tallies result (Counted counts (S.faults out.old))
+        (Counted counts (S.faults out.new)) }
     ensures only { IfErr result CutsShort }
 {
     put(summary_of(alloc, number, trace, clock, played), out)
@@ -134,9 +134,8 @@ pub(crate) fn tell<S: Sink>(
     ensures does { IsTrue S.tells → (p : PlayedView SavedView) (w : WorldView SavedView) →
         IsEnding played.now p w → trace.now ≡ trace_text p.last.trace → clock ≡ w.clock →
         (c : Contents) → Does (tells number p) c (S.taken out.old) result c (S.taken out.new) }
-    ensures counts { (faults absences longs : ℕ) → Tallies result
-        (Counted faults absences longs (S.faults out.old))
-        (Counted faults absences longs (S.faults out.new)) }
+    ensures counts { (counts : FileCounts) → Tallies result (Counted counts (S.faults out.old))
+        (Counted counts (S.faults out.new)) }
     ensures only { IfErr result (Refusing Status.Limit) }
 {
     match put_summary(alloc, number, trace, clock, played, out) {

@@ -41,10 +41,8 @@ fn play_area<F: Files, S: Sink>(
         Does (plays_area (cells_of (map (λ h. h.known) hooks.now.all.items)) table.now area.now
         plan.now to.now (scripts_of scripts.now)) (F.contents files.old) (S.taken out.old)
         result (F.contents files.new) (S.taken out.new) }
-    ensures counts { Tallies result
-        (Counted (F.faults files.old) (F.absences files.old) (F.longs files.old) (S.faults out.old))
-        (Counted (F.faults files.new) (F.absences files.new)
-        (F.longs files.new) (S.faults out.new)) }
+    ensures counts { Tallies result (Counted (F.counts files.old) (S.faults out.old))
+        (Counted (F.counts files.new) (S.faults out.new)) }
     ensures names { KeepsBut (λ other. other ≡ to.now)
         (F.contents files.old) (F.contents files.new) }
     ensures only { IfErr result StopsGame }
@@ -73,10 +71,8 @@ fn play_scripts<F: Files, S: Sink>(
         Does (plays_scripts (cells_of (map (λ h. h.known) hooks.now.all.items)) area.now plan.now
         to.now table.now) (F.contents files.old) (S.taken out.old)
         result (F.contents files.new) (S.taken out.new) }
-    ensures counts { Tallies result
-        (Counted (F.faults files.old) (F.absences files.old) (F.longs files.old) (S.faults out.old))
-        (Counted (F.faults files.new) (F.absences files.new)
-        (F.longs files.new) (S.faults out.new)) }
+    ensures counts { Tallies result (Counted (F.counts files.old) (S.faults out.old))
+        (Counted (F.counts files.new) (S.faults out.new)) }
     ensures names { KeepsBut (IsGameFile to.now) (F.contents files.old) (F.contents files.new) }
     ensures only { IfErr result StopsGame }
 {
@@ -104,10 +100,8 @@ fn play_under<F: Files, S: Sink>(
         Does (plays_under (cells_of (map (λ h. h.known) hooks.now.all.items)) header.now area.now
         to.now plan.now) (F.contents files.old) (S.taken out.old)
         result (F.contents files.new) (S.taken out.new) }
-    ensures counts { Tallies result
-        (Counted (F.faults files.old) (F.absences files.old) (F.longs files.old) (S.faults out.old))
-        (Counted (F.faults files.new) (F.absences files.new)
-        (F.longs files.new) (S.faults out.new)) }
+    ensures counts { Tallies result (Counted (F.counts files.old) (S.faults out.old))
+        (Counted (F.counts files.new) (S.faults out.new)) }
     ensures names { KeepsBut (IsGameFile to.now) (F.contents files.old) (F.contents files.new) }
     ensures only { IfErr result StopsGame }
 {
@@ -135,10 +129,8 @@ pub fn play_files<F: Files, S: Sink>(
         Does (plays (cells_of (map (λ h. h.known) hooks.now.all.items)) header.now area.now
         plan.now to.now) (F.contents files.old) (S.taken out.old)
         result (F.contents files.new) (S.taken out.new) }
-    ensures counts { Tallies result
-        (Counted (F.faults files.old) (F.absences files.old) (F.longs files.old) (S.faults out.old))
-        (Counted (F.faults files.new) (F.absences files.new)
-        (F.longs files.new) (S.faults out.new)) }
+    ensures counts { Tallies result (Counted (F.counts files.old) (S.faults out.old))
+        (Counted (F.counts files.new) (S.faults out.new)) }
     // The files of bytecode of scripts, and the file of the area that is left, alone are written.
     ensures names { KeepsBut (IsGameFile to.now) (F.contents files.old) (F.contents files.new) }
     ensures only { IfErr result StopsGame }

@@ -41,10 +41,8 @@ pub(crate) fn play_plan<F: Files, S: Sink>(
         Does (plays_plan (cells_of (map (λ h. h.known) hooks.now.all.items)) table.now area
         plan.now (scripts_of scripts.now) to.now) (F.contents files.old) (S.taken out.old)
         result (F.contents files.new) (S.taken out.new) }
-    ensures counts { Tallies result
-        (Counted (F.faults files.old) (F.absences files.old) (F.longs files.old) (S.faults out.old))
-        (Counted (F.faults files.new) (F.absences files.new)
-        (F.longs files.new) (S.faults out.new)) }
+    ensures counts { Tallies result (Counted (F.counts files.old) (S.faults out.old))
+        (Counted (F.counts files.new) (S.faults out.new)) }
     ensures names { KeepsBut (λ other. other ≡ to.now)
         (F.contents files.old) (F.contents files.new) }
     ensures only { IfErr result StopsGame }

@@ -7,6 +7,7 @@ ghost use Rattle.world_rules.specs.Plays.{PlayEnd, Played as PlayedView};
 ghost use Rattle.ncs_machine.specs.Host.{scripts_of};
 ghost use Rattle.module_player.specs.Answers.{EndsAs};
 ghost use Rattle.module_player.specs.EndTexts.{HasText, IsEnding};
+ghost use Rattle.nwq_outside.specs.declared.counts.FileCounts.{FileCounts};
 ghost use Rattle.command_work.specs.Work.{Does, Puts, Ends, then, puts};
 ghost use Rattle.command_work.specs.Counts.{Counted, Tallies, Refusing, KeepsBut};
 ghost use Rattle.play_inputs.specs.Finals.{final_written};
@@ -29,9 +30,8 @@ use world_core::World;
 fn tell_limit<S: Sink>(text: Vec<u8>, out: &mut S) -> Result<(), Status>
     ensures does { IsTrue S.tells → (c : Contents) →
         Does (Puts text.items (Ends Status.Limit)) c (S.taken out.old) result c (S.taken out.new) }
-    ensures counts { (faults absences longs : ℕ) → Tallies result
-        (Counted faults absences longs (S.faults out.old))
-        (Counted faults absences longs (S.faults out.new)) }
+    ensures counts { (counts : FileCounts) → Tallies result (Counted counts (S.faults out.old))
+        (Counted counts (S.faults out.new)) }
     ensures only { IfErr result (Refusing Status.Limit) }
 {
     match put(Ok(text), out) {
@@ -54,10 +54,8 @@ fn leave_area<F: Files, S: Sink>(
         Does (then (final_written to.now (tree_back area)) (λ done. puts text.items))
         (F.contents files.old) (S.taken out.old)
         result (F.contents files.new) (S.taken out.new) }
-    ensures counts { Tallies result
-        (Counted (F.faults files.old) (F.absences files.old) (F.longs files.old) (S.faults out.old))
-        (Counted (F.faults files.new) (F.absences files.new)
-        (F.longs files.new) (S.faults out.new)) }
+    ensures counts { Tallies result (Counted (F.counts files.old) (S.faults out.old))
+        (Counted (F.counts files.new) (S.faults out.new)) }
     ensures names { KeepsBut (λ other. other ≡ to.now)
         (F.contents files.old) (F.contents files.new) }
     ensures only { IfErr result (Refusing Status.Area) }
@@ -86,10 +84,8 @@ fn end_by<F: Files, S: Sink>(
     ensures does { IsTrue F.tells → IsTrue S.tells → (ending : PlayEnd) → EndsAs how ending →
         Does (ends_by ending to.now area text.items) (F.contents files.old) (S.taken out.old)
         result (F.contents files.new) (S.taken out.new) }
-    ensures counts { Tallies result
-        (Counted (F.faults files.old) (F.absences files.old) (F.longs files.old) (S.faults out.old))
-        (Counted (F.faults files.new) (F.absences files.new)
-        (F.longs files.new) (S.faults out.new)) }
+    ensures counts { Tallies result (Counted (F.counts files.old) (S.faults out.old))
+        (Counted (F.counts files.new) (S.faults out.new)) }
     ensures names { KeepsBut (λ other. other ≡ to.now)
         (F.contents files.old) (F.contents files.new) }
     ensures only { IfErr result StopsGame }
@@ -127,10 +123,8 @@ pub(crate) fn tell_end<F: Files, S: Sink>(
         Does (tells_end to.now (scripts_of scripts.now) p)
         (F.contents files.old) (S.taken out.old)
         result (F.contents files.new) (S.taken out.new) }
-    ensures counts { Tallies result
-        (Counted (F.faults files.old) (F.absences files.old) (F.longs files.old) (S.faults out.old))
-        (Counted (F.faults files.new) (F.absences files.new)
-        (F.longs files.new) (S.faults out.new)) }
+    ensures counts { Tallies result (Counted (F.counts files.old) (S.faults out.old))
+        (Counted (F.counts files.new) (S.faults out.new)) }
     ensures names { KeepsBut (λ other. other ≡ to.now)
         (F.contents files.old) (F.contents files.new) }
     ensures only { IfErr result StopsGame }

@@ -1,5 +1,6 @@
 -- What a play's answer tells, and how its command ends.
 use Rattle.std.proofs.Common.{◌≡◌, ◌≢◌, ℕ, inl, inr, List, ◌++◌, None, Some, Ok, Err, refl, subst, sym}
+use Rattle.nwq_outside.specs.declared.counts.FileCounts.{FileCounts}
 use Rattle.nwq_outside.specs.Outside.{Contents, TookPrefix}
 use Rattle.saved_state.specs.declared.saved.Saved.{Saved}
 use Rattle.world_rules.specs.World.{World}
@@ -33,19 +34,18 @@ module _ (how : How) (s : Status) (is : Some s ≡ cut_of how) where
       by_how Fault e k = (subst CutsShort (same_status (sym e)) tt, k)
       by_how NoMemory e k = (subst CutsShort (same_status (sym e)) tt, k)
 
-  pub cut_counts : (puts puts' faults absences longs : ℕ) → CountsPlay how puts puts'
-      → TalliesEnd s (Counted faults absences longs puts) (Counted faults absences longs puts')
-  cut_counts puts puts' faults absences longs counts = by_how how is counts
+  pub cut_counts : (puts puts' : ℕ) (files : FileCounts) → CountsPlay how puts puts' → TalliesEnd s (Counted files puts) (Counted files puts')
+  cut_counts puts puts' files counts = by_how how is counts
     where
-      by_how : (h : How) → Some s ≡ cut_of h → CountsPlay h puts puts' → TalliesEnd s (Counted faults absences longs puts) (Counted faults absences longs puts')
+      by_how : (h : How) → Some s ≡ cut_of h → CountsPlay h puts puts' → TalliesEnd s (Counted files puts) (Counted files puts')
       by_how Done e k = absurd cc
       by_how InstrStop e k = absurd cc
       by_how EntryStop e k = absurd cc
       by_how Pause e k = absurd cc
       by_how Fault e k =
-          subst (λ x. TalliesEnd x (Counted faults absences longs puts) (Counted faults absences longs puts')) (same_status (sym e)) (inr (refl, k, inl (refl, refl)))
+          subst (λ x. TalliesEnd x (Counted files puts) (Counted files puts')) (same_status (sym e)) (inr (inl refl, k))
       by_how NoMemory e k =
-          subst (λ x. TalliesEnd x (Counted faults absences longs puts) (Counted faults absences longs puts')) (same_status (sym e)) (refl, k, inl (refl, refl))
+          subst (λ x. TalliesEnd x (Counted files puts) (Counted files puts')) (same_status (sym e)) (inl refl, k)
 
   pub cut_shorts : CutsShort s
   cut_shorts = by_how how is

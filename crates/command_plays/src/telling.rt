@@ -1,5 +1,6 @@
 //! What comes of a play's answer: the status by which a command ends.
 ghost use Rattle.std.specs.Prelude.{◌≡◌, ◌≢◌, ℕ, List, IfOk, IfErr};
+ghost use Rattle.nwq_outside.specs.declared.counts.FileCounts.{FileCounts};
 ghost use Rattle.nwq_outside.specs.Outside.{Contents};
 ghost use Rattle.saved_state.specs.declared.saved.Saved.{Saved as SavedView};
 ghost use Rattle.world_rules.specs.World.{World as WorldView};
@@ -42,9 +43,8 @@ pub fn told_whole(played: Played) -> Result<Played, Status>
         IfOk result (λ answer. IsEnding answer p w) }
     ensures trace { (text before after : List ℕ) → TakesTrace played.how text before after →
         TakesText text before result after }
-    ensures counts { (before now faults absences longs : ℕ) → CountsPlay played.how before now →
-        Tallies result (Counted faults absences longs before)
-        (Counted faults absences longs now) }
+    ensures counts { (before now : ℕ) → (counts : FileCounts) →
+        CountsPlay played.how before now → Tallies result (Counted counts before) (Counted counts now) }
     ensures only { IfErr result CutsShort }
 {
     match cut_of(played.how) {

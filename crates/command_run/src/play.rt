@@ -9,6 +9,7 @@ ghost use Rattle.stack_check.specs.Checked.{kept_table};
 ghost use Rattle.world_core.specs.Calls.{AreServing, cells_of};
 ghost use Rattle.ncs_machine.specs.Host.{scripts_of, tables_of};
 ghost use Rattle.ncs_machine.specs.Stored.{StatesFit};
+ghost use Rattle.nwq_outside.specs.declared.counts.FileCounts.{FileCounts};
 ghost use Rattle.command_work.specs.Work.{Does};
 ghost use Rattle.command_work.specs.Counts.{Counted, Tallies, Refusing};
 ghost use Rattle.command_plays.specs.Scripts.{listed, played, tells, plays_code, plays_file};
@@ -57,9 +58,8 @@ fn play_world<S: Sink>(
     ensures does { IsTrue S.tells → (c : Contents) → Does (tells (scripts_of scripts.now)
         (played (cells_of (map (λ h. h.known) hooks.now.all.items)) table.now
         (scripts_of scripts.now) world.world)) c (S.taken out.old) result c (S.taken out.new) }
-    ensures counts { (faults absences longs : ℕ) → Tallies result
-        (Counted faults absences longs (S.faults out.old))
-        (Counted faults absences longs (S.faults out.new)) }
+    ensures counts { (counts : FileCounts) → Tallies result (Counted counts (S.faults out.old))
+        (Counted counts (S.faults out.new)) }
     ensures only { IfErr result (Refusing Status.Limit) }
 {
     let mut world = world;
@@ -100,9 +100,8 @@ fn play_listed<S: Sink>(
         scripts_of scripts.now ≡ listed name.now ops → (c : Contents) →
         Does (plays_code (cells_of (map (λ h. h.known) hooks.now.all.items)) table.now name.now ops)
         c (S.taken out.old) result c (S.taken out.new) }
-    ensures counts { (faults absences longs : ℕ) → Tallies result
-        (Counted faults absences longs (S.faults out.old))
-        (Counted faults absences longs (S.faults out.new)) }
+    ensures counts { (counts : FileCounts) → Tallies result (Counted counts (S.faults out.old))
+        (Counted counts (S.faults out.new)) }
     ensures only { IfErr result (Refusing Status.Limit) }
 {
     match first_world(alloc, name) {
@@ -126,9 +125,8 @@ fn play_code<S: Sink>(
     ensures does { IsTrue S.tells → (c : Contents) →
         Does (plays_code (cells_of (map (λ h. h.known) hooks.now.all.items)) table.now
         name.now code.code) c (S.taken out.old) result c (S.taken out.new) }
-    ensures counts { (faults absences longs : ℕ) → Tallies result
-        (Counted faults absences longs (S.faults out.old))
-        (Counted faults absences longs (S.faults out.new)) }
+    ensures counts { (counts : FileCounts) → Tallies result (Counted counts (S.faults out.old))
+        (Counted counts (S.faults out.new)) }
     ensures only { IfErr result (Refusing Status.Limit) }
 {
     match list_one(alloc, name, code) {
@@ -153,9 +151,8 @@ pub fn play_file<S: Sink>(
     ensures does { IsTrue S.tells → (c : Contents) →
         Does (plays_file (cells_of (map (λ h. h.known) hooks.now.all.items)) table.now
         name.now file.now bytes.items) c (S.taken out.old) result c (S.taken out.new) }
-    ensures counts { (faults absences longs : ℕ) → Tallies result
-        (Counted faults absences longs (S.faults out.old))
-        (Counted faults absences longs (S.faults out.new)) }
+    ensures counts { (counts : FileCounts) → Tallies result (Counted counts (S.faults out.old))
+        (Counted counts (S.faults out.new)) }
     ensures only { IfErr result StopsPlay }
 {
     match load_checked(alloc, table, file, bytes, out) {

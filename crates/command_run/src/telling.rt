@@ -6,6 +6,7 @@ ghost use Rattle.world_rules.specs.Plays.{Played as PlayedView};
 ghost use Rattle.ncs_machine.specs.Host.{scripts_of};
 ghost use Rattle.module_player.specs.CodePlays.{code_end_text};
 ghost use Rattle.module_player.specs.EndTexts.{HasText, IsEnding};
+ghost use Rattle.nwq_outside.specs.declared.counts.FileCounts.{FileCounts};
 ghost use Rattle.command_work.specs.Work.{Does, CutsShort};
 ghost use Rattle.command_work.specs.Parts.{PutsWhole};
 ghost use Rattle.command_work.specs.Counts.{Counted, Tallies, Refusing};
@@ -54,9 +55,8 @@ fn put_end<S: Sink>(
     ensures puts { IsTrue S.tells → (p : PlayedView SavedView) → IsEnding played.now p world.world →
         PutsWhole (code_end_text (scripts_of scripts.now) p)
         (S.taken out.old) result (S.taken out.new) }
-    ensures counts { (faults absences longs : ℕ) → Tallies result
-        (Counted faults absences longs (S.faults out.old))
-        (Counted faults absences longs (S.faults out.new)) }
+    ensures counts { (counts : FileCounts) → Tallies result (Counted counts (S.faults out.old))
+        (Counted counts (S.faults out.new)) }
     ensures only { IfErr result CutsShort }
 {
     put(text_of(alloc, world, scripts, played), out)
@@ -75,9 +75,8 @@ pub(crate) fn tell_end<S: Sink>(
     ensures does { IsTrue S.tells → (p : PlayedView SavedView) → IsEnding played.now p world.world →
         (c : Contents) → Does (tells_end (scripts_of scripts.now) p) c
         (S.taken out.old) result c (S.taken out.new) }
-    ensures counts { (faults absences longs : ℕ) → Tallies result
-        (Counted faults absences longs (S.faults out.old))
-        (Counted faults absences longs (S.faults out.new)) }
+    ensures counts { (counts : FileCounts) → Tallies result (Counted counts (S.faults out.old))
+        (Counted counts (S.faults out.new)) }
     ensures only { IfErr result (Refusing Status.Limit) }
 {
     match put_end(alloc, world, scripts, played, out) {

@@ -1,6 +1,6 @@
 -- What private clauses say of a unit while it is read.
-use Rattle.std.specs.Prelude.{ℕ, Err}
-use Rattle.nwq_outside.specs.Outside.{file_counts}
+use Rattle.std.specs.Prelude.{Err}
+use Rattle.nwq_outside.specs.declared.counts.FileCounts.{FileCounts}
 use Rattle.nss_tree.specs.Source.{SourceTree}
 use Rattle.nss_symbols.specs.Nest.{IsWithinNest}
 use Rattle.nss_parser.specs.declared.fault.ParseFault.{ParseFault}
@@ -11,10 +11,9 @@ use Rattle.nss_include.specs.View.{Gathered}
 use Rattle.nss_include.specs.Gather.{CountsGathered}
 use Rattle.command_sources.specs.Units.{grammar_symbols}
 
--- the counts of files, each before and now, as a reading left them that ended in this fault
-abbrev pub IsCounted : GatherFault → ℕ → ℕ → ℕ → ℕ → ℕ → ℕ → Type 0
-IsCounted fault faults faults' absences absences' longs longs' =
-    CountsGathered {A = Gathered} (Err fault) (file_counts faults absences longs) (file_counts faults' absences' longs')
+-- the counts of files, before and now, as a reading left them that ended in this fault
+abbrev pub IsCounted : GatherFault → FileCounts → FileCounts → Type 0
+IsCounted fault before now = CountsGathered {A = Gathered} (Err fault) before now
 
 -- a unit has this tree, and nests within the limit
 pub record HasTree (unit : Gathered) (tree : SourceTree) : Type 0 where

@@ -3,6 +3,7 @@ ghost use Rattle.nwq_value.specs.Limits.{file_limit};
 ghost use Rattle.nwq_value.specs.Engine.{EngineTable};
 ghost use Rattle.nwq_outside.specs.Outside.{Contents};
 ghost use Rattle.engine_table.specs.Headers.{IsRefused, IsWithin};
+ghost use Rattle.nwq_outside.specs.declared.counts.FileCounts.{FileCounts};
 ghost use Rattle.command_work.specs.Work.{Does};
 ghost use Rattle.command_work.specs.Counts.{Counted, Tallies, TalliesEnd, Refusing, StopsSource};
 ghost use Rattle.command_sources.specs.Headers.{table_in, table_named, table_of};
@@ -27,9 +28,8 @@ fn refuse_header<S: Sink>(
     requires within { IsWithin (length bytes.now) fault }
     ensures does { IsTrue S.tells → IsRefused bytes.now fault → (c : Contents) →
         Does (table_in name.now bytes.now) c (S.taken out.old) (Err result) c (S.taken out.new) }
-    ensures counts { (faults absences longs : ℕ) → TalliesEnd result
-        (Counted faults absences longs (S.faults out.old))
-        (Counted faults absences longs (S.faults out.new)) }
+    ensures counts { (counts : FileCounts) → TalliesEnd result (Counted counts (S.faults out.old))
+        (Counted counts (S.faults out.new)) }
     ensures only { Refusing Status.Script result }
 {
     match fault {
@@ -56,9 +56,8 @@ fn table_of_text<S: Sink>(
     requires { length bytes.now ≤ file_limit }
     ensures does { IsTrue S.tells → (c : Contents) →
         Does (table_in name.now bytes.now) c (S.taken out.old) result c (S.taken out.new) }
-    ensures counts { (faults absences longs : ℕ) → Tallies result
-        (Counted faults absences longs (S.faults out.old))
-        (Counted faults absences longs (S.faults out.new)) }
+    ensures counts { (counts : FileCounts) → Tallies result (Counted counts (S.faults out.old))
+        (Counted counts (S.faults out.new)) }
     ensures only { IfErr result (Refusing Status.Script) }
 {
     match read_header(alloc, bytes) {
@@ -78,10 +77,8 @@ fn table_of_file<F: Files, S: Sink>(
     ensures does { IsTrue F.tells → IsTrue S.tells →
         Does (table_named name.now) (F.contents files.old) (S.taken out.old)
         result (F.contents files.new) (S.taken out.new) }
-    ensures counts { Tallies result
-        (Counted (F.faults files.old) (F.absences files.old) (F.longs files.old) (S.faults out.old))
-        (Counted (F.faults files.new) (F.absences files.new)
-        (F.longs files.new) (S.faults out.new)) }
+    ensures counts { Tallies result (Counted (F.counts files.old) (S.faults out.old))
+        (Counted (F.counts files.new) (S.faults out.new)) }
     ensures same { F.contents files.new ≡ F.contents files.old }
     ensures only { IfErr result StopsSource }
 {
@@ -108,10 +105,8 @@ pub fn read_table<F: Files, S: Sink>(
     ensures does { IsTrue F.tells → IsTrue S.tells →
         Does (table_of header.now) (F.contents files.old) (S.taken out.old)
         result (F.contents files.new) (S.taken out.new) }
-    ensures counts { Tallies result
-        (Counted (F.faults files.old) (F.absences files.old) (F.longs files.old) (S.faults out.old))
-        (Counted (F.faults files.new) (F.absences files.new)
-        (F.longs files.new) (S.faults out.new)) }
+    ensures counts { Tallies result (Counted (F.counts files.old) (S.faults out.old))
+        (Counted (F.counts files.new) (S.faults out.new)) }
     ensures same { F.contents files.new ≡ F.contents files.old }
     ensures only { IfErr result StopsSource }
 {

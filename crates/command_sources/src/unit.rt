@@ -8,6 +8,7 @@ ghost use Rattle.nwq_value.specs.Limits.{token_limit};
 ghost use Rattle.nss_tree.specs.Reading.{plain_tree};
 ghost use Rattle.nss_parser.specs.Sizes.{IsKnownTree};
 ghost use Rattle.nss_include.specs.Gather.{Gathers, CountsGathered};
+ghost use Rattle.nwq_outside.specs.declared.counts.FileCounts.{FileCounts};
 ghost use Rattle.command_work.specs.Work.{Does};
 ghost use Rattle.command_work.specs.Parts.{Refuses};
 ghost use Rattle.command_work.specs.Counts.{Counted, Tallies, TalliesEnd, Refusing, StopsSource};
@@ -47,9 +48,8 @@ fn spot_of(alloc: Global, unit: &Unit, i: usize) -> Result<Spot, NoMemory>
 fn refuse_spot<S: Sink>(alloc: Global, cause: Cause, spot: &Spot, out: &mut S) -> Status
     ensures does { IsTrue S.tells →
         Refuses (at_spot cause spot.now) (S.taken out.old) result (S.taken out.new) }
-    ensures counts { (faults absences longs : ℕ) → TalliesEnd result
-        (Counted faults absences longs (S.faults out.old))
-        (Counted faults absences longs (S.faults out.new)) }
+    ensures counts { (counts : FileCounts) → TalliesEnd result (Counted counts (S.faults out.old))
+        (Counted counts (S.faults out.new)) }
     ensures only { Refusing Status.Script result }
 {
     refuse_at(alloc, spot.name.bytes(), spot.line, spot.at, cause, out)
@@ -68,9 +68,8 @@ pub fn refuse_token<S: Sink>(
     ensures does { IsTrue S.tells →
         Refuses (at_spot cause (spot_at unit.now.files unit.now.tokens i))
         (S.taken out.old) result (S.taken out.new) }
-    ensures counts { (faults absences longs : ℕ) → TalliesEnd result
-        (Counted faults absences longs (S.faults out.old))
-        (Counted faults absences longs (S.faults out.new)) }
+    ensures counts { (counts : FileCounts) → TalliesEnd result (Counted counts (S.faults out.old))
+        (Counted counts (S.faults out.new)) }
     ensures only { Refusing Status.Script result }
 {
     match spot_of(alloc, unit, i) {
@@ -85,9 +84,8 @@ pub fn refuse_end<S: Sink>(alloc: Global, unit: &Unit, cause: Cause, out: &mut S
     requires files { 0 < length unit.now.files }
     ensures does { IsTrue S.tells → Refuses (at_spot cause (spot_of unit.now.files None))
         (S.taken out.old) result (S.taken out.new) }
-    ensures counts { (faults absences longs : ℕ) → TalliesEnd result
-        (Counted faults absences longs (S.faults out.old))
-        (Counted faults absences longs (S.faults out.new)) }
+    ensures counts { (counts : FileCounts) → TalliesEnd result (Counted counts (S.faults out.old))
+        (Counted counts (S.faults out.new)) }
     ensures only { Refusing Status.Script result }
 {
     match unit.spot(alloc, 0, unit.file_bytes(0).len() as u32) {
@@ -102,11 +100,9 @@ fn refuse_gather<S: Sink>(alloc: Global, fault: GatherFault, out: &mut S) -> Sta
     ensures does { IsTrue S.tells → (c : Contents) (name : List ℕ) →
         Gathers (fin_map.get c) name (Err fault) →
         Does (unit_of name) c (S.taken out.old) (Err result) c (S.taken out.new) }
-    // Each count before and now, where the fault came with them.
-    ensures counts { (faults faults' absences absences' longs longs' : ℕ) →
-        IsCounted fault faults faults' absences absences' longs longs' →
-        TalliesEnd result (Counted faults absences longs (S.faults out.old))
-        (Counted faults' absences' longs' (S.faults out.new)) }
+    // The counts before and now, where the fault came with them.
+    ensures counts { (before now : FileCounts) → IsCounted fault before now → TalliesEnd result
+        (Counted before (S.faults out.old)) (Counted now (S.faults out.new)) }
     ensures only { StopsSource result }
 {
     match fault {
@@ -143,9 +139,8 @@ fn refuse_parse<S: Sink>(alloc: Global, unit: &Unit, fault: ParseFault, out: &mu
     ensures does { IsTrue S.tells → (c : Contents) (name : List ℕ) →
         IsUnit (fin_map.get c) name unit.now.tokens unit.now.files None →
         Does (unit_of name) c (S.taken out.old) (Err result) c (S.taken out.new) }
-    ensures counts { (faults absences longs : ℕ) → TalliesEnd result
-        (Counted faults absences longs (S.faults out.old))
-        (Counted faults absences longs (S.faults out.new)) }
+    ensures counts { (counts : FileCounts) → TalliesEnd result (Counted counts (S.faults out.old))
+        (Counted counts (S.faults out.new)) }
     ensures only { Refusing Status.Script result }
 {
     match fault {
@@ -162,9 +157,8 @@ fn parsed<S: Sink>(alloc: Global, unit: Unit, out: &mut S) -> Result<Script, Sta
     ensures does { IsTrue S.tells → (c : Contents) (name : List ℕ) →
         IsUnit (fin_map.get c) name unit.tokens unit.files None →
         Does (unit_of name) c (S.taken out.old) (plain_answer result) c (S.taken out.new) }
-    ensures counts { (faults absences longs : ℕ) → Tallies result
-        (Counted faults absences longs (S.faults out.old))
-        (Counted faults absences longs (S.faults out.new)) }
+    ensures counts { (counts : FileCounts) → Tallies result (Counted counts (S.faults out.old))
+        (Counted counts (S.faults out.new)) }
     ensures only { IfErr result (Refusing Status.Script) }
 {
     match tree_of(alloc, &unit) {
@@ -184,10 +178,8 @@ pub fn read_unit<F: Files, S: Sink>(
     ensures does { IsTrue F.tells → IsTrue S.tells →
         Does (unit_of script.now) (F.contents files.old) (S.taken out.old)
         (plain_answer result) (F.contents files.new) (S.taken out.new) }
-    ensures counts { Tallies result
-        (Counted (F.faults files.old) (F.absences files.old) (F.longs files.old) (S.faults out.old))
-        (Counted (F.faults files.new) (F.absences files.new)
-        (F.longs files.new) (S.faults out.new)) }
+    ensures counts { Tallies result (Counted (F.counts files.old) (S.faults out.old))
+        (Counted (F.counts files.new) (S.faults out.new)) }
     ensures same { F.contents files.new ≡ F.contents files.old }
     ensures only { IfErr result StopsSource }
 {

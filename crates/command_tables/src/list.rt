@@ -2,6 +2,7 @@ ghost use Rattle.std.specs.Prelude.{◌≡◌, ℕ, true, [], ◌∷◌, ◌++�
 ghost use Rattle.std.specs.List.{list_any};
 ghost use Rattle.table_2da.specs.Look.{same_name};
 ghost use Rattle.nwq_outside.specs.Outside.{Contents};
+ghost use Rattle.nwq_outside.specs.declared.counts.FileCounts.{FileCounts};
 ghost use Rattle.command_work.specs.Work.{Does};
 ghost use Rattle.command_work.specs.Counts.{Counted, Tallies, Refusing, StopsArea};
 ghost use Rattle.command_tables.specs.Lists.{may_follow, AreNames, HasNames, IsFaulty, names_in};
@@ -90,9 +91,8 @@ fn names_of_bytes<S: Sink>(
 ) -> Result<Names, Status>
     ensures does { IsTrue S.tells → (c : Contents) →
         Does (names_in list.now bytes.now) c (S.taken out.old) result c (S.taken out.new) }
-    ensures counts { (faults absences longs : ℕ) → Tallies result
-        (Counted faults absences longs (S.faults out.old))
-        (Counted faults absences longs (S.faults out.new)) }
+    ensures counts { (counts : FileCounts) → Tallies result (Counted counts (S.faults out.old))
+        (Counted counts (S.faults out.new)) }
     ensures names { IfOk result AreNames }
     ensures only { IfErr result (Refusing Status.Area) }
 {
@@ -114,10 +114,8 @@ pub(crate) fn read_list<F: Files, S: Sink>(
     ensures does { IsTrue F.tells → IsTrue S.tells →
         Does (names_listed list.now) (F.contents files.old) (S.taken out.old)
         result (F.contents files.new) (S.taken out.new) }
-    ensures counts { Tallies result
-        (Counted (F.faults files.old) (F.absences files.old) (F.longs files.old) (S.faults out.old))
-        (Counted (F.faults files.new) (F.absences files.new)
-        (F.longs files.new) (S.faults out.new)) }
+    ensures counts { Tallies result (Counted (F.counts files.old) (S.faults out.old))
+        (Counted (F.counts files.new) (S.faults out.new)) }
     ensures same { F.contents files.new ≡ F.contents files.old }
     ensures names { IfOk result AreNames }
     ensures only { IfErr result StopsArea }

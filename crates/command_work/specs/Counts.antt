@@ -1,37 +1,32 @@
 -- How the counts of files and sink stand after a part of a command, by its answer.
 use Rattle.std.specs.Prelude.{◌≡◌, ℕ, ◌⊎◌, List, Result, Ok, Err}
 use Rattle.std.specs.FinMap as map
-use Rattle.nwq_outside.specs.Outside.{Contents, Rises}
+use Rattle.nwq_outside.specs.declared.counts.CountOf.{CountOf}
+use Rattle.nwq_outside.specs.declared.counts.CountOf.TheVariants.{Faults, Absences, Longs}
+use Rattle.nwq_outside.specs.declared.counts.FileCounts.{FileCounts}
+use Rattle.nwq_outside.specs.Outside.{Contents, Rises, NoneRose, Rose}
 use Rattle.command_work.specs.Work.{CutsShort}
 use Rattle.command_work.specs.declared.status.Status.{Status}
 use Rattle.command_work.specs.declared.status.Status.TheVariants.{Done, Words, Script, Code, Area, Limit, Missing, Fault, Memory, Long}
 
--- faults of the files, absences and long files, and faults of the sink
+-- the counts of the files, and the faults of the sink
 pub data Counts : Type 0 where
-  Counted : (faults absences longs puts : ℕ) → Counts
+  Counted : (files : FileCounts) (puts : ℕ) → Counts
 
 -- at most one refused read was counted: its line may be what was cut
-abbrev pub RefusesOne : ℕ → ℕ → ℕ → ℕ → Type 0
-RefusesOne absences longs absences' longs' =
-    ((absences' ≡ absences) × (longs' ≡ longs)) ⊎ ((Rises absences absences' × (longs' ≡ longs)) ⊎ ((absences' ≡ absences) × Rises longs longs'))
+abbrev pub RefusesOne : FileCounts → FileCounts → Type 0
+RefusesOne files files' = NoneRose files files' ⊎ (Rose Absences files files' ⊎ Rose Longs files files')
 
-abbrev pub AbsenceCounted : Counts → Counts → Type 0
-AbsenceCounted (Counted faults absences longs puts) (Counted faults' absences' longs' puts') =
-    (faults' ≡ faults) × Rises absences absences' × (longs' ≡ longs) × (puts' ≡ puts)
-
-abbrev pub LongCounted : Counts → Counts → Type 0
-LongCounted (Counted faults absences longs puts) (Counted faults' absences' longs' puts') =
-    (faults' ≡ faults) × (absences' ≡ absences) × Rises longs longs' × (puts' ≡ puts)
+-- a read was refused, and counted here
+abbrev pub ReadCounted : CountOf → Counts → Counts → Type 0
+ReadCounted which (Counted files puts) (Counted files' puts') = Rose which files files' × (puts' ≡ puts)
 
 -- a read or write failed, or a put did, perhaps that of the line of an absent or long file
 abbrev pub FaultCounted : Counts → Counts → Type 0
-FaultCounted (Counted faults absences longs puts) (Counted faults' absences' longs' puts') =
-    (Rises faults faults' × (absences' ≡ absences) × (longs' ≡ longs) × (puts' ≡ puts))
-    ⊎ ((faults' ≡ faults) × Rises puts puts' × RefusesOne absences longs absences' longs')
+FaultCounted (Counted files puts) (Counted files' puts') = (Rose Faults files files' × (puts' ≡ puts)) ⊎ (RefusesOne files files' × Rises puts puts')
 
 abbrev pub MemoryCounted : Counts → Counts → Type 0
-MemoryCounted (Counted faults absences longs puts) (Counted faults' absences' longs' puts') =
-    (faults' ≡ faults) × (puts' ≡ puts) × RefusesOne absences longs absences' longs'
+MemoryCounted (Counted files puts) (Counted files' puts') = RefusesOne files files' × (puts' ≡ puts)
 
 -- How the counts stand where a part ended with this status. A call that was refused outside is the last one, and the status says which it
 -- was: with every other status each count is as before. Only a call outside, or want of memory, may fail after an absent or long file was
@@ -43,10 +38,10 @@ TalliesEnd Script before now = now ≡ before
 TalliesEnd Code before now = now ≡ before
 TalliesEnd Area before now = now ≡ before
 TalliesEnd Limit before now = now ≡ before
-TalliesEnd Missing before now = AbsenceCounted before now
+TalliesEnd Missing before now = ReadCounted Absences before now
 TalliesEnd Fault before now = FaultCounted before now
 TalliesEnd Memory before now = MemoryCounted before now
-TalliesEnd Long before now = LongCounted before now
+TalliesEnd Long before now = ReadCounted Longs before now
 
 abbrev pub Tallies : {A : Type 0} → Result A Status → Counts → Counts → Type 0
 Tallies (Ok a) before now = now ≡ before

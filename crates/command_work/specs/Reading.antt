@@ -1,13 +1,9 @@
 -- What the files hold of a name that is read.
-use Rattle.std.specs.Prelude.{◌≡◌, ◌<◌, ◌≤◌, ℕ, All, List, length, Some, None}
+use Rattle.std.specs.Prelude.{◌≡◌, ◌<◌, ◌≤◌, ℕ, List, length, Some, None}
 use Rattle.std.specs.FinMap as map
 use Rattle.nwq_value.specs.Limits.{file_limit}
 use Rattle.nwq_outside.specs.Outside.{Contents}
 use Rattle.command_work.specs.Refusal.{Refusal, Absent, TooLong}
-
--- what stands under each name are bytes
-abbrev pub AreBytes : Contents → Type 0
-AreBytes c = (name bytes : List ℕ) → map.get c name ≡ Some bytes → All (λ b. b < 256) bytes
 
 -- the file of this name is there, has these bytes, and isn't too long to be read
 pub record IsRead (c : Contents) (name bytes : List ℕ) : Type 0 where

@@ -1,5 +1,6 @@
 ghost use Rattle.std.specs.Prelude.{◌≡◌, ◌≤◌, ℕ, List, length, IsTrue, IfOk, IfErr};
 ghost use Rattle.nwq_value.specs.Limits.{file_limit};
+ghost use Rattle.nwq_outside.specs.declared.counts.FileCounts.{FileCounts};
 ghost use Rattle.command_work.specs.Work.{Does, CutsShort, file_named, writes};
 ghost use Rattle.command_work.specs.Parts.{PutsWhole};
 ghost use Rattle.command_work.specs.Counts.{Counted, Tallies, CountsPut, KeepsBut, StopsRead};
@@ -32,9 +33,8 @@ pub(crate) fn put_line<S: Sink>(text: Result<Vec<u8>, NoMemory>, out: &mut S) ->
 pub fn put<S: Sink>(text: Result<Vec<u8>, NoMemory>, out: &mut S) -> Result<(), Status>
     ensures does { IsTrue S.tells → (whole : List ℕ) → IfOk text (λ t. t.items ≡ whole) →
         PutsWhole whole (S.taken out.old) result (S.taken out.new) }
-    ensures counts { (faults absences longs : ℕ) → Tallies result
-        (Counted faults absences longs (S.faults out.old))
-        (Counted faults absences longs (S.faults out.new)) }
+    ensures counts { (counts : FileCounts) → Tallies result (Counted counts (S.faults out.old))
+        (Counted counts (S.faults out.new)) }
     ensures only { IfErr result CutsShort }
 {
     match put_line(text, out) {
@@ -54,10 +54,8 @@ pub fn read_file<F: Files, S: Sink>(
     ensures does { IsTrue F.tells → IsTrue S.tells →
         Does (file_named name.now) (F.contents files.old) (S.taken out.old)
         result (F.contents files.new) (S.taken out.new) }
-    ensures counts { Tallies result
-        (Counted (F.faults files.old) (F.absences files.old) (F.longs files.old) (S.faults out.old))
-        (Counted (F.faults files.new) (F.absences files.new)
-        (F.longs files.new) (S.faults out.new)) }
+    ensures counts { Tallies result (Counted (F.counts files.old) (S.faults out.old))
+        (Counted (F.counts files.new) (S.faults out.new)) }
     ensures same { F.contents files.new ≡ F.contents files.old }
     ensures size { IfOk result (λ bytes. length bytes ≤ file_limit) }
     ensures only { IfErr result StopsRead }
@@ -76,9 +74,8 @@ pub fn read_file<F: Files, S: Sink>(
 pub fn write_file<F: Files>(name: &str, bytes: &[u8], files: &mut F) -> Result<(), Status>
     ensures does { IsTrue F.tells → (t : List ℕ) →
         Does (writes name.now bytes.now) (F.contents files.old) t result (F.contents files.new) t }
-    ensures counts { (puts : ℕ) → Tallies result
-        (Counted (F.faults files.old) (F.absences files.old) (F.longs files.old) puts)
-        (Counted (F.faults files.new) (F.absences files.new) (F.longs files.new) puts) }
+    ensures counts { (puts : ℕ) → Tallies result (Counted (F.counts files.old) puts)
+        (Counted (F.counts files.new) puts) }
     ensures names { KeepsBut (λ other. other ≡ name.now)
         (F.contents files.old) (F.contents files.new) }
     ensures only { IfErr result CutsShort }

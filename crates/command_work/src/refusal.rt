@@ -1,5 +1,7 @@
 ghost use Rattle.std.specs.Prelude.{◌≡◌, ◌++◌, ℕ, codes, IfOk, IsTrue};
-ghost use Rattle.nwq_outside.specs.Outside.{Rises};
+ghost use Rattle.nwq_outside.specs.declared.counts.CountOf.TheVariants.{Absences, Longs};
+ghost use Rattle.nwq_outside.specs.declared.counts.FileCounts.{FileCounts};
+ghost use Rattle.nwq_outside.specs.Outside.{Rose};
 ghost use Rattle.nwq_text.specs.Escape.{escaped};
 ghost use Rattle.command_work.specs.Refusal.{line_of, NoForm, Absent, TooLong, At};
 ghost use Rattle.command_work.specs.Refusal.{BadCode, BadArea};
@@ -87,9 +89,8 @@ fn form_line(alloc: Global) -> Result<Vec<u8>, NoMemory>
 #[tactic(auto, using(crate::proofs::Tallied::put_cut))]
 pub fn refuse_form<S: Sink>(alloc: Global, out: &mut S) -> Status
     ensures does { IsTrue S.tells → Refuses NoForm (S.taken out.old) result (S.taken out.new) }
-    ensures counts { (faults absences longs : ℕ) → TalliesEnd result
-        (Counted faults absences longs (S.faults out.old))
-        (Counted faults absences longs (S.faults out.new)) }
+    ensures counts { (counts : FileCounts) → TalliesEnd result (Counted counts (S.faults out.old))
+        (Counted counts (S.faults out.new)) }
     ensures only { Refusing Status.Words result }
 {
     match put_line(form_line(alloc), out) {
@@ -110,9 +111,8 @@ pub fn refuse_at<S: Sink>(
 ) -> Status
     ensures does { IsTrue S.tells →
         Refuses (At name.now line at cause) (S.taken out.old) result (S.taken out.new) }
-    ensures counts { (faults absences longs : ℕ) → TalliesEnd result
-        (Counted faults absences longs (S.faults out.old))
-        (Counted faults absences longs (S.faults out.new)) }
+    ensures counts { (counts : FileCounts) → TalliesEnd result (Counted counts (S.faults out.old))
+        (Counted counts (S.faults out.new)) }
     ensures only { Refusing Status.Script result }
 {
     match put_line(place_line(alloc, name, line, at, cause), out) {
@@ -126,9 +126,8 @@ pub fn refuse_at<S: Sink>(
 pub fn refuse_code<S: Sink>(alloc: Global, name: &[u8], flaw: CodeFlaw, out: &mut S) -> Status
     ensures does { IsTrue S.tells →
         Refuses (BadCode name.now flaw) (S.taken out.old) result (S.taken out.new) }
-    ensures counts { (faults absences longs : ℕ) → TalliesEnd result
-        (Counted faults absences longs (S.faults out.old))
-        (Counted faults absences longs (S.faults out.new)) }
+    ensures counts { (counts : FileCounts) → TalliesEnd result (Counted counts (S.faults out.old))
+        (Counted counts (S.faults out.new)) }
     ensures only { Refusing Status.Code result }
 {
     match put_line(code_line(alloc, name, flaw), out) {
@@ -142,9 +141,8 @@ pub fn refuse_code<S: Sink>(alloc: Global, name: &[u8], flaw: CodeFlaw, out: &mu
 pub fn refuse_area<S: Sink>(alloc: Global, name: &[u8], flaw: AreaFlaw, out: &mut S) -> Status
     ensures does { IsTrue S.tells →
         Refuses (BadArea name.now flaw) (S.taken out.old) result (S.taken out.new) }
-    ensures counts { (faults absences longs : ℕ) → TalliesEnd result
-        (Counted faults absences longs (S.faults out.old))
-        (Counted faults absences longs (S.faults out.new)) }
+    ensures counts { (counts : FileCounts) → TalliesEnd result (Counted counts (S.faults out.old))
+        (Counted counts (S.faults out.new)) }
     ensures only { Refusing Status.Area result }
 {
     match put_line(area_line(alloc, name, flaw), out) {
@@ -158,10 +156,8 @@ pub fn refuse_area<S: Sink>(alloc: Global, name: &[u8], flaw: AreaFlaw, out: &mu
 pub fn refuse_absent<S: Sink>(alloc: Global, name: &[u8], out: &mut S) -> Status
     ensures does { IsTrue S.tells →
         Refuses (Absent name.now) (S.taken out.old) result (S.taken out.new) }
-    ensures counts { (faults absences absences' longs : ℕ) → Rises absences absences' →
-        TalliesEnd result
-        (Counted faults absences longs (S.faults out.old))
-        (Counted faults absences' longs (S.faults out.new)) }
+    ensures counts { (before now : FileCounts) → Rose Absences before now → TalliesEnd result
+        (Counted before (S.faults out.old)) (Counted now (S.faults out.new)) }
     ensures only { Refusing Status.Missing result }
 {
     match put_line(name_line(alloc, "missing ", name), out) {
@@ -175,9 +171,8 @@ pub fn refuse_absent<S: Sink>(alloc: Global, name: &[u8], out: &mut S) -> Status
 pub fn refuse_long<S: Sink>(alloc: Global, name: &[u8], out: &mut S) -> Status
     ensures does { IsTrue S.tells →
         Refuses (TooLong name.now) (S.taken out.old) result (S.taken out.new) }
-    ensures counts { (faults absences longs longs' : ℕ) → Rises longs longs' → TalliesEnd result
-        (Counted faults absences longs (S.faults out.old))
-        (Counted faults absences longs' (S.faults out.new)) }
+    ensures counts { (before now : FileCounts) → Rose Longs before now → TalliesEnd result
+        (Counted before (S.faults out.old)) (Counted now (S.faults out.new)) }
     ensures only { Refusing Status.Long result }
 {
     match put_line(name_line(alloc, "long ", name), out) {

@@ -26,7 +26,7 @@ use Rattle.nss_include.specs.Walks.{Walks, step_fault, ends, fails, gives, again
 use Rattle.nss_include.specs.View.{lexeme_of, bytes_of}
 use Rattle.nss_include.proofs.PieceLemmas.{reads, of_file}
 use Rattle.nss_include.proofs.UnitLemmas.{bytes_stay, all_map, all_push, distinct_more}
-use Rattle.nwq_outside.specs.Outside.{FileCounts}
+use Rattle.nwq_outside.specs.declared.counts.FileCounts.{FileCounts}
 use Rattle.nss_include.specs.Gather.{HoldsFiles, Claims, CountsGathered}
 use Rattle.nss_include.specs.Progress.{Rest, closed, stops, goes, Ends, Leads, Stops, HasStep, Explains, ExplainsRead, IsReadFault, ReadFails, Includes, IsOpen, IsReady, IsOwnFault, Begins, ComesTo, Extends, RunSoFar, Advances, StopsBy, Halts, passed, reopened}
 
@@ -510,8 +510,8 @@ halts-own tells outside r (Bad spot) own _ = absurd own
 halts-own tells outside r (Include spot) own _ = absurd own
 
 pub counts-own : (A : Type 0) (fault : GatherFault) (counts : FileCounts) → IsOwnFault fault → CountsGathered {A = A} (Err fault) counts counts
-counts-own A (Tokens spot) counts own = (refl, refl, refl)
-counts-own A NoMemory counts own = (refl, refl, refl)
+counts-own A (Tokens spot) counts own = refl
+counts-own A NoMemory counts own = refl
 counts-own A (Missing name) counts own = absurd own
 counts-own A (Long name) counts own = absurd own
 counts-own A Fault counts own = absurd own

@@ -1,7 +1,9 @@
 -- What is answered of a unit, of whichever files.
 use Rattle.std.specs.Prelude.{◌≡◌, ℕ, List, [], ◌∷◌, Some, None, Result, Ok, Err}
 use Rattle.std.specs.List.{AllByRecursion}
-use Rattle.nwq_outside.specs.Outside.{FileCounts, NoneRises, FaultsRise, AbsencesRise, LongsRise}
+use Rattle.nwq_outside.specs.declared.counts.CountOf.TheVariants.{Faults, Absences, Longs}
+use Rattle.nwq_outside.specs.declared.counts.FileCounts.{FileCounts}
+use Rattle.nwq_outside.specs.Outside.{NoneRose, Rose}
 use Rattle.nss_lexer.specs.Splitting.{Lexeme}
 use Rattle.nss_include.specs.declared.fault.GatherFault.{GatherFault}
 use Rattle.nss_include.specs.declared.fault.GatherFault.TheVariants.{Missing, Fault, Long, Bad, Tokens, Include, NoMemory}
@@ -26,14 +28,14 @@ Claims NoMemory P = Unit {0}
 
 -- What the counts of files are after such an answer: none rose but that of the fault of the outside which it gives.
 abbrev pub CountsGathered : {A : Type 0} → Result A GatherFault → FileCounts → FileCounts → Type 0
-CountsGathered (Ok a) before now = NoneRises before now
-CountsGathered (Err (Missing name)) before now = AbsencesRise before now
-CountsGathered (Err (Long name)) before now = LongsRise before now
-CountsGathered (Err Fault) before now = FaultsRise before now
-CountsGathered (Err (Bad spot)) before now = NoneRises before now
-CountsGathered (Err (Tokens spot)) before now = NoneRises before now
-CountsGathered (Err (Include spot)) before now = NoneRises before now
-CountsGathered (Err NoMemory) before now = NoneRises before now
+CountsGathered (Ok a) before now = NoneRose before now
+CountsGathered (Err (Missing name)) before now = Rose Absences before now
+CountsGathered (Err (Long name)) before now = Rose Longs before now
+CountsGathered (Err Fault) before now = Rose Faults before now
+CountsGathered (Err (Bad spot)) before now = NoneRose before now
+CountsGathered (Err (Tokens spot)) before now = NoneRose before now
+CountsGathered (Err (Include spot)) before now = NoneRose before now
+CountsGathered (Err NoMemory) before now = NoneRose before now
 
 -- the file of this script stands first
 abbrev pub HasScript : List Source → List ℕ → Type 0

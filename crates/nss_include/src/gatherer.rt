@@ -3,7 +3,6 @@ ghost use Rattle.std.specs.FinMap as map;
 ghost use Rattle.std.specs.String.{string_bytes};
 ghost use Rattle.std.specs.Str.{IsUtf8};
 ghost use Rattle.nwq_value.specs.Limits.{token_limit};
-ghost use Rattle.nwq_outside.specs.Outside.{file_counts};
 ghost use Rattle.nss_include.specs.declared.step.Step.TheVariants as step;
 ghost use Rattle.nss_include.specs.Names.{file_name};
 ghost use Rattle.nss_include.specs.Units.{Lookup, IsUnit, HaveDistinctNames};
@@ -49,9 +48,7 @@ fn read_into<F: Files>(
     ensures fails { IfErr result (ReadFails F.tells
         (map.get (F.contents files.old)) name.now) }
     ensures same { F.contents files.new ≡ F.contents files.old }
-    ensures counts { CountsGathered result
-        (file_counts (F.faults files.old) (F.absences files.old) (F.longs files.old))
-        (file_counts (F.faults files.new) (F.absences files.new) (F.longs files.new)) }
+    ensures counts { CountsGathered result (F.counts files.old) (F.counts files.new) }
 {
     // The name of a refusal is made before the read: so want of memory for it raises no count.
     let refused = Text::of(alloc, name.as_bytes())?;
@@ -140,9 +137,7 @@ impl Gatherer {
         ensures fails { IfErr result (ReadFails F.tells
             (map.get (F.contents files.old)) name.now) }
         ensures same { F.contents files.new ≡ F.contents files.old }
-        ensures counts { CountsGathered result
-            (file_counts (F.faults files.old) (F.absences files.old) (F.longs files.old))
-            (file_counts (F.faults files.new) (F.absences files.new) (F.longs files.new)) }
+        ensures counts { CountsGathered result (F.counts files.old) (F.counts files.new) }
     {
         self.pass(here, after)?;
         let number = self.unit.count() as u16;
@@ -171,9 +166,7 @@ impl Gatherer {
         ensures halts { IfErr result (Halts F.tells
             (map.get (F.contents files.old)) (reopened here self.old)) }
         ensures same { F.contents files.new ≡ F.contents files.old }
-        ensures counts { CountsGathered result
-            (file_counts (F.faults files.old) (F.absences files.old) (F.longs files.old))
-            (file_counts (F.faults files.new) (F.absences files.new) (F.longs files.new)) }
+        ensures counts { CountsGathered result (F.counts files.old) (F.counts files.new) }
     {
         if self.count + 3 > MOST_TOKENS {
             return Err(GatherFault::Tokens(self.unit.spot(alloc, here.file, hash)?));
@@ -213,9 +206,7 @@ impl Gatherer {
         ensures halts { IfErr result (Halts F.tells
             (map.get (F.contents files.old)) (reopened here self.old)) }
         ensures same { F.contents files.new ≡ F.contents files.old }
-        ensures counts { CountsGathered result
-            (file_counts (F.faults files.old) (F.absences files.old) (F.longs files.old))
-            (file_counts (F.faults files.new) (F.absences files.new) (F.longs files.new)) }
+        ensures counts { CountsGathered result (F.counts files.old) (F.counts files.new) }
     {
         match self.step_at(alloc, here)? {
             Step::Ends => Ok(()),
@@ -253,9 +244,7 @@ impl Gatherer {
             (map.get (F.contents files.old)) self.old.unit.files → IfErr result
             (λ fault. Claims fault (ComesTo (map.get (F.contents files.old)) self.old fault)) }
         ensures same { F.contents files.new ≡ F.contents files.old }
-        ensures counts { CountsGathered result
-            (file_counts (F.faults files.old) (F.absences files.old) (F.longs files.old))
-            (file_counts (F.faults files.new) (F.absences files.new) (F.longs files.new)) }
+        ensures counts { CountsGathered result (F.counts files.old) (F.counts files.new) }
     {
         while let Some(here) = self.stack.pop() {
             match self.advance(alloc, files, here) {
@@ -274,9 +263,7 @@ fn begin<F: Files>(alloc: Global, files: &mut F, script: &str) -> Result<Gathere
     ensures fails { IfErr result (ReadFails F.tells
         (map.get (F.contents files.old)) (file_name script.now)) }
     ensures same { F.contents files.new ≡ F.contents files.old }
-    ensures counts { CountsGathered result
-        (file_counts (F.faults files.old) (F.absences files.old) (F.longs files.old))
-        (file_counts (F.faults files.new) (F.absences files.new) (F.longs files.new)) }
+    ensures counts { CountsGathered result (F.counts files.old) (F.counts files.new) }
 {
     let file = file_of(alloc, script.as_bytes())?;
     let mut stack = OpenFiles::new(alloc);
@@ -303,9 +290,7 @@ pub fn gather<F: Files>(alloc: Global, files: &mut F, name: &str) -> Result<Unit
     ensures distinct { IfOk result (λ unit. HaveDistinctNames unit.files) }
     ensures told { IsTrue F.tells → Gathers (map.get (F.contents files.old)) name.now result }
     ensures same { F.contents files.new ≡ F.contents files.old }
-    ensures counts { CountsGathered result
-        (file_counts (F.faults files.old) (F.absences files.old) (F.longs files.old))
-        (file_counts (F.faults files.new) (F.absences files.new) (F.longs files.new)) }
+    ensures counts { CountsGathered result (F.counts files.old) (F.counts files.new) }
 {
     one_first();
     some_split();

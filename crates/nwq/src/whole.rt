@@ -2,7 +2,6 @@ ghost use Rattle.std.specs.Prelude.{◌≡◌, ◌≤◌, [], map, IsTrue, IfOk,
 ghost use Rattle.hook_table.specs.Standard.{function_numbered, IsAnswer};
 ghost use Rattle.command_work.specs.Work.{IsCut, Does, ending};
 ghost use Rattle.command_work.specs.Counts.{Counted, Tallies, KeepsBut};
-ghost use Rattle.command_work.specs.Reading.{AreBytes};
 ghost use Rattle.command_words.specs.Words.{form_of};
 ghost use Rattle.nwq_top.specs.Command.{work_with, whole_work, MayWrite};
 ghost use Rattle.nwq_top.specs.Endings.{ComesOf};
@@ -39,9 +38,8 @@ fn run_hooked<F: Files, S: Sink, E: Sink>(
         (F.contents files.old) (S.taken out.old) (ending (status_numbered number))
         (F.contents files.new) (S.taken out.new)) }
     ensures counts { IfOk result (λ number. Tallies (ending (status_numbered number))
-        (Counted (F.faults files.old) (F.absences files.old) (F.longs files.old) (S.faults out.old))
-        (Counted (F.faults files.new) (F.absences files.new)
-        (F.longs files.new) (S.faults out.new))) }
+        (Counted (F.counts files.old) (S.faults out.old))
+        (Counted (F.counts files.new) (S.faults out.new))) }
     ensures names { IfOk result (λ _. KeepsBut (MayWrite (form_of (words_of all.now)))
         (F.contents files.old) (F.contents files.new)) }
     ensures only { IfOk result (λ number.
@@ -94,9 +92,8 @@ fn run_with<F: Files, S: Sink, E: Sink>(
         (F.contents files.old) (S.taken out.old) (ending (status_numbered result))
         (F.contents files.new) (S.taken out.new) }
     ensures counts { Tallies (ending (status_numbered result))
-        (Counted (F.faults files.old) (F.absences files.old) (F.longs files.old) (S.faults out.old))
-        (Counted (F.faults files.new) (F.absences files.new)
-        (F.longs files.new) (S.faults out.new)) }
+        (Counted (F.counts files.old) (S.faults out.old))
+        (Counted (F.counts files.new) (S.faults out.new)) }
     ensures names { KeepsBut (MayWrite (form_of (words_of all.now)))
         (F.contents files.old) (F.contents files.new) }
     ensures only { ComesOf (form_of (words_of all.now)) (status_numbered result) }
@@ -124,9 +121,8 @@ fn run_in_order<F: Files, S: Sink, E: Sink>(
         Does (whole_work (form_of (words_of all.now))) (F.contents files.old) (S.taken out.old)
         (ending (status_numbered result)) (F.contents files.new) (S.taken out.new) }
     ensures counts { Tallies (ending (status_numbered result))
-        (Counted (F.faults files.old) (F.absences files.old) (F.longs files.old) (S.faults out.old))
-        (Counted (F.faults files.new) (F.absences files.new)
-        (F.longs files.new) (S.faults out.new)) }
+        (Counted (F.counts files.old) (S.faults out.old))
+        (Counted (F.counts files.new) (S.faults out.new)) }
     ensures names { KeepsBut (MayWrite (form_of (words_of all.now)))
         (F.contents files.old) (F.contents files.new) }
     ensures only { ComesOf (form_of (words_of all.now)) (status_numbered result) }
@@ -152,17 +148,16 @@ pub(crate) fn run_all<F: Files, S: Sink, E: Sink>(
     ensures does { IsTrue F.tells → IsTrue S.tells →
         Does (whole_work (form_of (words_of all.now))) (F.contents files.old) (S.taken out.old)
         (ending (status_numbered result)) (F.contents files.new) (S.taken out.new) }
-    // Where the files also hold bytes: unless a failed call or want of memory cut it short, it
-    // refused the list or the table that is to be refused, or else did what the words mean, with
-    // cells looked up in exactly the tables that they give.
-    ensures means { IsTrue F.tells → IsTrue S.tells → AreBytes (F.contents files.old) →
+    // Unless a failed call or want of memory cut it short, it also refused the list or the table
+    // that is to be refused, or else did what the words mean, with cells looked up in exactly the
+    // tables that they give.
+    ensures means { IsTrue F.tells → IsTrue S.tells →
         (IsCut (ending (status_numbered result)) → ⊥) →
         MeansWhole (form_of (words_of all.now)) (F.contents files.old) (S.taken out.old)
         (ending (status_numbered result)) (F.contents files.new) (S.taken out.new) }
     ensures counts { Tallies (ending (status_numbered result))
-        (Counted (F.faults files.old) (F.absences files.old) (F.longs files.old) (S.faults out.old))
-        (Counted (F.faults files.new) (F.absences files.new)
-        (F.longs files.new) (S.faults out.new)) }
+        (Counted (F.counts files.old) (S.faults out.old))
+        (Counted (F.counts files.new) (S.faults out.new)) }
     ensures names { KeepsBut (MayWrite (form_of (words_of all.now)))
         (F.contents files.old) (F.contents files.new) }
     ensures only { ComesOf (form_of (words_of all.now)) (status_numbered result) }
@@ -170,5 +165,6 @@ pub(crate) fn run_all<F: Files, S: Sink, E: Sink>(
         TellsUsage (status_numbered result) (E.taken err.old) (E.taken err.new) }
 {
     whole_means();
+    files.contents_are_bytes();
     run_in_order(alloc, all, files, out, err)
 }

@@ -4,7 +4,9 @@ use Rattle.std.specs.Coded.{Coded, code_by, coded×, coded_ℕ, coded_list}
 use Rattle.std.specs.BTreeMap.{BTreeMap}
 use Rattle.std.specs.Prelude.{String}
 use Rattle.std.specs.String.{string_bytes}
-use Rattle.nwq_outside.specs.Outside.{Contents, next}
+use Rattle.nwq_outside.specs.declared.counts.CountOf.TheVariants.{Faults, Absences, Longs}
+use Rattle.nwq_outside.specs.declared.counts.FileCounts.{FileCounts}
+use Rattle.nwq_outside.specs.Outside.{Contents, next, with_next}
 use Rattle.nwq_outside.specs.declared.answer.Read.{Read}
 use Rattle.nwq_outside.specs.declared.answer.Read.TheVariants.{Bytes, Missing, Failed, Long, NoMemory}
 use Rattle.nwq_outside.specs.declared.answer.Done.{Done}
@@ -15,17 +17,15 @@ pub record Memory : Type 0 where
   pub contents : Contents
   pub failing : List ℕ
   pub calls : ℕ
-  pub faults : ℕ
-  pub absences : ℕ
-  pub longs : ℕ
+  pub counts : FileCounts
 
 -- a value of these files is told from others as the tuple of its fields
 abbrev pub memory_code : Coded Memory
 memory_code =
     code_by (Contents × (List ℕ × (ℕ × (ℕ × (ℕ × ℕ)))))
     (coded× (contents.code (coded_list coded_ℕ) (coded_list coded_ℕ)) (coded× (coded_list coded_ℕ) (coded× coded_ℕ (coded× coded_ℕ (coded× coded_ℕ coded_ℕ)))))
-    (λ m. (m.contents, (m.failing, (m.calls, (m.faults, (m.absences, m.longs))))))
-    (λ p. record { contents = p.0; failing = p.1.0; calls = p.1.1.0; faults = p.1.1.1.0; absences = p.1.1.1.1.0; longs = p.1.1.1.1.1 })
+    (λ m. (m.contents, (m.failing, (m.calls, (m.counts.faults, (m.counts.absences, m.counts.longs))))))
+    (λ p. record { contents = p.0; failing = p.1.0; calls = p.1.1.0; counts = record { faults = p.1.1.1.0; absences = p.1.1.1.1.0; longs = p.1.1.1.1.1 } })
     (λ _. refl)
 
 -- the contents that a map from names to bytes stands for
@@ -34,15 +34,15 @@ contents_of held = contents.from_entries (map (λ e. (string_bytes e.0, e.1)) he
 
 -- a call was counted, and with it a fault where it was to fail
 abbrev pub counted : Memory → Bool → Memory
-counted m true = record m { calls = next m.calls; faults = next m.faults }
+counted m true = record m { calls = next m.calls; counts = with_next Faults m.counts }
 counted m false = record m { calls = next m.calls }
 
 -- files after a read with this answer
 abbrev pub after_read : Memory → Read → Memory
 after_read m (Bytes bytes) = counted m false
-after_read m Missing = record m { calls = next m.calls; absences = next m.absences }
+after_read m Missing = record m { calls = next m.calls; counts = with_next Absences m.counts }
 after_read m Failed = counted m true
-after_read m Long = record m { calls = next m.calls; longs = next m.longs }
+after_read m Long = record m { calls = next m.calls; counts = with_next Longs m.counts }
 after_read m NoMemory = counted m false
 
 -- files after a write of these bytes with this answer

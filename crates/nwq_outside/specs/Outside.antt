@@ -1,9 +1,12 @@
 -- What the answers of files and of a sink say of their contents and of their counts.
-use Rattle.std.specs.Prelude.{◌≡◌, ◌≢◌, ℕ, ◌+◌, ◌-◌, ◌^◌, ◌<◌, ◌≤◌, min, max, List, ◌++◌, length, Option, Some, None, IsSomeAnd}
+use Rattle.std.specs.Prelude.{◌≡◌, ◌≢◌, ℕ, ◌+◌, ◌-◌, ◌^◌, ◌<◌, ◌≤◌, min, max, All, List, ◌++◌, length, Option, Some, None, IsSomeAnd}
 use Rattle.std.specs.Ordering.{nat_cmp}
 use Rattle.std.specs.Cmp.Lexicographic.{slice_cmp}
 use Rattle.std.specs.FinMap as map
 use Rattle.nwq_value.specs.Limits.{file_limit}
+use Rattle.nwq_outside.specs.declared.counts.CountOf.{CountOf}
+use Rattle.nwq_outside.specs.declared.counts.CountOf.TheVariants.{Faults, Absences, Longs}
+use Rattle.nwq_outside.specs.declared.counts.FileCounts.{FileCounts}
 use Rattle.nwq_outside.specs.declared.answer.Read.{Read}
 use Rattle.nwq_outside.specs.declared.answer.Read.TheVariants.{Bytes, Missing, Failed, Long, NoMemory}
 use Rattle.nwq_outside.specs.declared.answer.Done.{Done}
@@ -21,42 +24,47 @@ next count = max count (min (count + 1) (2 ^ 64 - 1))
 abbrev pub Rises : ℕ → ℕ → Type 0
 Rises before now = now ≡ next before
 
--- how often the outside failed, a name was not there, and a file was too long
-pub record FileCounts : Type 0 where
-  pub faults : ℕ
-  pub absences : ℕ
-  pub longs : ℕ
+-- the counts of files before any call
+abbrev pub no_counts : FileCounts
+no_counts = record { faults = 0; absences = 0; longs = 0 }
 
-abbrev pub file_counts : (faults absences longs : ℕ) → FileCounts
-file_counts faults absences longs = record { faults = faults; absences = absences; longs = longs }
+-- the counts of files where this one rose by one
+abbrev pub with_next : CountOf → FileCounts → FileCounts
+with_next Faults counts = record { faults = next counts.faults; absences = counts.absences; longs = counts.longs }
+with_next Absences counts = record { faults = counts.faults; absences = next counts.absences; longs = counts.longs }
+with_next Longs counts = record { faults = counts.faults; absences = counts.absences; longs = next counts.longs }
 
--- no count of files changed
-abbrev pub NoneRises : FileCounts → FileCounts → Type 0
-NoneRises before now = (now.faults ≡ before.faults) × (now.absences ≡ before.absences) × (now.longs ≡ before.longs)
+-- no count of files rose
+abbrev pub NoneRose : FileCounts → FileCounts → Type 0
+NoneRose before now = now ≡ before
 
--- one count of files rose, and no other changed
-abbrev pub FaultsRise : FileCounts → FileCounts → Type 0
-FaultsRise before now = Rises before.faults now.faults × (now.absences ≡ before.absences) × (now.longs ≡ before.longs)
-
-abbrev pub AbsencesRise : FileCounts → FileCounts → Type 0
-AbsencesRise before now = (now.faults ≡ before.faults) × Rises before.absences now.absences × (now.longs ≡ before.longs)
-
-abbrev pub LongsRise : FileCounts → FileCounts → Type 0
-LongsRise before now = (now.faults ≡ before.faults) × (now.absences ≡ before.absences) × Rises before.longs now.longs
+-- this count of files rose by one, and no other
+abbrev pub Rose : CountOf → FileCounts → FileCounts → Type 0
+Rose which before now = now ≡ with_next which before
 
 -- what the counts of files are after a read with this answer
 abbrev pub CountsRead : Read → FileCounts → FileCounts → Type 0
-CountsRead (Bytes bytes) before now = NoneRises before now
-CountsRead Missing before now = AbsencesRise before now
-CountsRead Failed before now = FaultsRise before now
-CountsRead Long before now = LongsRise before now
-CountsRead NoMemory before now = NoneRises before now
+CountsRead (Bytes bytes) before now = NoneRose before now
+CountsRead Missing before now = Rose Absences before now
+CountsRead Failed before now = Rose Faults before now
+CountsRead Long before now = Rose Longs before now
+CountsRead NoMemory before now = NoneRose before now
 
--- what the count of faults is after a write or a put with this answer
+-- what they are after a write with this answer
+abbrev pub CountsWrite : Done → FileCounts → FileCounts → Type 0
+CountsWrite done.Ok before now = NoneRose before now
+CountsWrite done.Failed before now = Rose Faults before now
+CountsWrite done.NoMemory before now = NoneRose before now
+
+-- what a sink's count of faults is after a put with this answer
 abbrev pub CountsDone : Done → ℕ → ℕ → Type 0
 CountsDone done.Ok before now = now ≡ before
 CountsDone done.Failed before now = Rises before now
 CountsDone done.NoMemory before now = now ≡ before
+
+-- what stands under each name are bytes
+unfoldable pub AreBytes : Contents → Type 0
+AreBytes contents = (name bytes : List ℕ) → map.get contents name ≡ Some bytes → All (λ b. b < 256) bytes
 
 -- an answer to a read of a name with this content, or with none
 abbrev pub ReadsContent : Option (List ℕ) → Read → Type 0

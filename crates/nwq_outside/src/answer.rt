@@ -1,6 +1,3 @@
-ghost use Rattle.std.specs.Prelude.{◌≡◌};
-ghost use Rattle.nwq_outside.specs.Outside.{next};
-
 /// The answer to a read.
 #[derive(Drop)]
 pub enum Read {
@@ -22,11 +19,4 @@ pub enum Done {
     /// The outside failed.
     Failed,
     NoMemory,
-}
-
-/// The next number of a count, which stays at the greatest one.
-pub(crate) fn raised(count: u64) -> u64
-    ensures { result ≡ next count }
-{
-    count.saturating_add(1)
 }

@@ -1,11 +1,12 @@
-ghost use Rattle.std.specs.Prelude.{◌≡◌, ◌≤◌, ◌↔◌, [], ◌∷◌, ◌++◌, true, IsTrue, OnOk, OnErr};
-ghost use Rattle.std.specs.Prelude.{Contains};
+ghost use Rattle.std.specs.Prelude.{◌≡◌, ◌<◌, ◌≤◌, ◌↔◌, [], ◌∷◌, ◌++◌, true, IsTrue, OnOk};
+ghost use Rattle.std.specs.Prelude.{OnErr, All, Contains};
 ghost use Rattle.std.specs.Option.{option_map, option_copied};
 ghost use Rattle.std.specs.FinMap as map;
-ghost use Rattle.nwq_outside.specs.Outside.{ReadsContent, IsFileSize, KeepsOthers};
+ghost use Rattle.nwq_outside.specs.Outside.{ReadsContent, IsFileSize, KeepsOthers, no_counts};
 ghost use Rattle.nwq_outside.specs.Memory.{contents_of};
 
-use crate::answer::{Done, Read, raised};
+use crate::answer::{Done, Read};
+use crate::counts::{CountOf, FileCounts};
 use crate::traits::{Files, Sink};
 use nwq_value::{FILE_BYTES, Items, NoMemory};
 use std::alloc::Global;
@@ -38,6 +39,13 @@ fn hold(
     Ok(())
 }
 
+/// That each of these is a byte.
+fn are_bytes(bytes: &[u8])
+    ensures { All (λ b. b < 256) bytes.now }
+{
+    let _ = bytes.len();
+}
+
 /// Files that are held in memory, with a list of the calls that are to fail.
 #[derive(Drop)]
 pub struct MemFiles {
@@ -45,13 +53,12 @@ pub struct MemFiles {
     held: BTreeMap<String, Items<u8>>,
     failing: Items<u64>,
     calls: u64,
-    faults: u64,
-    absences: u64,
-    longs: u64,
+    counts: FileCounts,
 }
 
 impl Model for MemFiles {
     ghost use Rattle.nwq_outside.specs.Memory.{Memory, memory_code, contents_of};
+    ghost use Rattle.nwq_outside.specs.Outside.{AreBytes};
 
     ghost Value = { Memory };
 
@@ -61,24 +68,23 @@ impl Model for MemFiles {
       contents = contents_of m.held;
       failing = m.failing;
       calls = m.calls;
-      faults = m.faults;
-      absences = m.absences;
-      longs = m.longs;
+      counts = m.counts;
     } };
+
+    ghost invariant = { λ m. AreBytes (contents_of m.held) };
 }
 
 impl MemFiles {
     ghost use Rattle.nwq_outside.specs.Memory.{counted, after_read, after_write};
 
     /// Files without names. No call was made, and none is to fail.
+    #[tactic(auto, using(crate::proofs::MemoryLemmas::bytes_are))]
     pub fn new(alloc: Global) -> MemFiles
         ensures empty { result ≡ record {
           contents = map.empty;
           failing = [];
           calls = 0;
-          faults = 0;
-          absences = 0;
-          longs = 0;
+          counts = no_counts;
         } }
     {
         MemFiles {
@@ -86,18 +92,18 @@ impl MemFiles {
             held: BTreeMap::new(alloc),
             failing: Items::new(alloc),
             calls: 0,
-            faults: 0,
-            absences: 0,
-            longs: 0,
+            counts: FileCounts::new(),
         }
     }
 
     /// Puts these bytes under the name. This is no call.
+    #[tactic(auto, using(crate::proofs::MemoryLemmas::bytes_are))]
     pub fn add(&mut self, name: &str, bytes: &[u8]) -> Result<(), NoMemory>
         ensures ok { OnOk result (self.new
             ≡ record self.old { contents = map.insert self.old.contents name.now bytes.now }) }
         ensures err { OnErr result (self.new ≡ self.old) }
     {
+        are_bytes(bytes);
         hold(&mut self.held, self.alloc, name, bytes)
     }
 
@@ -127,9 +133,9 @@ impl MemFiles {
         ensures after { self.new ≡ counted self.old result }
     {
         let fails = self.failing.as_slice().contains(&self.calls);
-        self.calls = raised(self.calls);
+        self.calls = self.calls.saturating_add(1);
         if fails {
-            self.faults = raised(self.faults);
+            self.counts.raise(CountOf::Faults);
         }
         fails
     }
@@ -142,11 +148,11 @@ impl Files for MemFiles {
 
     ghost contents = { λ m. m.contents };
 
-    ghost faults = { λ m. m.faults };
+    ghost counts = { λ m. m.counts };
 
-    ghost absences = { λ m. m.absences };
-
-    ghost longs = { λ m. m.longs };
+    fn contents_are_bytes(&self) {
+        let _calls = self.calls;
+    }
 
     fn read(&mut self, alloc: Global, name: &str) -> Read
         ensures content { ReadsContent (map.get self.old.contents name.now) result }
@@ -159,11 +165,11 @@ impl Files for MemFiles {
         }
         match content_of(&self.held, name) {
             None => {
-                self.absences = raised(self.absences);
+                self.counts.raise(CountOf::Absences);
                 Read::Missing
             }
             Some(bytes) if bytes.len() > FILE_BYTES => {
-                self.longs = raised(self.longs);
+                self.counts.raise(CountOf::Longs);
                 Read::Long
             }
             Some(bytes) => match Vec::from_slice(alloc, bytes.as_slice()) {
@@ -262,9 +268,9 @@ impl Sink for MemSink {
         ensures after { self.new ≡ after_put self.old piece.now result }
     {
         let refused = self.failing.as_slice().contains(&self.calls);
-        self.calls = raised(self.calls);
+        self.calls = self.calls.saturating_add(1);
         if refused {
-            self.faults = raised(self.faults);
+            self.faults = self.faults.saturating_add(1);
             return Done::Failed;
         }
         match self.taken.extend(piece) {

@@ -1,6 +1,7 @@
 ghost use Rattle.std.specs.Prelude.{◌≡◌, ℕ, Bool, List, IsTrue};
 ghost use Rattle.std.specs.FinMap as map;
-ghost use Rattle.nwq_outside.specs.Outside.{Contents, CountsRead, CountsDone, file_counts};
+ghost use Rattle.nwq_outside.specs.declared.counts.FileCounts.{FileCounts};
+ghost use Rattle.nwq_outside.specs.Outside.{Contents, AreBytes, CountsRead, CountsWrite, CountsDone};
 ghost use Rattle.nwq_outside.specs.Outside.{ReadsContent, IsFileSize, KeepsOthers, Leaves, Takes};
 
 use crate::answer::{Done, Read};
@@ -14,15 +15,13 @@ pub trait Files {
 
     ghost contents: { Self → Contents };
 
-    /// How often the outside failed. Each count rises only with its answer, and then by one, up to
-    /// the greatest `u64`.
-    ghost faults: { Self → ℕ };
+    /// How often the outside failed, a name was not there, and a file was too long. Each count
+    /// rises only with its answer, and then by one, up to the greatest `u64`.
+    ghost counts: { Self → FileCounts };
 
-    /// How often a name was not there.
-    ghost absences: { Self → ℕ };
-
-    /// How often a file was too long.
-    ghost longs: { Self → ℕ };
+    /// That what the files hold are bytes, where they tell it.
+    fn contents_are_bytes(&self)
+        ensures bytes { IsTrue tells → AreBytes (contents self.now) };
 
     /// What is under the name.
     fn read(&mut self, alloc: Global, name: &str) -> Read
@@ -30,18 +29,14 @@ pub trait Files {
             ReadsContent (map.get (contents self.old) name.now) result }
         ensures size { IsFileSize result }
         ensures same { contents self.new ≡ contents self.old }
-        ensures counts { CountsRead result
-            (file_counts (faults self.old) (absences self.old) (longs self.old))
-            (file_counts (faults self.new) (absences self.new) (longs self.new)) };
+        ensures counts { CountsRead result (counts self.old) (counts self.new) };
 
     /// Puts these bytes under the name, in place of what was there.
     fn write(&mut self, name: &str, bytes: &[u8]) -> Done
         ensures left { IsTrue tells →
             Leaves (contents self.old) (contents self.new) name.now bytes.now result }
         ensures others { KeepsOthers name.now (contents self.old) (contents self.new) }
-        ensures counts { CountsDone result (faults self.old) (faults self.new) }
-        ensures absences_stay { absences self.new ≡ absences self.old }
-        ensures longs_stay { longs self.new ≡ longs self.old };
+        ensures counts { CountsWrite result (counts self.old) (counts self.new) };
 }
 
 /// What takes the printed text, piece by piece.

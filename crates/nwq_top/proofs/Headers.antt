@@ -3,13 +3,13 @@ use Rattle.std.proofs.Common.{◌≡◌, inl, inr, Bool, true, false, ℕ, List,
 use Rattle.nwq_value.specs.Engine.{EngineTable, IsTable}
 use Rattle.nwq_value.specs.HeaderTable.{header_table}
 use Rattle.nwq_text.specs.Line.{line_number}
-use Rattle.nwq_outside.specs.Outside.{Contents}
+use Rattle.nwq_outside.specs.Outside.{Contents, AreBytes}
 use Rattle.engine_table.specs.KeptTables.{HeadersHaveTables, BuiltInIsTable}
 use Rattle.command_work.specs.declared.status.Status.{Status}
 use Rattle.command_work.specs.Refusal.{Refusal, At, line_of, status_of}
 use Rattle.command_work.specs.Work.{Does, file_named}
 use Rattle.command_work.specs.Parts.{then_ok, then_err}
-use Rattle.command_work.specs.Reading.{AreBytes, IsRead, IsUnread}
+use Rattle.command_work.specs.Reading.{IsRead, IsUnread}
 use Rattle.command_work.specs.Comes.{Came, cut, gives_does, refused_does, given_comes, refusal_comes, then_comes, read_does, unread_does, file_comes}
 use Rattle.command_sources.specs.Headers.{HeaderFate, Whole, Faulty, IsHeaderFate, whole, table_by, table_in, table_named, table_unless, table_of}
 use Rattle.nwq_top.specs.Accepting.{HasHeader, built_in, read}
@@ -72,5 +72,6 @@ module _ (c : Contents) (t : List ℕ) (word : List ℕ) where
 
 -- the table of a header keeps what every table keeps
 pub is_table : HeadersHaveTables → BuiltInIsTable → (c : Contents) (word : List ℕ) (table : EngineTable) → AreBytes c → HasHeader c word table → IsTable table
+unfolding AreBytes
 is_table reads own c word table held (built_in e) = own
 is_table reads own c word table held (read e bytes is _ has) = reads bytes table (held word bytes is.held) has

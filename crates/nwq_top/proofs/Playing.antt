@@ -2,7 +2,7 @@
 use Rattle.std.proofs.Common.{◌≡◌, ℕ, List, [], ◌++◌, map, Result, Ok, Err, sym, subst, ap, ◌∙◌, inl, inr, append_assoc}
 use Rattle.std.specs.FinMap as fin_map
 use Rattle.nwq_value.specs.Engine.{EngineTable, IsTable}
-use Rattle.nwq_outside.specs.Outside.{Contents}
+use Rattle.nwq_outside.specs.Outside.{Contents, AreBytes}
 use Rattle.gff_write.specs.declared.fault.WriteFault.{WriteFault}
 use Rattle.gff_write.specs.File.{written, outcome_of}
 use Rattle.area_rules.specs.Area.{PlainArea}
@@ -23,7 +23,6 @@ use Rattle.command_work.specs.Refusal.{Refusal, line_of, status_of}
 use Rattle.command_work.specs.Work.{Puts, then, puts, writes, IsCut, Does, Finished}
 use Rattle.command_work.specs.Parts.{value_or, then_ok, then_err}
 use Rattle.command_work.specs.Sequences.{Parts, ends_first, goes_on, parts, then_known}
-use Rattle.command_work.specs.Reading.{AreBytes}
 use Rattle.command_work.specs.Comes.{refusal_not_cut, Follows, follows, ends, cuts, then_follows}
 use Rattle.command_sources.specs.Headers.{table_of}
 use Rattle.command_sources.specs.Laws.{SureTables}

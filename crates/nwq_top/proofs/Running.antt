@@ -1,7 +1,7 @@
 -- What `run` and `compile` do.
 use Rattle.std.proofs.Common.{◌≡◌, inl, inr, ℕ, List, ◌++◌, length, Result, Err, sym, ap, ◌∙◌}
 use Rattle.nwq_value.specs.Engine.{EngineTable, IsTable}
-use Rattle.nwq_outside.specs.Outside.{Contents}
+use Rattle.nwq_outside.specs.Outside.{Contents, AreBytes}
 use Rattle.nss_include.specs.Names.{file_name}
 use Rattle.typing_rules.specs.Typed.{TypedUnit}
 use Rattle.emission_rules.specs.Units.{unit_file}
@@ -13,7 +13,6 @@ use Rattle.command_work.specs.Work.{Work, then, IsCut, Does, Finished, puts, wri
 use Rattle.command_work.specs.Parts.{then_ok, then_err}
 use Rattle.command_work.specs.Outcomes.{IsSure, agree, sure_then, sure_writes, sure_puts}
 use Rattle.command_work.specs.Sequences.{then_known}
-use Rattle.command_work.specs.Reading.{AreBytes}
 use Rattle.command_work.specs.Comes.{refusal_not_cut, Follows, follows, ends, cuts, then_follows}
 use Rattle.command_sources.specs.Headers.{table_of}
 use Rattle.command_sources.specs.Laws.{SureTables}
@@ -41,6 +40,7 @@ pub not_stopped : Done ≡ StoppedInside → ⊥
 not_stopped e = absurd cc
 
 pub source_bytes : (c : Contents) → AreBytes c → HoldBytes c
+unfolding AreBytes
 source_bytes c held name bytes is = held (file_name name) bytes is
 
 -- a work that has one outcome and was done is refused where it can be

@@ -1,6 +1,6 @@
 -- The work of the whole program does what it means.
 use Rattle.std.proofs.Common.{ℕ, List, ◌++◌, Result, Ok, Err, ap, ◌∙◌}
-use Rattle.nwq_outside.specs.Outside.{Contents}
+use Rattle.nwq_outside.specs.Outside.{Contents, AreBytes}
 use Rattle.table_2da.specs.Look.{cell_of}
 use Rattle.command_work.specs.declared.status.Status.{Status}
 use Rattle.command_work.specs.Refusal.{Refusal, line_of, status_of}
@@ -8,7 +8,6 @@ use Rattle.command_work.specs.Work.{then, IsCut, Does, Finished}
 use Rattle.command_work.specs.Parts.{status_or}
 use Rattle.command_work.specs.Outcomes.{agree}
 use Rattle.command_work.specs.Sequences.{then_known}
-use Rattle.command_work.specs.Reading.{AreBytes}
 use Rattle.command_work.specs.Comes.{refusal_not_cut, Follows, follows, ends, cuts, then_follows}
 use Rattle.command_tables.specs.Tables.{tables_given}
 use Rattle.command_tables.specs.Laws.{SureTables}

@@ -1,6 +1,6 @@
 -- What the words of a command mean, and the whole program.
 use Rattle.std.specs.Prelude.{◌≤◌, ℕ, List, Result}
-use Rattle.nwq_outside.specs.Outside.{Contents}
+use Rattle.nwq_outside.specs.Outside.{Contents, AreBytes}
 use Rattle.table_2da.specs.declared.tables.Named.{Named}
 use Rattle.table_2da.specs.Look.{cell_of}
 use Rattle.world_rules.specs.Pure.{CellLookup}
@@ -8,7 +8,6 @@ use Rattle.play_generator.specs.Made.{number_limit}
 use Rattle.command_work.specs.declared.status.Status.{Status}
 use Rattle.command_work.specs.Refusal.{Refusal}
 use Rattle.command_work.specs.Work.{IsCut, Does, Finished}
-use Rattle.command_work.specs.Reading.{AreBytes}
 use Rattle.nwq_top.specs.Refusing.{IsRefused}
 use Rattle.nwq_top.specs.Runs.{MeansRun, MeansCompile}
 use Rattle.nwq_top.specs.Plays.{MeansPlay}

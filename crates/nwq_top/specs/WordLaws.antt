@@ -3,7 +3,7 @@
 use Rattle.std.specs.Prelude.{◌≡◌, ◌≤◌, ℕ, List, Result}
 use Rattle.std.specs.FinMap as fin_map
 use Rattle.nwq_value.specs.Engine.{EngineTable}
-use Rattle.nwq_outside.specs.Outside.{Contents}
+use Rattle.nwq_outside.specs.Outside.{Contents, AreBytes}
 use Rattle.typing_rules.specs.declared.fault.Fault.{Fault}
 use Rattle.typing_rules.specs.Nodes.{IsLeast}
 use Rattle.typing_rules.specs.Meaning.{FaultInUnit}
@@ -11,7 +11,6 @@ use Rattle.world_rules.specs.Pure.{CellLookup}
 use Rattle.play_generator.specs.Made.{number_limit}
 use Rattle.command_work.specs.declared.status.Status.{Status}
 use Rattle.command_work.specs.Work.{then, IsCut, Does, Finished}
-use Rattle.command_work.specs.Reading.{AreBytes}
 use Rattle.command_sources.specs.Headers.{table_of}
 use Rattle.command_sources.specs.Units.{PlainScript, Whole, IsUnitFate}
 use Rattle.command_compile.specs.Files.{code_name, compiled_named, compiles}

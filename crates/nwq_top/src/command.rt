@@ -32,10 +32,8 @@ pub fn command<F: Files, S: Sink>(
         (form_of (map string_bytes words.now)))
         (F.contents files.old) (S.taken out.old)
         result (F.contents files.new) (S.taken out.new) }
-    ensures counts { Tallies result
-        (Counted (F.faults files.old) (F.absences files.old) (F.longs files.old) (S.faults out.old))
-        (Counted (F.faults files.new) (F.absences files.new)
-        (F.longs files.new) (S.faults out.new)) }
+    ensures counts { Tallies result (Counted (F.counts files.old) (S.faults out.old))
+        (Counted (F.counts files.new) (S.faults out.new)) }
     ensures names { KeepsBut (MayWrite (form_of (map string_bytes words.now)))
         (F.contents files.old) (F.contents files.new) }
     ensures only { ComesOfResult (form_of (map string_bytes words.now)) result }
@@ -74,10 +72,8 @@ pub fn status_of_words<F: Files, S: Sink>(
         (form_of (map string_bytes words.now)))
         (F.contents files.old) (S.taken out.old)
         (ending result) (F.contents files.new) (S.taken out.new) }
-    ensures counts { Tallies (ending result)
-        (Counted (F.faults files.old) (F.absences files.old) (F.longs files.old) (S.faults out.old))
-        (Counted (F.faults files.new) (F.absences files.new)
-        (F.longs files.new) (S.faults out.new)) }
+    ensures counts { Tallies (ending result) (Counted (F.counts files.old) (S.faults out.old))
+        (Counted (F.counts files.new) (S.faults out.new)) }
     ensures names { KeepsBut (MayWrite (form_of (map string_bytes words.now)))
         (F.contents files.old) (F.contents files.new) }
     ensures only { ComesOf (form_of (map string_bytes words.now)) result }

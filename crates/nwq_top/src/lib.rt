@@ -33,7 +33,6 @@ ghost use Rattle.std.specs.Prelude.{map, string_bytes, IsTrue};
 ghost use Rattle.world_core.specs.Calls.{cells_of, AreServing};
 ghost use Rattle.command_work.specs.Work.{IsCut, Does, ending};
 ghost use Rattle.command_work.specs.Counts.{Counted, Tallies, KeepsBut};
-ghost use Rattle.command_work.specs.Reading.{AreBytes};
 ghost use Rattle.command_words.specs.Words.{form_of};
 ghost use Rattle.nwq_top.specs.Command.{work_of, MayWrite};
 ghost use Rattle.nwq_top.specs.Endings.{ComesOf};
@@ -64,25 +63,22 @@ pub fn nwq_main<F: Files, S: Sink>(
         (form_of (map string_bytes words.now)))
         (F.contents files.old) (S.taken out.old)
         (ending result) (F.contents files.new) (S.taken out.new) }
-    // Where the files also hold bytes: unless a failed call or want of memory cut it short, it
-    // refused what is to be refused, wrote files that pass the stack checker, and told and left
-    // what the source texts mean.
-    ensures means { IsTrue F.tells → IsTrue S.tells → AreBytes (F.contents files.old) →
-        (IsCut (ending result) → ⊥) →
+    // Unless a failed call or want of memory cut it short, it also refused what is to be refused,
+    // wrote files that pass the stack checker, and told and left what the source texts mean.
+    ensures means { IsTrue F.tells → IsTrue S.tells → (IsCut (ending result) → ⊥) →
         Means (cells_of (map (λ h. h.known) hooks.now.all.items))
         (form_of (map string_bytes words.now))
         (F.contents files.old) (S.taken out.old)
         (ending result) (F.contents files.new) (S.taken out.new) }
     // A read, write or put that was refused is the last one, and the status says which.
-    ensures counts { Tallies (ending result)
-        (Counted (F.faults files.old) (F.absences files.old) (F.longs files.old) (S.faults out.old))
-        (Counted (F.faults files.new) (F.absences files.new)
-        (F.longs files.new) (S.faults out.new)) }
+    ensures counts { Tallies (ending result) (Counted (F.counts files.old) (S.faults out.old))
+        (Counted (F.counts files.new) (S.faults out.new)) }
     // Every name that the command may not write has what it had.
     ensures names { KeepsBut (MayWrite (form_of (map string_bytes words.now)))
         (F.contents files.old) (F.contents files.new) }
     ensures only { ComesOf (form_of (map string_bytes words.now)) result }
 {
     work_means();
+    files.contents_are_bytes();
     status_of_words(alloc, words, files, out, hooks)
 }

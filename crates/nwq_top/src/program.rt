@@ -5,7 +5,6 @@ ghost use Rattle.command_work.specs.Counts.{Counted, Tallies, KeepsBut, StopsAre
 ghost use Rattle.command_tables.specs.Tables.{tables_given};
 ghost use Rattle.command_words.specs.Words.{form_of, list_of};
 ghost use Rattle.nwq_top.specs.Command.{work_of, MayWrite};
-ghost use Rattle.command_work.specs.Reading.{AreBytes};
 ghost use Rattle.nwq_top.specs.Endings.{ComesOf};
 ghost use Rattle.nwq_top.specs.Meaning.{Means};
 ghost use Rattle.nwq_top.specs.Program.{status_number, status_numbered, words_of, usage_line};
@@ -68,10 +67,8 @@ pub fn program_tables<F: Files, S: Sink>(
         Does (tables_given (list_of (form_of (words_of all.now))))
         (F.contents files.old) (S.taken out.old)
         (by_status result) (F.contents files.new) (S.taken out.new) }
-    ensures counts { Tallies (by_status result)
-        (Counted (F.faults files.old) (F.absences files.old) (F.longs files.old) (S.faults out.old))
-        (Counted (F.faults files.new) (F.absences files.new)
-        (F.longs files.new) (S.faults out.new)) }
+    ensures counts { Tallies (by_status result) (Counted (F.counts files.old) (S.faults out.old))
+        (Counted (F.counts files.new) (S.faults out.new)) }
     ensures same { F.contents files.new ≡ F.contents files.old }
     ensures only { IfErr result (λ n. StopsArea (status_numbered n)) }
     ensures none { list_of (form_of (words_of all.now)) ≡ None → result ≡ Ok [] }
@@ -100,15 +97,14 @@ pub fn nwq_program<F: Files, S: Sink, E: Sink>(
         Does (work_of (cells_of (map (λ h. h.known) hooks.now.all.items))
         (form_of (words_of all.now))) (F.contents files.old) (S.taken out.old)
         (ending (status_numbered result)) (F.contents files.new) (S.taken out.new) }
-    ensures means { IsTrue F.tells → IsTrue S.tells → AreBytes (F.contents files.old) →
+    ensures means { IsTrue F.tells → IsTrue S.tells →
         (IsCut (ending (status_numbered result)) → ⊥) →
         Means (cells_of (map (λ h. h.known) hooks.now.all.items))
         (form_of (words_of all.now)) (F.contents files.old) (S.taken out.old)
         (ending (status_numbered result)) (F.contents files.new) (S.taken out.new) }
     ensures counts { Tallies (ending (status_numbered result))
-        (Counted (F.faults files.old) (F.absences files.old) (F.longs files.old) (S.faults out.old))
-        (Counted (F.faults files.new) (F.absences files.new)
-        (F.longs files.new) (S.faults out.new)) }
+        (Counted (F.counts files.old) (S.faults out.old))
+        (Counted (F.counts files.new) (S.faults out.new)) }
     ensures names { KeepsBut (MayWrite (form_of (words_of all.now)))
         (F.contents files.old) (F.contents files.new) }
     ensures only { ComesOf (form_of (words_of all.now)) (status_numbered result) }

@@ -25,10 +25,8 @@ pub fn nwq_tables<F: Files, S: Sink>(
         Does (tables_given (list_of (form_of (map string_bytes words.now))))
         (F.contents files.old) (S.taken out.old)
         result (F.contents files.new) (S.taken out.new) }
-    ensures counts { Tallies result
-        (Counted (F.faults files.old) (F.absences files.old) (F.longs files.old) (S.faults out.old))
-        (Counted (F.faults files.new) (F.absences files.new)
-        (F.longs files.new) (S.faults out.new)) }
+    ensures counts { Tallies result (Counted (F.counts files.old) (S.faults out.old))
+        (Counted (F.counts files.new) (S.faults out.new)) }
     ensures same { F.contents files.new ≡ F.contents files.old }
     ensures only { IfErr result StopsArea }
     ensures none { list_of (form_of (map string_bytes words.now)) ≡ None → result ≡ Ok [] }

@@ -2,6 +2,7 @@ ghost use Rattle.std.specs.Prelude.{◌≡◌, ◌<◌, ℕ, IsTrue, IfErr};
 ghost use Rattle.nwq_outside.specs.Outside.{Contents};
 ghost use Rattle.gff_tree.specs.Whole.{plain_gff};
 ghost use Rattle.gff_tree.specs.Count.{node_count};
+ghost use Rattle.nwq_outside.specs.declared.counts.FileCounts.{FileCounts};
 ghost use Rattle.command_work.specs.Work.{Does};
 ghost use Rattle.command_work.specs.Counts.{Counted, Tallies, Refusing, StopsArea};
 ghost use Rattle.play_inputs.specs.Areas.{area_flaw, area_in, area_named};
@@ -39,9 +40,8 @@ fn area_of_tree<S: Sink>(alloc: Global, name: &[u8], tree: Gff, out: &mut S) -> 
     ensures does { IsTrue S.tells → (c : Contents) →
         Does (area_in name.now (plain_gff tree)) c
         (S.taken out.old) result c (S.taken out.new) }
-    ensures counts { (faults absences longs : ℕ) → Tallies result
-        (Counted faults absences longs (S.faults out.old))
-        (Counted faults absences longs (S.faults out.new)) }
+    ensures counts { (counts : FileCounts) → Tallies result (Counted counts (S.faults out.old))
+        (Counted counts (S.faults out.new)) }
     ensures only { IfErr result (Refusing Status.Area) }
 {
     match Area::of(alloc, tree) {
@@ -64,10 +64,8 @@ pub fn read_area<F: Files, S: Sink>(
     ensures does { IsTrue F.tells → IsTrue S.tells →
         Does (area_named name.now) (F.contents files.old) (S.taken out.old)
         result (F.contents files.new) (S.taken out.new) }
-    ensures counts { Tallies result
-        (Counted (F.faults files.old) (F.absences files.old) (F.longs files.old) (S.faults out.old))
-        (Counted (F.faults files.new) (F.absences files.new)
-        (F.longs files.new) (S.faults out.new)) }
+    ensures counts { Tallies result (Counted (F.counts files.old) (S.faults out.old))
+        (Counted (F.counts files.new) (S.faults out.new)) }
     ensures same { F.contents files.new ≡ F.contents files.old }
     ensures only { IfErr result StopsArea }
 {

@@ -44,10 +44,8 @@ fn write_loaded<F: Files, S: Sink>(
     ensures does { IsTrue F.tells → IsTrue S.tells →
         Does (writes_loaded table.now file.now bytes) (F.contents files.old) (S.taken out.old)
         (plain_answer result) (F.contents files.new) (S.taken out.new) }
-    ensures counts { Tallies result
-        (Counted (F.faults files.old) (F.absences files.old) (F.longs files.old) (S.faults out.old))
-        (Counted (F.faults files.new) (F.absences files.new)
-        (F.longs files.new) (S.faults out.new)) }
+    ensures counts { Tallies result (Counted (F.counts files.old) (S.faults out.old))
+        (Counted (F.counts files.new) (S.faults out.new)) }
     ensures names { KeepsBut (λ other. other ≡ file.now)
         (F.contents files.old) (F.contents files.new) }
     ensures meets { IfOk result (λ checked.
@@ -77,10 +75,8 @@ fn read_source<F: Files, S: Sink>(
     ensures does { IsTrue F.tells → IsTrue S.tells →
         Does (source_named table.now name.now) (F.contents files.old) (S.taken out.old)
         (plain_answer result) (F.contents files.new) (S.taken out.new) }
-    ensures counts { Tallies result
-        (Counted (F.faults files.old) (F.absences files.old) (F.longs files.old) (S.faults out.old))
-        (Counted (F.faults files.new) (F.absences files.new)
-        (F.longs files.new) (S.faults out.new)) }
+    ensures counts { Tallies result (Counted (F.counts files.old) (S.faults out.old))
+        (Counted (F.counts files.new) (S.faults out.new)) }
     ensures names { KeepsBut (λ other. other ≡ code_name name.now)
         (F.contents files.old) (F.contents files.new) }
     ensures meets { IfOk result (λ checked.
@@ -108,10 +104,8 @@ fn read_by<F: Files, S: Sink>(
     ensures does { IsTrue F.tells → IsTrue S.tells →
         Does (code_by binary table.now name.now) (F.contents files.old) (S.taken out.old)
         (plain_answer result) (F.contents files.new) (S.taken out.new) }
-    ensures counts { Tallies result
-        (Counted (F.faults files.old) (F.absences files.old) (F.longs files.old) (S.faults out.old))
-        (Counted (F.faults files.new) (F.absences files.new)
-        (F.longs files.new) (S.faults out.new)) }
+    ensures counts { Tallies result (Counted (F.counts files.old) (S.faults out.old))
+        (Counted (F.counts files.new) (S.faults out.new)) }
     ensures names { KeepsBut (λ other. (binary ≡ false) × (other ≡ code_name name.now))
         (F.contents files.old) (F.contents files.new) }
     ensures meets { IfOk result (λ checked.
@@ -139,10 +133,8 @@ fn read_code<F: Files, S: Sink>(
         Does (code_by line.now.binary table.now line.now.name)
         (F.contents files.old) (S.taken out.old)
         (plain_answer result) (F.contents files.new) (S.taken out.new) }
-    ensures counts { Tallies result
-        (Counted (F.faults files.old) (F.absences files.old) (F.longs files.old) (S.faults out.old))
-        (Counted (F.faults files.new) (F.absences files.new)
-        (F.longs files.new) (S.faults out.new)) }
+    ensures counts { Tallies result (Counted (F.counts files.old) (S.faults out.old))
+        (Counted (F.counts files.new) (S.faults out.new)) }
     ensures names { KeepsBut (IsOwnFile line.now) (F.contents files.old) (F.contents files.new) }
     ensures meets { IfOk result (λ checked.
         MeetsRules table.now checked.code (kept_table checked)) }
@@ -170,10 +162,8 @@ pub(crate) fn read_script<F: Files, S: Sink>(
     ensures does { IsTrue F.tells → IsTrue S.tells →
         Does (script_in table.now line.now) (F.contents files.old) (S.taken out.old)
         (script_answer result) (F.contents files.new) (S.taken out.new) }
-    ensures counts { Tallies result
-        (Counted (F.faults files.old) (F.absences files.old) (F.longs files.old) (S.faults out.old))
-        (Counted (F.faults files.new) (F.absences files.new)
-        (F.longs files.new) (S.faults out.new)) }
+    ensures counts { Tallies result (Counted (F.counts files.old) (S.faults out.old))
+        (Counted (F.counts files.new) (S.faults out.new)) }
     ensures names { KeepsBut (IsOwnFile line.now) (F.contents files.old) (F.contents files.new) }
     ensures meets { IfOk result (λ loaded.
         MeetsRules table.now loaded.code.code (kept_table loaded.code)) }

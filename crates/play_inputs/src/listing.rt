@@ -32,10 +32,8 @@ fn list_on<F: Files, S: Sink>(
         Does (lists_on table.now (scripts_of scripts.old) lines.now)
         (F.contents files.old) (S.taken out.old)
         (listed_by result scripts.new) (F.contents files.new) (S.taken out.new) }
-    ensures counts { Tallies result
-        (Counted (F.faults files.old) (F.absences files.old) (F.longs files.old) (S.faults out.old))
-        (Counted (F.faults files.new) (F.absences files.new)
-        (F.longs files.new) (S.faults out.new)) }
+    ensures counts { Tallies result (Counted (F.counts files.old) (S.faults out.old))
+        (Counted (F.counts files.new) (S.faults out.new)) }
     ensures names { KeepsBut (IsSourceFile lines.now)
         (F.contents files.old) (F.contents files.new) }
     ensures meets { OnOk result
@@ -69,10 +67,8 @@ pub fn list_scripts<F: Files, S: Sink>(
     ensures does { IsTrue F.tells → IsTrue S.tells →
         Does (scripts_listed table.now lines.now) (F.contents files.old) (S.taken out.old)
         (listed_answer result) (F.contents files.new) (S.taken out.new) }
-    ensures counts { Tallies result
-        (Counted (F.faults files.old) (F.absences files.old) (F.longs files.old) (S.faults out.old))
-        (Counted (F.faults files.new) (F.absences files.new)
-        (F.longs files.new) (S.faults out.new)) }
+    ensures counts { Tallies result (Counted (F.counts files.old) (S.faults out.old))
+        (Counted (F.counts files.new) (S.faults out.new)) }
     // The files of the sources alone are written.
     ensures names { KeepsBut (IsSourceFile lines.now)
         (F.contents files.old) (F.contents files.new) }

@@ -86,6 +86,7 @@ fn long_real_files(rt: HostRuntime) -> Result<(), Fail> {
     assert!(rt; holds(rt.alloc(), &mut files, "long.bin", bytes.as_slice()));
     bytes.push(7)?;
     assert_eq!(rt; files.write("long.bin", bytes.as_slice()), Done::Ok);
+    assert_eq!(rt; fs::metadata(&rt, "long.bin")?.len(), 16_777_217);
     assert!(rt; matches!(files.read(rt.alloc(), "long.bin"), Read::Long));
     fs::remove_file(&rt, "long.bin")?;
     Ok(())

@@ -6,6 +6,10 @@ mod files;
 #[cfg(test)]
 mod plans;
 #[cfg(test)]
+mod refusing;
+#[cfg(test)]
 mod texts;
 #[cfg(test)]
 mod values;
+#[cfg(test)]
+mod writes;

@@ -5,8 +5,9 @@ use Rattle.command_words.specs.Words.{form_of}
 use Rattle.nwq_top.proofs.nwq_main.Goals as goal
 
 pub returns-clause-means : goal.returns-clause-means
-returns-clause-means g c = λ files_tell sink_tells held whole.
+returns-clause-means g c = λ files_tell sink_tells whole.
     c.work_means.ensures.means (cells_of (map (λ h. h.known) c.args.hooks.now.all.items)) (form_of (map string_bytes c.args.words.now))
     (g.F.Files.contents c.args.files.now) (g.S.Sink.taken c.args.out.now) (ending c.status_of_words.result)
-    (g.F.Files.contents c.status_of_words.new.files) (g.S.Sink.taken c.status_of_words.new.out) held whole
+    (g.F.Files.contents c.status_of_words.new.files) (g.S.Sink.taken c.status_of_words.new.out)
+    (c.contents_are_bytes.ensures.bytes files_tell) whole
     (c.status_of_words.ensures.does files_tell sink_tells)

@@ -12,6 +12,6 @@ returns-in-Ok-clause-does g c = λ told contents.
     (ap (λ unit. unit.files) c.in-Ok.ensures.same) (c.file_of.ensures.does told contents)
 
 pub returns-in-Ok-clause-counts : goal.returns-in-Ok-clause-counts
-returns-in-Ok-clause-counts g c = λ faults absences longs.
-    subst (λ before. Tallies c.file_of.result before (Counted faults absences longs (g.S.Sink.faults c.file_of.new.out)))
-    (c.in-Ok.ensures.counts faults absences longs) (c.file_of.ensures.counts faults absences longs)
+returns-in-Ok-clause-counts g c = λ counts.
+    subst (λ before. Tallies c.file_of.result before (Counted counts (g.S.Sink.faults c.file_of.new.out)))
+    (c.in-Ok.ensures.counts counts) (c.file_of.ensures.counts counts)

@@ -12,7 +12,6 @@ returns-in-Ok-clause-does g c = λ files_tell sink_tells.
 
 pub returns-in-Ok-clause-counts : goal.returns-in-Ok-clause-counts
 returns-in-Ok-clause-counts g c =
-    written_counted (g.F.Files.faults c.args.files.now) (g.F.Files.absences c.args.files.now) (g.F.Files.longs c.args.files.now) (g.F.Files.faults c.write_file.new.files)
-    (g.F.Files.absences c.write_file.new.files) (g.F.Files.longs c.write_file.new.files) (g.S.Sink.faults c.args.out.now) (g.S.Sink.faults c.put.new.out) c.put.result
+    written_counted (g.F.Files.counts c.args.files.now) (g.F.Files.counts c.write_file.new.files) (g.S.Sink.faults c.args.out.now) (g.S.Sink.faults c.put.new.out) c.put.result
     c.in-Ok.ensures.counts
-    (c.put.ensures.counts (g.F.Files.faults c.write_file.new.files) (g.F.Files.absences c.write_file.new.files) (g.F.Files.longs c.write_file.new.files))
+    (c.put.ensures.counts (g.F.Files.counts c.write_file.new.files))

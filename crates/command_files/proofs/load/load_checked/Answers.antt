@@ -13,6 +13,6 @@ returns-in-Ok-clause-does g c = λ tells d.
     (c.in-Ok.ensures.does tells d) (c.check_code.ensures.does tells d)
 
 pub returns-in-Ok-clause-counts : goal.returns-in-Ok-clause-counts
-returns-in-Ok-clause-counts g c = λ faults absences longs.
-    subst (λ before. Tallies c.check_code.result before (Counted faults absences longs (g.S.Sink.faults c.check_code.new.out)))
-    (c.in-Ok.ensures.counts faults absences longs) (c.check_code.ensures.counts faults absences longs)
+returns-in-Ok-clause-counts g c = λ counts.
+    subst (λ before. Tallies c.check_code.result before (Counted counts (g.S.Sink.faults c.check_code.new.out)))
+    (c.in-Ok.ensures.counts counts) (c.check_code.ensures.counts counts)

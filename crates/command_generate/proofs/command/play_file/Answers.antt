@@ -11,7 +11,7 @@ returns-in-Ok-clause-does g c = λ tells d.
     (c.in-Ok.ensures.does tells d) (c.play_code.ensures.does tells d)
 
 pub returns-in-Ok-clause-counts : goal.returns-in-Ok-clause-counts
-returns-in-Ok-clause-counts g c = λ faults absences longs.
-    counted_on c.play_code.result (Counted faults absences longs (g.S.Sink.faults c.args.out.now))
-    (Counted faults absences longs (g.S.Sink.faults c.load_checked.new.out)) (Counted faults absences longs (g.S.Sink.faults c.play_code.new.out))
-    (c.in-Ok.ensures.counts faults absences longs) (c.play_code.ensures.counts faults absences longs)
+returns-in-Ok-clause-counts g c = λ counts.
+    counted_on c.play_code.result (Counted counts (g.S.Sink.faults c.args.out.now))
+    (Counted counts (g.S.Sink.faults c.load_checked.new.out)) (Counted counts (g.S.Sink.faults c.play_code.new.out))
+    (c.in-Ok.ensures.counts counts) (c.play_code.ensures.counts counts)

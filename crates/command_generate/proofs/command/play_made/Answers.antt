@@ -11,7 +11,7 @@ returns-in-Ok-clause-does g c = λ tells d.
     c.requires.made c.source.ensures.source c.into_vec.ensures.items (c.in-Ok.ensures.does tells d) (c.play_file.ensures.does tells d)
 
 pub returns-in-Ok-clause-counts : goal.returns-in-Ok-clause-counts
-returns-in-Ok-clause-counts g c = λ faults absences longs.
-    counted_on c.play_file.result (Counted faults absences longs (g.S.Sink.faults c.args.out.now))
-    (Counted faults absences longs (g.S.Sink.faults c.compile_source.new.out)) (Counted faults absences longs (g.S.Sink.faults c.play_file.new.out))
-    (c.in-Ok.ensures.counts faults absences longs) (c.play_file.ensures.counts faults absences longs)
+returns-in-Ok-clause-counts g c = λ counts.
+    counted_on c.play_file.result (Counted counts (g.S.Sink.faults c.args.out.now))
+    (Counted counts (g.S.Sink.faults c.compile_source.new.out)) (Counted counts (g.S.Sink.faults c.play_file.new.out))
+    (c.in-Ok.ensures.counts counts) (c.play_file.ensures.counts counts)

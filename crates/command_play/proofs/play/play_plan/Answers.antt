@@ -18,9 +18,7 @@ returns-in-Ok-clause-does g c = λ files_tell sink_tells.
 
 pub returns-in-Ok-clause-counts : goal.returns-in-Ok-clause-counts
 returns-in-Ok-clause-counts g c =
-    let faults = g.F.Files.faults c.args.files.now in
-    let absences = g.F.Files.absences c.args.files.now in
-    let longs = g.F.Files.longs c.args.files.now in
-    counted_on c.tell_end.result (Counted faults absences longs (g.S.Sink.faults c.args.out.now)) (Counted faults absences longs (g.S.Sink.faults c.play_lines.new.out))
-    (Counted (g.F.Files.faults c.tell_end.new.files) (g.F.Files.absences c.tell_end.new.files) (g.F.Files.longs c.tell_end.new.files) (g.S.Sink.faults c.tell_end.new.out))
-    (c.in-Ok.ensures.counts faults absences longs) c.tell_end.ensures.counts
+    let counts = g.F.Files.counts c.args.files.now in
+    counted_on c.tell_end.result (Counted counts (g.S.Sink.faults c.args.out.now)) (Counted counts (g.S.Sink.faults c.play_lines.new.out))
+    (Counted (g.F.Files.counts c.tell_end.new.files) (g.S.Sink.faults c.tell_end.new.out))
+    (c.in-Ok.ensures.counts counts) c.tell_end.ensures.counts

@@ -17,5 +17,5 @@ returns-clause-trace g c = λ tells.
     in c.told_whole.ensures.trace (trace_text p.last.trace) (g.S.Sink.taken c.args.out.now) (g.S.Sink.taken c.play-played.new.out) (c.play-played.ensures.trace tells)
 
 pub returns-clause-counts : goal.returns-clause-counts
-returns-clause-counts g c = λ faults absences longs.
-    c.told_whole.ensures.counts (g.S.Sink.faults c.args.out.now) (g.S.Sink.faults c.play-played.new.out) faults absences longs c.play-played.ensures.faults
+returns-clause-counts g c = λ counts.
+    c.told_whole.ensures.counts (g.S.Sink.faults c.args.out.now) (g.S.Sink.faults c.play-played.new.out) counts c.play-played.ensures.faults

@@ -25,5 +25,5 @@ pub returns-in-None-clause-trace : goal.returns-in-None-clause-trace
 returns-in-None-clause-trace c = λ text before after. whole_takes c.args.played.how text before after c.in-None.ensures.status
 
 pub returns-in-None-clause-counts : goal.returns-in-None-clause-counts
-returns-in-None-clause-counts c = λ before now faults absences longs counts.
-    ap (Counted faults absences longs) (whole_counts c.args.played.how before now c.in-None.ensures.status counts)
+returns-in-None-clause-counts c = λ before now files counts.
+    ap (Counted files) (whole_counts c.args.played.how before now c.in-None.ensures.status counts)

@@ -14,8 +14,8 @@ returns-in-Err-clause-does g c = λ tells d.
     (c.in-Err.ensures.trace (trace_text p.last.trace) (g.S.Sink.taken c.args.out.now) (g.S.Sink.taken c.play-played.new.out) (c.play-played.ensures.trace tells))
 
 pub returns-in-Err-clause-counts : goal.returns-in-Err-clause-counts
-returns-in-Err-clause-counts g c = λ faults absences longs.
-    c.in-Err.ensures.counts (g.S.Sink.faults c.args.out.now) (g.S.Sink.faults c.play-played.new.out) faults absences longs c.play-played.ensures.faults
+returns-in-Err-clause-counts g c = λ counts.
+    c.in-Err.ensures.counts (g.S.Sink.faults c.args.out.now) (g.S.Sink.faults c.play-played.new.out) counts c.play-played.ensures.faults
 
 pub returns-in-Ok-clause-does : goal.returns-in-Ok-clause-does
 returns-in-Ok-clause-does g c = λ tells d.
@@ -28,7 +28,7 @@ returns-in-Ok-clause-does g c = λ tells d.
     c.play-played.ensures.world) d)
 
 pub returns-in-Ok-clause-counts : goal.returns-in-Ok-clause-counts
-returns-in-Ok-clause-counts g c = λ faults absences longs.
-    subst (λ before. Tallies c.tell_end.result before (Counted faults absences longs (g.S.Sink.faults c.tell_end.new.out)))
-    (c.in-Ok.ensures.counts (g.S.Sink.faults c.args.out.now) (g.S.Sink.faults c.play-played.new.out) faults absences longs c.play-played.ensures.faults)
-    (c.tell_end.ensures.counts faults absences longs)
+returns-in-Ok-clause-counts g c = λ counts.
+    subst (λ before. Tallies c.tell_end.result before (Counted counts (g.S.Sink.faults c.tell_end.new.out)))
+    (c.in-Ok.ensures.counts (g.S.Sink.faults c.args.out.now) (g.S.Sink.faults c.play-played.new.out) counts c.play-played.ensures.faults)
+    (c.tell_end.ensures.counts counts)

@@ -3,6 +3,6 @@ use Rattle.command_run.proofs.TellLemmas.{limit_counts}
 use Rattle.command_run.proofs.telling.tell_end.Goals as goal
 
 pub returns-in-Ok-clause-counts : goal.returns-in-Ok-clause-counts
-returns-in-Ok-clause-counts g c = λ faults absences longs.
-    limit_counts c.ending_of.result (Counted faults absences longs (g.S.Sink.faults c.args.out.now)) (Counted faults absences longs (g.S.Sink.faults c.put_end.new.out))
-    c.ending_of.ensures.only (c.in-Ok.ensures.counts faults absences longs)
+returns-in-Ok-clause-counts g c = λ counts.
+    limit_counts c.ending_of.result (Counted counts (g.S.Sink.faults c.args.out.now)) (Counted counts (g.S.Sink.faults c.put_end.new.out))
+    c.ending_of.ensures.only (c.in-Ok.ensures.counts counts)

@@ -7,8 +7,8 @@ abbrev pub invariant-loop-name : goal.invariant-loop-name
 invariant-loop-name g l = record {
   so_far : SoFar g.F.Files.tells g.S.Sink.tells l.names l.rest l.tables (g.F.Files.contents l.fn.files) (g.F.Files.contents l.files)
       (g.S.Sink.taken l.fn.out) (g.S.Sink.taken l.out);
-  counts : Counted (g.F.Files.faults l.files) (g.F.Files.absences l.files) (g.F.Files.longs l.files) (g.S.Sink.faults l.out)
-      ≡ Counted (g.F.Files.faults l.fn.files) (g.F.Files.absences l.fn.files) (g.F.Files.longs l.fn.files) (g.S.Sink.faults l.fn.out);
+  counts : Counted (g.F.Files.counts l.files) (g.S.Sink.faults l.out)
+      ≡ Counted (g.F.Files.counts l.fn.files) (g.S.Sink.faults l.fn.out);
   same : g.F.Files.contents l.files ≡ g.F.Files.contents l.fn.files;
 }
 

@@ -21,8 +21,8 @@ returns-clause-does g c = λ files_tell sink_tells.
     (c.nwq_main-status.ensures.does files_tell sink_tells)
 
 pub returns-clause-means : goal.returns-clause-means
-returns-clause-means g c = λ files_tell sink_tells held.
+returns-clause-means g c = λ files_tell sink_tells.
     same_meaning (cells_of (map (λ h. h.known) c.args.hooks.now.all.items)) c.after_name.result.now (drop 1 c.args.all.now) c.nwq_main-status.result
     (status_numbered c.number_of.result) (g.F.Files.contents c.args.files.now) (g.F.Files.contents c.nwq_main-status.new.files)
     (g.S.Sink.taken c.args.out.now) (g.S.Sink.taken c.nwq_main-status.new.out) c.after_name.ensures (sym c.number_of.ensures.status)
-    (c.nwq_main-status.ensures.means files_tell sink_tells held)
+    (c.nwq_main-status.ensures.means files_tell sink_tells)

@@ -16,10 +16,8 @@ returns-in-Ok-clause-does g c = λ files_tell sink_tells.
 
 pub returns-in-Ok-clause-counts : goal.returns-in-Ok-clause-counts
 returns-in-Ok-clause-counts g c =
-    let faults = g.F.Files.faults c.write_file.new.files in
-    let absences = g.F.Files.absences c.write_file.new.files in
-    let longs = g.F.Files.longs c.write_file.new.files in
+    let counts = g.F.Files.counts c.write_file.new.files in
     counted_on c.load_checked.result
-    (Counted (g.F.Files.faults c.args.files.now) (g.F.Files.absences c.args.files.now) (g.F.Files.longs c.args.files.now) (g.S.Sink.faults c.args.out.now))
-    (Counted faults absences longs (g.S.Sink.faults c.args.out.now)) (Counted faults absences longs (g.S.Sink.faults c.load_checked.new.out))
-    (c.in-Ok.ensures.counts (g.S.Sink.faults c.args.out.now)) (c.load_checked.ensures.counts faults absences longs)
+    (Counted (g.F.Files.counts c.args.files.now) (g.S.Sink.faults c.args.out.now))
+    (Counted counts (g.S.Sink.faults c.args.out.now)) (Counted counts (g.S.Sink.faults c.load_checked.new.out))
+    (c.in-Ok.ensures.counts (g.S.Sink.faults c.args.out.now)) (c.load_checked.ensures.counts counts)

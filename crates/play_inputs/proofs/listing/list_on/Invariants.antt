@@ -10,8 +10,8 @@ abbrev pub invariant-loop-line : goal.invariant-loop-line
 invariant-loop-line g l =
     SoFar g.F.Files.tells g.S.Sink.tells l.table l.lines l.line-index (scripts_of l.fn.scripts) (scripts_of l.scripts)
     (g.F.Files.contents l.fn.files) (g.F.Files.contents l.files) (g.S.Sink.taken l.fn.out) (g.S.Sink.taken l.out)
-    × (Counted (g.F.Files.faults l.files) (g.F.Files.absences l.files) (g.F.Files.longs l.files) (g.S.Sink.faults l.out)
-    ≡ Counted (g.F.Files.faults l.fn.files) (g.F.Files.absences l.fn.files) (g.F.Files.longs l.fn.files) (g.S.Sink.faults l.fn.out))
+    × (Counted (g.F.Files.counts l.files) (g.S.Sink.faults l.out)
+    ≡ Counted (g.F.Files.counts l.fn.files) (g.S.Sink.faults l.fn.out))
     × KeepsBut (IsSourceFile l.lines) (g.F.Files.contents l.fn.files) (g.F.Files.contents l.files)
     × AllMeet l.table (scripts_of l.scripts) (tables_of l.scripts)
     × (length l.scripts ≡ length l.fn.scripts + l.line-index)

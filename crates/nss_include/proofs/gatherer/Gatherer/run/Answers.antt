@@ -17,9 +17,7 @@ loop-here-preserved g c =
           (subst (λ (o : Lookup). RunSoFar g.F.Files.tells o (at (c.in-Some.here ∷ c.pop.new.self)) c.advance.new.self) outside
           c.in-Ok.ensures.advances.so),
       c.in-Ok.ensures.same ∙ c.loop-here.invariant.1,
-      c.in-Ok.ensures.counts.0 ∙ c.loop-here.invariant.2,
-      c.in-Ok.ensures.counts.1 ∙ c.loop-here.invariant.3,
-      c.in-Ok.ensures.counts.2 ∙ c.loop-here.invariant.4,
+      c.in-Ok.ensures.counts ∙ c.loop-here.invariant.2,
     )
 
 pub returns-in-Err-clause-stops : goal.returns-in-Err-clause-stops

@@ -7,9 +7,7 @@ abbrev pub invariant-loop-here : goal.invariant-loop-here
 invariant-loop-here g l =
     RunSoFar g.F.Files.tells (map.get (g.F.Files.contents l.fn.files)) l.fn.self l.self
     × (g.F.Files.contents l.files ≡ g.F.Files.contents l.fn.files)
-    × (g.F.Files.faults l.files ≡ g.F.Files.faults l.fn.files)
-    × (g.F.Files.absences l.files ≡ g.F.Files.absences l.fn.files)
-    × (g.F.Files.longs l.files ≡ g.F.Files.longs l.fn.files)
+    × (g.F.Files.counts l.files ≡ g.F.Files.counts l.fn.files)
 
 abbrev pub decreases-loop-here : goal.decreases-loop-here
 decreases-loop-here g l = steps_left l.self
