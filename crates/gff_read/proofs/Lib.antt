@@ -1,4 +1,5 @@
 pub mod RowLemmas
+pub mod ChargeLemmas
 pub mod WalkLemmas
 pub mod Steps
 pub mod ScalarLaws

@@ -1,5 +1,6 @@
 pub mod Rows
 pub mod Held
 pub mod Walk
+pub mod Charge
 pub mod Stands
 pub mod Used

@@ -1,21 +1,36 @@
 //! How much memory a tree may take.
 
-use gff_tree::Leaf;
+ghost use Rattle.std.specs.Prelude.{◌≡◌, ◌<◌, ◌+◌, OnOk, OnErr};
+ghost use Rattle.gff_tree.specs.Tree.{plain_leaf};
+ghost use Rattle.gff_read.specs.Charge.{IsScalar, leaf_charge, parts_charge, text_charge};
+
+use gff_tree::{Blob, Leaf, Parts};
 use nwq_value::NoMemory;
 
-/// How many bytes a file of the tree may have at most, header and labels aside. Fields and lists of
-/// a file may be shared, so a small file can stand for a tree that no memory holds; the reader
-/// gives up past this size.
+/// How many bytes a tree may be charged. Fields and lists of a file may be shared, so a small file
+/// can stand for a tree that no memory holds; the reader gives up past this size.
 pub const TREE_BYTES: u64 = 1 << 28;
 
-/// A struct, and so many a field.
-pub const ROW_BYTES: u64 = 12;
+/// What is charged for a struct.
+pub const STRUCT_BYTES: u64 = 64;
 
-/// A number in the field indices or in the list indices, and the count before a list's numbers.
-pub const WORD_BYTES: u64 = 4;
+/// What is charged for a field.
+pub const FIELD_BYTES: u64 = 96;
+
+/// What is charged for the number of a struct in a list.
+pub const WORD_BYTES: u64 = 8;
+
+/// What is charged for a text of the field data, beside its bytes.
+const TEXT_BYTES: u64 = 32;
+
+/// What is charged for a text of a localized string, beside that.
+const PART_BYTES: u64 = 64;
 
 /// Takes bytes from what is left.
-pub fn charge(left: &mut u64, bytes: u64) -> Result<(), NoMemory> {
+pub fn charge(left: &mut u64, bytes: u64) -> Result<(), NoMemory>
+    ensures taken { OnOk result (left.old ≡ left.new + bytes) }
+    ensures passed { OnErr result (left.old < bytes) }
+{
     match left.checked_sub(bytes) {
         Some(rest) => {
             *left = rest;
@@ -25,31 +40,34 @@ pub fn charge(left: &mut u64, bytes: u64) -> Result<(), NoMemory> {
     }
 }
 
-/// Takes the bytes of a field: its row, and its number in the field indices where its struct has
-/// several fields.
-pub fn charge_field(left: &mut u64, several: bool) -> Result<(), NoMemory> {
-    charge(left, ROW_BYTES)?;
-    if several {
-        charge(left, WORD_BYTES)?;
+fn charge_text(left: &mut u64, text: &Blob) -> Result<(), NoMemory>
+    ensures taken { OnOk result (left.old ≡ left.new + text_charge text.now) }
+    ensures passed { OnErr result (left.old < text_charge text.now) }
+{
+    charge(left, TEXT_BYTES)?;
+    charge(left, text.len() as u64)
+}
+
+fn charge_parts(left: &mut u64, parts: &Parts) -> Result<(), NoMemory>
+    ensures taken { OnOk result (left.old ≡ left.new + parts_charge parts.now) }
+    ensures passed { OnErr result (left.old < parts_charge parts.now) }
+{
+    for part in parts.as_slice() {
+        charge(left, PART_BYTES)?;
+        charge_text(left, &part.text)?;
     }
     Ok(())
 }
 
-/// How many bytes of field data a value takes.
-pub fn data_bytes(leaf: &Leaf) -> u64 {
-    match leaf {
-        Leaf::Dword64(_) | Leaf::Int64(_) | Leaf::Double(_) => 8,
-        Leaf::Str(text) | Leaf::Void(text) => (text.len() as u64).saturating_add(4),
-        Leaf::Res(name) => (name.len() as u64).saturating_add(1),
-        Leaf::Loc(loc) => {
-            let mut bytes: u64 = 12;
-            for part in loc.parts.as_slice() {
-                bytes = bytes
-                    .saturating_add(8)
-                    .saturating_add(part.text.len() as u64);
-            }
-            bytes
-        }
-        _ => 0,
+/// Takes what is charged for the field data of a value.
+pub fn charge_data(left: &mut u64, value: &Leaf) -> Result<(), NoMemory>
+    requires { IsScalar (plain_leaf value.now) }
+    ensures taken { OnOk result (left.old ≡ left.new + leaf_charge (plain_leaf value.now)) }
+    ensures passed { OnErr result (left.old < leaf_charge (plain_leaf value.now)) }
+{
+    match value {
+        Leaf::Str(text) | Leaf::Res(text) | Leaf::Void(text) => charge_text(left, text),
+        Leaf::Loc(loc) => charge_parts(left, &loc.parts),
+        _ => Ok(()),
     }
 }

@@ -1,10 +1,11 @@
 //! The reading of a file.
 
-ghost use Rattle.std.specs.Prelude.{◌≡◌, ◌<◌, false, replicate, IfOk, Ok};
+ghost use Rattle.std.specs.Prelude.{◌≡◌, ◌<◌, ◌≤◌, false, replicate, IfOk, Ok};
 ghost use Rattle.gff_tree.specs.Whole.{PlainGff, plain_gff};
 ghost use Rattle.gff_read.specs.Rows.{Gives};
 ghost use Rattle.gff_read.specs.Stands.{Stands};
 ghost use Rattle.gff_tree.specs.Count.{node_count};
+ghost use Rattle.gff_read.specs.Charge.{node_charge, tree_limit};
 ghost use Rattle.gff_read.specs.Walk.{struct_count, tree_of};
 
 use crate::budget::TREE_BYTES;
@@ -26,13 +27,14 @@ fn marks(alloc: Global, view: &View<'_>) -> Result<Vec<bool>, NoMemory>
     Ok(vec![in alloc; false; count]?)
 }
 
-/// The tree of a file, or the first test of the walk that fails. `NoMemory` also comes where a file
-/// of the tree would pass so many bytes, labels aside.
+/// The tree of a file, or the first test of the walk that fails. `NoMemory` also comes where the
+/// tree would be charged more than so many bytes.
 #[tactic(auto, unfolding(crate::specs::Walk::tree_of))]
 pub fn read_within(alloc: Global, view: &View<'_>, bytes: u64) -> Result<Gff, TreeFault>
     ensures found { IfOk result (λ gff. Stands view.now (plain_gff gff)) }
     ensures few { IfOk result (λ gff. node_count (plain_gff gff).top < 4294967296) }
     ensures exact { Gives plain_gff result (tree_of view.now) }
+    ensures within { IfOk result (λ gff. node_charge (plain_gff gff).top ≤ bytes) }
 {
     let mut marks = marks(alloc, view)?;
     let mut left = bytes;
@@ -47,7 +49,7 @@ pub fn read_within(alloc: Global, view: &View<'_>, bytes: u64) -> Result<Gff, Tr
 /// struct 0. At a struct it tests the struct's range, that it was not reached before, and its
 /// depth; then, field after field, the index word, the field's range, its type, its label's range,
 /// that the label is new in this struct, its data and its list words. Then it goes down. `NoMemory`
-/// also comes where a file of the tree would pass [`TREE_BYTES`] bytes, labels aside.
+/// also comes where the tree would be charged more than [`TREE_BYTES`] bytes.
 pub fn read(alloc: Global, view: &View<'_>) -> Result<Gff, TreeFault>
     // What is read is what the bytes stand for.
     ensures found { IfOk result (λ gff. Stands view.now (plain_gff gff)) }
@@ -57,6 +59,8 @@ pub fn read(alloc: Global, view: &View<'_>) -> Result<Gff, TreeFault>
     ensures few { IfOk result (λ gff. node_count (plain_gff gff).top < 4294967296) }
     // Which fault it is.
     ensures exact { Gives plain_gff result (tree_of view.now) }
+    // No tree that is read takes more than its budget.
+    ensures within { IfOk result (λ gff. node_charge (plain_gff gff).top ≤ tree_limit) }
 {
     read_within(alloc, view, TREE_BYTES)
 }

@@ -7,10 +7,11 @@ ghost use Rattle.gff_tree.specs.Label.{label_text};
 ghost use Rattle.gff_read.specs.Rows.{Gives, PlainRow, placed, words_from, shape_for, has_label};
 ghost use Rattle.gff_read.specs.Rows.{row_for, field_number, rows_from, rows_of};
 ghost use Rattle.gff_read.specs.Held.{plain_shape, plain_row};
+ghost use Rattle.gff_read.specs.Charge.{rows_charge, shape_charge, word_charge};
 ghost use Rattle.gff_read.specs.Used.{HasLabels, AddsLabel};
 ghost use Rattle.nwq_value.specs.Limits.{file_limit};
 
-use crate::budget::{WORD_BYTES, charge, charge_field, data_bytes};
+use crate::budget::{FIELD_BYTES, WORD_BYTES, charge, charge_data};
 use crate::fault::TreeFault;
 use crate::kind::Kind;
 use crate::scalar::leaf;
@@ -53,7 +54,9 @@ fn read_words(
     left: &mut u64,
 ) -> Result<Vec<u32>, TreeFault>
     requires { place ≤ file_limit }
-    ensures { Gives (λ words. words.items) result (words_from view.now place count) }
+    ensures read { Gives (λ words. words.items) result (words_from view.now place count) }
+    ensures charged { IfOk result (λ words.
+        left.old ≡ left.new + word_charge * length words.items) }
 {
     let mut words = Vec::new(alloc);
     let mut at = place;
@@ -74,10 +77,11 @@ fn list_shape(
     word: u32,
     left: &mut u64,
 ) -> Result<Shape, TreeFault>
-    ensures { Gives plain_shape result (shape_for view.now field Kind.List word) }
+    ensures read { Gives plain_shape result (shape_for view.now field Kind.List word) }
+    ensures charged { IfOk result (λ shape.
+        left.old ≡ left.new + shape_charge (plain_shape shape)) }
 {
     let count = list_word(view, word)?;
-    charge(left, WORD_BYTES)?;
     Ok(Shape::Many(read_words(alloc, view, word + 4, count, left)?))
 }
 
@@ -90,14 +94,16 @@ fn read_shape(
     word: u32,
     left: &mut u64,
 ) -> Result<Shape, TreeFault>
-    ensures { Gives plain_shape result (shape_for view.now field kind word) }
+    ensures read { Gives plain_shape result (shape_for view.now field kind word) }
+    ensures charged { IfOk result (λ shape.
+        left.old ≡ left.new + shape_charge (plain_shape shape)) }
 {
     match kind {
         Kind::Struct => Ok(Shape::One(word)),
         Kind::List => list_shape(alloc, view, field, word, left),
         _ => {
             let value = leaf(alloc, view, field, kind, word)?;
-            charge(left, data_bytes(&value))?;
+            charge_data(left, &value)?;
             Ok(Shape::Value(value))
         }
     }
@@ -135,6 +141,8 @@ fn read_row<'a>(
     ensures added { IfOk result (λ row. AddsLabel used.old row.label used.new) }
     ensures read { (rows : List PlainRow) → HasLabels used.old rows →
         Gives plain_row result (row_for view.now rows field) }
+    ensures charged { IfOk result (λ row.
+        left.old ≡ left.new + shape_charge (plain_shape row.shape)) }
 {
     let entry = view.field_at(field)?;
     match Kind::of(entry.kind) {
@@ -171,14 +179,16 @@ pub fn read_rows(
     entry: StructRow,
     left: &mut u64,
 ) -> Result<Vec<Row>, TreeFault>
-    ensures { Gives (λ rows. map plain_row rows.items) result (rows_of view.now entry) }
+    ensures read { Gives (λ rows. map plain_row rows.items) result (rows_of view.now entry) }
+    ensures charged { IfOk result (λ rows.
+        left.old ≡ left.new + rows_charge (map plain_row rows.items)) }
 {
     let mut rows = Vec::new(alloc);
     let mut used = BTreeSet::new(alloc);
     for i in 0..entry.count {
         let field = number(view, entry, i)?;
         let next = read_row(alloc, view, &mut used, field, left)?;
-        charge_field(left, entry.count > 1)?;
+        charge(left, FIELD_BYTES)?;
         rows.push(next)?;
     }
     Ok(rows)

@@ -1,12 +1,14 @@
 //! The walk over the structs of the file, from the top down.
 
-ghost use Rattle.std.specs.Prelude.{◌≡◌, ◌<◌, map, length, Ok, OnOk};
+ghost use Rattle.std.specs.Prelude.{◌≡◌, ◌<◌, ◌+◌, ◌*◌, map, length, Ok, IfOk, OnOk};
 ghost use Rattle.gff_tree.specs.Tree.{Child, plain_node, plain_leaf, fields_list, nodes_list};
 ghost use Rattle.gff_read.specs.Rows.{Gives};
 ghost use Rattle.gff_read.specs.Held.{plain_row, plain_shape};
+ghost use Rattle.gff_read.specs.Charge.{fields_charge, leaf_charge, node_charge, nodes_charge};
+ghost use Rattle.gff_read.specs.Charge.{rows_charge, shape_charge, word_charge};
 ghost use Rattle.gff_read.specs.Walk.{struct_count, entered, node_at, fields_at, leaf_at, nodes_at};
 
-use crate::budget::{ROW_BYTES, charge};
+use crate::budget::{STRUCT_BYTES, charge};
 use crate::fault::TreeFault;
 use crate::row::{Row, Shape, read_rows};
 use gff_bytes::{StructRow, View};
@@ -52,12 +54,13 @@ pub fn read_node(
     left: &mut u64,
 ) -> Result<Node, TreeFault>
     requires { length marks.old ≡ struct_count view.now }
-    ensures { Gives (λ node. (plain_node node, marks.new)) result
+    ensures read { Gives (λ node. (plain_node node, marks.new)) result
         (node_at depth view.now n marks.old) }
+    ensures charged { IfOk result (λ node. left.old ≡ left.new + node_charge (plain_node node)) }
 {
     let entry = enter(view, marks, n, depth)?;
     marks[n as usize] = true;
-    charge(left, ROW_BYTES)?;
+    charge(left, STRUCT_BYTES)?;
     let rows = read_rows(alloc, view, entry, left)?;
     let fields = read_fields(alloc, view, marks, rows, depth - 1, left)?;
     Ok(Node::new(entry.kind, fields))
@@ -74,8 +77,10 @@ fn read_fields(
     left: &mut u64,
 ) -> Result<Vec<Field>, TreeFault>
     requires { length marks.old ≡ struct_count view.now }
-    ensures { Gives (λ fields. (fields_list fields.items, marks.new)) result
+    ensures read { Gives (λ fields. (fields_list fields.items, marks.new)) result
         (fields_at (node_at depth view.now) (map plain_row rows.items) marks.old) }
+    ensures charged { IfOk result (λ fields. left.old + rows_charge (map plain_row rows.items)
+        ≡ left.new + fields_charge (fields_list fields.items)) }
 {
     let mut fields = Vec::new(alloc);
     for row in rows {
@@ -97,8 +102,10 @@ fn read_leaf(
     left: &mut u64,
 ) -> Result<Leaf, TreeFault>
     requires { length marks.old ≡ struct_count view.now }
-    ensures { Gives (λ leaf. (plain_leaf leaf, marks.new)) result
+    ensures read { Gives (λ leaf. (plain_leaf leaf, marks.new)) result
         (leaf_at (node_at depth view.now) (plain_shape shape) marks.old) }
+    ensures charged { IfOk result (λ leaf. left.old + shape_charge (plain_shape shape)
+        ≡ left.new + leaf_charge (plain_leaf leaf)) }
 {
     match shape {
         Shape::Value(value) => Ok(value),
@@ -124,8 +131,10 @@ fn read_nodes(
     left: &mut u64,
 ) -> Result<Vec<Node>, TreeFault>
     requires { length marks.old ≡ struct_count view.now }
-    ensures { Gives (λ nodes. (nodes_list nodes.items, marks.new)) result
+    ensures read { Gives (λ nodes. (nodes_list nodes.items, marks.new)) result
         (nodes_at (node_at depth view.now) numbers.now marks.old) }
+    ensures charged { IfOk result (λ nodes. left.old + word_charge * length numbers.now
+        ≡ left.new + nodes_charge (nodes_list nodes.items)) }
 {
     let mut nodes = Vec::new(alloc);
     for n in numbers {

@@ -1,4 +1,7 @@
-use crate::files::{BASE, changed};
+ghost use Rattle.std.specs.Prelude.{◌≤◌, length};
+ghost use Rattle.nwq_value.specs.Limits.{file_limit};
+
+use crate::files::{BASE, MOVED, WRITTEN, changed};
 use gff_bytes::{OpenFault, Part, View};
 use gff_read::{TreeFault, read, read_within};
 use gff_tree::Label;
@@ -66,14 +69,37 @@ fn broken_files_are_refused_at_the_first_failing_test(rt: HostRuntime) {
 #[test]
 fn a_tree_within_the_budget_is_read(rt: HostRuntime) {
     let view = View::open(BASE.as_slice()).ok().expect(&rt, "a file");
-    let tree = read_within(rt.alloc(), &view, 24)
+    let tree = read_within(rt.alloc(), &view, 160)
         .ok()
-        .expect(&rt, "a tree of 24 bytes");
+        .expect(&rt, "a tree of 160 bytes");
     assert_eq!(rt; tree.top.kind(), u32::MAX);
     assert_eq!(rt; tree.top.fields().len(), 1);
-    let refused = read_within(rt.alloc(), &view, 23);
+    let refused = read_within(rt.alloc(), &view, 159);
     assert!(rt; matches!(refused, Err(TreeFault::NoMemory)));
     let label = Label::of(b"A".as_slice()).expect(&rt, "a label");
     assert_eq!(rt; label.bytes(), b"A".as_slice());
     assert!(rt; Label::of(b"seventeen letters".as_slice()).is_none());
+}
+
+/// The least budget within which the file is read is this one.
+fn costs(alloc: Global, bytes: &[u8], budget: u64) -> bool
+    requires small { length bytes.now ≤ file_limit }
+    requires some { 1 ≤ budget }
+{
+    match View::open(bytes) {
+        Err(_) => false,
+        Ok(view) => {
+            let read = read_within(alloc, &view, budget).is_ok();
+            let refused = read_within(alloc, &view, budget - 1);
+            read && matches!(refused, Err(TreeFault::NoMemory))
+        }
+    }
+}
+
+#[test]
+fn each_part_of_a_tree_is_charged(rt: HostRuntime) {
+    // 5 structs of 64, 19 fields of 96, 2 numbers in a list of 8; texts of 9, 16 and 0 bytes, each
+    // and 32; texts of 5 and 0 bytes of a localized string, each and 96.
+    assert!(rt; costs(rt.alloc(), WRITTEN.as_slice(), 2478));
+    assert!(rt; costs(rt.alloc(), MOVED.as_slice(), 2478));
 }

@@ -117,21 +117,26 @@ no_more true count apart none = absurd cc
 no_more false count apart none = omega (arith, none)
 
 -- no label that was not made is placed
-pub unplaced : (labels : ℕ) (bytes : List ℕ) (all : List Kept) (label : ℕ) → KeptFits labels bytes all → labels ≤ label → placements (lines_of bytes all) label ≡ 0
-unplaced labels bytes [] label fits h = refl
-unplaced labels bytes (kept.Instruction s ∷ all) label fits h = unplaced labels (drop s bytes) all label fits.1 h
-unplaced labels bytes (kept.Jump j l ∷ all) label fits h = unplaced labels bytes all label fits.1 h
-unplaced labels bytes (kept.Label l ∷ all) label fits h =
-    let apart : eqb l label ≡ false = ne_eqb l label (λ same. omega (arith, same, fits.0, h)) in
-    no_more (eqb l label) (placements (lines_of bytes all) label) apart (unplaced labels bytes all label fits.1 h)
+pub unplaced : (labels : ℕ) (lines : List Line) (label : ℕ) → AllByRecursion (LineFits labels) lines → labels ≤ label → placements lines label ≡ 0
+unplaced labels [] label fit h = refl
+unplaced labels (Instruction op ∷ lines) label fit h = unplaced labels lines label fit.1 h
+unplaced labels (JumpTo kind l ∷ lines) label fit h = unplaced labels lines label fit.1 h
+unplaced labels (Label l ∷ lines) label fit h =
+    let apart : eqb l label ≡ false = ne_eqb l label (λ same. omega (arith, same, fit.0, h)) in
+    no_more (eqb l label) (placements lines label) apart (unplaced labels lines label fit.1 h)
 
 -- ---- what is known of all lines
 
-pub lines_fit : (labels : ℕ) (bytes : List ℕ) (all : List Kept) → KeptFits labels bytes all → AllByRecursion (LineFits labels) (lines_of bytes all)
-lines_fit labels bytes [] fits = tt
-lines_fit labels bytes (kept.Instruction s ∷ all) fits = (fits.0.is_op, lines_fit labels (drop s bytes) all fits.1)
-lines_fit labels bytes (kept.Jump j l ∷ all) fits = (fits.0, lines_fit labels bytes all fits.1)
-lines_fit labels bytes (kept.Label l ∷ all) fits = (fits.0, lines_fit labels bytes all fits.1)
+pub fit_and : (labels : ℕ) (lines : List Line) (line : Line) → AllByRecursion (LineFits labels) lines → LineFits labels line → AllByRecursion (LineFits labels) (lines ++ line ∷ [])
+fit_and labels [] line fit last = (last, tt)
+fit_and labels (first ∷ lines) line fit last = (fit.0, fit_and labels lines line fit.1 last)
+
+-- a label that is made and stands nowhere
+pub fit_and_made : (labels : ℕ) (lines : List Line) → AllByRecursion (LineFits labels) lines → AllByRecursion (LineFits (labels + 1)) lines
+fit_and_made labels [] fit = tt
+fit_and_made labels (Instruction op ∷ lines) fit = (fit.0, fit_and_made labels lines fit.1)
+fit_and_made labels (JumpTo kind l ∷ lines) fit = (omega (arith, fit.0), fit_and_made labels lines fit.1)
+fit_and_made labels (Label l ∷ lines) fit = (omega (arith, fit.0), fit_and_made labels lines fit.1)
 
 pub labels_made : (labels : ℕ) (bytes : List ℕ) (all : List Kept) → KeptFits labels bytes all → AllByRecursion (HasLabels labels) all
 labels_made labels bytes [] fits = tt

@@ -2,7 +2,7 @@
 use Rattle.std.proofs.Common.{◌≡◌, ◌+◌, ◌++◌, ◌∷◌, [], ℕ, List, sym, ◌∙◌, ap, arith, refl, subst, true, false, Bool, eqb, cond, Some, append_assoc}
 use Rattle.ncs_code.specs.Plain.{PlainOp}
 use Rattle.ncs_code.specs.Spelling.{op_size}
-use Rattle.ncs_code.specs.File.{ops_size, op_at, file_length, distance}
+use Rattle.ncs_code.specs.File.{header_size, ops_size, op_at, file_length, distance}
 use Rattle.ncs_code.specs.Laws.{StoodBegins, SizesAdd, DistanceLeads}
 use Rattle.ncs_emit.specs.declared.jump.Jump.{Jump}
 use Rattle.ncs_emit.specs.Labelled.{Line, Instruction, JumpTo, Label, placements, jump_over, line_size, lines_size, ops_from, place_from, place_of, program}
@@ -26,6 +26,9 @@ ops_as_lines places at (Label label ∷ lines) = omega (arith, ops_as_lines plac
 pub program_size : (lines : List Line) → ops_size (program lines) ≡ lines_size lines
 unfolding program
 program_size lines = ops_as_lines (place_of lines) 13 lines
+
+pub file_size : (lines : List Line) → header_size + lines_size lines ≡ file_length (program lines)
+file_size lines = ap (λ n. header_size + n) (sym (program_size lines))
 
 -- ---- standing in two parts
 

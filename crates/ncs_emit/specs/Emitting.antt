@@ -1,10 +1,14 @@
 -- What an emitter keeps, as labelled code. Only its own contracts and proofs speak of this.
 use Rattle.std.specs.Prelude.{◌≡◌, ℕ, ◌+◌, ◌<◌, ◌≤◌, List, [], ◌∷◌, length, drop, Bool, false, true, ◌^◌, slice_index_or, ◌==◌, if◌then◌else◌}
+use Rattle.std.specs.List.{AllByRecursion}
+use Rattle.nwq_value.specs.Limits.{file_limit}
+use Rattle.ncs_code.specs.File.{header_size}
 use Rattle.ncs_code.specs.Spelling.{Spells}
 use Rattle.ncs_code.specs.Reading.{op_of}
 use Rattle.ncs_emit.specs.declared.line.Kept.{Kept}
 use Rattle.ncs_emit.specs.declared.line.Kept.TheVariants as kept
-use Rattle.ncs_emit.specs.Labelled.{Line, Instruction, JumpTo, Label, placements}
+use Rattle.ncs_emit.specs.Labelled.{Line, Instruction, JumpTo, Label, placements, lines_size}
+use Rattle.ncs_emit.specs.Leading.{LineFits}
 
 -- the lines that are kept as spellings and what stands between them
 abbrev pub lines_of : List ℕ → List Kept → List Line
@@ -31,12 +35,18 @@ abbrev pub placed_count : Bool → ℕ
 placed_count true = 1
 placed_count false = 0
 
--- The parts of an emitter agree, and there is room for the labels that are still to be placed.
-pub record IsKept (bytes : List ℕ) (kept : List Kept) (capacity : ℕ) (placed : List Bool) (missing : ℕ) : Type 0 where
-  pub fits : KeptFits (length placed) bytes kept
-  pub table : (label : ℕ) → label < length placed → placements (lines_of bytes kept) label ≡ placed_count (slice_index_or placed label false)
-  pub left : missing ≡ count_open placed
+-- What is kept stands for all lines, and there is room for the labels that are still to be placed.
+pub record IsWhole (lines : List Line) (bytes : List ℕ) (kept : List Kept) (capacity labels missing : ℕ) : Type 0 where
+  pub fits : KeptFits labels bytes kept
+  pub same : lines_of bytes kept ≡ lines
   pub room : length kept + missing ≤ capacity
+
+-- The parts of an emitter agree. What is kept stands for the lines as long as their file is not too large.
+pub record IsKept (lines : List Line) (bytes : List ℕ) (kept : List Kept) (capacity : ℕ) (placed : List Bool) (missing : ℕ) : Type 0 where
+  pub whole : header_size + lines_size lines ≤ file_limit → IsWhole lines bytes kept capacity (length placed) missing
+  pub fit : AllByRecursion (LineFits (length placed)) lines
+  pub table : (label : ℕ) → label < length placed → placements lines label ≡ placed_count (slice_index_or placed label false)
+  pub left : missing ≡ count_open placed
   pub few : length placed < 2 ^ 32
 
 -- how many bytes what is kept stands for

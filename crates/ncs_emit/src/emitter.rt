@@ -11,8 +11,11 @@ ghost use Rattle.std.specs.List.{AllByRecursion};
 
 use crate::fault::EmitFault;
 use crate::finishing::{places_of, put_lines};
+use crate::fitting::op_fits;
 use crate::jump::Jump;
-use crate::line::Kept;
+use crate::line::{JUMP_BYTES, Kept, make_room};
+use crate::tally::Tally;
+use crate::told::Note;
 use ncs_code::{Op, header, size_laws, spelling_laws};
 use nwq_value::{FILE_BYTES, NoMemory};
 use std::alloc::Global;
@@ -20,7 +23,7 @@ use std::marker::Model;
 
 /// Labelled code that grows at its end. Contracts see the list of its lines, which are
 /// instructions, jumps to labels and labels, and how many labels were made: they are the numbers
-/// below that.
+/// below that. Once the file would be too large, a further line is counted and not kept.
 #[derive(Drop)]
 pub struct Emitter {
     /// The spellings of the instructions, without those of jumps to labels.
@@ -30,23 +33,25 @@ pub struct Emitter {
     placed: Vec<bool>,
     /// How many of the labels are not placed yet; `kept` has room for all of those.
     missing: u32,
+    /// All lines, by their size.
+    tally: Tally,
 }
 
 impl Model for Emitter {
     ghost use Rattle.std.specs.Prelude.{length};
     ghost use Rattle.std.specs.Vec.{vec_capacity};
     ghost use Rattle.ncs_emit.specs.Labelled.{LabelledCode};
-    ghost use Rattle.ncs_emit.specs.Emitting.{IsKept, lines_of};
+    ghost use Rattle.ncs_emit.specs.Emitting.{IsKept};
 
     ghost Value = { LabelledCode };
 
     ghost view = { λ e. record {
-      lines = lines_of e.bytes.items e.kept.items;
+      lines = e.tally;
       labels = length e.placed.items;
     } };
 
     ghost invariant = { λ e.
-        IsKept e.bytes.items e.kept.items (vec_capacity e.kept) e.placed.items e.missing };
+        IsKept e.tally e.bytes.items e.kept.items (vec_capacity e.kept) e.placed.items e.missing };
 }
 
 impl Emitter {
@@ -60,6 +65,7 @@ impl Emitter {
             kept: Vec::new(alloc),
             placed: Vec::new(alloc),
             missing: 0,
+            tally: Tally::new(),
         }
     }
 
@@ -73,7 +79,7 @@ impl Emitter {
         ensures err { OnErr result (self.new ≡ self.old) }
     {
         let label = self.placed.len() as u32;
-        self.kept.reserve(self.missing as usize + 1)?;
+        make_room(&mut self.kept, self.missing as usize + 1, self.tally.size())?;
         self.placed.push(false)?;
         self.missing += 1;
         Ok(label)
@@ -86,9 +92,13 @@ impl Emitter {
         requires unplaced { placements self.old.lines label ≡ 0 }
         ensures placed { self.new ≡ record self.old { lines = self.old.lines ++ Label label ∷ [] } }
     {
-        self.kept.push(Kept::Label(label)).unwrap();
+        let size = self.tally.size();
+        if size <= FILE_BYTES as u64 {
+            self.kept.push(Kept::Label(label)).unwrap();
+        }
         self.placed[label as usize] = true;
         self.missing -= 1;
+        self.tally.tell(&Note::Label(label), size);
     }
 
     /// Puts an instruction last. After `NoMemory` the emitter is as before.
@@ -101,9 +111,14 @@ impl Emitter {
     {
         spelling_laws();
         size_laws();
-        self.kept.reserve(self.missing as usize + 1)?;
-        op.encode(&mut self.bytes)?;
-        self.kept.push(Kept::Instruction(op.size())).unwrap();
+        op_fits(op);
+        let size = self.tally.size_with(op.size())?;
+        if size <= FILE_BYTES as u64 {
+            self.kept.reserve(self.missing as usize + 1)?;
+            op.encode(&mut self.bytes)?;
+            self.kept.push(Kept::Instruction(op.size())).unwrap();
+        }
+        self.tally.tell(&Note::Instruction(op), size);
         Ok(())
     }
 
@@ -115,8 +130,12 @@ impl Emitter {
             ≡ record self.old { lines = self.old.lines ++ JumpTo jump label ∷ [] }) }
         ensures err { OnErr result (self.new ≡ self.old) }
     {
-        self.kept.reserve(self.missing as usize + 1)?;
-        self.kept.push(Kept::Jump(jump, label)).unwrap();
+        let size = self.tally.size_with(JUMP_BYTES)?;
+        if size <= FILE_BYTES as u64 {
+            self.kept.reserve(self.missing as usize + 1)?;
+            self.kept.push(Kept::Jump(jump, label)).unwrap();
+        }
+        self.tally.tell(&Note::Jump(jump, label), size);
         Ok(())
     }
 
@@ -137,11 +156,11 @@ impl Emitter {
         ensures fault { IfErr result (λ fault. Fails fault self.lines) }
     {
         size_laws();
-        let labels = self.placed.len();
-        let (places, size) = places_of(alloc, self.kept.as_slice(), labels)?;
+        let size = self.tally.size();
         if size > FILE_BYTES as u64 {
             return Err(EmitFault::Large(size));
         }
+        let places = places_of(alloc, self.kept.as_slice(), self.placed.len())?;
         let mut file = Vec::with_capacity(alloc, size as usize)?;
         file.extend_from_slice(&header(size as u32))?;
         put_lines(

@@ -11,7 +11,7 @@ ghost use Rattle.ncs_emit.specs.Labelled.{jump_over, program};
 ghost use Rattle.ncs_emit.specs.Emitting.{HasLabels, KeptFits, kept_place, kept_total, lines_of};
 
 use crate::jump::Jump;
-use crate::line::Kept;
+use crate::line::{JUMP_BYTES, Kept};
 use ncs_code::{HEADER_BYTES, Op, size_laws};
 use nwq_value::NoMemory;
 use std::alloc::Global;
@@ -27,25 +27,25 @@ fn no_places(alloc: Global, labels: usize) -> Result<Vec<Option<u64>>, NoMemory>
     Ok(places)
 }
 
-/// Where each label stands, and how large the file is.
+/// Where each label stands.
 pub(crate) fn places_of(
     alloc: Global,
     kept: &[Kept],
     labels: usize,
-) -> Result<(Vec<Option<u64>>, u64), NoMemory>
+) -> Result<Vec<Option<u64>>, NoMemory>
     requires bounded { 13 + kept_total kept.now < 2 ^ 64 }
     requires labelled { AllByRecursion (HasLabels labels) kept.now }
-    ensures size { IfOk result (λ x. x.1 ≡ 13 + kept_total kept.now) }
-    ensures len { IfOk result (λ x. vec_len x.0 ≡ labels) }
-    ensures places { IfOk result (λ x. (label : ℕ) →
-        unwrap_or (slice_index_or x.0.items label None) x.1 ≡ kept_place 13 kept.now label) }
+    ensures len { IfOk result (λ places. vec_len places ≡ labels) }
+    ensures places { IfOk result (λ places. (label : ℕ) →
+        unwrap_or (slice_index_or places.items label None) (13 + kept_total kept.now)
+        ≡ kept_place 13 kept.now label) }
 {
     let mut places = no_places(alloc, labels)?;
     let mut at = HEADER_BYTES as u64;
     for line in kept {
         match *line {
             Kept::Instruction(size) => at += size as u64,
-            Kept::Jump(_, _) => at += 6,
+            Kept::Jump(_, _) => at += JUMP_BYTES as u64,
             Kept::Label(label) => {
                 let place = &mut places[label as usize];
                 if place.is_none() {
@@ -54,7 +54,7 @@ pub(crate) fn places_of(
             }
         }
     }
-    Ok((places, at))
+    Ok(places)
 }
 
 /// The jump over a distance.

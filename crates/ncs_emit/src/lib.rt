@@ -16,9 +16,12 @@
 mod emitter;
 mod fault;
 mod finishing;
+mod fitting;
 mod jump;
 mod laws;
 mod line;
+mod tally;
+mod told;
 
 pub use emitter::Emitter;
 pub use fault::EmitFault;

@@ -1,4 +1,4 @@
-ghost use Rattle.std.specs.Prelude.{◌≡◌, ◌+◌, ◌<◌, ◌≤◌, ◌^◌, ◌∷◌, ◌++◌, [], ℕ, negsuc, IfOk};
+ghost use Rattle.std.specs.Prelude.{◌≡◌, ◌+◌, ◌<◌, ◌≤◌, ◌^◌, ◌∷◌, ◌++◌, [], ℕ, length, negsuc, IfOk};
 ghost use Rattle.std.specs.Prelude.{IfSome, OnOk};
 ghost use Rattle.ncs_code.specs.Plain.{CpTopSp, LogAnd, Retn, plain};
 ghost use Rattle.ncs_code.specs.Spelling.{HasRow};
@@ -121,5 +121,38 @@ fn a_choice_is_read_back(rt: HostRuntime) -> Result<(), Fail> {
             assert!(rt; matches!(code.op_at(49), Some((Op::MovSp { offset: -4 }, 6))));
         }
     }
+    Ok(())
+}
+
+/// A constant so many times.
+#[tactic(auto, unfolding(ncs_code::specs::Spelling::has_type))]
+fn emit_texts(out: &mut Emitter, text: &[u8], count: u32) -> Result<(), NoMemory>
+    requires { length text.now < 2 ^ 16 }
+    ensures { OnOk result (out.new.labels ≡ out.old.labels) }
+{
+    for _ in 0..count {
+        out.op(&Op::Const(Lit::Text(text)))?;
+    }
+    Ok(())
+}
+
+/// How large the file of such constants would be, if it is too large.
+fn size_of_texts(alloc: Global, count: u32) -> Result<Option<u64>, NoMemory> {
+    let text = vec![in alloc; b'a'; 60_000]?;
+    let mut out = Emitter::new(alloc);
+    emit_texts(&mut out, text.as_slice(), count)?;
+    match out.finish(alloc) {
+        Ok(_) => Ok(None),
+        Err(EmitFault::Large(size)) => Ok(Some(size)),
+        Err(EmitFault::NoMemory) => Err(NoMemory),
+    }
+}
+
+#[test]
+fn lines_past_the_largest_file_are_counted(rt: HostRuntime) -> Result<(), Fail> {
+    // Each takes 60,004 bytes: 279 of them are less than 16,777,216, 280 are more.
+    assert_eq!(rt; size_of_texts(rt.alloc(), 279)?, None);
+    assert_eq!(rt; size_of_texts(rt.alloc(), 280)?, Some(16_801_133));
+    assert_eq!(rt; size_of_texts(rt.alloc(), 20_000)?, Some(1_200_080_013));
     Ok(())
 }
