@@ -1,6 +1,6 @@
 use Rattle.std.proofs.Common.{sym, ◌∙◌}
-use Rattle.table_2da.proofs.CutLemmas.{prefix_is, prefix_other}
-use Rattle.table_2da.proofs.lines.behind_prefix.Goals as goal
+use Rattle.table_2da.proofs.PrefixLemmas.{prefix_is, prefix_other}
+use Rattle.table_2da.proofs.prefix.behind_prefix.Goals as goal
 
 pub returns-then-eq : goal.returns-then-eq
 returns-then-eq c = record {
