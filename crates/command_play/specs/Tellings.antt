@@ -1,6 +1,6 @@
 -- What is said of a play's files and statuses.
 use Rattle.std.specs.Prelude.{◌≡◌, ℕ, ◌⊎◌, IsTrue, List}
-use Rattle.plan_text.specs.Fields.{is_script_name}
+use Rattle.nwq_text.specs.Names.{is_script_name}
 use Rattle.command_work.specs.declared.status.Status.{Status}
 use Rattle.command_work.specs.declared.status.Status.TheVariants.{Script, Code, Area, Limit}
 use Rattle.command_work.specs.Counts.{StopsRead}

@@ -1,8 +1,8 @@
 -- The names of a list while they are read, and what comes of a list does its work.
-use Rattle.std.proofs.Common.{◌≡◌, ℕ, ◌+◌, ◌≤◌, ◌⊎◌, Bool, true, false, inl, inr, List, [], ◌∷◌, ◌++◌, length, take, Result, Ok, Err, refl, sym, ap, subst, ◌∙◌, arith, append_assoc, append-nil, length-append}
+use Rattle.std.proofs.Common.{◌≡◌, ℕ, ◌+◌, ◌⊎◌, true, false, inl, inr, List, [], ◌∷◌, ◌++◌, length, take, Result, Ok, Err, refl, sym, ap, subst, ◌∙◌, arith, append_assoc, append-nil, length-append}
 use Rattle.nwq_value.specs.Limits.{text_limit}
 use Rattle.nwq_outside.specs.Outside.{Contents}
-use Rattle.plan_text.specs.Plans.{Lines, none, IsFirstLine, CutsIntoLines}
+use Rattle.nwq_text.specs.Lines.{lines_of}
 use Rattle.command_work.specs.declared.flaw.AreaFlaw.TheVariants as flaw
 use Rattle.command_work.specs.declared.status.Status.{Status}
 use Rattle.command_work.specs.declared.status.Status.TheVariants.{Memory}
@@ -60,46 +60,41 @@ are_more names line are follows before after name e =
 
 -- ---- the names of the lines so far
 
-pub record ReadSoFar (bytes rest : List ℕ) (names : List (List ℕ)) : Type 0 where
-  pub goes : (lines : List (List ℕ)) → Lines rest lines → Lines bytes (names ++ lines)
+pub record ReadSoFar (bytes : List ℕ) (read : ℕ) (left names : List (List ℕ)) : Type 0 where
+  pub lines : lines_of bytes ≡ names ++ left
   pub are : AreNames names
-  pub few : length names + length rest ≤ length bytes
+  pub count : read ≡ length names
 
-module _ (bytes : List ℕ) where
-  pub names_begin : (names : List (List ℕ)) → names ≡ [] → ReadSoFar bytes bytes names
-  names_begin names e = subst (ReadSoFar bytes bytes) (sym e) (record { goes = λ lines l. l; are = are_none; few = omega arith })
+module _ (bytes : List ℕ) (read : ℕ) (left names : List (List ℕ)) where
+  pub names_begin : lines_of bytes ≡ left → read ≡ 0 → names ≡ [] → ReadSoFar bytes read left names
+  names_begin all none e =
+      subst (ReadSoFar bytes read left) (sym e) (record { lines = all; are = are_none; count = none })
 
-  longer : (names : List (List ℕ)) (line : List ℕ) → length (names ++ line ∷ []) ≡ length names + 1
-  longer names line = omega (arith, length-append names (line ∷ []))
+  module _ (line : List ℕ) (others : List (List ℕ)) (number : ℕ) (so : ReadSoFar bytes read left names) (first : left ≡ line ∷ others) (is : number ≡ read + 1) where
+    pub names_go_on : (now : ℕ) (more : List (List ℕ)) → now ≡ number → may_follow names line ≡ true → more ≡ names ++ line ∷ []
+        → ReadSoFar bytes now others more
+    names_go_on now more counted follows e =
+        let longer = length-append names (line ∷ []) in let count = so.count in
+        subst (ReadSoFar bytes now others) (sym e)
+        (record {
+          lines = so.lines ∙ ap (λ ls. names ++ ls) first ∙ sym (append_assoc names (line ∷ []) others);
+          are = are_more names line so.are follows;
+          count = omega (arith, longer, count, counted, is);
+        })
 
-  pub names_go_on : (rest line after : List ℕ) (names more : List (List ℕ)) → ReadSoFar bytes rest names → IsFirstLine rest line after
-      → may_follow names line ≡ true → more ≡ names ++ line ∷ [] → ReadSoFar bytes after more
-  names_go_on rest line after names more so first follows e =
-      let count = longer names line in let shorter = first.shorter in let few = so.few in
-      subst (ReadSoFar bytes after) (sym e)
-      (record {
-        goes = λ lines l. subst (Lines bytes) (sym (append_assoc names (line ∷ []) lines)) (so.goes (line ∷ lines) (first.leads lines l));
-        are = are_more names line so.are follows;
-        few = omega (arith, count, shorter, few);
-      })
+    pub names_stop : may_follow names line ≡ false → HasBadLine bytes number
+    names_stop bad = record {
+      before = names;
+      line = line;
+      after = others;
+      lines = so.lines ∙ ap (λ ls. names ++ ls) first;
+      are = so.are;
+      bad = bad;
+      is = is ∙ ap (λ n. n + 1) so.count;
+    }
 
-  pub names_stop : (cuts : CutsIntoLines) (rest line after : List ℕ) (names : List (List ℕ)) (number : ℕ) → ReadSoFar bytes rest names
-      → IsFirstLine rest line after → may_follow names line ≡ false → number ≡ length names + 1 → HasBadLine bytes number
-  names_stop cuts rest line after names number so first bad is =
-      let others = cuts.some after in
-      record {
-        before = names;
-        line = line;
-        after = others.0;
-        lines = so.goes (line ∷ others.0) (first.leads others.0 others.1);
-        are = so.are;
-        bad = bad;
-        is = is;
-      }
-
-  pub names_done : (rest : List ℕ) (names : List (List ℕ)) → ReadSoFar bytes rest names → rest ≡ [] → HasNames bytes names
-  names_done rest names so end =
-      record { lines = subst (Lines bytes) (append-nil names) (so.goes [] (subst (λ r. Lines r []) (sym end) none)); are = so.are }
+  pub names_done : ReadSoFar bytes read left names → left ≡ [] → HasNames bytes names
+  names_done so end = record { lines = so.lines ∙ ap (λ ls. names ++ ls) end ∙ append-nil names; are = so.are }
 
 -- ---- what comes of a list
 

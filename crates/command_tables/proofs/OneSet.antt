@@ -1,6 +1,5 @@
 -- One set of tables comes of a list.
-use Rattle.std.proofs.Common.{◌≡◌, ℕ, suc, ◌+◌, ◌⊎◌, inl, inr, true, false, true≢false, List, [], ◌∷◌, ◌++◌, length, Option, None, Some, refl, sym, ap, ◌∙◌, subst}
-use Rattle.plan_text.specs.Plans.{Lines, CutsIntoLines}
+use Rattle.std.proofs.Common.{◌≡◌, ℕ, suc, ◌+◌, ◌⊎◌, inl, inr, false, true≢false, List, [], ◌∷◌, ◌++◌, length, None, Some, refl, sym, ap, ◌∙◌}
 use Rattle.table_2da.specs.Grammar.{OneTable}
 use Rattle.table_2da.specs.declared.tables.Named.{Named}
 use Rattle.command_work.specs.Work.{Gives, file_named}
@@ -46,21 +45,21 @@ same_number before other line next are also bad wrong (inl p) = p
 same_number before other line next are also bad wrong (inr (inl p)) = absurd (true≢false (sym (also before p.0 line p.1) ∙ bad))
 same_number before other line next are also bad wrong (inr (inr p)) = absurd (true≢false (sym (are other p.0 next p.1) ∙ wrong))
 
-module _ (cuts : CutsIntoLines) (bytes : List ℕ) where
+module _ (bytes : List ℕ) where
   one_bad : (n m : ℕ) → HasBadLine bytes n → HasBadLine bytes m → n ≡ m
   one_bad n m x y =
       let parts : PartedTwice x.before x.line y.before y.line =
       parted_twice x.before x.after y.before y.after x.line y.line
-      (cuts.one bytes (x.before ++ x.line ∷ x.after) (y.before ++ y.line ∷ y.after) x.lines y.lines)
+      (sym x.lines ∙ y.lines)
       in x.is ∙ (ap (λ k. k + 1) (same_number x.before y.before x.line y.line x.are y.are x.bad y.bad parts) ∙ sym y.is)
 
   not_both : (names : List (List ℕ)) (n : ℕ) → HasNames bytes names → HasBadLine bytes n → ⊥
   not_both names n x y =
-      let same : names ≡ y.before ++ y.line ∷ y.after = cuts.one bytes names (y.before ++ y.line ∷ y.after) x.lines y.lines
+      let same : names ≡ y.before ++ y.line ∷ y.after = sym x.lines ∙ y.lines
       in true≢false (sym (x.are y.before y.after y.line same) ∙ y.bad)
 
   one_list : {a b : ListFate} → IsListFate bytes a → IsListFate bytes b → a ≡ b
-  one_list (list.whole x h) (list.whole y k) = ap list.Whole (cuts.one bytes x y h.lines k.lines)
+  one_list (list.whole x h) (list.whole y k) = ap list.Whole (sym h.lines ∙ k.lines)
   one_list (list.whole x h) (list.faulty n k) = absurd (not_both x n h k)
   one_list (list.faulty n h) (list.whole y k) = absurd (not_both y n k h)
   one_list (list.faulty n h) (list.faulty m k) = ap list.Faulty (one_bad n m h k)
@@ -82,13 +81,13 @@ sure_table_by : (file : List ℕ) (fate : TableFate) → IsSure (table_by file f
 sure_table_by file (table.Whole t) = tt
 sure_table_by file (table.Faulty n) = tt
 
-sure_names_in : (cuts : CutsIntoLines) (name bytes : List ℕ) → IsSure (names_in name bytes)
+sure_names_in : (name bytes : List ℕ) → IsSure (names_in name bytes)
 unfolding names_in
-sure_names_in cuts name bytes = (λ c a b p q. one_list cuts bytes p q, sure_names_by name)
+sure_names_in name bytes = (λ c a b p q. one_list bytes p q, sure_names_by name)
 
-sure_names : (cuts : CutsIntoLines) (name : List ℕ) → IsSure (names_listed name)
+sure_names : (name : List ℕ) → IsSure (names_listed name)
 unfolding names_listed
-sure_names cuts name = sure_then (file_named name) (names_in name) (sure_file name) (sure_names_in cuts name)
+sure_names name = sure_then (file_named name) (names_in name) (sure_file name) (sure_names_in name)
 
 module _ (one : OneTable) where
   sure_table_in : (file bytes : List ℕ) → IsSure (table_in file bytes)
@@ -109,10 +108,10 @@ module _ (one : OneTable) where
   sure_all (name ∷ names) tables =
       sure_then (one_more tables name) (λ more. all_behind more names) (sure_more tables name) (λ more. sure_all names more)
 
-module _ (cuts : CutsIntoLines) (one : OneTable) where
+module _ (one : OneTable) where
   sure_listed : (name : List ℕ) → IsSure (tables_listed name)
   unfolding tables_listed
-  sure_listed name = sure_then (names_listed name) (all_behind []) (sure_names cuts name) (λ names. sure_all one names [])
+  sure_listed name = sure_then (names_listed name) (all_behind []) (sure_names name) (λ names. sure_all one names [])
 
   pub sure_tables : SureTables
   sure_tables None = tt

@@ -5,7 +5,7 @@ use Rattle.nwq_outside.specs.Outside.{Contents}
 use Rattle.table_2da.specs.declared.tables.Named.{Named}
 use Rattle.table_2da.specs.Table.{PlainTable}
 use Rattle.command_work.specs.declared.status.Status.{Status}
-use Rattle.command_work.specs.Work.{Work, Gives, Does, then, Finished}
+use Rattle.command_work.specs.Work.{Does, then}
 use Rattle.command_work.specs.Parts.{then_ok, then_err, cut_here}
 use Rattle.command_tables.specs.Tables.{with_table, one_more, all_behind}
 

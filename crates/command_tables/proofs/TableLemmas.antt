@@ -1,5 +1,5 @@
 -- What comes of the bytes of a table's file does its work.
-use Rattle.std.proofs.Common.{◌≡◌, ℕ, inl, List, Result, Ok, Err, refl}
+use Rattle.std.proofs.Common.{ℕ, inl, List, Result, Ok, Err, refl}
 use Rattle.nwq_outside.specs.Outside.{Contents}
 use Rattle.table_2da.specs.declared.fault.TableFault.TheVariants as fault
 use Rattle.table_2da.specs.Grammar.{HasTable, IsFaulty}

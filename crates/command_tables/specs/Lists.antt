@@ -1,9 +1,9 @@
 -- The names of tables that a file lists, one a line.
-use Rattle.std.specs.Prelude.{◌≡◌, ℕ, ◌+◌, nat_lt, Bool, false, ◌&&◌, not, IsTrue, List, [], ◌∷◌, ◌++◌, length}
+use Rattle.std.specs.Prelude.{◌≡◌, ℕ, ◌+◌, nat_lt, Bool, false, ◌&&◌, not, IsTrue, List, ◌∷◌, ◌++◌, length}
 use Rattle.std.specs.List.{list_any}
 use Rattle.nwq_outside.specs.Outside.{Contents}
-use Rattle.plan_text.specs.Fields.{is_script_name}
-use Rattle.plan_text.specs.Plans.{Lines}
+use Rattle.nwq_text.specs.Lines.{lines_of}
+use Rattle.nwq_text.specs.Names.{is_script_name}
 use Rattle.table_2da.specs.Look.{same_name}
 use Rattle.command_work.specs.declared.flaw.AreaFlaw.TheVariants as flaw
 use Rattle.command_work.specs.Refusal.{BadArea}
@@ -26,7 +26,7 @@ AreNames names = (before after : List (List ℕ)) (name : List ℕ) → names �
 
 -- the lines of a text are these names
 pub record HasNames (bytes : List ℕ) (names : List (List ℕ)) : Type 0 where
-  pub lines : Lines bytes names
+  pub lines : lines_of bytes ≡ names
   pub are : AreNames names
 
 -- the lines of a text begin with names, and the next one, of this number, may not follow them
@@ -34,7 +34,7 @@ pub record HasBadLine (bytes : List ℕ) (number : ℕ) : Type 0 where
   pub before : List (List ℕ)
   pub line : List ℕ
   pub after : List (List ℕ)
-  pub lines : Lines bytes (before ++ line ∷ after)
+  pub lines : lines_of bytes ≡ before ++ line ∷ after
   pub are : AreNames before
   pub bad : may_follow before line ≡ false
   pub is : number ≡ length before + 1

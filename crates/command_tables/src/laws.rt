@@ -2,13 +2,11 @@
 
 ghost use Rattle.command_tables.specs.Laws.{SureTables};
 
-use plan_text::laws::texts_have_lines;
 use table_2da::laws::one_table;
 
 /// What the files hold decides which tables a command is given.
 pub fn one_set_of_tables()
     ensures tables { SureTables }
 {
-    texts_have_lines();
     one_table();
 }

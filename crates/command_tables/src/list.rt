@@ -10,9 +10,8 @@ ghost use Rattle.command_tables.specs.Lists.{names_listed};
 
 use command_work::{AreaFlaw, Status, read_file, refuse_area};
 use nwq_outside::{Files, Sink};
+use nwq_text::{Lines, is_script_name};
 use nwq_value::{Items, NoMemory, Text};
-use plan_text::laws::texts_have_lines;
-use plan_text::{names_script, next_line};
 use std::alloc::Global;
 use table_2da::table::same_name;
 
@@ -42,7 +41,7 @@ fn is_among(names: &[Text], name: &[u8]) -> bool
 fn may_follow(names: &[Text], line: &[u8]) -> bool
     ensures follows { result ≡ may_follow names.now line.now }
 {
-    names_script(line) && !is_among(names, line) && names.len() < MOST_TABLES
+    is_script_name(line) && !is_among(names, line) && names.len() < MOST_TABLES
 }
 
 /// Puts a name last.
@@ -55,28 +54,24 @@ fn put_name(alloc: Global, names: &mut Names, name: &[u8]) -> Result<(), NoMemor
 }
 
 /// The names that a text lists, or its first line that is no further name.
-#[tactic(auto, using(crate::proofs::ListLemmas::names_begin))]
 fn names_of_text(alloc: Global, bytes: &[u8]) -> Result<Names, ListFault>
     ensures names { IfOk result (λ names. HasNames bytes.now names) }
     ensures fault { IfErr result (IsFaulty bytes.now) }
 {
-    texts_have_lines();
     let mut names = Names::new(alloc);
-    let mut rest = bytes;
-    while let Some((line, after)) = next_line(rest) {
-        if !may_follow(names.as_slice(), line) {
-            let number = names.len() as u64 + 1;
+    let mut lines = Lines::of(bytes);
+    while let Some(line) = lines.next_line() {
+        if !may_follow(names.as_slice(), line.bytes) {
             drop(names);
-            return Err(ListFault::Line(number));
+            return Err(ListFault::Line(line.number));
         }
-        match put_name(alloc, &mut names, line) {
+        match put_name(alloc, &mut names, line.bytes) {
             Err(NoMemory) => {
                 drop(names);
                 return Err(ListFault::NoMemory);
             }
             Ok(()) => {}
         }
-        rest = after;
     }
     Ok(names)
 }

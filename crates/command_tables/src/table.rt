@@ -1,7 +1,7 @@
 ghost use Rattle.std.specs.Prelude.{◌≡◌, ℕ, string_bytes, IsTrue, IfOk, IfErr};
 ghost use Rattle.nwq_outside.specs.Outside.{Contents};
-ghost use Rattle.plan_text.specs.Fields.{is_script_name};
 ghost use Rattle.nwq_outside.specs.declared.counts.FileCounts.{FileCounts};
+ghost use Rattle.nwq_text.specs.Names.{is_script_name};
 ghost use Rattle.command_work.specs.Work.{Does};
 ghost use Rattle.command_work.specs.Counts.{Counted, Tallies, Refusing, StopsArea};
 ghost use Rattle.command_tables.specs.Tables.{table_file, table_in, table_of};

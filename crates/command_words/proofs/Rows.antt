@@ -1,7 +1,7 @@
 -- Forms of words at worked examples, by computing.
 use Rattle.std.proofs.Common.{◌≡◌, [], ◌∷◌, None, Some, refl}
 use Rattle.std.specs.Prelude.{codes}
-use Rattle.plan_text.specs.Fields.{is_script_name}
+use Rattle.nwq_text.specs.Names.{is_script_name}
 use Rattle.command_words.specs.Words.{form_of, Run, Compile, Tree, Disassemble, Assemble, Play, NoForm}
 
 built_in_header : form_of (codes "run" ∷ codes "-" ∷ codes "p" ∷ []) ≡ Run (codes "-") (codes "p")

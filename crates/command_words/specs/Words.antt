@@ -3,7 +3,7 @@ use Rattle.std.specs.Prelude.{◌≡◌, ◌≤◌, ℕ, Bool, false, cond, ◌=
 use Rattle.std.specs.List.{list_any}
 use Rattle.std.specs.Option.{option_map}
 use Rattle.nwq_text.specs.Number.{number_of}
-use Rattle.plan_text.specs.Fields.{is_script_name}
+use Rattle.nwq_text.specs.Names.{is_script_name}
 use Rattle.play_generator.specs.Made.{number_limit}
 use Rattle.command_words.specs.declared.words.Command.{Command}
 use Rattle.command_words.specs.declared.words.Command.TheVariants as command

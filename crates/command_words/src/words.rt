@@ -6,8 +6,7 @@ ghost use Rattle.command_words.specs.Words.{is_option, command_form, generate_fo
 ghost use Rattle.command_words.specs.Words.{two_word_form, run_form, compile_form, play_form};
 ghost use Rattle.command_words.specs.Words.{form_of, list_of, IsCommand};
 
-use nwq_text::read_number;
-use plan_text::names_script;
+use nwq_text::{is_script_name, read_number};
 use play_generator::NUMBER_LIMIT;
 
 /// A command, as its words say it.
@@ -94,7 +93,7 @@ fn one_word<'a>(command: &str, word: &'a str) -> Command<'a>
 fn run_words<'a>(header: &'a str, script: &'a str) -> Command<'a>
     ensures { IsCommand result (run_form header.now script.now) }
 {
-    if names_script(script.as_bytes()) {
+    if is_script_name(script.as_bytes()) {
         Command::Run(header, script)
     } else {
         Command::NoForm
@@ -104,7 +103,7 @@ fn run_words<'a>(header: &'a str, script: &'a str) -> Command<'a>
 fn compile_words<'a>(header: &'a str, script: &'a str) -> Command<'a>
     ensures { IsCommand result (compile_form header.now script.now) }
 {
-    if names_script(script.as_bytes()) {
+    if is_script_name(script.as_bytes()) {
         Command::Compile(header, script)
     } else {
         Command::NoForm

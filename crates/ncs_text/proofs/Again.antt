@@ -9,13 +9,14 @@ use Rattle.ncs_code.specs.Plain.{PlainOp, Jmp, Jsr, Jz, Jnz}
 use Rattle.ncs_code.specs.Spelling.{op_size, IsOp}
 use Rattle.ncs_code.specs.File.{header_size, file_bytes, file_length, op_at, begins, jump_place, distance, leads_well, IsCode}
 use Rattle.ncs_code.specs.Laws.{SizeLaws, PlaceLaws, DistanceLeads}
-use Rattle.ncs_text.specs.Lines.{IsFree, lines_of, without_return}
+use Rattle.nwq_text.specs.Cuts.{IsFree}
+use Rattle.nwq_text.specs.Laws.{lines_none, lines_ended}
+use Rattle.nwq_text.specs.Lines.{lines_of, without_return}
 use Rattle.ncs_text.specs.Arguments.{reach, offset_to}
 use Rattle.ncs_text.specs.Assembly.{Assembles, none, instruction, IsAssembled, heading}
 use Rattle.ncs_text.specs.Listing.{arguments_text, op_line, listing, listing_from}
 use Rattle.ncs_text.proofs.Naming.{IsPrinted}
 use Rattle.ncs_text.proofs.Ops.{HasOpcode}
-use Rattle.ncs_text.proofs.Passing.{lines_ended, no_lines}
 use Rattle.ncs_text.proofs.Texts.{IsLed, Led, op_text, op_printed, line_written}
 
 -- ---- targets
@@ -119,7 +120,7 @@ line_is at op rest =
 first_line : HasOpcode → (at : ℕ) (op : PlainOp) (rest : List ℕ) → IsOp op → Led at op → lines_of (op_line at op ++ rest) ≡ op_text at op ∷ lines_of rest
 first_line known at op rest h led =
     let p = op_printed known at op h led
-    in ap lines_of (line_is at op rest) ∙ lines_ended [] (op_text at op) rest (printed_free (op_text at op) p) ∙ ap (λ l. l ∷ lines_of rest) (unreturned (op_text at op) p)
+    in ap lines_of (line_is at op rest) ∙ lines_ended (op_text at op) rest (printed_free (op_text at op) p) ∙ ap (λ l. l ∷ lines_of rest) (unreturned (op_text at op) p)
 
 -- each of them is led
 abbrev AllLed : ℕ → List PlainOp → Type 0
@@ -127,7 +128,7 @@ AllLed at [] = Unit {0}
 AllLed at (op ∷ ops) = Led at op × AllLed (at + op_size op) ops
 
 listed : SizeLaws → HasOpcode → (at : ℕ) (ops : List PlainOp) → AllByRecursion IsOp ops → AllLed at ops → Assembles at (lines_of (listing_from at ops)) ops
-listed sizes known at [] each led = subst (λ ls. Assembles at ls []) (sym no_lines) (none at)
+listed sizes known at [] each led = subst (λ ls. Assembles at ls []) (sym lines_none) (none at)
 listed sizes known at (op ∷ ops) each led =
     subst (λ ls. Assembles at ls (op ∷ ops)) (sym (first_line known at op (listing_from (at + op_size op) ops) each.0 led.0))
     (instruction at (op_text at op) op (lines_of (listing_from (at + op_size op) ops)) ops (line_written sizes at op each.0 led.0)

@@ -5,8 +5,8 @@ use Rattle.ncs_code.specs.File.{header_size, file_bytes, file_length, ops_size, 
 use Rattle.ncs_code.specs.Laws.{SpellingLaws, SizeLaws, PlaceLaws}
 use Rattle.ncs_text.specs.declared.fault.AsmFault.{AsmFault}
 use Rattle.ncs_text.specs.declared.fault.AsmFault.TheVariants.{Line, Large, Target, NoMemory}
-use Rattle.ncs_text.specs.Lines.{lines_of, IsRemark}
-use Rattle.ncs_text.specs.Assembly.{Writes, Assembles, remark, instruction, IsAssembled, StopsAt, IsLarge, LeadsAstray, IsFirstAstray, Answers}
+use Rattle.nwq_text.specs.Lines.{lines_of}
+use Rattle.ncs_text.specs.Assembly.{Writes, Assembles, remark, instruction, IsAssembled, StopsAt, IsLarge, LeadsAstray, IsFirstAstray, Answers, IsRemark}
 use Rattle.ncs_text.proofs.Ops.{HasOpcode}
 use Rattle.ncs_text.proofs.Passing.{assembles_add}
 use Rattle.ncs_text.proofs.Single.{one_assembly, split_assembly}

@@ -4,10 +4,10 @@ use Rattle.std.proofs.lemmas.Option.{none-some, some_pair_parts}
 use Rattle.ncs_code.specs.Spelling.{two}
 use Rattle.ncs_text.specs.declared.argument.Argument.{Argument}
 use Rattle.ncs_text.specs.declared.argument.Argument.TheVariants.{Signed, Byte, Short, Word, Place, Float, Text}
-use Rattle.ncs_text.specs.Lines.{IsFree, cut_at}
+use Rattle.nwq_text.specs.Cuts.{IsFree, cut_at, CutParts}
+use Rattle.nwq_text.specs.Laws.{cut_parts, cut_free}
 use Rattle.ncs_text.specs.Arguments.{IsArgument, AreFields, AreArguments, IsString, IsParted}
 use Rattle.ncs_text.specs.Steps.{Appends}
-use Rattle.ncs_text.proofs.Cutting.{CutParts, cut_parts, cut_free}
 use Rattle.ncs_text.proofs.Strings.{quotes_apart}
 
 same_bytes : (a b : List ℕ) (o : Option (List ℕ)) → o ≡ Some a → o ≡ Some b → a ≡ b

@@ -1,4 +1,3 @@
-pub mod Cutting
 pub mod Strings
 pub mod Fields
 pub mod Naming

@@ -9,7 +9,7 @@ use Rattle.nwq_text.specs.Unescape.{hex_value}
 use Rattle.ncs_code.specs.Plain.{Const, PlainLit, Int, Float, Text, Object}
 use Rattle.ncs_code.specs.Spelling.{is_opcode, type_byte}
 use Rattle.ncs_code.specs.Names.{names, name_at}
-use Rattle.ncs_text.specs.Lines.{IsFree}
+use Rattle.nwq_text.specs.Cuts.{IsFree}
 use Rattle.ncs_text.specs.Arguments.{hex_byte, byte_of}
 
 -- ---- names

@@ -6,11 +6,11 @@ use Rattle.nwq_text.specs.Escape.{hex_digit}
 use Rattle.ncs_code.specs.Plain.{PlainOp, RsAdd, Const, Equal, Nequal, Geq, Gt, Lt, Leq, Add, Sub, Mul, Div, Neg}
 use Rattle.ncs_code.specs.Spelling.{spelling, opcode, type_byte, is_opcode, Fits}
 use Rattle.ncs_code.specs.Names.{name_at, name_of, IsNamed}
-use Rattle.ncs_text.specs.Lines.{IsRemark, cut_at}
+use Rattle.nwq_text.specs.Cuts.{cut_at}
+use Rattle.nwq_text.specs.Laws.{cut_free}
 use Rattle.ncs_text.specs.Arguments.{arguments, AreArguments, hex_byte}
-use Rattle.ncs_text.specs.Assembly.{Writes, Assembles, remark, instruction, heading, hex_pair}
+use Rattle.ncs_text.specs.Assembly.{Writes, Assembles, remark, instruction, heading, hex_pair, IsRemark}
 use Rattle.ncs_text.specs.Steps.{IsRow, PutsSome, PutsOrStops}
-use Rattle.ncs_text.proofs.Cutting.{cut_free}
 use Rattle.ncs_text.proofs.Fields.{cut_is, one_arguments}
 use Rattle.ncs_text.proofs.Naming.{good, one_code, literal_small, hex_read, hex_written}
 

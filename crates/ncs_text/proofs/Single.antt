@@ -5,8 +5,7 @@ use Rattle.ncs_code.specs.Spelling.{spelling, op_size, opcode}
 use Rattle.ncs_code.specs.Names.{name_of}
 use Rattle.ncs_code.specs.File.{ops_size}
 use Rattle.ncs_code.specs.Laws.{SpellingLaws}
-use Rattle.ncs_text.specs.Lines.{IsRemark}
-use Rattle.ncs_text.specs.Assembly.{Writes, Assembles, none, remark, instruction}
+use Rattle.ncs_text.specs.Assembly.{Writes, Assembles, none, remark, instruction, IsRemark}
 use Rattle.ncs_text.proofs.Naming.{good}
 use Rattle.ncs_text.proofs.Ops.{HasOpcode, behind_name, parted, writes_one}
 

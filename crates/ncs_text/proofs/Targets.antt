@@ -10,7 +10,7 @@ use Rattle.ncs_code.specs.Reading.{ops_of}
 use Rattle.ncs_code.specs.File.{magic, header_size, spellings, ops_size, file_length, file_bytes, op_at, IsCode, IsFirstBad}
 use Rattle.ncs_code.specs.Laws.{SpellingLaws, SizeLaws, PlaceLaws}
 use Rattle.ncs_file.specs.Loading as loading
-use Rattle.ncs_text.specs.Lines.{lines_of}
+use Rattle.nwq_text.specs.Lines.{lines_of}
 use Rattle.ncs_text.specs.Assembly.{Writes, Assembles, none, remark, instruction, LeadsAstray, IsFirstAstray}
 use Rattle.ncs_text.specs.Steps.{IsPassed, IsWhole, HasCode, Passes}
 use Rattle.ncs_text.proofs.Ops.{HasOpcode}

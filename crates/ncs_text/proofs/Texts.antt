@@ -20,7 +20,7 @@ use Rattle.ncs_code.specs.File.{jump_place}
 use Rattle.ncs_code.specs.Laws.{SizeLaws}
 use Rattle.ncs_text.specs.declared.argument.Argument.{Argument}
 use Rattle.ncs_text.specs.declared.argument.Argument.TheVariants.{Signed, Byte, Short, Word, Place, Float, Text}
-use Rattle.ncs_text.specs.Lines.{IsFree}
+use Rattle.nwq_text.specs.Cuts.{IsFree}
 use Rattle.ncs_text.specs.Arguments.{arguments, literal, offset_to, below, number_below, negative, signed_number, hex_bytes, place_of, argument_bytes, IsArgument, AreArguments}
 use Rattle.ncs_text.specs.Assembly.{hex_pair, heading, Writes}
 use Rattle.ncs_text.specs.Listing.{number, signed_text, target, copied, literal_text, arguments_text}

@@ -8,7 +8,7 @@ use Rattle.ncs_code.specs.Spelling.{two, four, signed, is_between, is_copy, is_o
 use Rattle.ncs_code.specs.File.{distance}
 use Rattle.ncs_text.specs.declared.argument.Argument.{Argument}
 use Rattle.ncs_text.specs.declared.argument.Argument.TheVariants.{Signed, Byte, Short, Word, Place, Float, Text}
-use Rattle.ncs_text.specs.Lines.{IsFree}
+use Rattle.nwq_text.specs.Cuts.{IsFree}
 
 -- ---- which arguments there are
 

@@ -1,14 +1,14 @@
 -- The file of an assembler text, or why it has none.
-use Rattle.std.specs.Prelude.{◌≡◌, ℕ, ◌+◌, ◌/◌, ◌%◌, ◌<◌, ◌≤◌, List, [], ◌∷◌, ◌++◌, length, true, false, Some, Result, Ok, Err}
+use Rattle.std.specs.Prelude.{◌≡◌, ℕ, ◌+◌, ◌/◌, ◌%◌, ◌<◌, ◌≤◌, List, [], ◌∷◌, ◌++◌, ◌⊎◌, length, true, false, Some, Result, Ok, Err}
 use Rattle.nwq_value.specs.Limits.{file_limit}
 use Rattle.nwq_text.specs.Escape.{hex_digit}
+use Rattle.nwq_text.specs.Lines.{lines_of}
 use Rattle.ncs_code.specs.Plain.{PlainOp}
 use Rattle.ncs_code.specs.Spelling.{spelling, op_size, opcode, type_byte, IsOp}
 use Rattle.ncs_code.specs.Names.{name_of}
 use Rattle.ncs_code.specs.File.{IsCode, header_size, file_length, file_bytes, op_at, leads_well}
 use Rattle.ncs_text.specs.declared.fault.AsmFault.{AsmFault}
 use Rattle.ncs_text.specs.declared.fault.AsmFault.TheVariants.{Line, Large, Target, NoMemory}
-use Rattle.ncs_text.specs.Lines.{lines_of, IsRemark}
 use Rattle.ncs_text.specs.Arguments.{arguments, AreArguments}
 
 -- a byte as two hexadecimal digits in lower case
@@ -27,6 +27,10 @@ pub record Writes (at : ℕ) (line : List ℕ) (op : PlainOp) : Type 0 where
   pub written : line ≡ heading op ++ text
   pub spelled : spelling op ≡ opcode op ∷ type_byte op ∷ bytes
   pub fields : AreArguments at (arguments (opcode op) (type_byte op)) text bytes
+
+-- a line that stands for nothing: it is empty, or begins with a semicolon
+abbrev pub IsRemark : List ℕ → Type 0
+IsRemark line = (line ≡ []) ⊎ ((text : List ℕ) × (line ≡ 59 ∷ text))
 
 -- The lines stand for these instructions in a row, the first at this place.
 pub data Assembles : ℕ → List (List ℕ) → List PlainOp → Type 0 where

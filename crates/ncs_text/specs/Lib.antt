@@ -1,4 +1,3 @@
-pub mod Lines
 pub mod Arguments
 pub mod Assembly
 pub mod Listing

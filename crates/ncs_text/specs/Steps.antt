@@ -4,9 +4,9 @@ use Rattle.nwq_value.specs.Limits.{file_limit}
 use Rattle.ncs_code.specs.Plain.{PlainOp}
 use Rattle.ncs_code.specs.Spelling.{spelling, op_size, IsOp}
 use Rattle.ncs_code.specs.File.{IsCode, header_size, spellings, ops_size, file_length}
-use Rattle.ncs_text.specs.Lines.{lines_of, IsRemark}
+use Rattle.nwq_text.specs.Lines.{lines_of}
 use Rattle.ncs_text.specs.Arguments.{arguments, AreArguments}
-use Rattle.ncs_text.specs.Assembly.{Writes, Assembles}
+use Rattle.ncs_text.specs.Assembly.{Writes, Assembles, IsRemark}
 
 -- The bytes were appended, where there are some.
 abbrev pub Puts : Option (List ℕ) → List ℕ → Bool → List ℕ → Type 0

@@ -8,10 +8,10 @@ ghost use Rattle.ncs_text.specs.Assembly.{Fails, IsAssembled};
 ghost use Rattle.ncs_text.specs.Steps.{HasCode, IsPassed, IsWhole};
 
 use crate::fault::AsmFault;
-use crate::lines::line_at;
 use crate::putting::put_line;
 use ncs_code::{HEADER_BYTES, header, one_name, place_laws, size_laws, spelling_laws};
 use ncs_file::{LoadFault, load};
+use nwq_text::Lines;
 use nwq_value::{FILE_BYTES, NoMemory};
 use std::alloc::Global;
 
@@ -46,18 +46,17 @@ fn read_lines(alloc: Global, text: &[u8], stop: u64) -> Result<Pass, AsmFault>
     let mut body = Vec::new(alloc);
     let mut size = HEADER_BYTES as u64;
     let mut number = 0u64;
-    let mut rest = text;
-    while let Some((line, after)) = line_at(rest) {
+    let mut lines = Lines::of(text);
+    while let Some(line) = lines.next_line() {
         if size > stop {
             return Ok(Pass { body, size, number });
         }
-        number += 1;
-        let Some(added) = put_line(alloc, &mut body, size, line)? else {
+        number = line.number;
+        let Some(added) = put_line(alloc, &mut body, size, line.bytes)? else {
             return Err(AsmFault::Line(number));
         };
         size += u64::from(added);
         forget_large(&mut body, size);
-        rest = after;
     }
     Ok(Pass { body, size, number })
 }

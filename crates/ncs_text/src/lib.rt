@@ -17,7 +17,6 @@ mod assembler;
 mod disassembler;
 mod fault;
 mod laws;
-mod lines;
 mod number;
 mod putting;
 

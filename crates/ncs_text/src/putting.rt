@@ -1,17 +1,16 @@
 //! The spelling of the instruction that a line stands for.
 
 ghost use Rattle.std.specs.Prelude.{◌≡◌, ◌+◌, ◌*◌, ◌<◌, ◌≤◌, ◌^◌, ◌∷◌, ◌++◌, [], List, ℕ, length};
-ghost use Rattle.std.specs.Prelude.{true, IfOk, IfSome, MatchOption};
+ghost use Rattle.std.specs.Prelude.{true, IfOk, IfSome, IsTrue, MatchOption};
 ghost use Rattle.ncs_text.specs.Arguments.{AreArguments, AreFields, IsArgument, IsString};
 ghost use Rattle.ncs_text.specs.Arguments.{argument_bytes};
-ghost use Rattle.ncs_text.specs.Assembly.{Writes};
+ghost use Rattle.ncs_text.specs.Assembly.{IsRemark, Writes};
 ghost use Rattle.ncs_text.specs.Steps.{Appends, IsRow, Puts, PutsOrStops, PutsSome, SpelledWhole};
 
 use crate::argument::{Argument, arguments_of};
-use crate::lines::{cut, is_remark};
 use crate::number::{four_bytes, hex_byte, number_below, offset_to, place_of, signed_number};
 use ncs_code::{decode, one_name, opcode_named, size_laws};
-use nwq_text::read_quoted;
+use nwq_text::{cut, read_quoted};
 use nwq_value::NoMemory;
 use std::alloc::Global;
 
@@ -223,6 +222,17 @@ fn put_op(alloc: Global, out: &mut Vec<u8>, at: u64, line: &[u8]) -> Result<Opti
     };
     let size = put_row(alloc, out, at, code, kind, text)?;
     Ok(size)
+}
+
+/// Does the line stand for nothing?
+fn is_remark(line: &[u8]) -> bool
+    ensures yes { IsTrue result → IsRemark line.now }
+    ensures no { IsRemark line.now → IsTrue result }
+{
+    match line {
+        [] => true,
+        [first, ..] => *first == b';',
+    }
 }
 
 /// Appends the instruction that a line stands for, if it isn't passed over.

@@ -1,4 +1,7 @@
 mod Appended
+mod CutLemmas
 mod EscapeLemmas
+mod Examples
+mod LineLemmas
 mod NumberLemmas
 mod TakenBack

@@ -3,3 +3,7 @@ pub mod Escape
 pub mod Unescape
 pub mod Line
 pub mod Values
+pub mod Cuts
+pub mod Lines
+pub mod Names
+pub mod Laws

@@ -1,9 +1,10 @@
 use Rattle.std.proofs.Common.{◌≡◌, ℕ, ◌<◌, Bool, true, false, List, ◌∷◌, length, Option, Some, None, refl, sym, ◌∙◌, subst, arith, length-append}
 use Rattle.std.proofs.lemmas.Option.{none-some}
-use Rattle.plan_text.specs.Fields.{cut_at, IsFree, number_between, parted}
+use Rattle.plan_text.specs.Fields.{number_between, parted}
 use Rattle.plan_text.specs.Plans.{Adds, one, more, one_more, with_number}
 use Rattle.plan_text.specs.Steps.{Took}
-use Rattle.plan_text.proofs.FieldLemmas.{CutParts, cut_parts, cut_free, cut_none}
+use Rattle.nwq_text.specs.Cuts.{cut_at, IsFree, CutParts}
+use Rattle.nwq_text.specs.Laws.{cut_parts, cut_free, cut_none}
 use Rattle.plan_text.proofs.PlannedLemmas.{between_free}
 
 -- numbers are added by the first field and then by what follows it

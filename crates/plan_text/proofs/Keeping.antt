@@ -10,9 +10,10 @@ use Rattle.plan_text.specs.declared.plan.Script.{Script}
 use Rattle.plan_text.specs.declared.plan.Line.{Line}
 use Rattle.plan_text.specs.Words as word
 use Rattle.plan_text.specs.Words.{Word}
-use Rattle.plan_text.specs.Fields.{within, number_between, is_script_name, greatest_nth, greatest_random}
+use Rattle.plan_text.specs.Fields.{within, number_between, greatest_nth, greatest_random}
+use Rattle.nwq_text.specs.Names.{is_script_name}
 use Rattle.nwq_text.specs.Number.{number_of}
-use Rattle.plan_text.specs.Plans.{Draft, Adds, one, more, one_more, with_number, given_once, IsEvent, IsStart, IsFreeStart, Plans, Lists, is_listed, ReadsBehind, Reads, empty, remark, says, Comes, whole, more, stops, Gives, headed, headless, Lines, nothing, plan_of, or_default, HasPlan, IsFaulty, IsVersion, IsBetween, AreRandoms, AreListed, IsLine, IsPlan, PlansKeep, IsLineOf, FaultsLieInside}
+use Rattle.plan_text.specs.Plans.{Draft, Adds, one, more, one_more, with_number, given_once, IsEvent, IsStart, IsFreeStart, Plans, Lists, is_listed, ReadsBehind, Reads, empty, remark, says, Comes, whole, more, stops, Gives, headed, headless, nothing, plan_of, or_default, HasPlan, IsFaulty, IsVersion, IsBetween, AreRandoms, AreListed, IsLine, IsPlan, PlansKeep, IsLineOf, FaultsLieInside}
 use Rattle.plan_text.specs.Plans as plans
 
 -- ---- one line
@@ -233,7 +234,7 @@ keeps_nothing version known = record {
 
 keeps_text : (bytes : List ℕ) (end : Result Draft ℕ) → Gives bytes end → EndKeeps end
 keeps_text bytes end (headed v lines e known l on) = keeps_lines 2 (nothing v) lines e (keeps_nothing v known) on
-keeps_text bytes end (headless lines l other) = tt
+keeps_text bytes end (headless other) = tt
 
 or_inside : (low high default : ℕ) (o : Option ℕ) → IsBetween low high default → Given low high o → IsBetween low high (or_default o default)
 or_inside low high default None d h = d
@@ -274,9 +275,8 @@ lies n d lines end (stops m e line rest b) = (omega arith, omega arith)
 line_of_end : (bytes : List ℕ) (end : Result Draft ℕ) (n : ℕ) → end ≡ Err n → Gives bytes end → IsLineOf bytes n
 line_of_end bytes end n is (headed v lines e known l on) =
     let inside = subst (Inside 2 lines) is (lies 2 (nothing v) lines e on)
-    in record { lines = plans.heading v ∷ lines; are = l; inside = (omega arith, omega arith) }
-line_of_end bytes end n is (headless lines l other) =
-    let one : 1 ≡ n = cc in record { lines = lines; are = l; inside = (omega arith, omega arith) }
+    in let count = ap length l in (omega (arith, count), omega (arith, count))
+line_of_end bytes end n is (headless other) = let one : 1 ≡ n = cc in (omega arith, omega arith)
 
 pub faults_lie_inside : FaultsLieInside
 faults_lie_inside bytes n h = line_of_end bytes (Err n) n refl h

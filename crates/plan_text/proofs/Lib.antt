@@ -1,4 +1,3 @@
-mod FieldLemmas
 mod WordLemmas
 mod LineLemmas
 mod PlannedLemmas

@@ -7,7 +7,6 @@ use Rattle.plan_text.specs.Fields.{parted}
 use Rattle.plan_text.specs.Words.{Word, Limit, Entries, Until, Random, Script, Binary, Event as EventWord, Start as StartWord, head_of, spelled}
 use Rattle.plan_text.specs.Plans.{Draft, IsEvent, IsStart, IsFreeStart, Spells, ReadsBehind, Reads, empty, remark, says, Baffles, Comes, whole, more, stops, Gives, headed, headless, IsHeaded, heading, OnePlan, nothing, plan_of}
 use Rattle.plan_text.proofs.AddsLemmas.{one_adds}
-use Rattle.plan_text.proofs.LineLemmas.{one_lines}
 use Rattle.plan_text.proofs.PlannedLemmas.{FourFields, event_four, start_four, free_two, same_four, same_two, apart}
 use Rattle.plan_text.proofs.WordLemmas.{head_spelled}
 
@@ -132,14 +131,12 @@ same_version v w e = let same : 48 + v ≡ 48 + w = ap last_byte e in omega arit
 
 one_given : EscapesApart → (bytes : List ℕ) (e f : Result Draft ℕ) → Gives bytes e → Gives bytes f → e ≡ f
 one_given esc bytes e f (headed v a x known l c) (headed w b y also m k) =
-    let same = same_head (heading v) (heading w) a b (one_lines bytes (heading v ∷ a) (heading w ∷ b) l m)
+    let same = same_head (heading v) (heading w) a b (sym l ∙ m)
     in let version = same_version v w same.0
     in one_end esc 2 (nothing w) b x y (subst (λ u. Comes 2 (nothing u) b x) version (subst (λ ls. Comes 2 (nothing v) ls x) same.1 c)) k
-one_given esc bytes e f (headed v a x known l c) (headless b m other) =
-    absurd (other (subst IsHeaded (one_lines bytes (heading v ∷ a) b l m) (v, known, refl)))
-one_given esc bytes e f (headless a l other) (headed w b y also m k) =
-    absurd (other (subst IsHeaded (one_lines bytes (heading w ∷ b) a m l) (w, also, refl)))
-one_given esc bytes e f (headless a l other) (headless b m more_other) = refl
+one_given esc bytes e f (headed v a x known l c) (headless other) = absurd (other (subst IsHeaded (sym l) (v, known, refl)))
+one_given esc bytes e f (headless other) (headed w b y also m k) = absurd (other (subst IsHeaded (sym m) (w, also, refl)))
+one_given esc bytes e f (headless other) (headless another) = refl
 
 same_draft : (c d : Draft) → ◌≡◌ {A = Result Draft ℕ} (Ok c) (Ok d) → c ≡ d
 same_draft c d e = cc

@@ -11,10 +11,12 @@ use Rattle.nwq_text.specs.Escape.{ReadsText}
 use Rattle.nwq_text.specs.Number.{number_of, is_number}
 use Rattle.plan_text.specs.declared.plan.Line.{Line}
 use Rattle.plan_text.specs.declared.plan.Line.TheVariants.{Event, Start, Free}
-use Rattle.plan_text.specs.Fields.{cut_at, parted, IsFree, number_between, within, is_script_name, is_script_byte, is_label, is_spaceless}
+use Rattle.plan_text.specs.Fields.{parted, number_between, within, is_label, is_spaceless}
 use Rattle.plan_text.specs.Plans.{Draft, IsEvent, IsStart, IsFreeStart, Lists, is_listed}
 use Rattle.plan_text.specs.Steps.{Found, number_field, numbered, four_fields, with_due, with_nth, with_name, dash_fields, dashed, behind_dash}
-use Rattle.plan_text.proofs.FieldLemmas.{CutParts, cut_parts, cut_free}
+use Rattle.nwq_text.specs.Cuts.{cut_at, IsFree, CutParts}
+use Rattle.nwq_text.specs.Laws.{cut_parts, cut_free}
+use Rattle.nwq_text.specs.Names.{is_script_name, is_script_byte}
 
 -- ---- fields have no spaces
 

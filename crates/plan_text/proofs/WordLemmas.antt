@@ -4,11 +4,12 @@ use Rattle.std.proofs.lemmas.Slice.Eq.{bytes_eq-Decides}
 use Rattle.std.proofs.lemmas.Option.{none-some, some_pair_parts}
 use Rattle.std.specs.Option.{option_map}
 use Rattle.std.specs.Str.{bytes_eq}
-use Rattle.plan_text.specs.Fields.{cut_at, parted}
+use Rattle.plan_text.specs.Fields.{parted}
 use Rattle.plan_text.specs.Words.{Word, Limit, Entries, Until, Random, Script, Binary, Event, Start, spelled, word_named, named_in, head_of}
 use Rattle.plan_text.specs.Plans.{Draft, Reads, Baffles, ReadsBehind, empty, remark, says}
 use Rattle.plan_text.specs.Steps.{Took, IsWorded}
-use Rattle.plan_text.proofs.FieldLemmas.{CutParts, cut_parts}
+use Rattle.nwq_text.specs.Cuts.{cut_at, CutParts}
+use Rattle.nwq_text.specs.Laws.{cut_parts}
 
 -- ---- words
 

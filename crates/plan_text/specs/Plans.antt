@@ -1,7 +1,9 @@
 -- The plan of a text, or the first of its lines that has no reading.
-use Rattle.std.specs.Prelude.{◌≡◌, ◌≢◌, ℕ, ◌+◌, ◌<◌, ◌≤◌, max, Bool, true, false, ◌==◌, nat_lt, IsTrue, List, [], ◌∷◌, ◌++◌, length, codes, bytes_eq, if◌then◌else◌, Option, None, Some, Result, Ok, Err, ◌⊎◌}
+use Rattle.std.specs.Prelude.{◌≡◌, ℕ, ◌+◌, ◌<◌, ◌≤◌, max, Bool, true, false, nat_lt, IsTrue, List, [], ◌∷◌, ◌++◌, length, codes, bytes_eq, if◌then◌else◌, Option, None, Some, Result, Ok, Err, ◌⊎◌}
 use Rattle.std.specs.List.{list_any, AllByRecursion}
 use Rattle.nwq_text.specs.Escape.{IsTextual, escaped}
+use Rattle.nwq_text.specs.Lines.{lines_of}
+use Rattle.nwq_text.specs.Names.{is_script_name}
 use Rattle.nwq_value.specs.Limits.{time_limit, random_limit, event_limit, script_limit, instruction_limit, entry_limit, default_instruction_limit, default_entry_limit, default_until}
 use Rattle.plan_text.specs.declared.plan.Script.{Script}
 use Rattle.plan_text.specs.declared.plan.Line.{Line}
@@ -9,33 +11,9 @@ use Rattle.plan_text.specs.declared.plan.Line.TheVariants.{Event, Start, Free}
 use Rattle.plan_text.specs.declared.plan.Plan.{Plan}
 use Rattle.plan_text.specs.declared.fault.PlanFault.{PlanFault}
 use Rattle.plan_text.specs.declared.fault.PlanFault.TheVariants.{Line as BadLine, NoMemory}
-use Rattle.plan_text.specs.Fields.{IsFree, parted, number_between, is_script_name, is_label, greatest_nth, greatest_random}
+use Rattle.plan_text.specs.Fields.{parted, number_between, is_label, greatest_nth, greatest_random}
 use Rattle.plan_text.specs.Words as word
 use Rattle.plan_text.specs.Words.{Word, spelled}
-
--- ---- lines of a text
-
--- a line without the carriage return at its end
-abbrev pub without_return : List ℕ → List ℕ
-without_return [] = []
-without_return (b ∷ []) = if b == 13 then [] else b ∷ []
-without_return (b ∷ c ∷ bs) = b ∷ without_return (c ∷ bs)
-
--- A newline ends a line, and a carriage return before it is dropped. What follows the last newline is a line where it isn't empty.
-pub data Lines : List ℕ → List (List ℕ) → Type 0 where
-  none : Lines [] []
-  last : (line : List ℕ) → line ≢ [] → IsFree 10 line → Lines line (line ∷ [])
-  ended : (line rest : List ℕ) (lines : List (List ℕ)) → IsFree 10 line → Lines rest lines → Lines (line ++ 10 ∷ rest) (without_return line ∷ lines)
-
--- the first line of a text: it stands before the lines of the rest, which is shorter
-pub record IsFirstLine (bytes line rest : List ℕ) : Type 0 where
-  pub leads : (lines : List (List ℕ)) → Lines rest lines → Lines bytes (line ∷ lines)
-  pub shorter : length rest < length bytes
-
--- each text is cut into lines, in one way
-pub record CutsIntoLines : Type 0 where
-  pub some : (bytes : List ℕ) → (lines : List (List ℕ)) × Lines bytes lines
-  pub one : (bytes : List ℕ) (a b : List (List ℕ)) → Lines bytes a → Lines bytes b → a ≡ b
 
 -- ---- what lines say
 
@@ -198,9 +176,9 @@ IsHeaded (line ∷ lines) = (version : ℕ) × IsVersion version × (line ≡ he
 
 -- a text gives this, or its line of this number is the first without a reading
 pub data Gives (bytes : List ℕ) : Result Draft ℕ → Type 0 where
-  headed : (version : ℕ) (lines : List (List ℕ)) (end : Result Draft ℕ) → IsVersion version → Lines bytes (heading version ∷ lines)
+  headed : (version : ℕ) (lines : List (List ℕ)) (end : Result Draft ℕ) → IsVersion version → lines_of bytes ≡ heading version ∷ lines
       → Comes 2 (nothing version) lines end → Gives bytes end
-  headless : (lines : List (List ℕ)) → Lines bytes lines → (IsHeaded lines → ⊥) → Gives bytes (Err 1)
+  headless : (IsHeaded (lines_of bytes) → ⊥) → Gives bytes (Err 1)
 
 -- the text has this plan
 abbrev pub HasPlan : List ℕ → Plan → Type 0
@@ -252,10 +230,8 @@ abbrev pub PlansKeep : Type 0
 PlansKeep = (bytes : List ℕ) (plan : Plan) → HasPlan bytes plan → IsPlan plan
 
 -- the first bad line is a line of the text, or the first one where there is none
-pub record IsLineOf (bytes : List ℕ) (n : ℕ) : Type 0 where
-  pub lines : List (List ℕ)
-  pub are : Lines bytes lines
-  pub inside : IsBetween 1 (max 1 (length lines)) n
+abbrev pub IsLineOf : List ℕ → ℕ → Type 0
+IsLineOf bytes n = IsBetween 1 (max 1 (length (lines_of bytes))) n
 
 abbrev pub FaultsLieInside : Type 0
 FaultsLieInside = (bytes : List ℕ) (n : ℕ) → IsFaulty bytes (BadLine n) → IsLineOf bytes n

@@ -1,11 +1,12 @@
 -- What single steps of the reading answer. Private clauses and proofs alone need this.
-use Rattle.std.specs.Prelude.{◌≢◌, ℕ, Bool, true, false, List, [], ◌∷◌, codes, bytes_eq, if◌then◌else◌, Option, None, Some, Result, Ok, Err, MatchOption}
+use Rattle.std.specs.Prelude.{◌≢◌, ℕ, Bool, true, false, List, [], ◌∷◌, codes, bytes_eq, if◌then◌else◌, Option, None, Some, Ok, Err, MatchOption}
 use Rattle.std.specs.Option.{option_map}
 use Rattle.plan_text.specs.declared.fault.PlanFault.{PlanFault}
 use Rattle.plan_text.specs.declared.fault.PlanFault.TheVariants.{Line, NoMemory}
 use Rattle.nwq_value.specs.Limits.{time_limit}
-use Rattle.plan_text.specs.Fields.{cut_at, number_between, greatest_nth}
-use Rattle.plan_text.specs.Plans.{Draft, without_return, Comes, Lines, nothing, heading}
+use Rattle.nwq_text.specs.Cuts.{cut_at}
+use Rattle.plan_text.specs.Fields.{number_between, greatest_nth}
+use Rattle.plan_text.specs.Plans.{Draft, Comes, nothing, heading}
 
 -- a step goes on by the relation, or says that nothing does
 abbrev pub Took : {A : Type 0} → (A → Type 0) → Bool → A → Type 0
@@ -52,31 +53,18 @@ dashed (Some p) = behind_dash p.0 (cut_at 32 p.1)
 unfoldable pub dash_fields : List ℕ → Option (ℕ × List ℕ)
 dash_fields rest = dashed (number_field time_limit rest)
 
-abbrev pub line_of_cut : List ℕ → Option (List ℕ × List ℕ) → List ℕ × List ℕ
-line_of_cut bytes None = (bytes, [])
-line_of_cut bytes (Some p) = (without_return p.0, p.1)
-
--- the first line of a text that isn't empty, and what follows it
-unfoldable pub first_line : List ℕ → Option (List ℕ × List ℕ)
-first_line [] = None
-first_line (b ∷ bs) = Some (line_of_cut (b ∷ bs) (cut_at 10 (b ∷ bs)))
-
--- from the n-th line on, which begins here, a text gives this
-abbrev pub GoesOn : ℕ → Draft → List ℕ → Result Draft ℕ → Type 0
-GoesOn n d bytes end = (lines : List (List ℕ)) × Lines bytes lines × Comes n d lines end
-
 -- the version whose heading this is
 unfoldable pub version_in : List ℕ → Option ℕ
 version_in line = if bytes_eq line (heading 1) then Some 1 else if bytes_eq line (heading 2) then Some 2 else None
 
 -- the lines behind the first, of a plan of this version, give this
-abbrev pub ReadsOn : ℕ → List ℕ → Draft → Type 0
-ReadsOn version bytes d = GoesOn 2 (nothing version) bytes (Ok d)
+abbrev pub ReadsOn : ℕ → List (List ℕ) → Draft → Type 0
+ReadsOn version lines d = Comes 2 (nothing version) lines (Ok d)
 
--- this line behind the first is the first without a reading
-abbrev pub StopsAt : ℕ → List ℕ → PlanFault → Type 0
-StopsAt version bytes (Line n) = GoesOn 2 (nothing version) bytes (Err n)
-StopsAt version bytes NoMemory = Unit {0}
+-- one of these lines behind the first is the first without a reading
+abbrev pub StopsAt : ℕ → List (List ℕ) → PlanFault → Type 0
+StopsAt version lines (Line n) = Comes 2 (nothing version) lines (Err n)
+StopsAt version lines NoMemory = Unit {0}
 
 -- a line that is not passed over
 pub record IsWorded (line : List ℕ) : Type 0 where

@@ -1,7 +1,7 @@
 -- The words that lines begin with.
 use Rattle.std.specs.Prelude.{ℕ, List, codes, bytes_eq, if◌then◌else◌, Option, Some, None}
 use Rattle.std.specs.Option.{option_map}
-use Rattle.plan_text.specs.Fields.{cut_at}
+use Rattle.nwq_text.specs.Cuts.{cut_at}
 
 pub data Word : Type 0 where
   Limit : Word

@@ -6,10 +6,11 @@ ghost use Rattle.plan_text.specs.Plans.{is_listed, nothing, plan_of};
 ghost use Rattle.plan_text.specs.Steps.{Took, IsWorded};
 ghost use Rattle.plan_text.specs.Words as word;
 
-use crate::fields::{cut, names_script, number_in};
+use crate::fields::number_in;
 use crate::plan::{Line, Listed, Plan, Planned, Script};
 use crate::planned::{LAST_TIME, event_of, start_of};
 use crate::words::{Word, head};
+use nwq_text::{cut, is_script_name};
 use nwq_value::{NoMemory, Randoms, Text};
 use std::alloc::Global;
 
@@ -171,7 +172,7 @@ impl Draft {
         ensures { IfOk result (λ took. Took (Lists (plain_draft self.old)
             (record { name = name.now; binary = binary })) took (plain_draft self.new)) }
     {
-        if !names_script(name)
+        if !is_script_name(name)
             || is_listed(self.scripts.as_slice(), name)
             || self.scripts.len() >= MOST_SCRIPTS
         {

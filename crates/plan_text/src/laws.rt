@@ -1,13 +1,8 @@
 //! Laws about the definitions, each the contract of a function that does nothing.
 
-ghost use Rattle.plan_text.specs.Plans.{CutsIntoLines, FaultsLieInside, OnePlan, PlansKeep};
+ghost use Rattle.plan_text.specs.Plans.{FaultsLieInside, OnePlan, PlansKeep};
 
 use nwq_text::escapes_apart;
-
-/// Each text is cut into lines, in one way.
-pub fn texts_have_lines()
-    ensures cut { CutsIntoLines }
-{}
 
 /// A text has one plan, or one first line without a reading.
 pub fn one_plan()

@@ -3,9 +3,9 @@ ghost use Rattle.std.specs.Option.{option_map};
 ghost use Rattle.plan_text.specs.Plans.{IsEvent, IsStart, IsFreeStart};
 ghost use Rattle.plan_text.specs.Steps.{Found, number_field, four_fields, dash_fields};
 
-use crate::fields::{cut, is_label, names_script, number_in};
+use crate::fields::{is_label, number_in};
 use crate::plan::Line;
-use nwq_text::read_text;
+use nwq_text::{cut, is_script_name, read_text};
 use nwq_value::{NoMemory, Text};
 use std::alloc::Global;
 
@@ -80,7 +80,7 @@ fn aimed_start_of(alloc: Global, rest: &[u8]) -> Result<Option<Line>, NoMemory>
     let Some((due, nth, name, tag)) = fields(rest) else {
         return Ok(None);
     };
-    if !names_script(name) {
+    if !is_script_name(name) {
         return Ok(None);
     }
     let Some(tag) = read_text(alloc, tag)? else {
@@ -102,7 +102,7 @@ fn free_start_of(alloc: Global, rest: &[u8]) -> Result<Option<Line>, NoMemory>
     let Some((due, name)) = fields_with_dash(rest) else {
         return Ok(None);
     };
-    if !names_script(name) {
+    if !is_script_name(name) {
         return Ok(None);
     }
     let name = Text::of(alloc, name)?;

@@ -7,8 +7,8 @@ ghost use Rattle.plan_text.specs.Steps.{version_in, ReadsOn, StopsAt};
 
 use crate::draft::Draft;
 use crate::fault::PlanFault;
-use crate::lines::line_at;
 use crate::plan::Plan;
+use nwq_text::Lines;
 use std::alloc::Global;
 
 /// The version of the plan that begins with this line.
@@ -26,20 +26,17 @@ fn version_of(line: &[u8]) -> Option<u8>
 }
 
 /// Reads the lines behind the first.
-fn read_lines(alloc: Global, version: u8, bytes: &[u8]) -> Result<Draft, PlanFault>
-    ensures plan { IfOk result (λ draft. ReadsOn version bytes.now (plain_draft draft)) }
-    ensures fault { IfErr result (StopsAt version bytes.now) }
+fn read_lines(alloc: Global, version: u8, lines: &mut Lines<'_>) -> Result<Draft, PlanFault>
+    requires { lines.old.read ≡ 1 }
+    ensures plan { IfOk result (λ draft. ReadsOn version lines.old.left (plain_draft draft)) }
+    ensures fault { IfErr result (StopsAt version lines.old.left) }
 {
     let mut draft = Draft::new(alloc, version);
-    let mut number = 1u64;
-    let mut rest = bytes;
-    while let Some((line, after)) = line_at(rest) {
-        number += 1;
-        if !draft.take(alloc, line)? {
+    while let Some(line) = lines.next_line() {
+        if !draft.take(alloc, line.bytes)? {
             drop(draft);
-            return Err(PlanFault::Line(number));
+            return Err(PlanFault::Line(line.number));
         }
-        rest = after;
     }
     Ok(draft)
 }
@@ -49,13 +46,14 @@ pub fn read_plan(alloc: Global, bytes: &[u8]) -> Result<Plan, PlanFault>
     ensures plan { IfOk result (λ plan. HasPlan bytes.now plan) }
     ensures fault { IfErr result (IsFaulty bytes.now) }
 {
-    let Some((line, rest)) = line_at(bytes) else {
+    let mut lines = Lines::of(bytes);
+    let Some(first) = lines.next_line() else {
         return Err(PlanFault::Line(1));
     };
-    let Some(version) = version_of(line) else {
+    let Some(version) = version_of(first.bytes) else {
         return Err(PlanFault::Line(1));
     };
-    match read_lines(alloc, version, rest) {
+    match read_lines(alloc, version, &mut lines) {
         Err(fault) => Err(fault),
         Ok(draft) => Ok(draft.plan()),
     }

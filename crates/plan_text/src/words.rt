@@ -3,7 +3,7 @@ ghost use Rattle.std.specs.Option.{option_map};
 ghost use Rattle.plan_text.specs.Drafts.{plain_word};
 ghost use Rattle.plan_text.specs.Words.{word_named, head_of};
 
-use crate::fields::cut;
+use nwq_text::cut;
 
 /// A word that a line begins with.
 #[derive(Clone, Copy, Debug, PartialEq, Eq)]

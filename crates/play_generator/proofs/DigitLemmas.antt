@@ -9,10 +9,12 @@ use Rattle.std.proofs.lemmas.Bool.Decides.{nat_tests}
 use Rattle.std.proofs.lemmas.Fmt.{decimal_is_IsNumeral, decimal_nonempty, length-decimal-le}
 use Rattle.std.proofs.lemmas.Str.Parse.{numerals_by_value, tells_all_ascii_digits}
 use Rattle.nwq_text.specs.Escape.{AreBytes, escaped, spelling}
+use Rattle.nwq_text.specs.Cuts.{IsFree}
+use Rattle.nwq_text.specs.Lines.{without_return}
 use Rattle.nwq_text.specs.Number.{number_of}
 use Rattle.nwq_value.specs.Limits.{time_limit}
-use Rattle.plan_text.specs.Fields.{IsFree, number_between, within}
-use Rattle.plan_text.specs.Plans.{without_return, Spells}
+use Rattle.plan_text.specs.Fields.{number_between, within}
+use Rattle.plan_text.specs.Plans.{Spells}
 use Rattle.play_generator.specs.Made.{tag_of}
 
 both : (a b : Bool) → (a && b) ≡ true → (a ≡ true) × (b ≡ true)

@@ -4,11 +4,14 @@ use Rattle.std.specs.List.{flat_map, list_all, range_with_len, AllByRecursion}
 use Rattle.std.specs.Fmt.{decimal}
 use Rattle.std.proofs.lemmas.List.{append-nil, length-map}
 use Rattle.std.proofs.lemmas.List.FromFn.{length-range_with_len}
+use Rattle.nwq_text.specs.Laws.{lines_none, lines_ended}
+use Rattle.nwq_text.specs.Lines.{lines_of}
+use Rattle.nwq_text.specs.Names.{is_script_name}
 use Rattle.nwq_text.specs.Number.{number_of}
 use Rattle.plan_text.specs.declared.plan.Line.{Line}
-use Rattle.plan_text.specs.Fields.{is_label, is_script_name}
+use Rattle.plan_text.specs.Fields.{is_label}
 use Rattle.plan_text.specs.Words as word
-use Rattle.plan_text.specs.Plans.{Draft, Lines, none, ended, Reads, says, Comes, whole, more, Gives, headed, HasPlan, IsEvent, nothing}
+use Rattle.plan_text.specs.Plans.{Draft, Reads, says, Comes, whole, more, Gives, headed, HasPlan, IsEvent, nothing}
 use Rattle.play_generator.specs.Made.{creatures_of, rounds_of, below, tag_of, event_line, round_lines, lines_text, plan_lines, plan_text}
 use Rattle.play_generator.specs.Reads.{event, round_events, plan_made, PlanIsRead}
 use Rattle.play_generator.proofs.DigitLemmas.{prints, prints_joined, decimal_prints, tag_prints, tag_spells, due_is_read, no_newline, no_return}
@@ -18,12 +21,11 @@ use Rattle.play_generator.proofs.DigitLemmas.{prints, prints_joined, decimal_pri
 abbrev Print : List (List ℕ) → Type 0
 Print lines = AllByRecursion (λ line. list_all prints line ≡ true) lines
 
-lines_are : (lines : List (List ℕ)) → Print lines → Lines (lines_text lines) lines
-lines_are [] p = none
+lines_are : (lines : List (List ℕ)) → Print lines → lines_of (lines_text lines) ≡ lines
+lines_are [] p = lines_none
 lines_are (line ∷ lines) p =
-    subst (λ (text : List ℕ). Lines text (line ∷ lines)) (sym (append_assoc line (10 ∷ []) (lines_text lines)))
-    (subst (λ (first : List ℕ). Lines (line ++ 10 ∷ lines_text lines) (first ∷ lines)) (no_return line p.0)
-    (ended line (lines_text lines) lines (no_newline line p.0) (lines_are lines p.1)))
+    ap lines_of (append_assoc line (10 ∷ []) (lines_text lines)) ∙ lines_ended line (lines_text lines) (no_newline line p.0)
+    ∙ ap (λ first. first ∷ lines_of (lines_text lines)) (no_return line p.0) ∙ ap (λ others. line ∷ others) (lines_are lines p.1)
 
 -- ---- rounds and creatures in pairs
 

@@ -5,7 +5,7 @@ use Rattle.std.proofs.lemmas.List.{drop_all, map_push, length-append}
 use Rattle.nwq_value.specs.Engine.{EngineTable}
 use Rattle.nwq_outside.specs.Outside.{Contents}
 use Rattle.plan_text.specs.declared.plan.Script.{Script as ScriptLine}
-use Rattle.plan_text.specs.Fields.{is_script_name}
+use Rattle.nwq_text.specs.Names.{is_script_name}
 use Rattle.plan_text.specs.Plans.{AreListed}
 use Rattle.machine_rules.specs.Machine.{Script}
 use Rattle.stack_rules.specs.Rules.{MeetsRules}

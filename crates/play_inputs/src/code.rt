@@ -1,7 +1,7 @@
 //! The code of a script that a plan lists.
 ghost use Rattle.std.specs.Prelude.{◌≡◌, ◌≤◌, ℕ, false, length, string_bytes, IsTrue, IfOk, IfErr};
 ghost use Rattle.nwq_value.specs.Limits.{file_limit};
-ghost use Rattle.plan_text.specs.Fields.{is_script_name};
+ghost use Rattle.nwq_text.specs.Names.{is_script_name};
 ghost use Rattle.stack_rules.specs.Rules.{MeetsRules};
 ghost use Rattle.stack_check.specs.Checked.{kept_table};
 ghost use Rattle.command_work.specs.Work.{Does};

@@ -3,10 +3,11 @@ use Rattle.std.proofs.Common.{◌≡◌, ◌≢◌, ℕ, ◌+◌, ◌<◌, ◌==
 use Rattle.std.proofs.lemmas.Bool.Decides.{nat_tests}
 use Rattle.std.proofs.lemmas.List.{take_more, drop_more}
 use Rattle.std.proofs.lemmas.Option.{none-some}
-use Rattle.table_2da.specs.Words.{is_blank, AreBlanks, AreUnblank, IsFree, PlainWord, Bare, Quoted, IsBare, EndsWord, IsBareBefore, IsQuotedBefore, BeginsWith}
+use Rattle.nwq_text.specs.Cuts.{IsFree, cut_at, CutParts}
+use Rattle.nwq_text.specs.Laws.{cut_parts, cut_free, cut_none}
+use Rattle.table_2da.specs.Words.{is_blank, AreBlanks, AreUnblank, PlainWord, Bare, Quoted, IsBare, EndsWord, IsBareBefore, IsQuotedBefore, BeginsWith}
 use Rattle.table_2da.specs.Fronts.{IsOpen}
-use Rattle.table_2da.specs.Steps.{behind_blanks, cut_at}
-use Rattle.table_2da.proofs.CutLemmas.{CutParts, cut_parts, cut_free, cut_none}
+use Rattle.table_2da.specs.Steps.{behind_blanks}
 
 -- ---- blanks
 

@@ -1,6 +1,6 @@
 mod LookLemmas
-mod CutLemmas
-mod LineLemmas
+mod PrefixLemmas
+mod RangeLemmas
 mod FrontLemmas
 mod RowLemmas
 mod TableLemmas

@@ -1,29 +1,32 @@
 -- Going on by lines, the first three lines, and that a file gives one thing.
-use Rattle.std.proofs.Common.{◌≡◌, ◌≢◌, ℕ, ◌+◌, ◌⊎◌, inl, inr, length, drop, codes, IsTrue, ◌↔◌, MatchBool, true≢false, Bool, true, false, List, [], ◌∷◌, ◌++◌, Some, None, Result, Ok, Err, IfOk, IfErr, refl, sym, ap, ◌∙◌, subst}
+use Rattle.std.proofs.Common.{◌≡◌, ◌≢◌, ℕ, ◌+◌, ◌⊎◌, inl, inr, length, drop, codes, IsTrue, ◌↔◌, MatchBool, true≢false, Bool, true, false, List, [], ◌∷◌, ◌++◌, Result, Ok, Err, IfOk, IfErr, refl, sym, ap, ◌∙◌, subst}
+use Rattle.nwq_text.specs.Lines.{lines_of}
 use Rattle.table_2da.specs.declared.fault.TableFault.{TableFault}
 use Rattle.table_2da.specs.declared.fault.TableFault.TheVariants.{Line as BadLine, NoMemory}
 use Rattle.table_2da.specs.declared.words.Part.TheVariants.{Columns}
 use Rattle.table_2da.specs.Table.{PlainTable}
 use Rattle.table_2da.specs.Words.{AreBlanks}
-use Rattle.table_2da.specs.Grammar.{Lines, none, Adds, Baffles, Follow, whole, goes, stops, IsHeading, IsSecond, IsColumns, HasColumns, Begins, with_columns, Gives, headless, no_second, no_columns, headed, GivesOf, HasTable, IsFaulty, OneTable}
-use Rattle.table_2da.specs.Steps.{first_line, GoesOn, ReadsOn, StopsAt, ThirdOn, SecondOn, Comes}
-use Rattle.table_2da.proofs.LineLemmas.{first_some, all_lines, one_lines, no_first}
+use Rattle.table_2da.specs.Grammar.{Adds, Baffles, Follow, whole, goes, stops, IsHeading, IsSecond, IsColumns, HasColumns, Begins, with_columns, Gives, headless, no_second, no_columns, headed, GivesOf, HasTable, IsFaulty, OneTable}
+use Rattle.table_2da.specs.Steps.{ReadsOn, StopsAt, ThirdOn, SecondOn, Comes}
 use Rattle.table_2da.proofs.RowLemmas.{one_addition, one_saying}
 
 -- ---- going on
 
-pub goes_done : (width n : ℕ) (rows : List (List (List ℕ))) (bytes : List ℕ) → first_line bytes ≡ None → GoesOn width n rows bytes (Ok rows)
-goes_done width n rows bytes e = ([], subst (λ x. Lines x []) (sym (no_first bytes e)) none, whole n rows)
+pub no_lines : (width n : ℕ) (rows : List (List (List ℕ))) (left : List (List ℕ)) → left ≡ [] → Follow width n rows left (Ok rows)
+no_lines width n rows left e = subst (λ ls. Follow width n rows ls (Ok rows)) (sym e) (whole n rows)
 
-pub goes_more : (width n : ℕ) (rows next : List (List (List ℕ))) (bytes line rest : List ℕ) (end : Result (List (List (List ℕ))) ℕ)
-    → first_line bytes ≡ Some (line, rest) → Adds width rows line next → GoesOn width (n + 1) next rest end → GoesOn width n rows bytes end
-goes_more width n rows next bytes line rest end e adds on =
-    (line ∷ on.0, (first_some bytes line rest e).0 on.0 on.1, goes n rows next line on.0 end adds on.2)
+pub more_lines : (width read number now : ℕ) (rows next : List (List (List ℕ))) (line : List ℕ) (left lines : List (List ℕ))
+    (end : Result (List (List (List ℕ))) ℕ) → left ≡ line ∷ lines → number ≡ read + 1 → now ≡ number → Adds width rows line next
+    → Follow width (now + 1) next lines end → Follow width (read + 1) rows left end
+more_lines width read number now rows next line left lines end e counted is adds on =
+    subst (λ ls. Follow width (read + 1) rows ls end) (sym e)
+    (goes (read + 1) rows next line lines end adds (subst (λ n. Follow width (n + 1) next lines end) (is ∙ counted) on))
 
-pub goes_stop : (width n : ℕ) (rows : List (List (List ℕ))) (bytes line rest : List ℕ) → first_line bytes ≡ Some (line, rest) → Baffles width rows line
-    → GoesOn width n rows bytes (Err n)
-goes_stop width n rows bytes line rest e baffles =
-    let lines = all_lines rest in (line ∷ lines.0, (first_some bytes line rest e).0 lines.0 lines.1, stops n rows line lines.0 baffles)
+pub bad_line : (width read number : ℕ) (rows : List (List (List ℕ))) (line : List ℕ) (left lines : List (List ℕ)) → left ≡ line ∷ lines
+    → number ≡ read + 1 → Baffles width rows line → Follow width (read + 1) rows left (Err number)
+bad_line width read number rows line left lines e is baffles =
+    subst (λ ls. Follow width (read + 1) rows ls (Err number)) (sym e)
+    (subst (λ n. Follow width (read + 1) rows (line ∷ lines) (Err n)) (sym is) (stops (read + 1) rows line lines baffles))
 
 -- ---- headings and defaults
 
@@ -47,75 +50,68 @@ second_by line false other test = λ s. neither s
 
 -- ---- the third line
 
-pub third_missing : (bytes : List ℕ) → first_line bytes ≡ None → ThirdOn bytes (Err 3)
-third_missing bytes e =
-    ([], subst (λ x. Lines x []) (sym (no_first bytes e)) none, λ heading second h s. no_columns heading second [] h s (λ b. b))
+pub third_missing : (left : List (List ℕ)) → left ≡ [] → ThirdOn left (Err 3)
+third_missing left e heading second h s = no_columns heading second left h s (λ b. subst (Begins HasColumns) e b)
 
-pub third_bad : (bytes line rest : List ℕ) → first_line bytes ≡ Some (line, rest) → ((columns : List (List ℕ)) → IsColumns line columns → ⊥)
-    → ThirdOn bytes (Err 3)
-third_bad bytes line rest e never =
-    let lines = all_lines rest in (
-      line ∷ lines.0,
-      (first_some bytes line rest e).0 lines.0 lines.1,
-      λ heading second h s. no_columns heading second (line ∷ lines.0) h s (λ b. never b.0 b.1),
-    )
+pub third_bad : (left lines : List (List ℕ)) (line : List ℕ) → left ≡ line ∷ lines → ((columns : List (List ℕ)) → IsColumns line columns → ⊥)
+    → ThirdOn left (Err 3)
+third_bad left lines line e never heading second h s =
+    no_columns heading second left h s (λ b. let has = subst (Begins HasColumns) e b in never has.0 has.1)
 
-pub third_rows : (bytes line rest : List ℕ) (columns : List (List ℕ)) (rows : List (List (List ℕ))) → first_line bytes ≡ Some (line, rest)
-    → IsColumns line columns → ReadsOn (length columns) rest rows → ThirdOn bytes (Ok (record { columns = columns; rows = rows }))
-third_rows bytes line rest columns rows e are on =
-    (line ∷ on.0, (first_some bytes line rest e).0 on.0 on.1, λ heading second h s. headed heading second line on.0 columns (Ok rows) h s are on.2)
+third_end : (left lines : List (List ℕ)) (line : List ℕ) (columns : List (List ℕ)) (end : Result (List (List (List ℕ))) ℕ) → left ≡ line ∷ lines
+    → IsColumns line columns → Follow (length columns) 4 [] lines end → ThirdOn left (with_columns columns end)
+third_end left lines line columns end e are on heading second h s =
+    subst (λ ls. Gives (heading ∷ second ∷ ls) (with_columns columns end)) (sym e) (headed heading second line lines columns end h s are on)
 
-pub third_fault : (bytes line rest : List ℕ) (columns : List (List ℕ)) (fault : TableFault) → first_line bytes ≡ Some (line, rest)
-    → IsColumns line columns → StopsAt (length columns) rest fault → Comes (ThirdOn bytes) (Err fault)
-third_fault bytes line rest columns (BadLine n) e are on =
-    (line ∷ on.0, (first_some bytes line rest e).0 on.0 on.1, λ heading second h s. headed heading second line on.0 columns (Err n) h s are on.2)
-third_fault bytes line rest columns NoMemory e are on = tt
+pub third_rows : (left lines : List (List ℕ)) (line : List ℕ) (columns : List (List ℕ)) (rows : List (List (List ℕ))) → left ≡ line ∷ lines
+    → IsColumns line columns → ReadsOn (length columns) lines rows → ThirdOn left (Ok (record { columns = columns; rows = rows }))
+third_rows left lines line columns rows e are on = third_end left lines line columns (Ok rows) e are on
+
+pub third_fault : (left lines : List (List ℕ)) (line : List ℕ) (columns : List (List ℕ)) (fault : TableFault) → left ≡ line ∷ lines
+    → IsColumns line columns → StopsAt (length columns) lines fault → Comes (ThirdOn left) (Err fault)
+third_fault left lines line columns (BadLine n) e are on = third_end left lines line columns (Err n) e are on
+third_fault left lines line columns NoMemory e are on = tt
 
 -- ---- the second line
 
-pub second_missing : (bytes : List ℕ) → first_line bytes ≡ None → SecondOn bytes (Err 2)
-second_missing bytes e =
-    ([], subst (λ x. Lines x []) (sym (no_first bytes e)) none, λ heading h. no_second heading [] h (λ b. b))
+pub second_missing : (left : List (List ℕ)) → left ≡ [] → SecondOn left (Err 2)
+second_missing left e heading h = no_second heading left h (λ b. subst (Begins IsSecond) e b)
 
-pub second_bad : (bytes line rest : List ℕ) → first_line bytes ≡ Some (line, rest) → (IsSecond line → ⊥) → SecondOn bytes (Err 2)
-second_bad bytes line rest e never =
-    let lines = all_lines rest in
-    (line ∷ lines.0, (first_some bytes line rest e).0 lines.0 lines.1, λ heading h. no_second heading (line ∷ lines.0) h never)
+pub second_bad : (left lines : List (List ℕ)) (line : List ℕ) → left ≡ line ∷ lines → (IsSecond line → ⊥) → SecondOn left (Err 2)
+second_bad left lines line e never heading h = no_second heading left h (λ b. never (subst (Begins IsSecond) e b))
 
-second_on : (bytes line rest : List ℕ) (end : Result PlainTable ℕ) → first_line bytes ≡ Some (line, rest) → IsSecond line → ThirdOn rest end
-    → SecondOn bytes end
-second_on bytes line rest end e is on =
-    (line ∷ on.0, (first_some bytes line rest e).0 on.0 on.1, λ heading h. on.2 heading line h is)
+second_on : (left lines : List (List ℕ)) (line : List ℕ) (end : Result PlainTable ℕ) → left ≡ line ∷ lines → IsSecond line → ThirdOn lines end
+    → SecondOn left end
+second_on left lines line end e is on heading h = subst (λ ls. Gives (heading ∷ ls) end) (sym e) (on heading line h is)
 
-pub second_comes : (bytes line rest : List ℕ) (r : Result PlainTable TableFault) → first_line bytes ≡ Some (line, rest) → IsSecond line
-    → Comes (ThirdOn rest) r → Comes (SecondOn bytes) r
-second_comes bytes line rest (Ok table) e is on = second_on bytes line rest (Ok table) e is on
-second_comes bytes line rest (Err (BadLine n)) e is on = second_on bytes line rest (Err n) e is on
-second_comes bytes line rest (Err NoMemory) e is on = tt
+pub second_comes : (left lines : List (List ℕ)) (line : List ℕ) (r : Result PlainTable TableFault) → left ≡ line ∷ lines → IsSecond line
+    → Comes (ThirdOn lines) r → Comes (SecondOn left) r
+second_comes left lines line (Ok table) e is on = second_on left lines line (Ok table) e is on
+second_comes left lines line (Err (BadLine n)) e is on = second_on left lines line (Err n) e is on
+second_comes left lines line (Err NoMemory) e is on = tt
 
 -- ---- the first line
 
-pub first_missing : (bytes : List ℕ) → first_line bytes ≡ None → GivesOf bytes (Err 1)
-first_missing bytes e = ([], subst (λ x. Lines x []) (sym (no_first bytes e)) none, headless [] (λ b. b))
+pub first_missing : (bytes : List ℕ) → lines_of bytes ≡ [] → GivesOf bytes (Err 1)
+first_missing bytes e = headless (lines_of bytes) (λ b. subst (Begins IsHeading) e b)
 
-pub first_bad : (bytes line rest : List ℕ) → first_line bytes ≡ Some (line, rest) → (IsHeading line → ⊥) → GivesOf bytes (Err 1)
-first_bad bytes line rest e never =
-    let lines = all_lines rest in (line ∷ lines.0, (first_some bytes line rest e).0 lines.0 lines.1, headless (line ∷ lines.0) never)
+pub first_bad : (bytes line : List ℕ) (lines : List (List ℕ)) → lines_of bytes ≡ line ∷ lines → (IsHeading line → ⊥) → GivesOf bytes (Err 1)
+first_bad bytes line lines e never = headless (lines_of bytes) (λ b. never (subst (Begins IsHeading) e b))
 
-first_on : (bytes line rest : List ℕ) (end : Result PlainTable ℕ) → first_line bytes ≡ Some (line, rest) → IsHeading line → SecondOn rest end
-    → GivesOf bytes end
-first_on bytes line rest end e is on = (line ∷ on.0, (first_some bytes line rest e).0 on.0 on.1, on.2 line is)
+first_on : (bytes line : List ℕ) (lines : List (List ℕ)) (end : Result PlainTable ℕ) → lines_of bytes ≡ line ∷ lines → IsHeading line
+    → SecondOn lines end → GivesOf bytes end
+first_on bytes line lines end e is on = subst (λ ls. Gives ls end) (sym e) (on line is)
 
-pub first_table : (bytes line rest : List ℕ) (r : Result PlainTable TableFault) → first_line bytes ≡ Some (line, rest) → IsHeading line
-    → Comes (SecondOn rest) r → IfOk r (λ table. HasTable bytes table)
-first_table bytes line rest (Ok table) e is on = first_on bytes line rest (Ok table) e is on
-first_table bytes line rest (Err fault) e is on = tt
+pub first_table : (bytes line : List ℕ) (lines : List (List ℕ)) (r : Result PlainTable TableFault) → lines_of bytes ≡ line ∷ lines
+    → IsHeading line → Comes (SecondOn lines) r → IfOk r (λ table. HasTable bytes table)
+first_table bytes line lines (Ok table) e is on = first_on bytes line lines (Ok table) e is on
+first_table bytes line lines (Err fault) e is on = tt
 
-pub first_fault : (bytes line rest : List ℕ) (r : Result PlainTable TableFault) → first_line bytes ≡ Some (line, rest) → IsHeading line
-    → Comes (SecondOn rest) r → IfErr r (IsFaulty bytes)
-first_fault bytes line rest (Ok table) e is on = tt
-first_fault bytes line rest (Err (BadLine n)) e is on = first_on bytes line rest (Err n) e is on
-first_fault bytes line rest (Err NoMemory) e is on = tt
+pub first_fault : (bytes line : List ℕ) (lines : List (List ℕ)) (r : Result PlainTable TableFault) → lines_of bytes ≡ line ∷ lines
+    → IsHeading line → Comes (SecondOn lines) r → IfErr r (IsFaulty bytes)
+first_fault bytes line lines (Ok table) e is on = tt
+first_fault bytes line lines (Err (BadLine n)) e is on = first_on bytes line lines (Err n) e is on
+first_fault bytes line lines (Err NoMemory) e is on = tt
 
 -- ---- one end of all rows
 
@@ -206,9 +202,7 @@ one_first (line ∷ lines) e f (inr x) (inl y) = absurd (x.0 y.0)
 one_first (line ∷ lines) e f (inr x) (inr y) = x.1 ∙ sym y.1
 
 one_given : (bytes : List ℕ) (e f : Result PlainTable ℕ) → GivesOf bytes e → GivesOf bytes f → e ≡ f
-one_given bytes e f x y =
-    let same : x.0 ≡ y.0 = one_lines bytes x.0 y.0 x.1 y.1 in
-    one_first y.0 e f (first_by y.0 e (subst (λ ls. Gives ls e) same x.2)) (first_by y.0 f y.2)
+one_given bytes e f x y = one_first (lines_of bytes) e f (first_by (lines_of bytes) e x) (first_by (lines_of bytes) f y)
 
 same_table : (a b : PlainTable) → ◌≡◌ {A = Result PlainTable ℕ} (Ok a) (Ok b) → a ≡ b
 same_table a b e = cc

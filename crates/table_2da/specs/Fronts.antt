@@ -4,7 +4,8 @@ use Rattle.table_2da.specs.declared.words.Front.{Front}
 use Rattle.table_2da.specs.declared.words.Front.TheVariants.{Nothing, Open, Begins}
 use Rattle.table_2da.specs.declared.words.Word.{Word}
 use Rattle.table_2da.specs.declared.words.Word.TheVariants as word
-use Rattle.table_2da.specs.Words.{AreBlanks, IsFree, PlainWord, Bare, Quoted, BeginsWith}
+use Rattle.nwq_text.specs.Cuts.{IsFree}
+use Rattle.table_2da.specs.Words.{AreBlanks, PlainWord, Bare, Quoted, BeginsWith}
 
 -- the word without the borrow of its bytes
 abbrev pub plain : Word → PlainWord

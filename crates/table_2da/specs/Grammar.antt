@@ -1,12 +1,13 @@
 -- The table of a 2DA file, or the first of its lines that breaks a rule.
-use Rattle.std.specs.Prelude.{◌≡◌, ◌≢◌, ℕ, ◌+◌, ◌<◌, ◌≤◌, ◌⊎◌, Bool, true, ◌==◌, ◌&&◌, not, nat_lt, nat_le, if◌then◌else◌, List, [], ◌∷◌, ◌++◌, length, codes, Result, Ok, Err}
+use Rattle.std.specs.Prelude.{◌≡◌, ℕ, ◌+◌, ◌<◌, ◌≤◌, ◌⊎◌, Bool, true, ◌&&◌, not, nat_lt, nat_le, List, [], ◌∷◌, ◌++◌, length, codes, Result, Ok, Err}
 use Rattle.std.specs.List.{list_any}
+use Rattle.nwq_text.specs.Lines.{lines_of}
 use Rattle.table_2da.specs.declared.fault.TableFault.{TableFault}
 use Rattle.table_2da.specs.declared.fault.TableFault.TheVariants.{Line, NoMemory}
 use Rattle.table_2da.specs.declared.words.Part.TheVariants.{Columns, Row}
 use Rattle.table_2da.specs.Look.{same_name}
 use Rattle.table_2da.specs.Table.{PlainTable}
-use Rattle.table_2da.specs.Words.{AreBlanks, IsFree, PlainWord, BeginsWith, Says}
+use Rattle.table_2da.specs.Words.{AreBlanks, PlainWord, BeginsWith, Says}
 
 -- the columns and the rows of a table, at most
 abbrev pub column_limit : ℕ
@@ -14,20 +15,6 @@ column_limit = 1024
 
 abbrev pub row_limit : ℕ
 row_limit = 65536
-
--- ---- lines of a file
-
--- a line without the carriage return at its end
-abbrev pub without_return : List ℕ → List ℕ
-without_return [] = []
-without_return (b ∷ []) = if b == 13 then [] else b ∷ []
-without_return (b ∷ c ∷ bs) = b ∷ without_return (c ∷ bs)
-
--- A newline ends a line, and a carriage return before it is dropped. What follows the last newline is a line where it isn't empty.
-pub data Lines : List ℕ → List (List ℕ) → Type 0 where
-  none : Lines [] []
-  last : (line : List ℕ) → line ≢ [] → IsFree 10 line → Lines line (line ∷ [])
-  ended : (line rest : List ℕ) (lines : List (List ℕ)) → IsFree 10 line → Lines rest lines → Lines (line ++ 10 ∷ rest) (without_return line ∷ lines)
 
 -- ---- the first three lines
 
@@ -107,7 +94,7 @@ pub data Gives : List (List ℕ) → Result PlainTable ℕ → Type 0 where
       → Gives (heading ∷ second ∷ line ∷ lines) (with_columns columns end)
 
 abbrev pub GivesOf : List ℕ → Result PlainTable ℕ → Type 0
-GivesOf bytes end = (lines : List (List ℕ)) × Lines bytes lines × Gives lines end
+GivesOf bytes end = Gives (lines_of bytes) end
 
 -- a file has this table
 abbrev pub HasTable : List ℕ → PlainTable → Type 0

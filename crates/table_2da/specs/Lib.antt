@@ -4,3 +4,4 @@ pub mod Words
 pub mod Fronts
 pub mod Grammar
 pub mod Steps
+pub mod Ranges

@@ -1,6 +1,7 @@
 -- The words of a line.
 use Rattle.std.specs.Prelude.{◌≡◌, ◌≢◌, ℕ, Bool, true, false, ◌==◌, ◌||◌, if◌then◌else◌, List, [], ◌∷◌, ◌++◌, codes, map, bytes_eq}
 use Rattle.std.specs.List.{AllByRecursion}
+use Rattle.nwq_text.specs.Cuts.{IsFree}
 use Rattle.table_2da.specs.declared.words.Part.{Part}
 use Rattle.table_2da.specs.declared.words.Part.TheVariants.{Columns, Row}
 
@@ -13,10 +14,6 @@ AreBlanks bytes = AllByRecursion (λ b. is_blank b ≡ true) bytes
 
 abbrev pub AreUnblank : List ℕ → Type 0
 AreUnblank bytes = AllByRecursion (λ b. is_blank b ≡ false) bytes
-
--- this byte is not among the bytes
-abbrev pub IsFree : ℕ → List ℕ → Type 0
-IsFree at bytes = AllByRecursion (λ b. b ≢ at) bytes
 
 -- a word, which stands bare or between quotes
 pub data PlainWord : Type 0 where

@@ -1,39 +1,38 @@
-ghost use Rattle.std.specs.Prelude.{◌≡◌, [], IfOk, unwrap_or};
+ghost use Rattle.std.specs.Prelude.{◌≡◌, [], List, ℕ, IfOk, position, unwrap_or};
 ghost use Rattle.std.specs.Option.{option_copied};
-ghost use Rattle.table_2da.specs.Look.{same_name, column_named, row_numbered, cell_in};
+ghost use Rattle.table_2da.specs.Look.{same_name, row_numbered, cell_in};
+ghost use Rattle.table_2da.specs.Ranges.{bytes_at, cells_at, rows_at};
 
-use nwq_value::{Items, NoMemory};
+use crate::range::{Range, Ranges, Rows, bytes_at};
+use nwq_value::NoMemory;
 use std::alloc::Global;
 use std::marker::Model;
+use std::rc::Rc;
 
-/// The bytes of a cell or of a name.
-pub type Bytes = Items<u8>;
-
-/// The cells of a row, or the names of the columns.
-pub type Cells = Items<Bytes>;
-
-pub type Rows = Items<Cells>;
-
-/// A table: the names of its columns, and its rows of cells.
-pub struct Table2 {
-    columns: Cells,
+/// The bytes of a file, and where the names of its columns and the cells of its rows stand there.
+#[derive(Drop)]
+struct Parts {
+    file: Vec<u8>,
+    columns: Ranges,
     rows: Rows,
 }
 
+/// A table: the names of its columns, and its rows of cells. Copies share what they hold.
+#[derive(Drop)]
+pub struct Table2 {
+    parts: Rc<Parts>,
+}
+
 impl Model for Table2 {
+    ghost use Rattle.table_2da.specs.Ranges.{cells_at, rows_at};
     ghost use Rattle.table_2da.specs.Table.{PlainTable};
 
     ghost Value = { PlainTable };
 
-    ghost view = { λ t. record { columns = t.columns; rows = t.rows } };
-}
-
-impl Drop for Table2 {
-    fn drop(self) {
-        let Table2 { columns, rows } = self;
-        drop(columns);
-        drop(rows);
-    }
+    ghost view = { λ t. record {
+      columns = cells_at t.parts.value.file.items t.parts.value.columns;
+      rows = rows_at t.parts.value.file.items t.parts.value.rows;
+    } };
 }
 
 /// Whether two names are equal, whatever the case of their letters.
@@ -44,17 +43,19 @@ pub fn same_name(a: &[u8], b: &[u8]) -> bool
 }
 
 /// The place of the column of this name.
-fn column_named(columns: &[Bytes], name: &[u8]) -> Option<usize>
-    ensures place { result ≡ column_named name.now columns.now }
+fn column_named(file: &[u8], columns: &[Range], name: &[u8]) -> Option<usize>
+    ensures place { result
+        ≡ position (λ column. same_name (bytes_at file.now column) name.now) columns.now }
 {
     columns
         .iter()
-        .position(|column| same_name(column.as_slice(), name))
+        .position(|column| same_name(bytes_at(file, *column), name))
 }
 
 /// The row of this number.
-fn row_numbered(rows: &[Cells], row: i32) -> Option<&Cells>
-    ensures cells { unwrap_or (option_copied result) [] ≡ row_numbered row rows.now }
+fn row_numbered(rows: &[Ranges], row: i32) -> Option<&Ranges>
+    ensures cells { (file : List ℕ) → cells_at file (unwrap_or (option_copied result) [])
+        ≡ row_numbered row (rows_at file rows.now) }
 {
     if row < 0 {
         return None;
@@ -62,33 +63,45 @@ fn row_numbered(rows: &[Cells], row: i32) -> Option<&Cells>
     rows.get(row as usize)
 }
 
-/// An equal list.
-pub(crate) fn copy_cells(alloc: Global, cells: &[Bytes]) -> Result<Cells, NoMemory>
-    ensures ok { IfOk result (λ copy. copy ≡ cells.now) }
-{
-    let mut copy = Cells::new(alloc);
-    for cell in cells {
-        copy.push(Bytes::of_slice(alloc, cell.as_slice())?)?;
+impl Parts {
+    /// The cell in the column of this name and the row of this number; `None` stands for an empty
+    /// one.
+    fn cell(&self, column: &[u8], row: i32) -> Option<&[u8]>
+        ensures cell { unwrap_or (option_copied result) [] ≡ cell_in column.now row (record {
+          columns = cells_at self.now.file.items self.now.columns;
+          rows = rows_at self.now.file.items self.now.rows;
+        }) }
+    {
+        let file = self.file.as_slice();
+        let place = column_named(file, self.columns.as_slice(), column)?;
+        let cells = row_numbered(self.rows.as_slice(), row)?;
+        let cell = cells.get(place)?;
+        Some(bytes_at(file, *cell))
     }
-    Ok(copy)
-}
-
-fn copy_rows(alloc: Global, rows: &[Cells]) -> Result<Rows, NoMemory>
-    ensures ok { IfOk result (λ copy. copy ≡ rows.now) }
-{
-    let mut copy = Rows::new(alloc);
-    for row in rows {
-        copy.push(copy_cells(alloc, row.as_slice())?)?;
-    }
-    Ok(copy)
 }
 
 impl Table2 {
-    /// The table of these columns and rows.
-    pub(crate) fn of(columns: Cells, rows: Rows) -> Table2
-        ensures parts { result ≡ record { columns = columns; rows = rows } }
+    /// The table of these columns and rows, which are ranges of a file's bytes.
+    pub(crate) fn of(
+        alloc: Global,
+        file: &[u8],
+        columns: Ranges,
+        rows: Rows,
+    ) -> Result<Table2, NoMemory>
+        ensures parts { IfOk result (λ table. table ≡ record {
+          columns = cells_at file.now columns;
+          rows = rows_at file.now rows;
+        }) }
     {
-        Table2 { columns, rows }
+        let file = Vec::from_slice(alloc, file)?;
+        let parts = Parts {
+            file,
+            columns,
+            rows,
+        };
+        Ok(Table2 {
+            parts: Rc::new(alloc, parts)?,
+        })
     }
 
     /// The cell in the column of this name and the row of this number; `None` stands for an empty
@@ -96,18 +109,15 @@ impl Table2 {
     pub fn cell(&self, column: &[u8], row: i32) -> Option<&[u8]>
         ensures cell { unwrap_or (option_copied result) [] ≡ cell_in column.now row self.now }
     {
-        let place = column_named(self.columns.as_slice(), column)?;
-        let cells = row_numbered(self.rows.as_slice(), row)?;
-        let cell = cells.get(place)?;
-        Some(cell.as_slice())
+        self.parts.as_ref().cell(column, row)
     }
 
-    /// An equal table.
-    pub fn copy(&self, alloc: Global) -> Result<Table2, NoMemory>
+    /// An equal table, which takes no memory of its own.
+    pub fn copy(&self, _alloc: Global) -> Result<Table2, NoMemory>
         ensures ok { IfOk result (λ table. table ≡ self.now) }
     {
-        let columns = copy_cells(alloc, self.columns.as_slice())?;
-        let rows = copy_rows(alloc, self.rows.as_slice())?;
-        Ok(Table2 { columns, rows })
+        Ok(Table2 {
+            parts: self.parts.clone()?,
+        })
     }
 }

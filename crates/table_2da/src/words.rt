@@ -1,11 +1,14 @@
-ghost use Rattle.std.specs.Prelude.{◌≡◌, ◌↔◌, ◌++◌, IsTrue, IfOk};
+ghost use Rattle.std.specs.Prelude.{◌≡◌, ◌↔◌, ◌+◌, ◌++◌, ◌≤◌, ◌<◌, ◌^◌, List, ℕ, length};
+ghost use Rattle.std.specs.Prelude.{IsTrue, IfOk};
+ghost use Rattle.std.specs.Option.{option_map};
 ghost use Rattle.table_2da.specs.Words.{is_blank, cell_of_word, text_in, Bare};
-ghost use Rattle.table_2da.specs.Words.{AreBlanks, AreUnblank, EndsWord, Says};
+ghost use Rattle.table_2da.specs.Words.{name_of, AreBlanks, AreUnblank, BeginsWith, EndsWord};
 ghost use Rattle.table_2da.specs.Fronts.{plain, IsFront};
+ghost use Rattle.table_2da.specs.Ranges.{bytes_at, cells_at, SaysFew, StandsAt};
 ghost use Rattle.table_2da.specs.Steps.{behind_blanks, Found};
 
-use crate::lines::cut;
-use crate::table::{Bytes, Cells};
+use crate::range::{Range, Ranges};
+use nwq_text::cut;
 use nwq_value::NoMemory;
 use std::alloc::Global;
 
@@ -118,19 +121,59 @@ pub fn front_of(line: &[u8]) -> Front<'_>
     }
 }
 
-#[tactic(auto, using(crate::proofs::FrontLemmas::shorter, crate::proofs::RowLemmas::says_nothing_yet, crate::proofs::RowLemmas::says_on, crate::proofs::RowLemmas::says_all, crate::proofs::RowLemmas::says_none))]
-/// What the words of a line say in this part of a file; `None` where a quote stays open.
-pub fn texts(alloc: Global, part: Part, line: &[u8]) -> Result<Option<Cells>, NoMemory>
-    ensures texts { IfOk result (λ texts. Found (Says part line.now) texts) }
+/// Where the word stands in the line that begins with it, with this behind it.
+fn place_of(line: &[u8], word: Word<'_>, rest: &[u8]) -> usize
+    requires begins { BeginsWith line.now (plain word) rest.now }
+    ensures stands { StandsAt line.now result (name_of (plain word.entry)) }
+    ensures inside { result + length (name_of (plain word.entry)) ≤ length line.now }
 {
-    let mut texts = Cells::new(alloc);
+    match word {
+        Word::Bare(bytes) => line.len() - rest.len() - bytes.len(),
+        Word::Quoted(bytes) => line.len() - rest.len() - 1 - bytes.len(),
+    }
+}
+
+/// Where what a word says stands in the file in which the line that begins with it stands there.
+fn range_of(part: Part, place: u32, line: &[u8], word: Word<'_>, rest: &[u8]) -> Range
+    requires begins { BeginsWith line.now (plain word) rest.now }
+    requires fits { place + length line.now < 2 ^ 32 }
+    ensures text { (file : List ℕ) → StandsAt file place line.now
+        → bytes_at file result ≡ text_in part (plain word.entry) }
+{
+    let start = place_of(line, word, rest);
+    let text = text_in(part, word);
+    Range {
+        start: place + start as u32,
+        len: text.len() as u32,
+    }
+}
+
+/// Where what the words of a line say stands in the file in which the line stands there; `None`
+/// where they are more than `most`, or where a quote stays open.
+pub(crate) fn ranges_of(
+    alloc: Global,
+    part: Part,
+    place: u32,
+    line: &[u8],
+    most: usize,
+) -> Result<Option<Ranges>, NoMemory>
+    requires fits { place + length line.now < 2 ^ 32 }
+    ensures said { IfOk result (λ read. (file : List ℕ) → StandsAt file place line.now
+        → Found (SaysFew part most line.now) (option_map (cells_at file) read)) }
+{
+    let mut ranges = Ranges::new(alloc);
+    let mut at = place;
     let mut rest = line;
     'words: loop {
         match front_of(rest) {
-            Front::Nothing => return Ok(Some(texts)),
+            Front::Nothing => return Ok(Some(Ranges::of_slice(alloc, ranges.as_slice())?)),
             Front::Open => return Ok(None),
             Front::Begins(word, after) => {
-                texts.push(Bytes::of_slice(alloc, text_in(part, word))?)?;
+                if ranges.len() >= most {
+                    return Ok(None);
+                }
+                ranges.push(range_of(part, at, rest, word, after))?;
+                at += (rest.len() - after.len()) as u32;
                 rest = after;
             }
         }

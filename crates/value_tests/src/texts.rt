@@ -1,8 +1,9 @@
 use nwq_text::{
-    line_of, put_arguments, put_count, put_effect, put_number, put_object, put_quoted, put_text,
-    put_value, read_number, read_quoted, read_text,
+    Lines, is_script_name, line_of, put_arguments, put_count, put_effect, put_number, put_object,
+    put_quoted, put_text, put_value, read_number, read_quoted, read_text,
 };
-use nwq_value::{Args, Effect, Ints, Text, Value};
+use nwq_value::{Args, Effect, Ints, NoMemory, Text, Value};
+use std::alloc::Global;
 use std::test::Fail;
 
 #[test]
@@ -105,4 +106,56 @@ fn values_of_each_type(rt: HostRuntime) -> Result<(), Fail> {
     put_effect(&mut out, &none)?;
     assert_eq!(rt; out.as_slice(), b"25(3,8,0)65535()".as_slice());
     Ok(())
+}
+
+/// The lines of a text, each behind its number and the place where it begins.
+fn listed(alloc: Global, text: &[u8]) -> Result<Vec<u8>, NoMemory> {
+    let mut out = Vec::new(alloc);
+    let mut lines = Lines::of(text);
+    while let Some(line) = lines.next_line() {
+        put_count(&mut out, line.number)?;
+        out.push(b'@')?;
+        put_count(&mut out, line.place as u64)?;
+        out.push(b'=')?;
+        put_quoted(&mut out, line.bytes)?;
+        out.push(b' ')?;
+    }
+    Ok(out)
+}
+
+#[test]
+fn lines_of_texts(rt: HostRuntime) -> Result<(), Fail> {
+    for (text, expected) in [
+        (b"".as_slice(), b"".as_slice()),
+        (b"\n".as_slice(), b"1@0=\"\" ".as_slice()),
+        (b"\r".as_slice(), b"1@0=\"\\x0d\" ".as_slice()),
+        (
+            b"a\r\nb\rc\n\n\r\nd\r".as_slice(),
+            b"1@0=\"a\" 2@3=\"b\\x0dc\" 3@7=\"\" 4@8=\"\" 5@10=\"d\\x0d\" ".as_slice(),
+        ),
+        (
+            b"a\r\r\nb\n".as_slice(),
+            b"1@0=\"a\\x0d\" 2@4=\"b\" ".as_slice(),
+        ),
+    ] {
+        let lines = listed(rt.alloc(), text)?;
+        assert_eq!(rt; lines.as_slice(), expected);
+    }
+    Ok(())
+}
+
+#[test]
+fn names_of_scripts(rt: HostRuntime) {
+    assert!(rt; is_script_name(b"a"));
+    assert!(rt; is_script_name(b"nw_s0_burnhand01"));
+    for name in [
+        b"".as_slice(),
+        b"nw_s0_burnhand001".as_slice(),
+        b"Beat".as_slice(),
+        b"a-b".as_slice(),
+        b"a b".as_slice(),
+        b"a\xfe".as_slice(),
+    ] {
+        assert!(rt; !is_script_name(name), "{name:?}");
+    }
 }

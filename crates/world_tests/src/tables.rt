@@ -1,3 +1,4 @@
+use nwq_text::put_count;
 use nwq_value::{NoMemory, Text};
 use std::alloc::Global;
 use std::test::*;
@@ -93,5 +94,70 @@ fn the_first_bad_line_is_told(rt: HostRuntime) -> Result<(), Fail> {
     assert_eq!(rt; bad_line(alloc, b"2DA V2.0\n\n\n0 1\n")?, 3);
     assert_eq!(rt; bad_line(alloc, b"2DA V2.0\n\nA\n\n0 1 2\n")?, 5);
     assert_eq!(rt; bad_line(alloc, b"2DA V2.0\n\nA\n0 \"1\n1 2 3\n")?, 4);
+    Ok(())
+}
+
+#[test]
+fn carriage_returns_end_lines_before_newlines_alone(rt: HostRuntime) -> Result<(), Fail> {
+    let alloc = rt.alloc();
+    let tables = tables_of(alloc, b"2DA V2.0\r\n\r\nA B\r\n0 a\rb c\r\r\n1 d e\r")?;
+    assert!(rt; is_cell(alloc, &tables, b"A", 0, b"a\rb")?);
+    assert!(rt; is_cell(alloc, &tables, b"B", 0, b"c\r")?);
+    assert!(rt; is_cell(alloc, &tables, b"B", 1, b"e\r")?);
+    Ok(())
+}
+
+/// A file with so many columns, `c0` and so on, and so many rows, each of so many cells `x`.
+fn grid(alloc: Global, columns: u32, rows: u32, cells: u32) -> Result<Vec<u8>, NoMemory> {
+    let mut file = Vec::new(alloc);
+    file.extend_from_slice(b"2DA V2.0\n\n")?;
+    for n in 0..columns {
+        file.extend_from_slice(b" c")?;
+        put_count(&mut file, u64::from(n))?;
+    }
+    for _ in 0..rows {
+        file.extend_from_slice(b"\n0")?;
+        for _ in 0..cells {
+            file.extend_from_slice(b" x")?;
+        }
+    }
+    Ok(file)
+}
+
+#[test]
+fn columns_and_rows_have_limits(rt: HostRuntime) -> Result<(), Fail> {
+    let alloc = rt.alloc();
+    for (columns, rows, cells, bad) in [
+        (1024, 2, 1024, 0),
+        (1024, 1, 1025, 4),
+        (1024, 1, 1_000_000, 4),
+        (1025, 1, 1, 3),
+        (1_000_000, 0, 0, 3),
+        (1, 65_536, 1, 0),
+        (1, 65_537, 1, 65_540),
+    ] {
+        let file = grid(alloc, columns, rows, cells)?;
+        assert_eq!(rt;
+            bad_line(alloc, file.as_slice())?,
+            bad,
+            "{columns} {rows} {cells}"
+        );
+    }
+    Ok(())
+}
+
+#[test]
+fn copies_of_a_large_table(rt: HostRuntime) -> Result<(), Fail> {
+    let alloc = rt.alloc();
+    let file = grid(alloc, 1024, 8_180, 1024)?;
+    let tables = tables_of(alloc, file.as_slice())?;
+    let mut copies = Vec::new(alloc);
+    for _ in 0..64 {
+        copies.push(tables.copy(alloc)?)?;
+    }
+    drop(tables);
+    let last = copies.pop().ok_or("no copy")?;
+    assert!(rt; is_cell(alloc, &last, b"C1023", 8_179, b"x")?);
+    assert!(rt; is_cell(alloc, &last, b"c1024", 0, b"")?);
     Ok(())
 }

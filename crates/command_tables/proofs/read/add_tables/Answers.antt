@@ -1,4 +1,4 @@
-use Rattle.std.proofs.Common.{◌≡◌, ◌∷◌, ◌++◌, map, sym, ap, ◌∙◌}
+use Rattle.std.proofs.Common.{◌++◌, map, sym, ap, ◌∙◌}
 use Rattle.command_tables.proofs.NameLemmas.{next_named, next_new}
 use Rattle.command_tables.proofs.ReadLemmas.{tables_go_on, tables_stop, tables_done}
 use Rattle.command_tables.proofs.read.add_tables.Goals as goal

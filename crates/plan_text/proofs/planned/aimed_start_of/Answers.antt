@@ -6,8 +6,8 @@ use Rattle.plan_text.proofs.planned.aimed_start_of.Goals as goal
 pub returns-in_default : goal.returns-in_default
 returns-in_default c = start_none _ (sym (c.in_default.ensures {u = tt}))
 
-pub returns-then-not-names_script : goal.returns-then-not-names_script
-returns-then-not-names_script c = start_unnamed _ _ (sym (c.in-Some.ensures {u = tt})) (sym (c.if-not-names_script.ensures.test))
+pub returns-then-not-is_script_name : goal.returns-then-not-is_script_name
+returns-then-not-is_script_name c = start_unnamed _ _ (sym (c.in-Some.ensures {u = tt})) (sym (c.if-not-is_script_name.ensures.test))
 
 pub returns-in_default-2 : goal.returns-in_default-2
 returns-in_default-2 c =
@@ -15,5 +15,5 @@ returns-in_default-2 c =
 
 pub returns : goal.returns
 returns c =
-    start_is _ _ _ _ (sym (c.in-Some.ensures {u = tt})) (sym (c.if-not-names_script.ensures.test)) c.in_ok-name.ensures.ok
+    start_is _ _ _ _ (sym (c.in-Some.ensures {u = tt})) (sym (c.if-not-is_script_name.ensures.test)) c.in_ok-name.ensures.ok
     (subst (ReadsText c.in-Some.tag.now) c.in-Some-2.is c.in_ok-tag.ensures.reads)

@@ -1,28 +1,26 @@
-use Rattle.std.proofs.Common.{◌<◌, ◌≤◌, ◌⊎◌, inl, inr, length, subst, arith}
+use Rattle.std.proofs.Common.{◌<◌, length, sym, ap, subst, ◌∙◌}
+use Rattle.std.specs.Option.{option_map}
 use Rattle.table_2da.specs.declared.words.Part.TheVariants.{Row}
 use Rattle.table_2da.specs.Grammar.{row_limit}
-use Rattle.table_2da.specs.Words.{Says}
+use Rattle.table_2da.specs.Ranges.{cells_at, rows_at, SaysFew}
 use Rattle.table_2da.specs.Steps.{Found}
-use Rattle.table_2da.proofs.RowLemmas.{cells_unsaid, cells_too_many}
+use Rattle.table_2da.proofs.RowLemmas.{cells_unsaid, cells_added, rows_count, rows_last}
 use Rattle.table_2da.proofs.read.add_cells.Goals as goal
-use Rattle.table_2da.proofs.read.add_cells.Goals.{then-len-width-via-then-len-width, then-len-width-via-else-len-width+then-len-ge-MOST_ROWS}
 
 pub returns-in-None : goal.returns-in-None
 returns-in-None c = record {
-  took = λ a adds.
-      cells_unsaid c.args.width c.args.rows.now a c.args.line.now
-      (subst (Found (Says Row c.args.line.now)) c.in-None.is c.in_ok-texts.ensures.texts) adds;
+  took = λ file s a adds.
+      cells_unsaid c.args.width (rows_at file c.args.rows.now) a c.args.line.now
+      (subst (λ read. Found (SaysFew Row c.args.width c.args.line.now) (option_map (cells_at file) read)) c.in-None.is (c.in_ok-ranges_of.ensures.said file s)) adds;
 }
 
-pub returns-then-len-width : goal.returns-then-len-width
-returns-then-len-width c =
-    let many : (c.args.width < length c.in-Some.cells) ⊎ (row_limit ≤ length c.args.rows.now)
-    = elim c.then-len-width.branch [
-      | then-len-width-via-then-len-width w ↦ inl (omega arith)
-      | then-len-width-via-else-len-width+then-len-ge-MOST_ROWS w ↦ inr (omega arith)
-    ]
-    in record {
-      took = λ a adds.
-          cells_too_many c.args.width c.args.rows.now a c.args.line.now c.in-Some.cells
-          (subst (Found (Says Row c.args.line.now)) c.in-Some.is c.in_ok-texts.ensures.texts) many adds;
+pub returns-in_ok-push-in-Some : goal.returns-in_ok-push-in-Some
+returns-in_ok-push-in-Some c =
+    let room : length c.args.rows.now < row_limit = subst (λ n. n < row_limit) c.len.ensures.len c.if-len-ge-MOST_ROWS.false in
+    record {
+      took = λ file s.
+          cells_added c.args.width (rows_at file c.args.rows.now) (rows_at file c.push.new.self) c.args.line.now (cells_at file c.in-Some.cells)
+          (subst (λ read. Found (SaysFew Row c.args.width c.args.line.now) (option_map (cells_at file) read)) c.in-Some.is (c.in_ok-ranges_of.ensures.said file s))
+          (subst (λ n. n < row_limit) (sym (rows_count file c.args.rows.now)) room)
+          (ap (rows_at file) c.in_ok-push-in-Some.ensures.ok ∙ rows_last file c.args.rows.now c.in-Some.cells);
     }

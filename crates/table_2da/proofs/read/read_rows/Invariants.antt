@@ -1,12 +1,14 @@
-use Rattle.std.proofs.Common.{◌+◌, ◌≤◌, ℕ, List, [], length, Result}
-use Rattle.table_2da.specs.Steps.{GoesOn}
+use Rattle.std.proofs.Common.{◌≡◌, ◌+◌, ℕ, List, [], length, Result}
+use Rattle.table_2da.specs.Grammar.{Follow}
+use Rattle.table_2da.specs.Ranges.{rows_at}
 use Rattle.table_2da.proofs.read.read_rows.Given as goal
 
 abbrev pub invariant-loop-line : goal.invariant-loop-line
 invariant-loop-line l = record {
-  goes : (end : Result (List (List (List ℕ))) ℕ) → GoesOn l.width (l.number + 1) l.rows l.rest end → GoesOn l.fn.width 4 [] l.fn.bytes end;
-  few : l.number + length l.rest ≤ 3 + length l.fn.bytes;
+  goes : (end : Result (List (List (List ℕ))) ℕ) → Follow l.width (l.lines.read + 1) (rows_at l.fn.lines.text l.rows) l.lines.left end
+      → Follow l.width 4 [] l.fn.lines.left end;
+  text : l.lines.text ≡ l.fn.lines.text;
 }
 
 abbrev pub decreases-loop-line : goal.decreases-loop-line
-decreases-loop-line l = length l.rest
+decreases-loop-line l = length l.lines.left

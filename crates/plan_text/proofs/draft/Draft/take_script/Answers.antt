@@ -9,5 +9,5 @@ returns c =
     let fresh : is_listed c.args.name.now c.args.self.now.scripts ≡ false
     = ap (is_listed c.args.name.now) (sym c.as_slice.ensures.items) ∙ sym (c.if-is_listed.ensures {u = tt})
     in let room : length c.args.self.now.scripts < 256 = subst (λ n. n < 256) c.len.ensures.len c.if-len-ge-MOST_SCRIPTS.false
-    in listed (plain_draft c.args.self.now) _ c.args.name.now c.in_ok-name.name c.args.binary (sym (c.if-not-names_script.ensures.test)) fresh room
+    in listed (plain_draft c.args.self.now) _ c.args.name.now c.in_ok-name.name c.args.binary (sym (c.if-not-is_script_name.ensures.test)) fresh room
     c.in_ok-name.ensures.ok (ap (λ xs. record (plain_draft c.args.self.now) { scripts = xs }) (c.in_ok-push.ensures {u = tt}).ok)

@@ -1,6 +1,0 @@
-use Rattle.std.proofs.Common.{refl}
-use Rattle.plan_text.proofs.FieldLemmas.{cut_here}
-use Rattle.plan_text.proofs.fields.cut.Goals as goal
-
-pub returns-then-byte-at : goal.returns-then-byte-at
-returns-then-byte-at c = cut_here c.args.at c.args.bytes.now c.loop-i.i _ c.loop-i-test.true refl c.if-byte-at.true c.loop-i.invariant
