@@ -6,8 +6,8 @@ use std::alloc::Global;
 use std::collections::BTreeMap;
 use std::marker::Model;
 
-/// Numbers under names, each found without a search. Contracts see names with numbers, and speak of
-/// the number that stands under a name.
+/// Numbers under names, each found by going down a tree of the names. Contracts see names with
+/// numbers, and speak of the number that stands under a name.
 pub struct NameIndex {
     alloc: Global,
     numbers: BTreeMap<Vec<u8>, usize>,
