@@ -115,7 +115,7 @@ pub fn push_start(alloc: Global, stack: &mut Stack, kind: u8) -> Result<(), NoMe
 {
     match type_of_one(kind) {
         None => unreachable!(),
-        Some(ty) => stack.push(Cell::Value(start_of(alloc, ty))),
+        Some(ty) => stack.push(Cell::Value(start_of(alloc, ty)?)),
     }
 }
 

@@ -102,9 +102,9 @@ fn put_effect_parts(out: &mut Vec<u8>, effect: &Effect) -> Result<(), NoMemory>
     ensures ok { OnOk result (out.new.items ≡ out.old.items ++ effect_text effect.now) }
     ensures err { OnErr result (take (length out.old.items) out.new.items ≡ out.old.items) }
 {
-    put_count(out, u64::from(effect.routine))?;
+    put_count(out, u64::from(effect.routine()))?;
     out.push(b'(')?;
-    put_ints(out, effect.ints.as_slice())?;
+    put_ints(out, effect.ints())?;
     out.push(b')')?;
     Ok(())
 }

@@ -1,5 +1,6 @@
 mod FoundLemmas
 mod IndexLemmas
+mod KeyLemmas
 mod NameLemmas
 mod OperatorExamples
 mod RoleLemmas

@@ -83,7 +83,7 @@ pub names_more : {A : Type 0} (f : A → List ℕ) (xs : List A) (x : A) → map
 names_more f [] x = refl
 names_more f (y ∷ ys) x = ap (λ l. f y ∷ l) (names_more f ys x)
 
-one_more : {A : Type 0} (xs : List A) (x : A) → length (xs ++ x ∷ []) ≡ length xs + 1
+pub one_more : {A : Type 0} (xs : List A) (x : A) → length (xs ++ x ∷ []) ≡ length xs + 1
 one_more xs x = grind (arith, common_steps)
 
 -- a table with a routine more, and one with a constant more

@@ -1,3 +1,4 @@
+pub mod Effect
 pub mod Engine
 pub mod Entries
 pub mod Header

@@ -3,14 +3,14 @@ ghost use Rattle.nwq_value.specs.Index.{entry, number_under, Puts};
 
 use crate::memory::NoMemory;
 use std::alloc::Global;
-use std::collections::HashMap;
+use std::collections::BTreeMap;
 use std::marker::Model;
 
-/// Numbers under names, each found without a search. Contracts see names with numbers, and speak of
-/// the number that stands under a name.
+/// Numbers under names, each found by going down a tree of the names. Contracts see names with
+/// numbers, and speak of the number that stands under a name.
 pub struct NameIndex {
     alloc: Global,
-    numbers: HashMap<Vec<u8>, usize>,
+    numbers: BTreeMap<Vec<u8>, usize>,
 }
 
 impl Model for NameIndex {
@@ -30,7 +30,7 @@ impl Drop for NameIndex {
 }
 
 /// Puts another number under a name that is there.
-fn replace(numbers: &mut HashMap<Vec<u8>, usize>, name: &[u8], number: usize)
+fn replace(numbers: &mut BTreeMap<Vec<u8>, usize>, name: &[u8], number: usize)
     requires there { IsSome (number_under name.now (map entry numbers.old.entries)) }
     ensures { Puts name.now (Some number) (map entry numbers.old.entries)
         (map entry numbers.new.entries) }
@@ -47,7 +47,7 @@ impl NameIndex {
     {
         NameIndex {
             alloc,
-            numbers: HashMap::new(alloc),
+            numbers: BTreeMap::new(alloc),
         }
     }
 

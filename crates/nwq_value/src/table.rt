@@ -1,10 +1,13 @@
 ghost use Rattle.std.specs.Prelude.{◌≡◌, ◌<◌, ◌≤◌, ◌∷◌, [], ◌++◌, None, Some, length, slice_get};
-ghost use Rattle.std.specs.Prelude.{IfSome, OnOk, OnErr};
-ghost use Rattle.std.specs.Option.{option_copied, option_map};
+ghost use Rattle.std.specs.Prelude.{IfSome, OnOk, OnErr, nat_eq};
+ghost use Rattle.std.specs.Option.{option_copied};
+ghost use Rattle.std.specs.Map.{values_of};
+ghost use Rattle.indexmap.specs.IndexMap.{get};
 ghost use Rattle.nwq_value.specs.Engine.{routine_named, constant_named, AreParams, IsConstant};
 ghost use Rattle.nwq_value.specs.Engine.{IsNoStruct};
 ghost use Rattle.nwq_value.specs.Engine.{IsRoutine, IsTable, ConstantIsOfName, NoConstantNoName};
 ghost use Rattle.nwq_value.specs.Engine.{NoNumberNoName, NumberIsOfName};
+ghost use Rattle.nwq_value.specs.Entries.{constant_under, routine_under};
 ghost use Rattle.nwq_value.specs.Index.{number_under, IsSame, Puts};
 ghost use Rattle.nwq_value.specs.Limits.{parameter_limit, routine_limit};
 ghost use Rattle.nwq_value.specs.Roles.{engine_role, types_of};
@@ -13,6 +16,7 @@ use crate::engine::{Const, Routine};
 use crate::index::NameIndex;
 use crate::memory::NoMemory;
 use crate::text::Text;
+use indexmap::IndexMap;
 use std::alloc::Global;
 use std::marker::Model;
 
@@ -29,10 +33,11 @@ struct Named {
 /// each routine has at most 255 parameters, mentions no struct type, has defaults of its
 /// parameters' types and the role that its name and types give it.
 pub struct Table {
-    routines: Vec<Routine>,
-    numbers: NameIndex,
-    constants: Vec<Named>,
-    places: NameIndex,
+    /// The number of each name, in the order in which they came.
+    names: NameIndex,
+    /// The routines and the constants in their order, each under the number of its name.
+    routines: IndexMap<usize, Routine>,
+    constants: IndexMap<usize, Named>,
 }
 
 impl Model for Table {
@@ -41,87 +46,101 @@ impl Model for Table {
 
     ghost Value = { EngineTable };
 
-    ghost view = { λ t. table_of t.routines.items t.constants.items };
+    ghost view = { λ t. table_of t.routines.entries t.constants.entries };
 
-    ghost invariant = { λ t. AreFound t.numbers t.places
-        (table_of t.routines.items t.constants.items)
-        × IsTable (table_of t.routines.items t.constants.items) };
+    ghost invariant = { λ t. AreFound t.names t.routines.entries t.constants.entries
+        × IsTable (table_of t.routines.entries t.constants.entries) };
 }
 
 impl Drop for Table {
     fn drop(self) {
         let Table {
+            names,
             routines,
-            numbers,
             constants,
-            places,
         } = self;
+        drop(names);
         drop(routines);
-        drop(numbers);
         drop(constants);
-        drop(places);
     }
 }
 
-/// Puts a routine last, and its number under its name.
+/// Puts a routine last under the number of its name, which is new.
 fn push_routine(
-    routines: &mut Vec<Routine>,
-    numbers: &mut NameIndex,
+    names: &mut NameIndex,
+    routines: &mut IndexMap<usize, Routine>,
+    number: usize,
     routine: Routine,
 ) -> Result<(), NoMemory>
-    requires new { number_under routine.name numbers.old ≡ None }
-    ensures items { OnOk result (routines.new.items ≡ routines.old.items ++ routine ∷ []) }
-    ensures number { OnOk result
-        (Puts routine.name (Some (length routines.old.items)) numbers.old numbers.new) }
-    ensures same_items { OnErr result (routines.new.items ≡ routines.old.items) }
-    ensures same_numbers { OnErr result (IsSame numbers.old numbers.new) }
+    requires new { number_under routine.name names.old ≡ None }
+    requires free { get nat_eq routines.old number ≡ None }
+    ensures entries { OnOk result
+        (routines.new.entries ≡ routines.old.entries ++ (number, routine) ∷ []) }
+    ensures number { OnOk result (Puts routine.name (Some number) names.old names.new) }
+    ensures same_entries { OnErr result (routines.new.entries ≡ routines.old.entries) }
+    ensures same_names { OnErr result (IsSame names.old names.new) }
 {
-    numbers.set(routine.name.bytes(), routines.len())?;
-    match routines.push(routine) {
-        Ok(()) => Ok(()),
+    names.set(routine.name.bytes(), number)?;
+    match routines.insert(number, routine) {
+        Ok(_) => Ok(()),
         Err(failed) => {
-            numbers.remove(failed.value.name.bytes());
-            drop(failed);
+            let (_, routine) = failed.value;
+            names.remove(routine.name.bytes());
+            drop(routine);
             Err(NoMemory)
         }
     }
 }
 
-/// Puts a constant last, and its place under its name.
+/// Puts a constant last under the number of its name, which is new.
 fn push_constant(
-    constants: &mut Vec<Named>,
-    places: &mut NameIndex,
+    names: &mut NameIndex,
+    constants: &mut IndexMap<usize, Named>,
+    number: usize,
     constant: Named,
 ) -> Result<(), NoMemory>
-    requires new { number_under constant.name places.old ≡ None }
-    ensures items { OnOk result (constants.new.items ≡ constants.old.items ++ constant ∷ []) }
-    ensures place { OnOk result
-        (Puts constant.name (Some (length constants.old.items)) places.old places.new) }
-    ensures same_items { OnErr result (constants.new.items ≡ constants.old.items) }
-    ensures same_places { OnErr result (IsSame places.old places.new) }
+    requires new { number_under constant.name names.old ≡ None }
+    requires free { get nat_eq constants.old number ≡ None }
+    ensures entries { OnOk result
+        (constants.new.entries ≡ constants.old.entries ++ (number, constant) ∷ []) }
+    ensures number { OnOk result (Puts constant.name (Some number) names.old names.new) }
+    ensures same_entries { OnErr result (constants.new.entries ≡ constants.old.entries) }
+    ensures same_names { OnErr result (IsSame names.old names.new) }
 {
-    places.set(constant.name.bytes(), constants.len())?;
-    match constants.push(constant) {
-        Ok(()) => Ok(()),
+    names.set(constant.name.bytes(), number)?;
+    match constants.insert(number, constant) {
+        Ok(_) => Ok(()),
         Err(failed) => {
-            places.remove(failed.value.name.bytes());
-            drop(failed);
+            let (_, constant) = failed.value;
+            names.remove(constant.name.bytes());
+            drop(constant);
             Err(NoMemory)
         }
     }
 }
 
-fn item_at<T>(all: &[T], at: usize) -> Option<&T>
-    ensures { option_copied result ≡ slice_get all.now at }
+/// The routine at a place.
+fn routine_at(routines: &IndexMap<usize, Routine>, at: usize) -> Option<&Routine>
+    ensures { option_copied result ≡ slice_get (values_of routines.now.entries) at }
 {
-    all.get(at)
+    match routines.get_index(at) {
+        Some((_, routine)) => Some(routine),
+        None => None,
+    }
 }
 
-/// The value of the constant at a place.
-fn value_at(constants: &[Named], at: usize) -> Option<&Const>
-    ensures { option_copied result ≡ option_map (λ c. c.value) (slice_get constants.now at) }
+/// The place of the routine under a number.
+fn place_of(routines: &IndexMap<usize, Routine>, number: usize) -> Option<usize>
+    ensures { result ≡ routine_under routines.now.entries number }
 {
-    match constants.get(at) {
+    routines.get_index_of(&number)
+}
+
+/// The value of the constant under a number.
+fn value_of(constants: &IndexMap<usize, Named>, number: usize) -> Option<&Const>
+    ensures { option_copied result ≡ constant_under constants.now.entries number }
+{
+    match constants.get(&number) {
         Some(constant) => Some(&constant.value),
         None => None,
     }
@@ -133,10 +152,9 @@ impl Table {
         ensures empty { result ≡ record { routines = []; constants = [] } }
     {
         Table {
-            routines: Vec::new(alloc),
-            numbers: NameIndex::new(alloc),
-            constants: Vec::new(alloc),
-            places: NameIndex::new(alloc),
+            names: NameIndex::new(alloc),
+            routines: IndexMap::new(alloc),
+            constants: IndexMap::new(alloc),
         }
     }
 
@@ -154,7 +172,8 @@ impl Table {
             (self.new ≡ record self.old { routines = self.old.routines ++ routine ∷ [] }) }
         ensures err { OnErr result (self.new ≡ self.old) }
     {
-        push_routine(&mut self.routines, &mut self.numbers, routine)
+        let number = self.routines.len() + self.constants.len();
+        push_routine(&mut self.names, &mut self.routines, number, routine)
     }
 
     /// Puts a constant under a name last. After `NoMemory` it is dropped, the table as before.
@@ -168,7 +187,8 @@ impl Table {
         ensures err { OnErr result (self.new ≡ self.old) }
     {
         let constant = Named { name, value };
-        push_constant(&mut self.constants, &mut self.places, constant)
+        let number = self.routines.len() + self.constants.len();
+        push_constant(&mut self.names, &mut self.constants, number, constant)
     }
 
     /// How many routines there are.
@@ -186,7 +206,7 @@ impl Table {
         ensures number { IfSome result
             (λ routine. routine_named routine.now.name self.now.routines ≡ Some n) }
     {
-        item_at(self.routines.as_slice(), n as usize)
+        routine_at(&self.routines, n as usize)
     }
 
     /// The number of the routine with this name.
@@ -194,8 +214,11 @@ impl Table {
         ensures number { result ≡ routine_named name.now self.now.routines }
         ensures bound { IfSome result (λ n. n < length self.now.routines) }
     {
-        match self.numbers.get(name) {
-            Some(n) => Some(n as u16),
+        match self.names.get(name) {
+            Some(number) => match place_of(&self.routines, number) {
+                Some(n) => Some(n as u16),
+                None => None,
+            },
             None => None,
         }
     }
@@ -205,8 +228,8 @@ impl Table {
         ensures value { option_copied result ≡ constant_named name.now self.now.constants }
         ensures apart { IfSome result (λ _. routine_named name.now self.now.routines ≡ None) }
     {
-        match self.places.get(name) {
-            Some(at) => value_at(self.constants.as_slice(), at),
+        match self.names.get(name) {
+            Some(number) => value_of(&self.constants, number),
             None => None,
         }
     }

@@ -4,13 +4,17 @@ ghost use Rattle.nwq_value.specs.Limits.{text_limit};
 use crate::memory::NoMemory;
 use std::alloc::Global;
 use std::marker::Model;
+use std::rc::Rc;
 
 /// How many bytes a text has at most.
 pub const TEXT_BYTES: usize = 8192;
 
 /// A string value: a list of at most [`TEXT_BYTES`] bytes, of any values.
+///
+/// Copies share the bytes, so a copy takes no memory.
+#[derive(Drop)]
 pub struct Text {
-    bytes: Vec<u8>,
+    bytes: Rc<Vec<u8>>,
 }
 
 impl Model for Text {
@@ -19,16 +23,9 @@ impl Model for Text {
 
     ghost Value = { List ℕ };
 
-    ghost view = { λ a. a.bytes.items };
+    ghost view = { λ a. a.bytes.value.items };
 
-    ghost invariant = { λ a. length a.bytes.items ≤ text_limit };
-}
-
-impl Drop for Text {
-    fn drop(self) {
-        let Text { bytes } = self;
-        drop(bytes);
-    }
+    ghost invariant = { λ a. length a.bytes.value.items ≤ text_limit };
 }
 
 /// The first `n` bytes, or all where there are fewer.
@@ -41,21 +38,22 @@ fn prefix(bytes: &[u8], n: usize) -> &[u8]
 }
 
 impl Text {
-    /// The text without bytes; takes no memory.
-    pub fn empty(alloc: Global) -> Text
-        ensures empty { result ≡ [] }
+    /// The text without bytes.
+    pub fn empty(alloc: Global) -> Result<Text, NoMemory>
+        ensures empty { IfOk result (λ text. text ≡ []) }
     {
-        Text {
-            bytes: Vec::new(alloc),
-        }
+        Ok(Text {
+            bytes: Rc::new(alloc, Vec::new(alloc))?,
+        })
     }
 
     /// The first [`TEXT_BYTES`] of these bytes.
     pub fn of(alloc: Global, bytes: &[u8]) -> Result<Text, NoMemory>
         ensures ok { IfOk result (λ text. text ≡ take text_limit bytes.now) }
     {
+        let bytes = Vec::from_slice(alloc, prefix(bytes, TEXT_BYTES))?;
         Ok(Text {
-            bytes: Vec::from_slice(alloc, prefix(bytes, TEXT_BYTES))?,
+            bytes: Rc::new(alloc, bytes)?,
         })
     }
 
@@ -66,20 +64,12 @@ impl Text {
         self.bytes.as_slice()
     }
 
-    /// The vector of the bytes, which takes no memory.
-    pub(crate) fn into_bytes(self) -> Vec<u8>
-        ensures same { result.items ≡ self }
-    {
-        let Text { bytes } = self;
-        bytes
-    }
-
-    /// An equal text.
-    pub fn copy(&self, alloc: Global) -> Result<Text, NoMemory>
+    /// An equal text, which shares the bytes.
+    pub fn copy(&self, _alloc: Global) -> Result<Text, NoMemory>
         ensures ok { IfOk result (λ text. text ≡ self.now) }
     {
         Ok(Text {
-            bytes: Vec::from_slice(alloc, self.bytes.as_slice())?,
+            bytes: self.bytes.clone()?,
         })
     }
 
@@ -88,9 +78,11 @@ impl Text {
     pub fn join(&self, alloc: Global, other: &Text) -> Result<Text, NoMemory>
         ensures ok { IfOk result (λ text. text ≡ take text_limit (self.now ++ other.now)) }
     {
-        let room = TEXT_BYTES - self.bytes.len();
-        let mut bytes = Vec::from_slice(alloc, self.bytes.as_slice())?;
-        bytes.extend_from_slice(prefix(other.bytes.as_slice(), room))?;
-        Ok(Text { bytes })
+        let room = TEXT_BYTES - self.bytes().len();
+        let mut bytes = Vec::from_slice(alloc, self.bytes())?;
+        bytes.extend_from_slice(prefix(other.bytes(), room))?;
+        Ok(Text {
+            bytes: Rc::new(alloc, bytes)?,
+        })
     }
 }

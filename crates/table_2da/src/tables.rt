@@ -95,7 +95,7 @@ impl Tables {
     {
         match self.cell(name, column, row) {
             Some(bytes) => Text::of(alloc, bytes),
-            None => Ok(Text::empty(alloc)),
+            None => Text::empty(alloc),
         }
     }
 

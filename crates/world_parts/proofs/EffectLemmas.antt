@@ -7,7 +7,7 @@ use Rattle.std.specs.List.{list_any, find, position, position_or_len}
 use Rattle.std.proofs.lemmas.Bool.{false≢true, true≢false}
 use Rattle.std.proofs.lemmas.Bool.Decides.{nat_tests, same_from_decides, Decides-like, Decides-and, Decides-int_eq, Decides-eqb}
 use Rattle.std.proofs.lemmas.Option.{none-some}
-use Rattle.nwq_value.specs.declared.value.Effect.{Effect}
+use Rattle.nwq_value.specs.Effect.{Effect}
 use Rattle.world_rules.specs.declared.data.Stood.{Stood}
 use Rattle.world_rules.specs.declared.data.Told.TheVariants as line
 use Rattle.world_rules.specs.World.{World, count, is_valid, effects_of, effects_in}

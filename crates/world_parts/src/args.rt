@@ -1,10 +1,9 @@
 //! The arguments of a call, read at their places.
-ghost use Rattle.std.specs.Prelude.{◌≡◌, None, slice_get};
+ghost use Rattle.std.specs.Prelude.{◌≡◌, IfOk, slice_get};
 ghost use Rattle.world_rules.specs.Arguments.{int_at, text_at, object_at, effect_at, event_at};
 ghost use Rattle.world_rules.specs.Arguments.{effect_in, text_in};
 
-use nwq_value::value::NO_ROUTINE;
-use nwq_value::{Args, Effect, Ints, Text, Value};
+use nwq_value::{Args, Effect, NoMemory, Text, Value};
 use std::alloc::Global;
 
 pub(crate) fn int_at(args: &Args, i: usize) -> i32
@@ -55,14 +54,12 @@ fn taken(args: Args, i: usize) -> Option<Value>
     }
 }
 
-fn text_of(alloc: Global, value: Option<Value>) -> Text
-    ensures text { result ≡ text_in value }
+fn text_of(alloc: Global, value: Option<Value>) -> Result<Text, NoMemory>
+    ensures text { IfOk result (λ text. text ≡ text_in value) }
 {
     match value {
-        Some(Value::Text(text)) => text,
-        Some(Value::Int(_)) => Text::empty(alloc),
-        Some(Value::Object(_)) => Text::empty(alloc),
-        Some(Value::Event(_)) => Text::empty(alloc),
+        Some(Value::Text(text)) => Ok(text),
+        Some(Value::Int(_) | Value::Object(_) | Value::Event(_)) => Text::empty(alloc),
         Some(Value::Effect(effect)) => {
             drop(effect);
             Text::empty(alloc)
@@ -71,41 +68,30 @@ fn text_of(alloc: Global, value: Option<Value>) -> Text
     }
 }
 
-fn no_effect(alloc: Global) -> Effect
-    ensures effect { result ≡ effect_in None }
-{
-    Effect {
-        routine: NO_ROUTINE,
-        ints: Ints::new(alloc),
-    }
-}
-
-fn effect_of(alloc: Global, value: Option<Value>) -> Effect
-    ensures effect { result ≡ effect_in value }
+fn effect_of(alloc: Global, value: Option<Value>) -> Result<Effect, NoMemory>
+    ensures effect { IfOk result (λ effect. effect ≡ effect_in value) }
 {
     match value {
-        Some(Value::Effect(effect)) => effect,
-        Some(Value::Int(_)) => no_effect(alloc),
-        Some(Value::Object(_)) => no_effect(alloc),
-        Some(Value::Event(_)) => no_effect(alloc),
+        Some(Value::Effect(effect)) => Ok(effect),
+        Some(Value::Int(_) | Value::Object(_) | Value::Event(_)) => Effect::empty(alloc),
         Some(Value::Text(text)) => {
             drop(text);
-            no_effect(alloc)
+            Effect::empty(alloc)
         }
-        None => no_effect(alloc),
+        None => Effect::empty(alloc),
     }
 }
 
 /// The string at a place; the other arguments are dropped.
-pub(crate) fn take_text(alloc: Global, args: Args, i: usize) -> Text
-    ensures text { result ≡ text_at i args }
+pub(crate) fn take_text(alloc: Global, args: Args, i: usize) -> Result<Text, NoMemory>
+    ensures text { IfOk result (λ text. text ≡ text_at i args) }
 {
     text_of(alloc, taken(args, i))
 }
 
 /// The effect at a place; the other arguments are dropped.
-pub(crate) fn take_effect(alloc: Global, args: Args, i: usize) -> Effect
-    ensures effect { result ≡ effect_at i args }
+pub(crate) fn take_effect(alloc: Global, args: Args, i: usize) -> Result<Effect, NoMemory>
+    ensures effect { IfOk result (λ effect. effect ≡ effect_at i args) }
 {
     effect_of(alloc, taken(args, i))
 }

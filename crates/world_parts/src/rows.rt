@@ -136,10 +136,11 @@ impl<X: Drop> Parts<X> {
     {
         let n = int_at(&args, 0);
         let o = object_at(&args, 0);
-        let text = take_text(self.alloc(), args, 0);
+        let alloc = self.alloc();
         match number {
             0 => Ok(Some(Value::Int(self.random(n)))),
             1 => {
+                let text = take_text(alloc, args, 0)?;
                 self.tell(caller, Told::Print(Value::Text(text)));
                 Ok(None)
             }
@@ -156,8 +157,12 @@ impl<X: Drop> Parts<X> {
                 Ok(None)
             }
             11 => nothing(self.add_action(caller, Item::Wait(n))),
-            12 => nothing(self.add_action(caller, Item::Speak(text))),
+            12 => {
+                let text = take_text(alloc, args, 0)?;
+                nothing(self.add_action(caller, Item::Speak(text)))
+            }
             13 => {
+                let text = take_text(alloc, args, 0)?;
                 self.tell(caller, Told::Speak(text));
                 Ok(None)
             }
@@ -218,11 +223,11 @@ impl<X: Drop> Parts<X> {
         match number {
             23 => {
                 let (duration, o, ms) = (int_at(&args, 0), object_at(&args, 2), int_at(&args, 3));
-                nothing(self.apply_to(duration, o, take_effect(alloc, args, 1), ms))
+                nothing(self.apply_to(duration, o, take_effect(alloc, args, 1)?, ms))
             }
             24 => {
                 let o = object_at(&args, 0);
-                self.remove_effect(o, take_effect(alloc, args, 1));
+                self.remove_effect(o, take_effect(alloc, args, 1)?);
                 Ok(None)
             }
             38 => {

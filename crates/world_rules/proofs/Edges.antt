@@ -9,7 +9,7 @@ use Rattle.delay_agenda.specs.declared.entry.Entry.{Entry}
 use Rattle.delay_agenda.specs.declared.entry.Kind.TheVariants.{Event, Stored, Turn, Unapply}
 use Rattle.nwq_value.specs.Header.{header_routines}
 use Rattle.nwq_value.specs.HeaderTable.{header_table}
-use Rattle.nwq_value.specs.declared.value.Effect.{Effect}
+use Rattle.nwq_value.specs.Effect.{Effect}
 use Rattle.nwq_value.specs.declared.value.Value.{Value}
 use Rattle.nwq_value.specs.declared.value.Value.TheVariants as value
 use Rattle.world_rules.specs.declared.data.Told.TheVariants as line

@@ -3,7 +3,7 @@
 use Rattle.std.specs.Prelude.{ℕ, ℤ, pos, zero, negsuc, List, [], ◌∷◌, Option, None, Some, slice_get, take}
 use Rattle.nwq_value.specs.Limits.{text_limit}
 use Rattle.nwq_value.specs.Values.{no_routine}
-use Rattle.nwq_value.specs.declared.value.Effect.{Effect as EffectRecord}
+use Rattle.nwq_value.specs.Effect.{Effect as EffectRecord}
 use Rattle.nwq_value.specs.declared.value.Value.{Value}
 use Rattle.nwq_value.specs.declared.value.Value.TheVariants.{Int, Text, Object, Effect, Event}
 

@@ -7,7 +7,7 @@ use Rattle.area_rules.specs.Area.{changed}
 use Rattle.local_variables.specs.Variables.{Variable}
 use Rattle.delay_agenda.specs.declared.entry.Kind.{Kind}
 use Rattle.delay_agenda.specs.Waiting.{posted, turn_count, without_turns}
-use Rattle.nwq_value.specs.declared.value.Effect.{Effect}
+use Rattle.nwq_value.specs.Effect.{Effect}
 use Rattle.world_rules.specs.declared.data.Stood.{Stood}
 use Rattle.world_rules.specs.declared.data.Things.{Things}
 use Rattle.world_rules.specs.declared.data.Told.{Told}

@@ -8,7 +8,7 @@ use Rattle.area_rules.specs.Area.{by_tag, object, script_named}
 use Rattle.area_rules.specs.Objects.{Script}
 use Rattle.local_variables.specs.Variables.{Variable, IntVar, TextVar, int_named, text_named, is_int, is_text, put}
 use Rattle.delay_agenda.specs.declared.entry.Kind.TheVariants.{Event, Stored, Turn, Unapply}
-use Rattle.nwq_value.specs.declared.value.Effect.{Effect}
+use Rattle.nwq_value.specs.Effect.{Effect}
 use Rattle.nwq_value.specs.declared.value.Value.{Value}
 use Rattle.nwq_value.specs.declared.value.Value.TheVariants as value
 use Rattle.world_rules.specs.declared.data.Told.TheVariants as line

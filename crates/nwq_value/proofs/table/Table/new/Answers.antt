@@ -3,5 +3,4 @@ use Rattle.nwq_value.proofs.TableLemmas.{table_empty}
 use Rattle.nwq_value.proofs.table.Table.new.Goals as goal
 
 pub invariant_of-result : goal.invariant_of-result
-invariant_of-result c =
-    rw (c.new.ensures.items, c.new-2.ensures.empty, c.new-3.ensures.items, c.new-4.ensures.empty) (found_nothing, table_empty)
+invariant_of-result c = rw (c.new.ensures.empty, c.new-2.ensures.empty, c.new-3.ensures.empty) (found_nothing, table_empty)
