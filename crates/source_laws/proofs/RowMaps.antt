@@ -12,7 +12,7 @@ use Rattle.nwq_value.specs.Engine.{EngineTable}
 use Rattle.nwq_value.specs.declared.engine.Role.{Role}
 use Rattle.nwq_value.specs.declared.engine.Role.TheVariants as role
 use Rattle.nwq_value.specs.declared.engine.Routine.{Routine}
-use Rattle.nwq_value.specs.declared.value.Effect.{Effect}
+use Rattle.nwq_value.specs.Effect.{Effect}
 use Rattle.world_rules.specs.declared.data.Stood.{Stood}
 use Rattle.world_rules.specs.declared.data.Told.TheVariants as line
 use Rattle.world_rules.specs.Arguments.{int_at, text_at, object_at, effect_at, event_at}
