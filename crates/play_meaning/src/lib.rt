@@ -1,7 +1,7 @@
 //! That a play of the code of source texts is the play that the texts mean.
 //!
-//! There is no code here that runs. `source_meaning` says what an entry means and what the machine
-//! does from its first instruction to its last; this crate carries that over whole plays. A play is
+//! There is no code here that runs. `source_laws` says that the machine does what an entry means,
+//! from its first instruction to its last; this crate carries that over whole plays. A play is
 //! told once, in `world_rules`, for any way to run an entry's scripts: `specs/Together.antt` says
 //! when two such plays go together, and `specs/PlaysRun.antt` that those of code and of source do.
 //! `specs/EndTexts.antt` has the text at such a play's end, and `specs/Machines.antt` says of which

@@ -3,3 +3,4 @@ mod Examples
 mod ExpressionExamples
 mod StatementExamples
 mod Steps
+mod Fields

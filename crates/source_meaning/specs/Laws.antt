@@ -1,9 +1,13 @@
--- What is promised of steps.
-use Rattle.std.specs.Prelude.{◌≡◌, ℕ, ◌+◌, List}
+-- What is promised of steps, and of the fields of structs.
+use Rattle.std.specs.Prelude.{◌≡◌, ℕ, ◌+◌, List, ◌∷◌, ◌++◌, length}
 use Rattle.nwq_value.specs.declared.value.Value.{Value}
 use Rattle.world_rules.specs.World.{World}
+use Rattle.source_meaning.specs.Values.{parts_of, with_parts}
 use Rattle.source_meaning.specs.Evaluation.{Deferred, Progress, Outcome, Gives, Divides, OutOfSteps}
+use Rattle.source_meaning.specs.Expressions.{all_parts}
 use Rattle.source_meaning.specs.Scripts.{Setting, run_script, run_deferred}
+
+-- ---- steps
 
 -- so many steps more are left
 abbrev pub with_more : ℕ → Progress → Progress
@@ -21,3 +25,14 @@ abbrev pub EntriesSpendSteps : Type 0
 EntriesSpendSteps =
     (s : Setting) (self : ℕ) (world : World Deferred)
     → ((script : ℕ) → SpendsSteps (λ n. run_script s n script self world)) × ((d : Deferred) → SpendsSteps (λ n. run_deferred s n d self world))
+
+-- ---- fields
+
+-- A struct's value is that of its fields in a row. What is read of it behind the parts of the fields in front of one is that field's value, and a
+-- value that is written there takes the field's place, and no other.
+abbrev pub FieldsAreParts : Type 0
+FieldsAreParts =
+    (front : List (List Value)) (field : List Value) (back : List (List Value))
+    → (parts_of (length (all_parts front)) (length field) (all_parts (front ++ field ∷ back)) ≡ field)
+    × ((new : List Value) → length new ≡ length field
+    → with_parts (length (all_parts front)) new (all_parts (front ++ field ∷ back)) ≡ all_parts (front ++ new ∷ back))

@@ -7,11 +7,11 @@
 //! takes its steps, `specs/Spots.antt` what is read and written; `specs/Expressions.antt`,
 //! `specs/Statements.antt` and `specs/Scripts.antt` what each node of a typed unit comes to.
 //! `specs/Plays.antt` has the play of source texts, which is the play of `world_rules`, and
-//! `specs/Laws.antt` what is promised of steps. The functions of this crate do nothing: each is a
+//! `specs/Laws.antt` what is promised of steps and fields. The functions of this crate do nothing: each is a
 //! law, whose contract is proved of the definitions. That code does what is meant, is told by
 //! `source_laws`. The page on all of this is docs/MEANING.md.
 #![tactic(auto)]
 
 mod laws;
 
-pub use laws::entries_spend_steps;
+pub use laws::{entries_spend_steps, fields_are_parts};
