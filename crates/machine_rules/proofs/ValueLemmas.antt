@@ -7,7 +7,7 @@ use Rattle.std.specs.Str.{bytes_eq}
 use Rattle.std.proofs.lemmas.Bool.Decides.{Decides-int_eq, Decides-eqb, Decides-like, Decides-and}
 use Rattle.std.proofs.lemmas.Slice.Eq.{bytes_eq-Decides}
 use Rattle.nwq_value.specs.declared.value.Value.TheVariants.{Int, Text, Object, Effect, Event}
-use Rattle.nwq_value.specs.declared.value.Effect.{Effect as EffectRecord}
+use Rattle.nwq_value.specs.Effect.{Effect as EffectRecord}
 use Rattle.machine_rules.specs.Values.{ints_eq, value_eq}
 use Rattle.machine_rules.specs.Laws.{EqualityIsTested}
 

@@ -59,11 +59,10 @@ fn world_value(
     match gives {
         Ty::Effect => {
             let ints = ints_of(alloc, args)?;
-            let routine = number;
-            Ok(Some(Value::Effect(Effect { routine, ints })))
+            Ok(Some(Value::Effect(Effect::new(alloc, number, ints)?)))
         }
         Ty::Int => Ok(Some(Value::Int(0))),
-        Ty::Text => Ok(Some(Value::Text(Text::empty(alloc)))),
+        Ty::Text => Ok(Some(Value::Text(Text::empty(alloc)?))),
         Ty::Object => Ok(Some(Value::Object(0))),
         Ty::Event => Ok(Some(Value::Event(0))),
         Ty::Void | Ty::Action | Ty::Struct(_) | Ty::Refused => Ok(None),
