@@ -127,17 +127,6 @@ take_none : {X : Type 0} (n : ℕ) → take {A = X} n [] ≡ []
 take_none zero = refl
 take_none (suc n) = refl
 
-take_more : {X : Type 0} (xs : List X) (k : ℕ) (x : X) → slice_get xs k ≡ Some x → take (suc k) xs ≡ take k xs ++ x ∷ []
-take_more [] k x e = absurd cc
-take_more {X = X} (y ∷ ys) zero x e = let is : y ≡ x = cc in ap (λ (z : X). z ∷ []) is
-take_more {X = X} (y ∷ ys) (suc k) x e = ap (λ (zs : List X). y ∷ zs) (take_more ys k x e)
-
-take_next : {X : Type 0} (xs : List X) (k : ℕ) (x : X) → slice_get xs k ≡ Some x → take (k + 1) xs ≡ take k xs ++ x ∷ []
-take_next {X = X} xs k x e = ap (λ (n : ℕ). take n xs) (one_more k) ∙ take_more xs k x e
-  where
-    one_more : (n : ℕ) → n + 1 ≡ suc n
-    one_more n = omega arith
-
 -- ---- the members of a list
 
 members_end : (objects : List AreaObject) (nodes : List PlainNode) (n : ℕ) → length nodes ≤ n → members_back (take n objects) nodes ≡ members_back objects nodes

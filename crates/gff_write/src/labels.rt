@@ -1,55 +1,130 @@
-//! The labels of a file, once each in the order of their first use.
+//! The labels of a file, once each in the order of their first use. A label leads to its number by
+//! the index of names, and the rows stand under the numbers, so that no labels make a search longer.
 
-ghost use Rattle.std.specs.Prelude.{◌≡◌, [], IfOk, OnOk};
+ghost use Rattle.std.specs.Prelude.{◌≡◌, ◌++◌, ◌∷◌, [], None, length, IfOk, OnOk};
+ghost use Rattle.std.specs.Map.{values_of};
+ghost use Rattle.nwq_value.specs.Index.{number_under};
 ghost use Rattle.gff_write.specs.File.{place_of, with_label, entry_labels, row_labels, joined};
+ghost use Rattle.gff_write.specs.Labels.{IsTable};
 
 use crate::flat::{Entry, Row};
-use indexmap::IndexSet;
-use nwq_value::{Items, NoMemory};
+use indexmap::IndexMap;
+use nwq_value::{Items, NameIndex, NoMemory};
 use std::alloc::Global;
+use std::marker::Model;
 
 /// A label filled up with zero bytes.
 pub type LabelRow = [u8; 16];
 
-/// The labels once each, in the order of their first use.
-pub type Labels = IndexSet<LabelRow>;
+/// The labels under their numbers, which count from 0.
+type LabelRows = IndexMap<usize, LabelRow>;
 
-/// Where a label stands in the table, or the table's length.
-pub fn place(table: &Labels, label: &LabelRow) -> usize
-    ensures { result ≡ place_of table.now.keys label.now }
-{
-    match table.get_index_of(label) {
-        Some(i) => i,
-        None => table.len(),
+/// The labels once each, in the order of their first use. Contracts see the list of them.
+#[derive(Drop)]
+pub struct Labels {
+    rows: LabelRows,
+    numbers: NameIndex,
+}
+
+impl Model for Labels {
+    ghost use Rattle.std.specs.Prelude.{List, ℕ};
+    ghost use Rattle.std.specs.Map.{values_of};
+    ghost use Rattle.gff_write.specs.Labels.{IsTable};
+
+    ghost Value = { List (List ℕ) };
+
+    ghost view = { λ l. values_of l.rows.entries };
+
+    ghost invariant = { λ l. IsTable l.rows.entries l.numbers };
+}
+
+impl Labels {
+    pub fn len(&self) -> usize
+        ensures len { result ≡ length self.now }
+    {
+        self.rows.len()
+    }
+
+    /// The labels in their order.
+    pub fn rows(&self) -> &[LabelRow]
+        ensures rows { result.now ≡ self.now }
+    {
+        self.rows.values().as_slice()
+    }
+
+    /// Where a label stands in the table, or the table's length.
+    pub fn place(&self, label: &LabelRow) -> usize
+        ensures place { result ≡ place_of self.now label.now }
+    {
+        match self.numbers.get(label.as_slice()) {
+            Some(number) => number,
+            None => self.len(),
+        }
     }
 }
 
-/// Puts a label last in the table if it is new.
-fn add_label(table: &mut Labels, label: &LabelRow) -> Result<(), NoMemory>
-    ensures { OnOk result (table.new.keys ≡ with_label table.old.keys label.now) }
+/// Puts a label that is new last in the table.
+fn push_label(
+    rows: &mut LabelRows,
+    numbers: &mut NameIndex,
+    label: &LabelRow,
+) -> Result<(), NoMemory>
+    requires table { IsTable rows.old.entries numbers.old }
+    requires new { number_under label.now numbers.old ≡ None }
+    ensures table { OnOk result (IsTable rows.new.entries numbers.new) }
+    ensures rows { OnOk result (values_of rows.new.entries
+        ≡ values_of rows.old.entries ++ label.now ∷ []) }
 {
-    table.insert(*label)?;
+    let number = rows.len();
+    numbers.set(label.as_slice(), number)?;
+    rows.insert(number, *label)?;
     Ok(())
 }
 
-fn add_labels(table: &mut Labels, entries: &[Entry]) -> Result<(), NoMemory>
-    ensures { OnOk result (table.new.keys ≡ entry_labels table.old.keys entries.now) }
+/// Puts a label last in the table if it is new.
+fn add_label(
+    rows: &mut LabelRows,
+    numbers: &mut NameIndex,
+    label: &LabelRow,
+) -> Result<(), NoMemory>
+    requires table { IsTable rows.old.entries numbers.old }
+    ensures table { OnOk result (IsTable rows.new.entries numbers.new) }
+    ensures rows { OnOk result (values_of rows.new.entries
+        ≡ with_label (values_of rows.old.entries) label.now) }
+{
+    if numbers.get(label.as_slice()).is_some() {
+        return Ok(());
+    }
+    push_label(rows, numbers, label)?;
+    Ok(())
+}
+
+fn add_labels(
+    rows: &mut LabelRows,
+    numbers: &mut NameIndex,
+    entries: &[Entry],
+) -> Result<(), NoMemory>
+    requires table { IsTable rows.old.entries numbers.old }
+    ensures table { OnOk result (IsTable rows.new.entries numbers.new) }
+    ensures rows { OnOk result (values_of rows.new.entries
+        ≡ entry_labels (values_of rows.old.entries) entries.now) }
 {
     for entry in entries {
-        add_label(table, &entry.label)?;
+        add_label(rows, numbers, &entry.label)?;
     }
     Ok(())
 }
 
 /// The labels of all fields once each, in the order of their first use.
-pub fn label_table(alloc: Global, rows: &[Row]) -> Result<Labels, NoMemory>
-    ensures { IfOk result (λ table. table.keys ≡ row_labels [] rows.now) }
+pub fn label_table(alloc: Global, structs: &[Row]) -> Result<Labels, NoMemory>
+    ensures { IfOk result (λ table. table ≡ row_labels [] structs.now) }
 {
-    let mut table = Labels::new(alloc);
-    for row in rows {
-        add_labels(&mut table, row.fields.as_slice())?;
+    let mut rows = LabelRows::new(alloc);
+    let mut numbers = NameIndex::new(alloc);
+    for row in structs {
+        add_labels(&mut rows, &mut numbers, row.fields.as_slice())?;
     }
-    Ok(table)
+    Ok(Labels { rows, numbers })
 }
 
 /// The bytes of the labels, one after the other.

@@ -7,7 +7,7 @@ ghost use Rattle.gff_write.specs.File.{indices_of, row_bytes, joined};
 
 use crate::count::sum;
 use crate::flat::{Content, Entry, Row};
-use crate::labels::{Labels, label_bytes, place};
+use crate::labels::{Labels, label_bytes};
 use crate::put::put_word;
 use nwq_value::{Items, NoMemory};
 use std::alloc::Global;
@@ -70,13 +70,13 @@ fn put_entry(
     entry: &Entry,
 ) -> Result<(), NoMemory>
     ensures fields { OnOk result (fields.new ≡ fields.old
-        ++ entry_bytes table.now.keys (length datum.old) (length lists.old) entry.now) }
+        ++ entry_bytes table.now (length datum.old) (length lists.old) entry.now) }
     ensures datum { OnOk result (datum.new ≡ datum.old ++ data_of entry.now.content) }
     ensures lists { OnOk result (lists.new ≡ lists.old ++ list_of entry.now.content) }
 {
     let third = put_content(datum, lists, &entry.content)?;
     put_word(fields, u64::from(entry.kind))?;
-    put_word(fields, place(table, &entry.label) as u64)?;
+    put_word(fields, table.place(&entry.label) as u64)?;
     put_word(fields, third)
 }
 
@@ -89,7 +89,7 @@ fn put_entries(
     entries: &[Entry],
 ) -> Result<(), NoMemory>
     ensures fields { OnOk result (fields.new ≡ fields.old
-        ++ entries_bytes table.now.keys (length datum.old) (length lists.old) entries.now) }
+        ++ entries_bytes table.now (length datum.old) (length lists.old) entries.now) }
     ensures datum { OnOk result (datum.new ≡ datum.old ++ entries_data entries.now) }
     ensures lists { OnOk result (lists.new ≡ lists.old ++ entries_lists entries.now) }
 {
@@ -145,7 +145,7 @@ fn body(
     table: &Labels,
     labels: Items<u8>,
 ) -> Result<Sections, NoMemory>
-    ensures { IfOk result (λ sections. sections ≡ parts_with table.now.keys labels rows.now) }
+    ensures { IfOk result (λ sections. sections ≡ parts_with table.now labels rows.now) }
 {
     let mut structs = Items::new(alloc);
     let mut fields = Items::new(alloc);
@@ -172,8 +172,8 @@ fn body(
 /// The sections of these structs, whose labels are given.
 pub fn sections_of(alloc: Global, rows: &[Row], table: &Labels) -> Result<Sections, NoMemory>
     ensures { IfOk result (λ sections. sections
-        ≡ parts_with table.now.keys (joined table.now.keys) rows.now) }
+        ≡ parts_with table.now (joined table.now) rows.now) }
 {
-    let labels = label_bytes(alloc, table.as_slice())?;
+    let labels = label_bytes(alloc, table.rows())?;
     body(alloc, rows, table, labels)
 }

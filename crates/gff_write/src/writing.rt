@@ -107,7 +107,7 @@ fn labelled(
     labels: &Labels,
     fields: u64,
 ) -> Result<Items<u8>, NoMemory>
-    requires labels { labels.now.keys ≡ row_labels [] rows.now }
+    requires labels { labels.now ≡ row_labels [] rows.now }
     requires fields { fields ≡ field_count rows.now }
     ensures { IfOk result (λ bytes. bytes ≡ written_rows file_type.now rows.now) }
 {
