@@ -30,7 +30,7 @@ module _ (script : ℕ) (u : TypedUnit) (self : ℕ) (waiting : List Frame) (oth
     fine_elsewhere table fs scope (name t (Global n)) h = h
     fine_elsewhere table fs scope (name t (IsConst k)) h = h
     fine_elsewhere table fs scope (call t f es ks) h = (h.0, all_elsewhere table fs scope es h.1)
-    fine_elsewhere table fs scope (member t e before) h = (fine_elsewhere table fs scope e h.0, h.1)
+    fine_elsewhere table fs scope (member t e before) h = (fine_elsewhere table fs scope e h.0, h.1, h.2)
     fine_elsewhere table fs scope (prefix t o e) h = (fine_elsewhere table fs scope e h.0, h.1, h.2, h.3)
     fine_elsewhere table fs scope (postfix t o e) h = (fine_elsewhere table fs scope e h.0, h.1, h.2, h.3)
     fine_elsewhere table fs scope (binary t o d e) h = (fine_elsewhere table fs scope d h.0, fine_elsewhere table fs scope e h.1, h.2)

@@ -185,7 +185,7 @@ module _ (x : Site) (table : EngineTable) (fs : List Function) (few more : List 
     fine_more scope (name t (IsConst k)) h = h
     fine_more scope (call t (InUnit f) es ks) h = absurd (not_there f h.0.function h.0.is)
     fine_more scope (call t (Engine n) es ks) h = (h.0, all_more scope es h.1)
-    fine_more scope (member t e before) h = (fine_more scope e h.0, h.1)
+    fine_more scope (member t e before) h = (fine_more scope e h.0, h.1, h.2)
     fine_more scope (prefix t o e) h = (fine_more scope e h.0, h.1, h.2, h.3)
     fine_more scope (postfix t o e) h = (fine_more scope e h.0, h.1, h.2, h.3)
     fine_more scope (binary t o d e) h = (fine_more scope d h.0, fine_more scope e h.1, h.2)

@@ -15,6 +15,7 @@ use Rattle.emission_rules.specs.Expressions.{emit}
 use Rattle.emission_rules.specs.Units.{unit_code}
 use Rattle.machine_rules.specs.Frames.{Frame}
 use Rattle.source_meaning.specs.Evaluation.{Deferred}
+use Rattle.source_meaning.specs.Fields.{struct_fields}
 use Rattle.source_meaning.specs.Scripts.{Listed, Setting, functions, global_names}
 use Rattle.source_laws.specs.Kept.{AreHeld, Site, Vars}
 use Rattle.source_laws.specs.Fine.{IsFine}
@@ -78,6 +79,7 @@ unit_site script u self waiting = record {
   waiting = waiting;
   layout = layout_of u;
   types = variable_type u;
+  fields = struct_fields u.items;
   globals = map number_of (global_names u.items);
   bp = (layout_of u).globals;
 }

@@ -14,6 +14,7 @@ use Rattle.typing_rules.specs.Typed.{TypedExpr, TypedExprs, TypedParameter, lite
 use Rattle.typing_rules.specs.Cells.{Structs, cell_types, cells, is_captured}
 use Rattle.stack_shape.specs.Calls.{is_action, is_callable, action_count, result_types}
 use Rattle.source_meaning.specs.Expressions.{is_step}
+use Rattle.source_meaning.specs.Fields.{IsMember}
 use Rattle.source_meaning.specs.Scripts.{Function}
 use Rattle.source_laws.specs.Kept.{Site, In}
 
@@ -83,6 +84,7 @@ module _ (table : EngineTable) (functions : List Function) (x : Site) (scope : L
     IsFine (name t (IsConst k)) = const_type k ≡ t
     IsFine (call t f es ks) = IsCall table x.layout.structs functions t f es ks × AreFine es
     IsFine (member t e before) = IsFine e × AreParts (cell_types x.layout.structs (type_of e)) before (cell_types x.layout.structs t)
+        × IsMember x.layout.structs x.fields (type_of e) t before
     IsFine (prefix t o e) = IsFine e × (type_of e ≡ Int) × (t ≡ Int) × (is_step o ≡ true → is_place e ≡ true)
     IsFine (postfix t o e) = IsFine e × (type_of e ≡ Int) × (t ≡ Int) × (is_place e ≡ true)
     IsFine (binary t o d e) = IsFine d × IsFine e × (binary_type o (type_of d) (type_of e) ≡ Some t)

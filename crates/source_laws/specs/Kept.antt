@@ -49,6 +49,8 @@ pub record Site : Type 0 where
   pub waiting : List Frame
   pub layout : Layout
   pub types : ℕ → Ty
+  -- the types of the fields of each struct
+  pub fields : List (List Ty)
   pub globals : List ℕ
   pub bp : ℕ
 

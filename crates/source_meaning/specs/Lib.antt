@@ -5,4 +5,5 @@ pub mod Expressions
 pub mod Statements
 pub mod Scripts
 pub mod Plays
+pub mod Fields
 pub mod Laws

@@ -27,6 +27,7 @@ use Rattle.typing_rules.specs.Cells.{Structs, cell_types, is_captured}
 use Rattle.stack_shape.specs.Calls as shape
 use Rattle.stack_shape.specs.Calls.{is_callable, is_uncallable, action_count, result_types}
 use Rattle.source_meaning.specs.Expressions as meaning
+use Rattle.source_meaning.specs.Fields.{IsMember, fields_cells}
 use Rattle.source_meaning.specs.Scripts.{Function}
 use Rattle.source_laws.specs.Kept.{Site, In}
 use Rattle.source_laws.specs.Fine.{AreParts, argument_type, argument_types, AreValues, IsSingle, AreSingle, IsCall, IsFine, AreFine}
@@ -243,7 +244,7 @@ IsSeen x file scope e = (m : Meaning) → e.means ≡ Some m → IsMeaning x fil
 
 pub record Sees (x : Site) (table : EngineTable) (result : Ty) (file : Bool) (scope : List ℕ) (c : Sight) : Type 0 where
   pub names : AllByRecursion (IsSeen x file scope) c.names
-  pub structs : AreStructs x.layout.structs c.structs
+  pub structs : AreStructs x.layout.structs x.fields c.structs
   pub table_is : c.table ≡ table
   pub inside : c.at_file ≡ file
   pub gives : file ≡ false → c.result ≡ Some result
@@ -406,8 +407,18 @@ module _ (x : Site) (table : EngineTable) (kept : IsTable table) (few : (r : Rou
       of_member n r mem m same there is found =
           let k = s.structs n r there in
           let one : k.members ≡ mem = same_Some _ _ (sym k.is ∙ is) in
-          let f = all_found (IsField x.layout.structs (cell_types x.layout.structs (Struct n))) y mem.fields m (subst (λ (v : Members). AllByRecursion (IsField x.layout.structs (cell_types x.layout.structs (Struct n))) v.fields) one k.fields) found in
-          (fine, subst (λ (v : Ty). AreParts (cell_types x.layout.structs v) m.before (cell_types x.layout.structs m.ty)) (sym same) (record { are = f.are; inside = f.inside; some = f.some }))
+          let all = cell_types x.layout.structs (Struct n) in
+          let f = all_found (IsField x.layout.structs k.types all) y mem.fields m (subst (λ (v : Members). AllByRecursion (IsField x.layout.structs k.types all) v.fields) one k.fields) found in
+          let field : IsMember x.layout.structs x.fields (type_of u) m.ty m.before = record {
+            number = n;
+            of = same;
+            front = f.front;
+            back = f.back;
+            are = k.listed ∙ ap Some f.types_are;
+            cells = ap (cell_types x.layout.structs) same ∙ k.cells ∙ ap (fields_cells x.layout.structs) f.types_are;
+            offset = f.offset;
+          } in
+          (fine, subst (λ (v : Ty). AreParts (cell_types x.layout.structs v) m.before (cell_types x.layout.structs m.ty)) (sym same) (record { are = f.are; inside = f.inside; some = f.some }), field)
 
       of_found : (n : ℕ) (r : Structure) (mem : Members) (o : Option Member) → type_of u ≡ Struct n → slice_get c.structs n ≡ Some r → r.members ≡ Some mem → find_member y mem.fields ≡ o → option_map (λ (m : Member). member m.ty u m.before) o ≡ Some t
           → IsFine table fs x scope t

@@ -29,6 +29,7 @@ use Rattle.typing_rules.specs.Cells.{Structs, cell_types, cells, line_cells, str
 use Rattle.emission_rules.specs.Bounds.{IsCell}
 use Rattle.emission_rules.specs.Layout.{params_cells, names_cells, item_cells, params_positions, names_positions, all_positions, body_positions, item_positions, items_positions, position}
 use Rattle.stack_shape.specs.Calls.{action_count}
+use Rattle.source_meaning.specs.Fields.{field_types, struct_fields}
 use Rattle.source_meaning.specs.Scripts.{Function, functions, global_names, parameter_names}
 use Rattle.source_laws.specs.Kept.{Site, In}
 use Rattle.source_laws.specs.Carries.{type_of_name, type_of_parameter, all_declared_types, body_types, item_types, items_types}
@@ -89,10 +90,10 @@ early_lines structs known ss (l ∷ ls) g e d =
     ap (λ (part : List Ty). flat_map (λ (x : Identifier). part) l.names ++ flat_map (line_cells known) ls) (early_type structs known ss l.ty g e d.0)
     ∙ ap (λ (rest : List Ty). line_cells structs l ++ rest) (early_lines structs known ss ls g e d.1)
 
-lines_declared : (structs : Structs) (ss : List Structure) → AreStructs structs ss → (s : Fields) (ls : List SourceLine) (us : List TypedLine) → TypesLines ss s ls us → AreLines structs ss us
-lines_declared structs ss known s ls us (rules.TypesLines.none z) = tt
-lines_declared structs ss known s ls us (rules.TypesLines.more z {l = l} {ls = ms} {u = u} {us = vs} h k) =
-    (declared_is structs ss known l.ty h.line.typed u.ty h.line.parts h.line.gives, lines_declared structs ss known _ ms vs k)
+lines_declared : (structs : Structs) (fields_of : List (List Ty)) (ss : List Structure) → AreStructs structs fields_of ss → (s : Fields) (ls : List SourceLine) (us : List TypedLine) → TypesLines ss s ls us → AreLines structs ss us
+lines_declared structs fields_of ss known s ls us (rules.TypesLines.none z) = tt
+lines_declared structs fields_of ss known s ls us (rules.TypesLines.more z {l = l} {ls = ms} {u = u} {us = vs} h k) =
+    (declared_is structs fields_of ss known l.ty h.line.typed u.ty h.line.parts h.line.gives, lines_declared structs fields_of ss known _ ms vs k)
 
 names_long : (structs : Structs) (t : Ty) (ss : List Structure) (s : Fields) (o : Option Ty) (xs ys : List Identifier) → TypesFields ss s o xs ys → HasName xs → 0 < length (cell_types structs t)
     → 0 < length (flat_map (λ (x : Identifier). cell_types structs t) ys)
@@ -134,11 +135,34 @@ same_structure n m x y ls us e = cc
 abbrev structure_with : List ℕ → List Structure → Option (List TypedLine) → Structure
 structure_with y ss o = record { called = y; members = option_map (struct_members ss) o }
 
+-- the structs among the items that come, with what is known in front, are those of the site, and so are the types of their fields
+abbrev Ahead : Site → Structs → List TypedItem → Type 0
+Ahead x known ts = (done : List (List Ty)) × (structs_from known ts ≡ x.layout.structs) × (x.fields ≡ done ++ struct_fields ts) × (length done ≡ length known)
+
+at_front : (before : List (List Ty)) (ts : List Ty) (more : List (List Ty)) → slice_get (before ++ ts ∷ more) (length before) ≡ Some ts
+at_front [] ts more = refl
+at_front (b ∷ before) ts more = at_front before ts more
+
+struct_listed : (x : Site) (known : Structs) (n : ℕ) (y : List ℕ) (us : List TypedLine) (ts : List TypedItem) → (a : Ahead x known (unit.structure n y us ∷ ts)) → (count : ℕ) → length known ≡ count
+    → slice_get x.fields count ≡ Some (field_types us)
+struct_listed x known n y us ts a count same =
+    ap (λ (all : List (List Ty)). slice_get all count) a.2 ∙ ap (slice_get (a.0 ++ field_types us ∷ struct_fields ts)) (sym (a.3 ∙ same)) ∙ at_front a.0 (field_types us) (struct_fields ts)
+
+-- behind a struct
+ahead_on : (x : Site) (known : Structs) (n : ℕ) (y : List ℕ) (us : List TypedLine) (ts : List TypedItem) → Ahead x known (unit.structure n y us ∷ ts) → Ahead x (known ++ flat_map (line_cells known) us ∷ []) ts
+ahead_on x known n y us ts a =
+    let own = flat_map (line_cells known) us in
+    let one = length-append a.0 (field_types us ∷ []) in
+    let two = length-append known (own ∷ []) in
+    let same = a.3 in
+    (a.0 ++ field_types us ∷ [], a.1, a.2 ∙ sym (append_assoc a.0 (field_types us ∷ []) (struct_fields ts)), omega (arith, one, two, same))
+
 -- a struct
 struct_seen : ItemsAreRight → (x : Site) (table : EngineTable) (hs : List Head) (scope : List ℕ) (known : Structs) (c : Sight) → Files x table scope c known → (n : ℕ) (y : List ℕ) (ls : List SourceLine) (us : List TypedLine)
     → TypesItem hs c (unit.structure n y ls) (unit.structure n y us) → Fits (TypesLines c.structs no_fields ls) (struct_rule c.structs y) us → HasField ls
-    → Grows (known ++ flat_map (line_cells known) us ∷ []) x.layout.structs → Files x table scope (after_item c (unit.structure n y ls)) (known ++ flat_map (line_cells known) us ∷ [])
-struct_seen right x table hs scope known c s n y ls us h f has g =
+    → Grows (known ++ flat_map (line_cells known) us ∷ []) x.layout.structs → slice_get x.fields (length c.structs) ≡ Some (field_types us)
+    → Files x table scope (after_item c (unit.structure n y ls)) (known ++ flat_map (line_cells known) us ∷ [])
+struct_seen right x table hs scope known c s n y ls us h f has g listed =
     let structs = x.layout.structs in
     let verdict = fine (struct_verdict c.structs y ls) in
     let complete = (right hs c (unit.structure n y ls) (unit.structure n y us)).1 h in
@@ -146,11 +170,11 @@ struct_seen right x table hs scope known c s n y ls us h f has g =
     let w = when_is _ f.typed us f.gives in
     let lines : TypesLines c.structs no_fields ls us = subst (TypesLines c.structs no_fields ls) w.1 f.parts in
     let before : Grows known structs = record { more = own ∷ g.more; is = g.is ∙ append_assoc known (own ∷ []) g.more } in
-    let d = lines_declared structs c.structs s.sees.structs no_fields ls us lines in
+    let d = lines_declared structs x.fields c.structs s.sees.structs no_fields ls us lines in
     let same = early_lines structs known c.structs us before s.count d in
     let place : cell_types structs (Struct (length c.structs)) ≡ flat_map (line_cells structs) us =
     ap (λ (k : ℕ). get_or structs k []) (sym s.count) ∙ ap (λ (all : Structs). get_or all (length known) []) before.is ∙ at_middle known g.more own ∙ same in
-    let made = struct_of structs c.structs (length c.structs) y us d place (lines_long structs c.structs no_fields ls us lines has d) in
+    let made = struct_of structs x.fields c.structs (length c.structs) y us d place (lines_long structs c.structs no_fields ls us lines has d) listed in
     let longer = length-append known (own ∷ []) in
     let longer' = length-append c.structs (structure_with y c.structs verdict ∷ []) in
     let count = s.count in
@@ -171,11 +195,11 @@ struct_seen right x table hs scope known c s n y ls us h f has g =
     verdict_is (Some vs) e = ap Some (same_structure n n y y vs us (same_Some _ _ e))
 
     of_index : (m : ℕ) (r : Structure) → (slice_get c.structs m ≡ Some r) ⊎ ((m ≡ length c.structs) × (structure_with y c.structs (fine (struct_verdict c.structs y ls)) ≡ r))
-        → IsStruct x.layout.structs (length c.structs) (structure_with y c.structs (Some us)) → fine (struct_verdict c.structs y ls) ≡ Some us → IsStruct x.layout.structs m r
+        → IsStruct x.layout.structs x.fields (length c.structs) (structure_with y c.structs (Some us)) → fine (struct_verdict c.structs y ls) ≡ Some us → IsStruct x.layout.structs x.fields m r
     of_index m r (inl e) made is = s.sees.structs m r e
     of_index m r (inr e) made is =
-        subst (λ (k : ℕ). IsStruct x.layout.structs k r) (sym e.0)
-        (subst (IsStruct x.layout.structs (length c.structs)) (ap (structure_with y c.structs) (sym is) ∙ e.1) made)
+        subst (λ (k : ℕ). IsStruct x.layout.structs x.fields k r) (sym e.0)
+        (subst (IsStruct x.layout.structs x.fields (length c.structs)) (ap (structure_with y c.structs) (sym is) ∙ e.1) made)
 
 -- a constant
 constant_seen : (x : Site) (table : EngineTable) (scope : List ℕ) (known : Structs) (c : Sight) → Files x table scope c known → (n : ℕ) (t : TypeName) (y : Identifier) (k : Constant) → Files x table scope (after_item c (unit.constant n t y k)) known
@@ -267,7 +291,7 @@ params_seen : (x : Site) (table : EngineTable) (result : Ty) (scope : List ℕ) 
 params_seen x table result scope c s late ps us (rules.TypesParams.none d l) are within = s
 params_seen x table result scope c s late ps us (rules.TypesParams.more d l {p = p} {ps = qs} {t = t} {ts = ts} f k) are within =
     let i = parameter_is c late p t f in
-    let v = (declared_is x.layout.structs c.structs s.structs p.ty i.meant t.ty i.means i.type).value in
+    let v = (declared_is x.layout.structs x.fields c.structs s.structs p.ty i.meant t.ty i.means i.type).value in
     let type : declared_type c.structs p.ty ≡ Some t.ty = ap (option_and_then value_type) i.means ∙ i.type in
     let there : In c.next scope = subst (λ n. In n scope) (sym i.number) (within t.name.number (inl refl)) in
     let known : x.types c.next ≡ t.ty = ap x.types i.number ∙ are.1 in
@@ -377,7 +401,7 @@ module _ (right : ItemsAreRight) (x : Site) (table : EngineTable) (kept : IsTabl
         gives = λ f. gives;
       } in
       let seen = params_seen x table h.result own (in_function c t) begun false ps h.params d.params are (λ k i. i) in
-      let value : is_void h.result ≡ false → IsValueType structs h.result = λ isnt. (result_is structs c.structs s.sees.structs t d.meant h.result d.means d.result isnt).value in
+      let value : is_void h.result ≡ false → IsValueType structs h.result = λ isnt. (result_is structs x.fields c.structs s.sees.structs t d.meant h.result d.means d.result isnt).value in
       let body = all_fine x table kept few fs hs heads false (λ f. all) (λ f. made) h.result refl value own size (in_body c t ps) seen made_body typed (record { places = p.1; types = q.1 }) in
       let exits = exits_are ps (in_function c t) in
       record {
@@ -395,14 +419,14 @@ module _ (right : ItemsAreRight) (x : Site) (table : EngineTable) (kept : IsTabl
       by_void true e value = subst (λ (u : Ty). AllByRecursion IsCell (cell_types x.layout.structs u)) (sym (void_is h.result e)) tt
       by_void false e value = (value e).kinds
 
-  pub bodies_are : (scope : List ℕ) (known : Structs) (c : Sight) → Files x table scope c known → (g : ℕ) (is : List SourceItem) (ts : List TypedItem) → AreMadeItems is → TypesItems hs c is ts → structs_from known ts ≡ x.layout.structs
+  pub bodies_are : (scope : List ℕ) (known : Structs) (c : Sight) → Files x table scope c known → (g : ℕ) (is : List SourceItem) (ts : List TypedItem) → AreMadeItems is → TypesItems hs c is ts → Ahead x known ts
       → ItemsLaid x g ts → ((n : ℕ) → In n (map number_of (global_names ts)) → In n x.globals) → (f : ℕ) (fn : Function) → slice_get (functions ts) f ≡ Some fn → IsBody table fs x fn
   bodies_are scope known c s g is ts m (rules.TypesItems.none e) all_structs l within f fn there = absurd (none-some fn there)
   bodies_are scope known c s g is ts m (rules.TypesItems.more e {i = unit.structure n y ls} {is = js} {ts = us} (rules.TypesItem.structure k z {us = vs} h) r) all_structs l within f fn there =
       let own = flat_map (line_cells known) vs in
       let grows = grown (known ++ own ∷ []) us in
-      let now = struct_seen right x table hs scope known c s n y ls vs (rules.TypesItem.structure k z h) h m.0 (record { more = grows.more; is = sym all_structs ∙ grows.is }) in
-      bodies_are scope (known ++ own ∷ []) (after_item c (unit.structure n y ls)) now (g + 0) js us m.1 r all_structs (laid_item x g (unit.structure n y vs) us l).1 within f fn there
+      let now = struct_seen right x table hs scope known c s n y ls vs (rules.TypesItem.structure k z h) h m.0 (record { more = grows.more; is = sym all_structs.1 ∙ grows.is }) (struct_listed x known n y vs us all_structs (length c.structs) s.count) in
+      bodies_are scope (known ++ own ∷ []) (after_item c (unit.structure n y ls)) now (g + 0) js us m.1 r (ahead_on x known n y vs us all_structs) (laid_item x g (unit.structure n y vs) us l).1 within f fn there
   bodies_are scope known c s g is ts m (rules.TypesItems.more e {i = unit.constant n t y v} {is = js} {ts = us} (rules.TypesItem.constant k w z o {s = u} {v = b} h) r) all_structs l within f fn there =
       bodies_are scope known (after_item c (unit.constant n t y v)) (constant_seen x table scope known c s n t y v) (g + 0) js us m.1 r all_structs (laid_item x g (unit.constant n u y b) us l).1 within f fn there
   bodies_are scope known c s g is ts m (rules.TypesItems.more e {i = unit.global n t ds} {is = js} {ts = us} (rules.TypesItem.global k w {s = u} {us = vs} h o) r) all_structs l within f fn there =
@@ -415,16 +439,16 @@ module _ (right : ItemsAreRight) (x : Site) (table : EngineTable) (kept : IsTabl
       let now : Files x table scope (after_item c (unit.function n t y ps body)) known =
       record { sees = record { names = s.sees.names; structs = s.sees.structs; table_is = s.sees.table_is; inside = s.sees.inside; gives = s.sees.gives }; count = s.count; within = s.within } in
       of_body body p.1 h.parts.1 (head_is c t y ps (is_some body) p.0 h.parts.0) m.0
-      (subst (λ (i : TypedItem). structs_from known (i ∷ us) ≡ x.layout.structs) (sym w1.1) all_structs)
+      (subst (λ (i : TypedItem). Ahead x known (i ∷ us)) (sym w1.1) all_structs)
       (subst (λ (i : TypedItem). ItemsLaid x g (i ∷ us)) (sym w1.1) l)
       (subst (λ (i : TypedItem). (n : ℕ) → In n (map number_of (global_names (i ∷ us))) → In n x.globals) (sym w1.1) within)
       (λ d wi q j. bodies_are scope known (after_item c (unit.function n t y ps body)) now (g + 0) js us m.1 r d wi q j fn)
       (subst (λ (i : TypedItem). slice_get (functions (i ∷ us)) f ≡ Some fn) (sym w1.1) there)
     where
       of_body : (a : Option SourceStmts) (b : Option TypedStmts) → There (rules.TypesStmts hs (in_body c t ps)) a b → IsDeclaredHead c t y ps (is_some a) h.typed.0 → IsMadeBody a
-          → structs_from known (unit.function n h.typed.0.result y h.typed.0.params b ∷ us) ≡ x.layout.structs → ItemsLaid x g (unit.function n h.typed.0.result y h.typed.0.params b ∷ us)
+          → Ahead x known (unit.function n h.typed.0.result y h.typed.0.params b ∷ us) → ItemsLaid x g (unit.function n h.typed.0.result y h.typed.0.params b ∷ us)
           → ((i : ℕ) → In i (map number_of (global_names (unit.function n h.typed.0.result y h.typed.0.params b ∷ us))) → In i x.globals)
-          → (structs_from known us ≡ x.layout.structs → ItemsLaid x (g + 0) us → ((i : ℕ) → In i (map number_of (global_names us)) → In i x.globals) → (j : ℕ) → slice_get (functions us) j ≡ Some fn → IsBody table fs x fn)
+          → (Ahead x known us → ItemsLaid x (g + 0) us → ((i : ℕ) → In i (map number_of (global_names us)) → In i x.globals) → (j : ℕ) → slice_get (functions us) j ≡ Some fn → IsBody table fs x fn)
           → slice_get (functions (unit.function n h.typed.0.result y h.typed.0.params b ∷ us)) f ≡ Some fn → IsBody table fs x fn
       of_body None None absent d made' e1 l1 w2 rest at = rest e1 (laid_item x g (unit.function n h.typed.0.result y h.typed.0.params None) us l1).1 w2 f at
       of_body None (Some zs) h d made' e1 l1 w2 rest at = elim h [ ]
@@ -454,14 +478,14 @@ same_depth x table g scope us h = let e : g + 0 ≡ g = omega arith in subst (λ
 module _ (right : ItemsAreRight) (x : Site) (table : EngineTable) (kept : IsTable table)
     (few : (r : Routine) → IsRoutine r → is_callable_role r.role ≡ true → action_count r.params ≤ 1)
     (hs : List Head) (heads : AreHeads hs) where
-  pub all_globals : (scope : List ℕ) (known : Structs) (c : Sight) → Files x table scope c known → (g : ℕ) (is : List SourceItem) (ts : List TypedItem) → AreMadeItems is → TypesItems hs c is ts → structs_from known ts ≡ x.layout.structs
+  pub all_globals : (scope : List ℕ) (known : Structs) (c : Sight) → Files x table scope c known → (g : ℕ) (is : List SourceItem) (ts : List TypedItem) → AreMadeItems is → TypesItems hs c is ts → Ahead x known ts
       → ItemsLaid x g ts → ((n : ℕ) → In n (map number_of (global_names ts)) → In n x.globals) → AreFineNames table [] (making x) Void g scope (global_names ts)
   all_globals scope known c s g is ts m (rules.TypesItems.none e) all_structs l within = tt
   all_globals scope known c s g is ts m (rules.TypesItems.more e {i = unit.structure n y ls} {is = js} {ts = us} (rules.TypesItem.structure k z {us = vs} h) r) all_structs l within =
       let own = flat_map (line_cells known) vs in
       let grows = grown (known ++ own ∷ []) us in
-      let now = struct_seen right x table hs scope known c s n y ls vs (rules.TypesItem.structure k z h) h m.0 (record { more = grows.more; is = sym all_structs ∙ grows.is }) in
-      same_depth x table g scope (global_names us) (all_globals scope (known ++ own ∷ []) (after_item c (unit.structure n y ls)) now (g + 0) js us m.1 r all_structs (laid_item x g (unit.structure n y vs) us l).1 within)
+      let now = struct_seen right x table hs scope known c s n y ls vs (rules.TypesItem.structure k z h) h m.0 (record { more = grows.more; is = sym all_structs.1 ∙ grows.is }) (struct_listed x known n y vs us all_structs (length c.structs) s.count) in
+      same_depth x table g scope (global_names us) (all_globals scope (known ++ own ∷ []) (after_item c (unit.structure n y ls)) now (g + 0) js us m.1 r (ahead_on x known n y vs us all_structs) (laid_item x g (unit.structure n y vs) us l).1 within)
   all_globals scope known c s g is ts m (rules.TypesItems.more e {i = unit.constant n t y v} {is = js} {ts = us} (rules.TypesItem.constant k w z o {s = u} {v = b} h) r) all_structs l within =
       same_depth x table g scope (global_names us) (all_globals scope known (after_item c (unit.constant n t y v)) (constant_seen x table scope known c s n t y v) (g + 0) js us m.1 r all_structs (laid_item x g (unit.constant n u y b) us l).1 within)
   all_globals scope known c s g is ts m (rules.TypesItems.more e {i = unit.global n t ds} {is = js} {ts = us} (rules.TypesItem.global k w {s = u} {us = vs} h o) r) all_structs l within =
@@ -477,6 +501,6 @@ module _ (right : ItemsAreRight) (x : Site) (table : EngineTable) (kept : IsTabl
       let l1 = subst (λ (i : TypedItem). ItemsLaid x g (i ∷ us)) (sym w1.1) l in
       subst (λ (i : TypedItem). AreFineNames table [] (making x) Void g scope (global_names (i ∷ us))) w1.1
       (same_depth x table g scope (global_names us) (all_globals scope known (after_item c (unit.function n t y ps body)) now (g + 0) js us m.1 r
-      (subst (λ (i : TypedItem). structs_from known (i ∷ us) ≡ x.layout.structs) (sym w1.1) all_structs)
+      (subst (λ (i : TypedItem). Ahead x known (i ∷ us)) (sym w1.1) all_structs)
       (laid_item x g (unit.function n p.0.result y p.0.params p.1) us l1).1
       (subst (λ (i : TypedItem). (n : ℕ) → In n (map number_of (global_names (i ∷ us))) → In n x.globals) (sym w1.1) within)))

@@ -301,7 +301,7 @@ module _ (x : Site) (table : EngineTable) (kept : IsTable table) (few : (r : Rou
   pub line_value : (c : Sight) (scope : List ℕ) → Sees x table result file scope c → (t : TypeName) (u : Ty) → line_type c.structs t ≡ Some u → IsValueType x.layout.structs u
   line_value c scope s t u h =
       let a = asked_is line_rows value_type (type_means c.structs t) u h in
-      (declared_is x.layout.structs c.structs s.structs t a.0 u a.1 a.2).value
+      (declared_is x.layout.structs x.fields c.structs s.structs t a.0 u a.1 a.2).value
 
   return_fine : (scope : List ℕ) (c : Sight) → Sees x table result file scope c → file ≡ false → (r : Ty) → c.result ≡ Some r → (is_void result ≡ false → IsValueType x.layout.structs result)
       → {o : Option PlainExpr} {p : Option TypedExpr} → There (TypesValue hs c) o p → result_fits r p ≡ true → IsFineReturn table fs x result scope p

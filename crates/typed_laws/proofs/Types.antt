@@ -1,5 +1,5 @@
 -- The types that declarations may have, and the cells of structs.
-use Rattle.std.proofs.Common.{arith, ◌≡◌, ◌≤◌, ◌<◌, ◌+◌, ◌⊎◌, inl, inr, ℕ, suc, List, [], ◌∷◌, ◌++◌, length, take, drop, Option, Some, None, Bool, true, false, sym, subst, ◌∙◌, ap, refl, append_assoc}
+use Rattle.std.proofs.Common.{arith, ◌≡◌, ◌≤◌, ◌<◌, ◌+◌, ◌⊎◌, inl, inr, ℕ, suc, List, [], ◌∷◌, ◌++◌, length, map, take, drop, Option, Some, None, Bool, true, false, sym, subst, ◌∙◌, ap, refl, append_assoc}
 use Rattle.std.specs.Prelude.{slice_get, bytes_eq, if◌then◌else◌}
 use Rattle.std.specs.List.{AllByRecursion, flat_map}
 use Rattle.std.proofs.lemmas.Bool.Decides.{Decides-eqb}
@@ -17,6 +17,7 @@ use Rattle.typing_rules.specs.Typed.{TypedLine}
 use Rattle.typing_rules.specs.Verdicts.{members_of_line, members_of_lines, no_members, struct_members}
 use Rattle.typing_rules.specs.Cells.{Structs, cell_types, line_cells}
 use Rattle.emission_rules.specs.Bounds.{IsCell}
+use Rattle.source_meaning.specs.Fields.{line_types, field_types, fields_cells}
 
 -- ---- types
 
@@ -51,23 +52,30 @@ pub record IsValueType (structs : Structs) (t : Ty) : Type 0 where
   pub no_action : is_action t ≡ false
   pub no_void : is_void t ≡ false
 
--- the parts of a struct's field stand among its cells
-pub record IsField (structs : Structs) (all : List Ty) (m : Member) : Type 0 where
+-- the parts of a struct's field stand among its cells, behind those of the fields in front of it
+pub record IsField (structs : Structs) (types : List Ty) (all : List Ty) (m : Member) : Type 0 where
+  pub front : List Ty
+  pub back : List Ty
+  pub types_are : types ≡ front ++ m.ty ∷ back
+  pub offset : m.before ≡ length (fields_cells structs front)
   pub are : take (length (cell_types structs m.ty)) (drop m.before all) ≡ cell_types structs m.ty
   pub inside : m.before + length (cell_types structs m.ty) ≤ length all
   pub some : 0 < length (cell_types structs m.ty)
 
--- a struct of this number
-pub record IsStruct (structs : Structs) (n : ℕ) (s : Structure) : Type 0 where
+-- a struct of this number, among those with fields of these types
+pub record IsStruct (structs : Structs) (fields_of : List (List Ty)) (n : ℕ) (s : Structure) : Type 0 where
+  pub types : List Ty
+  pub listed : slice_get fields_of n ≡ Some types
+  pub cells : cell_types structs (Struct n) ≡ fields_cells structs types
   pub members : Members
   pub is : s.members ≡ Some members
   pub count : members.cells ≡ length (cell_types structs (Struct n))
-  pub fields : AllByRecursion (IsField structs (cell_types structs (Struct n))) members.fields
+  pub fields : AllByRecursion (IsField structs types (cell_types structs (Struct n))) members.fields
   pub some : 0 < length (cell_types structs (Struct n))
   pub kinds : AllByRecursion IsCell (cell_types structs (Struct n))
 
-abbrev pub AreStructs : Structs → List Structure → Type 0
-AreStructs structs ss = (n : ℕ) (s : Structure) → slice_get ss n ≡ Some s → IsStruct structs n s
+abbrev pub AreStructs : Structs → List (List Ty) → List Structure → Type 0
+AreStructs structs fields_of ss = (n : ℕ) (s : Structure) → slice_get ss n ≡ Some s → IsStruct structs fields_of n s
 
 -- a declared type, among structs
 pub record IsDeclared (structs : Structs) (ss : List Structure) (t : Ty) : Type 0 where
@@ -151,7 +159,7 @@ module _ (ss : List Structure) where
       by true same = absurd ((spelled_is t m e).no_action (is_value m h ∙ ap Is (action_is u same)))
 
 -- what a value type is that a spelled type means
-module _ (structs : Structs) (ss : List Structure) (known : AreStructs structs ss) where
+module _ (structs : Structs) (fields_of : List (List Ty)) (ss : List Structure) (known : AreStructs structs fields_of ss) where
   of_struct : (n : ℕ) (s : Structure) → slice_get ss n ≡ Some s → IsDeclared structs ss (Struct n)
   of_struct n s h =
       let k = known n s h in
@@ -212,44 +220,68 @@ taken [] [] after = refl
 taken [] (x ∷ part) after = ap (λ t. x ∷ t) (taken [] part after)
 taken (x ∷ before) part after = taken before part after
 
-module _ (structs : Structs) (ss : List Structure) (all : List Ty) where
-  -- so many members stand before, with these cells, and others behind
-  record Counts (m : Members) (before : List Ty) : Type 0 where
-    cells : m.cells ≡ length before
-    fields : AllByRecursion (IsField structs all) m.fields
+fields_together : (structs : Structs) (ts us : List Ty) → fields_cells structs (ts ++ us) ≡ fields_cells structs ts ++ fields_cells structs us
+fields_together structs [] us = refl
+fields_together structs (t ∷ ts) us =
+    ap (λ (r : List Ty). cell_types structs t ++ r) (fields_together structs ts us) ∙ sym (append_assoc (cell_types structs t) (fields_cells structs ts) (fields_cells structs us))
 
-  counts_line : (t : Ty) (names : List Identifier) (m : Members) (before after : List Ty) → IsDeclared structs ss t → Counts m before
-      → all ≡ before ++ (flat_map (λ (x : Identifier). cell_types structs t) names ++ after)
-      → Counts (members_of_line ss t m names) (before ++ flat_map (λ (x : Identifier). cell_types structs t) names)
-  counts_line t [] m before after d c is = subst (Counts m) (sym (append-nil before)) c
-  counts_line t (x ∷ names) m before after d c is =
+module _ (structs : Structs) (ss : List Structure) (types all : List Ty) where
+  -- so many members stand before, of these types, with these cells, and others behind
+  record Counts (m : Members) (before done : List Ty) : Type 0 where
+    cells : m.cells ≡ length before
+    are : before ≡ fields_cells structs done
+    fields : AllByRecursion (IsField structs types all) m.fields
+
+  counts_none : (m : Members) (before done : List Ty) → Counts m before done → Counts m (before ++ []) (done ++ [])
+  counts_none m before done c = subst (λ (b : List Ty). Counts m b (done ++ [])) (sym (append-nil before)) (subst (λ (d : List Ty). Counts m before d) (sym (append-nil done)) c)
+
+  counts_line : (t : Ty) (names : List Identifier) (m : Members) (before after done rest : List Ty) → IsDeclared structs ss t → Counts m before done
+      → all ≡ before ++ (flat_map (λ (x : Identifier). cell_types structs t) names ++ after) → types ≡ done ++ (map (λ (x : Identifier). t) names ++ rest)
+      → Counts (members_of_line ss t m names) (before ++ flat_map (λ (x : Identifier). cell_types structs t) names) (done ++ map (λ (x : Identifier). t) names)
+  counts_line t [] m before after done rest d c is types_are = counts_none m before done c
+  counts_line t (x ∷ names) m before after done rest d c is types_are =
       let part = cell_types structs t in
       let more = flat_map (λ (y : Identifier). cell_types structs t) names in
+      let ts = map (λ (y : Identifier). t) names in
       let cells = c.cells in
       let whole : all ≡ before ++ (part ++ (more ++ after)) = is ∙ ap (λ r. before ++ r) (append_assoc part more after) in
       let here : take (length part) (drop m.cells all) ≡ part = ap (λ n. take (length part) (drop n all)) c.cells ∙ ap (λ r. take (length part) (drop (length before) r)) whole ∙ taken before part (more ++ after) in
       let long = ap length whole ∙ length-append before (part ++ (more ++ after)) in
-      let rest = length-append part (more ++ after) in
+      let behind = length-append part (more ++ after) in
       let added = length-append before part in
       let size = d.cells in
-      let next : Counts (record { fields = m.fields ++ record { called = x.name; ty = t; before = m.cells } ∷ []; cells = m.cells + sight.cells ss t }) (before ++ part) = record {
+      let field : Member = record { called = x.name; ty = t; before = m.cells } in
+      let next_members : Members = record { fields = m.fields ++ field ∷ []; cells = m.cells + sight.cells ss t } in
+      let next : Counts next_members (before ++ part) (done ++ t ∷ []) = record {
         cells = omega (arith, cells, size, added);
-        fields = all_last (IsField structs all) m.fields (record { called = x.name; ty = t; before = m.cells }) c.fields (record { are = here; inside = omega (arith, cells, long, rest); some = d.value.some });
+        are = ap (λ (b : List Ty). b ++ part) c.are ∙ ap (λ (r : List Ty). fields_cells structs done ++ r) (sym (append-nil part)) ∙ sym (fields_together structs done (t ∷ []));
+        fields = all_last (IsField structs types all) m.fields field c.fields (record {
+          front = done;
+          back = ts ++ rest;
+          types_are = types_are;
+          offset = c.cells ∙ ap length c.are;
+          are = here;
+          inside = omega (arith, cells, long, behind);
+          some = d.value.some;
+        });
       } in
-      subst (Counts (members_of_line ss t m (x ∷ names))) (append_assoc before part more)
-      (counts_line t names (record { fields = m.fields ++ record { called = x.name; ty = t; before = m.cells } ∷ []; cells = m.cells + sight.cells ss t }) (before ++ part) after d next (whole ∙ sym (append_assoc before part (more ++ after))))
+      subst (λ (b : List Ty). Counts (members_of_line ss t m (x ∷ names)) b (done ++ t ∷ ts)) (append_assoc before part more)
+      (subst (λ (e : List Ty). Counts (members_of_line ss t m (x ∷ names)) ((before ++ part) ++ more) e) (append_assoc done (t ∷ []) ts)
+      (counts_line t names next_members (before ++ part) after (done ++ t ∷ []) rest d next (whole ∙ sym (append_assoc before part (more ++ after))) (types_are ∙ sym (append_assoc done (t ∷ []) (ts ++ rest)))))
 
   abbrev AreLines : List TypedLine → Type 0
   AreLines ls = AllByRecursion (λ (l : TypedLine). IsDeclared structs ss l.ty) ls
 
-  counts_lines : (ls : List TypedLine) (m : Members) (before : List Ty) → AreLines ls → Counts m before → all ≡ before ++ flat_map (line_cells structs) ls
-      → Counts (members_of_lines ss m ls) (before ++ flat_map (line_cells structs) ls)
-  counts_lines [] m before d c is = subst (Counts m) (sym (append-nil before)) c
-  counts_lines (l ∷ ls) m before d c is =
+  counts_lines : (ls : List TypedLine) (m : Members) (before done : List Ty) → AreLines ls → Counts m before done → all ≡ before ++ flat_map (line_cells structs) ls → types ≡ done ++ field_types ls
+      → Counts (members_of_lines ss m ls) (before ++ flat_map (line_cells structs) ls) (done ++ field_types ls)
+  counts_lines [] m before done d c is types_are = counts_none m before done c
+  counts_lines (l ∷ ls) m before done d c is types_are =
       let one = line_cells structs l in
       let more = flat_map (line_cells structs) ls in
-      subst (Counts (members_of_lines ss m (l ∷ ls))) (append_assoc before one more)
-      (counts_lines ls (members_of_line ss l.ty m l.names) (before ++ one) d.1 (counts_line l.ty l.names m before more d.0 c is) (is ∙ sym (append_assoc before one more)))
+      subst (λ (b : List Ty). Counts (members_of_lines ss m (l ∷ ls)) b (done ++ field_types (l ∷ ls))) (append_assoc before one more)
+      (subst (λ (e : List Ty). Counts (members_of_lines ss m (l ∷ ls)) ((before ++ one) ++ more) e) (append_assoc done (line_types l) (field_types ls))
+      (counts_lines ls (members_of_line ss l.ty m l.names) (before ++ one) (done ++ line_types l) d.1 (counts_line l.ty l.names m before more done (field_types ls) d.0 c is types_are)
+      (is ∙ sym (append_assoc before one more)) (types_are ∙ sym (append_assoc done (line_types l) (field_types ls)))))
 
 line_kinds : (structs : Structs) (t : Ty) (names : List Identifier) → AllByRecursion IsCell (cell_types structs t) → AllByRecursion IsCell (flat_map (λ (x : Identifier). cell_types structs t) names)
 line_kinds structs t [] k = tt
@@ -260,13 +292,16 @@ lines_kinds structs ss [] d = tt
 lines_kinds structs ss (l ∷ ls) d = all_both IsCell (line_cells structs l) _ (line_kinds structs l.ty l.names d.0.value.kinds) (lines_kinds structs ss ls d.1)
 
 -- the struct of these lines
-pub struct_of : (structs : Structs) (ss : List Structure) (n : ℕ) (x : List ℕ) (ls : List TypedLine) → AllByRecursion (λ (l : TypedLine). IsDeclared structs ss l.ty) ls
-    → cell_types structs (Struct n) ≡ flat_map (line_cells structs) ls → 0 < length (flat_map (line_cells structs) ls)
-    → IsStruct structs n (record { called = x; members = Some (struct_members ss ls) })
-struct_of structs ss n x ls d is some =
+pub struct_of : (structs : Structs) (fields_of : List (List Ty)) (ss : List Structure) (n : ℕ) (x : List ℕ) (ls : List TypedLine) → AllByRecursion (λ (l : TypedLine). IsDeclared structs ss l.ty) ls
+    → cell_types structs (Struct n) ≡ flat_map (line_cells structs) ls → 0 < length (flat_map (line_cells structs) ls) → slice_get fields_of n ≡ Some (field_types ls)
+    → IsStruct structs fields_of n (record { called = x; members = Some (struct_members ss ls) })
+struct_of structs fields_of ss n x ls d is some listed =
     let all = cell_types structs (Struct n) in
-    let c = counts_lines structs ss all ls no_members [] d (record { cells = refl; fields = tt }) is in
+    let c = counts_lines structs ss (field_types ls) all ls no_members [] [] d (record { cells = refl; are = refl; fields = tt }) is refl in
     record {
+      types = field_types ls;
+      listed = listed;
+      cells = is ∙ c.are;
       members = struct_members ss ls;
       is = refl;
       count = c.cells ∙ sym (ap length is);
