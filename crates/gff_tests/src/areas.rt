@@ -105,7 +105,7 @@ const AREA_CHANGED: [u8; 1198] = [
 ];
 
 /// The area of a file, or the place of its first fault; 9 0 0 where it has no tree.
-fn area_of(alloc: Global, bytes: &[u8]) -> Result<Area, (u8, u32, u32)> {
+pub fn area_of(alloc: Global, bytes: &[u8]) -> Result<Area, (u8, u32, u32)> {
     if bytes.len() > FILE_BYTES {
         return Err((9, 0, 0));
     }
@@ -151,7 +151,8 @@ fn tag_of<'a>(area: &'a Area, o: u32) -> Option<&'a [u8]> {
     }
 }
 
-fn script_of<'a>(area: &'a Area, o: u32, label: &[u8]) -> Option<&'a [u8]> {
+/// The script under a label, if there is such an object.
+pub fn script_of<'a>(area: &'a Area, o: u32, label: &[u8]) -> Option<&'a [u8]> {
     if has(area, o) {
         Some(area.script_of(o, label))
     } else {

@@ -6,6 +6,8 @@ mod areas;
 #[cfg(test)]
 mod files;
 #[cfg(test)]
+mod many;
+#[cfg(test)]
 mod texts;
 #[cfg(test)]
 mod trees;

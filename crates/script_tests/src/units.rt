@@ -152,3 +152,72 @@ fn token_limit(rt: HostRuntime) -> Result<(), Fail> {
     }
     Ok(())
 }
+
+/// The last digit of a number.
+fn digit(n: u32) -> char {
+    match n % 10 {
+        0 => '0',
+        1 => '1',
+        2 => '2',
+        3 => '3',
+        4 => '4',
+        5 => '5',
+        6 => '6',
+        7 => '7',
+        8 => '8',
+        _ => '9',
+    }
+}
+
+/// The name of an include by its number, below 10,000.
+fn include_name(alloc: Global, n: u32) -> Result<String, NoMemory> {
+    let mut name = String::new(alloc);
+    for digit in [digit(n / 1_000), digit(n / 100), digit(n / 10), digit(n)] {
+        name.push(digit)?;
+    }
+    Ok(name)
+}
+
+/// Puts a file that holds one sign, and a directive that names it.
+fn add_include(
+    alloc: Global,
+    n: u32,
+    files: &mut MemFiles,
+    script: &mut Vec<u8>,
+) -> Result<(), NoMemory> {
+    let mut name = include_name(alloc, n)?;
+    script.extend_from_slice(b"#include \"".as_slice())?;
+    script.extend_from_slice(name.as_bytes())?;
+    script.extend_from_slice(b"\"\n".as_slice())?;
+    name.push_str(".nss")?;
+    files.add(name.as_str(), b";")
+}
+
+/// A script of so many includes, each twice.
+fn add_includes(alloc: Global, count: u32, files: &mut MemFiles) -> Result<(), NoMemory> {
+    let mut script = Vec::new(alloc);
+    for n in 0..count {
+        add_include(alloc, n, files, &mut script)?;
+    }
+    for n in 0..count {
+        add_include(alloc, n, files, &mut script)?;
+    }
+    files.add("p.nss", script.as_slice())
+}
+
+/// Each file is read once, however many there are.
+#[test]
+fn many_includes(rt: HostRuntime) -> Result<(), Fail> {
+    let mut files = MemFiles::new(rt.alloc());
+    add_includes(rt.alloc(), 3_000, &mut files)?;
+    assert!(rt; count_of(rt.alloc(), &mut files)? == Some(3_000));
+    Ok(())
+}
+
+/// How many tokens the unit of `p` has.
+fn count_of(alloc: Global, files: &mut MemFiles) -> Result<Option<usize>, NoMemory> {
+    match gather(alloc, files, "p") {
+        Ok(unit) => Ok(Some(unit.tokens(alloc)?.len())),
+        Err(_fault) => Ok(None),
+    }
+}
