@@ -32,7 +32,7 @@ module _ (table : EngineTable) (fs : List Function) (x : Site) where
     fine_with scope (name t (IsConst k)) h = h
     fine_with scope (call t (InUnit f) es ks) h = absurd (not_there f h.0.function h.0.is)
     fine_with scope (call t (Engine n) es ks) h = (h.0, all_with scope es h.1)
-    fine_with scope (member t e before) h = (fine_with scope e h.0, h.1)
+    fine_with scope (member t e before) h = (fine_with scope e h.0, h.1, h.2)
     fine_with scope (prefix t o e) h = (fine_with scope e h.0, h.1, h.2, h.3)
     fine_with scope (postfix t o e) h = (fine_with scope e h.0, h.1, h.2, h.3)
     fine_with scope (binary t o d e) h = (fine_with scope d h.0, fine_with scope e h.1, h.2)
