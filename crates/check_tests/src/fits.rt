@@ -66,19 +66,19 @@ fn checked(alloc: Global, text: &[u8]) -> Result<Option<Checked>, NoMemory> {
     }
 }
 
-fn cell(alloc: Global, kind: Kind) -> Cell {
+fn cell(alloc: Global, kind: Kind) -> Result<Cell, NoMemory> {
     match kind {
-        Kind::Int => Cell::Value(Value::Int(1)),
-        Kind::Text => Cell::Value(Value::Text(Text::empty(alloc))),
-        Kind::Object => Cell::Value(Value::Object(1)),
-        Kind::Base => Cell::Base(0),
+        Kind::Int => Ok(Cell::Value(Value::Int(1))),
+        Kind::Text => Ok(Cell::Value(Value::Text(Text::empty(alloc)?))),
+        Kind::Object => Ok(Cell::Value(Value::Object(1))),
+        Kind::Base => Ok(Cell::Base(0)),
     }
 }
 
 fn cells(alloc: Global, kinds: &[Kind]) -> Result<Cells, NoMemory> {
     let mut cells = Cells::new(alloc);
     for kind in kinds {
-        cells.push(cell(alloc, *kind))?;
+        cells.push(cell(alloc, *kind)?)?;
     }
     Ok(cells)
 }

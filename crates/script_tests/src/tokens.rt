@@ -61,14 +61,14 @@ fn nothing_begins_at_a_bad_place(rt: HostRuntime) {
 /// What the string at the front stands for, or the empty text.
 fn value(alloc: Global, bytes: &[u8]) -> Result<Text, NoMemory> {
     if bytes.len() > FILE_BYTES {
-        return Ok(Text::empty(alloc));
+        return Text::empty(alloc);
     }
     match next(bytes, 0, 0) {
         Lexed::Token(token) => match token.kind {
             Kind::Text => literal(alloc, token.text),
-            _ => Ok(Text::empty(alloc)),
+            _ => Text::empty(alloc),
         },
-        _ => Ok(Text::empty(alloc)),
+        _ => Text::empty(alloc),
     }
 }
 

@@ -96,14 +96,10 @@ fn values_of_each_type(rt: HostRuntime) -> Result<(), Fail> {
         b"-3,\"a \\x22b\\x22\",#7,event(-1)".as_slice()
     );
     let ints = Ints::of_slice(alloc, &[3, 8, 0])?;
-    let damage = Value::Effect(Effect { routine: 25, ints });
+    let damage = Value::Effect(Effect::new(alloc, 25, ints)?);
     out.clear();
     put_value(&mut out, &damage)?;
-    let none = Effect {
-        routine: 65_535,
-        ints: Ints::new(alloc),
-    };
-    put_effect(&mut out, &none)?;
+    put_effect(&mut out, &Effect::empty(alloc)?)?;
     assert_eq!(rt; out.as_slice(), b"25(3,8,0)65535()".as_slice());
     Ok(())
 }

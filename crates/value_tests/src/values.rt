@@ -1,5 +1,6 @@
 use nwq_value::*;
 use std::alloc::Global;
+use std::mem::size_of;
 use std::test::Fail;
 
 fn params_of(alloc: Global, types: &[Ty]) -> Result<Params, NoMemory> {
@@ -44,18 +45,49 @@ fn lists_grow_at_their_end(rt: HostRuntime) -> Result<(), Fail> {
 #[test]
 fn values_are_equal_by_type_and_content(rt: HostRuntime) -> Result<(), Fail> {
     let alloc = rt.alloc();
-    let damage = Value::Effect(Effect {
-        routine: 25,
-        ints: Ints::of_slice(alloc, &[10, 8, 0])?,
-    });
-    let heal = Value::Effect(Effect {
-        routine: 26,
-        ints: Ints::of_slice(alloc, &[10, 8, 0])?,
-    });
+    let ints = Ints::of_slice(alloc, &[10, 8, 0])?;
+    let damage = Value::Effect(Effect::new(alloc, 25, ints)?);
+    let ints = Ints::of_slice(alloc, &[10, 8, 0])?;
+    let heal = Value::Effect(Effect::new(alloc, 26, ints)?);
     assert!(rt; damage.same(&damage.copy(alloc)?));
     assert!(rt; !damage.same(&heal));
-    assert!(rt; start_of(alloc, Ty::Event).same(&Value::Event(0)));
+    let empty = start_of(alloc, Ty::Effect)?;
+    assert!(rt; empty.same(&Value::Effect(Effect::empty(alloc)?)));
+    assert!(rt; start_of(alloc, Ty::Text)?.same(&Value::Text(Text::empty(alloc)?)));
+    assert!(rt; start_of(alloc, Ty::Event)?.same(&Value::Event(0)));
     assert!(rt; !Value::Event(7).same(&Value::Int(7)));
+    Ok(())
+}
+
+#[test]
+fn a_value_has_16_bytes_and_copies_share(rt: HostRuntime) -> Result<(), Fail> {
+    assert!(rt; size_of::<Value>() <= 16);
+    let alloc = rt.alloc();
+    let text = Text::of(alloc, vec![in alloc; 7u8; 8192]?.as_slice())?;
+    let long = Value::Text(text);
+    let mut copies = Args::new(alloc);
+    for _ in 0..100_000 {
+        copies.push(long.copy(alloc)?)?;
+    }
+    let last = copies.get(99_999).ok_or("no copy")?;
+    assert!(rt; last.same(&long));
+    Ok(())
+}
+
+#[test]
+fn an_index_keeps_the_number_of_each_name(rt: HostRuntime) -> Result<(), Fail> {
+    let mut index = NameIndex::new(rt.alloc());
+    index.set(b"ab", 0)?;
+    index.set(b"", 1)?;
+    index.set(b"a", 2)?;
+    index.set(b"ab", 3)?;
+    assert_eq!(rt; index.get(b"ab"), Some(3));
+    assert_eq!(rt; index.get(b""), Some(1));
+    index.remove(b"a");
+    assert_eq!(rt; index.get(b"a"), None);
+    assert_eq!(rt; index.get(b"abc"), None);
+    index.clear();
+    assert_eq!(rt; index.get(b""), None);
     Ok(())
 }
 

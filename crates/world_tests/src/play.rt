@@ -130,10 +130,10 @@ fn value(alloc: Global, arg: &Arg<'_>) -> Result<Value, NoMemory> {
         Arg::Text(bytes) => Ok(Value::Text(Text::of(alloc, *bytes)?)),
         Arg::Object(o) => Ok(Value::Object(*o)),
         Arg::Event(n) => Ok(Value::Event(*n)),
-        Arg::Effect(routine, ints) => Ok(Value::Effect(Effect {
-            routine: *routine,
-            ints: Ints::of_slice(alloc, *ints)?,
-        })),
+        Arg::Effect(routine, ints) => {
+            let ints = Ints::of_slice(alloc, *ints)?;
+            Ok(Value::Effect(Effect::new(alloc, *routine, ints)?))
+        }
     }
 }
 
