@@ -13,3 +13,5 @@ mod instructions;
 mod passed;
 #[cfg(test)]
 mod unstacked;
+#[cfg(test)]
+mod windows;

@@ -1,5 +1,5 @@
 -- A trial is added, and what a routine gives is kept.
-use Rattle.std.proofs.Common.{arith, ◌≡◌, ◌≤◌, ℕ, zero, suc, List, [], ◌∷◌, ◌++◌, length, Option, None, Some, slice_get, slice_set, inl, inr, ◌⊎◌, sym, subst, ◌∙◌, ap, refl}
+use Rattle.std.proofs.Common.{arith, ◌≡◌, ◌≤◌, ◌<◌, ◌+◌, ℕ, zero, suc, List, [], ◌∷◌, ◌++◌, length, Option, None, Some, slice_get, slice_set, inl, inr, ◌⊎◌, sym, subst, ◌∙◌, ap, refl}
 use Rattle.std.specs.Prelude.{get_or, OnOk, Result, Ok, Err}
 use Rattle.std.proofs.lemmas.Bool.{cases_eq}
 use Rattle.nwq_value.specs.declared.memory.NoMemory.{NoMemory}
@@ -10,9 +10,11 @@ use Rattle.stack_shape.specs.declared.shape.Entry.TheVariants.{Start, Called, St
 use Rattle.stack_check.specs.declared.held.Heap.{Heap}
 use Rattle.stack_check.specs.declared.facts.Trial.{Trial}
 use Rattle.stack_check.specs.declared.facts.Facts.{Facts}
-use Rattle.stack_check.specs.Rows.{PutAt, RowLists, RowAdded, row_in}
-use Rattle.stack_check.specs.Facts.{current, number_in, first_place, first_held}
-use Rattle.stack_check.specs.Inference.{Formed, TrialAdded, CurrentSet, Keeps, GivenOwed}
+use Rattle.stack_check.specs.declared.rows.Row.{Row}
+use Rattle.stack_check.specs.Rows.{PutAt, RowAdded, row_in}
+use Rattle.stack_check.proofs.Left.{left_set, left_trial}
+use Rattle.stack_check.specs.Facts.{current, number_in, first_place, first_held, given_open, open_of, left}
+use Rattle.stack_check.specs.Inference.{Formed, TrialAdded, CurrentSet, Keeps, Begins, GivenOwed}
 use Rattle.stack_check.proofs.Keeping.{keeps_given}
 
 some_is : {A : Type 0} (a b : A) → Some a ≡ Some b → a ≡ b
@@ -68,7 +70,7 @@ pub no_row : (facts : Facts) (number place : ℕ) → Formed facts → number �
 no_row facts number place formed e =
     none_or (row_in facts.rows number place) (λ h r. absurd (let l = formed.owned number place h r in omega (arith, l, e)))
 
-pub trial_added : (before after : Facts) (rows : RowLists) (trial : Trial) (number : ℕ) → Formed before → number ≡ length before.trials
+pub trial_added : (before after : Facts) (rows : List Row) (trial : Trial) (number : ℕ) → Formed before → number ≡ length before.trials
     → RowAdded before.rows rows number (first_place trial.entry) (first_held trial)
     → CurrentSet (record before { trials = before.trials ++ trial ∷ []; rows = rows }) after trial.entry number → TrialAdded before after trial
 trial_added before after rows trial number formed e a s = record {
@@ -83,15 +85,29 @@ trial_added before after rows trial number formed e a s = record {
     | inl old ↦ inl (sym (same_current before rows trial entry) ∙ old)
     | inr is ↦ inr (is.0, is.1 ∙ e)
   ];
+  more = ap (λ (rs : List Row). length rs) s.rows ∙ a.more;
+  room = a.room;
 }
   where
-    same_current : (before : Facts) (rows : RowLists) (trial : Trial) (entry : Entry)
+    same_current : (before : Facts) (rows : List Row) (trial : Trial) (entry : Entry)
         → current (record before { trials = before.trials ++ trial ∷ []; rows = rows }) entry ≡ current before entry
     same_current before rows trial Start = refl
     same_current before rows trial (Called t) = refl
     same_current before rows trial (Stored t) = refl
 
 pub ruleset adding = (no_row, trial_added)
+
+pub trial_left : (header : EngineTable) (code : List PlainOp) (heap : Heap) (before after : Facts) (trial : Trial) → TrialAdded before after trial
+    → Begins header code heap trial → left after < left before
+trial_left header code heap before after trial a b = left_trial before after trial a.more a.room a.trials b.given b.few.0 b.few.1
+
+pub given_left : (header : EngineTable) (code : List PlainOp) (heap : Heap) (facts after : Facts) (n given : ℕ) (trial now : Trial)
+    → GivenOwed header code heap facts n given → slice_get facts.trials n ≡ Some trial → now ≡ record trial { given = Some given }
+    → after ≡ record facts { trials = slice_set facts.trials n now } → left after < left facts
+given_left header code heap facts after n given trial now o has e a =
+    let none : trial.given ≡ None = ap (λ (t : Trial). t.given) (some_is trial o.trial (sym has ∙ o.has)) ∙ o.new in
+    left_set facts after n trial now has (ap (λ (f : Facts). f.trials) a) (ap (λ (f : Facts). f.rows) a)
+    (let p = ap open_of e in let q = ap given_open none in omega (arith, p, q))
 
 -- ---- what a routine gives
 

@@ -1,5 +1,5 @@
 -- What the functions on calls and returns owe.
-use Rattle.std.proofs.Common.{◌≡◌, ◌≤◌, ℕ, zero, suc, ℤ, List, ◌++◌, length, None, Some, slice_get, sym, subst, ◌∙◌, ap, refl}
+use Rattle.std.proofs.Common.{arith, ◌≡◌, ◌≤◌, ◌<◌, ◌-◌, ◌+◌, ℕ, zero, suc, ℤ, List, ◌++◌, length, take, drop, Bool, true, false, None, Some, slice_get, sym, subst, ◌∙◌, ap, refl}
 use Rattle.std.specs.Prelude.{IfSome, get_or}
 use Rattle.nwq_value.specs.Engine.{EngineTable}
 use Rattle.ncs_code.specs.Plain.{PlainOp}
@@ -15,15 +15,16 @@ use Rattle.stack_check.specs.declared.facts.Trial.{Trial}
 use Rattle.stack_check.specs.declared.facts.Facts.{Facts}
 use Rattle.stack_check.specs.declared.seen.Seen.{Seen}
 use Rattle.stack_check.specs.declared.seen.Seen.TheVariants.{Quiet, Changed, Bad}
-use Rattle.stack_check.specs.Shared.{read, Grows, HoldsCommon}
-use Rattle.stack_check.specs.Held.{HeapGrows, Holds, shape_of}
+use Rattle.stack_check.specs.Shared.{read, Grows}
+use Rattle.stack_check.specs.declared.facts.Unseen.{Unseen}
+use Rattle.stack_check.specs.Held.{HeapGrows, Holds, IsIn, shape_of}
 use Rattle.stack_check.specs.Rows.{row_in}
-use Rattle.stack_check.specs.Facts.{current}
-use Rattle.stack_check.specs.Inference.{Formed, TrialIn, RowIs, Keeps, Visited, WhereQuiet, Owed, Begins, Sound, Sees, Calls, Strips}
+use Rattle.stack_check.specs.Facts.{current, left}
+use Rattle.stack_check.specs.Inference.{BeginsAlike, Formed, TrialIn, RowIs, Keeps, LooksOwed, Visited, WhereQuiet, Takes, Owed, Begins, Sound, Sees, Calls, Within, window}
 use Rattle.stack_check.proofs.Walks.{grows_none, grows_then}
-use Rattle.stack_check.proofs.Heaps.{heap_same, still_shape}
+use Rattle.stack_check.proofs.Heaps.{heap_same, still_shape, same_shape}
 use Rattle.stack_check.proofs.Keeping.{keeps_grows}
-use Rattle.stack_check.proofs.Calling.{call_begins, call_shortens, call_owed, call_sound, call_sound_none}
+use Rattle.stack_check.proofs.Calling.{behind, call_begins, call_looks, call_owed, call_sound, call_sound_none, call_there, never_begins}
 
 -- the entry of a trial that counts
 callee_entry : (facts : Facts) (target : ℕ) (callee : Trial) → Formed facts → (c : Calls facts target callee) → callee.entry ≡ Called target
@@ -35,88 +36,19 @@ callee_entry facts target callee formed c =
     some_is a b h = cc
 
 pub first_in : (heap : Heap) (facts : Facts) (n p : ℕ) (held : Held) (header : EngineTable) (code : List PlainOp) (trial : Trial) → Keeps header code heap facts
-    → row_in facts.rows n p ≡ Some held → trial.taken ≡ held.cells → trial.under ≡ held.under → trial.given ≡ None → TrialIn heap trial
-first_in heap facts n p held header code trial k r t u g =
+    → row_in facts.rows n p ≡ Some held → trial.taken ≡ held.cells → trial.under ≡ held.under → trial.given ≡ None
+    → trial.unseen.cells ≡ length (read heap.slots held.cells) → trial.unseen.under ≡ length (read heap.slots held.under) → TrialIn heap trial
+first_in heap facts n p held header code trial k r t u g uc uu =
     let i = k.inside.rows n p held r in
     record {
       taken = subst (λ n. n ≤ length heap.slots) (sym t) i.cells;
       under = subst (λ n. n ≤ length heap.slots) (sym u) i.under;
       given = subst (λ o. IfSome o (λ given. given ≤ length heap.slots)) (sym g) tt;
+      unseen_cells = let e = ap (λ n. length (read heap.slots n)) t in omega (arith, uc, e);
+      unseen_under = let e = ap (λ n. length (read heap.slots n)) u in omega (arith, uu, e);
     }
 
-pub shorter_begins : (header : EngineTable) (code : List PlainOp) (a b : Heap) (facts : Facts) (n p : ℕ) (offset : ℤ) (held : Held) (callee : Trial) (taken under : ℕ)
-    → Keeps header code a facts → row_in facts.rows n p ≡ Some held → op_at code p ≡ Some (ops.Jsr offset) → Calls facts (jump_place p offset) callee
-    → HoldsCommon (read a.slots held.cells) (read a.slots callee.taken) (read b.slots taken)
-    → HoldsCommon (read a.slots held.under) (read a.slots callee.under) (read b.slots under)
-    → Begins header code b (record { entry = Called (jump_place p offset); taken = taken; under = under; given = None })
-shorter_begins header code a b facts n p offset held callee taken under k r stands c t u =
-    call_shortens header code a b facts n p offset held c.number callee taken under k r stands c.has (callee_entry facts (jump_place p offset) callee k.formed c) t u
-
--- a list that both lists begin with, in two larger heaps
-pub common_grown : (a b c : List (Rattle.stack_check.specs.declared.lists.Node.Node Slot)) (x y number : ℕ) → HoldsCommon (read a x) (read a y) (read b number) → Grows b c
-    → number ≤ length b → HoldsCommon (read a x) (read a y) (read c number)
-common_grown a b c x y number h g i = subst (λ z. HoldsCommon (read a x) (read a y) z) (sym (g.same number i)) h
-
-pub common_later : (a b c : List (Rattle.stack_check.specs.declared.lists.Node.Node Slot)) (x y number : ℕ) → Grows a b → x ≤ length a → y ≤ length a
-    → HoldsCommon (read b x) (read b y) (read c number) → HoldsCommon (read a x) (read a y) (read c number)
-common_later a b c x y number g i j h =
-    subst (λ z. HoldsCommon z (read a y) (read c number)) (g.same x i) (subst (λ z. HoldsCommon (read b x) z (read c number)) (g.same y j) h)
-
--- a call of a routine of which it isn't known what it gives
-pub sees_none : (header : EngineTable) (code : List PlainOp) (heap : Heap) (facts : Facts) (n p : ℕ) (offset : ℤ) (held : Held) (callee : Trial) (rest beneath : ℕ)
-    → Keeps header code heap facts → op_at code p ≡ Some (ops.Jsr offset) → Calls facts (jump_place p offset) callee → Strips heap held callee rest beneath
-    → callee.given ≡ None → Sees header code heap heap facts facts n p held Quiet
-sees_none header code heap facts n p offset held callee rest beneath k stands c s none = record {
-  grows = heap_same heap;
-  keeps = k;
-  quiet = (refl, call_sound_none header code heap facts n p offset held c.number callee rest beneath stands c.counts c.has none s.cells s.under);
-}
-
--- and of one of which it is known
-pub given_owed : (header : EngineTable) (code : List PlainOp) (a b : Heap) (facts : Facts) (n p : ℕ) (offset : ℤ) (held now : Held) (callee : Trial)
-    (given rest beneath next : ℕ) → Keeps header code a facts → row_in facts.rows n p ≡ Some held → op_at code p ≡ Some (ops.Jsr offset)
-    → Calls facts (jump_place p offset) callee → Strips a held callee rest beneath → callee.given ≡ Some given → next ≡ next_place p (ops.Jsr offset)
-    → Holds a b now (record (shape_of a held) { cells = read a.slots given ++ read a.slots rest }) → Owed header code b facts n next now
-given_owed header code a b facts n p offset held now callee given rest beneath next k r stands c s gives at h =
-    let g = h.grows in
-    let i = k.inside.rows n p held r in
-    let t = k.inside.trials c.number callee c.has in
-    let given_in : given ≤ length a.slots = subst (λ o. IfSome o (λ given. given ≤ length a.slots)) gives t.given in
-    call_owed header code b facts n p offset held c.number callee given rest next now (keeps_grows header code a b facts g k) r stands c.has
-    (callee_entry facts (jump_place p offset) callee k.formed c) gives
-    (g.slots.same held.cells i.cells ∙ s.cells ∙ ap (λ z. z ++ read a.slots rest) (sym (g.slots.same callee.taken t.taken))
-    ∙ ap (λ z. read b.slots callee.taken ++ z) (sym (g.slots.same rest s.rest_in))) at
-    (h.is ∙ ap (λ (s : TopShape). record s { cells = read a.slots given ++ read a.slots rest }) (sym (still_shape a b held g i))
-    ∙ ap (λ z. record (shape_of b held) { cells = z }) (ap (λ z. z ++ read a.slots rest) (sym (g.slots.same given given_in))
-    ∙ ap (λ z. read b.slots given ++ z) (sym (g.slots.same rest s.rest_in))))
-
-pub given_sees : (header : EngineTable) (code : List PlainOp) (a b : Heap) (facts after : Facts) (n p : ℕ) (offset : ℤ) (held now : Held) (callee : Trial)
-    (given rest beneath next : ℕ) (seen : Seen) → Keeps header code a facts → op_at code p ≡ Some (ops.Jsr offset)
-    → Calls facts (jump_place p offset) callee → Strips a held callee rest beneath → callee.given ≡ Some given → next ≡ next_place p (ops.Jsr offset)
-    → Holds a b now (record (shape_of a held) { cells = read a.slots given ++ read a.slots rest }) → Visited header code b after seen
-    → WhereQuiet seen ((after ≡ facts) × RowIs b facts n next (shape_of b now)) → Sees header code a b facts after n p held seen
-given_sees header code a b facts after n p offset held now callee given rest beneath next seen k stands c s gives at h v q =
-    record { grows = h.grows; keeps = v; quiet = quiet seen q }
-  where
-    quiet : (seen : Seen) → WhereQuiet seen ((after ≡ facts) × RowIs b facts n next (shape_of b now))
-        → WhereQuiet seen ((after ≡ facts) × Sound header code a facts n p held)
-    quiet Quiet q = (
-      q.0,
-      call_sound header code a b facts n p offset held c.number callee given rest beneath next (shape_of b now) k h.grows stands c.counts c.has gives
-          s.cells s.under at q.1 h.is,
-    )
-    quiet Changed q = tt
-    quiet Bad q = tt
-
-pub ruleset known = (sees_none, given_owed, given_sees, keeps_grows)
-
 pub ruleset first = (first_in, call_begins)
-
-pub ruleset shorter = (shorter_begins, common_grown, common_later, keeps_grows)
-
-pub slots_grow : (a : Heap) (b c : List (Rattle.stack_check.specs.declared.lists.Node.Node Slot)) → Grows a.slots b → Grows b c
-    → HeapGrows a (record { slots = c; saved = a.saved })
-slots_grow a b c g h = record { slots = grows_then a.slots b c g h; saved = grows_none a.saved }
 
 pub callee_in : (header : EngineTable) (code : List PlainOp) (heap : Heap) (facts : Facts) (target : ℕ) (callee : Trial) → Keeps header code heap facts
     → Calls facts target callee → TrialIn heap callee
@@ -127,16 +59,164 @@ pub given_in : (header : EngineTable) (code : List PlainOp) (heap : Heap) (facts
 given_in header code heap facts target callee given k c e =
     subst (λ o. IfSome o (λ given. given ≤ length heap.slots)) e (callee_in header code heap facts target callee k c).given
 
-pub strips_of : (heap : Heap) (held : Held) (callee : Trial) (rest beneath : ℕ) → rest ≤ length heap.slots
-    → read heap.slots held.cells ≡ read heap.slots callee.taken ++ read heap.slots rest
-    → read heap.slots held.under ≡ read heap.slots callee.under ++ read heap.slots beneath → Strips heap held callee rest beneath
-strips_of heap held callee rest beneath i c u = record { rest_in = i; cells = c; under = u }
+-- what is given ends with what was not looked at
+pub given_long : (header : EngineTable) (code : List PlainOp) (heap : Heap) (facts : Facts) (target : ℕ) (callee : Trial) (given : ℕ) → Keeps header code heap facts
+    → Calls facts target callee → callee.given ≡ Some given → callee.unseen.cells ≤ length (read heap.slots given)
+given_long header code heap facts target callee given k c e =
+    let o = subst (λ o. Rattle.stack_check.specs.Inference.GivenOver heap callee o) e (k.over.givens c.number callee c.has) in
+    let i = callee_in header code heap facts target callee k c in
+    let l = ap (λ (z : List Slot). length z) o.1 ∙ Rattle.std.proofs.lemmas.List.length-append o.0 (Rattle.stack_check.specs.Facts.unseen_cells heap callee) in
+    let m = Rattle.stack_check.proofs.Windows.lowest_length callee.unseen.cells (read heap.slots callee.taken) i.unseen_cells in
+    omega (arith, l, m)
 
 pub sees_changed : (header : EngineTable) (code : List PlainOp) (a b : Heap) (facts after : Facts) (n p : ℕ) (held : Held) → HeapGrows a b
-    → Keeps header code b after → Sees header code a b facts after n p held Changed
-sees_changed header code a b facts after n p held g k = record { grows = g; keeps = k; quiet = tt }
+    → Keeps header code b after → left after < left facts → Sees header code a b facts after n p held Changed
+sees_changed header code a b facts after n p held g k l = record { grows = g; keeps = k; quiet = tt; takes = l }
 
-pub ruleset stripping = (strips_of, sees_changed)
+-- a call on a stack that doesn't begin as its routine takes it
+pub sees_other : (header : EngineTable) (code : List PlainOp) (heap : Heap) (facts : Facts) (n p : ℕ) (offset : ℤ) (held : Held) (callee : Trial)
+    → Keeps header code heap facts → row_in facts.rows n p ≡ Some held → op_at code p ≡ Some (ops.Jsr offset) → Calls facts (jump_place p offset) callee
+    → (BeginsAlike heap held callee → ⊥) → Sees header code heap heap facts facts n p held Bad
+sees_other header code heap facts n p offset held callee k r stands c ne = record {
+  grows = heap_same heap;
+  keeps = never_begins header code heap facts n p offset held c.number callee k r stands c.has (callee_entry facts (jump_place p offset) callee k.formed c) ne;
+  quiet = tt;
+  takes = tt;
+}
+
+pub looks_there : (header : EngineTable) (code : List PlainOp) (heap : Heap) (facts : Facts) (n p : ℕ) (offset : ℤ) (callee : Trial)
+    → Keeps header code heap facts → op_at code p ≡ Some (ops.Jsr offset) → Calls facts (jump_place p offset) callee
+    → LooksOwed header code heap facts n p (window heap callee)
+looks_there header code heap facts n p offset callee k stands c =
+    call_looks header code heap facts n p offset c.number callee k stands c.has (callee_entry facts (jump_place p offset) callee k.formed c)
+
+-- a call of a routine of which it isn't known what it gives
+pub sees_none : (header : EngineTable) (code : List PlainOp) (heap : Heap) (facts : Facts) (n p : ℕ) (offset : ℤ) (held : Held) (callee : Trial)
+    → Keeps header code heap facts → op_at code p ≡ Some (ops.Jsr offset) → Calls facts (jump_place p offset) callee → callee.given ≡ None
+    → BeginsAlike heap held callee → Within heap facts n (shape_of heap held) (window heap callee) → Sees header code heap heap facts facts n p held Quiet
+sees_none header code heap facts n p offset held callee k stands c none b w = record {
+  grows = heap_same heap;
+  keeps = k;
+  quiet = (refl, call_sound_none header code heap facts n p offset held c.number callee k stands c.counts c.has none b w);
+  takes = tt;
+}
+
+-- in a larger heap
+within_still : (header : EngineTable) (code : List PlainOp) (a b : Heap) (facts : Facts) (n p : ℕ) (held : Held) (callee : Trial) → HeapGrows a b
+    → Keeps header code a facts → row_in facts.rows n p ≡ Some held → TrialIn a callee → Within a facts n (shape_of a held) (window a callee)
+    → Within b facts n (shape_of b held) (window b callee)
+within_still header code a b facts n p held callee g k r i w =
+    let over = Rattle.stack_check.proofs.Keeping.over_still a b w.trial (shape_of a held) (shape_of b held) g (k.inside.trials n w.trial w.has)
+    (still_shape a b held g (k.inside.rows n p held r)) (record { own = w.own; is = w.is }) in
+    record { trial = w.trial; has = w.has; own = over.own; is = over.is; there = subst (λ r. Rattle.stack_check.specs.Inference.IsThere w.own r) (sym (window_still a b callee g i)) w.there }
+  where
+    window_still : (a b : Heap) (trial : Trial) → HeapGrows a b → TrialIn a trial → window b trial ≡ window a trial
+    window_still a b trial g i =
+        ap (λ (z : List Slot). let r : Rattle.stack_shape.specs.declared.reach.Reach.Reach = record { cells = length z - trial.unseen.cells; under = length (read b.slots trial.under) - trial.unseen.under } in r) (g.slots.same trial.taken i.taken)
+        ∙ ap (λ (z : List Slot). let r : Rattle.stack_shape.specs.declared.reach.Reach.Reach = record { cells = length (read a.slots trial.taken) - trial.unseen.cells; under = length z - trial.unseen.under } in r) (g.slots.same trial.under i.under)
+
+-- what lies behind, in a larger heap
+behind_still : (a b : Heap) (held : Held) (callee : Trial) (given : ℕ) → HeapGrows a b → IsIn a held → TrialIn a callee → given ≤ length a.slots
+    → behind b held callee given ≡ behind a held callee given
+behind_still a b held callee given g h i j =
+    ap (λ (z : List Slot). take (length z - callee.unseen.cells) z ++ drop (length (read b.slots callee.taken) - callee.unseen.cells) (read b.slots held.cells)) (g.slots.same given j)
+    ∙ ap (λ (z : List Slot). take (length (read a.slots given) - callee.unseen.cells) (read a.slots given) ++ drop (length z - callee.unseen.cells) (read b.slots held.cells)) (g.slots.same callee.taken i.taken)
+    ∙ ap (λ (z : List Slot). take (length (read a.slots given) - callee.unseen.cells) (read a.slots given) ++ drop (length (read a.slots callee.taken) - callee.unseen.cells) z) (g.slots.same held.cells h.cells)
+
+-- the shape behind a call
+pub behind_shape : (heap : Heap) (held : Held) (callee : Trial) (given rest count : ℕ) (shape : TopShape) → count ≡ length (read heap.slots given) - callee.unseen.cells
+    → read heap.slots rest ≡ drop (window heap callee).cells (read heap.slots held.cells)
+    → shape ≡ record (shape_of heap held) { cells = take count (read heap.slots given) ++ read heap.slots rest }
+    → shape ≡ record (shape_of heap held) { cells = behind heap held callee given }
+behind_shape heap held callee given rest count shape n r e =
+    e ∙ ap (λ z. record (shape_of heap held) { cells = z })
+    (ap (λ k. take k (read heap.slots given) ++ read heap.slots rest) n ∙ ap (λ z. take (length (read heap.slots given) - callee.unseen.cells) (read heap.slots given) ++ z) r)
+
+pub given_owed : (header : EngineTable) (code : List PlainOp) (a b : Heap) (facts : Facts) (n p : ℕ) (offset : ℤ) (held now : Held) (callee : Trial)
+    (given next : ℕ) → Keeps header code a facts → row_in facts.rows n p ≡ Some held → op_at code p ≡ Some (ops.Jsr offset)
+    → Calls facts (jump_place p offset) callee → callee.given ≡ Some given → next ≡ next_place p (ops.Jsr offset)
+    → Within a facts n (shape_of a held) (window a callee)
+    → Holds a b now (record (shape_of a held) { cells = behind a held callee given }) → Owed header code b facts n next now
+given_owed header code a b facts n p offset held now callee given next k r stands c gives at w h =
+    let g = h.grows in
+    let i = k.inside.rows n p held r in
+    let t = callee_in header code a facts (jump_place p offset) callee k c in
+    call_owed header code b facts n p offset held c.number callee given next now (keeps_grows header code a b facts g k) r stands c.has
+    (callee_entry facts (jump_place p offset) callee k.formed c) gives (within_still header code a b facts n p held callee g k r t w) at
+    (h.is ∙ ap (λ (s : TopShape). record s { cells = behind a held callee given }) (sym (still_shape a b held g i))
+    ∙ ap (λ z. record (shape_of b held) { cells = z })
+    (sym (behind_still a b held callee given g i t (given_in header code a facts (jump_place p offset) callee given k c gives))))
+
+pub given_sees : (header : EngineTable) (code : List PlainOp) (a b : Heap) (facts after : Facts) (n p : ℕ) (offset : ℤ) (held now : Held) (callee : Trial)
+    (given next : ℕ) (seen : Seen) → Keeps header code a facts → op_at code p ≡ Some (ops.Jsr offset)
+    → Calls facts (jump_place p offset) callee → callee.given ≡ Some given → next ≡ next_place p (ops.Jsr offset) → BeginsAlike a held callee
+    → Within a facts n (shape_of a held) (window a callee)
+    → Holds a b now (record (shape_of a held) { cells = behind a held callee given }) → Visited header code b after seen
+    → WhereQuiet seen ((after ≡ facts) × RowIs b facts n next (shape_of b now)) → Takes facts after seen → Sees header code a b facts after n p held seen
+given_sees header code a b facts after n p offset held now callee given next seen k stands c gives at begins w h v q t =
+    record { grows = h.grows; keeps = v; quiet = quiet seen q; takes = t }
+  where
+    quiet : (seen : Seen) → WhereQuiet seen ((after ≡ facts) × RowIs b facts n next (shape_of b now))
+        → WhereQuiet seen ((after ≡ facts) × Sound header code a facts n p held)
+    quiet Quiet q = (
+      q.0,
+      call_sound header code a b facts n p offset held c.number callee given next (shape_of b now) k h.grows stands c.counts c.has gives begins w at q.1 h.is,
+    )
+    quiet Changed q = tt
+    quiet Bad q = tt
+
+-- the shape behind the call is there already
+pub given_there : (header : EngineTable) (code : List PlainOp) (heap : Heap) (facts : Facts) (n p : ℕ) (offset : ℤ) (held : Held) (callee : Trial)
+    (given next : ℕ) (shape : TopShape) → Keeps header code heap facts → op_at code p ≡ Some (ops.Jsr offset)
+    → Calls facts (jump_place p offset) callee → callee.given ≡ Some given → next ≡ next_place p (ops.Jsr offset) → BeginsAlike heap held callee
+    → Within heap facts n (shape_of heap held) (window heap callee) → RowIs heap facts n next shape
+    → shape ≡ record (shape_of heap held) { cells = behind heap held callee given } → Sees header code heap heap facts facts n p held Quiet
+given_there header code heap facts n p offset held callee given next shape k stands c gives at begins w r is = record {
+  grows = heap_same heap;
+  keeps = k;
+  quiet = (
+    refl,
+    call_sound header code heap heap facts n p offset held c.number callee given next shape k (heap_same heap) stands c.counts c.has gives begins w at r is,
+  );
+  takes = tt;
+}
+
+pub holds_behind : (a b : Heap) (held now : Held) (callee : Trial) (given rest count : ℕ) → count ≡ length (read a.slots given) - callee.unseen.cells
+    → read a.slots rest ≡ drop (window a callee).cells (read a.slots held.cells)
+    → Holds a b now (record (shape_of a held) { cells = take count (read a.slots given) ++ read a.slots rest })
+    → Holds a b now (record (shape_of a held) { cells = behind a held callee given })
+holds_behind a b held now callee given rest count n r h =
+    record { grows = h.grows; inside = h.inside; is = behind_shape a held callee given rest count (shape_of b now) n r h.is }
+
+-- the same heap and facts under other names
+pub sees_from : (header : EngineTable) (code : List PlainOp) (a a' b : Heap) (f f' g : Facts) (n p : ℕ) (held : Held) (seen : Seen) → a' ≡ a → f' ≡ f
+    → Sees header code a' b f' g n p held seen → Sees header code a b f g n p held seen
+sees_from header code a a' b f f' g n p held seen e h s =
+    subst (λ a. Sees header code a b f g n p held seen) e (subst (λ f. Sees header code a' b f g n p held seen) h s)
+
+-- ---- what a routine takes
+
+pub begins_both : (heap : Heap) (held : Held) (callee : Trial) (cells under : ℕ) → cells ≡ (window heap callee).cells → under ≡ (window heap callee).under
+    → take cells (read heap.slots held.cells) ≡ take cells (read heap.slots callee.taken)
+    → take under (read heap.slots held.under) ≡ take under (read heap.slots callee.under) → BeginsAlike heap held callee
+begins_both heap held callee cells under c u e f = record {
+  cells = subst (λ n. take n (read heap.slots held.cells) ≡ take n (read heap.slots callee.taken)) c e;
+  under = subst (λ n. take n (read heap.slots held.under) ≡ take n (read heap.slots callee.under)) u f;
+}
+
+pub ruleset beginning = (begins_both)
+
+-- the parts of a shape behind a call
+pub parts_behind : (heap : Heap) (found held : Held) (cells : List Slot) → found.under ≡ held.under → found.saved ≡ held.saved → found.pending ≡ held.pending
+    → read heap.slots found.cells ≡ cells → shape_of heap found ≡ record (shape_of heap held) { cells = cells }
+parts_behind heap found held cells u s p c =
+    same_shape _ _ _ _ _ _ _ _ c (ap (read heap.slots) u) (ap (λ n. Rattle.std.proofs.Common.map (read heap.slots) (read heap.saved n)) s) p
+
+pub cells_behind : (found given rest : List Slot) (count : ℕ) → drop count found ≡ rest → take count found ≡ take count given → found ≡ take count given ++ rest
+cells_behind found given rest count d t =
+    sym (Rattle.std.proofs.lemmas.List.take-append-drop count found) ∙ ap (λ z. z ++ drop count found) t ∙ ap (λ z. take count given ++ z) d
+
+pub ruleset behind_parts = (parts_behind, cells_behind)
 
 pub calls_of : (facts : Facts) (target number : ℕ) (callee : Trial) → number ≡ get_or facts.called target 0 → (number ≡ 0 → ⊥)
     → Some callee ≡ slice_get facts.trials number → Calls facts target callee

@@ -1,7 +1,7 @@
 -- Calls and returns, in what was found and in every table.
-use Rattle.std.proofs.Common.{arith, rules, ◌≡◌, ◌≢◌, ◌≤◌, ◌<◌, ◌+◌, ℕ, ℤ, zero, suc, List, [], ◌∷◌, ◌++◌, length, map, Option, None, Some, slice_get, inl, inr, ◌⊎◌, sym, subst, ◌∙◌, ap, refl}
+use Rattle.std.proofs.Common.{arith, rules, ◌≡◌, ◌≢◌, ◌≤◌, ◌<◌, ◌+◌, ℕ, ℤ, zero, suc, List, [], ◌∷◌, ◌++◌, length, map, Option, None, Some, slice_get, take, drop, ◌-◌, inl, inr, ◌⊎◌, sym, subst, ◌∙◌, ap, refl}
 use Rattle.std.specs.Option.{option_map, option_and_then}
-use Rattle.std.proofs.lemmas.List.{append_assoc, append_cancel_left}
+use Rattle.std.proofs.lemmas.List.{append_assoc, append_cancel_left, append_cancel_right, append-nil, drop-append-le, length-append, length-take, take-append-drop, take-append-le}
 use Rattle.nwq_value.specs.Engine.{EngineTable}
 use Rattle.ncs_code.specs.Plain.{PlainOp}
 use Rattle.ncs_code.specs.Plain as ops
@@ -18,14 +18,18 @@ use Rattle.stack_check.specs.declared.held.Held.{Held}
 use Rattle.stack_check.specs.declared.held.Heap.{Heap}
 use Rattle.stack_check.specs.declared.facts.Trial.{Trial}
 use Rattle.stack_check.specs.declared.facts.Facts.{Facts}
-use Rattle.stack_check.specs.Shared.{read, HoldsCommon}
+use Rattle.stack_check.specs.Shared.{read}
+use Rattle.stack_shape.specs.declared.reach.Reach.{Reach}
 use Rattle.stack_check.specs.Held.{HeapGrows, shape_of}
 use Rattle.stack_check.specs.Rows.{row_in}
-use Rattle.stack_check.specs.Facts.{current, callee_of, callee_at, table_of}
-use Rattle.stack_check.specs.Inference.{Formed, GivenFits, IsLonger, Beyond, RowFits, TrialFits, Keeps, Owed, RowIs, FirstFits, Begins, GivenOwed, Sound}
+use Rattle.stack_check.specs.declared.facts.Unseen.{Unseen}
+use Rattle.stack_check.specs.Facts.{current, callee_of, callee_at, first_held, kept_callee, lowest, table_of, unseen_cells, unseen_under, without}
+use Rattle.stack_check.specs.Inference.{BeginsAlike, Formed, GivenFits, GivenOver, IsLonger, IsOver, IsThere, LooksOwed, TrialIn, Within, Beyond, RowFits, TrialFits, Keeps, Owed, RowIs, FirstFits, Begins, GivenOwed, Sound, window}
 use Rattle.stack_check.proofs.Heaps.{same_shape}
 use Rattle.stack_check.proofs.Walks.{read_empty}
-use Rattle.stack_check.proofs.Steps.{row_trial, led_at}
+use Rattle.stack_check.proofs.Steps.{row_trial}
+use Rattle.stack_check.proofs.Tables.{entry_is, led_at, own_is}
+use Rattle.stack_check.proofs.Windows.{lowest_length, without_on}
 
 some_is : {A : Type 0} (a b : A) → Some a ≡ Some b → a ≡ b
 some_is a b h = cc
@@ -71,11 +75,16 @@ call_fits header code table entry place offset shape x y meets stands f =
 
 -- ---- a routine's first shape
 
+-- a trial that has looked at nothing yet
+abbrev new_trial : Heap → ℕ → ℕ → ℕ → Unseen → Trial
+new_trial heap target taken under unseen = record { entry = Called target; taken = taken; under = under; given = None; unseen = unseen }
+
 -- a trial whose lists begin with what a table's routine takes
-first_fits : (header : EngineTable) (code : List PlainOp) (table : ShapeTable) (heap : Heap) (target taken under : ℕ) (callee : Callee) (x y : List Slot)
+first_fits : (header : EngineTable) (code : List PlainOp) (table : ShapeTable) (heap : Heap) (target taken under : ℕ) (unseen : Unseen) (callee : Callee) (x y : List Slot)
     → MeetsRules header code table → table.called target ≡ Some callee → read heap.slots taken ≡ callee.taken ++ x → read heap.slots under ≡ callee.under ++ y
-    → FirstFits table heap (record { entry = Called target; taken = taken; under = under; given = None })
-first_fits header code table heap target taken under callee x y meets known c u = record {
+    → unseen.cells ≡ length (read heap.slots taken) → unseen.under ≡ length (read heap.slots under)
+    → FirstFits table heap (new_trial heap target taken under unseen)
+first_fits header code table heap target taken under unseen callee x y meets known c u uc uu = record {
   x = x;
   y = y;
   beyond = record { own = callee; known = known; taken = c; under = u; given = tt };
@@ -84,18 +93,37 @@ first_fits header code table heap target taken under callee x y meets known c u 
     known = meets.entered target callee known;
     is = same_shape _ _ _ _ _ _ _ _ c u (ap (map (read heap.slots)) (read_empty heap.saved)) refl;
   };
+  cells = let l = ap (λ (z : List Slot). length z) c ∙ length-append callee.taken x in omega (arith, l, uc);
+  under = let l = ap (λ (z : List Slot). length z) u ∙ length-append callee.under y in omega (arith, l, uu);
+}
+
+lowest_all : (n : ℕ) (l : List Slot) → n ≡ length l → lowest n l ≡ l
+lowest_all n l e = ap (λ k. drop k l) (let f : length l - n ≡ 0 = omega (arith, e) in f)
+
+first_over : (heap : Heap) (target taken under : ℕ) (unseen : Unseen) → unseen.cells ≡ length (read heap.slots taken)
+    → unseen.under ≡ length (read heap.slots under)
+    → IsOver heap (new_trial heap target taken under unseen) (shape_of heap (first_held (new_trial heap target taken under unseen)))
+first_over heap target taken under unseen uc uu = record {
+  own = record { cells = []; under = []; saved = []; pending = 0 };
+  is = same_shape _ _ _ _ _ _ _ _ (sym (lowest_all unseen.cells (read heap.slots taken) uc)) (sym (lowest_all unseen.under (read heap.slots under) uu))
+      (ap (map (read heap.slots)) (read_empty heap.saved)) refl;
 }
 
 -- the first call of a routine
-pub call_begins : (header : EngineTable) (code : List PlainOp) (heap : Heap) (facts : Facts) (n p : ℕ) (offset : ℤ) (held : Held)
+pub call_begins : (header : EngineTable) (code : List PlainOp) (heap : Heap) (facts : Facts) (n p : ℕ) (offset : ℤ) (held : Held) (unseen : Unseen)
     → Keeps header code heap facts → row_in facts.rows n p ≡ Some held → op_at code p ≡ Some (ops.Jsr offset)
-    → Begins header code heap (record { entry = Called (jump_place p offset); taken = held.cells; under = held.under; given = None })
-call_begins header code heap facts n p offset held k r stands = record {
+    → unseen.cells ≡ length (read heap.slots held.cells) → unseen.under ≡ length (read heap.slots held.under) → unseen.cells ≤ 33554432 → unseen.under ≤ 33554432
+    → Begins header code heap (new_trial heap (jump_place p offset) held.cells held.under unseen)
+call_begins header code heap facts n p offset held unseen k r stands uc uu fc fu = record {
   by = λ table meets.
       let i = row_trial header code heap facts n p held k r in
       let f = (k.compares table meets).by n i.0 i.1 in
       let c = call_fits header code table i.0.entry p offset (shape_of heap held) f.x f.y meets stands (f.rows p held r) in
-      first_fits header code table heap (jump_place p offset) held.cells held.under c.callee (c.rest ++ f.x) c.beneath meets c.known c.cells c.under;
+      first_fits header code table heap (jump_place p offset) held.cells held.under unseen c.callee (c.rest ++ f.x) c.beneath meets c.known c.cells c.under uc uu;
+  over = first_over heap (jump_place p offset) held.cells held.under unseen uc uu;
+  whole = tt;
+  given = refl;
+  few = (fc, fu);
 }
 
 -- what a table says of a routine's trial
@@ -105,33 +133,85 @@ longer_of : (header : EngineTable) (code : List PlainOp) (heap : Heap) (facts : 
 longer_of header code heap facts m target trial k has e table meets =
     let f = (k.compares table meets).by m trial has in (f.x, f.y, subst (λ e. Beyond table e (callee_of heap trial) f.x f.y) e f.beyond)
 
--- A call whose stack doesn't begin with what was assumed: both have what a table's routine takes in common.
-pub call_shortens : (header : EngineTable) (code : List PlainOp) (heap heap' : Heap) (facts : Facts) (n p : ℕ) (offset : ℤ) (held : Held)
-    (m : ℕ) (trial : Trial) (taken under : ℕ) → Keeps header code heap facts → row_in facts.rows n p ≡ Some held → op_at code p ≡ Some (ops.Jsr offset)
-    → slice_get facts.trials m ≡ Some trial → trial.entry ≡ Called (jump_place p offset)
-    → HoldsCommon (read heap.slots held.cells) (read heap.slots trial.taken) (read heap'.slots taken)
-    → HoldsCommon (read heap.slots held.under) (read heap.slots trial.under) (read heap'.slots under)
-    → Begins header code heap' (record { entry = Called (jump_place p offset); taken = taken; under = under; given = None })
-call_shortens header code heap heap' facts n p offset held m trial taken under k r stands has e both_cells both_under = record {
-  by = λ table meets.
-      let i = row_trial header code heap facts n p held k r in
-      let f = (k.compares table meets).by n i.0 i.1 in
-      let c = call_fits header code table i.0.entry p offset (shape_of heap held) f.x f.y meets stands (f.rows p held r) in
-      let l = longer_of header code heap facts m (jump_place p offset) trial k has e table meets in
-      let same = some_is l.2.own c.callee (sym l.2.known ∙ c.known) in
-      let t = both_cells.by c.callee.taken (c.rest ++ f.x) l.0 c.cells (l.2.taken ∙ ap (λ (o : Callee). o.taken ++ l.0) same) in
-      let u = both_under.by c.callee.under c.beneath l.1 c.under (l.2.under ∙ ap (λ (o : Callee). o.under ++ l.1) same) in
-      first_fits header code table heap' (jump_place p offset) taken under c.callee t.0 u.0 meets c.known t.1 u.1;
+-- ---- what was looked at of a called routine's lists
+
+-- In every table the routine takes all that was looked at.
+pub record CalleeFits (table : ShapeTable) (heap : Heap) (target : ℕ) (trial : Trial) (callee : Callee) : Type 0 where
+  pub x : List Slot
+  pub y : List Slot
+  pub taken : read heap.slots trial.taken ≡ callee.taken ++ x
+  pub under : read heap.slots trial.under ≡ callee.under ++ y
+  pub given : GivenFits (option_map (read heap.slots) trial.given) callee.given x
+  pub cells_seen : (window heap trial).cells ≤ length callee.taken
+  pub under_seen : (window heap trial).under ≤ length callee.under
+
+callee_fits : (header : EngineTable) (code : List PlainOp) (heap : Heap) (facts : Facts) (m target : ℕ) (trial : Trial) (callee : Callee) → Keeps header code heap facts
+    → slice_get facts.trials m ≡ Some trial → trial.entry ≡ Called target → (table : ShapeTable) → MeetsRules header code table → table.called target ≡ Some callee
+    → CalleeFits table heap target trial callee
+callee_fits header code heap facts m target trial callee k has e table meets known =
+    let f = (k.compares table meets).by m trial has in
+    let l : IsLonger table target (callee_of heap trial) f.x f.y = subst (λ e. Beyond table e (callee_of heap trial) f.x f.y) e f.beyond in
+    let same = some_is l.own callee (sym l.known ∙ known) in
+    let t = l.taken ∙ ap (λ (o : Callee). o.taken ++ f.x) same in
+    let u = l.under ∙ ap (λ (o : Callee). o.under ++ f.y) same in
+    record {
+      x = f.x;
+      y = f.y;
+      taken = t;
+      under = u;
+      given = subst (λ (o : Callee). GivenFits (option_map (read heap.slots) trial.given) o.given f.x) same l.given;
+      cells_seen = let n = ap (λ (z : List Slot). length z) t ∙ length-append callee.taken f.x in omega (arith, n, f.cells);
+      under_seen = let n = ap (λ (z : List Slot). length z) u ∙ length-append callee.under f.y in omega (arith, n, f.under);
+    }
+
+-- both lists begin with what the table's routine takes
+alike : (n : ℕ) (own a b x y : List Slot) → a ≡ own ++ x → b ≡ own ++ y → n ≤ length own → take n a ≡ take n b
+alike n own a b x y e f h =
+    ap (take n) e ∙ take-append-le n own x h ∙ sym (take-append-le n own y h) ∙ ap (take n) (sym f)
+
+-- A call on a stack that doesn't begin with what was looked at: no table has it.
+pub never_begins : (header : EngineTable) (code : List PlainOp) (heap : Heap) (facts : Facts) (n p : ℕ) (offset : ℤ) (held : Held) (m : ℕ) (trial : Trial)
+    → Keeps header code heap facts → row_in facts.rows n p ≡ Some held → op_at code p ≡ Some (ops.Jsr offset) → slice_get facts.trials m ≡ Some trial
+    → trial.entry ≡ Called (jump_place p offset) → (BeginsAlike heap held trial → ⊥) → WellStacked header code → ⊥
+never_begins header code heap facts n p offset held m trial k r stands has e ne w =
+    let i = row_trial header code heap facts n p held k r in
+    let f = (k.compares w.0 w.1).by n i.0 i.1 in
+    let c = call_fits header code w.0 i.0.entry p offset (shape_of heap held) f.x f.y w.1 stands (f.rows p held r) in
+    let l = callee_fits header code heap facts m (jump_place p offset) trial c.callee k has e w.0 w.1 c.known in
+    ne (record {
+      cells = alike (window heap trial).cells c.callee.taken _ _ (c.rest ++ f.x) l.x c.cells l.taken l.cells_seen;
+      under = alike (window heap trial).under c.callee.under _ _ c.beneath l.y c.under l.under l.under_seen;
+    })
+
+-- the called routine looks at slots that are there, in every table's own shape
+pub call_looks : (header : EngineTable) (code : List PlainOp) (heap : Heap) (facts : Facts) (n p : ℕ) (offset : ℤ) (m : ℕ) (trial : Trial)
+    → Keeps header code heap facts → op_at code p ≡ Some (ops.Jsr offset) → slice_get facts.trials m ≡ Some trial
+    → trial.entry ≡ Called (jump_place p offset) → LooksOwed header code heap facts n p (window heap trial)
+call_looks header code heap facts n p offset m trial k stands has e = record {
+  by = λ table meets caller h own known.
+      let s = meets.each caller.entry p own known in
+      let c : MayCall table caller.entry (jump_place p offset) (next_place p (ops.Jsr offset)) own =
+      subst (λ o. Obeys header table caller.entry p o own) (some_is s.op (ops.Jsr offset) (sym s.stands ∙ stands)) s.obeys in
+      let l = callee_fits header code heap facts m (jump_place p offset) trial c.callee k has e table meets c.known in
+      record {
+        cells = let z = ap (λ (z : List Slot). length z) c.cells ∙ length-append c.callee.taken c.rest in omega (arith, z, l.cells_seen);
+        under = let z = ap (λ (z : List Slot). length z) c.under ∙ length-append c.callee.under c.deeper in omega (arith, z, l.under_seen);
+      };
+}
+
+take_there : (n : ℕ) (a b : List Slot) → take n a ≡ take n b → n ≤ length b → n ≤ length a
+take_there n a b e h =
+    let l = length-take n a in
+    let m = length-take n b in
+    let z = ap (λ (z : List Slot). length z) e in grind (arith, l, m, z, h)
+
+pub call_there : (heap : Heap) (held : Held) (trial : Trial) → BeginsAlike heap held trial → IsThere (shape_of heap held) (window heap trial)
+call_there heap held trial b = record {
+  cells = take_there (window heap trial).cells _ (read heap.slots trial.taken) b.cells (omega arith);
+  under = take_there (window heap trial).under _ (read heap.slots trial.under) b.under (omega arith);
 }
 
 -- ---- behind a call
-
--- the slots beneath what the routine gives
-rest_is : (taken x_callee rest rest0 x : List Slot) → (taken ++ x_callee) ++ rest ≡ taken ++ (rest0 ++ x) → x_callee ++ rest ≡ rest0 ++ x
-rest_is taken x_callee rest rest0 x e = append_cancel_left taken (x_callee ++ rest) (rest0 ++ x) (sym (append_assoc taken x_callee rest) ∙ e)
-
-given_is : (own x_callee rest rest0 x : List Slot) → x_callee ++ rest ≡ rest0 ++ x → (own ++ x_callee) ++ rest ≡ (own ++ rest0) ++ x
-given_is own x_callee rest rest0 x e = append_assoc own x_callee rest ∙ ap (λ z. own ++ z) e ∙ sym (append_assoc own rest0 x)
 
 -- what a routine gives, in a table
 abbrev GivenHere : Option (List Slot) → List Slot → List Slot → Type 0
@@ -145,94 +225,192 @@ goes_on_given : (table : ShapeTable) (entry : Entry) (next : ℕ) (own : TopShap
     → GoesOn table entry next own rest given → table.at entry next ≡ Some (record own { cells = o ++ rest })
 goes_on_given table entry next own rest given o e h = subst (λ g. GoesOn table entry next own rest g) e h
 
--- the shape behind a call, in a table
-behind_call : (table : ShapeTable) (entry : Entry) (target next : ℕ) (shape now : TopShape) (x y : List Slot) (trial : Callee) (given rest lx ly : List Slot)
-    → CallFits table entry target next shape x y → IsLonger table target trial lx ly → trial.given ≡ Some given → shape.cells ≡ trial.taken ++ rest
-    → now ≡ record shape { cells = given ++ rest } → RowFits table entry next now x y
-behind_call table entry target next shape now x y trial given rest lx ly c l g strip is =
-    let same = some_is l.own c.callee (sym l.known ∙ c.known) in
-    let h = given_here l.own.given given lx (subst (λ o. GivenFits o l.own.given lx) g l.given) in
-    let there = goes_on_given table entry next c.own c.rest c.callee.given h.0 (ap (λ (o : Callee). o.given) (sym same) ∙ h.1) c.goes_on in
-    let cut : (c.callee.taken ++ lx) ++ rest ≡ c.callee.taken ++ (c.rest ++ x) =
-    ap (λ (o : Callee). (o.taken ++ lx) ++ rest) (sym same) ∙ ap (λ z. z ++ rest) (sym l.taken) ∙ sym strip ∙ c.cells in
+-- so many slots of what was found to be given, over what lies beneath what was looked at
+abbrev pub behind : Heap → Held → Trial → ℕ → List Slot
+behind heap held trial given =
+    take (length (read heap.slots given) - trial.unseen.cells) (read heap.slots given) ++ drop (window heap trial).cells (read heap.slots held.cells)
+
+over_top : (g own x : List Slot) (n : ℕ) → g ≡ own ++ x → length x ≡ n → take (length g - n) g ≡ own
+over_top g own x n e l =
+    ap (λ z. take (length z - n) z) e
+    ∙ ap (λ k. take k (own ++ x)) (let f : length (own ++ x) - n ≡ length (own ++ x) - length x = ap (λ n. length (own ++ x) - n) (sym l) in f) ∙ without_on own x
+
+-- what a table says is given, in two parts
+given_parts : (g own_table lx upper taken full : List Slot) (w : ℕ) → g ≡ own_table ++ lx → full ≡ taken ++ lx → w ≤ length taken → g ≡ upper ++ drop w full
+    → own_table ≡ upper ++ drop w taken
+given_parts g own_table lx upper taken full w e f h over =
+    append_cancel_right own_table (upper ++ drop w taken) lx
+    (sym e ∙ over ∙ ap (λ z. upper ++ drop w z) f ∙ ap (λ z. upper ++ z) (drop-append-le w taken lx h) ∙ sym (append_assoc upper (drop w taken) lx))
+
+behind_is : (upper taken rest x cells own_table : List Slot) (w : ℕ) → cells ≡ taken ++ (rest ++ x) → w ≤ length taken → own_table ≡ upper ++ drop w taken
+    → upper ++ drop w cells ≡ (own_table ++ rest) ++ x
+behind_is upper taken rest x cells own_table w c h o =
+    ap (λ z. upper ++ drop w z) c ∙ ap (λ z. upper ++ z) (drop-append-le w taken (rest ++ x) h) ∙ sym (append_assoc upper (drop w taken) (rest ++ x))
+    ∙ ap (λ z. z ++ (rest ++ x)) (sym o) ∙ sym (append_assoc own_table rest x)
+
+-- what was not looked at is what lies beneath what was
+unseen_is : (heap : Heap) (trial : Trial) → unseen_cells heap trial ≡ drop (window heap trial).cells (read heap.slots trial.taken)
+unseen_is heap trial = refl
+
+-- every table has the shape behind a call of a routine of which it is known what it gives
+behind_fits : (header : EngineTable) (code : List PlainOp) (heap : Heap) (facts : Facts) (table : ShapeTable) (entry : Entry) (target next : ℕ) (held : Held) (now : TopShape)
+    (x y : List Slot) (trial : Trial) (given : ℕ) (c : CallFits table entry target next (shape_of heap held) x y) → CalleeFits table heap target trial c.callee
+    → TrialIn heap trial → trial.given ≡ Some given → GivenOver heap trial (Some given)
+    → now ≡ record (shape_of heap held) { cells = behind heap held trial given } → RowFits table entry next now x y
+behind_fits header code heap facts table entry target next held now x y trial given c l i g over is =
+    let h = given_here c.callee.given (read heap.slots given) l.x (subst (λ o. GivenFits (option_map (read heap.slots) o) c.callee.given l.x) g l.given) in
+    let there = goes_on_given table entry next c.own c.rest c.callee.given h.0 h.1 c.goes_on in
+    let upper = take (length (read heap.slots given) - trial.unseen.cells) (read heap.slots given) in
+    let top = over_top (read heap.slots given) over.0 (unseen_cells heap trial) trial.unseen.cells over.1 (lowest_length trial.unseen.cells (read heap.slots trial.taken) i.unseen_cells) in
+    let parts = given_parts (read heap.slots given) h.0 l.x upper c.callee.taken (read heap.slots trial.taken) (window heap trial).cells h.2 l.taken l.cells_seen
+    (over.1 ∙ ap (λ z. z ++ unseen_cells heap trial) (sym top)) in
+    let cells = behind_is upper c.callee.taken c.rest x (read heap.slots held.cells) h.0 (window heap trial).cells c.cells l.cells_seen parts in
     record {
       own = record c.own { cells = h.0 ++ c.rest };
       known = there;
-      is = is ∙ ap (λ (s : TopShape). record s { cells = given ++ rest }) c.is
-          ∙ ap (λ z. record (deeper x y c.own) { cells = z })
-          (ap (λ z. z ++ rest) h.2 ∙ given_is h.0 lx rest c.rest x (rest_is c.callee.taken lx rest c.rest x cut));
+      is = is ∙ ap (λ (s : TopShape). record s { cells = behind heap held trial given }) c.is ∙ ap (λ z. record (deeper x y c.own) { cells = z }) cells;
     }
 
--- every table has the shape behind a call of a routine of which it is known what it gives
+-- ---- a call, on the shape above what the caller hasn't looked at
+
+front_of : (w : ℕ) (own x s full : List Slot) → s ≡ own ++ x → take w s ≡ take w full → w ≤ length own → own ≡ take w full ++ drop w own
+front_of w own x s full e f h =
+    sym (take-append-drop w own) ∙ ap (λ z. z ++ drop w own) (sym (take-append-le w own x h) ∙ ap (take w) (sym e) ∙ f)
+
+-- what a routine takes is what was looked at
+pub taken_is : (heap : Heap) (trial : Trial) → TrialIn heap trial
+    → (kept_callee heap trial).taken ≡ take (window heap trial).cells (read heap.slots trial.taken)
+taken_is heap trial i =
+    ap (λ n. take (length (read heap.slots trial.taken) - n) (read heap.slots trial.taken))
+    (lowest_length trial.unseen.cells (read heap.slots trial.taken) i.unseen_cells)
+
+pub under_is : (heap : Heap) (trial : Trial) → TrialIn heap trial
+    → (kept_callee heap trial).under ≡ take (window heap trial).under (read heap.slots trial.under)
+under_is heap trial i =
+    ap (λ n. take (length (read heap.slots trial.under) - n) (read heap.slots trial.under))
+    (lowest_length trial.unseen.under (read heap.slots trial.under) i.unseen_under)
+
+given_cut : (heap : Heap) (trial : Trial) (given : ℕ) → TrialIn heap trial
+    → without (unseen_cells heap trial) (read heap.slots given) ≡ take (length (read heap.slots given) - trial.unseen.cells) (read heap.slots given)
+given_cut heap trial given i =
+    ap (λ n. take (length (read heap.slots given) - n) (read heap.slots given))
+    (lowest_length trial.unseen.cells (read heap.slots trial.taken) i.unseen_cells)
+
+-- the shape behind the call, above what the caller hasn't looked at
+pub behind_over : (heap : Heap) (held : Held) (caller trial : Trial) (given : ℕ) (own : TopShape)
+    → shape_of heap held ≡ deeper (unseen_cells heap caller) (unseen_under heap caller) own → (window heap trial).cells ≤ length own.cells
+    → record (shape_of heap held) { cells = behind heap held trial given } ≡ deeper (unseen_cells heap caller) (unseen_under heap caller)
+    (record own { cells = take (length (read heap.slots given) - trial.unseen.cells) (read heap.slots given) ++ drop (window heap trial).cells own.cells })
+behind_over heap held caller trial given own e h =
+    let upper = take (length (read heap.slots given) - trial.unseen.cells) (read heap.slots given) in
+    let w = (window heap trial).cells in
+    ap (λ (s : TopShape). record s { cells = upper ++ drop w s.cells }) e
+    ∙ ap (λ z. record (deeper (unseen_cells heap caller) (unseen_under heap caller) own) { cells = z })
+    (ap (λ z. upper ++ z) (drop-append-le w own.cells (unseen_cells heap caller) h) ∙ sym (append_assoc upper (drop w own.cells) (unseen_cells heap caller)))
+
 pub call_owed : (header : EngineTable) (code : List PlainOp) (heap : Heap) (facts : Facts) (n p : ℕ) (offset : ℤ) (held : Held) (m : ℕ)
-    (trial : Trial) (given rest next : ℕ) (now : Held) → Keeps header code heap facts → row_in facts.rows n p ≡ Some held
+    (trial : Trial) (given next : ℕ) (now : Held) → Keeps header code heap facts → row_in facts.rows n p ≡ Some held
     → op_at code p ≡ Some (ops.Jsr offset) → slice_get facts.trials m ≡ Some trial → trial.entry ≡ Called (jump_place p offset) → trial.given ≡ Some given
-    → read heap.slots held.cells ≡ read heap.slots trial.taken ++ read heap.slots rest → next ≡ next_place p (ops.Jsr offset)
-    → shape_of heap now ≡ record (shape_of heap held) { cells = read heap.slots given ++ read heap.slots rest } → Owed header code heap facts n next now
-call_owed header code heap facts n p offset held m trial given rest next now k r stands has e gives strip at is =
-    let i = row_trial header code heap facts n p held k r in
-    record {
-      trial = i.0;
-      has = i.1;
-      by = λ table meets f.
-          let c = call_fits header code table i.0.entry p offset (shape_of heap held) f.x f.y meets stands (f.rows p held r) in
-          let l = longer_of header code heap facts m (jump_place p offset) trial k has e table meets in
-          subst (λ q. RowFits table i.0.entry q (shape_of heap now) f.x f.y) (sym at)
-          (behind_call table i.0.entry (jump_place p offset) (next_place p (ops.Jsr offset)) (shape_of heap held) (shape_of heap now) f.x f.y (callee_of heap trial)
-          (read heap.slots given) (read heap.slots rest) l.0 l.1 c l.2 (ap (option_map (read heap.slots)) gives) strip is);
-    }
+    → Within heap facts n (shape_of heap held) (window heap trial) → next ≡ next_place p (ops.Jsr offset)
+    → shape_of heap now ≡ record (shape_of heap held) { cells = behind heap held trial given } → Owed header code heap facts n next now
+call_owed header code heap facts n p offset held m trial given next now k r stands has e gives w at is = record {
+  trial = w.trial;
+  has = w.has;
+  by = λ table meets f.
+      let c = call_fits header code table w.trial.entry p offset (shape_of heap held) f.x f.y meets stands (f.rows p held r) in
+      let l = callee_fits header code heap facts m (jump_place p offset) trial c.callee k has e table meets c.known in
+      subst (λ q. RowFits table w.trial.entry q (shape_of heap now) f.x f.y) (sym at)
+      (behind_fits header code heap facts table w.trial.entry (jump_place p offset) (next_place p (ops.Jsr offset)) held (shape_of heap now) f.x f.y trial given c l
+      (k.inside.trials m trial has) gives (subst (λ o. GivenOver heap trial o) gives (k.over.givens m trial has)) is);
+  over = record { own = _; is = is ∙ behind_over heap held w.trial trial given w.own w.is w.there.cells };
+}
 
--- the call obeys the rules of the table that was found: where the routine isn't known to give anything
+-- the caller's shape begins with what the routine takes
+record CallParts (heap : Heap) (trial : Trial) (own : TopShape) : Type 0 where
+  deeper : List Slot
+  cells : own.cells ≡ (kept_callee heap trial).taken ++ drop (window heap trial).cells own.cells
+  under : own.under ≡ (kept_callee heap trial).under ++ deeper
+
+call_parts : (heap : Heap) (facts : Facts) (n : ℕ) (held : Held) (caller trial : Trial) (over : IsOver heap caller (shape_of heap held)) → TrialIn heap trial
+    → slice_get facts.trials n ≡ Some caller → BeginsAlike heap held trial → Within heap facts n (shape_of heap held) (window heap trial)
+    → IsThere over.own (window heap trial) × CallParts heap trial over.own
+call_parts heap facts n held caller trial over i has b w =
+    let same = some_is w.trial caller (sym w.has ∙ has) in
+    let own = own_is heap caller (shape_of heap held) over w.own (w.is ∙ ap (λ t. Rattle.stack_shape.specs.Laws.deeper (unseen_cells heap t) (unseen_under heap t) w.own) same) in
+    let t = subst (λ s. IsThere s (window heap trial)) own w.there in (
+      t,
+      record {
+        deeper = drop (window heap trial).under over.own.under;
+        cells = front_of (window heap trial).cells over.own.cells (unseen_cells heap caller) (read heap.slots held.cells) (read heap.slots trial.taken)
+            (ap (λ (s : TopShape). s.cells) over.is) b.cells t.cells
+            ∙ ap (λ z. z ++ drop (window heap trial).cells over.own.cells) (sym (taken_is heap trial i));
+        under = front_of (window heap trial).under over.own.under (beneath_under (unseen_cells heap caller) (unseen_under heap caller) over.own.saved)
+            (read heap.slots held.under) (read heap.slots trial.under) (ap (λ (s : TopShape). s.under) over.is) b.under t.under
+            ∙ ap (λ z. z ++ drop (window heap trial).under over.own.under) (sym (under_is heap trial i));
+      },
+    )
+
 callee_known : (heap : Heap) (facts : Facts) (target m : ℕ) (trial : Trial) → current facts (Called target) ≡ Some m → slice_get facts.trials m ≡ Some trial
-    → callee_at heap facts target ≡ Some (callee_of heap trial)
+    → callee_at heap facts target ≡ Some (kept_callee heap trial)
 callee_known heap facts target m trial c has =
-    ap (λ o. option_map (callee_of heap) (option_and_then (slice_get facts.trials) o)) c ∙ ap (option_map (callee_of heap)) has
+    ap (λ o. option_map (kept_callee heap) (option_and_then (slice_get facts.trials) o)) c ∙ ap (option_map (kept_callee heap)) has
+
+abbrev CutGiven : Heap → Trial → Option ℕ → Option (List Slot)
+CutGiven heap trial given = option_map (λ g. without (unseen_cells heap trial) (read heap.slots g)) given
 
 pub call_sound_none : (header : EngineTable) (code : List PlainOp) (heap : Heap) (facts : Facts) (n p : ℕ) (offset : ℤ) (held : Held) (m : ℕ)
-    (trial : Trial) (rest beneath : ℕ) → op_at code p ≡ Some (ops.Jsr offset) → current facts (Called (jump_place p offset)) ≡ Some m
-    → slice_get facts.trials m ≡ Some trial → trial.given ≡ None → read heap.slots held.cells ≡ read heap.slots trial.taken ++ read heap.slots rest
-    → read heap.slots held.under ≡ read heap.slots trial.under ++ read heap.slots beneath → Sound header code heap facts n p held
-call_sound_none header code heap facts n p offset held m trial rest beneath stands c has none strip under = record {
-  by = λ entry cur. record {
-    op = ops.Jsr offset;
-    stands = stands;
-    obeys = record {
-      callee = callee_of heap trial;
-      known = callee_known heap facts (jump_place p offset) m trial c has;
-      rest = read heap.slots rest;
-      cells = strip;
-      deeper = read heap.slots beneath;
-      under = under;
-      goes_on = subst (λ g. GoesOn (table_of heap facts) entry (next_place p (ops.Jsr offset)) (shape_of heap held) (read heap.slots rest) (option_map (read heap.slots) g))
-          (sym none) tt;
-    };
-  };
+    (trial : Trial) → Keeps header code heap facts → op_at code p ≡ Some (ops.Jsr offset) → current facts (Called (jump_place p offset)) ≡ Some m
+    → slice_get facts.trials m ≡ Some trial → trial.given ≡ None → BeginsAlike heap held trial
+    → Within heap facts n (shape_of heap held) (window heap trial) → Sound header code heap facts n p held
+call_sound_none header code heap facts n p offset held m trial k stands c has none b w = record {
+  by = λ entry cur caller h over.
+      let parts = (call_parts heap facts n held caller trial over (k.inside.trials m trial has) h b w).1 in
+      record {
+        op = ops.Jsr offset;
+        stands = stands;
+        obeys = record {
+          callee = kept_callee heap trial;
+          known = callee_known heap facts (jump_place p offset) m trial c has;
+          rest = drop (window heap trial).cells over.own.cells;
+          cells = parts.cells;
+          deeper = parts.deeper;
+          under = parts.under;
+          goes_on = subst (λ g. GoesOn (table_of heap facts) entry (next_place p (ops.Jsr offset)) over.own (drop (window heap trial).cells over.own.cells) (CutGiven heap trial g))
+              (sym none) tt;
+        };
+      };
 }
 
 -- and where it is
 pub call_sound : (header : EngineTable) (code : List PlainOp) (heap heap' : Heap) (facts : Facts) (n p : ℕ) (offset : ℤ) (held : Held) (m : ℕ)
-    (trial : Trial) (given rest beneath next : ℕ) (shape : TopShape) → Keeps header code heap facts → HeapGrows heap heap'
+    (trial : Trial) (given next : ℕ) (shape : TopShape) → Keeps header code heap facts → HeapGrows heap heap'
     → op_at code p ≡ Some (ops.Jsr offset) → current facts (Called (jump_place p offset)) ≡ Some m
-    → slice_get facts.trials m ≡ Some trial → trial.given ≡ Some given → read heap.slots held.cells ≡ read heap.slots trial.taken ++ read heap.slots rest
-    → read heap.slots held.under ≡ read heap.slots trial.under ++ read heap.slots beneath → next ≡ next_place p (ops.Jsr offset)
-    → RowIs heap' facts n next shape → shape ≡ record (shape_of heap held) { cells = read heap.slots given ++ read heap.slots rest }
+    → slice_get facts.trials m ≡ Some trial → trial.given ≡ Some given → BeginsAlike heap held trial
+    → Within heap facts n (shape_of heap held) (window heap trial) → next ≡ next_place p (ops.Jsr offset)
+    → RowIs heap' facts n next shape → shape ≡ record (shape_of heap held) { cells = behind heap held trial given }
     → Sound header code heap facts n p held
-call_sound header code heap heap' facts n p offset held m trial given rest beneath next shape k g stands c has gives strip under at row is = record {
-  by = λ entry cur. record {
-    op = ops.Jsr offset;
-    stands = stands;
-    obeys = record {
-      callee = callee_of heap trial;
-      known = callee_known heap facts (jump_place p offset) m trial c has;
-      rest = read heap.slots rest;
-      cells = strip;
-      deeper = read heap.slots beneath;
-      under = under;
-      goes_on = subst (λ g. GoesOn (table_of heap facts) entry (next_place p (ops.Jsr offset)) (shape_of heap held) (read heap.slots rest) (option_map (read heap.slots) g))
-          (sym gives) (subst (λ q. (table_of heap facts).at entry q ≡ Some (record (shape_of heap held) { cells = read heap.slots given ++ read heap.slots rest })) at
-          (led_at header code heap heap' facts entry n next shape k g cur row ∙ ap Some is));
-    };
-  };
+call_sound header code heap heap' facts n p offset held m trial given next shape k g stands c has gives b w at row is = record {
+  by = λ entry cur caller h over.
+      let i = k.inside.trials m trial has in
+      let parts = call_parts heap facts n held caller trial over i h b w in
+      let rest = drop (window heap trial).cells over.own.cells in
+      record {
+        op = ops.Jsr offset;
+        stands = stands;
+        obeys = record {
+          callee = kept_callee heap trial;
+          known = callee_known heap facts (jump_place p offset) m trial c has;
+          rest = rest;
+          cells = parts.1.cells;
+          deeper = parts.1.deeper;
+          under = parts.1.under;
+          goes_on = subst (λ g. GoesOn (table_of heap facts) entry (next_place p (ops.Jsr offset)) over.own rest (CutGiven heap trial g)) (sym gives)
+              (subst (λ q. (table_of heap facts).at entry q ≡ Some (record over.own { cells = without (unseen_cells heap trial) (read heap.slots given) ++ rest })) at
+              (led_at header code heap heap' facts entry n next shape _ caller k g cur h row
+              (is ∙ behind_over heap held caller trial given over.own over.is parts.0.cells)
+              ∙ ap (λ z. Some (record over.own { cells = z ++ rest })) (sym (given_cut heap trial given i))));
+        };
+      };
 }
 
 -- ---- RETN
@@ -303,15 +481,17 @@ given_beyond table entry target callee cells x y e b t =
 
 -- every table says that the routine gives the cells of a RETN
 pub return_owed : (header : EngineTable) (code : List PlainOp) (heap : Heap) (facts : Facts) (n p target : ℕ) (held : Held) (trial : Trial)
-    → row_in facts.rows n p ≡ Some held → op_at code p ≡ Some ops.Retn → slice_get facts.trials n ≡ Some trial
-    → trial.entry ≡ Called target → GivenOwed header code heap facts n held.cells
-return_owed header code heap facts n p target held trial r stands has e = record {
+    → Keeps header code heap facts → row_in facts.rows n p ≡ Some held → op_at code p ≡ Some ops.Retn → slice_get facts.trials n ≡ Some trial
+    → trial.entry ≡ Called target → trial.given ≡ None → GivenOwed header code heap facts n held.cells
+return_owed header code heap facts n p target held trial k r stands has e none = record {
   trial = trial;
   has = has;
   by = λ table meets f.
       let t = in_table header code heap facts n p target held trial table f meets r stands e in
       given_beyond table trial.entry target (callee_of heap trial) (read heap.slots held.cells) f.x f.y e f.beyond
       (t.own, t.cells, λ c known. ap (λ (o : Callee). o.given) (some_is c t.callee (sym known ∙ t.known)) ∙ t.gives);
+  over = let o = k.over.rows n p held trial r has in (o.own.cells, ap (λ (s : TopShape). s.cells) o.is);
+  new = none;
 }
 
 -- no table gives other cells at two places
@@ -326,29 +506,31 @@ never_gives header code heap facts n p target held trial given k r stands has e 
     let same = some_is h.0 t.own (sym h.1 ∙ ap (λ (o : Callee). o.given) (some_is l.own t.callee (sym l.known ∙ t.known)) ∙ t.gives) in
     ne (h.2 ∙ ap (λ z. z ++ f.x) same ∙ sym t.cells)
 
--- the entry for which a trial counts
-pub entry_is : (facts : Facts) (n : ℕ) (trial : Trial) (entry : Entry) → Formed facts → slice_get facts.trials n ≡ Some trial → current facts entry ≡ Some n
-    → trial.entry ≡ entry
-entry_is facts n trial entry formed has c =
-    let t = formed.currents entry n c in
-    ap (λ (t : Trial). t.entry) (some_is trial t.trial (sym has ∙ t.has)) ∙ t.of
+saved_nil : (x y : List Slot) (us : List (List Slot)) → deeper_saved x y us ≡ [] → us ≡ []
+saved_nil x y [] h = refl
+saved_nil x y (u ∷ us) h = absurd cc
 
 -- a RETN of a called routine obeys the rules of the table that was found
 pub return_sound : (header : EngineTable) (code : List PlainOp) (heap : Heap) (facts : Facts) (n p target : ℕ) (held : Held) (trial : Trial) (given : ℕ)
     → Keeps header code heap facts → op_at code p ≡ Some ops.Retn → slice_get facts.trials n ≡ Some trial → trial.entry ≡ Called target → trial.given ≡ Some given
     → read heap.slots given ≡ read heap.slots held.cells → read heap.saved held.saved ≡ [] → held.pending ≡ 0 → Sound header code heap facts n p held
 return_sound header code heap facts n p target held trial given k stands has e gives same saved pending = record {
-  by = λ entry c.
+  by = λ entry c caller h over.
       let is : Called target ≡ entry = sym e ∙ entry_is facts n trial entry k.formed has c in
+      let me = some_is trial caller (sym has ∙ h) in
       record {
         op = ops.Retn;
         stands = stands;
-        obeys = subst (λ e. Returns (table_of heap facts) e (shape_of heap held)) is (record {
-          callee = callee_of heap trial;
-          known = callee_known heap facts target n trial (ap (current facts) is ∙ c) has;
-          given = ap (option_map (read heap.slots)) gives ∙ ap Some same;
-          saved = ap (map (read heap.slots)) saved;
-          pending = pending;
+        obeys = subst (λ e. Returns (table_of heap facts) e over.own) is (record {
+          callee = kept_callee heap caller;
+          known = callee_known heap facts target n caller (ap (current facts) is ∙ c) h;
+          given = ap (λ (t : Trial). option_map (λ g. without (unseen_cells heap caller) (read heap.slots g)) t.given) (sym me)
+              ∙ ap (option_map (λ g. without (unseen_cells heap caller) (read heap.slots g))) gives
+              ∙ ap (λ z. Some (without (unseen_cells heap caller) z)) (same ∙ ap (λ (s : TopShape). s.cells) over.is)
+              ∙ ap Some (without_on over.own.cells (unseen_cells heap caller));
+          saved = saved_nil (unseen_cells heap caller) (unseen_under heap caller) over.own.saved
+              (sym (ap (λ (s : TopShape). s.saved) over.is) ∙ ap (map (read heap.slots)) saved);
+          pending = sym (ap (λ (s : TopShape). s.pending) over.is) ∙ pending;
         });
       };
 }
@@ -358,9 +540,9 @@ pub end_sound : (header : EngineTable) (code : List PlainOp) (heap : Heap) (fact
     → op_at code p ≡ Some ops.Retn → slice_get facts.trials n ≡ Some trial
     → ((table : ShapeTable) (shape : TopShape) → Returns table trial.entry shape) → Sound header code heap facts n p held
 end_sound header code heap facts n p held trial k stands has ends = record {
-  by = λ entry c. record {
+  by = λ entry c caller h over. record {
     op = ops.Retn;
     stands = stands;
-    obeys = subst (λ e. Returns (table_of heap facts) e (shape_of heap held)) (entry_is facts n trial entry k.formed has c) (ends (table_of heap facts) (shape_of heap held));
+    obeys = subst (λ e. Returns (table_of heap facts) e over.own) (entry_is facts n trial entry k.formed has c) (ends (table_of heap facts) over.own);
   };
 }

@@ -1,5 +1,5 @@
 -- The start and the end of the inference.
-use Rattle.std.proofs.Common.{arith, ◌≡◌, ℕ, zero, suc, List, [], ◌∷◌, ◌++◌, length, map, Option, None, Some, slice_get, inl, inr, sym, subst, ◌∙◌, ap, refl}
+use Rattle.std.proofs.Common.{arith, ◌≡◌, ◌<◌, ℕ, zero, suc, List, [], ◌∷◌, ◌++◌, length, map, Option, None, Some, slice_get, inl, inr, sym, subst, ◌∙◌, ap, refl}
 use Rattle.std.specs.Prelude.{get_or}
 use Rattle.nwq_value.specs.Engine.{EngineTable}
 use Rattle.ncs_code.specs.Plain.{PlainOp}
@@ -17,15 +17,15 @@ use Rattle.stack_check.specs.declared.facts.Facts.{Facts}
 use Rattle.stack_check.specs.declared.seen.Seen.{Seen}
 use Rattle.stack_check.specs.declared.seen.Seen.TheVariants.{Quiet, Changed, Bad}
 use Rattle.stack_check.specs.Shared.{read}
-use Rattle.stack_check.specs.Held.{AllAtMost, IsIn, shape_of}
-use Rattle.stack_check.specs.Rows.{RowLists, RowAdded, row_in, find_row}
-use Rattle.stack_check.specs.Facts.{current, number_in, first_place, first_held, callee_of, table_of}
+use Rattle.stack_check.specs.Held.{AllAtMost, HeapGrows, IsIn, shape_of}
+use Rattle.stack_check.specs.Rows.{RowAdded, row_in}
+use Rattle.stack_check.specs.Facts.{current, number_in, first_place, first_held, callee_of, left, table_of}
 use Rattle.stack_check.specs.Checked.{CheckedCode, StoredStand, kept_table}
-use Rattle.stack_check.specs.Inference.{IsTrialOf, TrialIn, Beyond, RowFits, TrialFits, Keeps, Visited, WhereQuiet, SeesRow, SeesAll, SeesTurn, IsFound, after_change}
-use Rattle.stack_check.proofs.Heaps.{same_shape}
-use Rattle.stack_check.proofs.Storing.{deeper_none}
+use Rattle.stack_check.specs.Inference.{IsTrialOf, IsWhole, TrialIn, IsOver, GivenOver, Beyond, RowFits, TrialFits, Keeps, Visited, WhereQuiet, Takes, SeesRow, SeesAll, SeesDrained, SeesTurn, IsFound}
+use Rattle.stack_check.proofs.Heaps.{heap_same, heap_then, same_shape}
+use Rattle.stack_check.proofs.Windows.{deeper_none}
 use Rattle.stack_check.proofs.Walks.{read_empty}
-use Rattle.stack_check.proofs.Passing.{shape_there, table_same}
+use Rattle.stack_check.proofs.Tables.{at_of, found_in, table_same, whole_over, whole_own}
 
 some_is : {A : Type 0} (a b : A) → Some a ≡ Some b → a ≡ b
 some_is a b h = cc
@@ -35,19 +35,75 @@ none_some P a h = absurd cc
 
 -- ---- one turn
 
-pub look_turn : (header : EngineTable) (code : List PlainOp) (heap heap' : Heap) (facts facts' : Facts) (n p : ℕ) (seen now : Seen)
-    → SeesRow header code heap heap' facts facts' n p seen → now ≡ after_change seen → SeesTurn header code heap' facts' now
-look_turn header code heap heap' facts facts' n p seen now s e = subst (λ s. SeesTurn header code heap' facts' s) (sym e) (turn seen s.keeps)
-  where
-    turn : (seen : Seen) → Visited header code heap' facts' seen → SeesTurn header code heap' facts' (after_change seen)
-    turn Quiet v = record { keeps = v; quiet = tt }
-    turn Changed v = record { keeps = v; quiet = tt }
-    turn Bad v = record { keeps = v; quiet = tt }
+pub record DrainedSoFar (header : EngineTable) (code : List PlainOp) (first now : Heap) (before facts : Facts) : Type 0 where
+  pub grows : HeapGrows first now
+  pub same : facts ≡ before
+  pub keeps : Keeps header code now facts
 
-pub pass_turn : (header : EngineTable) (code : List PlainOp) (heap heap' : Heap) (facts facts' : Facts) (seen : Seen) → Keeps header code heap facts
-    → SeesAll header code heap heap' facts facts' seen → SeesTurn header code heap' facts' seen
-pass_turn header code heap heap' facts facts' seen k s = record { keeps = s.keeps; quiet = quiet seen s.quiet }
+pub drain_begin : (header : EngineTable) (code : List PlainOp) (heap : Heap) (facts : Facts) → Keeps header code heap facts
+    → DrainedSoFar header code heap heap facts facts
+drain_begin header code heap facts k = record { grows = heap_same heap; same = refl; keeps = k }
+
+drain_quiet : (header : EngineTable) (code : List PlainOp) (first now next : Heap) (before facts after : Facts) (t p : ℕ)
+    → DrainedSoFar header code first now before facts → SeesRow header code now next facts after t p Quiet → DrainedSoFar header code first next before after
+drain_quiet header code first now next before facts after t p s l =
+    record { grows = heap_then first now next s.grows l.grows; same = l.quiet.0 ∙ s.same; keeps = l.keeps }
+
+pub drain_step : (header : EngineTable) (code : List PlainOp) (first now next : Heap) (before facts after : Facts) (t p : ℕ) (seen : Seen)
+    → DrainedSoFar header code first now before facts → SeesRow header code now next facts after t p seen → seen ≡ Quiet
+    → DrainedSoFar header code first next before after
+drain_step header code first now next before facts after t p seen s l e =
+    drain_quiet header code first now next before facts after t p s (subst (λ s. SeesRow header code now next facts after t p s) e l)
+
+pub drain_changed : (header : EngineTable) (code : List PlainOp) (first now next : Heap) (before facts after : Facts) (t p : ℕ) (seen : Seen)
+    → DrainedSoFar header code first now before facts → SeesRow header code now next facts after t p seen → seen ≡ Changed
+    → SeesDrained header code first next before after Changed
+drain_changed header code first now next before facts after t p seen s l e = record {
+  grows = heap_then first now next s.grows l.grows;
+  keeps = subst (λ s. Visited header code next after s) e l.keeps;
+  same = tt;
+  takes = subst (λ f. left after < left f) s.same (subst (λ s. Takes facts after s) e l.takes);
+}
+
+pub drain_bad : (header : EngineTable) (code : List PlainOp) (first now next : Heap) (before facts after : Facts) (t p : ℕ) (seen : Seen)
+    → DrainedSoFar header code first now before facts → SeesRow header code now next facts after t p seen → seen ≡ Bad
+    → SeesDrained header code first next before after Bad
+drain_bad header code first now next before facts after t p seen s l e =
+    record { grows = heap_then first now next s.grows l.grows; keeps = subst (λ s. Visited header code next after s) e l.keeps; same = tt; takes = tt }
+
+pub drain_done : (header : EngineTable) (code : List PlainOp) (first now : Heap) (before facts : Facts) → DrainedSoFar header code first now before facts
+    → SeesDrained header code first now before facts Quiet
+drain_done header code first now before facts s = record { grows = s.grows; keeps = s.keeps; same = s.same; takes = tt }
+
+pub ruleset draining = (drain_begin, drain_step, drain_changed, drain_bad, drain_done)
+
+-- ---- one turn
+
+pub turn_changed : (header : EngineTable) (code : List PlainOp) (a b : Heap) (before facts : Facts) (seen : Seen) → SeesDrained header code a b before facts seen
+    → seen ≡ Changed → SeesTurn header code b before facts Changed
+turn_changed header code a b before facts seen s e =
+    record { keeps = subst (λ s. Visited header code b facts s) e s.keeps; quiet = tt; takes = subst (λ s. Takes before facts s) e s.takes }
+
+pub turn_bad : (header : EngineTable) (code : List PlainOp) (a b : Heap) (before facts : Facts) (seen : Seen) → SeesDrained header code a b before facts seen
+    → seen ≡ Bad → SeesTurn header code b before facts Bad
+turn_bad header code a b before facts seen s e = record { keeps = subst (λ s. Visited header code b facts s) e s.keeps; quiet = tt; takes = tt }
+
+pub turn_keeps : (header : EngineTable) (code : List PlainOp) (a b : Heap) (before facts : Facts) (seen : Seen) → SeesDrained header code a b before facts seen
+    → seen ≡ Quiet → Keeps header code b facts
+turn_keeps header code a b before facts seen s e = subst (λ s. Visited header code b facts s) e s.keeps
+
+pub pass_turn : (header : EngineTable) (code : List PlainOp) (first heap heap' : Heap) (before facts facts' : Facts) (drained seen : Seen)
+    → SeesDrained header code first heap before facts drained → drained ≡ Quiet
+    → SeesAll header code heap heap' facts facts' seen → SeesTurn header code heap' before facts' seen
+pass_turn header code first heap heap' before facts facts' drained seen d e s = record {
+  keeps = s.keeps;
+  quiet = quiet seen s.quiet;
+  takes = subst (λ f. Takes f facts' seen) (subst (λ s. WhereQuiet s (facts ≡ before)) e d.same) s.takes;
+}
   where
+    k : Keeps header code heap facts
+    k = turn_keeps header code first heap before facts drained d e
+
     quiet : (seen : Seen) → WhereQuiet seen ((facts' ≡ facts) × MeetsRules header code (table_of heap facts)) → WhereQuiet seen (MeetsRules header code (table_of heap' facts'))
     quiet Quiet q =
         subst (λ f. MeetsRules header code (table_of heap' f)) (sym q.0)
@@ -55,12 +111,12 @@ pass_turn header code heap heap' facts facts' seen k s = record { keeps = s.keep
     quiet Changed q = tt
     quiet Bad q = tt
 
-pub ruleset turning = (look_turn, pass_turn)
+pub ruleset turning = (turn_changed, turn_bad, turn_keeps, pass_turn)
 
 -- ---- the start
 
 abbrev first_trial : Trial
-first_trial = record { entry = Start; taken = 0; under = 0; given = None }
+first_trial = record { entry = Start; taken = 0; under = 0; given = None; unseen = record { cells = 0; under = 0 } }
 
 abbrev nothing_held : Held
 nothing_held = record { cells = 0; under = 0; saved = 0; pending = 0 }
@@ -69,9 +125,9 @@ none_there : (k : ℕ) → get_or (let xs : List ℕ = [] in xs) k 0 ≡ 0
 none_there zero = refl
 none_there (suc k) = refl
 
-no_row : (t p : ℕ) (h : Held) → row_in (record { nodes = []; at = [] }) t p ≡ Some h → ⊥
+no_row : (t p : ℕ) (h : Held) → row_in [] t p ≡ Some h → ⊥
 unfolding row_in
-no_row t p h r = none_some ⊥ h (sym (ap (find_row t) (ap (read (let xs : List (Node Row) = [] in xs)) (none_there p) ∙ read_empty [])) ∙ r)
+no_row t p h r = none_some ⊥ h r
 
 one_trial : (n : ℕ) (trial : Trial) → slice_get (first_trial ∷ []) n ≡ Some trial → (n ≡ 0) × (trial ≡ first_trial)
 one_trial zero trial h = (refl, sym (some_is first_trial trial h))
@@ -80,7 +136,7 @@ one_trial (suc n) trial h = none_some ((suc n ≡ 0) × (trial ≡ first_trial))
 first_shape_is : (heap : Heap) → shape_of heap nothing_held ≡ empty_shape
 first_shape_is heap = same_shape _ _ _ _ _ _ _ _ (read_empty heap.slots) (read_empty heap.slots) (ap (map (read heap.slots)) (read_empty heap.saved)) refl
 
-first_row : (rows : RowLists) (t p : ℕ) (h : Held) → RowAdded (record { nodes = []; at = [] }) rows 0 13 nothing_held → row_in rows t p ≡ Some h
+first_row : (rows : List Row) (t p : ℕ) (h : Held) → RowAdded [] rows 0 13 nothing_held → row_in rows t p ≡ Some h
     → (t ≡ 0) × (p ≡ 13) × (h ≡ nothing_held)
 first_row rows t p h a r = elim (a.only t p h r) [
   | inl old ↦ absurd (no_row t p h old)
@@ -95,7 +151,7 @@ start_in heap = record {
   each = subst (λ ns. AllAtMost (length heap.slots) ns) (sym (read_empty heap.saved)) tt;
 }
 
-start_current : (rows : RowLists) (e : Entry) (n : ℕ) → current (record { trials = first_trial ∷ []; called = []; stored = []; rows = rows }) e ≡ Some n
+start_current : (rows : List Row) (e : Entry) (n : ℕ) → current (record { trials = first_trial ∷ []; called = []; stored = []; rows = rows }) e ≡ Some n
     → IsTrialOf (record { trials = first_trial ∷ []; called = []; stored = []; rows = rows }) n e
 start_current rows Start n c = subst (λ n. IsTrialOf (record { trials = first_trial ∷ []; called = []; stored = []; rows = rows }) n Start) (some_is 0 n c)
     (record { trial = first_trial; has = refl; of = refl })
@@ -104,7 +160,7 @@ start_current rows (Called t) n c =
 start_current rows (Stored t) n c =
     none_some (IsTrialOf (record { trials = first_trial ∷ []; called = []; stored = []; rows = rows }) n (Stored t)) n (ap number_in (sym (none_there t)) ∙ c)
 
-start_fits : (header : EngineTable) (code : List PlainOp) (heap : Heap) (rows : RowLists) (table : ShapeTable) → RowAdded (record { nodes = []; at = [] }) rows 0 13 nothing_held
+start_fits : (header : EngineTable) (code : List PlainOp) (heap : Heap) (rows : List Row) (table : ShapeTable) → RowAdded [] rows 0 13 nothing_held
     → MeetsRules header code table → TrialFits table heap (record { trials = first_trial ∷ []; called = []; stored = []; rows = rows }) 0 first_trial
 start_fits header code heap rows table a meets = record {
   x = [];
@@ -115,9 +171,11 @@ start_fits header code heap rows table a meets = record {
       subst (λ h. RowFits table Start p (shape_of heap h) [] []) (sym is.2)
       (subst (λ p. RowFits table Start p (shape_of heap nothing_held) [] []) (sym is.1)
       (record { own = empty_shape; known = meets.start; is = first_shape_is heap }));
+  cells = omega arith;
+  under = omega arith;
 }
 
-start_keeps : (header : EngineTable) (code : List PlainOp) (heap : Heap) (rows : RowLists) → RowAdded (record { nodes = []; at = [] }) rows 0 13 nothing_held
+start_keeps : (header : EngineTable) (code : List PlainOp) (heap : Heap) (rows : List Row) → RowAdded [] rows 0 13 nothing_held
     → Keeps header code heap (record { trials = first_trial ∷ []; called = []; stored = []; rows = rows })
 start_keeps header code heap rows a = record {
   formed = record {
@@ -128,11 +186,19 @@ start_keeps header code heap rows a = record {
         (subst (λ n. row_in rows n 13 ≡ Some nothing_held) (sym is.0) a.here);
     owned = λ n p h r. let is = first_row rows n p h a r in omega (arith, is.0);
     start = λ n trial h e. let is = one_trial n trial h in (ap (λ (t : Trial). t.taken) is.1, ap (λ (t : Trial). t.under) is.1);
+    whole = λ n trial h. let is = one_trial n trial h in subst (λ (t : Trial). IsWhole t.entry t.unseen) (sym is.1) (refl, refl);
   };
   inside = record {
     rows = λ n p h r. let is = first_row rows n p h a r in subst (λ h. IsIn heap h) (sym is.2) (start_in heap);
     trials = λ n trial h. let is = one_trial n trial h in
-        subst (λ t. TrialIn heap t) (sym is.1) (record { taken = omega arith; under = omega arith; given = tt });
+        subst (λ t. TrialIn heap t) (sym is.1)
+        (record { taken = omega arith; under = omega arith; given = tt; unseen_cells = omega arith; unseen_under = omega arith });
+  };
+  over = record {
+    rows = λ n p h trial r e.
+        let is = one_trial n trial e in
+        subst (λ (t : Trial). IsOver heap t (shape_of heap h)) (sym is.1) (whole_over heap first_trial (shape_of heap h) (refl, refl));
+    givens = λ n trial e. let is = one_trial n trial e in subst (λ (t : Trial). GivenOver heap t t.given) (sym is.1) tt;
   };
   compares = λ table meets. record {
     by = λ n trial h.
@@ -143,8 +209,8 @@ start_keeps header code heap rows a = record {
   };
 }
 
-pub starts : (header : EngineTable) (code : List PlainOp) (heap : Heap) (empty rows : RowLists) (trials : List Trial) (called stored : List ℕ)
-    → empty ≡ record { nodes = []; at = [] } → RowAdded empty rows 0 13 nothing_held → trials ≡ [] ++ first_trial ∷ [] → called ≡ [] → stored ≡ []
+pub starts : (header : EngineTable) (code : List PlainOp) (heap : Heap) (empty rows : List Row) (trials : List Trial) (called stored : List ℕ)
+    → empty ≡ [] → RowAdded empty rows 0 13 nothing_held → trials ≡ [] ++ first_trial ∷ [] → called ≡ [] → stored ≡ []
     → Keeps header code heap (record { trials = trials; called = called; stored = stored; rows = rows })
 starts header code heap empty rows trials called stored e a t c s =
     subst (λ ts. Keeps header code heap (record { trials = ts; called = called; stored = stored; rows = rows })) (sym t)
@@ -156,20 +222,24 @@ pub ruleset starting = (starts)
 
 -- ---- the end
 
-pub ends_found : (header : EngineTable) (code : List PlainOp) (heap : Heap) (facts : Facts) (seen : Seen) → SeesTurn header code heap facts seen → seen ≡ Quiet
-    → IsFound header code heap facts
-ends_found header code heap facts seen s e =
+pub ends_found : (header : EngineTable) (code : List PlainOp) (heap : Heap) (before facts : Facts) (seen : Seen) → SeesTurn header code heap before facts seen
+    → seen ≡ Quiet → IsFound header code heap facts
+ends_found header code heap before facts seen s e =
     record { keeps = subst (λ s. Visited header code heap facts s) e s.keeps; meets = subst (λ s. WhereQuiet s (MeetsRules header code (table_of heap facts))) e s.quiet }
 
-pub ends_none : (header : EngineTable) (code : List PlainOp) (heap : Heap) (facts : Facts) (seen : Seen) → SeesTurn header code heap facts seen → seen ≡ Bad
-    → WellStacked header code → ⊥
-ends_none header code heap facts seen s e = subst (λ s. Visited header code heap facts s) e s.keeps
+pub ends_none : (header : EngineTable) (code : List PlainOp) (heap : Heap) (before facts : Facts) (seen : Seen) → SeesTurn header code heap before facts seen
+    → seen ≡ Bad → WellStacked header code → ⊥
+ends_none header code heap before facts seen s e = subst (λ s. Visited header code heap facts s) e s.keeps
 
-pub goes_on : (header : EngineTable) (code : List PlainOp) (heap : Heap) (facts : Facts) (seen : Seen) → SeesTurn header code heap facts seen → seen ≡ Changed
-    → Keeps header code heap facts
-goes_on header code heap facts seen s e = subst (λ s. Visited header code heap facts s) e s.keeps
+pub goes_on : (header : EngineTable) (code : List PlainOp) (heap : Heap) (before facts : Facts) (seen : Seen) → SeesTurn header code heap before facts seen
+    → seen ≡ Changed → Keeps header code heap facts
+goes_on header code heap before facts seen s e = subst (λ s. Visited header code heap facts s) e s.keeps
 
-pub ruleset ending = (ends_found, ends_none, goes_on)
+pub goes_down : (header : EngineTable) (code : List PlainOp) (heap : Heap) (before facts : Facts) (seen : Seen) → SeesTurn header code heap before facts seen
+    → seen ≡ Changed → left facts < left before
+goes_down header code heap before facts seen s e = subst (λ s. Takes before facts s) e s.takes
+
+pub ruleset ending = (ends_found, ends_none, goes_on, goes_down)
 
 -- ---- what is kept
 
@@ -177,13 +247,17 @@ stored_stands : (header : EngineTable) (code : List PlainOp) (heap : Heap) (fact
     → MeetsRules header code other → StoredStand (table_of heap facts) other
 stored_stands header code heap facts other k meets = record {
   by = λ site place shape h.
-      let r = shape_there heap facts (current facts (Stored site)) place shape h in
-      let t = k.formed.currents (Stored site) r.0 r.2 in
-      let f = (k.compares other meets).by r.0 t.trial t.has in
-      let a = f.rows place r.1 r.3 in
+      let r = found_in heap facts (Stored site) place shape h in
+      let t = k.formed.currents (Stored site) r.number r.counts in
+      let o = k.over.rows r.number place r.held t.trial r.row t.has in
+      let shape_is : shape_of heap r.held ≡ shape =
+      whole_own heap t.trial (shape_of heap r.held) o (subst (λ e. IsWhole e t.trial.unseen) t.of (k.formed.whole r.number t.trial t.has))
+      ∙ some_is o.own shape (sym (at_of heap facts (Stored site) r.number place r.held t.trial k.formed r.counts t.has r.row o) ∙ h) in
+      let f = (k.compares other meets).by r.number t.trial t.has in
+      let a = f.rows place r.held r.row in
       let none : (f.x ≡ []) × (f.y ≡ []) = subst (λ e. Beyond other e (callee_of heap t.trial) f.x f.y) t.of f.beyond in
       ap (λ e. other.at e place) (sym t.of) ∙ a.known
-      ∙ ap Some (sym (sym r.4 ∙ a.is ∙ ap (λ x. deeper x f.y a.own) none.0 ∙ ap (λ y. deeper [] y a.own) none.1 ∙ deeper_none a.own));
+      ∙ ap Some (sym (sym shape_is ∙ a.is ∙ ap (λ x. deeper x f.y a.own) none.0 ∙ ap (λ y. deeper [] y a.own) none.1 ∙ deeper_none a.own));
 }
 
 pub kept_stands : (header : EngineTable) (code : List PlainOp) (c : CheckedCode) (other : ShapeTable) → IsFound header code c.heap c.facts
@@ -197,9 +271,6 @@ kept_meets header code c f = f.meets
 
 pub ruleset checking = (kept_stands, kept_meets)
 
-pub empty_row : (rows : RowLists) (t p : ℕ) → rows ≡ record { nodes = []; at = [] } → row_in rows t p ≡ None
-empty_row rows t p e = none_or (row_in rows t p) (λ h r. no_row t p h (ap (λ rs. row_in rs t p) (sym e) ∙ r))
-  where
-    none_or : (o : Option Held) → ((h : Held) → o ≡ Some h → ⊥) → o ≡ None
-    none_or None h = refl
-    none_or (Some a) h = absurd (h a refl)
+pub empty_row : (rows : List Row) (t p : ℕ) → rows ≡ [] → row_in rows t p ≡ None
+unfolding row_in
+empty_row rows t p e = ap (λ rs. row_in rs t p) e

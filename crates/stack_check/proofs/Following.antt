@@ -1,5 +1,5 @@
 -- What is kept where a shape is reached that every table has.
-use Rattle.std.proofs.Common.{◌≡◌, ℕ, List, inl, inr, ◌⊎◌, sym, subst, ◌∙◌, ap}
+use Rattle.std.proofs.Common.{arith, ◌≡◌, ◌<◌, ℕ, List, inl, inr, ◌⊎◌, sym, subst, ◌∙◌, ap}
 use Rattle.nwq_value.specs.Engine.{EngineTable}
 use Rattle.ncs_code.specs.Plain.{PlainOp}
 use Rattle.stack_shape.specs.Stored.{TopShape}
@@ -11,7 +11,9 @@ use Rattle.stack_check.specs.declared.seen.Seen.TheVariants.{Quiet, Changed, Bad
 use Rattle.stack_check.specs.declared.leads.Lead.TheVariants.{One, Two}
 use Rattle.stack_check.specs.Held.{IsIn, shape_of}
 use Rattle.stack_check.specs.Rows.{row_in}
-use Rattle.stack_check.specs.Inference.{Keeps, Visited, WhereQuiet, Owed, RowIs, Reached, RowsKept, AllLed, after_change}
+use Rattle.stack_check.specs.Inference.{Keeps, Visited, WhereQuiet, Owed, RowIs, Reached, RowsKept, Takes, AllLed, after_change}
+use Rattle.stack_check.specs.Facts.{left}
+use Rattle.stack_check.proofs.Left.{left_row}
 use Rattle.stack_check.proofs.Steps.{step_kept}
 use Rattle.stack_check.proofs.Keeping.{keeps_row, never_other}
 
@@ -24,9 +26,17 @@ reached_keeps header code heap before after n p held Bad k o i r = λ w. never_o
 
 -- (a bad shape changes nothing either)
 pub reached_kept : (heap : Heap) (before after : Facts) (n p : ℕ) (held : Held) (seen : Seen) → Reached heap before after n p held seen → RowsKept before after
-reached_kept heap before after n p held Quiet r = record { by = λ t q h e. ap (λ (f : Facts). row_in f.rows t q) r.0 ∙ e }
-reached_kept heap before after n p held Changed r = record { by = λ t q h e. r.0.kept t q h e }
-reached_kept heap before after n p held Bad r = record { by = λ t q h e. ap (λ (f : Facts). row_in f.rows t q) r.2 ∙ e }
+reached_kept heap before after n p held Quiet r =
+    record { by = λ t q h e. ap (λ (f : Facts). row_in f.rows t q) r.0 ∙ e; trials = ap (λ (f : Facts). f.trials) r.0 }
+reached_kept heap before after n p held Changed r = record { by = λ t q h e. r.0.kept t q h e; trials = ap (λ (f : Facts). f.trials) r.1 }
+reached_kept heap before after n p held Bad r =
+    record { by = λ t q h e. ap (λ (f : Facts). row_in f.rows t q) r.2 ∙ e; trials = ap (λ (f : Facts). f.trials) r.2 }
+
+-- a row more leaves less to be found
+pub reached_takes : (heap : Heap) (before after : Facts) (n p : ℕ) (held : Held) (seen : Seen) → Reached heap before after n p held seen → Takes before after seen
+reached_takes heap before after n p held Quiet r = tt
+reached_takes heap before after n p held Changed r = left_row before after r.0.more r.0.room (ap (λ (f : Facts). f.trials) r.1)
+reached_takes heap before after n p held Bad r = tt
 
 pub reached_quiet : (heap : Heap) (before after : Facts) (n p : ℕ) (held : Held) (seen : Seen) → Reached heap before after n p held seen
     → WhereQuiet seen ((after ≡ before) × RowIs heap before n p (shape_of heap held))
@@ -34,7 +44,7 @@ reached_quiet heap before after n p held Quiet r = r
 reached_quiet heap before after n p held Changed r = tt
 reached_quiet heap before after n p held Bad r = tt
 
-pub ruleset following = (reached_keeps, reached_kept, reached_quiet)
+pub ruleset following = (reached_keeps, reached_kept, reached_takes, reached_quiet)
 
 -- ---- one place or two
 
@@ -53,7 +63,21 @@ two_led heap before mid after n t u shape q r = (r.0 ∙ q.0, record { by = λ p
     led p (inr e) = subst (λ p. RowIs heap before n p shape) (sym e) (subst (λ f. RowIs heap f n u shape) q.0 r.1)
 
 pub kept_then : (a b c : Facts) → RowsKept a b → RowsKept b c → RowsKept a c
-kept_then a b c g h = record { by = λ t p x e. h.by t p x (g.by t p x e) }
+kept_then a b c g h = record { by = λ t p x e. h.by t p x (g.by t p x e); trials = h.trials ∙ g.trials }
+
+-- what is found behind a visit that found nothing
+pub takes_next : (before mid after : Facts) (seen : Seen) → mid ≡ before → Takes mid after seen → Takes before after seen
+takes_next before mid after seen e t = subst (λ f. Takes f after seen) e t
+
+-- and behind one that found something
+pub takes_both : (P : Type 0) (before mid after : Facts) (seen now : Seen) → left mid < left before → Takes mid after seen → WhereQuiet seen ((after ≡ mid) × P)
+    → now ≡ after_change seen → Takes before after now
+takes_both P before mid after seen now l t q e = subst (λ s. Takes before after s) (sym e) (both seen t q)
+  where
+    both : (seen : Seen) → Takes mid after seen → WhereQuiet seen ((after ≡ mid) × P) → Takes before after (after_change seen)
+    both Quiet t q = subst (λ f. left f < left before) (sym q.0) l
+    both Changed t q = omega (arith, l, t)
+    both Bad t q = tt
 
 pub changed_keeps : (header : EngineTable) (code : List PlainOp) (heap : Heap) (after : Facts) (seen now : Seen) → now ≡ after_change seen
     → Visited header code heap after seen → Visited header code heap after now
@@ -78,4 +102,4 @@ two_quiet heap before mid after n t u shape Quiet q r = two_led heap before mid 
 two_quiet heap before mid after n t u shape Changed q r = tt
 two_quiet heap before mid after n t u shape Bad q r = tt
 
-pub ruleset leading = (kept_then, one_led, two_quiet, changed_keeps, changed_quiet, step_kept)
+pub ruleset leading = (kept_then, one_led, two_quiet, changed_keeps, changed_quiet, step_kept, takes_next)

@@ -1,10 +1,10 @@
 -- What an inference keeps stays true when the heap grows, a row or a trial is added, and what a routine gives is found.
-use Rattle.std.proofs.Common.{arith, ◌≡◌, ◌≢◌, ◌≤◌, ◌<◌, ◌+◌, ℕ, zero, suc, List, [], ◌∷◌, ◌++◌, length, Option, None, Some, slice_get, slice_set, inl, inr, ◌⊎◌, sym, subst, ◌∙◌, ap, refl}
+use Rattle.std.proofs.Common.{arith, ◌≡◌, ◌≢◌, ◌≤◌, ◌<◌, ◌+◌, ℕ, zero, suc, List, [], ◌∷◌, ◌++◌, length, Option, None, Some, slice_get, slice_set, inl, inr, take, ◌-◌, ◌⊎◌, sym, subst, ◌∙◌, ap, refl}
 use Rattle.std.specs.Prelude.{IfSome, get_or}
 use Rattle.std.specs.Option.{option_map}
 use Rattle.std.proofs.lemmas.Bool.{cases_eq}
 use Rattle.std.proofs.lemmas.Option.{slice_get_within}
-use Rattle.std.proofs.lemmas.List.{length-append}
+use Rattle.std.proofs.lemmas.List.{append_assoc, length-append}
 use Rattle.nwq_value.specs.Engine.{EngineTable}
 use Rattle.ncs_code.specs.Plain.{PlainOp}
 use Rattle.stack_shape.specs.declared.shape.Slot.{Slot}
@@ -17,14 +17,17 @@ use Rattle.stack_rules.specs.Rules.{MeetsRules}
 use Rattle.stack_check.specs.declared.held.Held.{Held}
 use Rattle.stack_check.specs.declared.held.Heap.{Heap}
 use Rattle.stack_check.specs.declared.facts.Trial.{Trial}
+use Rattle.stack_check.specs.declared.facts.Unseen.{Unseen}
 use Rattle.stack_check.specs.declared.facts.Facts.{Facts}
 use Rattle.stack_check.specs.Shared.{read}
 use Rattle.stack_check.specs.Held.{IsIn, HeapGrows, shape_of}
 use Rattle.stack_check.specs.Rows.{RowAdded, row_in}
-use Rattle.stack_check.specs.Facts.{current, first_place, first_held, callee_of}
-use Rattle.stack_check.specs.Inference.{IsTrialOf, Formed, TrialIn, AllIn, Beyond, RowFits, TrialFits, Compares, Keeps, Owed, RowIs, TrialAdded, FirstFits, Begins, GivenOwed}
+use Rattle.stack_check.specs.declared.rows.Row.{Row}
+use Rattle.stack_check.specs.Facts.{current, first_place, first_held, callee_of, lowest, unseen_cells, unseen_under, with_unseen}
+use Rattle.stack_check.specs.Inference.{IsTrialOf, IsWhole, Formed, TrialIn, AllIn, IsOver, GivenOver, AllOver, Beyond, RowFits, TrialFits, Compares, Keeps, Owed, RowIs, TrialAdded, FirstFits, Begins, GivenOwed, SeesMore, UnseenOwed}
 use Rattle.stack_check.proofs.Heaps.{still_in, still_shape}
 use Rattle.stack_check.proofs.Walks.{read_empty}
+use Rattle.stack_check.proofs.Windows.{deeper_then, lowest_fewer}
 
 some_is : {A : Type 0} (a b : A) → Some a ≡ Some b → a ≡ b
 some_is a b h = cc
@@ -55,7 +58,27 @@ trial_still a b trial g h = record {
   taken = omega (arith, h.taken, g.slots.longer);
   under = omega (arith, h.under, g.slots.longer);
   given = given_in a b trial.given g h.given;
+  unseen_cells = subst (λ (l : List Slot). trial.unseen.cells ≤ length l) (sym (g.slots.same trial.taken h.taken)) h.unseen_cells;
+  unseen_under = subst (λ (l : List Slot). trial.unseen.under ≤ length l) (sym (g.slots.same trial.under h.under)) h.unseen_under;
 }
+
+pub cells_still : (a b : Heap) (trial : Trial) → HeapGrows a b → TrialIn a trial → unseen_cells b trial ≡ unseen_cells a trial
+cells_still a b trial g h = ap (lowest trial.unseen.cells) (g.slots.same trial.taken h.taken)
+
+pub under_still : (a b : Heap) (trial : Trial) → HeapGrows a b → TrialIn a trial → unseen_under b trial ≡ unseen_under a trial
+under_still a b trial g h = ap (lowest trial.unseen.under) (g.slots.same trial.under h.under)
+
+abbrev pub over_still : (a b : Heap) (trial : Trial) (s t : TopShape) → HeapGrows a b → TrialIn a trial → t ≡ s → IsOver a trial s → IsOver b trial t
+over_still a b trial s t g h e o = record {
+  own = o.own;
+  is = e ∙ o.is ∙ ap (λ x. deeper x (unseen_under a trial) o.own) (sym (cells_still a b trial g h))
+      ∙ ap (λ y. deeper (unseen_cells b trial) y o.own) (sym (under_still a b trial g h));
+}
+
+pub given_over_still : (a b : Heap) (trial : Trial) (given : Option ℕ) → HeapGrows a b → TrialIn a trial → IfSome given (λ g. g ≤ length a.slots)
+    → GivenOver a trial given → GivenOver b trial given
+given_over_still a b trial None g h i o = tt
+given_over_still a b trial (Some n) g h i o = (o.0, g.slots.same n i ∙ o.1 ∙ ap (λ z. o.0 ++ z) (sym (cells_still a b trial g h)))
 
 row_same : (table : ShapeTable) (entry : Entry) (place : ℕ) (a b : TopShape) (x y : List Slot) → b ≡ a → RowFits table entry place a x y → RowFits table entry place b x y
 row_same table entry place a b x y e f = record { own = f.own; known = f.known; is = e ∙ f.is }
@@ -67,6 +90,8 @@ fits_still table a b facts n trial g h e f = record {
   y = f.y;
   beyond = subst (λ c. Beyond table trial.entry c f.x f.y) (sym (callee_still a b trial g (h.trials n trial e))) f.beyond;
   rows = λ p held r. row_same table trial.entry p _ _ f.x f.y (still_shape a b held g (h.rows n p held r)) (f.rows p held r);
+  cells = f.cells;
+  under = f.under;
 }
 
 pub keeps_grows : (header : EngineTable) (code : List PlainOp) (a b : Heap) (facts : Facts) → HeapGrows a b → Keeps header code a facts → Keeps header code b facts
@@ -75,6 +100,10 @@ keeps_grows header code a b facts g k = record {
   inside = record {
     rows = λ n p held r. still_in a b held g (k.inside.rows n p held r);
     trials = λ n trial e. trial_still a b trial g (k.inside.trials n trial e);
+  };
+  over = record {
+    rows = λ n p held trial r e. over_still a b trial _ _ g (k.inside.trials n trial e) (still_shape a b held g (k.inside.rows n p held r)) (k.over.rows n p held trial r e);
+    givens = λ n trial e. let t = k.inside.trials n trial e in given_over_still a b trial trial.given g t t.given (k.over.givens n trial e);
   };
   compares = λ table meets. record { by = λ n trial e. fits_still table a b facts n trial g k.inside e ((k.compares table meets).by n trial e) };
 }
@@ -100,6 +129,8 @@ one_row table heap before after n p held m trial a f new = record {
     | inr is ↦ subst (λ h. RowFits table trial.entry q (shape_of heap h) f.x f.y) (sym is.2)
         (subst (λ q. RowFits table trial.entry q (shape_of heap held) f.x f.y) (sym is.1) (new is.0))
   ];
+  cells = f.cells;
+  under = f.under;
 }
 
 currents_same : (before after : Facts) (entry : Entry) → after.called ≡ before.called → after.stored ≡ before.stored → current after entry ≡ current before entry
@@ -107,7 +138,13 @@ currents_same before after Start c s = refl
 currents_same before after (Called target) c s = ap (λ ns. Rattle.stack_check.specs.Facts.number_in (get_or ns target 0)) c
 currents_same before after (Stored site) c s = ap (λ ns. Rattle.stack_check.specs.Facts.number_in (get_or ns site 0)) s
 
-row_kept : (header : EngineTable) (code : List PlainOp) (heap : Heap) (before : Facts) (rows : Rattle.stack_check.specs.Rows.RowLists) (n p : ℕ) (held : Held)
+row_over : (header : EngineTable) (code : List PlainOp) (heap : Heap) (facts : Facts) (n p : ℕ) (held : Held) → Owed header code heap facts n p held
+    → (m : ℕ) (h : Held) (trial : Trial) → m ≡ n → h ≡ held → slice_get facts.trials m ≡ Some trial → IsOver heap trial (shape_of heap h)
+row_over header code heap facts n p held o m h trial i j e =
+    subst (λ h. IsOver heap trial (shape_of heap h)) (sym j)
+    (subst (λ t. IsOver heap t (shape_of heap held)) (some_is o.trial trial (sym o.has ∙ ap (slice_get facts.trials) (sym i) ∙ e)) o.over)
+
+row_kept : (header : EngineTable) (code : List PlainOp) (heap : Heap) (before : Facts) (rows : List Row) (n p : ℕ) (held : Held)
     → Keeps header code heap before → RowAdded before.rows rows n p held → IsIn heap held → Owed header code heap before n p held
     → Keeps header code heap (record before { rows = rows })
 row_kept header code heap before rows n p held k a i o = record {
@@ -120,6 +157,7 @@ row_kept header code heap before rows n p held k a i o = record {
       | inr is ↦ subst (λ m. m < length before.trials) (sym is.0) (slice_get_within before.trials n o.trial o.has)
     ];
     start = k.formed.start;
+    whole = k.formed.whole;
   };
   inside = record {
     rows = λ m q h r. elim (a.only m q h r) [
@@ -127,6 +165,13 @@ row_kept header code heap before rows n p held k a i o = record {
       | inr is ↦ subst (λ h. IsIn heap h) (sym is.2) i
     ];
     trials = k.inside.trials;
+  };
+  over = record {
+    rows = λ m q h trial r e. elim (a.only m q h r) [
+      | inl old ↦ k.over.rows m q h trial old e
+      | inr is ↦ row_over header code heap before n p held o m h trial is.0 is.2 e
+    ];
+    givens = k.over.givens;
   };
   compares = λ table meets. record {
     by = λ m trial e.
@@ -182,6 +227,8 @@ old_fits table heap before after added n trial a l f = record {
     | inl old ↦ f.rows p h old
     | inr is ↦ absurd (omega (arith, l, is.0))
   ];
+  cells = f.cells;
+  under = f.under;
 }
 
 -- the new one has its first row alone
@@ -196,6 +243,8 @@ new_fits table heap before after added n formed a e f = record {
     | inr is ↦ subst (λ h. RowFits table added.entry p (shape_of heap h) f.x f.y) (sym is.2)
         (subst (λ p. RowFits table added.entry p (shape_of heap (first_held added)) f.x f.y) (sym is.1) f.first)
   ];
+  cells = f.cells;
+  under = f.under;
 }
 
 fits_of_end : (table : ShapeTable) (heap : Heap) (before after : Facts) (added : Trial) (n : ℕ) (trial : Trial) → Formed before → TrialAdded before after added
@@ -245,6 +294,28 @@ row_in_heap heap before after added n p h all i a r = elim (a.only n p h r) [
   })
 ]
 
+whole_of_end : (before : Facts) (added : Trial) (n : ℕ) (trial : Trial) → Formed before → IsWhole added.entry added.unseen
+    → (slice_get before.trials n ≡ Some trial) ⊎ ((n ≡ length before.trials) × (trial ≡ added)) → IsWhole trial.entry trial.unseen
+whole_of_end before added n trial formed w (inl old) = formed.whole n trial old
+whole_of_end before added n trial formed w (inr is) = subst (λ (t : Trial). IsWhole t.entry t.unseen) (sym is.1) w
+
+given_of_end : (heap : Heap) (before : Facts) (added : Trial) (n : ℕ) (trial : Trial) → AllOver heap before → added.given ≡ None
+    → (slice_get before.trials n ≡ Some trial) ⊎ ((n ≡ length before.trials) × (trial ≡ added)) → GivenOver heap trial trial.given
+given_of_end heap before added n trial all g (inl old) = all.givens n trial old
+given_of_end heap before added n trial all g (inr is) =
+    subst (λ o. GivenOver heap trial o) (sym (ap (λ (t : Trial). t.given) is.1 ∙ g)) tt
+
+over_of_end : (heap : Heap) (before after : Facts) (added : Trial) (n p : ℕ) (h : Held) (trial : Trial) → Formed before → AllOver heap before
+    → IsOver heap added (shape_of heap (first_held added))
+    → (row_in before.rows n p ≡ Some h) ⊎ ((n ≡ length before.trials) × (p ≡ first_place added.entry) × (h ≡ first_held added))
+    → (slice_get before.trials n ≡ Some trial) ⊎ ((n ≡ length before.trials) × (trial ≡ added)) → IsOver heap trial (shape_of heap h)
+over_of_end heap before after added n p h trial formed all o (inl row) (inl old) = all.rows n p h trial row old
+over_of_end heap before after added n p h trial formed all o (inl row) (inr is) = absurd (let l = formed.owned n p h row in omega (arith, l, is.0))
+over_of_end heap before after added n p h trial formed all o (inr row) (inl old) =
+    absurd (let l = slice_get_within before.trials n trial old in omega (arith, l, row.0))
+over_of_end heap before after added n p h trial formed all o (inr row) (inr is) =
+    subst (λ h. IsOver heap trial (shape_of heap h)) (sym row.2) (subst (λ t. IsOver heap t (shape_of heap (first_held added))) (sym is.1) o)
+
 one_longer : (before : Facts) (added : Trial) → length (before.trials ++ added ∷ []) ≡ length before.trials + 1
 one_longer before added = length-append before.trials (added ∷ [])
 
@@ -260,10 +331,17 @@ keeps_trial header code heap before after added k a i s b = record {
       | inr is ↦ omega (arith, is.0, l)
     ];
     start = λ n trial e st. start_of_end before added n trial k.formed s st (get_end before.trials added trial n (ap (λ ts. slice_get ts n) (sym a.trials) ∙ e));
+    whole = λ n trial e. whole_of_end before added n trial k.formed b.whole (get_end before.trials added trial n (ap (λ ts. slice_get ts n) (sym a.trials) ∙ e));
   };
   inside = record {
     rows = λ n p h r. row_in_heap heap before after added n p h k.inside i a r;
     trials = λ n trial e. in_of_end heap before added n trial k.inside i (get_end before.trials added trial n (ap (λ ts. slice_get ts n) (sym a.trials) ∙ e));
+  };
+  over = record {
+    rows = λ n p h trial r e.
+        over_of_end heap before after added n p h trial k.formed k.over b.over (a.only n p h r)
+        (get_end before.trials added trial n (ap (λ ts. slice_get ts n) (sym a.trials) ∙ e));
+    givens = λ n trial e. given_of_end heap before added n trial k.over b.given (get_end before.trials added trial n (ap (λ ts. slice_get ts n) (sym a.trials) ∙ e));
   };
   compares = λ table meets. record {
     by = λ n trial e.
@@ -321,6 +399,8 @@ same_rows table heap facts after n trial e f = record {
   y = f.y;
   beyond = f.beyond;
   rows = λ p h r. f.rows p h (ap (λ rows. row_in rows n p) (sym e) ∙ r);
+  cells = f.cells;
+  under = f.under;
 }
 
 given_fits : (header : EngineTable) (code : List PlainOp) (heap : Heap) (facts : Facts) (n given : ℕ) (o : GivenOwed header code heap facts n given)
@@ -333,14 +413,15 @@ given_fits header code heap facts n given o table meets k now c (inr is) =
     let f = c n o.trial o.has in
     subst (λ t. TrialFits table heap (with_given facts n o.trial given) k t) (sym is.1)
     (subst (λ k. TrialFits table heap (with_given facts n o.trial given) k (record o.trial { given = Some given })) (sym is.0)
-    (record { x = f.x; y = f.y; beyond = o.by table meets f; rows = f.rows }))
+    (record { x = f.x; y = f.y; beyond = o.by table meets f; rows = f.rows; cells = f.cells; under = f.under }))
 
 given_trial_in : (heap : Heap) (facts : Facts) (n given : ℕ) (trial : Trial) → AllIn heap facts → given ≤ length heap.slots → (k : ℕ) (now : Trial)
     → (slice_get facts.trials k ≡ Some now) ⊎ ((k ≡ n) × (now ≡ record trial { given = Some given }) × (slice_get facts.trials k ≡ Some trial)) → TrialIn heap now
 given_trial_in heap facts n given trial all g k now (inl old) = all.trials k now old
 given_trial_in heap facts n given trial all g k now (inr is) =
     let t = all.trials k trial is.2 in
-    subst (λ t. TrialIn heap t) (sym is.1) (record { taken = t.taken; under = t.under; given = g })
+    subst (λ t. TrialIn heap t) (sym is.1)
+    (record { taken = t.taken; under = t.under; given = g; unseen_cells = t.unseen_cells; unseen_under = t.unseen_under })
 
 given_first : (facts : Facts) (n given : ℕ) (trial : Trial) → Formed facts → (k : ℕ) (now : Trial)
     → (slice_get facts.trials k ≡ Some now) ⊎ ((k ≡ n) × (now ≡ record trial { given = Some given }) × (slice_get facts.trials k ≡ Some trial))
@@ -355,6 +436,25 @@ given_start : (facts : Facts) (n given : ℕ) (trial : Trial) → Formed facts �
 given_start facts n given trial formed k now (inl old) e = formed.start k now old e
 given_start facts n given trial formed k now (inr is) e =
     subst (λ (t : Trial). (t.taken ≡ 0) × (t.under ≡ 0)) (sym is.1) (formed.start k trial is.2 (ap (λ (t : Trial). t.entry) (sym is.1) ∙ e))
+
+given_whole : (facts : Facts) (n given : ℕ) (trial : Trial) → Formed facts → (k : ℕ) (now : Trial)
+    → (slice_get facts.trials k ≡ Some now) ⊎ ((k ≡ n) × (now ≡ record trial { given = Some given }) × (slice_get facts.trials k ≡ Some trial))
+    → IsWhole now.entry now.unseen
+given_whole facts n given trial formed k now (inl old) = formed.whole k now old
+given_whole facts n given trial formed k now (inr is) = subst (λ (t : Trial). IsWhole t.entry t.unseen) (sym is.1) (formed.whole k trial is.2)
+
+given_over : (heap : Heap) (facts : Facts) (n p given : ℕ) (trial : Trial) → AllOver heap facts → (k : ℕ) (h : Held) (now : Trial) → row_in facts.rows k p ≡ Some h
+    → (slice_get facts.trials k ≡ Some now) ⊎ ((k ≡ n) × (now ≡ record trial { given = Some given }) × (slice_get facts.trials k ≡ Some trial))
+    → IsOver heap now (shape_of heap h)
+given_over heap facts n p given trial all k h now r (inl old) = all.rows k p h now r old
+given_over heap facts n p given trial all k h now r (inr is) =
+    let o = all.rows k p h trial r is.2 in subst (λ t. IsOver heap t (shape_of heap h)) (sym is.1) (record { own = o.own; is = o.is })
+
+given_givens : (heap : Heap) (facts : Facts) (n given : ℕ) (trial : Trial) → AllOver heap facts → GivenOver heap trial (Some given) → (k : ℕ) (now : Trial)
+    → (slice_get facts.trials k ≡ Some now) ⊎ ((k ≡ n) × (now ≡ record trial { given = Some given }) × (slice_get facts.trials k ≡ Some trial))
+    → GivenOver heap now now.given
+given_givens heap facts n given trial all o k now (inl old) = all.givens k now old
+given_givens heap facts n given trial all o k now (inr is) = subst (λ (t : Trial). GivenOver heap t t.given) (sym is.1) o
 
 given_current : (facts : Facts) (n given : ℕ) (trial : Trial) → slice_get facts.trials n ≡ Some trial → (m : ℕ) (entry : Entry) → IsTrialOf facts m entry
     → IsTrialOf (with_given facts n trial given) m entry
@@ -376,13 +476,123 @@ keeps_given header code heap facts n given o k g = record {
     firsts = λ m now h. given_first facts n given o.trial k.formed m now (before_set facts n given o.trial m now o.has h);
     owned = λ m p h r. let l = k.formed.owned m p h r in omega (arith, l, set_length facts.trials n (record o.trial { given = Some given }));
     start = λ m now h e. given_start facts n given o.trial k.formed m now (before_set facts n given o.trial m now o.has h) e;
+    whole = λ m now h. given_whole facts n given o.trial k.formed m now (before_set facts n given o.trial m now o.has h);
   };
   inside = record {
     rows = k.inside.rows;
     trials = λ m now h. given_trial_in heap facts n given o.trial k.inside g m now (before_set facts n given o.trial m now o.has h);
   };
+  over = record {
+    rows = λ m p h now r e. given_over heap facts n p given o.trial k.over m h now r (before_set facts n given o.trial m now o.has e);
+    givens = λ m now e. given_givens heap facts n given o.trial k.over o.over m now (before_set facts n given o.trial m now o.has e);
+  };
   compares = λ table meets. record {
     by = λ m now h.
         given_fits header code heap facts n given o table meets m now (k.compares table meets).by (before_set facts n given o.trial m now o.has h);
+  };
+}
+
+-- ---- more is looked at
+
+abbrev narrower : Trial → Unseen → Trial
+narrower trial unseen = record trial { unseen = unseen }
+
+before_narrow : (facts : Facts) (n : ℕ) (trial : Trial) (unseen : Unseen) (k : ℕ) (now : Trial) → slice_get facts.trials n ≡ Some trial
+    → slice_get (with_unseen facts n trial unseen).trials k ≡ Some now
+    → (slice_get facts.trials k ≡ Some now) ⊎ ((k ≡ n) × (now ≡ narrower trial unseen) × (slice_get facts.trials k ≡ Some trial))
+before_narrow facts n trial unseen k now has h = elim (set_cases facts.trials n (narrower trial unseen) k now h) [
+  | inl a ↦ inl a
+  | inr b ↦ inr (b.0, b.1, ap (slice_get facts.trials) b.0 ∙ has)
+]
+
+-- what is so of each trial, and of the one that has looked at more
+narrow_all : (P : ℕ → Trial → Type 0) (facts : Facts) (n : ℕ) (trial : Trial) (unseen : Unseen) → slice_get facts.trials n ≡ Some trial
+    → ((k : ℕ) (t : Trial) → slice_get facts.trials k ≡ Some t → P k t) → (P n trial → P n (narrower trial unseen))
+    → (k : ℕ) (now : Trial) → slice_get (with_unseen facts n trial unseen).trials k ≡ Some now → P k now
+narrow_all P facts n trial unseen has all more k now h = elim (before_narrow facts n trial unseen k now has h) [
+  | inl old ↦ all k now old
+  | inr is ↦ subst (λ t. P k t) (sym is.1) (subst (λ k. P k (narrower trial unseen)) (sym is.0) (more (all n trial has)))
+]
+
+less_whole : (entry : Entry) (before after : Unseen) → SeesMore before after → IsWhole entry before → IsWhole entry after
+less_whole Start before after s w = (omega (arith, s.cells, w.0), omega (arith, s.under, w.1))
+less_whole (Called target) before after s w = tt
+less_whole (Stored site) before after s w = (omega (arith, s.cells, w.0), omega (arith, s.under, w.1))
+
+cells_fewer : (heap : Heap) (trial : Trial) (unseen : Unseen) → TrialIn heap trial → SeesMore trial.unseen unseen
+    → unseen_cells heap trial ≡ take (trial.unseen.cells - unseen.cells) (unseen_cells heap trial) ++ unseen_cells heap (narrower trial unseen)
+cells_fewer heap trial unseen i s = lowest_fewer unseen.cells trial.unseen.cells (read heap.slots trial.taken) s.cells i.unseen_cells
+
+under_fewer : (heap : Heap) (trial : Trial) (unseen : Unseen) → TrialIn heap trial → SeesMore trial.unseen unseen
+    → unseen_under heap trial ≡ take (trial.unseen.under - unseen.under) (unseen_under heap trial) ++ unseen_under heap (narrower trial unseen)
+under_fewer heap trial unseen i s = lowest_fewer unseen.under trial.unseen.under (read heap.slots trial.under) s.under i.unseen_under
+
+over_narrow : (heap : Heap) (trial : Trial) (unseen : Unseen) (s : TopShape) → TrialIn heap trial → SeesMore trial.unseen unseen → IsOver heap trial s
+    → IsOver heap (narrower trial unseen) s
+over_narrow heap trial unseen s i m o =
+    let a = take (trial.unseen.cells - unseen.cells) (unseen_cells heap trial) in
+    let b = take (trial.unseen.under - unseen.under) (unseen_under heap trial) in
+    record {
+      own = deeper a b o.own;
+      is = o.is ∙ ap (λ x. deeper x (unseen_under heap trial) o.own) (cells_fewer heap trial unseen i m)
+          ∙ ap (λ y. deeper (a ++ unseen_cells heap (narrower trial unseen)) y o.own) (under_fewer heap trial unseen i m)
+          ∙ deeper_then a b (unseen_cells heap (narrower trial unseen)) (unseen_under heap (narrower trial unseen)) o.own;
+    }
+
+given_narrow : (heap : Heap) (trial : Trial) (unseen : Unseen) (given : Option ℕ) → TrialIn heap trial → SeesMore trial.unseen unseen → GivenOver heap trial given
+    → GivenOver heap (narrower trial unseen) given
+given_narrow heap trial unseen None i m o = tt
+given_narrow heap trial unseen (Some g) i m o =
+    let a = take (trial.unseen.cells - unseen.cells) (unseen_cells heap trial) in (
+      o.0 ++ a,
+      o.1 ∙ ap (λ z. o.0 ++ z) (cells_fewer heap trial unseen i m) ∙ sym (append_assoc o.0 a (unseen_cells heap (narrower trial unseen))),
+    )
+
+narrow_current : (facts : Facts) (n : ℕ) (trial : Trial) (unseen : Unseen) → slice_get facts.trials n ≡ Some trial → (m : ℕ) (entry : Entry) → IsTrialOf facts m entry
+    → IsTrialOf (with_unseen facts n trial unseen) m entry
+narrow_current facts n trial unseen has m entry t = elim (cases_eq m n) [
+  | inl e ↦ record {
+    trial = narrower trial unseen;
+    has = ap (slice_get (with_unseen facts n trial unseen).trials) e ∙ set_here facts.trials n _ (slice_get_within facts.trials n trial has);
+    of = ap (λ (t : Trial). t.entry) (some_is trial t.trial (sym has ∙ ap (slice_get facts.trials) (sym e) ∙ t.has)) ∙ t.of;
+  }
+  | inr ne ↦ record { trial = t.trial; has = set_other facts.trials n _ m ne ∙ t.has; of = t.of }
+]
+
+pub keeps_narrow : (header : EngineTable) (code : List PlainOp) (heap : Heap) (facts : Facts) (n : ℕ) (trial : Trial) (unseen : Unseen)
+    → Keeps header code heap facts → slice_get facts.trials n ≡ Some trial → SeesMore trial.unseen unseen → UnseenOwed header code heap facts n trial unseen
+    → Keeps header code heap (with_unseen facts n trial unseen)
+keeps_narrow header code heap facts n trial unseen k has m o = record {
+  formed = record {
+    currents = λ e j c. narrow_current facts n trial unseen has j e
+        (k.formed.currents e j (sym (currents_same facts (with_unseen facts n trial unseen) e refl refl) ∙ c));
+    firsts = narrow_all (λ j t. row_in facts.rows j (first_place t.entry) ≡ Some (first_held t)) facts n trial unseen has k.formed.firsts (λ f. f);
+    owned = λ j p h r. let l = k.formed.owned j p h r in omega (arith, l, set_length facts.trials n (narrower trial unseen));
+    start = narrow_all (λ j t. t.entry ≡ Start → (t.taken ≡ 0) × (t.under ≡ 0)) facts n trial unseen has k.formed.start (λ f. f);
+    whole = narrow_all (λ j t. IsWhole t.entry t.unseen) facts n trial unseen has k.formed.whole (less_whole trial.entry trial.unseen unseen m);
+  };
+  inside = record {
+    rows = k.inside.rows;
+    trials = narrow_all (λ j t. TrialIn heap t) facts n trial unseen has k.inside.trials (λ t. record {
+      taken = t.taken;
+      under = t.under;
+      given = t.given;
+      unseen_cells = omega (arith, t.unseen_cells, m.cells);
+      unseen_under = omega (arith, t.unseen_under, m.under);
+    });
+  };
+  over = record {
+    rows = λ j p h now r e.
+        narrow_all (λ j t. row_in facts.rows j p ≡ Some h → IsOver heap t (shape_of heap h)) facts n trial unseen has
+        (λ i t e r. k.over.rows i p h t r e) (λ f r. over_narrow heap trial unseen (shape_of heap h) (k.inside.trials n trial has) m (f r)) j now e r;
+    givens = narrow_all (λ j t. GivenOver heap t t.given) facts n trial unseen has k.over.givens
+        (given_narrow heap trial unseen trial.given (k.inside.trials n trial has) m);
+  };
+  compares = λ table meets. record {
+    by = narrow_all (λ j t. TrialFits table heap (with_unseen facts n trial unseen) j t) facts n trial unseen has
+        (λ j t e. same_rows table heap facts (with_unseen facts n trial unseen) j t refl ((k.compares table meets).by j t e))
+        (λ g. let f = (k.compares table meets).by n trial has in
+        let l = o.by table meets f in
+        record { x = f.x; y = f.y; beyond = f.beyond; rows = f.rows; cells = l.0; under = l.1 });
   };
 }

@@ -3,11 +3,16 @@ pub mod Walks
 pub mod Heaps
 pub mod Numbers
 pub mod RowLemmas
+pub mod Links
+pub mod Windows
+pub mod Left
 pub mod Keeping
+pub mod Tables
 pub mod Reaching
 pub mod Steps
 pub mod Following
 pub mod Adding
+pub mod Seeing
 pub mod Calling
 pub mod CallSteps
 pub mod ReturnSteps

@@ -1,5 +1,5 @@
 -- An instruction with a rule of one shape, in what was found and in every table.
-use Rattle.std.proofs.Common.{arith, ◌≡◌, ◌<◌, ℕ, zero, suc, List, [], ◌∷◌, length, None, Some, slice_get, inl, inr, ◌⊎◌, sym, subst, ◌∙◌, ap, refl}
+use Rattle.std.proofs.Common.{arith, ◌≡◌, ◌<◌, ℕ, zero, suc, List, [], ◌∷◌, length, Option, None, Some, slice_get, inl, inr, ◌⊎◌, sym, subst, ◌∙◌, ap, refl}
 use Rattle.nwq_value.specs.Engine.{EngineTable}
 use Rattle.ncs_code.specs.Plain.{PlainOp}
 use Rattle.ncs_code.specs.Plain as ops
@@ -7,7 +7,8 @@ use Rattle.ncs_code.specs.File.{op_at}
 use Rattle.stack_shape.specs.declared.shape.Slot.{Slot}
 use Rattle.stack_shape.specs.declared.shape.Entry.{Entry}
 use Rattle.stack_shape.specs.Stored.{TopShape}
-use Rattle.stack_shape.specs.Laws.{deeper, RuleLooksFromTop}
+use Rattle.stack_shape.specs.Laws.{deeper, Reaches, RuleLooksFromTop, RuleLooksNoDeeper, RuleReaches}
+use Rattle.stack_shape.specs.Reach.{reach}
 use Rattle.stack_shape.specs.Rule.{IsOneStep, rule}
 use Rattle.machine_rules.specs.Act.{next_place}
 use Rattle.stack_rules.specs.Tables.{ShapeTable}
@@ -19,9 +20,11 @@ use Rattle.stack_check.specs.declared.facts.Facts.{Facts}
 use Rattle.stack_check.specs.declared.leads.Lead.{Lead}
 use Rattle.stack_check.specs.Held.{HeapGrows, IsIn, shape_of}
 use Rattle.stack_check.specs.Rows.{row_in}
-use Rattle.stack_check.specs.Facts.{current, table_of}
-use Rattle.stack_check.specs.Inference.{RowFits, Keeps, Owed, RowIs, IsLed, AllLed, RowsKept, IsStep, Sound, leads_of}
+use Rattle.stack_check.specs.Facts.{current, table_of, unseen_cells, unseen_under}
+use Rattle.stack_check.specs.Inference.{RowFits, Keeps, Owed, RowIs, IsLed, AllLed, RowsKept, IsOver, IsOverIn, IsStep, IsThere, LooksOwed, Within, Sound, AsksFurtherOf, leads_of}
 use Rattle.stack_check.proofs.Heaps.{still_shape}
+use Rattle.stack_check.proofs.Keeping.{over_still}
+use Rattle.stack_check.proofs.Tables.{led_at, own_is}
 
 some_is : {A : Type 0} (a b : A) → Some a ≡ Some b → a ≡ b
 some_is a b h = cc
@@ -153,50 +156,96 @@ led_owed law header code heap facts n p held op after lead t k s e led =
       by = λ table meets f.
           let g = step_fits law header code table i.0.entry p op (shape_of heap held) (shape_of heap after) f.x f.y meets s.stands s.one (f.rows p held s.row) s.has_rule in
           record { own = g.own; known = leads_led table i.0.entry p op g.own g.leads t (subst (λ l. IsLed l t) e led); is = g.is };
+      over = subst (λ t. IsOver heap t (shape_of heap after)) (some_is s.over.trial i.0 (sym s.over.has ∙ i.1)) s.over.over;
     }
 
 pub step_kept : (header : EngineTable) (code : List PlainOp) (heap : Heap) (facts facts' : Facts) (n p : ℕ) (held : Held) (op : PlainOp) (after : Held)
     → IsStep header code heap facts n p held op after → RowsKept facts facts' → IsStep header code heap facts' n p held op after
 step_kept header code heap facts facts' n p held op after s k =
-    record { row = k.by n p held s.row; stands = s.stands; one = s.one; has_rule = s.has_rule; inside = s.inside }
+    record {
+      row = k.by n p held s.row;
+      stands = s.stands;
+      one = s.one;
+      has_rule = s.has_rule;
+      inside = s.inside;
+      over = record { trial = s.over.trial; has = ap (λ ts. slice_get ts n) k.trials ∙ s.over.has; over = s.over.over };
+    }
+
+-- ---- the shape above what was not looked at
+
+-- The rule on a shape is one on the part of it above what the trial hasn't looked at.
+pub record OwnStep (header : EngineTable) (op : PlainOp) (after own : TopShape) (x y : List Slot) : Type 0 where
+  pub next : TopShape
+  pub has_rule : rule header op own ≡ Some next
+  pub is : after ≡ deeper x y next
+
+own_found : RuleLooksFromTop → RuleLooksNoDeeper → (header : EngineTable) (op : PlainOp) (s after own : TopShape) (x y : List Slot) (o : Option TopShape)
+    → rule header op own ≡ o → rule header op s ≡ Some after → s ≡ deeper x y own → Reaches header op own → OwnStep header op after own x y
+own_found law deep header op s after own x y None e has is r =
+    absurd (none_some after (sym (deep header op own x y r e) ∙ ap (rule header op) (sym is) ∙ has))
+own_found law deep header op s after own x y (Some next) e has is r = record {
+  next = next;
+  has_rule = e;
+  is = some_is after (deeper x y next) (sym has ∙ ap (rule header op) is ∙ law header op own next x y e);
+}
+
+pub own_step : RuleLooksFromTop → RuleLooksNoDeeper → (header : EngineTable) (op : PlainOp) (s after own : TopShape) (x y : List Slot)
+    → rule header op s ≡ Some after → s ≡ deeper x y own → IsThere own (reach header op) → OwnStep header op after own x y
+own_step law deep header op s after own x y has is t =
+    own_found law deep header op s after own x y (rule header op own) refl has is (record { cells = t.cells; under = t.under })
+
+-- what an instruction with a rule looks at is there, and so it is in every table
+pub rule_there : RuleReaches → (header : EngineTable) (op : PlainOp) (s after : TopShape) → rule header op s ≡ Some after → IsThere s (reach header op)
+rule_there law header op s after has = let r = law header op s after has in record { cells = r.cells; under = r.under }
+
+pub looks_owed : RuleReaches → (header : EngineTable) (code : List PlainOp) (heap : Heap) (facts : Facts) (n p : ℕ) (op : PlainOp)
+    → op_at code p ≡ Some op → IsOneStep op → LooksOwed header code heap facts n p (reach header op)
+looks_owed law header code heap facts n p op stands one = record {
+  by = λ table meets trial has own known.
+      let t = table_follows header code table trial.entry p op own meets stands one known in rule_there law header op own t.after t.has_rule;
+}
 
 -- a step that was made
-pub step_made : (header : EngineTable) (code : List PlainOp) (heap heap' : Heap) (facts : Facts) (n p : ℕ) (held : Held) (op : PlainOp) (after : Held)
-    → Keeps header code heap facts → row_in facts.rows n p ≡ Some held → op_at code p ≡ Some op → IsOneStep op → HeapGrows heap heap' → IsIn heap' after
-    → rule header op (shape_of heap held) ≡ Some (shape_of heap' after) → IsStep header code heap' facts n p held op after
-step_made header code heap heap' facts n p held op after k r stands one g i has =
-    record { row = r; stands = stands; one = one; has_rule = ap (rule header op) (still_shape heap heap' held g (k.inside.rows n p held r)) ∙ has; inside = i }
+pub step_made : RuleLooksFromTop → RuleLooksNoDeeper → (header : EngineTable) (code : List PlainOp) (heap heap' : Heap) (facts : Facts) (n p : ℕ) (held : Held)
+    (op : PlainOp) (after : Held) → Keeps header code heap facts → row_in facts.rows n p ≡ Some held → op_at code p ≡ Some op → IsOneStep op
+    → HeapGrows heap heap' → IsIn heap' after → rule header op (shape_of heap held) ≡ Some (shape_of heap' after)
+    → Within heap' facts n (shape_of heap' held) (reach header op) → IsStep header code heap' facts n p held op after
+step_made law deep header code heap heap' facts n p held op after k r stands one g i has w =
+    let there = ap (rule header op) (still_shape heap heap' held g (k.inside.rows n p held r)) ∙ has in
+    let o = own_step law deep header op (shape_of heap' held) (shape_of heap' after) w.own _ _ there w.is w.there in
+    record {
+      row = r;
+      stands = stands;
+      one = one;
+      has_rule = there;
+      inside = i;
+      over = record { trial = w.trial; has = w.has; over = record { own = o.next; is = o.is } };
+    }
 
 -- ---- the table that was found
 
-pub at_of : (heap : Heap) (facts : Facts) (entry : Entry) (n p : ℕ) (held : Held) → current facts entry ≡ Some n → row_in facts.rows n p ≡ Some held
-    → (table_of heap facts).at entry p ≡ Some (shape_of heap held)
-at_of heap facts entry n p held c r =
-    ap (λ o. Rattle.std.specs.Option.option_map (shape_of heap) (Rattle.std.specs.Option.option_and_then (λ trial. row_in facts.rows trial p) o)) c
-    ∙ ap (Rattle.std.specs.Option.option_map (shape_of heap)) r
-
--- a shape that was found in a larger heap is one of the table before
-pub led_at : (header : EngineTable) (code : List PlainOp) (heap heap' : Heap) (facts : Facts) (entry : Entry) (n p : ℕ) (shape : TopShape)
-    → Keeps header code heap facts → HeapGrows heap heap' → current facts entry ≡ Some n → RowIs heap' facts n p shape
-    → (table_of heap facts).at entry p ≡ Some shape
-led_at header code heap heap' facts entry n p shape k g c r =
-    at_of heap facts entry n p r.held c r.row
-    ∙ ap Some (sym (still_shape heap heap' r.held g (k.inside.rows n p r.held r.row)) ∙ r.is)
-
-pub step_sound : (header : EngineTable) (code : List PlainOp) (heap heap' : Heap) (facts : Facts) (n p : ℕ) (held : Held) (op : PlainOp) (after : TopShape) (lead : Lead)
-    → Keeps header code heap facts → HeapGrows heap heap' → op_at code p ≡ Some op → IsOneStep op → rule header op (shape_of heap held) ≡ Some after
-    → lead ≡ leads_of p (next_place p op) op → AllLed heap' facts n lead after
-    → AsksFurther (table_of heap facts) p op (shape_of heap held) → Sound header code heap facts n p held
-step_sound header code heap heap' facts n p held op after lead k g stands one has e led further = record {
-  by = λ entry c. record {
-    op = op;
-    stands = stands;
-    obeys = obeys_of header (table_of heap facts) entry p op (shape_of heap held) one (record {
-      after = after;
-      has_rule = has;
-      leads = leads_from (table_of heap facts) entry p op after (λ t l.
-          led_at header code heap heap' facts entry n t after k g c (led.by t (subst (λ x. IsLed x t) (sym e) l)));
-      further = further;
-    });
-  };
+pub step_sound : RuleLooksFromTop → RuleLooksNoDeeper → (header : EngineTable) (code : List PlainOp) (a b : Heap) (facts : Facts) (n p : ℕ) (held : Held)
+    (op : PlainOp) (after : Held) (lead : Lead) → Keeps header code a facts → row_in facts.rows n p ≡ Some held → HeapGrows a b → op_at code p ≡ Some op → IsOneStep op
+    → rule header op (shape_of a held) ≡ Some (shape_of b after) → lead ≡ leads_of p (next_place p op) op → AllLed b facts n lead (shape_of b after)
+    → Within b facts n (shape_of b held) (reach header op) → AsksFurtherOf header a facts n p op held → Sound header code a facts n p held
+step_sound law deep header code a b facts n p held op after lead k r g stands one has e led w further = record {
+  by = λ entry c trial h over.
+      let i = k.inside.trials n trial h in
+      let still = still_shape a b held g (k.inside.rows n p held r) in
+      let over_b = over_still a b trial (shape_of a held) (shape_of b held) g i still over in
+      let w_own = own_is b trial (shape_of b held) over_b w.own
+      (w.is ∙ ap (λ t. deeper (unseen_cells b t) (unseen_under b t) w.own) (some_is w.trial trial (sym w.has ∙ h))) in
+      let o = own_step law deep header op (shape_of a held) (shape_of b after) over.own _ _ has over.is
+      (subst (λ s. IsThere s (reach header op)) w_own w.there) in
+      record {
+        op = op;
+        stands = stands;
+        obeys = obeys_of header (table_of a facts) entry p op over.own one (record {
+          after = o.next;
+          has_rule = o.has_rule;
+          leads = leads_from (table_of a facts) entry p op o.next (λ t l.
+              led_at header code a b facts entry n t (shape_of b after) o.next trial k g c h (led.by t (subst (λ x. IsLed x t) (sym e) l)) o.is);
+          further = further trial h over o.next o.has_rule;
+        });
+      };
 }

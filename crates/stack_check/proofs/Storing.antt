@@ -1,5 +1,5 @@
 -- Stored states.
-use Rattle.std.proofs.Common.{arith, ◌≡◌, ◌≤◌, ◌+◌, ℕ, ℤ, zero, suc, List, [], ◌∷◌, ◌++◌, length, map, Option, None, Some, slice_get, sym, subst, ◌∙◌, ap, refl}
+use Rattle.std.proofs.Common.{arith, ◌≡◌, ◌≤◌, ◌<◌, ◌+◌, ℕ, ℤ, zero, suc, List, [], ◌∷◌, ◌++◌, length, map, Option, None, Some, slice_get, sym, subst, ◌∙◌, ap, refl}
 use Rattle.std.specs.Prelude.{get_or}
 use Rattle.std.proofs.lemmas.List.{append-nil}
 use Rattle.nwq_value.specs.Engine.{EngineTable}
@@ -30,32 +30,20 @@ use Rattle.stack_check.specs.Shared.{read, Grows}
 use Rattle.stack_check.specs.Held.{AllAtMost, HeapGrows, Holds, IsIn, shape_of}
 use Rattle.stack_check.specs.Rows.{row_in}
 use Rattle.stack_check.specs.Facts.{current, number_in, table_of, first_held, callee_of}
-use Rattle.stack_check.specs.Inference.{TrialIn, Beyond, RowIs, Keeps, Visited, WhereQuiet, Owed, Begins, Sound, Sees, SeesStep, Resumes, IsStored, Stores, IsPlain, IsCall, after_change, kind_of}
+use Rattle.stack_check.specs.Inference.{IsOver, IsWhole, TrialIn, AsksFurtherOf, Takes, Beyond, RowIs, Keeps, Visited, WhereQuiet, Owed, Begins, Sound, Sees, SeesStep, Resumes, IsStored, Stores, IsPlain, IsCall, after_change, kind_of}
 use Rattle.stack_check.proofs.Heaps.{heap_then, heap_same, same_shape}
+use Rattle.stack_check.specs.Facts.{left}
 use Rattle.stack_check.proofs.Walks.{read_empty, grows_then, grows_none}
+use Rattle.stack_check.proofs.Windows.{deeper_none}
+use Rattle.stack_check.proofs.Tables.{at_of, led_at, whole_over}
 use Rattle.stack_check.proofs.Keeping.{keeps_grows}
-use Rattle.stack_check.proofs.Steps.{row_trial, led_at, table_follows, no_rule, no_op}
+use Rattle.stack_check.proofs.Following.{takes_both}
+use Rattle.stack_check.proofs.Steps.{row_trial, table_follows, no_rule, no_op}
 
 some_is : {A : Type 0} (a b : A) → Some a ≡ Some b → a ≡ b
 some_is a b h = cc
 
 -- ---- nothing beneath
-
-saved_none : (saved : List (List Slot)) → deeper_saved [] [] saved ≡ saved
-saved_none [] = refl
-saved_none (u ∷ us) =
-    ap (λ z. z ∷ deeper_saved [] [] us) (ap (λ z. u ++ z) (none us) ∙ append-nil u) ∙ ap (λ rest. u ∷ rest) (saved_none us)
-  where
-    none : (us : List (List Slot)) → beneath_under [] [] us ≡ []
-    none [] = refl
-    none (u ∷ us) = refl
-
-under_none : (us : List (List Slot)) → beneath_under [] [] us ≡ []
-under_none [] = refl
-under_none (u ∷ us) = refl
-
-pub deeper_none : (s : TopShape) → deeper [] [] s ≡ s
-deeper_none s = same_shape _ _ _ _ _ _ _ _ (append-nil s.cells) (ap (λ z. s.under ++ z) (under_none s.saved) ∙ append-nil s.under) (saved_none s.saved) refl
 
 deeper_empty : (x y : List Slot) (s : TopShape) → x ≡ [] → y ≡ [] → deeper x y s ≡ s
 deeper_empty x y s e f = ap (λ x. deeper x y s) e ∙ ap (λ y. deeper [] y s) f ∙ deeper_none s
@@ -94,12 +82,12 @@ counts_of facts site (suc n) e ne = ap number_in (sym e)
 pub ruleset counting = (counts_of)
 
 first_is : (heap : Heap) (held : Held) (site : ℕ) → (held.saved ≡ 0) × (held.pending ≡ 0)
-    → shape_of heap (first_held (record { entry = Stored site; taken = held.cells; under = held.under; given = None })) ≡ shape_of heap held
+    → shape_of heap (first_held (record { entry = Stored site; taken = held.cells; under = held.under; given = None; unseen = record { cells = 0; under = 0 } })) ≡ shape_of heap held
 first_is heap held site z = same_shape _ _ _ _ _ _ _ _ refl refl (ap (λ n. map (read heap.slots) (read heap.saved n)) (sym z.0)) (sym z.1)
 
 pub stored_begins : (header : EngineTable) (code : List PlainOp) (heap : Heap) (site : ℕ) (held : Held) → Resumes header code site (shape_of heap held)
     → (held.saved ≡ 0) × (held.pending ≡ 0)
-    → Begins header code heap (record { entry = Stored site; taken = held.cells; under = held.under; given = None })
+    → Begins header code heap (record { entry = Stored site; taken = held.cells; under = held.under; given = None; unseen = record { cells = 0; under = 0 } })
 stored_begins header code heap site held r z = record {
   by = λ table meets. record {
     x = [];
@@ -110,12 +98,18 @@ stored_begins header code heap site held r z = record {
       known = r.by table meets;
       is = first_is heap held site z ∙ sym (deeper_none (shape_of heap held));
     };
+    cells = omega arith;
+    under = omega arith;
   };
+  over = whole_over heap _ _ (refl, refl);
+  whole = (refl, refl);
+  given = refl;
+  few = (omega arith, omega arith);
 }
 
 pub stored_in : (heap : Heap) (held : Held) (site : ℕ) → IsIn heap held
-    → TrialIn heap (record { entry = Stored site; taken = held.cells; under = held.under; given = None })
-stored_in heap held site i = record { taken = i.cells; under = i.under; given = tt }
+    → TrialIn heap (record { entry = Stored site; taken = held.cells; under = held.under; given = None; unseen = record { cells = 0; under = 0 } })
+stored_in heap held site i = record { taken = i.cells; under = i.under; given = tt; unseen_cells = omega arith; unseen_under = omega arith }
 
 pub stored_owed : (header : EngineTable) (code : List PlainOp) (heap : Heap) (facts : Facts) (site number : ℕ) (held : Held) → Keeps header code heap facts
     → Resumes header code site (shape_of heap held) → current facts (Stored site) ≡ Some number → Owed header code heap facts number (resume_place site) held
@@ -131,6 +125,7 @@ stored_owed header code heap facts site number held k r c =
             known = ap (λ e. table.at e (resume_place site)) t.of ∙ r.by table meets;
             is = sym (deeper_empty f.x f.y (shape_of heap held) none.0 none.1);
           };
+      over = whole_over heap t.trial (shape_of heap held) (subst (λ e. IsWhole e t.trial.unseen) t.of (k.formed.whole number t.trial t.has));
     }
 
 pub stored_quiet : (heap : Heap) (facts after : Facts) (site number : ℕ) (shape : TopShape) (seen : Seen) → current facts (Stored site) ≡ Some number
@@ -139,6 +134,9 @@ pub stored_quiet : (heap : Heap) (facts after : Facts) (site number : ℕ) (shap
 stored_quiet heap facts after site number shape Quiet c q = (q.0, record { number = number; counts = c; row = q.1 })
 stored_quiet heap facts after site number shape Changed c q = tt
 stored_quiet heap facts after site number shape Bad c q = tt
+
+pub stored_takes : (before after : Facts) → left after < left before → Takes before after Changed
+stored_takes before after l = l
 
 pub ruleset resuming = (stored_begins, stored_in, stored_owed, stored_quiet)
 
@@ -179,43 +177,63 @@ stored_resumes law header code heap facts n p held op types k r stands s = recor
       stores_fit op (shape_of heap held) a.own types table p f.x f.y law a.is s t.further;
 }
 
+-- where the rule is there the types are, and they are those of the deeper shape
+stored_own : (globals locals : ℕ) (own after : TopShape) (o : Option StoredTypes) → stored_types globals locals own.under own.cells ≡ o
+    → option_map (λ t. record own { pending = own.pending + 1 }) o ≡ Some after → (t : StoredTypes) × (stored_types globals locals own.under own.cells ≡ Some t)
+stored_own globals locals own after None e h = absurd cc
+stored_own globals locals own after (Some t) e h = (t, e)
+
 -- what it asks for besides is there
-further_stored : (op : PlainOp) (shape : TopShape) (types : StoredTypes) (table : ShapeTable) (site : ℕ) → Stores op shape types
-    → table.at (Stored site) (resume_place site) ≡ Some (stored_shape types) → AsksFurther table site op shape
-further_stored (ops.StoreState globals locals) shape types table site s e = record { types = types; found = s; resumes = e }
-further_stored op shape types table site s e = absurd s
+further_stored : StoresLookFromTop → (header : EngineTable) (op : PlainOp) (shape own after : TopShape) (x y : List Slot) (types : StoredTypes) (table : ShapeTable)
+    (site : ℕ) → Stores op shape types → shape ≡ deeper x y own → rule header op own ≡ Some after
+    → table.at (Stored site) (resume_place site) ≡ Some (stored_shape types) → AsksFurther table site op own
+unfolding rule
+further_stored law header (ops.StoreState globals locals) shape own after x y types table site s is has e =
+    let t = stored_own globals locals own after (stored_types globals locals own.under own.cells) refl has in
+    let found = law globals locals own.under own.cells x (beneath_under x y own.saved) t.0 t.1 in
+    let same = some_is t.0 types (sym found ∙ ap (λ (s : TopShape). stored_types globals locals s.under s.cells) (sym is) ∙ s) in
+    record { types = t.0; found = t.1; resumes = e ∙ ap (λ t. Some (stored_shape t)) (sym same) }
+further_stored law header op shape own after x y types table site s is has e = absurd s
+
+-- the shape with which it resumes is the table's
+resumes_at : (header : EngineTable) (code : List PlainOp) (a b : Heap) (facts : Facts) (site n : ℕ) (shape : TopShape) → Keeps header code a facts → HeapGrows a b
+    → current facts (Stored site) ≡ Some n → RowIs b facts n (resume_place site) shape → (table_of a facts).at (Stored site) (resume_place site) ≡ Some shape
+resumes_at header code a b facts site n shape k g c r =
+    let t = k.formed.currents (Stored site) n c in
+    let w = whole_over a t.trial shape (subst (λ e. IsWhole e t.trial.unseen) t.of (k.formed.whole n t.trial t.has)) in
+    led_at header code a b facts (Stored site) n (resume_place site) shape w.own t.trial k g c t.has r w.is
 
 pub store_bad : (header : EngineTable) (code : List PlainOp) (a b : Heap) (facts facts' : Facts) (n p : ℕ) (held : Held) (op : PlainOp)
     → SeesStep header code a b facts facts' n p held op Bad → Sees header code a b facts facts' n p held Bad
-store_bad header code a b facts facts' n p held op s = record { grows = s.grows; keeps = s.keeps; quiet = tt }
+store_bad header code a b facts facts' n p held op s = record { grows = s.grows; keeps = s.keeps; quiet = tt; takes = tt }
 
-pub store_quiet : (header : EngineTable) (code : List PlainOp) (a b c : Heap) (facts mid facts' : Facts) (n p : ℕ) (held : Held) (op : PlainOp) (types : StoredTypes)
-    (seen : Seen) → Keeps header code a facts → Stores op (shape_of a held) types → SeesStep header code a b facts mid n p held op Quiet → HeapGrows b c
-    → Visited header code c facts' seen → WhereQuiet seen ((facts' ≡ mid) × IsStored c mid p (stored_shape types))
+pub store_quiet : StoresLookFromTop → (header : EngineTable) (code : List PlainOp) (a b c : Heap) (facts mid facts' : Facts) (n p : ℕ) (held : Held) (op : PlainOp)
+    (types : StoredTypes) (seen : Seen) → Keeps header code a facts → Stores op (shape_of a held) types → SeesStep header code a b facts mid n p held op Quiet
+    → HeapGrows b c → Visited header code c facts' seen → WhereQuiet seen ((facts' ≡ mid) × IsStored c mid p (stored_shape types)) → Takes mid facts' seen
     → Sees header code a c facts facts' n p held seen
-store_quiet header code a b c facts mid facts' n p held op types seen k s first g v q =
-    record { grows = heap_then a b c first.grows g; keeps = v; quiet = quiet seen q }
+store_quiet law header code a b c facts mid facts' n p held op types seen k s first g v q t =
+    record { grows = heap_then a b c first.grows g; keeps = v; quiet = quiet seen q; takes = subst (λ f. Takes f facts' seen) first.quiet.0 t }
   where
     quiet : (seen : Seen) → WhereQuiet seen ((facts' ≡ mid) × IsStored c mid p (stored_shape types)) → WhereQuiet seen ((facts' ≡ facts) × Sound header code a facts n p held)
     quiet Quiet q =
         let i : IsStored c facts p (stored_shape types) = subst (λ f. IsStored c f p (stored_shape types)) first.quiet.0 q.1 in (
           q.0 ∙ first.quiet.0,
-          first.quiet.1 (further_stored op (shape_of a held) types (table_of a facts) p s
-              (led_at header code a c facts (Stored p) i.number (resume_place p) (stored_shape types) k (heap_then a b c first.grows g) i.counts i.row)),
+          first.quiet.1 (λ trial h over after has. further_stored law header op (shape_of a held) over.own after _ _ types (table_of a facts) p s over.is has
+              (resumes_at header code a c facts p i.number (stored_shape types) k (heap_then a b c first.grows g) i.counts i.row)),
         )
     quiet Changed q = tt
     quiet Bad q = tt
 
-pub store_changed : (header : EngineTable) (code : List PlainOp) (a b c : Heap) (facts mid facts' : Facts) (n p : ℕ) (held : Held) (op : PlainOp)
-    (seen now : Seen) → SeesStep header code a b facts mid n p held op Changed → HeapGrows b c → Visited header code c facts' seen → now ≡ after_change seen
-    → Sees header code a c facts facts' n p held now
-store_changed header code a b c facts mid facts' n p held op seen now first g v e =
-    subst (λ s. Sees header code a c facts facts' n p held s) (sym e) (at seen v)
+pub store_changed : (header : EngineTable) (code : List PlainOp) (a b c : Heap) (facts mid facts' : Facts) (n p : ℕ) (held : Held) (op : PlainOp) (P : Type 0)
+    (seen now : Seen) → SeesStep header code a b facts mid n p held op Changed → HeapGrows b c → Visited header code c facts' seen
+    → WhereQuiet seen ((facts' ≡ mid) × P) → Takes mid facts' seen → now ≡ after_change seen → Sees header code a c facts facts' n p held now
+store_changed header code a b c facts mid facts' n p held op P seen now first g v q t e =
+    subst (λ s. Sees header code a c facts facts' n p held s) (sym e) (at seen v (takes_both P facts mid facts' seen (after_change seen) first.takes t q refl))
   where
-    at : (seen : Seen) → Visited header code c facts' seen → Sees header code a c facts facts' n p held (after_change seen)
-    at Quiet v = record { grows = heap_then a b c first.grows g; keeps = v; quiet = tt }
-    at Changed v = record { grows = heap_then a b c first.grows g; keeps = v; quiet = tt }
-    at Bad v = record { grows = heap_then a b c first.grows g; keeps = v; quiet = tt }
+    at : (seen : Seen) → Visited header code c facts' seen → Takes facts facts' (after_change seen) → Sees header code a c facts facts' n p held (after_change seen)
+    at Quiet v t = record { grows = heap_then a b c first.grows g; keeps = v; quiet = tt; takes = t }
+    at Changed v t = record { grows = heap_then a b c first.grows g; keeps = v; quiet = tt; takes = t }
+    at Bad v t = record { grows = heap_then a b c first.grows g; keeps = v; quiet = tt; takes = tt }
 
 pub ruleset storing = (stored_resumes, store_bad, store_quiet, store_changed)
 
@@ -231,6 +249,7 @@ stores_none law header code heap facts n p held op globals locals k r stands e h
   grows = heap_same heap;
   keeps = no_rule law header code heap facts n p held op k r stands (subst (λ o. IsOneStep o) (sym e) tt) (stored_none header op globals locals (shape_of heap held) e h);
   quiet = tt;
+  takes = tt;
 }
 
 pub stores_some : (heap : Heap) (held : Held) (op : PlainOp) (globals locals : ℕ) (types : StoredTypes) → op ≡ ops.StoreState globals locals
@@ -321,7 +340,7 @@ pub ruleset kinds = (call_stands, call_next, return_stands, store_op, step_one, 
 pub no_op_bad : (header : EngineTable) (code : List PlainOp) (heap : Heap) (facts : Facts) (n p : ℕ) (held : Held) → Keeps header code heap facts
     → row_in facts.rows n p ≡ Some held → op_at code p ≡ None → Sees header code heap heap facts facts n p held Bad
 no_op_bad header code heap facts n p held k r none =
-    record { grows = heap_same heap; keeps = no_op header code heap facts n p held k r none; quiet = tt }
+    record { grows = heap_same heap; keeps = no_op header code heap facts n p held k r none; quiet = tt; takes = tt }
 
 pub types_on_tops : (o : Option StoredTypes) (globals locals : ℕ) (l m n : List (Node Slot)) (u v a b : ℕ) → o ≡ stored_types globals locals (read l u) (read m v)
     → l ≡ n → u ≡ a → m ≡ n → v ≡ b → o ≡ stored_types globals locals (read n a) (read n b)

@@ -1,13 +1,13 @@
 -- Walks down lists of slots.
-use Rattle.std.proofs.Common.{arith, rules, ◌≡◌, ◌≢◌, ◌≤◌, ◌<◌, ◌+◌, ◌-◌, ℕ, zero, suc, List, [], ◌∷◌, ◌++◌, length, map, drop, get_or, Option, None, Some, sym, subst, ◌∙◌, ap, refl}
+use Rattle.std.proofs.Common.{arith, rules, ◌≡◌, ◌≢◌, ◌≤◌, ◌<◌, ◌+◌, ◌-◌, ℕ, zero, suc, List, [], ◌∷◌, ◌++◌, length, map, take, drop, get_or, Option, None, Some, sym, subst, ◌∙◌, ap, refl}
 use Rattle.std.specs.Option.{option_map}
-use Rattle.std.proofs.lemmas.List.{append_assoc, append-nil, length-append, length-map}
+use Rattle.std.proofs.lemmas.List.{append_assoc, append-nil, length-append, length-map, take-append-drop}
 use Rattle.nwq_value.specs.declared.value.Ty.{Ty}
 use Rattle.stack_shape.specs.declared.shape.Slot.{Slot}
 use Rattle.stack_shape.specs.declared.shape.Slot.TheVariants.{Of, Base}
 use Rattle.stack_shape.specs.TopFirst.{types_on}
 use Rattle.stack_check.specs.declared.lists.Node.{Node}
-use Rattle.stack_check.specs.Shared.{read, Grows, HoldsCommon}
+use Rattle.stack_check.specs.Shared.{read, Grows}
 
 -- ---- the empty list, and growing
 
@@ -29,28 +29,6 @@ grown_inside a b number g h = omega (arith, g.longer, h)
 
 pub grown_reads : {A : Type 0} (a b : List (Node A)) (number : ℕ) → Grows a b → number ≤ length a → read b number ≡ read a number
 grown_reads a b number g h = g.same number h
-
--- ---- the lower part
-
-drop_nil : (n : ℕ) (xs : List Slot) → xs ≡ [] → drop n xs ≡ []
-drop_nil zero xs e = e
-drop_nil (suc n) [] e = refl
-drop_nil (suc n) (x ∷ xs) e = absurd cc
-
-pub lower_step : (xs ys below : List Slot) (slot : Slot) (left count next : ℕ) → drop left xs ≡ drop count ys → xs ≡ slot ∷ below → 0 < left → next ≡ left - 1
-    → drop next below ≡ drop count ys
-lower_step xs ys below slot zero count next h e p n = absurd (omega (arith, p))
-lower_step xs ys below slot (suc left) count next h e p n =
-    ap (λ k. drop k below) (let f : next ≡ left = omega (arith, n) in f) ∙ ap (drop (suc left)) (sym e) ∙ h
-
-pub lower_end : (xs ys : List Slot) (left count : ℕ) → drop left xs ≡ drop count ys → xs ≡ [] → [] ≡ drop count ys
-lower_end xs ys left count h e = sym (drop_nil left xs e) ∙ h
-
-pub lower_done : (xs ys : List Slot) (left count : ℕ) → drop left xs ≡ drop count ys → left ≤ 0 → xs ≡ drop count ys
-lower_done xs ys zero count h e = h
-lower_done xs ys (suc left) count h e = absurd (omega (arith, e))
-
-pub ruleset lowering = (read_empty, lower_step, lower_end, lower_done)
 
 -- ---- types
 
@@ -150,27 +128,6 @@ map_end nodes ns e = ap (map (read nodes)) e
 
 pub ruleset comparing = (same_begin, same_step, same_at, same_ends, differ_heads, differ_first, differ_second, map_top, map_end)
 
--- ---- the rest behind a list
-
-pub record StripSoFar (a b x y : List Slot) : Type 0 where
-  pub by : (rest : List Slot) → x ≡ y ++ rest → a ≡ b ++ rest
-
-pub strip_begin : (a b : List Slot) → StripSoFar a b a b
-strip_begin a b = record { by = λ rest h. h }
-
-pub strip_step : (a b x y u v : List Slot) (s t : Slot) → StripSoFar a b x y → x ≡ s ∷ u → y ≡ t ∷ v → s ≡ t → StripSoFar a b u v
-strip_step a b x y u v s t h e f st = record {
-  by = λ rest i. h.by rest (e ∙ ap (λ s. s ∷ u) st ∙ ap (λ z. t ∷ z) i ∙ ap (λ z. z ++ rest) (sym f));
-}
-
-pub strip_end : (a b x y : List Slot) → StripSoFar a b x y → y ≡ [] → a ≡ b ++ x
-strip_end a b x y h e = h.by x (ap (λ z. z ++ x) (sym e))
-
-pub strip_meet : (a b x y rest : List Slot) → StripSoFar a b x y → x ≡ y → rest ≡ [] → a ≡ b ++ rest
-strip_meet a b x y rest h e r = h.by rest (e ∙ sym (append-nil y) ∙ ap (λ z. y ++ z) (sym r))
-
-pub ruleset stripping = (read_empty, strip_begin, strip_step, strip_end, strip_meet)
-
 -- ---- slots put on a list, the last first
 
 pub record PutSoFar {A : Type 0} (slots : List A) (first after : List (Node A)) (number at i : ℕ) : Type 0 where
@@ -231,79 +188,32 @@ put_types_begin types nodes number h =
 
 pub ruleset putting = (put_begin, put_step, put_done, put_type, put_types_begin)
 
--- ---- the slots of a list
+-- ---- the topmost slots of a list
 
-pub list_step : (slots after all rest below : List Slot) (slot : Slot) → slots ++ rest ≡ all → rest ≡ slot ∷ below → after ≡ slots ++ slot ∷ []
-    → after ++ below ≡ all
-list_step slots after all rest below slot h e a =
-    ap (λ z. z ++ below) a ∙ append_assoc slots (slot ∷ []) below ∙ ap (λ z. slots ++ z) (sym e) ∙ h
+pub list_step : (slots after all rest below : List Slot) (slot : Slot) (left next : ℕ) → slots ++ take left rest ≡ all → rest ≡ slot ∷ below → 0 < left
+    → next ≡ left - 1 → after ≡ slots ++ slot ∷ [] → after ++ take next below ≡ all
+list_step slots after all rest below slot zero next h e p n a = absurd (omega (arith, p))
+list_step slots after all rest below slot (suc left) next h e p n a =
+    ap (λ z. z ++ take next below) a ∙ append_assoc slots (slot ∷ []) (take next below)
+    ∙ ap (λ z. slots ++ z) (ap (λ k. slot ∷ take k below) (let f : next ≡ left = omega (arith, n) in f) ∙ ap (take (suc left)) (sym e)) ∙ h
 
-pub list_done : (slots all rest : List Slot) → slots ++ rest ≡ all → rest ≡ [] → slots ≡ all
-list_done slots all rest h e = sym (append-nil slots) ∙ ap (λ z. slots ++ z) (sym e) ∙ h
+take_nil : (n : ℕ) (xs : List Slot) → xs ≡ [] → take n xs ≡ []
+take_nil zero xs e = refl
+take_nil (suc n) [] e = refl
+take_nil (suc n) (x ∷ xs) e = absurd cc
 
-pub ruleset listing = (list_step, list_done)
+pub list_end : (slots all rest : List Slot) (left : ℕ) → slots ++ take left rest ≡ all → rest ≡ [] → slots ≡ all
+list_end slots all rest left h e = sym (append-nil slots) ∙ ap (λ z. slots ++ z) (sym (take_nil left rest e)) ∙ h
 
-pub join_empty : (nodes : List (Node Slot)) (a b : ℕ) → b ≡ 0 → read nodes a ≡ read nodes a ++ read nodes b
-join_empty nodes a b e = sym (append-nil (read nodes a)) ∙ ap (λ z. read nodes a ++ z) (sym (ap (read nodes) e ∙ read_empty nodes))
+pub list_done : (slots all rest : List Slot) (left : ℕ) → slots ++ take left rest ≡ all → left ≤ 0 → slots ≡ all
+list_done slots all rest zero h e = sym (append-nil slots) ∙ h
+list_done slots all rest (suc left) h e = absurd (omega (arith, e))
 
-pub common_alone : (a b slots : List Slot) (nodes : List (Node Slot)) (both : List Slot) → HoldsCommon a b slots → both ≡ slots ++ read nodes 0 → HoldsCommon a b both
-common_alone a b slots nodes both h e =
-    subst (λ z. HoldsCommon a b z) (sym (e ∙ ap (λ z. slots ++ z) (read_empty nodes) ∙ append-nil slots)) h
+pub ruleset listing = (list_step, list_end, list_done)
 
-pub ruleset joining = (grows_none, join_empty, common_alone)
+pub join_whole : (nodes : List (Node Slot)) (upper count lower rest : ℕ) → read nodes rest ≡ drop count (read nodes upper) → rest ≡ lower
+    → read nodes upper ≡ take count (read nodes upper) ++ read nodes lower
+join_whole nodes upper count lower rest h e =
+    sym (take-append-drop count (read nodes upper)) ∙ ap (λ z. take count (read nodes upper) ++ z) (sym h ∙ ap (read nodes) e)
 
--- ---- what two lists begin with
-
-pub record CommonSoFar (a b x y slots : List Slot) : Type 0 where
-  pub first : a ≡ slots ++ x
-  pub second : b ≡ slots ++ y
-
-pub common_begin : (a b : List Slot) → CommonSoFar a b a b []
-common_begin a b = record { first = refl; second = refl }
-
-pub common_step : (a b x y u v slots after : List Slot) (s t : Slot) → CommonSoFar a b x y slots → x ≡ s ∷ u → y ≡ t ∷ v → s ≡ t
-    → after ≡ slots ++ s ∷ [] → CommonSoFar a b u v after
-common_step a b x y u v slots after s t h e f st is = subst (λ z. CommonSoFar a b u v z) (sym is) (record {
-  first = h.first ∙ ap (λ z. slots ++ z) e ∙ sym (append_assoc slots (s ∷ []) u);
-  second = h.second ∙ ap (λ z. slots ++ z) (f ∙ ap (λ s. s ∷ v) (sym st)) ∙ sym (append_assoc slots (s ∷ []) v);
-})
-
--- the lists part at once
-abbrev Part : List Slot → List Slot → Type 0
-Part [] y = Unit {0}
-Part (s ∷ x) [] = Unit {0}
-Part (s ∷ x) (t ∷ y) = s ≡ t → ⊥
-
-holds : (slots front x y u v : List Slot) → Part x y → slots ++ x ≡ front ++ u → slots ++ y ≡ front ++ v → (z : List Slot) × (slots ≡ front ++ z)
-holds slots [] x y u v p e f = (slots, refl)
-holds [] (s ∷ front) [] y u v p e f = absurd cc
-holds [] (s ∷ front) (t ∷ x) [] u v p e f = absurd cc
-holds [] (s ∷ front) (t ∷ x) (r ∷ y) u v p e f = absurd (p (heads t s x (front ++ u) e ∙ sym (heads r s y (front ++ v) f)))
-  where
-    heads : (s t : Slot) (u v : List Slot) → (Rattle.std.proofs.Common.◌∷◌ s u) ≡ t ∷ v → s ≡ t
-    heads s t u v h = cc
-holds (r ∷ slots) (s ∷ front) x y u v p e f =
-    let more = holds slots front x y u v p (tails r s (slots ++ x) (front ++ u) e) (tails r s (slots ++ y) (front ++ v) f) in
-    (more.0, ap (λ z. r ∷ z) more.1 ∙ ap (λ q. q ∷ (front ++ more.0)) (heads r s (slots ++ x) (front ++ u) e))
-  where
-    heads : (s t : Slot) (u v : List Slot) → (Rattle.std.proofs.Common.◌∷◌ s u) ≡ t ∷ v → s ≡ t
-    heads s t u v h = cc
-
-    tails : (s t : Slot) (u v : List Slot) → (Rattle.std.proofs.Common.◌∷◌ s u) ≡ t ∷ v → u ≡ v
-    tails s t u v h = cc
-
-common_done : (a b x y slots : List Slot) → CommonSoFar a b x y slots → Part x y → HoldsCommon a b slots
-common_done a b x y slots h p = record { by = λ front u v e f. holds slots front x y u v p (sym h.first ∙ e) (sym h.second ∙ f) }
-
-pub common_first : (a b x y slots : List Slot) → CommonSoFar a b x y slots → x ≡ [] → HoldsCommon a b slots
-common_first a b x y slots h e = common_done a b [] y slots (subst (λ z. CommonSoFar a b z y slots) e h) tt
-
-pub common_second : (a b x y u slots : List Slot) (s : Slot) → CommonSoFar a b x y slots → x ≡ s ∷ u → y ≡ [] → HoldsCommon a b slots
-common_second a b x y u slots s h e f =
-    common_done a b (s ∷ u) [] slots (subst (λ z. CommonSoFar a b (s ∷ u) z slots) f (subst (λ z. CommonSoFar a b z y slots) e h)) tt
-
-pub common_heads : (a b x y u v slots : List Slot) (s t : Slot) → CommonSoFar a b x y slots → x ≡ s ∷ u → y ≡ t ∷ v → (s ≡ t → ⊥) → HoldsCommon a b slots
-common_heads a b x y u v slots s t h e f ne =
-    common_done a b (s ∷ u) (t ∷ v) slots (subst (λ z. CommonSoFar a b (s ∷ u) z slots) f (subst (λ z. CommonSoFar a b z y slots) e h)) ne
-
-pub ruleset sharing = (common_begin, common_step, common_first, common_second, common_heads)
+pub ruleset joining = (grows_none, join_whole)

@@ -1,5 +1,5 @@
 -- What an inference keeps true: what it has found is there in every table that meets the rules, perhaps with fewer slots beneath.
-use Rattle.std.specs.Prelude.{◌≡◌, ◌≤◌, ◌<◌, ℕ, ℤ, List, [], ◌++◌, ◌∷◌, length, Option, None, Some, IfSome, slice_get, ◌⊎◌}
+use Rattle.std.specs.Prelude.{◌≡◌, ◌≤◌, ◌<◌, ◌+◌, ◌-◌, ◌^◌, ℕ, ℤ, List, [], ◌++◌, ◌∷◌, length, take, min, Bool, true, false, Option, None, Some, IfSome, slice_get, ◌⊎◌}
 use Rattle.nwq_value.specs.Engine.{EngineTable}
 use Rattle.ncs_code.specs.Plain.{PlainOp}
 use Rattle.ncs_code.specs.Plain as ops
@@ -10,12 +10,14 @@ use Rattle.stack_shape.specs.declared.shape.Entry.TheVariants.{Start, Called, St
 use Rattle.stack_shape.specs.declared.store.StoredTypes.{StoredTypes}
 use Rattle.stack_shape.specs.Stored.{TopShape, stored_types}
 use Rattle.stack_shape.specs.Laws.{deeper}
+use Rattle.stack_shape.specs.declared.reach.Reach.{Reach}
 use Rattle.stack_rules.specs.Tables.{Callee, ShapeTable}
 use Rattle.stack_shape.specs.Rule.{IsOneStep, rule}
 use Rattle.stack_rules.specs.Rules.{AsksFurther, IsSound, MeetsRules, WellStacked}
 use Rattle.stack_check.specs.declared.held.Held.{Held}
 use Rattle.stack_check.specs.declared.held.Heap.{Heap}
 use Rattle.stack_check.specs.declared.facts.Trial.{Trial}
+use Rattle.stack_check.specs.declared.facts.Unseen.{Unseen}
 use Rattle.stack_check.specs.declared.facts.Facts.{Facts}
 use Rattle.stack_check.specs.declared.seen.Seen.{Seen}
 use Rattle.stack_check.specs.declared.seen.Seen.TheVariants.{Quiet, Changed, Bad}
@@ -26,7 +28,7 @@ use Rattle.stack_check.specs.declared.leads.Kind.TheVariants.{Call, Return, Stor
 use Rattle.stack_check.specs.Shared.{read}
 use Rattle.stack_check.specs.Held.{HeapGrows, IsIn, shape_of}
 use Rattle.stack_check.specs.Rows.{RowAdded, row_in}
-use Rattle.stack_check.specs.Facts.{current, first_place, first_held, callee_of, table_of}
+use Rattle.stack_check.specs.Facts.{current, first_place, first_held, callee_of, left, table_of, unseen_cells, unseen_under}
 
 -- ---- the facts hang together
 
@@ -34,6 +36,12 @@ pub record IsTrialOf (facts : Facts) (number : ℕ) (entry : Entry) : Type 0 whe
   pub trial : Trial
   pub has : slice_get facts.trials number ≡ Some trial
   pub of : trial.entry ≡ entry
+
+-- a script's start and a stored state have looked at their whole lists from the first
+abbrev pub IsWhole : Entry → Unseen → Type 0
+IsWhole Start unseen = (unseen.cells ≡ 0) × (unseen.under ≡ 0)
+IsWhole (Called target) unseen = Unit {0}
+IsWhole (Stored site) unseen = (unseen.cells ≡ 0) × (unseen.under ≡ 0)
 
 pub record Formed (facts : Facts) : Type 0 where
   -- what counts for an entry is a trial of it
@@ -45,16 +53,35 @@ pub record Formed (facts : Facts) : Type 0 where
   pub owned : (number place : ℕ) (held : Held) → row_in facts.rows number place ≡ Some held → number < length facts.trials
   -- a script starts with nothing
   pub start : (number : ℕ) (trial : Trial) → slice_get facts.trials number ≡ Some trial → trial.entry ≡ Start → (trial.taken ≡ 0) × (trial.under ≡ 0)
+  pub whole : (number : ℕ) (trial : Trial) → slice_get facts.trials number ≡ Some trial → IsWhole trial.entry trial.unseen
 
--- a trial's lists are there
+-- a trial's lists are there, with what was not looked at of them
 pub record TrialIn (heap : Heap) (trial : Trial) : Type 0 where
   pub taken : trial.taken ≤ length heap.slots
   pub under : trial.under ≤ length heap.slots
   pub given : IfSome trial.given (λ given. given ≤ length heap.slots)
+  pub unseen_cells : trial.unseen.cells ≤ length (read heap.slots trial.taken)
+  pub unseen_under : trial.unseen.under ≤ length (read heap.slots trial.under)
 
 pub record AllIn (heap : Heap) (facts : Facts) : Type 0 where
   pub rows : (number place : ℕ) (held : Held) → row_in facts.rows number place ≡ Some held → IsIn heap held
   pub trials : (number : ℕ) (trial : Trial) → slice_get facts.trials number ≡ Some trial → TrialIn heap trial
+
+-- ---- what was not looked at lies beneath
+
+-- The shape lies on what its trial hasn't looked at, and so do its other lists.
+pub record IsOver (heap : Heap) (trial : Trial) (shape : TopShape) : Type 0 where
+  pub own : TopShape
+  pub is : shape ≡ deeper (unseen_cells heap trial) (unseen_under heap trial) own
+
+abbrev pub GivenOver : Heap → Trial → Option ℕ → Type 0
+GivenOver heap trial None = Unit {0}
+GivenOver heap trial (Some given) = (own : List Slot) × (read heap.slots given ≡ own ++ unseen_cells heap trial)
+
+pub record AllOver (heap : Heap) (facts : Facts) : Type 0 where
+  pub rows : (number place : ℕ) (held : Held) (trial : Trial) → row_in facts.rows number place ≡ Some held → slice_get facts.trials number ≡ Some trial
+      → IsOver heap trial (shape_of heap held)
+  pub givens : (number : ℕ) (trial : Trial) → slice_get facts.trials number ≡ Some trial → GivenOver heap trial trial.given
 
 -- ---- comparison with a table
 
@@ -88,6 +115,9 @@ pub record TrialFits (table : ShapeTable) (heap : Heap) (facts : Facts) (number 
   pub y : List Slot
   pub beyond : Beyond table trial.entry (callee_of heap trial) x y
   pub rows : (place : ℕ) (held : Held) → row_in facts.rows number place ≡ Some held → RowFits table trial.entry place (shape_of heap held) x y
+  -- the table's routine takes all that was looked at
+  pub cells : length x ≤ trial.unseen.cells
+  pub under : length y ≤ trial.unseen.under
 
 pub record Compares (table : ShapeTable) (heap : Heap) (facts : Facts) : Type 0 where
   pub by : (number : ℕ) (trial : Trial) → slice_get facts.trials number ≡ Some trial → TrialFits table heap facts number trial
@@ -97,6 +127,7 @@ pub record Compares (table : ShapeTable) (heap : Heap) (facts : Facts) : Type 0 
 pub record Keeps (header : EngineTable) (code : List PlainOp) (heap : Heap) (facts : Facts) : Type 0 where
   pub formed : Formed facts
   pub inside : AllIn heap facts
+  pub over : AllOver heap facts
   pub compares : (table : ShapeTable) → MeetsRules header code table → Compares table heap facts
 
 abbrev pub Visited : EngineTable → List PlainOp → Heap → Facts → Seen → Type 0
@@ -109,6 +140,15 @@ WhereQuiet Quiet P = P
 WhereQuiet Changed P = Unit {0}
 WhereQuiet Bad P = Unit {0}
 
+abbrev pub WhereChanged : Seen → Type 0 → Type 0
+WhereChanged Quiet P = Unit {0}
+WhereChanged Changed P = P
+WhereChanged Bad P = Unit {0}
+
+-- Where something was found, less is left to be found.
+abbrev pub Takes : Facts → Facts → Seen → Type 0
+Takes before after seen = WhereChanged seen (left after < left before)
+
 -- ---- one shape
 
 -- Every table has the shape there, in the trial.
@@ -117,6 +157,7 @@ pub record Owed (header : EngineTable) (code : List PlainOp) (heap : Heap) (fact
   pub has : slice_get facts.trials number ≡ Some trial
   pub by : (table : ShapeTable) → MeetsRules header code table → (fits : TrialFits table heap facts number trial)
       → RowFits table trial.entry place (shape_of heap held) fits.x fits.y
+  pub over : IsOver heap trial (shape_of heap held)
 
 -- the trial has this shape there
 pub record RowIs (heap : Heap) (facts : Facts) (number place : ℕ) (shape : TopShape) : Type 0 where
@@ -139,6 +180,8 @@ pub record TrialAdded (before after : Facts) (trial : Trial) : Type 0 where
   pub here : row_in after.rows (length before.trials) (first_place trial.entry) ≡ Some (first_held trial)
   pub only : (t p : ℕ) (h : Held) → row_in after.rows t p ≡ Some h
       → (row_in before.rows t p ≡ Some h) ⊎ ((t ≡ length before.trials) × (p ≡ first_place trial.entry) × (h ≡ first_held trial))
+  pub more : length after.rows ≡ length before.rows + 1
+  pub room : length before.rows < 2 ^ 25
   pub currents : (entry : Entry) (n : ℕ) → current after entry ≡ Some n → (current before entry ≡ Some n) ⊎ ((entry ≡ trial.entry) × (n ≡ length before.trials))
 
 -- how a trial that begins compares with a table
@@ -147,9 +190,15 @@ pub record FirstFits (table : ShapeTable) (heap : Heap) (trial : Trial) : Type 0
   pub y : List Slot
   pub beyond : Beyond table trial.entry (callee_of heap trial) x y
   pub first : RowFits table trial.entry (first_place trial.entry) (shape_of heap (first_held trial)) x y
+  pub cells : length x ≤ trial.unseen.cells
+  pub under : length y ≤ trial.unseen.under
 
 pub record Begins (header : EngineTable) (code : List PlainOp) (heap : Heap) (trial : Trial) : Type 0 where
   pub by : (table : ShapeTable) → MeetsRules header code table → FirstFits table heap trial
+  pub over : IsOver heap trial (shape_of heap (first_held trial))
+  pub whole : IsWhole trial.entry trial.unseen
+  pub given : trial.given ≡ None
+  pub few : (trial.unseen.cells ≤ 2 ^ 25) × (trial.unseen.under ≤ 2 ^ 25)
 
 -- ---- where an instruction leads
 
@@ -167,9 +216,16 @@ IsLed (Two first second) place = (place ≡ first) ⊎ (place ≡ second)
 pub record AllLed (heap : Heap) (facts : Facts) (number : ℕ) (lead : Lead) (shape : TopShape) : Type 0 where
   pub by : (place : ℕ) → IsLed lead place → RowIs heap facts number place shape
 
--- rows are only added
+-- rows are only added, and the trials stay
 pub record RowsKept (before after : Facts) : Type 0 where
   pub by : (t p : ℕ) (h : Held) → row_in before.rows t p ≡ Some h → row_in after.rows t p ≡ Some h
+  pub trials : after.trials ≡ before.trials
+
+-- the shape lies on what the trial of this number hasn't looked at
+pub record IsOverIn (heap : Heap) (facts : Facts) (number : ℕ) (shape : TopShape) : Type 0 where
+  pub trial : Trial
+  pub has : slice_get facts.trials number ≡ Some trial
+  pub over : IsOver heap trial shape
 
 -- The shape at a place of a trial, on which the instruction there has a rule, and the shape after it.
 pub record IsStep (header : EngineTable) (code : List PlainOp) (heap : Heap) (facts : Facts) (number place : ℕ) (held : Held) (op : PlainOp) (after : Held) : Type 0 where
@@ -178,16 +234,19 @@ pub record IsStep (header : EngineTable) (code : List PlainOp) (heap : Heap) (fa
   pub one : IsOneStep op
   pub has_rule : rule header op (shape_of heap held) ≡ Some (shape_of heap after)
   pub inside : IsIn heap after
+  pub over : IsOverIn heap facts number (shape_of heap after)
 
--- If the trial counts for an entry, the instruction at the place obeys the rules there.
+-- The instruction at the place obeys the rules there, on the shape without what the trial hasn't looked at.
 pub record Sound (header : EngineTable) (code : List PlainOp) (heap : Heap) (facts : Facts) (number place : ℕ) (held : Held) : Type 0 where
-  pub by : (entry : Entry) → current facts entry ≡ Some number → IsSound header code (table_of heap facts) entry place (shape_of heap held)
+  pub by : (entry : Entry) → current facts entry ≡ Some number → (trial : Trial) → slice_get facts.trials number ≡ Some trial
+      → (over : IsOver heap trial (shape_of heap held)) → IsSound header code (table_of heap facts) entry place over.own
 
 -- What a visit of a place leaves.
 pub record Sees (header : EngineTable) (code : List PlainOp) (heap heap' : Heap) (facts facts' : Facts) (number place : ℕ) (held : Held) (seen : Seen) : Type 0 where
   pub grows : HeapGrows heap heap'
   pub keeps : Visited header code heap' facts' seen
   pub quiet : WhereQuiet seen ((facts' ≡ facts) × Sound header code heap facts number place held)
+  pub takes : Takes facts facts' seen
 
 -- every table says that the routine gives this, with fewer slots beneath
 pub record GivenOwed (header : EngineTable) (code : List PlainOp) (heap : Heap) (facts : Facts) (number given : ℕ) : Type 0 where
@@ -195,6 +254,8 @@ pub record GivenOwed (header : EngineTable) (code : List PlainOp) (heap : Heap) 
   pub has : slice_get facts.trials number ≡ Some trial
   pub by : (table : ShapeTable) → MeetsRules header code table → (fits : TrialFits table heap facts number trial)
       → Beyond table trial.entry (callee_of heap (record trial { given = Some given })) fits.x fits.y
+  pub over : GivenOver heap trial (Some given)
+  pub new : trial.given ≡ None
 
 -- what a visit comes to that has changed something before
 abbrev pub after_change : Seen → Seen
@@ -222,23 +283,79 @@ pub record Calls (facts : Facts) (target : ℕ) (callee : Trial) : Type 0 where
   pub counts : current facts (Called target) ≡ Some number
   pub has : slice_get facts.trials number ≡ Some callee
 
--- A shape begins with what a trial takes, and these lie beneath.
-pub record Strips (heap : Heap) (held : Held) (callee : Trial) (rest beneath : ℕ) : Type 0 where
-  pub rest_in : rest ≤ length heap.slots
-  pub cells : read heap.slots held.cells ≡ read heap.slots callee.taken ++ read heap.slots rest
-  pub under : read heap.slots held.under ≡ read heap.slots callee.under ++ read heap.slots beneath
+-- how much of its lists a trial has looked at
+abbrev pub window : Heap → Trial → Reach
+window heap trial = record {
+  cells = length (read heap.slots trial.taken) - trial.unseen.cells;
+  under = length (read heap.slots trial.under) - trial.unseen.under;
+}
+
+-- The shape begins with what a trial has looked at.
+pub record BeginsAlike (heap : Heap) (held : Held) (callee : Trial) : Type 0 where
+  pub cells : take (window heap callee).cells (read heap.slots held.cells) ≡ take (window heap callee).cells (read heap.slots callee.taken)
+  pub under : take (window heap callee).under (read heap.slots held.under) ≡ take (window heap callee).under (read heap.slots callee.under)
+
+-- ---- looking
+
+-- so many slots are there
+pub record IsThere (s : TopShape) (reach : Reach) : Type 0 where
+  pub cells : reach.cells ≤ length s.cells
+  pub under : reach.under ≤ length s.under
+
+-- what is not looked at, where all is that lies above so many slots of the cells and of the list beneath BP
+abbrev pub narrowed : Unseen → Bool → ℕ → ℕ → Unseen
+narrowed unseen true cells under = record { cells = min unseen.cells cells; under = min unseen.under under }
+narrowed unseen false cells under = record { cells = min (min unseen.cells cells) under; under = unseen.under }
+
+abbrev pub is_nil : List (List Slot) → Bool
+is_nil [] = true
+is_nil (u ∷ us) = false
+
+abbrev pub unseen_after : Unseen → TopShape → Reach → Unseen
+unseen_after unseen s reach = narrowed unseen (is_nil s.saved) (length s.cells - reach.cells) (length s.under - reach.under)
+
+-- less is unseen than before
+pub record SeesMore (before after : Unseen) : Type 0 where
+  pub cells : after.cells ≤ before.cells
+  pub under : after.under ≤ before.under
+  pub less : after.cells + after.under < before.cells + before.under
+
+-- In each table so many slots are there in its own shape at the place.
+pub record LooksOwed (header : EngineTable) (code : List PlainOp) (heap : Heap) (facts : Facts) (number place : ℕ) (reach : Reach) : Type 0 where
+  pub by : (table : ShapeTable) → MeetsRules header code table → (trial : Trial) → slice_get facts.trials number ≡ Some trial → (own : TopShape)
+      → table.at trial.entry place ≡ Some own → IsThere own reach
+
+-- Each table's routine takes all but what is unseen then.
+pub record UnseenOwed (header : EngineTable) (code : List PlainOp) (heap : Heap) (facts : Facts) (number : ℕ) (trial : Trial) (unseen : Unseen) : Type 0 where
+  pub by : (table : ShapeTable) → MeetsRules header code table → (fits : TrialFits table heap facts number trial)
+      → (length fits.x ≤ unseen.cells) × (length fits.y ≤ unseen.under)
+
+-- So many slots are there above what the trial of this number hasn't looked at.
+pub record Within (heap : Heap) (facts : Facts) (number : ℕ) (shape : TopShape) (reach : Reach) : Type 0 where
+  pub trial : Trial
+  pub has : slice_get facts.trials number ≡ Some trial
+  pub own : TopShape
+  pub is : shape ≡ deeper (unseen_cells heap trial) (unseen_under heap trial) own
+  pub there : IsThere own reach
 
 -- an instruction that stores no state
 abbrev pub IsPlain : PlainOp → Type 0
 IsPlain (ops.StoreState globals locals) = ⊥
 IsPlain op = Unit {0}
 
+-- what an instruction asks of the table besides, of the trial's own shape
+abbrev pub AsksFurtherOf : EngineTable → Heap → Facts → ℕ → ℕ → PlainOp → Held → Type 0
+AsksFurtherOf header heap facts number place op held = (trial : Trial) → slice_get facts.trials number ≡ Some trial
+    → (over : IsOver heap trial (shape_of heap held)) → (after : TopShape) → rule header op over.own ≡ Some after
+    → AsksFurther (table_of heap facts) place op over.own
+
 -- What the visit of an instruction with a rule of one shape leaves, but for what it stores.
 pub record SeesStep (header : EngineTable) (code : List PlainOp) (heap heap' : Heap) (facts facts' : Facts) (number place : ℕ) (held : Held) (op : PlainOp) (seen : Seen) : Type 0 where
   pub grows : HeapGrows heap heap'
   pub keeps : Visited header code heap' facts' seen
   pub quiet : WhereQuiet seen ((facts' ≡ facts)
-      × (AsksFurther (table_of heap facts) place op (shape_of heap held) → Sound header code heap facts number place held))
+      × (AsksFurtherOf header heap facts number place op held → Sound header code heap facts number place held))
+  pub takes : Takes facts facts' seen
 
 -- ---- stored states
 
@@ -265,10 +382,7 @@ kind_of place ops.Retn = Return
 kind_of place (ops.StoreState globals locals) = Store globals locals
 kind_of place op = Step
 
--- ---- all places
-
-pub record CountsNot (facts : Facts) (number : ℕ) : Type 0 where
-  pub by : (entry : Entry) → current facts entry ≡ Some number → ⊥
+-- ---- all rows
 
 -- Whatever shape the trial has there obeys the rules.
 pub record RowSound (header : EngineTable) (code : List PlainOp) (heap : Heap) (facts : Facts) (number place : ℕ) : Type 0 where
@@ -278,26 +392,27 @@ pub record SeesRow (header : EngineTable) (code : List PlainOp) (heap heap' : He
   pub grows : HeapGrows heap heap'
   pub keeps : Visited header code heap' facts' seen
   pub quiet : WhereQuiet seen ((facts' ≡ facts) × RowSound header code heap facts number place)
+  pub takes : Takes facts facts' seen
 
--- the same for all trials at a place
-pub record PlaceSound (header : EngineTable) (code : List PlainOp) (heap : Heap) (facts : Facts) (place : ℕ) : Type 0 where
-  pub by : (number : ℕ) → RowSound header code heap facts number place
-
-pub record SeesPlace (header : EngineTable) (code : List PlainOp) (heap heap' : Heap) (facts facts' : Facts) (place : ℕ) (seen : Seen) : Type 0 where
-  pub grows : HeapGrows heap heap'
-  pub keeps : Visited header code heap' facts' seen
-  pub quiet : WhereQuiet seen ((facts' ≡ facts) × PlaceSound header code heap facts place)
-
--- and at all places
+-- and all of them
 pub record SeesAll (header : EngineTable) (code : List PlainOp) (heap heap' : Heap) (facts facts' : Facts) (seen : Seen) : Type 0 where
   pub grows : HeapGrows heap heap'
   pub keeps : Visited header code heap' facts' seen
   pub quiet : WhereQuiet seen ((facts' ≡ facts) × MeetsRules header code (table_of heap facts))
+  pub takes : Takes facts facts' seen
+
+-- what is left where all that was handed in was looked at
+pub record SeesDrained (header : EngineTable) (code : List PlainOp) (heap heap' : Heap) (facts facts' : Facts) (seen : Seen) : Type 0 where
+  pub grows : HeapGrows heap heap'
+  pub keeps : Visited header code heap' facts' seen
+  pub same : WhereQuiet seen (facts' ≡ facts)
+  pub takes : Takes facts facts' seen
 
 -- what one turn of the inference leaves
-pub record SeesTurn (header : EngineTable) (code : List PlainOp) (heap : Heap) (facts : Facts) (seen : Seen) : Type 0 where
+pub record SeesTurn (header : EngineTable) (code : List PlainOp) (heap : Heap) (before facts : Facts) (seen : Seen) : Type 0 where
   pub keeps : Visited header code heap facts seen
   pub quiet : WhereQuiet seen (MeetsRules header code (table_of heap facts))
+  pub takes : Takes before facts seen
 
 -- A table was found, and compares with every other.
 pub record IsFound (header : EngineTable) (code : List PlainOp) (heap : Heap) (facts : Facts) : Type 0 where

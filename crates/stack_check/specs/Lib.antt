@@ -1,5 +1,6 @@
 pub mod Shared
 pub mod Held
+pub mod Stacks
 pub mod Rows
 pub mod Facts
 pub mod Checked

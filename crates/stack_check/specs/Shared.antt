@@ -24,7 +24,3 @@ pub record AreOlder {A : Type 0} (nodes : List (Node A)) : Type 0 where
 pub record Grows {A : Type 0} (before after : List (Node A)) : Type 0 where
   pub longer : length before ≤ length after
   pub same : (number : ℕ) → number ≤ length before → read after number ≡ read before number
-
--- What both lists begin with, this list begins with too.
-pub record HoldsCommon {A : Type 0} (a b common : List A) : Type 0 where
-  pub by : (front x y : List A) → a ≡ front ++ x → b ≡ front ++ y → (z : List A) × (common ≡ front ++ z)

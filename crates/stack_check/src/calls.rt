@@ -1,39 +1,44 @@
-ghost use Rattle.std.specs.Prelude.{◌+◌, ◌≡◌, ◌<◌, ◌≤◌, None, Some, IfOk, IfSome};
-ghost use Rattle.std.specs.Prelude.{◌++◌, length};
+ghost use Rattle.std.specs.Prelude.{◌+◌, ◌-◌, ◌≡◌, ◌<◌, ◌≤◌, ◌++◌, None, Some, IfOk, IfSome};
+ghost use Rattle.std.specs.Prelude.{IsTrue, length, take, true, ◌↔◌};
 ghost use Rattle.stack_shape.specs.declared.shape.Entry.TheVariants.{Called};
 ghost use Rattle.stack_check.specs.Shared.{read};
 ghost use Rattle.stack_check.specs.Rows.{row_in};
 ghost use Rattle.stack_check.specs.Held.{HeapGrows, Holds, IsIn, shape_of};
-ghost use Rattle.stack_check.specs.Inference.{Calls, IsCall, Keeps, Sees, Strips};
+ghost use Rattle.stack_check.specs.Facts.{left};
+ghost use Rattle.stack_check.specs.Inference.{AllIn, BeginsAlike, Calls, IsCall, Keeps, Sees, TrialIn};
+ghost use Rattle.stack_check.specs.Inference.{RowIs, Within, window};
 
-use crate::facts::{Facts, Trial, begin};
+use crate::facts::{Facts, Trial, Unseen, begin};
 use crate::held::{Heap, Held};
 use crate::reach::{Found, follow};
+use crate::see::see;
 use crate::seen::Seen;
-use crate::slots::{common, join, strip};
+use crate::slots::{join, same};
 use crate::todo::{Spot, Todo};
 use ncs_file::Code;
 use nwq_value::{NoMemory, Table};
-use stack_shape::Entry;
+use stack_shape::{Entry, Reach};
 use std::alloc::Global;
 
-/// The shape with what a routine gives on top of what lies beneath what it takes.
+/// The shape with so many of the slots that a routine gives on top of what lies beneath those that
+/// it takes.
 #[tactic(auto, using(crate::proofs::Heaps::changing))]
 fn with_given(
     alloc: Global,
     heap: &mut Heap,
     held: Held,
     given: u32,
+    count: usize,
     rest: u32,
 ) -> Result<Held, NoMemory>
     requires inside { IsIn heap.old held }
     requires given { given ≤ length heap.old.slots }
     requires rest { rest ≤ length heap.old.slots }
     ensures { IfOk result (λ now. Holds heap.old heap.new now (record (shape_of heap.old held) {
-      cells = read heap.old.slots given ++ read heap.old.slots rest;
+      cells = take count (read heap.old.slots given) ++ read heap.old.slots rest;
     })) }
 {
-    let cells = join(alloc, &mut heap.slots, given, rest)?;
+    let cells = join(alloc, &mut heap.slots, given, count, rest)?;
     Ok(Held {
         cells,
         under: held.under,
@@ -57,19 +62,104 @@ fn call_first(
     requires row { row_in facts.old.rows from.trial from.place ≡ Some from.held }
     requires op { IsCall code.now from.place target }
     ensures keeps { IfOk result (λ _. Keeps table.now code.now heap.now facts.new) }
+    ensures takes { IfOk result (λ _. left facts.new < left facts.old) }
 {
     let trial = Trial {
         entry: Entry::Called(target),
         taken: from.held.cells,
         under: from.held.under,
         given: None,
+        unseen: Unseen {
+            cells: heap.slots.depth(from.held.cells),
+            under: heap.slots.depth(from.held.under),
+        },
     };
     begin(code, table, heap, facts, todo, trial)
 }
 
-/// A call on a stack that doesn't begin with what was assumed of the routine.
-#[tactic(auto, using(crate::proofs::CallSteps::shorter))]
-fn call_shorter(
+/// How many slots of the lists of a trial were looked at.
+fn window(heap: &Heap, trial: Trial) -> Reach
+    requires inside { TrialIn heap.now trial }
+    ensures { result ≡ window heap.now trial }
+{
+    Reach {
+        cells: (heap.slots.depth(trial.taken) - trial.unseen.cells) as usize,
+        under: (heap.slots.depth(trial.under) - trial.unseen.under) as usize,
+    }
+}
+
+/// Whether a shape begins with what a routine takes.
+#[tactic(auto, using(crate::proofs::CallSteps::beginning))]
+fn begins(heap: &mut Heap, held: Held, callee: Trial) -> Result<bool, NoMemory>
+    requires held { IsIn heap.old held }
+    requires inside { TrialIn heap.old callee }
+    ensures same { heap.new ≡ heap.old }
+    ensures begins { IfOk result (λ begins. IsTrue begins ↔ BeginsAlike heap.old held callee) }
+{
+    let window = window(heap, callee);
+    let cells = heap.slots.agree(held.cells, callee.taken, window.cells)?;
+    let under = heap.slots.agree(held.under, callee.under, window.under)?;
+    Ok(cells && under)
+}
+
+/// Whether a shape is another one with so many of these slots on a list in the place of its cells.
+#[tactic(auto, using(crate::proofs::CallSteps::behind_parts))]
+fn is_behind(
+    heap: &mut Heap,
+    found: Held,
+    held: Held,
+    given: u32,
+    count: usize,
+    rest: u32,
+) -> Result<bool, NoMemory>
+    requires found { IsIn heap.old found }
+    requires given { given ≤ length heap.old.slots }
+    requires count { count ≤ length (read heap.old.slots given) }
+    ensures same { heap.new ≡ heap.old }
+    ensures behind { IfOk result (λ behind. behind ≡ true
+        → shape_of heap.old found ≡ record (shape_of heap.old held) {
+          cells = take count (read heap.old.slots given) ++ read heap.old.slots rest;
+        }) }
+{
+    if found.under != held.under || found.saved != held.saved || found.pending != held.pending {
+        return Ok(false);
+    }
+    if heap.slots.lower(found.cells, count) != rest {
+        return Ok(false);
+    }
+    heap.slots.agree(found.cells, given, count)
+}
+
+/// Whether that shape was found behind a call.
+fn is_found(
+    heap: &mut Heap,
+    facts: &Facts,
+    from: Found,
+    next: u32,
+    given: u32,
+    count: usize,
+    rest: u32,
+) -> Result<bool, NoMemory>
+    requires inside { AllIn heap.old facts.now }
+    requires given { given ≤ length heap.old.slots }
+    requires count { count ≤ length (read heap.old.slots given) }
+    ensures same { heap.new ≡ heap.old }
+    ensures found { IfOk result (λ found. found ≡ true → RowIs heap.old facts.now from.trial next
+        (record (shape_of heap.old from.held) {
+          cells = take count (read heap.old.slots given) ++ read heap.old.slots rest;
+        })) }
+{
+    match facts.rows.find(from.trial, next) {
+        None => Ok(false),
+        Some(found) => {
+            let behind = is_behind(heap, found, from.held, given, count, rest)?;
+            Ok(behind)
+        }
+    }
+}
+
+/// A call of a routine of which it is known what it gives.
+fn call_given(
     alloc: Global,
     code: &Code,
     table: &Table,
@@ -78,28 +168,40 @@ fn call_shorter(
     todo: &mut Todo,
     from: Found,
     target: u32,
+    next: u32,
     callee: Trial,
-) -> Result<(), NoMemory>
+    given: u32,
+) -> Result<Seen, NoMemory>
     requires keeps { Keeps table.now code.now heap.old facts.old }
     requires row { row_in facts.old.rows from.trial from.place ≡ Some from.held }
     requires op { IsCall code.now from.place target }
+    requires next { next ≡ from.place + 6 }
     requires calls { Calls facts.old target callee }
-    ensures grows { IfOk result (λ _. HeapGrows heap.old heap.new) }
-    ensures keeps { IfOk result (λ _. Keeps table.now code.now heap.new facts.new) }
+    requires given { callee.given ≡ Some given }
+    requires begins { BeginsAlike heap.old from.held callee }
+    requires within { Within heap.old facts.old from.trial (shape_of heap.old from.held)
+        (window heap.old callee) }
+    ensures sees { IfOk result (λ seen. Sees table.now code.now heap.old heap.new facts.old
+        facts.new
+        from.trial from.place from.held seen) }
 {
-    let taken = common(alloc, &mut heap.slots, from.held.cells, callee.taken)?;
-    let under = common(alloc, &mut heap.slots, from.held.under, callee.under)?;
-    let trial = Trial {
-        entry: Entry::Called(target),
-        taken,
-        under,
-        given: None,
+    let count = (heap.slots.depth(given) - callee.unseen.cells) as usize;
+    let rest = heap
+        .slots
+        .lower(from.held.cells, window(heap, callee).cells);
+    if is_found(heap, facts, from, next, given, count, rest)? {
+        return Ok(Seen::Quiet);
+    }
+    let now = with_given(alloc, heap, from.held, given, count, rest)?;
+    let spot = Spot {
+        trial: from.trial,
+        place: next,
     };
-    begin(code, table, heap, facts, todo, trial)
+    let seen = follow(code, table, heap, facts, todo, spot, now)?;
+    Ok(seen)
 }
 
-/// A call on a stack that begins with what was assumed of the routine.
-#[tactic(auto, using(crate::proofs::CallSteps::known))]
+/// A call of a routine whose trial is this one.
 fn call_known(
     alloc: Global,
     code: &Code,
@@ -111,68 +213,29 @@ fn call_known(
     target: u32,
     next: u32,
     callee: Trial,
-    rest: u32,
-    beneath: u32,
 ) -> Result<Seen, NoMemory>
     requires keeps { Keeps table.now code.now heap.old facts.old }
     requires row { row_in facts.old.rows from.trial from.place ≡ Some from.held }
     requires op { IsCall code.now from.place target }
     requires next { next ≡ from.place + 6 }
     requires calls { Calls facts.old target callee }
-    requires strips { Strips heap.old from.held callee rest beneath }
     ensures sees { IfOk result (λ seen. Sees table.now code.now heap.old heap.new facts.old
         facts.new
         from.trial from.place from.held seen) }
 {
-    let _ = beneath;
+    if !begins(heap, from.held, callee)? {
+        return Ok(Seen::Bad);
+    }
+    if see(code, table, heap, facts, todo, from, window(heap, callee))? {
+        return Ok(Seen::Changed);
+    }
     match callee.given {
         None => Ok(Seen::Quiet),
         Some(given) => {
-            let now = with_given(alloc, heap, from.held, given, rest)?;
-            let spot = Spot {
-                trial: from.trial,
-                place: next,
-            };
-            let seen = follow(code, table, heap, facts, todo, spot, now)?;
+            let seen = call_given(
+                alloc, code, table, heap, facts, todo, from, target, next, callee, given,
+            )?;
             Ok(seen)
-        }
-    }
-}
-
-/// A call of a routine whose trial is this one.
-#[tactic(auto, using(crate::proofs::CallSteps::stripping))]
-fn call_again(
-    alloc: Global,
-    code: &Code,
-    table: &Table,
-    heap: &mut Heap,
-    facts: &mut Facts,
-    todo: &mut Todo,
-    from: Found,
-    target: u32,
-    next: u32,
-    callee: Trial,
-) -> Result<Seen, NoMemory>
-    requires keeps { Keeps table.now code.now heap.old facts.old }
-    requires row { row_in facts.old.rows from.trial from.place ≡ Some from.held }
-    requires op { IsCall code.now from.place target }
-    requires next { next ≡ from.place + 6 }
-    requires calls { Calls facts.old target callee }
-    ensures sees { IfOk result (λ seen. Sees table.now code.now heap.old heap.new facts.old
-        facts.new
-        from.trial from.place from.held seen) }
-{
-    let held = from.held;
-    match (
-        strip(&heap.slots, held.cells, callee.taken),
-        strip(&heap.slots, held.under, callee.under),
-    ) {
-        (Some(rest), Some(beneath)) => call_known(
-            alloc, code, table, heap, facts, todo, from, target, next, callee, rest, beneath,
-        ),
-        _ => {
-            call_shorter(alloc, code, table, heap, facts, todo, from, target, callee)?;
-            Ok(Seen::Changed)
         }
     }
 }
@@ -207,7 +270,7 @@ pub fn call(
             call_first(code, table, heap, facts, todo, from, target)?;
             Ok(Seen::Changed)
         }
-        Some(callee) => call_again(
+        Some(callee) => call_known(
             alloc, code, table, heap, facts, todo, from, target, next, callee,
         ),
     }

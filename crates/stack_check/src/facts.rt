@@ -1,8 +1,8 @@
-ghost use Rattle.std.specs.Prelude.{◌≡◌, ◌≢◌, ◌<◌, ◌≤◌, ◌^◌, Some, IfOk, OnOk, length};
+ghost use Rattle.std.specs.Prelude.{◌≡◌, ◌≢◌, ◌<◌, ◌≤◌, ◌^◌, Some, IfOk, OnOk, length, slice_get};
 ghost use Rattle.stack_shape.specs.declared.shape.Entry.TheVariants.{Start};
-ghost use Rattle.stack_check.specs.Facts.{first_place, first_held};
-ghost use Rattle.stack_check.specs.Inference.{Begins, Formed, GivenOwed, Keeps, TrialAdded};
-ghost use Rattle.stack_check.specs.Inference.{TrialIn};
+ghost use Rattle.stack_check.specs.Facts.{first_place, first_held, left};
+ghost use Rattle.stack_check.specs.Inference.{Begins, Formed, GivenOwed, Keeps, SeesMore};
+ghost use Rattle.stack_check.specs.Inference.{TrialAdded, TrialIn, UnseenOwed};
 ghost use Rattle.stack_check.specs.Inference.{CurrentSet};
 
 use crate::held::{Heap, Held};
@@ -13,22 +13,31 @@ use ncs_file::Code;
 use nwq_value::{Items, NoMemory, Table};
 use stack_shape::Entry;
 
-/// An entry, with what its routine is assumed to take: the lists of slots that it may reach.
+/// How many of the lowest slots of two lists no instruction has looked at.
+#[derive(Clone, Copy, PartialEq, Eq)]
+pub struct Unseen {
+    pub cells: u32,
+    pub under: u32,
+}
+
+/// An entry, with the lists of its first call: the cells, and what is beneath BP. Its routine takes
+/// what was looked at of them.
 #[derive(Clone, Copy)]
 pub struct Trial {
     pub entry: Entry,
     pub taken: u32,
     pub under: u32,
-    /// What the routine gives in the place of `taken`, once a RETN was found.
+    /// What the routine leaves in the place of `taken`, once a RETN was found.
     pub given: Option<u32>,
+    pub unseen: Unseen,
 }
 
 /// What was found so far.
 #[derive(Drop)]
 pub struct Facts {
-    /// All trials. The first is the script's start.
+    /// One trial for each entry that was found. The first is the script's start.
     pub trials: Items<Trial>,
-    /// By the place at which a called routine begins: the number of its newest trial.
+    /// By the place at which a called routine begins: the number of its trial.
     pub called: Places,
     /// By the place of a STORE_STATE: the number of the trial of what it stores.
     pub stored: Places,
@@ -108,6 +117,7 @@ pub fn begin(
     requires begins { Begins table.now code.now heap.now trial }
     requires inside { TrialIn heap.now trial }
     ensures keeps { IfOk result (λ _. Keeps table.now code.now heap.now facts.new) }
+    ensures takes { IfOk result (λ _. left facts.new < left facts.old) }
 {
     let _ = code;
     let _ = table;
@@ -134,6 +144,7 @@ pub fn give(
     requires owed { GivenOwed table.now code.now heap.now facts.old number given }
     requires inside { given ≤ length heap.now.slots }
     ensures keeps { IfOk result (λ _. Keeps table.now code.now heap.now facts.new) }
+    ensures takes { IfOk result (λ _. left facts.new < left facts.old) }
 {
     let _ = code;
     let _ = table;
@@ -146,9 +157,41 @@ pub fn give(
                 taken: trial.taken,
                 under: trial.under,
                 given: Some(given),
+                unseen: trial.unseen,
             };
             facts.trials.set(number as usize, trial);
             Ok(())
         }
     }
+}
+
+/// Keeps that more of a trial's lists was looked at.
+#[tactic(auto, using(crate::proofs::Seeing::narrowing))]
+pub fn narrow(
+    code: &Code,
+    table: &Table,
+    heap: &Heap,
+    facts: &mut Facts,
+    number: u32,
+    trial: Trial,
+    unseen: Unseen,
+)
+    requires keeps { Keeps table.now code.now heap.now facts.old }
+    requires trial { slice_get facts.old.trials number ≡ Some trial }
+    requires less { SeesMore trial.unseen unseen }
+    requires owed { UnseenOwed table.now code.now heap.now facts.old number trial unseen }
+    ensures keeps { Keeps table.now code.now heap.now facts.new }
+    ensures takes { left facts.new < left facts.old }
+{
+    let _ = code;
+    let _ = table;
+    let _ = heap;
+    let trial = Trial {
+        entry: trial.entry,
+        taken: trial.taken,
+        under: trial.under,
+        given: trial.given,
+        unseen,
+    };
+    facts.trials.set(number as usize, trial);
 }

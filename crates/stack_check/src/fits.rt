@@ -8,7 +8,7 @@ ghost use Rattle.stack_rules.specs.Fits.{Fits};
 
 use crate::facts::Facts;
 use crate::held::{Heap, Held};
-use crate::lists::Lists;
+use crate::stacks::Stacks;
 use saved_state::{Cell, Cells, Saved};
 use stack_shape::Slot;
 
@@ -26,7 +26,7 @@ fn is_value_of(slot: Slot, cell: &Cell) -> bool
 /// The list beneath values of these cells' types, where a list begins with these from its top. The
 /// cells are given with the lowest first.
 #[tactic(auto, using(crate::proofs::Fitting::beginning))]
-fn beneath_values(lists: &Lists<Slot>, number: u32, cells: &Cells) -> Option<u32>
+fn beneath_values(lists: &Stacks, number: u32, cells: &Cells) -> Option<u32>
     ensures { MatchOption result
         (BeginsOtherwise (reverse cells.now) (read lists.now number))
         (λ rest. BeginsWith (reverse cells.now) (read lists.now number) (read lists.now rest)) }
@@ -53,7 +53,7 @@ fn beneath_values(lists: &Lists<Slot>, number: u32, cells: &Cells) -> Option<u32
 
 /// Whether a list is that of these cells' types, and all of them hold values.
 #[tactic(auto, using(crate::proofs::Fitting::ending))]
-fn are_all(lists: &Lists<Slot>, number: u32, cells: &Cells) -> bool
+fn are_all(lists: &Stacks, number: u32, cells: &Cells) -> bool
     ensures { IsTrue result ↔ BeginsWith (reverse cells.now) (read lists.now number) [] }
 {
     match beneath_values(lists, number, cells) {
@@ -64,7 +64,7 @@ fn are_all(lists: &Lists<Slot>, number: u32, cells: &Cells) -> bool
 
 /// Whether a list is that of the state's locals over a base over its globals.
 #[tactic(auto, using(crate::proofs::Fitting::framing))]
-fn is_frame(lists: &Lists<Slot>, number: u32, saved: &Saved) -> bool
+fn is_frame(lists: &Stacks, number: u32, saved: &Saved) -> bool
     ensures { IsTrue result ↔ IsFrame (read lists.now number) saved.now }
 {
     let Some(rest) = beneath_values(lists, number, &saved.locals) else {

@@ -7,7 +7,8 @@ ghost use Rattle.stack_check.specs.Shared.{read};
 ghost use Rattle.stack_check.specs.Held.{AfterStep, Holds, IsIn, shape_of};
 
 use crate::lists::Lists;
-use crate::slots::{Top, lower, put_types};
+use crate::slots::{Top, put_types};
+use crate::stacks::Stacks;
 use ncs_code::Op;
 use nwq_value::{NoMemory, Routine, Table};
 use stack_shape::{Slot, StackEffect, action_count, call_effect, stack_effect, stored_types};
@@ -25,7 +26,7 @@ pub struct Held {
 /// The lists of all shapes: those of slots, and the saved ones, whose members are lists of slots.
 #[derive(Drop)]
 pub struct Heap {
-    pub slots: Lists<Slot>,
+    pub slots: Stacks,
     pub saved: Lists<u32>,
 }
 
@@ -43,7 +44,7 @@ fn with_effect(
       pending = pending;
     })) }
 {
-    let below = lower(&heap.slots, held.cells, effect.pops);
+    let below = heap.slots.lower(held.cells, effect.pops);
     let cells = put_types(&mut heap.slots, below, effect.pushes.as_slice())?;
     Ok(Held {
         cells,

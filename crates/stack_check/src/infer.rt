@@ -1,16 +1,16 @@
 ghost use Rattle.std.specs.Prelude.{◌≡◌, false, true, Some, IfOk, MatchOption};
 ghost use Rattle.stack_rules.specs.Rules.{WellStacked};
-ghost use Rattle.stack_check.specs.Inference.{CountsNot, Formed, IsFound, Keeps, SeesAll};
-ghost use Rattle.stack_check.specs.Inference.{SeesPlace};
+ghost use Rattle.stack_check.specs.Inference.{IsFound, Keeps, SeesAll, SeesDrained};
 ghost use Rattle.stack_check.specs.Inference.{SeesRow, SeesTurn};
 
-use crate::facts::{Facts, Trial};
+use crate::facts::{Facts, Trial, Unseen};
 use crate::held::{Heap, Held};
 use crate::lists::Lists;
 use crate::places::Places;
-use crate::reach::{Found, after_change};
+use crate::reach::Found;
 use crate::rows::Rows;
 use crate::seen::Seen;
+use crate::stacks::Stacks;
 use crate::todo::{Spot, Todo};
 use crate::visit::visit;
 use ncs_file::Code;
@@ -18,23 +18,7 @@ use nwq_value::{Items, NoMemory, Table};
 use stack_shape::Entry;
 use std::alloc::Global;
 
-/// Whether a trial counts for its entry.
-#[tactic(auto, using(crate::proofs::Passing::counting))]
-fn counts(facts: &Facts, number: u32) -> bool
-    requires formed { Formed facts.now }
-    ensures { result ≡ false → CountsNot facts.now number }
-{
-    match facts.trials.get(number as usize) {
-        None => false,
-        Some(trial) => match trial.entry {
-            Entry::Start => number == 0,
-            Entry::Called(target) => facts.called.get(target) == number,
-            Entry::Stored(site) => facts.stored.get(site) == number,
-        },
-    }
-}
-
-/// Looks at the shape of a trial at a place, if the trial counts and has one.
+/// Looks at the shape of a trial at a place, if it has one.
 #[tactic(auto, using(crate::proofs::Passing::looking))]
 fn look(
     alloc: Global,
@@ -51,9 +35,6 @@ fn look(
         facts.new
         trial place seen) }
 {
-    if !counts(facts, trial) {
-        return Ok(Seen::Quiet);
-    }
     match facts.rows.find(trial, place) {
         None => Ok(Seen::Quiet),
         Some(held) => {
@@ -64,30 +45,33 @@ fn look(
     }
 }
 
-/// Looks at all shapes of a place, up to the first that is not quiet.
-#[tactic(auto, using(crate::proofs::Passing::placing))]
-fn look_at_place(
+/// Looks at what is to be looked at, up to the first that is not quiet.
+#[tactic(auto, using(crate::proofs::Ending::draining))]
+fn drain(
     alloc: Global,
     code: &Code,
     table: &Table,
     heap: &mut Heap,
     facts: &mut Facts,
     todo: &mut Todo,
-    place: u32,
 ) -> Result<Seen, NoMemory>
     requires keeps { Keeps table.now code.now heap.old facts.old }
-    ensures sees { IfOk result (λ seen. SeesPlace table.now code.now heap.old heap.new facts.old
-        facts.new place seen) }
+    ensures sees { IfOk result (λ seen. SeesDrained table.now code.now heap.old heap.new facts.old
+        facts.new seen) }
 {
-    let mut at = facts.rows.rows_of(place);
-    while let Some((row, below)) = facts.rows.next(at) {
-        let seen = look(alloc, code, table, heap, facts, todo, row.trial, place)?;
+    // What is quiet hands in nothing, so all are looked at that were handed in.
+    for _look in 0..todo.len() {
+        let Some(spot) = todo.next() else {
+            return Ok(Seen::Quiet);
+        };
+        let seen = look(
+            alloc, code, table, heap, facts, todo, spot.trial, spot.place,
+        )?;
         match seen {
             Seen::Quiet => {}
             Seen::Changed => return Ok(Seen::Changed),
             Seen::Bad => return Ok(Seen::Bad),
         }
-        at = below;
     }
     Ok(Seen::Quiet)
 }
@@ -107,25 +91,25 @@ fn pass(
     ensures sees { IfOk result (λ seen. SeesAll table.now code.now heap.old heap.new facts.old
         facts.new seen) }
 {
-    let mut place: u32 = 0;
-    while (place as usize) < facts.rows.end() {
-        let seen = look_at_place(alloc, code, table, heap, facts, todo, place)?;
+    let mut number = 0;
+    'rows: loop {
+        let row = match facts.rows.get(number) {
+            None => return Ok(Seen::Quiet),
+            Some(row) => row,
+        };
+        let seen = look(alloc, code, table, heap, facts, todo, row.trial, row.place)?;
         match seen {
             Seen::Quiet => {}
             Seen::Changed => return Ok(Seen::Changed),
             Seen::Bad => return Ok(Seen::Bad),
         }
-        if place == u32::MAX {
-            return Err(NoMemory);
-        }
-        place += 1;
+        number += 1;
     }
-    Ok(Seen::Quiet)
 }
 
-/// Looks at the newest spot to look at, or at all shapes.
+/// Looks at what is to be looked at, and then at all shapes, up to the first that is not quiet.
 #[tactic(auto, using(crate::proofs::Ending::turning))]
-fn advance(
+fn turn(
     alloc: Global,
     code: &Code,
     table: &Table,
@@ -134,16 +118,14 @@ fn advance(
     todo: &mut Todo,
 ) -> Result<Seen, NoMemory>
     requires keeps { Keeps table.now code.now heap.old facts.old }
-    ensures sees { IfOk result (λ seen. SeesTurn table.now code.now heap.new facts.new seen) }
+    ensures sees { IfOk result (λ seen. SeesTurn table.now code.now heap.new facts.old
+        facts.new seen) }
 {
-    match todo.next() {
-        Some(spot) => {
-            let seen = look(
-                alloc, code, table, heap, facts, todo, spot.trial, spot.place,
-            )?;
-            Ok(after_change(seen))
-        }
-        None => {
+    let seen = drain(alloc, code, table, heap, facts, todo)?;
+    match seen {
+        Seen::Changed => Ok(Seen::Changed),
+        Seen::Bad => Ok(Seen::Bad),
+        Seen::Quiet => {
             let seen = pass(alloc, code, table, heap, facts, todo)?;
             Ok(seen)
         }
@@ -169,6 +151,7 @@ fn first_facts(alloc: Global, code: &Code, table: &Table, heap: &Heap) -> Result
         taken: 0,
         under: 0,
         given: None,
+        unseen: Unseen { cells: 0, under: 0 },
     };
     let mut rows = Rows::new(alloc);
     rows.add(0, 13, held)?;
@@ -208,14 +191,13 @@ fn settle(
         trial: 0,
         place: 13,
     })?;
-    for _turn in 0..u64::MAX {
-        match advance(alloc, code, table, heap, facts, todo)? {
+    'turns: loop {
+        match turn(alloc, code, table, heap, facts, todo)? {
             Seen::Quiet => return Ok(true),
             Seen::Bad => return Ok(false),
             Seen::Changed => {}
         }
     }
-    Err(NoMemory)
 }
 
 /// A table of shapes that meets the rules, if there is one.
@@ -224,7 +206,7 @@ pub fn infer(alloc: Global, code: &Code, table: &Table) -> Result<Option<Kept>, 
         (λ k. IsFound table.now code.now k.heap k.facts)) }
 {
     let heap = Heap {
-        slots: Lists::new(alloc),
+        slots: Stacks::new(alloc),
         saved: Lists::new(alloc),
     };
     // What is owned is dropped by calls, since a drop that is left to the end of a scope is dear to

@@ -24,8 +24,10 @@ mod places;
 mod reach;
 mod returns;
 mod rows;
+mod see;
 mod seen;
 mod slots;
+mod stacks;
 mod todo;
 mod visit;
 

@@ -3,7 +3,7 @@ ghost use Rattle.ncs_code.specs.Plain.{plain};
 ghost use Rattle.stack_check.specs.Shared.{read};
 ghost use Rattle.stack_check.specs.Held.{IsIn, shape_of};
 ghost use Rattle.stack_check.specs.Inference.{AllLed, IsLed, IsStep, Keeps, Owed, Reached};
-ghost use Rattle.stack_check.specs.Inference.{RowIs, RowsKept};
+ghost use Rattle.stack_check.specs.Inference.{RowIs, RowsKept, Takes};
 ghost use Rattle.stack_check.specs.Inference.{Visited, WhereQuiet, after_change, leads_of};
 ghost use Rattle.machine_rules.specs.Act.{next_place};
 
@@ -105,6 +105,7 @@ pub fn follow(
     requires inside { IsIn heap.now held }
     ensures keeps { IfOk result (λ seen. Visited table.now code.now heap.now facts.new seen) }
     ensures kept { IfOk result (λ _. RowsKept facts.old facts.new) }
+    ensures takes { IfOk result (λ seen. Takes facts.old facts.new seen) }
     ensures quiet { IfOk result (λ seen. WhereQuiet seen ((facts.new ≡ facts.old)
         × RowIs heap.now facts.old spot.trial spot.place (shape_of heap.now held))) }
 {
@@ -154,6 +155,7 @@ fn lead_to(
     requires led { IsLed lead place }
     ensures keeps { IfOk result (λ seen. Visited table.now code.now heap.now facts.new seen) }
     ensures kept { IfOk result (λ _. RowsKept facts.old facts.new) }
+    ensures takes { IfOk result (λ seen. Takes facts.old facts.new seen) }
     ensures quiet { IfOk result (λ seen. WhereQuiet seen ((facts.new ≡ facts.old)
         × RowIs heap.now facts.old from.trial place (shape_of heap.now after))) }
 {
@@ -184,6 +186,7 @@ pub fn lead(
         op.now) }
     ensures keeps { IfOk result (λ seen. Visited table.now code.now heap.now facts.new seen) }
     ensures kept { IfOk result (λ _. RowsKept facts.old facts.new) }
+    ensures takes { IfOk result (λ seen. Takes facts.old facts.new seen) }
     ensures quiet { IfOk result (λ seen. WhereQuiet seen ((facts.new ≡ facts.old)
         × AllLed heap.now facts.old from.trial lead (shape_of heap.now after))) }
 {

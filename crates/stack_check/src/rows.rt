@@ -1,79 +1,111 @@
-ghost use Rattle.std.specs.Prelude.{◌≡◌, ◌∷◌, ◌<◌, [], None, OnOk, MatchOption, IfSome, length};
-ghost use Rattle.stack_check.specs.Shared.{read};
-ghost use Rattle.stack_check.specs.Rows.{RowAdded, find_row, row_in, rows_of};
+ghost use Rattle.std.specs.Prelude.{◌≡◌, ◌≤◌, ◌^◌, [], None, OnOk, IfSome, IsTrue, ◌<◌, ◌↔◌, length, slice_get};
+ghost use Rattle.stack_check.specs.Rows.{RowAdded, row_in, row_key};
 
 use crate::held::Held;
-use crate::lists::Lists;
-use crate::places::Places;
-use nwq_value::NoMemory;
+use crate::stacks::MOST;
+use nwq_value::{Items, NoMemory};
 use std::alloc::Global;
+use std::collections::BTreeMap;
 use std::marker::Model;
 
 /// The shape at a place, of a trial.
 #[derive(Clone, Copy)]
 pub struct Row {
     pub trial: u32,
+    pub place: u32,
     pub held: Held,
 }
 
-/// The rows of all places.
-#[derive(Drop)]
+/// The rows, each of a trial and a place of its own.
 pub struct Rows {
-    nodes: Lists<Row>,
-    at: Places,
+    rows: Items<Row>,
+    /// By trial and place: the number of the row.
+    index: BTreeMap<u64, u32>,
 }
 
 impl Model for Rows {
-    ghost use Rattle.stack_check.specs.Rows.{RowLists, AreThere};
+    ghost use Rattle.std.specs.Prelude.{List};
+    ghost use Rattle.stack_check.specs.declared.rows.Row.{Row};
+    ghost use Rattle.stack_check.specs.Rows.{AreIndexed};
 
-    ghost Value = { RowLists };
+    ghost Value = { List Row };
 
-    ghost view = { λ r. record { nodes = r.nodes; at = r.at } };
+    ghost view = { λ r. r.rows };
 
-    ghost invariant = { λ r. AreThere r.nodes r.at };
+    ghost invariant = { λ r. AreIndexed r.rows r.index };
+}
+
+impl Drop for Rows {
+    fn drop(self) {
+        let Rows { rows, index } = self;
+        drop(rows);
+        drop(index);
+    }
+}
+
+/// The key of a trial's row at a place.
+fn key_of(trial: u32, place: u32) -> u64
+    ensures { result ≡ row_key trial place }
+{
+    place as u64 * (1 << 32) + trial as u64
+}
+
+/// Whether a row is of this trial and place.
+fn is_of(row: Row, trial: u32, place: u32) -> bool
+    ensures { IsTrue result ↔ ((row.trial ≡ trial) × (row.place ≡ place)) }
+{
+    row.trial == trial && row.place == place
 }
 
 impl Rows {
     #[tactic(auto, using(crate::proofs::RowLemmas::beginning))]
     pub fn new(alloc: Global) -> Rows
-        ensures empty { result ≡ record { nodes = []; at = [] } }
+        ensures empty { result ≡ [] }
     {
         Rows {
-            nodes: Lists::new(alloc),
-            at: Places::new(alloc),
+            rows: Items::new(alloc),
+            index: BTreeMap::new(alloc),
         }
     }
 
-    /// From this place on there is no row.
-    pub fn end(&self) -> usize
-        ensures end { result ≡ length self.now.at }
+    /// How many rows there are.
+    pub fn len(&self) -> usize
+        ensures count { result ≡ length self.now }
+        ensures few { result ≤ 2 ^ 25 }
     {
-        self.at.end()
+        self.rows.len()
     }
 
-    /// The list of a place's rows.
-    pub fn rows_of(&self, place: u32) -> u32
-        ensures rows { read self.now.nodes result ≡ rows_of self.now place }
+    /// The row with a number.
+    #[tactic(auto, using(crate::proofs::RowLemmas::numbering))]
+    pub fn get(&self, number: usize) -> Option<Row>
+        ensures row { result ≡ slice_get self.now number }
+        ensures inside { IfSome result (λ _. number < 2 ^ 25) }
     {
-        self.at.get(place)
-    }
-
-    /// The first row of a list, and the others.
-    pub fn next(&self, number: u32) -> Option<(Row, u32)>
-        ensures row { MatchOption result (read self.now.nodes number ≡ [])
-            (λ top. read self.now.nodes number ≡ top.0 ∷ read self.now.nodes top.1) }
-        ensures older { IfSome result (λ top. top.1 < number) }
-    {
-        self.nodes.pop(number)
+        match self.rows.get(number) {
+            None => None,
+            Some(row) => Some(*row),
+        }
     }
 
     /// The shape at a place, of a trial.
-    #[tactic(auto, unfolding(crate::specs::Rows::row_in))]
+    #[tactic(auto, using(crate::proofs::RowLemmas::finding))]
     pub fn find(&self, trial: u32, place: u32) -> Option<Held>
         ensures row { result ≡ row_in self.now trial place }
     {
-        let number = self.rows_of(place);
-        find_row(self, trial, number)
+        match self.index.get(&key_of(trial, place)) {
+            None => None,
+            Some(number) => match self.rows.get(*number as usize) {
+                None => None,
+                Some(row) => {
+                    if is_of(*row, trial, place) {
+                        Some(row.held)
+                    } else {
+                        None
+                    }
+                }
+            },
+        }
     }
 
     /// Adds the shape at a place, of a trial that has none there.
@@ -82,23 +114,13 @@ impl Rows {
         requires new { row_in self.old trial place ≡ None }
         ensures added { OnOk result (RowAdded self.old self.new trial place held) }
     {
-        let number = self.at.get(place);
-        let more = self.nodes.push(number, Row { trial, held })?;
-        self.at.put(place, more)
-    }
-}
-
-/// The shape of a trial in a list of rows.
-#[tactic(auto, using(crate::proofs::RowLemmas::finding))]
-fn find_row(rows: &Rows, trial: u32, number: u32) -> Option<Held>
-    ensures { result ≡ find_row trial (read rows.now.nodes number) }
-{
-    let mut at = number;
-    while let Some((row, below)) = rows.next(at) {
-        if row.trial == trial {
-            return Some(row.held);
+        let number = self.rows.len();
+        if number >= MOST {
+            return Err(NoMemory);
         }
-        at = below;
+        match self.index.insert(key_of(trial, place), number as u32) {
+            Err(_) => Err(NoMemory),
+            Ok(_) => self.rows.push(Row { trial, place, held }),
+        }
     }
-    None
 }

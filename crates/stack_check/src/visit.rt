@@ -12,21 +12,25 @@ ghost use Rattle.stack_check.specs.Held.{HeapGrows, Holds, IsIn, shape_of};
 ghost use Rattle.stack_check.specs.Rows.{row_in};
 ghost use Rattle.stack_check.specs.Facts.{current};
 ghost use Rattle.stack_check.specs.Inference.{IsPlain, IsStored, Keeps, Resumes, Sees};
-ghost use Rattle.stack_check.specs.Inference.{SeesStep, Stores, Visited, WhereQuiet, leads_of};
+ghost use Rattle.stack_check.specs.Inference.{SeesStep, Stores, Takes, Visited, WhereQuiet};
+ghost use Rattle.stack_check.specs.Inference.{leads_of};
 
 use crate::calls::call;
-use crate::facts::{Facts, Trial, begin};
+use crate::facts::{Facts, Trial, Unseen, begin};
 use crate::held::{Heap, Held, step, top};
 use crate::leads::{Kind, kind_of, leads_of};
 use crate::reach::{Found, after_change, follow, lead};
 use crate::returns::returned;
+use crate::see::see;
 use crate::seen::Seen;
 use crate::slots::put_types;
 use crate::todo::{Spot, Todo};
 use ncs_code::{Op, place_laws};
 use ncs_file::Code;
 use nwq_value::{NoMemory, Table};
-use stack_shape::{Entry, Slot, StoredTypes, rules_look_from_the_top, stored_types};
+use stack_shape::{
+    Entry, Slot, StoredTypes, reach_of, rules_look_from_the_top, rules_look_no_deeper, stored_types,
+};
 use std::alloc::Global;
 
 /// An instruction with a rule of one shape, but for what it stores.
@@ -52,9 +56,13 @@ fn visit_step(
         facts.new from.trial from.place from.held (plain op.now) seen) }
 {
     rules_look_from_the_top();
+    rules_look_no_deeper();
     match step(alloc, op, table, heap, from.held)? {
         None => Ok(Seen::Bad),
         Some(after) => {
+            if see(code, table, heap, facts, todo, from, reach_of(op, table))? {
+                return Ok(Seen::Changed);
+            }
             let leads = leads_of(op, from.place, next);
             let seen = lead(code, table, heap, facts, todo, from, op, after, leads)?;
             Ok(seen)
@@ -105,6 +113,7 @@ fn resume(
     requires first { (held.saved ≡ 0) × (held.pending ≡ 0) }
     requires bound { site < 2 ^ 31 }
     ensures keeps { IfOk result (λ seen. Visited table.now code.now heap.now facts.new seen) }
+    ensures takes { IfOk result (λ seen. Takes facts.old facts.new seen) }
     ensures quiet { IfOk result (λ seen. WhereQuiet seen ((facts.new ≡ facts.old)
         × IsStored heap.now facts.old site (shape_of heap.now held))) }
 {
@@ -115,6 +124,7 @@ fn resume(
                 taken: held.cells,
                 under: held.under,
                 given: None,
+                unseen: Unseen { cells: 0, under: 0 },
             };
             begin(code, table, heap, facts, todo, trial)?;
             Ok(Seen::Changed)
@@ -146,6 +156,7 @@ fn store(
     requires bound { site < 2 ^ 31 }
     ensures grows { IfOk result (λ _. HeapGrows heap.old heap.new) }
     ensures keeps { IfOk result (λ seen. Visited table.now code.now heap.new facts.new seen) }
+    ensures takes { IfOk result (λ seen. Takes facts.old facts.new seen) }
     ensures quiet { IfOk result (λ seen. WhereQuiet seen ((facts.new ≡ facts.old)
         × IsStored heap.new facts.old site (stored_shape types.now))) }
 {

@@ -1,5 +1,6 @@
 mod EffectLemmas
 mod RangeLemmas
+pub mod ReachLemmas
 mod Rows
 mod RuleLemmas
 mod Tops

@@ -1,5 +1,5 @@
 -- What holds of every rule: it takes no more than is there, and it looks from the top.
-use Rattle.std.specs.Prelude.{◌≡◌, ℕ, ◌+◌, ◌-◌, ◌*◌, ◌<◌, ◌≤◌, pos, neg_ℤ, ℤ, List, [], ◌∷◌, ◌++◌, length, Some}
+use Rattle.std.specs.Prelude.{◌≡◌, ℕ, ◌+◌, ◌-◌, ◌*◌, ◌<◌, ◌≤◌, pos, neg_ℤ, ℤ, List, [], ◌∷◌, ◌++◌, length, None, Some}
 use Rattle.nwq_value.specs.declared.value.Ty.{Ty}
 use Rattle.nwq_value.specs.declared.engine.Routine.{Routine}
 use Rattle.nwq_value.specs.Engine.{EngineTable}
@@ -14,6 +14,7 @@ use Rattle.stack_shape.specs.Calls.{call_effect}
 use Rattle.stack_shape.specs.declared.store.StoredTypes.{StoredTypes}
 use Rattle.stack_shape.specs.Stored.{TopShape, stored_types}
 use Rattle.stack_shape.specs.Rule.{rule}
+use Rattle.stack_shape.specs.Reach.{reach}
 
 -- ---- numbers of bytes
 
@@ -84,3 +85,18 @@ StoresLookFromTop = (globals locals : ℕ) (under cells x y : List Slot) (t : St
 abbrev pub RuleLooksFromTop : Type 0
 RuleLooksFromTop = (table : EngineTable) (op : PlainOp) (before after : TopShape) (x y : List Slot) → rule table op before ≡ Some after
     → rule table op (deeper x y before) ≡ Some (deeper x y after)
+
+-- ---- how deep the rule looks
+
+-- the slots that an instruction looks at are there
+pub record Reaches (table : EngineTable) (op : PlainOp) (s : TopShape) : Type 0 where
+  pub cells : (reach table op).cells ≤ length s.cells
+  pub under : (reach table op).under ≤ length s.under
+
+abbrev pub RuleReaches : Type 0
+RuleReaches = (table : EngineTable) (op : PlainOp) (before after : TopShape) → rule table op before ≡ Some after → Reaches table op before
+
+-- where they are and there is no rule, there is none with further cells beneath
+abbrev pub RuleLooksNoDeeper : Type 0
+RuleLooksNoDeeper = (table : EngineTable) (op : PlainOp) (s : TopShape) (x y : List Slot) → Reaches table op s → rule table op s ≡ None
+    → rule table op (deeper x y s) ≡ None

@@ -4,5 +4,6 @@ pub mod StackEffects
 pub mod Calls
 pub mod Stored
 pub mod Rule
+pub mod Reach
 pub mod Suffix
 pub mod Laws

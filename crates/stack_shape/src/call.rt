@@ -8,7 +8,7 @@ use crate::top_first::TopFirst;
 use nwq_value::{NoMemory, Param, Role, Routine, Ty, Tys};
 use std::alloc::Global;
 
-fn is_action(ty: Ty) -> bool
+pub fn is_action(ty: Ty) -> bool
     ensures { result ≡ is_action ty }
 {
     matches!(ty, Ty::Action)

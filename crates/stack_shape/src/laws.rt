@@ -1,7 +1,8 @@
 ghost use Rattle.stack_shape.specs.Laws.{CallsLookFromTop, CallsPopValues, CellsOfBytes};
 ghost use Rattle.stack_shape.specs.Laws.{DepthOfOffset, EffectsLookFromTop, EffectsPopValues};
 ghost use Rattle.stack_shape.specs.Laws.{NumbersOfRange, RangeOfNumbers, RuleLooksFromTop};
-ghost use Rattle.stack_shape.specs.Laws.{StoresLookFromTop, ValuesAreThere};
+ghost use Rattle.stack_shape.specs.Laws.{RuleLooksNoDeeper, RuleReaches, StoresLookFromTop};
+ghost use Rattle.stack_shape.specs.Laws.{ValuesAreThere};
 
 /// Four bytes are one cell, and an offset of four bytes down for each cell reaches so many cells
 /// down.
@@ -31,4 +32,11 @@ pub fn rules_look_from_the_top()
     ensures calls { CallsLookFromTop }
     ensures stores { StoresLookFromTop }
     ensures rules { RuleLooksFromTop }
+{}
+
+/// What an instruction looks at is there where it has a rule; and it looks no deeper: without a
+/// rule on cells as deep as it looks, it has none with further cells beneath.
+pub fn rules_look_no_deeper()
+    ensures there { RuleReaches }
+    ensures deep { RuleLooksNoDeeper }
 {}

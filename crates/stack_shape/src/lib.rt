@@ -20,6 +20,7 @@ mod common_suffix;
 mod effect;
 mod laws;
 mod range;
+mod reach;
 mod rule;
 mod shape;
 mod store;
@@ -28,8 +29,12 @@ mod top_first;
 pub use call::{action_count, call_effect, is_callable};
 pub use common_suffix::suffix;
 pub use effect::{StackEffect, stack_effect, type_of_both, type_of_one};
-pub use laws::{cells_of_bytes, effects_pop_values, ranges_of_cells, rules_look_from_the_top};
+pub use laws::{
+    cells_of_bytes, effects_pop_values, ranges_of_cells, rules_look_from_the_top,
+    rules_look_no_deeper,
+};
 pub use range::{CellRange, cell_count, depth_of, range_at};
+pub use reach::{Reach, reach_of};
 pub use rule::step;
 pub use shape::{Entry, Shape, Slot, Slots, Unders};
 pub use store::{StoredTypes, stored_types};

@@ -1,4 +1,4 @@
-ghost use Rattle.std.specs.Prelude.{◌≡◌, ◌≤◌, IfSome};
+ghost use Rattle.std.specs.Prelude.{◌≡◌, ◌≤◌, ◌<◌, ◌+◌, ◌^◌, IfSome};
 ghost use Rattle.stack_shape.specs.Ranges.{cell_count, depth_of, range_at, range_of};
 
 /// Cells that an instruction names by an offset and a size.
@@ -26,6 +26,7 @@ pub fn cell_count(bytes: u32) -> Option<usize>
 #[tactic(auto, unfolding(crate::specs::Ranges::depth_of))]
 pub fn depth_of(offset: i32) -> Option<usize>
     ensures depth { result ≡ depth_of offset }
+    ensures bound { IfSome result (λ depth. depth < 2 ^ 32) }
 {
     if 0 < offset {
         None
@@ -37,7 +38,8 @@ pub fn depth_of(offset: i32) -> Option<usize>
 /// So many cells that begin at a depth, where they lie at or below the end that it counts from.
 #[tactic(auto, unfolding(crate::specs::Ranges::range_of))]
 fn range_of(depth: usize, count: usize) -> Option<CellRange>
-    ensures { result ≡ range_of depth count }
+    ensures range { result ≡ range_of depth count }
+    ensures end { IfSome result (λ range. range.above + range.count ≡ depth) }
 {
     if 0 < count && count <= depth {
         Some(CellRange {
@@ -53,6 +55,7 @@ fn range_of(depth: usize, count: usize) -> Option<CellRange>
 #[tactic(auto, unfolding(crate::specs::Ranges::range_at))]
 pub fn range_at(offset: i32, size: u16) -> Option<CellRange>
     ensures range { result ≡ range_at offset size }
+    ensures bound { IfSome result (λ range. range.above + range.count < 2 ^ 32) }
 {
     range_of(depth_of(offset)?, cell_count(size as u32)?)
 }

@@ -1,35 +1,53 @@
-use Rattle.std.proofs.Common.{subst, sym}
-use Rattle.stack_check.specs.Inference.{Calls}
-use Rattle.stack_check.proofs.Keeping.{keeps_grows}
-use Rattle.stack_check.proofs.CallSteps.{given_in, given_owed, given_sees, sees_none}
+use Rattle.std.proofs.Common.{rules, ◌∙◌, subst, sym}
+use Rattle.std.proofs.lemmas.Bool.{iff_false}
+use Rattle.stack_check.specs.Held.{shape_of}
+use Rattle.stack_check.specs.declared.held.Heap.{Heap}
+use Rattle.stack_check.specs.declared.facts.Facts.{Facts}
+use Rattle.stack_check.specs.Inference.{BeginsAlike, Calls, IsThere, LooksOwed, Sees, TrialIn, Within, window}
+use Rattle.stack_check.proofs.Calling.{call_there}
+use Rattle.stack_check.proofs.CallSteps.{callee_in, looks_there, sees_from, sees_none, sees_other}
 use Rattle.stack_check.proofs.calls.call_known.Goals as goal
 
-pub with_given-requires-clause-inside : goal.with_given-requires-clause-inside
-with_given-requires-clause-inside c = c.requires.keeps.inside.rows c.args.from.trial c.args.from.place c.args.from.held c.requires.row
+pub begins-requires-clause-held : goal.begins-requires-clause-held
+begins-requires-clause-held c = c.requires.keeps.inside.rows c.args.from.trial c.args.from.place c.args.from.held c.requires.row
 
-pub with_given-requires-clause-given : goal.with_given-requires-clause-given
-with_given-requires-clause-given c =
-    given_in c.args.table.now c.args.code.now c.args.heap.now c.args.facts.now _ c.args.callee c.in-Some.given c.requires.keeps c.requires.calls c.in-Some.is
+pub begins-requires-clause-inside : goal.begins-requires-clause-inside
+begins-requires-clause-inside c = callee_in c.args.table.now c.args.code.now c.args.heap.now c.args.facts.now c.args.target c.args.callee c.requires.keeps c.requires.calls
 
-pub follow-requires-clause-keeps : goal.follow-requires-clause-keeps
-follow-requires-clause-keeps c =
-    keeps_grows c.args.table.now c.args.code.now c.args.heap.now _ c.args.facts.now c.in_ok-now-in-Some.ensures.grows c.requires.keeps
+pub returns-then-not-branch : goal.returns-then-not-branch
+returns-then-not-branch c = record {
+  sees = subst (λ (h : Heap). Sees c.args.table.now c.args.code.now c.args.heap.now h c.args.facts.now c.args.facts.now c.args.from.trial c.args.from.place c.args.from.held _)
+      (sym c.in_ok-begins.ensures.same)
+      (sees_other c.args.table.now c.args.code.now c.args.heap.now c.args.facts.now c.args.from.trial c.args.from.place c.requires.op.offset c.args.from.held c.args.callee c.requires.keeps
+      c.requires.row c.requires.op.stands (subst (λ t. Calls c.args.facts.now t c.args.callee) (sym c.requires.op.leads) c.requires.calls) (iff_false c.in_ok-begins.ensures.begins (search rules)));
+}
 
-pub follow-requires-clause-owed : goal.follow-requires-clause-owed
-follow-requires-clause-owed c =
-    given_owed c.args.table.now c.args.code.now c.args.heap.now _ c.args.facts.now c.args.from.trial c.args.from.place c.requires.op.offset c.args.from.held _ c.args.callee
-    c.in-Some.given c.args.rest c.args.beneath c.args.next c.requires.keeps c.requires.row c.requires.op.stands (subst (λ t. Calls c.args.facts.now t c.args.callee) (sym c.requires.op.leads) c.requires.calls) c.requires.strips c.in-Some.is
-    c.requires.next c.in_ok-now-in-Some.ensures
+pub window-requires : goal.window-requires
+window-requires c = record {
+  inside = subst (λ (h : Heap). TrialIn h c.args.callee) (sym c.in_ok-begins.ensures.same)
+      (callee_in c.args.table.now c.args.code.now c.args.heap.now c.args.facts.now c.args.target c.args.callee c.requires.keeps c.requires.calls);
+}
+
+pub see-requires-clause-looks : goal.see-requires-clause-looks
+see-requires-clause-looks c =
+    subst (λ r. IsThere (shape_of c.begins.new.heap c.args.from.held) r) (sym c.window.ensures)
+    (subst (λ (h : Heap). IsThere (shape_of h c.args.from.held) (window h c.args.callee)) (sym c.in_ok-begins.ensures.same)
+    (call_there c.args.heap.now c.args.from.held c.args.callee (c.in_ok-begins.ensures.begins.0 (search rules))))
+
+pub see-requires-clause-owed : goal.see-requires-clause-owed
+see-requires-clause-owed c =
+    subst (λ r. LooksOwed c.args.table.now c.args.code.now c.begins.new.heap c.args.facts.now c.args.from.trial c.args.from.place r) (sym c.window.ensures)
+    (subst (λ (h : Heap). LooksOwed c.args.table.now c.args.code.now h c.args.facts.now c.args.from.trial c.args.from.place (window h c.args.callee)) (sym c.in_ok-begins.ensures.same)
+    (looks_there c.args.table.now c.args.code.now c.args.heap.now c.args.facts.now c.args.from.trial c.args.from.place c.requires.op.offset c.args.callee c.requires.keeps c.requires.op.stands (subst (λ t. Calls c.args.facts.now t c.args.callee) (sym c.requires.op.leads) c.requires.calls)))
 
 pub returns-in-None : goal.returns-in-None
-returns-in-None c = record {
-  sees = sees_none c.args.table.now c.args.code.now c.args.heap.now c.args.facts.now c.args.from.trial c.args.from.place c.requires.op.offset c.args.from.held
-      c.args.callee c.args.rest c.args.beneath c.requires.keeps c.requires.op.stands (subst (λ t. Calls c.args.facts.now t c.args.callee) (sym c.requires.op.leads) c.requires.calls) c.requires.strips c.in-None.is;
-}
-
-pub returns-in_ok-seen-in-Some : goal.returns-in_ok-seen-in-Some
-returns-in_ok-seen-in-Some c = record {
-  sees = given_sees c.args.table.now c.args.code.now c.args.heap.now _ c.args.facts.now _ c.args.from.trial c.args.from.place c.requires.op.offset c.args.from.held _
-      c.args.callee c.in-Some.given c.args.rest c.args.beneath c.args.next _ c.requires.keeps c.requires.op.stands (subst (λ t. Calls c.args.facts.now t c.args.callee) (sym c.requires.op.leads) c.requires.calls) c.requires.strips c.in-Some.is
-      c.requires.next c.in_ok-now-in-Some.ensures c.in_ok-seen-in-Some.ensures.keeps c.in_ok-seen-in-Some.ensures.quiet;
-}
+returns-in-None c =
+    let w = c.in_ok-see.ensures.within (search rules) in record {
+      sees = subst (λ (f : Facts). Sees c.args.table.now c.args.code.now c.args.heap.now c.begins.new.heap c.args.facts.now f c.args.from.trial c.args.from.place c.args.from.held _) (sym w.0)
+          (subst (λ (h : Heap). Sees c.args.table.now c.args.code.now c.args.heap.now h c.args.facts.now c.args.facts.now c.args.from.trial c.args.from.place c.args.from.held _)
+          (sym c.in_ok-begins.ensures.same)
+          (sees_none c.args.table.now c.args.code.now c.args.heap.now c.args.facts.now c.args.from.trial c.args.from.place c.requires.op.offset c.args.from.held c.args.callee c.requires.keeps
+          c.requires.op.stands (subst (λ t. Calls c.args.facts.now t c.args.callee) (sym c.requires.op.leads) c.requires.calls) c.in-None.is (c.in_ok-begins.ensures.begins.0 (search rules))
+          (subst (λ (h : Heap). Within h c.args.facts.now c.args.from.trial (shape_of h c.args.from.held) (window h c.args.callee)) c.in_ok-begins.ensures.same
+          (subst (λ r. Within c.begins.new.heap c.args.facts.now c.args.from.trial (shape_of c.begins.new.heap c.args.from.held) r) c.window.ensures w.1))));
+    }

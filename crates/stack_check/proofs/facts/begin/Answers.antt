@@ -1,3 +1,4 @@
+use Rattle.stack_check.proofs.Adding.{trial_left}
 use Rattle.stack_check.proofs.Keeping.{keeps_trial}
 use Rattle.stack_check.proofs.facts.begin.Goals as goal
 
@@ -5,4 +6,5 @@ pub returns : goal.returns
 returns c = record {
   keeps = keeps_trial _ _ _ c.args.facts.now _ c.args.trial c.requires.keeps c.in_ok-number.ensures.added c.requires.inside (λ e. absurd (c.requires.entry e))
       c.requires.begins;
+  takes = trial_left c.args.table.now c.args.code.now c.args.heap.now c.args.facts.now _ c.args.trial c.in_ok-number.ensures.added c.requires.begins;
 }

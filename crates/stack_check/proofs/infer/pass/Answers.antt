@@ -1,14 +1,17 @@
-use Rattle.std.proofs.Common.{arith, refl}
-use Rattle.stack_check.proofs.Passing.{all_done, all_step}
+use Rattle.std.proofs.Common.{refl, sym}
+use Rattle.stack_check.proofs.Passing.{all_done, all_less, all_step}
 use Rattle.stack_check.proofs.infer.pass.Goals as goal
 
-pub loop-place-preserved : goal.loop-place-preserved
-loop-place-preserved c =
-    all_step c.args.table.now c.args.code.now c.args.heap.now c.loop-place.heap c.look_at_place.new.heap c.args.facts.now c.loop-place.facts
-    c.look_at_place.new.facts c.loop-place.place _ c.in_ok-seen.seen c.loop-place.invariant c.in_ok-seen.ensures.sees c.in-Quiet.is refl
+pub rows-smaller : goal.rows-smaller
+rows-smaller c =
+    all_less c.args.table.now c.args.code.now c.args.heap.now c.rows.heap c.args.facts.now c.rows.facts c.rows.number c.in-Some.row c.rows.invariant c.in-Some.ensures.row
 
-pub returns : goal.returns
-returns c = record {
-  sees = all_done c.args.table.now c.args.code.now c.args.heap.now c.loop-place.heap c.args.facts.now c.loop-place.facts c.loop-place.place
-      c.loop-place.invariant (omega (arith, c.loop-place-test.false, c.end.ensures.end));
+pub rows-preserved : goal.rows-preserved
+rows-preserved c =
+    all_step c.args.table.now c.args.code.now c.args.heap.now c.rows.heap c.look.new.heap c.args.facts.now c.rows.facts c.look.new.facts c.rows.number _ c.in-Some.row
+    c.in_ok-seen.seen c.rows.invariant (sym c.in-Some.ensures.row) c.in_ok-seen.ensures.sees c.in-Quiet.is refl
+
+pub returns-in-None : goal.returns-in-None
+returns-in-None c = record {
+  sees = all_done c.args.table.now c.args.code.now c.args.heap.now c.rows.heap c.args.facts.now c.rows.facts c.rows.number c.rows.invariant c.in-None.ensures.row;
 }

@@ -2,8 +2,8 @@ use Rattle.std.proofs.Common.{◌≡◌, subst, sym}
 use Rattle.std.specs.Prelude.{IfOk}
 use Rattle.std.proofs.lemmas.Result.{IfOk-weaker}
 use Rattle.stack_check.specs.Held.{shape_of}
-use Rattle.stack_check.specs.Inference.{AllLed, RowIs, RowsKept, WhereQuiet}
-use Rattle.stack_check.proofs.Following.{changed_keeps, changed_quiet, kept_then, one_led, two_quiet}
+use Rattle.stack_check.specs.Inference.{AllLed, RowIs, RowsKept, Takes, WhereQuiet}
+use Rattle.stack_check.proofs.Following.{changed_keeps, changed_quiet, kept_then, one_led, takes_both, takes_next, two_quiet}
 use Rattle.stack_check.proofs.Steps.{step_kept}
 use Rattle.stack_check.proofs.reach.lead.Goals as goal
 
@@ -45,3 +45,16 @@ returns-in_ok-seen-in-Changed-clause-kept c = kept_then _ _ _ c.in_ok-seen-in-Tw
 
 pub returns-in_ok-seen-in-Changed-clause-quiet : goal.returns-in_ok-seen-in-Changed-clause-quiet
 returns-in_ok-seen-in-Changed-clause-quiet c = changed_quiet c.in_ok-seen-in-Changed.seen c.after_change.result _ c.after_change.ensures
+
+pub returns-in-Quiet-clause-takes : goal.returns-in-Quiet-clause-takes
+returns-in-Quiet-clause-takes c =
+    let first = subst (λ seen. WhereQuiet seen ((c.lead_to-in-Two.new.facts ≡ c.args.facts.now)
+    × RowIs c.args.heap.now c.args.facts.now c.args.from.trial c.in-Two.first (shape_of c.args.heap.now c.args.after))) c.in-Quiet.is c.in_ok-seen-in-Two.ensures.quiet in
+    IfOk-weaker c.lead_to-in-Quiet.result _ (λ seen. Takes c.args.facts.now c.lead_to-in-Quiet.new.facts seen)
+    (λ seen t. takes_next c.args.facts.now c.lead_to-in-Two.new.facts c.lead_to-in-Quiet.new.facts seen first.0 t) c.lead_to-in-Quiet.ensures.takes
+
+pub returns-in_ok-seen-in-Changed-clause-takes : goal.returns-in_ok-seen-in-Changed-clause-takes
+returns-in_ok-seen-in-Changed-clause-takes c =
+    takes_both _ c.args.facts.now c.lead_to-in-Two.new.facts _ c.in_ok-seen-in-Changed.seen c.after_change.result
+    (subst (λ seen. Takes c.args.facts.now c.lead_to-in-Two.new.facts seen) c.in-Changed.is c.in_ok-seen-in-Two.ensures.takes)
+    c.in_ok-seen-in-Changed.ensures.takes c.in_ok-seen-in-Changed.ensures.quiet c.after_change.ensures

@@ -31,18 +31,19 @@ returns-in-Bad c = record {
 
 pub returns-in_ok-seen-in-Quiet : goal.returns-in_ok-seen-in-Quiet
 returns-in_ok-seen-in-Quiet c = record {
-  sees = store_quiet c.args.table.now c.args.code.now c.args.heap.now c.visit_step.new.heap _ c.args.facts.now c.visit_step.new.facts _ c.args.from.trial
+  sees = store_quiet c.rules_look_from_the_top.ensures.stores c.args.table.now c.args.code.now c.args.heap.now c.visit_step.new.heap _ c.args.facts.now c.visit_step.new.facts _ c.args.from.trial
       c.args.from.place c.args.from.held (plain c.args.op.now) c.args.types.now c.in_ok-seen-in-Quiet.seen c.requires.keeps c.requires.stores
       (subst (λ (s : Seen). SeesStep c.args.table.now c.args.code.now c.args.heap.now c.visit_step.new.heap c.args.facts.now c.visit_step.new.facts
       c.args.from.trial c.args.from.place c.args.from.held (plain c.args.op.now) s) c.in-Quiet.is c.in_ok-first.ensures.sees)
-      c.in_ok-seen-in-Quiet.ensures.grows c.in_ok-seen-in-Quiet.ensures.keeps c.in_ok-seen-in-Quiet.ensures.quiet;
+      c.in_ok-seen-in-Quiet.ensures.grows c.in_ok-seen-in-Quiet.ensures.keeps c.in_ok-seen-in-Quiet.ensures.quiet c.in_ok-seen-in-Quiet.ensures.takes;
 }
 
 pub returns-in_ok-seen-in-Changed : goal.returns-in_ok-seen-in-Changed
 returns-in_ok-seen-in-Changed c = record {
   sees = store_changed c.args.table.now c.args.code.now c.args.heap.now c.visit_step.new.heap _ c.args.facts.now c.visit_step.new.facts _ c.args.from.trial
-      c.args.from.place c.args.from.held (plain c.args.op.now) c.in_ok-seen-in-Changed.seen _
+      c.args.from.place c.args.from.held (plain c.args.op.now) _ c.in_ok-seen-in-Changed.seen _
       (subst (λ (s : Seen). SeesStep c.args.table.now c.args.code.now c.args.heap.now c.visit_step.new.heap c.args.facts.now c.visit_step.new.facts
       c.args.from.trial c.args.from.place c.args.from.held (plain c.args.op.now) s) c.in-Changed.is c.in_ok-first.ensures.sees)
-      c.in_ok-seen-in-Changed.ensures.grows c.in_ok-seen-in-Changed.ensures.keeps c.after_change.ensures;
+      c.in_ok-seen-in-Changed.ensures.grows c.in_ok-seen-in-Changed.ensures.keeps c.in_ok-seen-in-Changed.ensures.quiet c.in_ok-seen-in-Changed.ensures.takes
+      c.after_change.ensures;
 }

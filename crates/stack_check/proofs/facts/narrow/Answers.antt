@@ -1,0 +1,13 @@
+use Rattle.std.proofs.Common.{ap, refl}
+use Rattle.stack_check.proofs.Seeing.{narrow_keeps, narrow_left}
+use Rattle.stack_check.proofs.facts.narrow.Goals as goal
+
+pub returns-clause-keeps : goal.returns-clause-keeps
+returns-clause-keeps c =
+    narrow_keeps c.args.table.now c.args.code.now c.args.heap.now c.args.facts.now _ c.args.number c.args.trial _ c.args.unseen c.requires.keeps c.requires.trial
+    c.requires.less c.requires.owed refl (ap (λ trials. record c.args.facts.now { trials = trials }) c.set.ensures.set)
+
+pub returns-clause-takes : goal.returns-clause-takes
+returns-clause-takes c =
+    narrow_left c.args.facts.now _ c.args.number c.args.trial _ c.args.unseen c.requires.trial c.requires.less refl
+    (ap (λ trials. record c.args.facts.now { trials = trials }) c.set.ensures.set)

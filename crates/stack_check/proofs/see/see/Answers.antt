@@ -1,0 +1,20 @@
+use Rattle.std.proofs.Common.{◌∙◌, rules, subst, sym}
+use Rattle.stack_check.specs.Held.{shape_of}
+use Rattle.stack_check.specs.Inference.{UnseenOwed}
+use Rattle.stack_check.proofs.Seeing.{see_owed, see_within}
+use Rattle.stack_check.proofs.see.see.Goals as goal
+
+pub returns-then-same_unseen-clause-within : goal.returns-then-same_unseen-clause-within
+returns-then-same_unseen-clause-within c = λ e. (
+  Rattle.std.proofs.Common.refl,
+  see_within c.args.table.now c.args.code.now c.args.heap.now c.args.facts.now c.args.from.trial c.args.from.place c.args.from.held c.in-Some.trial.now c.args.reach
+      c.requires.keeps c.requires.row (sym c.in-Some.ensures.item) c.requires.looks
+      (sym c.unseen_after-unseen.ensures ∙ c.same_unseen.ensures.0 c.if-same_unseen.true),
+)
+
+pub narrow-requires-clause-owed : goal.narrow-requires-clause-owed
+narrow-requires-clause-owed c =
+    subst (λ u. UnseenOwed c.args.table.now c.args.code.now c.args.heap.now c.args.facts.now c.args.from.trial c.in-Some.trial.now u)
+    (sym c.unseen_after-unseen.ensures)
+    (see_owed c.args.table.now c.args.code.now c.args.heap.now c.args.facts.now c.args.from.trial c.args.from.place c.args.from.held c.in-Some.trial.now c.args.reach
+    c.requires.row (sym c.in-Some.ensures.item) c.requires.owed)

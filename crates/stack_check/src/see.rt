@@ -1,0 +1,106 @@
+ghost use Rattle.std.specs.Prelude.{◌≡◌, ◌<◌, ◌↔◌, Some, IfOk, IsTrue, min, true, false};
+ghost use Rattle.stack_check.specs.Rows.{row_in};
+ghost use Rattle.stack_check.specs.Facts.{left};
+ghost use Rattle.stack_check.specs.Held.{shape_of};
+ghost use Rattle.stack_check.specs.Inference.{IsThere, Keeps, LooksOwed, Within, narrowed};
+ghost use Rattle.stack_check.specs.Inference.{unseen_after};
+
+use crate::facts::{Facts, Trial, Unseen, narrow};
+use crate::held::{Heap, Held};
+use crate::reach::Found;
+use crate::todo::{Spot, Todo};
+use ncs_file::Code;
+use nwq_value::{NoMemory, Table};
+use stack_shape::{Entry, Reach};
+
+fn least(a: u32, b: u32) -> u32
+    ensures { result ≡ min a b }
+{
+    if a <= b { a } else { b }
+}
+
+/// What was not looked at, once all is that lies above so many slots of the cells and of the list
+/// beneath BP. That list is one on the routine's own cells once a list was saved.
+fn narrowed(unseen: Unseen, first: bool, cells: u32, under: u32) -> Unseen
+    ensures { result ≡ narrowed unseen first cells under }
+{
+    let seen = least(unseen.cells, cells);
+    if first {
+        Unseen {
+            cells: seen,
+            under: least(unseen.under, under),
+        }
+    } else {
+        Unseen {
+            cells: least(seen, under),
+            under: unseen.under,
+        }
+    }
+}
+
+/// What an instruction that looks so deep into a shape leaves unseen.
+#[tactic(auto, using(crate::proofs::Seeing::unseeing))]
+fn unseen_after(heap: &Heap, unseen: Unseen, held: Held, reach: Reach) -> Unseen
+    requires looks { IsThere (shape_of heap.now held) reach }
+    ensures { result ≡ unseen_after unseen (shape_of heap.now held) reach }
+{
+    let cells = heap.slots.depth(held.cells) as usize - reach.cells;
+    let under = heap.slots.depth(held.under) as usize - reach.under;
+    let first = heap.saved.is_empty(held.saved);
+    narrowed(unseen, first, cells as u32, under as u32)
+}
+
+fn same_unseen(a: Unseen, b: Unseen) -> bool
+    ensures { IsTrue result ↔ (a ≡ b) }
+{
+    a == b
+}
+
+/// Has the calls of a trial's routine looked at again.
+fn look_again(todo: &mut Todo, entry: Entry) -> Result<(), NoMemory> {
+    match entry {
+        Entry::Called(target) => todo.add_callers(target),
+        Entry::Start => Ok(()),
+        Entry::Stored(_) => Ok(()),
+    }
+}
+
+/// Looks so deep into a shape that was found. True where some of these slots lie in what the
+/// trial's routine took from its first caller, and no instruction had looked at them.
+#[tactic(auto, using(crate::proofs::Seeing::seeing))]
+pub fn see(
+    code: &Code,
+    table: &Table,
+    heap: &Heap,
+    facts: &mut Facts,
+    todo: &mut Todo,
+    from: Found,
+    reach: Reach,
+) -> Result<bool, NoMemory>
+    requires keeps { Keeps table.now code.now heap.now facts.old }
+    requires row { row_in facts.old.rows from.trial from.place ≡ Some from.held }
+    requires looks { IsThere (shape_of heap.now from.held) reach }
+    requires owed { LooksOwed table.now code.now heap.now facts.old from.trial from.place reach }
+    ensures keeps { IfOk result (λ _. Keeps table.now code.now heap.now facts.new) }
+    ensures more { IfOk result (λ more. more ≡ true → left facts.new < left facts.old) }
+    ensures within { IfOk result (λ more. more ≡ false → (facts.new ≡ facts.old)
+        × Within heap.now facts.old from.trial (shape_of heap.now from.held) reach) }
+{
+    match facts.trials.get(from.trial as usize) {
+        None => unreachable!(),
+        Some(trial) => {
+            let trial = *trial;
+            let unseen = unseen_after(heap, trial.unseen, from.held, reach);
+            if same_unseen(unseen, trial.unseen) {
+                return Ok(false);
+            }
+            narrow(code, table, heap, facts, from.trial, trial, unseen);
+            look_again(todo, trial.entry)?;
+            todo.add(Spot {
+                trial: from.trial,
+                place: from.place,
+            })?;
+            Ok(true)
+        }
+    }
+}
