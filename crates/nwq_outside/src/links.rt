@@ -64,8 +64,7 @@ fn followed<R: HostFiles + AllocGlobal>(rt: &R, name: &str) -> io::Result<String
     Err(io::Error::from(ErrorKind::FilesystemLoop))
 }
 
-/// Where the bytes of a name are to go. A regular file that may not be written is refused: opening
-/// it tells.
+/// Where the bytes of a name are to go. A regular file that may not be written is refused.
 pub(crate) fn place_of<R: HostFiles + AllocGlobal>(rt: &R, name: &str) -> io::Result<Place> {
     let target = followed(rt, name)?;
     if is_open_file(target.as_str()) {

@@ -14,7 +14,7 @@ use std::io::{self, ErrorKind, Read as _, Write};
 use std::marker::Model;
 use std::rt::Files as HostFiles;
 
-/// How many new names a write tries before it gives up.
+/// How many new names a write tries beside the old one, each of which a file may have.
 const MOST_NEW_NAMES: u32 = 1_000;
 
 /// A name at which the outside failed, and how.
