@@ -5,3 +5,4 @@ pub mod OrderLemmas
 pub mod Placing
 pub mod Rows
 pub mod Turns
+pub mod Counts

@@ -1,13 +1,16 @@
 -- How the entries are kept: in queues by due time, and in an inbox that moves into them. No public clause speaks of it.
-use Rattle.std.specs.Prelude.{◌≡◌, ◌≢◌, ◌<◌, ℕ, true, false, List, [], ◌∷◌, ◌++◌, length, get_or, if◌then◌else◌}
+use Rattle.std.specs.Prelude.{◌≡◌, ◌≢◌, ◌<◌, ℕ, suc, nat_eq, Option, None, Some, true, false, List, [], ◌∷◌, ◌++◌, length, get_or, if◌then◌else◌}
 use Rattle.std.specs.List.{remove}
 use Rattle.std.specs.Ordering.{nat_cmp}
-use Rattle.std.specs.BTreeMap.{is_at}
+use Rattle.std.specs.BTreeMap.{BTreeMap, get, is_at}
 use Rattle.std.specs.Global.{Global}
 use Rattle.std.specs.declared.collections.VecDeque.{VecDeque}
 use Rattle.delay_agenda.specs.declared.entry.Entry.{Entry}
+use Rattle.delay_agenda.specs.declared.entry.Kind.{Kind}
+use Rattle.delay_agenda.specs.declared.entry.Kind.TheVariants.{Event, Stored, Turn, Unapply}
+use Rattle.delay_agenda.specs.declared.turn_index.Turns.{Turns}
 use Rattle.delay_agenda.specs.Order.{is_before, put_entry}
-use Rattle.delay_agenda.specs.Waiting.{is_turn_of, IsAgenda}
+use Rattle.delay_agenda.specs.Waiting.{is_turn_of, turn_count, IsAgenda}
 
 -- queues by due time, as a map has them
 abbrev pub Row : Type 0 → Type 0
@@ -100,7 +103,40 @@ pub record IsTurnAt {X : Type 0} (object at : ℕ) (es : List (Entry X)) : Type 
   pub inside : at < length es
   pub turn : (d : Entry X) → is_turn_of object (get_or es at d) ≡ true
 
--- what an agenda keeps of its parts
+-- how many Turns a record says that there are
+abbrev pub count_in : Option Turns → ℕ
+count_in None = 0
+count_in (Some turns) = turns.count
+
+-- how many Turns of an object there are, as an index of them says
+abbrev pub turns_of : ℕ → BTreeMap ℕ Turns → ℕ
+turns_of object index = count_in (get nat_cmp index object)
+
+-- an index counts the Turns of these entries
+abbrev pub IsCounted : {X : Type 0} → BTreeMap ℕ Turns → List (Entry X) → Type 0
+IsCounted index es = (object : ℕ) → turns_of object index ≡ turn_count object es
+
+-- the second index counts one Turn of the object more
+abbrev pub HasOneMore : ℕ → BTreeMap ℕ Turns → BTreeMap ℕ Turns → Type 0
+HasOneMore object few more = (other : ℕ) → turns_of other more ≡ (if nat_eq object other then suc (turns_of other few) else turns_of other few)
+
+-- the second index counts this entry more
+abbrev pub HasEntryMore : {X : Type 0} → Entry X → BTreeMap ℕ Turns → BTreeMap ℕ Turns → Type 0
+HasEntryMore e few more = (other : ℕ) → turns_of other more ≡ (if is_turn_of other e then suc (turns_of other few) else turns_of other few)
+
+-- the object whose Turn this is
+abbrev pub turning : {X : Type 0} → Kind X → Option ℕ
+turning (Turn o) = Some o
+turning (Event o script user) = None
+turning (Stored o action) = None
+turning (Unapply o) = None
+
+-- what an agenda keeps of its entries
 pub record IsKept {X : Type 0} (inbox : List (Entry X)) (queues : Row X) (next : ℕ) : Type 0 where
   pub sorted : AreQueues queues
   pub agenda : IsAgenda (record { entries = put_all inbox (in_row queues); next = next })
+
+-- what an agenda keeps of its parts
+pub record IsWhole {X : Type 0} (inbox : List (Entry X)) (queues : Row X) (index : BTreeMap ℕ Turns) (next : ℕ) : Type 0 where
+  pub kept : IsKept inbox queues next
+  pub counted : IsCounted index (in_row queues)

@@ -3,10 +3,12 @@ ghost use Rattle.std.specs.Prelude.{IsTrue, OnOk, OnErr};
 ghost use Rattle.delay_agenda.specs.Order.{first_due, put_entry, HasNone, IsNext};
 ghost use Rattle.delay_agenda.specs.Waiting.{posted, turn_count, without_turns, IsAgenda};
 
+use crate::counted::{cancel_counted, put_counted, take_counted};
 use crate::entry::{Entry, Kind};
 use crate::inbox::{empty_inbox, first_in_inbox};
 use crate::queue::{place_of_turn, take_from};
-use crate::queues::{cancel_in, due_of_first, put_in, take_first};
+use crate::queues::{Queues, due_of_first};
+use crate::turn_index::TurnIndex;
 use nwq_value::NoMemory;
 use std::alloc::Global;
 use std::collections::{BTreeMap, VecDeque};
@@ -14,11 +16,12 @@ use std::marker::Model;
 
 /// The entries that wait, and the number of the next post.
 ///
-/// They stand in queues by due time, an ordered map. A post puts its entry into an inbox beside
-/// them, which has room reserved, and the next call that may take memory moves the inbox into the
-/// queues.
+/// They stand in queues by due time, an ordered map, and an index of the Turns among them tells
+/// where the Turn of an object is. A post puts its entry into an inbox beside them, which has room
+/// reserved, and the next call that may take memory moves the inbox into the queues.
 pub struct Agenda<X> {
-    queues: BTreeMap<u64, VecDeque<Entry<X>>>,
+    queues: Queues<X>,
+    turns: TurnIndex,
     inbox: VecDeque<Entry<X>>,
     next: u64,
 }
@@ -26,7 +29,7 @@ pub struct Agenda<X> {
 impl<X> Model for Agenda<X> {
     ghost use Rattle.std.specs.Prelude.{◌-◌};
     ghost use Rattle.std.specs.VecDeque.{deque_capacity, deque_len};
-    ghost use Rattle.delay_agenda.specs.Queues.{in_row, put_all, IsKept};
+    ghost use Rattle.delay_agenda.specs.Queues.{in_row, put_all, IsWhole};
     ghost use Rattle.delay_agenda.specs.Waiting.{AgendaView};
 
     ghost Value = { AgendaView X };
@@ -36,17 +39,19 @@ impl<X> Model for Agenda<X> {
       room = deque_capacity a.inbox - deque_len a.inbox;
     } };
 
-    ghost invariant = { λ a. IsKept a.inbox.items a.queues.entries a.next };
+    ghost invariant = { λ a. IsWhole a.inbox.items a.queues.entries a.turns a.next };
 }
 
 impl<X: Drop> Drop for Agenda<X> {
     fn drop(self) {
         let Agenda {
             queues,
+            turns,
             inbox,
             next: _,
         } = self;
         drop(queues);
+        drop(turns);
         drop(inbox);
     }
 }
@@ -65,6 +70,7 @@ impl<X: Drop> Agenda<X> {
     {
         Agenda {
             queues: BTreeMap::new(alloc),
+            turns: BTreeMap::new(alloc),
             inbox: VecDeque::new(alloc),
             next,
         }
@@ -76,7 +82,7 @@ impl<X: Drop> Agenda<X> {
         ensures room { self.old.room ≤ self.new.room }
         ensures same { self.new.waiting ≡ self.old.waiting }
     {
-        empty_inbox(&mut self.queues, &mut self.inbox)?;
+        empty_inbox(&mut self.queues, &mut self.turns, &mut self.inbox)?;
         self.inbox.reserve(n as usize)?;
         Ok(())
     }
@@ -106,14 +112,14 @@ impl<X: Drop> Agenda<X> {
         ensures err { OnErr result (self.new.waiting ≡ self.old.waiting) }
         ensures room { self.old.room ≤ self.new.room }
     {
-        match empty_inbox(&mut self.queues, &mut self.inbox) {
+        match empty_inbox(&mut self.queues, &mut self.turns, &mut self.inbox) {
             Err(NoMemory) => {
                 drop(entry);
                 Err(NoMemory)
             }
             Ok(()) => {
                 let alloc = *self.inbox.allocator();
-                put_in(&mut self.queues, alloc, entry)?;
+                put_counted(&mut self.queues, &mut self.turns, alloc, entry)?;
                 Ok(())
             }
         }
@@ -130,7 +136,7 @@ impl<X: Drop> Agenda<X> {
     {
         match first_in_inbox(&self.inbox, &self.queues) {
             Some(at) => take_from(&mut self.inbox, at),
-            None => take_first(&mut self.queues),
+            None => take_counted(&mut self.queues, &mut self.turns),
         }
     }
 
@@ -153,7 +159,7 @@ impl<X: Drop> Agenda<X> {
         ensures room { self.old.room ≤ self.new.room }
     {
         match place_of_turn(&self.inbox, object) {
-            None => cancel_in(&mut self.queues, object),
+            None => cancel_counted(&mut self.queues, &mut self.turns, object),
             Some(at) => {
                 drop(take_from(&mut self.inbox, at));
                 true

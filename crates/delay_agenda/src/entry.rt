@@ -1,5 +1,6 @@
 ghost use Rattle.std.specs.Prelude.{◌≡◌};
 ghost use Rattle.delay_agenda.specs.Order.{is_before};
+ghost use Rattle.delay_agenda.specs.Queues.{turning};
 ghost use Rattle.delay_agenda.specs.Waiting.{is_turn_of};
 
 use nwq_value::Text;
@@ -44,6 +45,16 @@ impl<X> Entry<X> {
         ensures test { result ≡ is_before self.now other.now }
     {
         self.due < other.due || self.due == other.due && self.number < other.number
+    }
+
+    /// The object whose Turn this is.
+    pub(crate) fn turning(&self) -> Option<u32>
+        ensures object { result ≡ turning self.now.kind }
+    {
+        match &self.kind {
+            Kind::Turn { object } => Some(*object),
+            Kind::Event { .. } | Kind::Stored { .. } | Kind::Unapply { .. } => None,
+        }
     }
 
     /// Whether this is a Turn of the object.

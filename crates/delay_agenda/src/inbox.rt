@@ -2,11 +2,14 @@
 //! of their posts.
 ghost use Rattle.std.specs.Prelude.{◌≡◌, ◌<◌, ◌≤◌, ◌+◌, ◌-◌, [], ◌∷◌, MatchOption, OnOk};
 ghost use Rattle.std.specs.VecDeque.{deque_capacity, deque_len};
-ghost use Rattle.delay_agenda.specs.Queues.{in_row, put_all, AreQueues, IsInInbox, IsInQueues};
+ghost use Rattle.delay_agenda.specs.Queues.{in_row, put_all, AreQueues, IsCounted, IsInInbox};
+ghost use Rattle.delay_agenda.specs.Queues.{IsInQueues};
 
+use crate::counted::put_counted;
 use crate::entry::Entry;
 use crate::queue::least_place;
-use crate::queues::{Queues, first_of, put_in};
+use crate::queues::{Queues, first_of};
+use crate::turn_index::TurnIndex;
 use nwq_value::NoMemory;
 use std::collections::VecDeque;
 
@@ -38,18 +41,21 @@ pub(crate) fn first_in_inbox<X>(inbox: &VecDeque<Entry<X>>, queues: &Queues<X>) 
 /// inbox.
 pub(crate) fn empty_inbox<X: Drop>(
     queues: &mut Queues<X>,
+    index: &mut TurnIndex,
     inbox: &mut VecDeque<Entry<X>>,
 ) -> Result<(), NoMemory>
     requires queues { AreQueues queues.old.entries }
+    requires counted { IsCounted index.old (in_row queues.old.entries) }
     ensures empty { OnOk result (inbox.new.items ≡ []) }
     ensures entries { put_all inbox.new.items (in_row queues.new.entries)
         ≡ put_all inbox.old.items (in_row queues.old.entries) }
     ensures queues { AreQueues queues.new.entries }
+    ensures counted { IsCounted index.new (in_row queues.new.entries) }
     ensures room { deque_capacity inbox.old - deque_len inbox.old
         ≤ deque_capacity inbox.new - deque_len inbox.new }
 {
     while let Some(entry) = inbox.pop_front() {
-        move_in(queues, inbox, entry)?;
+        move_in(queues, index, inbox, entry)?;
     }
     Ok(())
 }
@@ -58,20 +64,23 @@ pub(crate) fn empty_inbox<X: Drop>(
 /// has room.
 fn move_in<X: Drop>(
     queues: &mut Queues<X>,
+    index: &mut TurnIndex,
     inbox: &mut VecDeque<Entry<X>>,
     entry: Entry<X>,
 ) -> Result<(), NoMemory>
     requires queues { AreQueues queues.old.entries }
+    requires counted { IsCounted index.old (in_row queues.old.entries) }
     requires room { deque_len inbox.old < deque_capacity inbox.old }
     ensures entries { put_all inbox.new.items (in_row queues.new.entries)
         ≡ put_all (entry ∷ inbox.old.items) (in_row queues.old.entries) }
     ensures queues { AreQueues queues.new.entries }
+    ensures counted { IsCounted index.new (in_row queues.new.entries) }
     ensures count { OnOk result (deque_len inbox.new ≡ deque_len inbox.old) }
     ensures bound { deque_len inbox.new ≤ deque_len inbox.old + 1 }
     ensures capacity { deque_capacity inbox.new ≡ deque_capacity inbox.old }
 {
     let alloc = *inbox.allocator();
-    match put_in(queues, alloc, entry) {
+    match put_counted(queues, index, alloc, entry) {
         Ok(()) => Ok(()),
         Err(failed) => {
             inbox.push_front_reserved(failed.value);

@@ -13,11 +13,13 @@
 #![tactic(auto)]
 
 mod agenda;
+mod counted;
 mod entry;
 mod inbox;
 mod laws;
 mod queue;
 mod queues;
+mod turn_index;
 
 pub use agenda::Agenda;
 pub use entry::{Entry, Kind};

@@ -57,6 +57,23 @@ pub(crate) fn least_place<X>(inbox: &VecDeque<Entry<X>>) -> usize
     least
 }
 
+/// The first place whose number is not less, among entries whose numbers grow.
+pub(crate) fn place_of_number<X>(queue: &VecDeque<Entry<X>>, number: u64) -> usize
+    ensures inside { result ≤ deque_len queue.now }
+{
+    let mut low = 0;
+    let mut high = queue.len();
+    while low < high {
+        let middle = low + (high - low) / 2;
+        if queue[middle].number < number {
+            low = middle + 1;
+        } else {
+            high = middle;
+        }
+    }
+    low
+}
+
 /// Where a Turn of the object stands.
 #[tactic(auto, using(crate::proofs::Turns::none_next))]
 pub(crate) fn place_of_turn<X>(queue: &VecDeque<Entry<X>>, object: u32) -> Option<usize>

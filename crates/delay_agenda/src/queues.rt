@@ -1,6 +1,6 @@
 //! Calls on the queues of entries, an ordered map from due times.
 ghost use Rattle.std.specs.Prelude.{◌≡◌, ◌<◌, ◌≤◌, None, [], ◌∷◌, length, drop, slice_get, Some};
-ghost use Rattle.std.specs.Prelude.{IfErr, MatchOption, IfOk, IsTrue, ◌↔◌, OnOk, OnErr};
+ghost use Rattle.std.specs.Prelude.{IfErr, IfSome, MatchOption, IfOk, IsTrue, ◌↔◌, OnOk, OnErr};
 ghost use Rattle.std.specs.Ordering.{nat_cmp};
 ghost use Rattle.std.specs.BTreeMap.{get};
 ghost use Rattle.delay_agenda.specs.Order.{put_entry};
@@ -9,7 +9,7 @@ ghost use Rattle.delay_agenda.specs.Queues.{AreQueues, IsFirst, IsHead, IsTurnAt
 ghost use Rattle.delay_agenda.specs.Queues.{row_without};
 
 use crate::entry::Entry;
-use crate::queue::{front_of, place_of_turn, put_in_queue, take_from};
+use crate::queue::{front_of, place_of_number, place_of_turn, put_in_queue, take_from};
 use std::alloc::{AllocFailed, Global};
 use std::collections::{BTreeMap, VecDeque};
 
@@ -169,16 +169,49 @@ fn find_turn<X>(queues: &Queues<X>, object: u32) -> Option<(u64, usize)>
     None
 }
 
-/// Takes the Turn of the object off the queues; whether there was one.
+/// The place of the Turn of the object in the queue of a due time, if the entry of that number
+/// there is one.
+#[tactic(auto, using(crate::proofs::Rows::queue_at_is))]
+fn turn_at<X>(queues: &Queues<X>, object: u32, due: u64, number: u64) -> Option<usize>
+    ensures turn { IfSome result (λ at. IsTurnAt object at (queue_at due queues.now.entries)) }
+{
+    match queues.get(&due) {
+        None => None,
+        Some(queue) => {
+            let at = place_of_number(queue, number);
+            if at < queue.len() && queue[at].is_turn_of(object) {
+                Some(at)
+            } else {
+                None
+            }
+        }
+    }
+}
+
+/// Where a Turn of the object stands. The entry of that due time and number is looked at first, and
+/// all others only where it is none.
+fn find_near<X>(queues: &Queues<X>, object: u32, due: u64, number: u64) -> Option<(u64, usize)>
+    requires queues { AreQueues queues.now.entries }
+    ensures turn { MatchOption result (turn_count object (in_row queues.now.entries) ≡ 0)
+        (λ found. IsTurnAt object found.1 (queue_at found.0 queues.now.entries)) }
+{
+    match turn_at(queues, object, due, number) {
+        Some(at) => Some((due, at)),
+        None => find_turn(queues, object),
+    }
+}
+
+/// Takes the Turn of the object off the queues; whether there was one. It is found at once where it
+/// has this due time and number.
 #[tactic(auto, using(crate::proofs::Rows::turn_left, crate::proofs::Rows::count_row))]
-pub(crate) fn cancel_in<X: Drop>(queues: &mut Queues<X>, object: u32) -> bool
+pub(crate) fn cancel_in<X: Drop>(queues: &mut Queues<X>, object: u32, due: u64, number: u64) -> bool
     requires queues { AreQueues queues.old.entries }
     requires one { turn_count object (in_row queues.old.entries) ≤ 1 }
     ensures found { IsTrue result ↔ (0 < turn_count object (in_row queues.old.entries)) }
     ensures left { in_row queues.new.entries ≡ without_turns object (in_row queues.old.entries) }
     ensures queues { AreQueues queues.new.entries }
 {
-    match find_turn(queues, object) {
+    match find_near(queues, object, due, number) {
         None => false,
         Some((due, at)) => {
             drop(remove_at(queues, due, at));

@@ -1,5 +1,9 @@
+ghost use Rattle.std.specs.Prelude.{◌≤◌, ℕ, IfOk};
+ghost use Rattle.delay_agenda.specs.Waiting.{turn_count};
+
 use delay_agenda::*;
-use nwq_value::Text;
+use nwq_value::{NoMemory, Text};
+use std::alloc::Global;
 use std::test::Fail;
 
 /// Due time and number of an entry, and its object.
@@ -71,5 +75,43 @@ fn entries_are_put_with_their_numbers(rt: HostRuntime) -> Result<(), Fail> {
     agenda.put(entry)?;
     assert_eq!(rt; agenda.next_due(), Some(5));
     assert!(rt; agenda.cancel_turn(4) && agenda.take().is_none());
+    Ok(())
+}
+
+/// The agenda of so many objects: each has a Turn, all due at one time.
+fn all_turning(alloc: Global, objects: u32) -> Result<Agenda<u32>, NoMemory>
+    ensures one { IfOk result (λ a. (object : ℕ) → turn_count object a.waiting.entries ≤ 1) }
+{
+    turns_are_counted::<u32>();
+    let mut agenda = Agenda::new(alloc);
+    for object in 0..objects {
+        agenda.reserve(1)?;
+        agenda.post(7, Kind::Turn { object });
+    }
+    Ok(agenda)
+}
+
+/// How many of so many objects have a Turn that is cancelled, the last object first.
+fn cancelled(agenda: &mut Agenda<u32>, objects: u32) -> u32
+    requires { (object : ℕ) → turn_count object agenda.old.waiting.entries ≤ 1 }
+    ensures { (object : ℕ) → turn_count object agenda.new.waiting.entries ≤ 1 }
+{
+    turns_are_counted::<u32>();
+    let mut count = 0;
+    for done in 0..objects {
+        if agenda.cancel_turn(objects - 1 - done) {
+            count += 1;
+        }
+    }
+    count
+}
+
+#[test]
+fn each_turn_is_found_among_many(rt: HostRuntime) -> Result<(), Fail> {
+    let mut agenda = all_turning(rt.alloc(), 3000)?;
+    assert_eq!(rt; cancelled(&mut agenda, 1000), 1000);
+    assert_eq!(rt; told(agenda.take()), Some((7, 1000, 1000)));
+    assert_eq!(rt; cancelled(&mut agenda, 3000), 1999);
+    assert!(rt; agenda.take().is_none());
     Ok(())
 }

@@ -10,6 +10,7 @@ loop-entry-preserved g c =
     record {
       entries = moved.entries ∙ ap (λ xs. put_all xs (in_row c.loop-entry.queues.entries)) (sym popped.items) ∙ c.loop-entry.invariant.entries;
       queues = moved.queues;
+      counted = moved.counted;
       room = omega (arith, c.loop-entry.invariant.room, moved.count, moved.capacity, popped.len, popped.capacity);
     }
 
@@ -24,5 +25,6 @@ returns-in_err-move_in g c =
       empty = IfOk-from_err c.from_residual.result _ c.from_residual.ensures.0;
       entries = moved.entries ∙ ap (λ xs. put_all xs (in_row c.loop-entry.queues.entries)) (sym popped.items) ∙ c.loop-entry.invariant.entries;
       queues = moved.queues;
+      counted = moved.counted;
       room = omega (arith, c.loop-entry.invariant.room, moved.bound, moved.capacity, popped.len, popped.capacity);
     }

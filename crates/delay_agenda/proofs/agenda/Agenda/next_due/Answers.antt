@@ -14,5 +14,5 @@ pub returns-in-None : goal.returns-in-None
 returns-in-None g c = record {
   due =
       due_queues c.self.inside.next c.self.inside.inbox.items c.self.inside.queues.entries c.args.self.now.waiting c.due_of_first.result
-      (ap (λ (v : AgendaView _). v.waiting) c.self.view_is) c.self.invariant.sorted c.in-None.ensures.first c.due_of_first.ensures.first;
+      (ap (λ (v : AgendaView _). v.waiting) c.self.view_is) c.self.invariant.kept.sorted c.in-None.ensures.first c.due_of_first.ensures.first;
 }

@@ -5,8 +5,12 @@ use Rattle.delay_agenda.proofs.agenda.Agenda.post.Goals as goal
 
 pub invariant_of-self : goal.invariant_of-self
 invariant_of-self g c =
-    posted_kept c.self.inside.inbox.items c.push_back_reserved.new.self.items c.self.inside.queues.entries c.self.inside.next c.args.due c.args.kind
-    c.push_back_reserved.ensures.items c.self.invariant
+    record {
+      kept =
+          posted_kept c.self.inside.inbox.items c.push_back_reserved.new.self.items c.self.inside.queues.entries c.self.inside.next c.args.due c.args.kind
+          c.push_back_reserved.ensures.items c.self.invariant.kept;
+      counted = c.self.invariant.counted;
+    }
 
 pub returns-clause-posted : goal.returns-clause-posted
 returns-clause-posted g c =

@@ -7,13 +7,21 @@ use Rattle.delay_agenda.proofs.agenda.Agenda.take.Goals as goal
 
 pub invariant_of-self : goal.invariant_of-self
 invariant_of-self g c =
-    inbox_kept c.in-Some.at c.self.inside.next c.self.inside.inbox.items c.take_from.new.queue.items c.self.inside.queues.entries c.self.invariant
-    c.in-Some.ensures.first c.take_from.ensures.left
+    record {
+      kept =
+          inbox_kept c.in-Some.at c.self.inside.next c.self.inside.inbox.items c.take_from.new.queue.items c.self.inside.queues.entries c.self.invariant.kept
+          c.in-Some.ensures.first c.take_from.ensures.left;
+      counted = c.self.invariant.counted;
+    }
 
 pub invariant_of-self-in-None : goal.invariant_of-self-in-None
 invariant_of-self-in-None g c =
-    queues_kept c.self.inside.next c.self.inside.inbox.items c.self.inside.queues.entries c.take_first.new.queues.entries c.self.invariant
-    c.in-None.ensures.first c.take_first.ensures.queues c.take_first.ensures.left
+    record {
+      kept =
+          queues_kept c.self.inside.next c.self.inside.inbox.items c.self.inside.queues.entries c.take_counted.new.queues.entries c.self.invariant.kept
+          c.in-None.ensures.first c.take_counted.ensures.queues c.take_counted.ensures.left;
+      counted = c.take_counted.ensures.counted;
+    }
 
 pub returns-in-Some-clause-taken : goal.returns-in-Some-clause-taken
 returns-in-Some-clause-taken g c =
@@ -37,23 +45,23 @@ returns-in-Some-clause-least g c =
     let queues = c.self.inside.queues.entries in
     let is = ap (λ (v : AgendaView _). v.waiting) c.self.view_is in
     let all = inbox_taken c.in-Some.at inbox (in_row queues) c.take_from.new.queue.items c.in-Some.ensures.first c.take_from.ensures.left in
-    least_view inbox queues c.self.inside.next c.args.self.now.waiting c.take_from.result is c.self.invariant
+    least_view inbox queues c.self.inside.next c.args.self.now.waiting c.take_from.result is c.self.invariant.kept
     (taken_view inbox queues c.self.inside.next c.args.self.now.waiting c.take_from.result _ is c.take_from.ensures.entry all.0)
 
 pub returns-in-None-clause-taken : goal.returns-in-None-clause-taken
 returns-in-None-clause-taken g c =
     let inbox = c.self.inside.inbox.items in
     let queues = c.self.inside.queues.entries in
-    let all = queues_taken inbox (in_row queues) (in_row c.take_first.new.queues.entries) c.in-None.ensures.first c.take_first.ensures.left in
-    taken_view inbox queues c.self.inside.next c.args.self.now.waiting c.take_first.result _ (ap (λ (v : AgendaView _). v.waiting) c.self.view_is)
-    c.take_first.ensures.entry all.0
+    let all = queues_taken inbox (in_row queues) (in_row c.take_counted.new.queues.entries) c.in-None.ensures.first c.take_counted.ensures.left in
+    taken_view inbox queues c.self.inside.next c.args.self.now.waiting c.take_counted.result _ (ap (λ (v : AgendaView _). v.waiting) c.self.view_is)
+    c.take_counted.ensures.entry all.0
 
 pub returns-in-None-clause-left : goal.returns-in-None-clause-left
 returns-in-None-clause-left g c =
     let inbox = c.self.inside.inbox.items in
     let queues = c.self.inside.queues.entries in
-    let after = c.take_first.new.queues.entries in
-    let all = queues_taken inbox (in_row queues) (in_row after) c.in-None.ensures.first c.take_first.ensures.left in
+    let after = c.take_counted.new.queues.entries in
+    let all = queues_taken inbox (in_row queues) (in_row after) c.in-None.ensures.first c.take_counted.ensures.left in
     left_view inbox inbox queues after c.self.inside.next c.args.self.now.waiting (ap (λ (v : AgendaView _). v.waiting) c.self.view_is) all.1
 
 pub returns-in-None-clause-least : goal.returns-in-None-clause-least
@@ -61,6 +69,6 @@ returns-in-None-clause-least g c =
     let inbox = c.self.inside.inbox.items in
     let queues = c.self.inside.queues.entries in
     let is = ap (λ (v : AgendaView _). v.waiting) c.self.view_is in
-    let all = queues_taken inbox (in_row queues) (in_row c.take_first.new.queues.entries) c.in-None.ensures.first c.take_first.ensures.left in
-    least_view inbox queues c.self.inside.next c.args.self.now.waiting c.take_first.result is c.self.invariant
-    (taken_view inbox queues c.self.inside.next c.args.self.now.waiting c.take_first.result _ is c.take_first.ensures.entry all.0)
+    let all = queues_taken inbox (in_row queues) (in_row c.take_counted.new.queues.entries) c.in-None.ensures.first c.take_counted.ensures.left in
+    least_view inbox queues c.self.inside.next c.args.self.now.waiting c.take_counted.result is c.self.invariant.kept
+    (taken_view inbox queues c.self.inside.next c.args.self.now.waiting c.take_counted.result _ is c.take_counted.ensures.entry all.0)
