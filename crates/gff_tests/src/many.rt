@@ -1,20 +1,10 @@
-//! Many variables, many labels and many scripts: what would take minutes if each were searched for.
+//! Many variables: what would take minutes if each were searched for.
 
-ghost use Rattle.std.specs.Prelude.{◌≡◌, ◌≤◌, length};
-
-use crate::areas::{area_of, script_of};
-use area_tree::Area;
-use gff_tree::{Field, Gff, Label, Leaf, Node};
-use gff_write::write;
 use local_variables::{Var, Vars};
-use nwq_value::{Items, NoMemory};
-use std::alloc::Global;
+use nwq_value::NoMemory;
 
 /// How many variables there are.
 const COUNT: u32 = 20_000;
-
-/// How many scripts there are.
-const SCRIPTS: u32 = 5_000;
 
 /// The last digit of a number.
 fn digit(n: u32) -> u8 {
@@ -99,85 +89,4 @@ fn variables_are_taken_out_from_either_end(rt: HostRuntime) {
     delete_back(&mut vars);
     assert!(rt; vars.len() == 0);
     assert!(rt; vars.get(0).is_none());
-}
-
-/// A field that holds the name of a resource, both named for a number.
-fn script_field(alloc: Global, n: u32) -> Option<Field> {
-    match Label::of(name(n).as_slice()) {
-        None => None,
-        Some(label) => match Items::of_slice(alloc, name(n).as_slice()) {
-            Err(_) => None,
-            Ok(text) => Some(Field::new(label, Leaf::Res(text))),
-        },
-    }
-}
-
-fn add_fields(alloc: Global, fields: &mut Vec<Field>) -> bool {
-    for n in 0..SCRIPTS {
-        match script_field(alloc, n) {
-            None => return false,
-            Some(field) => {
-                if fields.push(field).is_err() {
-                    return false;
-                }
-            }
-        }
-    }
-    true
-}
-
-/// A list of one struct with these fields.
-fn list_of(alloc: Global, fields: Vec<Field>) -> Option<Leaf> {
-    let mut nodes = Vec::new(alloc);
-    if nodes.push(Node::new(4, fields)).is_err() {
-        return None;
-    }
-    Some(Leaf::of_list(nodes))
-}
-
-/// The tree of an area of one creature with these fields.
-fn tree_of(alloc: Global, fields: Vec<Field>) -> Option<Gff> {
-    let list = list_of(alloc, fields)?;
-    let mut top = Node::new(u32::MAX, Vec::new(alloc));
-    let label = Label::of(b"Creature List".as_slice());
-    match label {
-        None => None,
-        Some(label) => {
-            if top.append(label, list).is_err() {
-                return None;
-            }
-            Some(Gff {
-                file_type: *b"GIT ",
-                top,
-            })
-        }
-    }
-}
-
-/// The file of that area.
-fn file(alloc: Global) -> Option<Vec<u8>> {
-    let mut fields = Vec::new(alloc);
-    if !add_fields(alloc, &mut fields) {
-        return None;
-    }
-    let tree = tree_of(alloc, fields)?;
-    write(alloc, &tree).ok()
-}
-
-/// Is each script found by its label?
-fn finds_all(area: &Area) -> bool {
-    for n in 0..SCRIPTS {
-        if script_of(area, 1, name(n).as_slice()) != Some(name(n).as_slice()) {
-            return false;
-        }
-    }
-    true
-}
-
-#[test]
-fn scripts_are_found_by_their_labels(rt: HostRuntime) {
-    let bytes = file(rt.alloc()).expect(&rt, "a file");
-    let area = area_of(rt.alloc(), &bytes).ok().expect(&rt, "an area");
-    assert!(rt; finds_all(&area));
-    assert!(rt; script_of(&area, 1, b"99999".as_slice()) == Some(b"".as_slice()));
 }
