@@ -1,4 +1,5 @@
-//! Tests of what a play stands on: shapes, stack, captured states, queues, agenda.
+//! Tests of what a play stands on: shapes, stack, captured states, queues, agenda,
+//! saved plays.
 #![tactic(auto)]
 
 #[cfg(test)]
@@ -7,6 +8,8 @@ mod agenda;
 mod laws;
 #[cfg(test)]
 mod queues;
+#[cfg(test)]
+mod saves;
 #[cfg(test)]
 mod shapes;
 #[cfg(test)]

@@ -1,0 +1,7 @@
+pub mod Readers
+pub mod FieldReaders
+pub mod PartReaders
+pub mod StateLaws
+pub mod Members
+pub mod Writing
+mod Example

@@ -1,0 +1,346 @@
+//! The parts of a state, written as its bytes.
+
+ghost use Rattle.std.specs.Prelude.{◌≡◌, ◌++◌, ◌<◌, ◌≤◌, length, OnOk, MatchResult};
+ghost use Rattle.nwq_value.specs.Limits.{file_limit};
+ghost use Rattle.state_format.specs.Fields.{magic, joined, blob_fields, number_fields, maybe_fields};
+ghost use Rattle.state_format.specs.Fields.{effect_fields, cell_fields, captured_fields};
+ghost use Rattle.state_format.specs.Fields.{variable_fields, standing_fields, item_fields};
+ghost use Rattle.state_format.specs.Fields.{busy_fields, object_fields, kind_fields, entry_fields};
+ghost use Rattle.state_format.specs.Fields.{script_fields, count_fields, parts_fields, parts_bytes};
+ghost use Rattle.state_format.specs.Fields.{first_fields, last_fields};
+ghost use Rattle.state_format.specs.Place.{IsTooLarge};
+
+use crate::fault::SaveFault;
+use crate::magic::MAGIC;
+use crate::parts::{
+    Captured, Cell, Effect, Entry, Item, Kind, Object, Parts, Script, Standing, Variable,
+};
+use crate::written::{
+    Written, put_blob, put_list, put_short, put_signed, put_small, put_wide, put_word,
+};
+use nwq_value::{FILE_BYTES, Items, NoMemory};
+use std::alloc::Global;
+
+impl Written for i32 {
+    ghost use Rattle.state_format.specs.Fields.{signed_fields};
+
+    ghost laid_out = { signed_fields };
+
+    fn put(&self, out: &mut Items<u8>) -> Result<(), NoMemory> {
+        put_signed(out, *self)
+    }
+}
+
+fn put_effect(out: &mut Items<u8>, effect: &Effect) -> Result<(), NoMemory>
+    ensures put { OnOk result (out.new ≡ out.old ++ joined (effect_fields effect.now)) }
+{
+    put_short(out, effect.routine)?;
+    put_list(out, &effect.ints)
+}
+
+fn put_cell(out: &mut Items<u8>, cell: &Cell) -> Result<(), NoMemory>
+    ensures put { OnOk result (out.new ≡ out.old ++ joined (cell_fields cell.now)) }
+{
+    match cell {
+        Cell::Int(n) => {
+            out.push(0x03)?;
+            put_signed(out, *n)
+        }
+        Cell::Text(text) => {
+            out.push(0x05)?;
+            put_blob(out, text)
+        }
+        Cell::Object(object) => {
+            out.push(0x06)?;
+            put_word(out, *object)
+        }
+        Cell::Effect(effect) => {
+            out.push(0x10)?;
+            put_effect(out, effect)
+        }
+        Cell::Event(user) => {
+            out.push(0x11)?;
+            put_signed(out, *user)
+        }
+    }
+}
+
+impl Written for Cell {
+    ghost use Rattle.state_format.specs.Fields.{cell_fields};
+
+    ghost laid_out = { cell_fields };
+
+    fn put(&self, out: &mut Items<u8>) -> Result<(), NoMemory> {
+        put_cell(out, self)
+    }
+}
+
+fn put_captured(out: &mut Items<u8>, state: &Captured) -> Result<(), NoMemory>
+    ensures put { OnOk result (out.new ≡ out.old ++ joined (captured_fields state.now)) }
+{
+    put_word(out, state.script)?;
+    put_word(out, state.place)?;
+    put_list(out, &state.globals)?;
+    put_list(out, &state.locals)
+}
+
+fn put_variable(out: &mut Items<u8>, variable: &Variable) -> Result<(), NoMemory>
+    ensures put { OnOk result (out.new ≡ out.old ++ joined (variable_fields variable.now)) }
+{
+    match variable {
+        Variable::Int(name, n) => {
+            out.push(1)?;
+            put_blob(out, name)?;
+            put_signed(out, *n)
+        }
+        Variable::Text(name, text) => {
+            out.push(3)?;
+            put_blob(out, name)?;
+            put_blob(out, text)
+        }
+    }
+}
+
+impl Written for Variable {
+    ghost use Rattle.state_format.specs.Fields.{variable_fields};
+
+    ghost laid_out = { variable_fields };
+
+    fn put(&self, out: &mut Items<u8>) -> Result<(), NoMemory> {
+        put_variable(out, self)
+    }
+}
+
+fn put_number(out: &mut Items<u8>, number: Option<u64>) -> Result<(), NoMemory>
+    ensures put { OnOk result
+        (out.new ≡ out.old ++ joined (maybe_fields (number_fields 8) number)) }
+{
+    match number {
+        None => out.push(0),
+        Some(n) => {
+            out.push(1)?;
+            put_wide(out, n)
+        }
+    }
+}
+
+fn put_standing(out: &mut Items<u8>, standing: &Standing) -> Result<(), NoMemory>
+    ensures put { OnOk result (out.new ≡ out.old ++ joined (standing_fields standing.now)) }
+{
+    put_number(out, standing.number)?;
+    put_effect(out, &standing.effect)
+}
+
+impl Written for Standing {
+    ghost use Rattle.state_format.specs.Fields.{standing_fields};
+
+    ghost laid_out = { standing_fields };
+
+    fn put(&self, out: &mut Items<u8>) -> Result<(), NoMemory> {
+        put_standing(out, self)
+    }
+}
+
+fn put_item(out: &mut Items<u8>, item: &Item) -> Result<(), NoMemory>
+    ensures put { OnOk result (out.new ≡ out.old ++ joined (item_fields item.now)) }
+{
+    match item {
+        Item::Do(state) => {
+            out.push(0)?;
+            put_captured(out, state)
+        }
+        Item::Wait(ms) => {
+            out.push(1)?;
+            put_signed(out, *ms)
+        }
+        Item::Speak(text) => {
+            out.push(2)?;
+            put_blob(out, text)
+        }
+    }
+}
+
+impl Written for Item {
+    ghost use Rattle.state_format.specs.Fields.{item_fields};
+
+    ghost laid_out = { item_fields };
+
+    fn put(&self, out: &mut Items<u8>) -> Result<(), NoMemory> {
+        put_item(out, self)
+    }
+}
+
+fn put_busy(out: &mut Items<u8>, busy: bool) -> Result<(), NoMemory>
+    ensures put { OnOk result (out.new ≡ out.old ++ joined (busy_fields busy)) }
+{
+    if busy { out.push(1) } else { out.push(0) }
+}
+
+fn put_object(out: &mut Items<u8>, object: &Object) -> Result<(), NoMemory>
+    ensures put { OnOk result (out.new ≡ out.old ++ joined (object_fields object.now)) }
+{
+    put_busy(out, object.busy)?;
+    put_list(out, &object.variables)?;
+    put_list(out, &object.effects)?;
+    put_list(out, &object.items)
+}
+
+impl Written for Object {
+    ghost use Rattle.state_format.specs.Fields.{object_fields};
+
+    ghost laid_out = { object_fields };
+
+    fn put(&self, out: &mut Items<u8>) -> Result<(), NoMemory> {
+        put_object(out, self)
+    }
+}
+
+fn put_kind(out: &mut Items<u8>, kind: &Kind) -> Result<(), NoMemory>
+    ensures put { OnOk result (out.new ≡ out.old ++ joined (kind_fields kind.now)) }
+{
+    match kind {
+        Kind::Event {
+            object,
+            script,
+            user,
+        } => {
+            out.push(0)?;
+            put_word(out, *object)?;
+            put_blob(out, script)?;
+            put_signed(out, *user)
+        }
+        Kind::Stored { object, state } => {
+            out.push(1)?;
+            put_word(out, *object)?;
+            put_captured(out, state)
+        }
+        Kind::Turn { object } => {
+            out.push(2)?;
+            put_word(out, *object)
+        }
+        Kind::Unapply { object } => {
+            out.push(3)?;
+            put_word(out, *object)
+        }
+    }
+}
+
+fn put_entry(out: &mut Items<u8>, entry: &Entry) -> Result<(), NoMemory>
+    ensures put { OnOk result (out.new ≡ out.old ++ joined (entry_fields entry.now)) }
+{
+    put_wide(out, entry.due)?;
+    put_wide(out, entry.number)?;
+    put_kind(out, &entry.kind)
+}
+
+impl Written for Entry {
+    ghost use Rattle.state_format.specs.Fields.{entry_fields};
+
+    ghost laid_out = { entry_fields };
+
+    fn put(&self, out: &mut Items<u8>) -> Result<(), NoMemory> {
+        put_entry(out, self)
+    }
+}
+
+fn put_script(out: &mut Items<u8>, script: &Script) -> Result<(), NoMemory>
+    ensures put { OnOk result (out.new ≡ out.old ++ joined (script_fields script.now)) }
+{
+    put_blob(out, &script.name)?;
+    put_blob(out, &script.code)
+}
+
+impl Written for Script {
+    ghost use Rattle.state_format.specs.Fields.{script_fields};
+
+    ghost laid_out = { script_fields };
+
+    fn put(&self, out: &mut Items<u8>) -> Result<(), NoMemory> {
+        put_script(out, self)
+    }
+}
+
+impl Written for u32 {
+    ghost use Rattle.state_format.specs.Fields.{number_fields};
+
+    ghost laid_out = { number_fields 4 };
+
+    fn put(&self, out: &mut Items<u8>) -> Result<(), NoMemory> {
+        put_word(out, *self)
+    }
+}
+
+fn put_header(out: &mut Items<u8>, header: &Option<Items<u8>>) -> Result<(), NoMemory>
+    ensures put { OnOk result
+        (out.new ≡ out.old ++ joined (maybe_fields blob_fields header.now)) }
+{
+    match header {
+        None => out.push(0),
+        Some(text) => {
+            out.push(1)?;
+            put_blob(out, text)
+        }
+    }
+}
+
+/// The limits, clock and counts behind the version.
+fn put_counts(out: &mut Items<u8>, parts: &Parts) -> Result<(), NoMemory>
+    ensures put { OnOk result (out.new ≡ out.old ++ joined (count_fields parts.now)) }
+{
+    put_small(out, parts.version)?;
+    put_wide(out, parts.limit)?;
+    put_wide(out, parts.entries)?;
+    put_wide(out, parts.until)?;
+    put_wide(out, parts.clock)?;
+    put_wide(out, parts.taken)?;
+    put_wide(out, parts.done)?;
+    put_wide(out, parts.next)
+}
+
+fn put_magic(out: &mut Items<u8>) -> Result<(), NoMemory>
+    ensures put { OnOk result (out.new ≡ out.old ++ magic) }
+{
+    out.extend(MAGIC.as_slice())
+}
+
+/// Puts what stands in front of the random numbers.
+fn put_first(out: &mut Items<u8>, parts: &Parts) -> Result<(), NoMemory>
+    ensures put { OnOk result (out.new ≡ out.old ++ joined (first_fields parts.now)) }
+{
+    put_magic(out)?;
+    put_header(out, &parts.header)?;
+    put_list(out, &parts.scripts)?;
+    put_blob(out, &parts.area)?;
+    put_counts(out, parts)
+}
+
+/// Puts the random numbers, the objects and the agenda.
+fn put_last(out: &mut Items<u8>, parts: &Parts) -> Result<(), NoMemory>
+    ensures put { OnOk result (out.new ≡ out.old ++ joined (last_fields parts.now)) }
+{
+    put_list(out, &parts.random)?;
+    put_list(out, &parts.objects)?;
+    put_list(out, &parts.agenda)
+}
+
+fn put_fields(out: &mut Items<u8>, parts: &Parts) -> Result<(), NoMemory>
+    ensures put { OnOk result (out.new ≡ out.old ++ joined (parts_fields parts.now)) }
+{
+    put_first(out, parts)?;
+    put_last(out, parts)
+}
+
+/// The bytes of a state's parts, where these aren't more than a file may have.
+#[tactic(auto, unfolding(crate::specs::Fields::parts_bytes))]
+pub fn put_parts(alloc: Global, parts: &Parts) -> Result<Vec<u8>, SaveFault>
+    ensures exact { MatchResult result
+        (λ v. (v.items ≡ parts_bytes parts.now) × (length v.items ≤ file_limit))
+        (λ e. IsTooLarge (parts_bytes parts.now) e) }
+{
+    let mut out = Items::new(alloc);
+    put_fields(&mut out, parts)?;
+    if out.len() > FILE_BYTES {
+        return Err(SaveFault::Large(out.len() as u64));
+    }
+    Ok(out.into_vec())
+}
