@@ -122,6 +122,21 @@ pub const TOLD: &[Told] = &[
         "refused in unstacked\n",
         Held::Nothing,
     ),
+    // A copy from beneath the stack.
+    (
+        "check - in",
+        b"NCS V1.0B\0\0\0\x17\x03\x01\xff\xff\xff\xfc\0\x04\x20\0",
+        Status::Code,
+        "refused in unstacked\n",
+        Held::Nothing,
+    ),
+    (
+        "check - in",
+        b"NCS V1.0B\0\0\0\x0e\x1e",
+        Status::Code,
+        "refused in 13 short\n",
+        Held::Nothing,
+    ),
     (
         "check - in",
         b"NCS V1.0B\0\0\0\x0e",
@@ -197,6 +212,7 @@ const CHANGES: &[(&[(usize, u32)], &str)] = &[
     (&[(64, 2)], "refused in range index 0\n"),
     (&[(68, 16)], "refused in type 0\n"),
     (&[(72, 1)], "refused in range label 1\n"),
+    (&[(72, 7)], "refused in range label 7\n"),
     (&[(68, 7)], "refused in range data 0\n"),
     (&[(68, 14)], "refused in range struct 7\n"),
     (&[(68, 14), (76, 0)], "refused in shared 0\n"),
@@ -252,6 +268,33 @@ pub fn first_cut_short(alloc: Global, hooks: &Hooks) -> Result<Option<usize>, No
 {
     for size in 0..TREE.len() {
         if !is_refused(alloc, &TREE[..size], refusal_of(size), hooks)? {
+            return Ok(Some(size));
+        }
+    }
+    Ok(None)
+}
+
+/// The least number of first bytes of a file of code that `check` refuses otherwise than that it is
+/// cut, if there is one: in its format's name, or behind it.
+pub fn first_code_cut_short(alloc: Global, hooks: &Hooks) -> Result<Option<usize>, NoMemory>
+    requires hooks { AreServing (map (λ h. h.known) hooks.now.all.items) }
+{
+    for size in 0..SUM.len() {
+        let text = if size < 9 {
+            "refused in magic\n"
+        } else {
+            "refused in length\n"
+        };
+        let row = Row {
+            line: "check - in",
+            before: &[("in", &SUM[..size])],
+            failing: Failing::Nothing,
+            status: Status::Code,
+            puts: Some(1),
+            text,
+            after: &[],
+        };
+        if !comes(alloc, &row, hooks)? {
             return Ok(Some(size));
         }
     }

@@ -5,7 +5,7 @@ ghost use Rattle.hook_table.specs.Standard.{function_numbered, IsAnswer};
 ghost use Rattle.world_core.specs.Calls.{AreServing};
 
 use crate::answers::first_wrong;
-use crate::{cuts, example, files, games, programs, reads, scripts, words};
+use crate::{cuts, example, files, games, plans, profile, programs, reads, scripts, words};
 use hook_table::{Call, Hooks, cell_call};
 use nwq_hooks::{all_are_put, call_function, put_cell_hook, put_hook};
 use nwq_top::Status;
@@ -17,38 +17,41 @@ use table_2da::Tables;
 
 /// Scripts that `run` and `compile` take: of each table the place of its first wrong row, if there
 /// is one.
-fn of_scripts(alloc: Global, hooks: &Hooks) -> Result<[Option<usize>; 6], NoMemory>
+fn of_scripts(alloc: Global, hooks: &Hooks) -> Result<[Option<usize>; 7], NoMemory>
     requires hooks { AreServing (map (λ h. h.known) hooks.now.all.items) }
 {
     let played = scripts::first_played(alloc, scripts::PLAYS, hooks)?;
     let traced = scripts::first_traced(alloc, scripts::TRACES, hooks)?;
+    let profiled = scripts::first_traced(alloc, profile::SCRIPTS, hooks)?;
     let refused = scripts::first_refused(alloc, scripts::REFUSED, hooks)?;
     let under = scripts::first_under(alloc, scripts::HEADERS, hooks)?;
     let sized = scripts::first_sized(alloc, hooks)?;
     let ended = first_wrong(alloc, scripts::ENDED_AND_COMPILED, hooks)?;
-    Ok([played, traced, refused, under, sized, ended])
+    Ok([played, traced, profiled, refused, under, sized, ended])
 }
 
 /// The same of other commands over files.
-fn of_files(alloc: Global, hooks: &Hooks) -> Result<[Option<usize>; 4], NoMemory>
+fn of_files(alloc: Global, hooks: &Hooks) -> Result<[Option<usize>; 5], NoMemory>
     requires hooks { AreServing (map (λ h. h.known) hooks.now.all.items) }
 {
     let told = files::first_told(alloc, files::TOLD, hooks)?;
     let changed = files::first_changed(alloc, hooks)?;
     let cut_short = files::first_cut_short(alloc, hooks)?;
+    let code_cut_short = files::first_code_cut_short(alloc, hooks)?;
     let cut = files::first_cut(alloc, hooks)?;
-    Ok([told, changed, cut_short, cut])
+    Ok([told, changed, cut_short, code_cut_short, cut])
 }
 
 /// The same of plays of plans.
-fn of_games(alloc: Global, hooks: &Hooks) -> Result<[Option<usize>; 4], NoMemory>
+fn of_games(alloc: Global, hooks: &Hooks) -> Result<[Option<usize>; 5], NoMemory>
     requires hooks { AreServing (map (λ h. h.known) hooks.now.all.items) }
 {
     let played = first_wrong(alloc, games::DONE, hooks)?;
+    let worked = first_wrong(alloc, plans::ROWS, hooks)?;
     let ended = first_wrong(alloc, games::ENDED, hooks)?;
     let refused = games::first_refused(alloc, games::REFUSED, hooks)?;
     let large = games::first_large(alloc, hooks)?;
-    Ok([played, ended, refused, large])
+    Ok([played, worked, ended, refused, large])
 }
 
 /// The same of words that are no command, files that aren't there or are too long, and the whole
@@ -68,10 +71,10 @@ fn all_hold(alloc: Global, rt: &impl Abort, hooks: &Hooks) -> Result<(), Fail>
 {
     assert!(rt; example::plays(alloc, hooks)?);
     assert_eq!(rt; cuts::first_wrong(alloc, hooks)?, None);
-    assert_eq!(rt; of_games(alloc, hooks)?, [None; 4]);
-    assert_eq!(rt; of_files(alloc, hooks)?, [None; 4]);
+    assert_eq!(rt; of_games(alloc, hooks)?, [None; 5]);
+    assert_eq!(rt; of_files(alloc, hooks)?, [None; 5]);
     assert_eq!(rt; of_stops(alloc, hooks)?, [None; 4]);
-    assert_eq!(rt; of_scripts(alloc, hooks)?, [None; 6]);
+    assert_eq!(rt; of_scripts(alloc, hooks)?, [None; 7]);
     Ok(())
 }
 

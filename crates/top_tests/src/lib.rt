@@ -19,6 +19,10 @@ mod hooked;
 #[cfg(test)]
 mod parts;
 #[cfg(test)]
+mod plans;
+#[cfg(test)]
+mod profile;
+#[cfg(test)]
 mod programs;
 #[cfg(test)]
 mod reads;
