@@ -4,6 +4,7 @@ use Rattle.std.specs.Prelude.{if◌then◌else◌, ◌⊎◌, nat_eq, IsTrue}
 use Rattle.std.specs.List.{AllByRecursion}
 use Rattle.std.proofs.lemmas.Bool.Decides.{nat_tests}
 use Rattle.action_queue.specs.Queued.{Queued}
+use Rattle.action_queue.specs.declared.queue.Item.{Item}
 use Rattle.area_rules.specs.Area as areas
 use Rattle.area_rules.specs.Objects.{AreaObject}
 use Rattle.local_variables.specs.Variables.{Variable}
@@ -17,7 +18,8 @@ use Rattle.world_rules.specs.declared.data.Stood.{Stood}
 use Rattle.world_rules.specs.declared.data.Things.{Things}
 use Rattle.world_rules.specs.World.{World, count, is_valid, things_at, queue_in, queue_of}
 use Rattle.world_rules.specs.Changes.{post, changed_at, changed_object, with_queue, with_effects, with_actions, with_busy, with_variables, without_turn}
-use Rattle.world_rules.specs.Kept.{IsPlaced, turns_allowed, IsWorld, IsActing, IsStep}
+use Rattle.world_rules.specs.Kept.{IsPlaced, turns_allowed, IsWorld, IsActing, IsSettled, IsStep}
+use Rattle.world_rules.proofs.Queues.{own_queue, other_queue, other_mark, same_mark, effects_queue, mark_actions, idle_mark, settled_by, busy_settled, idle_settled}
 
 -- the laws of agendas that are used here
 pub record AgendaLaws (X : Type 0) : Type 0 where
@@ -59,88 +61,17 @@ all_without : {X : Type 0} (P : Entry X → Type 0) (o : ℕ) (es : List (Entry 
 all_without P o [] ps = tt
 all_without P o (e ∷ es) ps = all_without_if P (is_turn_of o e) e (without_turns o es) ps.0 (all_without P o es ps.1)
 
--- ---- busy marks
-
-abbrev pub busy_in : {X : Type 0} → Option (Things X) → Bool
-busy_in t = (queue_in t).busy
-
-same_mark_at : {X : Type 0} (i j : ℕ) (q : Queued X) (ts : List (Things X)) → q.busy ≡ busy_in (slice_get ts i)
-    → busy_in (slice_get (changed_at i (λ t. record t { queue = q }) ts) j) ≡ busy_in (slice_get ts j)
-same_mark_at i j q [] h = refl
-same_mark_at zero zero q (t ∷ ts) h = h
-same_mark_at zero (suc j) q (t ∷ ts) h = refl
-same_mark_at (suc i) zero q (t ∷ ts) h = refl
-same_mark_at (suc i) (suc j) q (t ∷ ts) h = same_mark_at i j q ts h
-
-same_mark : {X : Type 0} (o p : ℕ) (q : Queued X) (ts : List (Things X)) → q.busy ≡ busy_in (things_at o ts)
-    → busy_in (things_at p (changed_object o (λ t. record t { queue = q }) ts)) ≡ busy_in (things_at p ts)
-same_mark zero p q ts h = refl
-same_mark (suc i) zero q ts h = refl
-same_mark (suc i) (suc j) q ts h = same_mark_at i j q ts h
-
--- the mark of another object stays
-other_mark_at : {X : Type 0} (i j : ℕ) (q : Queued X) (ts : List (Things X))
-    → (j ≡ i) ⊎ (busy_in (slice_get (changed_at i (λ t. record t { queue = q }) ts) j) ≡ busy_in (slice_get ts j))
-other_mark_at i j q [] = inr refl
-other_mark_at zero zero q (t ∷ ts) = inl refl
-other_mark_at zero (suc j) q (t ∷ ts) = inr refl
-other_mark_at (suc i) zero q (t ∷ ts) = inr refl
-other_mark_at (suc i) (suc j) q (t ∷ ts) = next (other_mark_at i j q ts)
-  where
-    next : {A : Type 0} → (j ≡ i) ⊎ A → (suc j ≡ suc i) ⊎ A
-    next (inl same) = inl (ap suc same)
-    next (inr rest) = inr rest
-
-pub other_mark : {X : Type 0} (o p : ℕ) (q : Queued X) (ts : List (Things X))
-    → (p ≡ o) ⊎ (busy_in (things_at p (changed_object o (λ t. record t { queue = q }) ts)) ≡ busy_in (things_at p ts))
-other_mark zero p q ts = inr refl
-other_mark (suc i) zero q ts = inr refl
-other_mark (suc i) (suc j) q ts = next (other_mark_at i j q ts)
-  where
-    next : {A : Type 0} → (j ≡ i) ⊎ A → (suc j ≡ suc i) ⊎ A
-    next (inl same) = inl (ap suc same)
-    next (inr rest) = inr rest
-
--- the mark of an object that is there is the one that was set
-own_mark_at : {X : Type 0} (i : ℕ) (q : Queued X) (ts : List (Things X)) → i < length ts → busy_in (slice_get (changed_at i (λ t. record t { queue = q }) ts) i) ≡ q.busy
-own_mark_at i q [] h = absurd (omega (arith, h))
-own_mark_at zero q (t ∷ ts) h = refl
-own_mark_at (suc i) q (t ∷ ts) h = own_mark_at i q ts (omega (arith, h))
-
-pub own_mark : {X : Type 0} (o : ℕ) (q : Queued X) (ts : List (Things X)) → 1 ≤ o → o ≤ length ts
-    → busy_in (things_at o (changed_object o (λ t. record t { queue = q }) ts)) ≡ q.busy
-own_mark zero q ts one most = absurd (omega (arith, one))
-own_mark (suc i) q ts one most = own_mark_at i q ts (omega (arith, most))
-
--- effects change no mark
-effects_mark_at : {X : Type 0} (i j : ℕ) (effects : List Stood) (ts : List (Things X))
-    → busy_in (slice_get (changed_at i (λ t. record t { effects = effects }) ts) j) ≡ busy_in (slice_get ts j)
-effects_mark_at i j effects [] = refl
-effects_mark_at zero zero effects (t ∷ ts) = refl
-effects_mark_at zero (suc j) effects (t ∷ ts) = refl
-effects_mark_at (suc i) zero effects (t ∷ ts) = refl
-effects_mark_at (suc i) (suc j) effects (t ∷ ts) = effects_mark_at i j effects ts
-
-effects_mark : {X : Type 0} (o p : ℕ) (effects : List Stood) (ts : List (Things X))
-    → busy_in (things_at p (changed_object o (λ t. record t { effects = effects }) ts)) ≡ busy_in (things_at p ts)
-effects_mark zero p effects ts = refl
-effects_mark (suc i) zero effects ts = refl
-effects_mark (suc i) (suc j) effects ts = effects_mark_at i j effects ts
-
 -- ---- changes that leave clock, agenda, objects and marks
 
-pub record SameShape {X : Type 0} (w v : World X) : Type 0 where
+pub record SameMarks {X : Type 0} (w v : World X) : Type 0 where
   pub clock : v.clock ≡ w.clock
   pub objects : count v ≡ count w
   pub things : length v.things ≡ length w.things
   pub agenda : v.agenda ≡ w.agenda
   pub busy : (o : ℕ) → (queue_of o v).busy ≡ (queue_of o w).busy
 
-pub same_shape : {X : Type 0} (w : World X) → SameShape w w
-same_shape w = record { clock = refl; objects = refl; things = refl; agenda = refl; busy = λ o. refl }
-
-pub shapes_join : {X : Type 0} (w v u : World X) → SameShape w v → SameShape v u → SameShape w u
-shapes_join w v u a b = record {
+pub marks_join : {X : Type 0} (w v u : World X) → SameMarks w v → SameMarks v u → SameMarks w u
+marks_join w v u a b = record {
   clock = b.clock ∙ a.clock;
   objects = b.objects ∙ a.objects;
   things = b.things ∙ a.things;
@@ -148,39 +79,17 @@ shapes_join w v u a b = record {
   busy = λ o. b.busy o ∙ a.busy o;
 }
 
-pub shape_if : {X : Type 0} (b : Bool) (w v : World X) → SameShape w v → SameShape w (if b then v else w)
-shape_if true w v s = s
-shape_if false w v s = same_shape w
-
-pub shape_effects : {X : Type 0} (o : ℕ) (effects : List Stood) (w : World X) → SameShape w (with_effects o effects w)
-shape_effects o effects w = record {
-  clock = refl;
-  objects = refl;
-  things = length_object o (λ t. record t { effects = effects }) w.things;
-  agenda = refl;
-  busy = λ p. effects_mark o p effects w.things;
-}
-
-pub shape_actions : {X : Type 0} (o : ℕ) (items : List _) (w : World X) → SameShape w (with_actions o items w)
-shape_actions o items w = record {
+pub marks_actions : {X : Type 0} (o : ℕ) (items : List (Item X)) (w : World X) → SameMarks w (with_actions o items w)
+marks_actions o items w = record {
   clock = refl;
   objects = refl;
   things = length_object o (λ t. record t { queue = record (queue_of o w) { actions = items } }) w.things;
   agenda = refl;
-  busy = λ p. same_mark o p (record (queue_of o w) { actions = items }) w.things refl;
+  busy = λ p. same_mark o p (record (queue_of o w) { actions = items }) w refl;
 }
 
-pub shape_variables : {X : Type 0} (o : ℕ) (change : List Variable → List Variable) (w : World X) → SameShape w (with_variables o change w)
-shape_variables o change w = record {
-  clock = refl;
-  objects = length_area (o - 1) change w.area.objects;
-  things = refl;
-  agenda = refl;
-  busy = λ p. refl;
-}
-
-pub shape_kept : {X : Type 0} (w v : World X) → SameShape w v → IsWorld w → IsWorld v
-shape_kept w v s h = record {
+pub marks_kept : {X : Type 0} (w v : World X) → SameMarks w v → IsWorld w → IsWorld v
+marks_kept w v s h = record {
   counted = s.things ∙ (h.counted ∙ sym s.objects);
   agenda = subst IsAgenda (sym s.agenda) h.agenda;
   placed =
@@ -194,8 +103,76 @@ shape_kept w v s h = record {
       (subst (λ b. turn_count o w.agenda.entries ≤ turns_allowed b) (sym (s.busy o)) (h.turns o));
 }
 
-pub shape_acting : {X : Type 0} (w v : World X) → SameShape w v → (o : ℕ) → IsActing o w → IsActing o v
-shape_acting w v s o a = record { busy = s.busy o ∙ a.busy; none = ap (λ g. turn_count o g.entries) s.agenda ∙ a.none }
+pub marks_acting : {X : Type 0} (w v : World X) → SameMarks w v → (o : ℕ) → IsActing o w → IsActing o v
+marks_acting w v s o a = record { busy = s.busy o ∙ a.busy; none = ap (λ g. turn_count o g.entries) s.agenda ∙ a.none }
+
+-- a step behind a change that leaves the marks
+pub step_behind : {X : Type 0} (w v u : World X) → SameMarks w v → ((o : ℕ) → IsSettled o w → IsSettled o u) → IsStep v u → IsStep w u
+step_behind w v u s settled t =
+    let next = ap (λ g. g.next) s.agenda in
+    let less = t.no_less in
+    let most = t.at_most_one in
+    record {
+      world = t.world;
+      objects = t.objects ∙ s.objects;
+      clock = t.clock ∙ s.clock;
+      no_less = omega (arith, next, less);
+      at_most_one = omega (arith, next, most);
+      acting = λ o a. t.acting o (marks_acting w v s o a);
+      settled = settled;
+    }
+
+-- ---- changes that leave the queues too
+
+pub record SameShape {X : Type 0} (w v : World X) : Type 0 where
+  pub clock : v.clock ≡ w.clock
+  pub objects : count v ≡ count w
+  pub things : length v.things ≡ length w.things
+  pub agenda : v.agenda ≡ w.agenda
+  pub queues : (o : ℕ) → queue_of o v ≡ queue_of o w
+
+pub same_shape : {X : Type 0} (w : World X) → SameShape w w
+same_shape w = record { clock = refl; objects = refl; things = refl; agenda = refl; queues = λ o. refl }
+
+pub shapes_join : {X : Type 0} (w v u : World X) → SameShape w v → SameShape v u → SameShape w u
+shapes_join w v u a b = record {
+  clock = b.clock ∙ a.clock;
+  objects = b.objects ∙ a.objects;
+  things = b.things ∙ a.things;
+  agenda = b.agenda ∙ a.agenda;
+  queues = λ o. b.queues o ∙ a.queues o;
+}
+
+pub shape_if : {X : Type 0} (b : Bool) (w v : World X) → SameShape w v → SameShape w (if b then v else w)
+shape_if true w v s = s
+shape_if false w v s = same_shape w
+
+pub shape_effects : {X : Type 0} (o : ℕ) (effects : List Stood) (w : World X) → SameShape w (with_effects o effects w)
+shape_effects o effects w = record {
+  clock = refl;
+  objects = refl;
+  things = length_object o (λ t. record t { effects = effects }) w.things;
+  agenda = refl;
+  queues = λ p. effects_queue o p effects w;
+}
+
+pub shape_variables : {X : Type 0} (o : ℕ) (change : List Variable → List Variable) (w : World X) → SameShape w (with_variables o change w)
+shape_variables o change w = record {
+  clock = refl;
+  objects = length_area (o - 1) change w.area.objects;
+  things = refl;
+  agenda = refl;
+  queues = λ p. refl;
+}
+
+pub shape_marks : {X : Type 0} (w v : World X) → SameShape w v → SameMarks w v
+shape_marks w v s = record { clock = s.clock; objects = s.objects; things = s.things; agenda = s.agenda; busy = λ o. ap (λ (q : Queued _). q.busy) (s.queues o) }
+
+pub shape_kept : {X : Type 0} (w v : World X) → SameShape w v → IsWorld w → IsWorld v
+shape_kept w v s h = marks_kept w v (shape_marks w v s) h
+
+shape_settled : {X : Type 0} (w v : World X) → SameShape w v → (o : ℕ) → IsSettled o w → IsSettled o v
+shape_settled w v s o a = settled_by o w v (s.queues o) (ap (λ g. turn_count o g.entries) s.agenda) a
 
 pub shape_step : {X : Type 0} (w v : World X) → SameShape w v → IsWorld w → IsStep w v
 shape_step w v s h =
@@ -206,23 +183,13 @@ shape_step w v s h =
       clock = s.clock;
       no_less = omega (arith, next);
       at_most_one = omega (arith, next);
-      acting = shape_acting w v s;
+      acting = marks_acting w v (shape_marks w v s);
+      settled = shape_settled w v s;
     }
 
 -- a step behind a change that leaves the shape
 pub step_after : {X : Type 0} (w v u : World X) → SameShape w v → IsStep v u → IsStep w u
-step_after w v u s t =
-    let next = ap (λ g. g.next) s.agenda in
-    let less = t.no_less in
-    let most = t.at_most_one in
-    record {
-      world = t.world;
-      objects = t.objects ∙ s.objects;
-      clock = t.clock ∙ s.clock;
-      no_less = omega (arith, next, less);
-      at_most_one = omega (arith, next, most);
-      acting = λ o a. t.acting o (shape_acting w v s o a);
-    }
+step_after w v u s t = step_behind w v u (shape_marks w v s) (λ o a. t.settled o (shape_settled w v s o a)) t
 
 pub step_if : {X : Type 0} (b : Bool) (w v : World X) → IsWorld w → (IsTrue b → IsStep w v) → IsStep w (if b then v else w)
 step_if true w v h s = s refl
@@ -249,12 +216,16 @@ post_step laws due k w h placed late none =
       no_less = omega arith;
       at_most_one = omega arith;
       acting = λ o a. record { busy = a.busy; none = counts o ∙ a.none };
+      settled = λ o a. settled_by o w (post due k w) refl (counts o) a;
     }
 
 -- ---- Turns
 
 pub equal_when : (m n : ℕ) → nat_eq m n ≡ true → m ≡ n
 equal_when m n h = grind (arith, nat_tests, h)
+
+pub nat_eq_same : (o : ℕ) → nat_eq o o ≡ true
+nat_eq_same o = grind (arith, nat_tests)
 
 -- two numbers are equal or they aren't
 pub same_or_other : (m n : ℕ) → (m ≡ n) ⊎ (m ≢ n)
@@ -305,17 +276,17 @@ mark_kept o busy w none h = record {
   agenda = h.agenda;
   placed = h.placed;
   due = h.due;
-  turns = λ p. turns_marked o p busy w none h (other_mark o p (record (queue_of o w) { busy = busy }) w.things);
+  turns = λ p. turns_marked o p busy w none h (other_mark o p (record (queue_of o w) { busy = busy }) w);
 }
 
-none_when : (n : ℕ) (mark : Bool) → n ≤ turns_allowed mark → mark ≡ false → n ≡ 0
+pub none_when : (n : ℕ) (mark : Bool) → n ≤ turns_allowed mark → mark ≡ false → n ≡ 0
 none_when n mark h idle = let k = subst (λ b. n ≤ turns_allowed b) idle h in omega (arith, k)
 
 -- an object that isn't busy, once it is so
 acting_marked : {X : Type 0} (o : ℕ) (w : World X) → IsWorld w → 1 ≤ o → o ≤ count w → turn_count o w.agenda.entries ≡ 0 → IsActing o (with_busy o true w)
 acting_marked o w h one most none =
     let things = h.counted in
-    record { busy = own_mark o (record (queue_of o w) { busy = true }) w.things one (omega (arith, most, things)); none = none }
+    record { busy = ap (λ (q : Queued _). q.busy) (own_queue o (record (queue_of o w) { busy = true }) w one (omega (arith, most, things))); none = none }
 
 count_if : (b : Bool) (o p n : ℕ) → (b ≡ true → o ≡ p) → o ≢ p → (if b then suc n else n) ≡ n
 count_if true o p n same apart = absurd (apart (same refl))
@@ -333,10 +304,27 @@ acts_apart o p w idle a same = absurd (true≢false (sym a.busy ∙ (ap (λ q. (
 
 woken_acting : {X : Type 0} (laws : AgendaLaws X) (o p : ℕ) (w : World X) → p ≢ o → IsActing p w → IsActing p (post w.clock (Turn o) (with_busy o true w))
 woken_acting laws o p w apart a = record {
-  busy = mark_of_other o p true w apart (other_mark o p (record (queue_of o w) { busy = true }) w.things) ∙ a.busy;
+  busy = mark_of_other o p true w apart (other_mark o p (record (queue_of o w) { busy = true }) w) ∙ a.busy;
   none = turn_counts laws w.clock o p (with_busy o true w)
       ∙ (count_if (nat_eq o p) o p (turn_count p w.agenda.entries) (equal_when o p) (λ same. apart (sym same)) ∙ a.none);
 }
+
+-- a Turn more of an object that acts settles it, and leaves the others
+pub turn_settles : {X : Type 0} (laws : AgendaLaws X) (due o p : ℕ) (w : World X) → IsActing o w → (p ≡ o) ⊎ (p ≢ o)
+    → (p ≢ o → IsSettled p w) → IsSettled p (post due (Turn o) w)
+turn_settles laws due o p w a (inl here) others = subst (λ r. IsSettled r (post due (Turn o) w)) (sym here)
+    (busy_settled o (post due (Turn o) w) a.busy (turn_counts laws due o o w
+    ∙ (ap (λ (b : Bool). if b then suc (turn_count o w.agenda.entries) else turn_count o w.agenda.entries) (nat_eq_same o) ∙ ap suc a.none)))
+turn_settles laws due o p w a (inr apart) others = settled_by p w (post due (Turn o) w) refl
+    (turn_counts laws due o p w ∙ count_if (nat_eq o p) o p (turn_count p w.agenda.entries) (equal_when o p) (λ same. apart (sym same))) (others apart)
+
+-- an object that isn't busy settles once it is, with a Turn
+pub woken_settled : {X : Type 0} (laws : AgendaLaws X) (o p : ℕ) (w : World X) → turn_count o w.agenda.entries ≡ 0 → 1 ≤ o → o ≤ length w.things
+    → (p ≡ o) ⊎ (p ≢ o) → (p ≢ o → IsSettled p w) → IsSettled p (post w.clock (Turn o) (with_busy o true w))
+woken_settled laws o p w none one most place others =
+    turn_settles laws w.clock o p (with_busy o true w)
+    (record { busy = ap (λ (q : Queued _). q.busy) (own_queue o (record (queue_of o w) { busy = true }) w one most); none = none }) place
+    (λ apart. settled_by p w (with_busy o true w) (other_queue o p (record (queue_of o w) { busy = true }) w apart) refl (others apart))
 
 pub awake_if : {X : Type 0} (laws : AgendaLaws X) (b : Bool) (o : ℕ) (w : World X) → (queue_of o w).busy ≡ b → IsWorld w → 1 ≤ o → o ≤ count w
     → IsStep w (if b then w else post w.clock (Turn o) (with_busy o true w))
@@ -350,6 +338,7 @@ awake_if laws false o w mark h one most =
       no_less = omega arith;
       at_most_one = omega arith;
       acting = λ p a. woken_acting laws o p w (acts_apart o p w mark a) a;
+      settled = λ p a. woken_settled laws o p w none one (let things = h.counted in omega (arith, most, things)) (same_or_other p o) (λ apart. a);
     }
 
 -- ---- Turns that go
@@ -374,15 +363,26 @@ without_kept laws o w h = record {
 turned_apart : {X : Type 0} (o p : ℕ) (w : World X) → turn_count o w.agenda.entries ≢ 0 → IsActing p w → p ≢ o
 turned_apart o p w some a same = some (ap (λ q. turn_count q w.agenda.entries) (sym same) ∙ a.none)
 
-pub rest_step : {X : Type 0} (laws : AgendaLaws X) (o : ℕ) (w : World X) → IsWorld w → turn_count o w.agenda.entries ≢ 0 → IsStep w (with_busy o false (without_turn o w))
-rest_step laws o w h some = record {
+-- an object that has nothing to do, and no Turn, settles once it isn't busy
+rest_settled : {X : Type 0} (laws : AgendaLaws X) (o p : ℕ) (w : World X) → (queue_of o w).actions ≡ [] → (p ≡ o) ⊎ (p ≢ o) → IsSettled p w
+    → IsSettled p (with_busy o false (without_turn o w))
+rest_settled laws o p w empty (inl here) a = subst (λ r. IsSettled r (with_busy o false (without_turn o w))) (sym here)
+    (idle_settled o (with_busy o false (without_turn o w)) (idle_mark o (without_turn o w)) (mark_actions o o false (without_turn o w) ∙ empty)
+    (laws.cancel_counts o w.agenda.entries).0)
+rest_settled laws o p w empty (inr apart) a = settled_by p w (with_busy o false (without_turn o w))
+    (other_queue o p (record (queue_of o w) { busy = false }) (without_turn o w) apart) ((laws.cancel_counts o w.agenda.entries).1 p apart) a
+
+pub rest_step : {X : Type 0} (laws : AgendaLaws X) (o : ℕ) (w : World X) → IsWorld w → turn_count o w.agenda.entries ≢ 0 → (queue_of o w).actions ≡ []
+    → IsStep w (with_busy o false (without_turn o w))
+rest_step laws o w h some empty = record {
   world = mark_kept o false (without_turn o w) (laws.cancel_counts o w.agenda.entries).0 (without_kept laws o w h);
   objects = refl;
   clock = refl;
   no_less = omega arith;
   at_most_one = omega arith;
   acting = λ p a. let n = fewer laws o p w in let none = a.none in record {
-    busy = mark_of_other o p false (without_turn o w) (turned_apart o p w some a) (other_mark o p (record (queue_of o w) { busy = false }) w.things) ∙ a.busy;
+    busy = mark_of_other o p false (without_turn o w) (turned_apart o p w some a) (other_mark o p (record (queue_of o w) { busy = false }) (without_turn o w)) ∙ a.busy;
     none = omega (arith, n, none);
   };
+  settled = λ p a. rest_settled laws o p w empty (same_or_other p o) a;
 }

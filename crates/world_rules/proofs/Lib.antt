@@ -5,8 +5,10 @@ mod MapLemmas
 mod RowMaps
 mod TurnMaps
 mod AlikeLemmas
+mod Queues
 mod KeptLemmas
 mod RowsKept
 mod TurnsKept
+mod Settled
 mod PlayLemmas
 mod PlayExamples

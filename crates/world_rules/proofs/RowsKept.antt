@@ -1,6 +1,6 @@
 -- Each routine keeps what worlds keep.
-use Rattle.std.proofs.Common.{◌≡◌, ◌≢◌, ℕ, ℤ, pos, negsuc, ◌+◌, ◌≤◌, zero, suc, Bool, true, false, not, List, [], ◌∷◌, ◌++◌, Option, None, Some, refl, sym, ap, ◌∙◌, arith, slice_get, cond}
-use Rattle.std.specs.Prelude.{if◌then◌else◌, ◌==◌, IsTrue}
+use Rattle.std.proofs.Common.{◌≡◌, ◌≢◌, ℕ, ℤ, pos, negsuc, ◌+◌, ◌≤◌, zero, suc, Bool, true, false, not, List, [], ◌∷◌, ◌++◌, length, Option, None, Some, refl, sym, ap, subst, ◌∙◌, inl, inr, arith, slice_get, cond}
+use Rattle.std.specs.Prelude.{if◌then◌else◌, ◌==◌, ◌⊎◌, IsTrue}
 use Rattle.std.specs.List.{AllByRecursion, find, list_any}
 use Rattle.std.proofs.lemmas.Bool.Decides.{nat_tests}
 use Rattle.action_queue.specs.declared.queue.Item.{Item}
@@ -22,14 +22,15 @@ use Rattle.world_rules.specs.World.{World, count, is_valid, queue_of, effects_of
 use Rattle.world_rules.specs.Changes.{told, post, later, with_action, with_actions, with_busy, with_effect, with_effects, with_variables, has_turn, without_turn, without_first, is_effect}
 use Rattle.world_rules.specs.Rows.{Call, Answered, Row, rows, drawn_from, drawn, assigned, delayed, awake, appended, appended_do, at_rest, cleared, changed_variables, applied, applied_to, removed, event_script, signalled}
 use Rattle.world_rules.specs.Engine.{row_numbered, by_row, by_role, by_routine, engine}
-use Rattle.world_rules.specs.Kept.{IsWorld, IsStep, EngineKeeps}
-use Rattle.world_rules.proofs.KeptLemmas.{AgendaLaws, SameShape, same_shape, shapes_join, shape_if, shape_effects, shape_actions, shape_variables, shape_kept, shape_step, step_after, step_if, post_step, valid_tells, awake_if, rest_step}
+use Rattle.world_rules.specs.Kept.{turns_allowed, IsWorld, IsSettled, IsStep, EngineKeeps}
+use Rattle.world_rules.proofs.Queues.{other_queue, same_mark, no_actions, settled_by, busy_settled, cleared_settled}
+use Rattle.world_rules.proofs.KeptLemmas.{AgendaLaws, marks_actions, marks_kept, step_behind, SameShape, same_shape, shapes_join, shape_if, shape_effects, shape_variables, shape_kept, shape_step, step_after, step_if, post_step, same_or_other, valid_tells, none_when, woken_settled, awake_if, rest_step}
 
 pub shape_told : {X : Type 0} (o : ℕ) (what : Told) (w : World X) → SameShape w (told o what w)
-shape_told o what w = record { clock = refl; objects = refl; things = refl; agenda = refl; busy = λ p. refl }
+shape_told o what w = record { clock = refl; objects = refl; things = refl; agenda = refl; queues = λ p. refl }
 
 shape_random : {X : Type 0} (rest : List ℕ) (w : World X) → SameShape w (record w { random = rest })
-shape_random rest w = record { clock = refl; objects = refl; things = refl; agenda = refl; busy = λ p. refl }
+shape_random rest w = record { clock = refl; objects = refl; things = refl; agenda = refl; queues = λ p. refl }
 
 shape_drawn_from : {X : Type 0} (rs : List ℕ) (n : ℕ) (w : World X) → SameShape w (drawn_from rs n w).world
 shape_drawn_from [] n w = same_shape w
@@ -49,12 +50,34 @@ step_delayed : {X : Type 0} (laws : AgendaLaws X) (o : ℕ) (ms : ℤ) (a : Opti
 step_delayed laws o ms None w h most = shape_step w w (same_shape w) h
 step_delayed laws o ms (Some x) w h most = post_step laws (later ms w) (Stored o x) w h most (omega arith) (λ p. refl)
 
+-- an object that turns to one action more is busy, with one Turn
+appended_if : {X : Type 0} (laws : AgendaLaws X) (b : Bool) (o p : ℕ) (item : Item X) (w : World X) → IsWorld (with_action o item w)
+    → (queue_of o (with_action o item w)).busy ≡ b → 1 ≤ o → o ≤ length (with_action o item w).things → (p ≡ o) ⊎ (p ≢ o) → IsSettled p w
+    → IsSettled p (if b then with_action o item w else post w.clock (Turn o) (with_busy o true (with_action o item w)))
+appended_if laws true o p item w h mark one most (inl here) a =
+    let v = with_action o item w in
+    let own = subst (λ r. IsSettled r w) here a in
+    let same = same_mark o o (record (queue_of o w) { actions = (queue_of o w).actions ++ item ∷ [] }) w refl in
+    subst (λ r. IsSettled r v) (sym here) (busy_settled o v mark (own.turns ∙ ap turns_allowed (sym same ∙ mark)))
+appended_if laws true o p item w h mark one most (inr apart) a =
+    settled_by p w (with_action o item w) (other_queue o p (record (queue_of o w) { actions = (queue_of o w).actions ++ item ∷ [] }) w apart) refl a
+appended_if laws false o p item w h mark one most place a =
+    let v = with_action o item w in
+    let q = record (queue_of o w) { actions = (queue_of o w).actions ++ item ∷ [] } in
+    woken_settled laws o p v (none_when (turn_count o v.agenda.entries) (queue_of o v).busy (h.turns o) mark) one most place
+    (λ apart. settled_by p w v (other_queue o p q w apart) refl a)
+
 step_appended : {X : Type 0} (laws : AgendaLaws X) (o : ℕ) (item : Item X) (w : World X) → IsWorld w → IsStep w (appended o item w)
 step_appended laws o item w h = step_if (is_valid o w) w (awake o (with_action o item w)) h
-    (λ valid. let s = shape_actions o ((queue_of o w).actions ++ item ∷ []) w in
-    step_after w (with_action o item w) (awake o (with_action o item w)) s
-    (awake_if laws (queue_of o (with_action o item w)).busy o (with_action o item w) refl (shape_kept w (with_action o item w) s h)
-    (valid_tells o w valid).0 (valid_tells o w valid).1))
+    (λ valid. let v = with_action o item w in
+    let s = marks_actions o ((queue_of o w).actions ++ item ∷ []) w in
+    let kept = marks_kept w v s h in
+    let one = (valid_tells o w valid).0 in
+    let most = (valid_tells o w valid).1 in
+    let things = kept.counted in
+    step_behind w v (awake o v) s
+    (λ p a. appended_if laws (queue_of o v).busy o p item w kept refl one (omega (arith, most, things)) (same_or_other p o) a)
+    (awake_if laws (queue_of o v).busy o v refl kept one most))
 
 step_appended_do : {X : Type 0} (laws : AgendaLaws X) (o : ℕ) (a : Option X) (w : World X) → IsWorld w → IsStep w (appended_do o a w)
 step_appended_do laws o None w h = shape_step w w (same_shape w) h
@@ -63,16 +86,17 @@ step_appended_do laws o (Some x) w h = step_appended laws o (Do x) w h
 some_turn : (n : ℕ) → IsTrue (not (n == 0)) → n ≢ 0
 some_turn n h same = absurd (grind (arith, nat_tests, h, same))
 
-step_at_rest : {X : Type 0} (laws : AgendaLaws X) (o : ℕ) (w : World X) → IsWorld w → IsStep w (at_rest o w)
-step_at_rest laws o w h = step_if (has_turn o w) w (with_busy o false (without_turn o w)) h
-    (λ some. rest_step laws o w h (some_turn (turn_count o w.agenda.entries) some))
+step_at_rest : {X : Type 0} (laws : AgendaLaws X) (o : ℕ) (w : World X) → IsWorld w → (queue_of o w).actions ≡ [] → IsStep w (at_rest o w)
+step_at_rest laws o w h empty = step_if (has_turn o w) w (with_busy o false (without_turn o w)) h
+    (λ some. rest_step laws o w h (some_turn (turn_count o w.agenda.entries) some) empty)
 
 step_cleared : {X : Type 0} (laws : AgendaLaws X) (o : ℕ) (w : World X) → IsWorld w → IsStep w (cleared o w)
 step_cleared laws o w h =
-    let s = shape_actions o [] w in
-    let kept = shape_kept w (with_actions o [] w) s h in
-    step_after w (with_actions o [] w) (cleared o w) s
-    (step_if (w.version == 2) (with_actions o [] w) (at_rest o (with_actions o [] w)) kept (λ second. step_at_rest laws o (with_actions o [] w) kept))
+    let v = with_actions o [] w in
+    let s = marks_actions o [] w in
+    let kept = marks_kept w v s h in
+    let rest = step_if (w.version == 2) v (at_rest o v) kept (λ second. step_at_rest laws o v kept (no_actions o w)) in
+    step_behind w v (cleared o w) s (λ p a. rest.settled p (cleared_settled o p w a)) rest
 
 step_variables : {X : Type 0} (o : ℕ) (change : List Variable → List Variable) (w : World X) → IsWorld w → IsStep w (changed_variables o change w)
 step_variables o change w h = shape_step w (changed_variables o change w) (shape_if (is_valid o w) w (with_variables o change w) (shape_variables o change w)) h

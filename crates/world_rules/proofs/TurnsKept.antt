@@ -20,7 +20,7 @@ use Rattle.world_rules.specs.Changes.{told, post, later, with_actions, with_busy
 use Rattle.world_rules.specs.Turns.{Planned, idle, still, with_planned, new_world, user_number, Begun, with_entries, begun, begin, next_turn, turn_done, Turned, turned, turn, expired, unapply, fault, drained}
 use Rattle.world_rules.specs.Engine.{no_script, too_deep}
 use Rattle.world_rules.specs.Kept.{IsPlaced, turns_allowed, IsWorld, IsActing, IsStep, IsBegun, IsTurned, IsDone, NewIsWorld, BeginKeeps, TurnKeeps, TurnDoneKeeps, UnapplyKeeps, FaultKeeps, NoScriptKeeps, TooDeepKeeps, DrainedKeeps}
-use Rattle.world_rules.proofs.KeptLemmas.{AgendaLaws, SameShape, same_shape, shapes_join, shape_effects, shape_actions, shape_kept, shape_acting, shape_step, post_step, equal_when, valid_tells, turn_kept, mark_kept}
+use Rattle.world_rules.proofs.KeptLemmas.{AgendaLaws, SameMarks, marks_join, marks_actions, marks_kept, marks_acting, SameShape, same_shape, shapes_join, shape_effects, shape_marks, shape_step, post_step, nat_eq_same, valid_tells, turn_kept, mark_kept}
 use Rattle.world_rules.proofs.RowsKept.{shape_told}
 
 -- ---- what only tells
@@ -35,7 +35,7 @@ pub too_deep_keeps : {X : Type 0} → TooDeepKeeps X
 too_deep_keeps o name w h = shape_step w (too_deep o name w) (shape_told o (line.Deep name) w) h
 
 pub drained_keeps : {X : Type 0} → DrainedKeeps X
-drained_keeps w h = shape_step w (drained w) (record { clock = refl; objects = refl; things = refl; agenda = refl; busy = λ p. refl }) h
+drained_keeps w h = shape_step w (drained w) (record { clock = refl; objects = refl; things = refl; agenda = refl; queues = λ p. refl }) h
 
 shape_expired : {X : Type 0} (o number : ℕ) (s : Option Stood) (w : World X) → SameShape w (expired o number s w)
 shape_expired o number None w = same_shape w
@@ -68,7 +68,7 @@ pub turn_done_keeps : {X : Type 0} → AgendaLaws X → TurnDoneKeeps X
 turn_done_keeps laws o w h valid a = next_turn_done laws o (queue_of o w).actions w h a (valid_tells o w valid).0 (valid_tells o w valid).1
 
 -- the end of a Turn, behind a change that leaves the shape
-done_after : {X : Type 0} (o : ℕ) (w v u : World X) → SameShape w v → IsDone v u → IsTurned o w (record { action = None; world = u })
+done_after : {X : Type 0} (o : ℕ) (w v u : World X) → SameMarks w v → IsDone v u → IsTurned o w (record { action = None; world = u })
 done_after o w v u s d =
     let next = ap (λ g. g.next) s.agenda in
     let less = d.no_less in
@@ -91,16 +91,16 @@ turned_keeps laws o [] w h a one most = record {
   at_most_one = omega arith;
   acting = tt;
 }
-turned_keeps laws o (Do x ∷ rest) w h a one most = let s = shape_actions o rest w in record {
-  world = shape_kept w (with_actions o rest w) s h;
+turned_keeps laws o (Do x ∷ rest) w h a one most = let s = marks_actions o rest w in record {
+  world = marks_kept w (with_actions o rest w) s h;
   objects = refl;
   clock = refl;
   no_less = omega arith;
   at_most_one = omega arith;
-  acting = shape_acting w (with_actions o rest w) s o a;
+  acting = marks_acting w (with_actions o rest w) s o a;
 }
-turned_keeps laws o (Wait ms ∷ rest) w h a one most = let s = shape_actions o rest w in record {
-  world = turn_kept laws (later ms w) o (with_actions o rest w) (shape_kept w (with_actions o rest w) s h) (shape_acting w (with_actions o rest w) s o a) one most (omega arith);
+turned_keeps laws o (Wait ms ∷ rest) w h a one most = let s = marks_actions o rest w in record {
+  world = turn_kept laws (later ms w) o (with_actions o rest w) (marks_kept w (with_actions o rest w) s h) (marks_acting w (with_actions o rest w) s o a) one most (omega arith);
   objects = refl;
   clock = refl;
   no_less = omega arith;
@@ -110,9 +110,9 @@ turned_keeps laws o (Wait ms ∷ rest) w h a one most = let s = shape_actions o 
 turned_keeps laws o (Speak bytes ∷ rest) w h a one most =
     let v = with_actions o rest w in
     let t = told o (line.Speak bytes) v in
-    let s = shapes_join w v t (shape_actions o rest w) (shape_told o (line.Speak bytes) v) in
+    let s = marks_join w v t (marks_actions o rest w) (shape_marks v t (shape_told o (line.Speak bytes) v)) in
     done_after o w t (turn_done o t) s
-    (next_turn_done laws o (queue_of o t).actions t (shape_kept w t s h) (shape_acting w t s o a) one most)
+    (next_turn_done laws o (queue_of o t).actions t (marks_kept w t s h) (marks_acting w t s o a) one most)
 
 pub turn_keeps : {X : Type 0} → AgendaLaws X → TurnKeeps X
 turn_keeps laws o w h valid a = turned_keeps laws o (queue_of o w).actions w h a (valid_tells o w valid).0 (valid_tells o w valid).1
@@ -134,9 +134,6 @@ less_if false n most h = h
 acts_if : (mark : Bool) (n : ℕ) → suc n ≤ turns_allowed mark → (mark ≡ true) × (n ≡ 0)
 acts_if true n h = (refl, omega (arith, h))
 acts_if false n h = absurd (omega (arith, h))
-
-nat_eq_same : (o : ℕ) → nat_eq o o ≡ true
-nat_eq_same o = grind (arith, nat_tests)
 
 -- a Turn that is taken was its object's only one
 own_turn : {X : Type 0} (o : ℕ) (e : Entry X) (es : List (Entry X)) (mark : Bool) → e.kind ≡ Turn o → turn_count o (e ∷ es) ≤ turns_allowed mark
@@ -181,7 +178,7 @@ idle_length : (X : Type 0) (n : ℕ) → length (replicate n (idle {X = X})) ≡
 idle_length X zero = refl
 idle_length X (suc n) = ap suc (idle_length X n)
 
-still_kept : {X : Type 0} (area : PlainArea) (random : List ℕ) (version : ℕ) → IsWorld (still {X = X} area random version)
+pub still_kept : {X : Type 0} (area : PlainArea) (random : List ℕ) (version : ℕ) → IsWorld (still {X = X} area random version)
 still_kept area random version = record {
   counted = idle_length _ (length area.objects);
   agenda = record { order = tt; below = tt; distinct = tt };

@@ -1,5 +1,5 @@
 -- What every world keeps, and what each thing that is done to a world leaves of it.
-use Rattle.std.specs.Prelude.{◌≡◌, ℕ, ◌+◌, ◌≤◌, Bool, true, false, List, length, Option, MatchOption, IfSome, IsTrue}
+use Rattle.std.specs.Prelude.{◌≡◌, ℕ, ◌+◌, ◌≤◌, Bool, true, false, List, [], length, Option, MatchOption, IfSome, IsTrue}
 use Rattle.std.specs.List.{AllByRecursion}
 use Rattle.area_rules.specs.Area.{PlainArea}
 use Rattle.delay_agenda.specs.Waiting.{IsAgenda, turn_count}
@@ -40,8 +40,13 @@ pub record IsActing {X : Type 0} (o : ℕ) (w : World X) : Type 0 where
   pub busy : IsTrue (queue_of o w).busy
   pub none : turn_count o w.agenda.entries ≡ 0
 
--- What a call makes of a world: it keeps what worlds keep, the objects and the clock, posts at most one entry, and objects that act
--- act on.
+-- An object is settled: where it is busy it has one Turn on the agenda, else none, and one that isn't busy has nothing to do.
+pub record IsSettled {X : Type 0} (o : ℕ) (w : World X) : Type 0 where
+  pub turns : turn_count o w.agenda.entries ≡ turns_allowed (queue_of o w).busy
+  pub idle : (queue_of o w).busy ≡ false → (queue_of o w).actions ≡ []
+
+-- What a call makes of a world: it keeps what worlds keep, the objects and the clock, posts at most one entry, objects that act act on,
+-- and settled ones stay so.
 pub record IsStep {X : Type 0} (w v : World X) : Type 0 where
   pub world : IsWorld v
   pub objects : count v ≡ count w
@@ -49,6 +54,7 @@ pub record IsStep {X : Type 0} (w v : World X) : Type 0 where
   pub no_less : w.agenda.next ≤ v.agenda.next
   pub at_most_one : v.agenda.next ≤ w.agenda.next + 1
   pub acting : (o : ℕ) → IsActing o w → IsActing o v
+  pub settled : (o : ℕ) → IsSettled o w → IsSettled o v
 
 -- An entry that was begun: it was due, the clock stands at its time, its object is there, and where it is a Turn its object acts.
 pub record IsBegun {X : Type 0} (until : ℕ) (w : World X) (b : Begun X) : Type 0 where

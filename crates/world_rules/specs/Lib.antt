@@ -11,5 +11,6 @@ pub mod Alike
 pub mod AlikeLaws
 pub mod Kept
 pub mod Plays
+pub mod Settled
 pub mod EndText
 pub mod GoingOn

@@ -7,8 +7,9 @@
 //! `specs/Turns.antt` tells how agenda entries are begun and what they do. `specs/Plays.antt` says
 //! how an entry is run by its kind, and what a play comes to: entry after entry, until none is due
 //! or a limit is met. It is generic in how scripts run, so that the play of files and the play of
-//! what source texts mean are one definition; `specs/EndText.antt` has the text at a play's end.
-//! The types below are the parts of a world that are plain data.
+//! what source texts mean are one definition; `specs/EndText.antt` has the text at a play's end,
+//! and `specs/Settled.antt` what holds of the worlds between entries. The types below are the parts
+//! of a world that are plain data.
 //!
 //! The functions of this crate do nothing. Each is a law: its contract is proved of the
 //! definitions, for whoever calls it. docs/ENGINE.md tells the rows in words, docs/WORLD.md the
@@ -24,4 +25,4 @@ pub use laws::{
     Carries, alike_worlds_agree, calls_keep_alike, calls_keep_worlds, entries_keep_alike,
     entries_keep_worlds,
 };
-pub use plays::plays_go_on;
+pub use plays::{plays_go_on, plays_settle};
