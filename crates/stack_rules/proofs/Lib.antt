@@ -2,5 +2,6 @@ mod EntryLemmas
 mod HeaderLemmas
 mod Rows
 mod RunLemmas
+mod SavedLemmas
 mod StackLemmas
 mod StepLemmas

@@ -1,6 +1,8 @@
 -- When a captured state fits a table of shapes.
-use Rattle.std.specs.Prelude.{◌≡◌, ℕ, List, Option, None, Some, map, reverse, slice_get}
+use Rattle.std.specs.Prelude.{◌≡◌, ℕ, List, [], ◌∷◌, Option, None, Some, map, reverse, slice_get}
 use Rattle.ncs_code.specs.File.{resume_place}
+use Rattle.saved_state.specs.declared.cell.Cell.{Cell}
+use Rattle.saved_state.specs.declared.cell.Cell.TheVariants.{Value, Base}
 use Rattle.saved_state.specs.declared.saved.Saved.{Saved}
 use Rattle.stack_shape.specs.declared.shape.Slot.TheVariants.{Of}
 use Rattle.stack_shape.specs.declared.shape.Entry.TheVariants.{Stored}
@@ -36,3 +38,15 @@ pub record FitsOne (scripts : List Script) (tables : Tables) (saved : Saved) : T
 abbrev pub FitsAction : List Script → Tables → Option Saved → Type 0
 FitsAction scripts tables None = Unit {0}
 FitsAction scripts tables (Some saved) = FitsOne scripts tables saved
+
+-- ---- what such states hold
+
+-- Each cell holds a value; none is a base.
+abbrev pub AllValues : List Cell → Type 0
+AllValues [] = Unit {0}
+AllValues (Value v ∷ cells) = AllValues cells
+AllValues (Base bp ∷ cells) = ⊥
+
+pub record HoldsValues (saved : Saved) : Type 0 where
+  pub globals : AllValues saved.globals
+  pub locals : AllValues saved.locals

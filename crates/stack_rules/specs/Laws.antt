@@ -1,5 +1,5 @@
 -- Soundness: well-stacked scripts never come to an instruction that has no case on their stack.
-use Rattle.std.specs.Prelude.{◌≡◌, ◌≢◌, ℕ, List, [], ◌∷◌, Option, None, Some, true, slice_get}
+use Rattle.std.specs.Prelude.{◌≡◌, ◌≢◌, ℕ, ◌⊎◌, List, [], ◌∷◌, Contains, Option, None, Some, true, slice_get}
 use Rattle.nwq_value.specs.declared.value.Ty.{Ty}
 use Rattle.nwq_value.specs.declared.value.Ty.TheVariants.{Void, Text, Object}
 use Rattle.nwq_value.specs.declared.value.Value.{Value}
@@ -13,8 +13,9 @@ use Rattle.machine_rules.specs.Calls.{is_execute_script}
 use Rattle.machine_rules.specs.Frames.{started, continued}
 use Rattle.machine_rules.specs.Machine.{Script, Host, State, step}
 use Rattle.machine_rules.specs.Runs.{Ran, StackFault, run, run_script, run_stored}
+use Rattle.stack_rules.specs.Tables.{ShapeTable}
 use Rattle.stack_rules.specs.Rules.{MeetsRules}
-use Rattle.stack_rules.specs.Fits.{Tables, IsListed, FitsOne, FitsAction}
+use Rattle.stack_rules.specs.Fits.{Tables, IsListed, Fits, FitsOne, FitsAction, HoldsValues}
 use Rattle.stack_rules.specs.Safe.{IsSafeFrame, IsSafe, GoesSafely}
 
 -- ---- what is asked of scripts, header and engine
@@ -93,3 +94,24 @@ ScriptsAreSound W = (host : Host W) (tables : Tables) (first : W) (limit number 
 abbrev pub StatesAreSound : Type 0 → Type 0
 StatesAreSound W = (host : Host W) (tables : Tables) (first : W) (limit : ℕ) (saved : Saved) (self : ℕ) (world : W) → IsWellStackedHost host tables first
     → FitsOne host.scripts tables saved → IsReached host tables first world → IsSoundRun (IsReached host tables first) (run_stored host limit saved self world)
+
+-- ---- captured states
+
+-- a state that fits a table has no base cell
+abbrev pub FittingHoldsValues : Type 0
+FittingHoldsValues = (table : ShapeTable) (saved : Saved) → Fits table saved → HoldsValues saved
+
+-- The states that a world keeps, in whatever way they are told from it, are those that engine calls were handed.
+pub record KeepsWhatIsHanded {W : Type 0} (host : Host W) (kept : W → List Saved) : Type 0 where
+  pub call : (number caller : ℕ) (values : List Value) (action : Option Saved) (world : W) (saved : Saved)
+      → Contains (kept (host.engine number caller values action world).world) saved → Contains (kept world) saved ⊎ (action ≡ Some saved)
+  pub missing : (target : ℕ) (name : List ℕ) (world : W) (saved : Saved) → Contains (kept (host.no_script target name world)) saved → Contains (kept world) saved
+  pub depth : (target : ℕ) (name : List ℕ) (world : W) (saved : Saved) → Contains (kept (host.too_deep target name world)) saved → Contains (kept world) saved
+
+abbrev pub AllHoldValues : List Saved → Type 0
+AllHoldValues states = (saved : Saved) → Contains states saved → HoldsValues saved
+
+-- so no state that a world keeps has one, if none had in the first world
+abbrev pub KeptHoldsValues : Type 0 → Type 0
+KeptHoldsValues W = (host : Host W) (tables : Tables) (first : W) (kept : W → List Saved) → KeepsWhatIsHanded host kept → AllHoldValues (kept first)
+    → (world : W) → IsReached host tables first world → AllHoldValues (kept world)

@@ -1,4 +1,5 @@
-ghost use Rattle.stack_rules.specs.Laws.{ContinuesSafely, RunsSafely, ScriptsAreSound};
+ghost use Rattle.stack_rules.specs.Laws.{ContinuesSafely, FittingHoldsValues, KeptHoldsValues};
+ghost use Rattle.stack_rules.specs.Laws.{RunsSafely, ScriptsAreSound};
 ghost use Rattle.stack_rules.specs.Laws.{StartsSafely, StatesAreSound, StepsSafely};
 ghost use Rattle.stack_rules.specs.Laws.{TablesTypeExecuteScript};
 
@@ -40,3 +41,10 @@ pub fn runs_are_sound<W>()
     entries_begin_safely();
     steps_are_safe::<W>();
 }
+
+/// A captured state that fits a table of shapes holds values alone, and so does each state that a
+/// world keeps, where what it keeps was handed to it by engine calls of well-stacked scripts.
+pub fn states_hold_values<W>()
+    ensures fitting { FittingHoldsValues }
+    ensures kept { KeptHoldsValues W }
+{}

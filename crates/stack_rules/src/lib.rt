@@ -12,4 +12,7 @@
 
 mod laws;
 
-pub use laws::{entries_begin_safely, runs_are_sound, steps_are_safe, tables_type_execute_script};
+pub use laws::{
+    entries_begin_safely, runs_are_sound, states_hold_values, steps_are_safe,
+    tables_type_execute_script,
+};
