@@ -61,7 +61,7 @@ fn a_captured_state_keeps_its_values(rt: HostRuntime) -> Result<(), Fail> {
     stack.drop_top(190);
     push_ints(&mut stack, 500, 510)?;
     assert!(rt; are_first_ints(&first.locals, 200) && first.globals.len() == 0);
-    let resumed = resume(first)?;
+    let mut resumed = resume(first)?;
     assert!(rt; resumed.len() == 201 && resumed.bp() == 0);
     let second = resumed.capture(3, 45, 0, 200)?;
     assert!(rt; are_first_ints(&second.locals, 200));

@@ -1,4 +1,5 @@
 mod Examples
+pub mod Piles
 pub mod Lists
 pub mod Pieces
 pub mod Places

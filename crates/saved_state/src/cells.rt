@@ -47,7 +47,13 @@ impl Cells {
         }
     }
 
+    /// Where the list has its memory from.
+    pub(crate) fn allocator(&self) -> Global {
+        *self.pieces.allocator()
+    }
+
     /// How many cells there are.
+    #[inline(always)]
     pub fn len(&self) -> usize
         ensures count { result ≡ length self.now }
     {

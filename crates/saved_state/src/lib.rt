@@ -20,6 +20,7 @@ mod cell;
 mod cells;
 mod laws;
 mod piece;
+mod pile;
 mod saved;
 mod stack;
 

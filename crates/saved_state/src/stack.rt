@@ -5,7 +5,7 @@ ghost use Rattle.saved_state.specs.declared.cell.Cell.TheVariants.{Value as Valu
 ghost use Rattle.saved_state.specs.declared.cell.Cell.TheVariants.{Base as BaseCell};
 
 use crate::cell::Cell;
-use crate::cells::Cells;
+use crate::pile::Pile;
 use crate::saved::Saved;
 use nwq_value::{NoMemory, Value};
 use std::alloc::Global;
@@ -15,7 +15,7 @@ use std::marker::Model;
 ///
 /// Places count the cells beneath, from 0 at the bottom.
 pub struct Stack {
-    cells: Cells,
+    cells: Pile,
     bp: usize,
 }
 
@@ -41,12 +41,13 @@ impl Stack {
         ensures empty { result ≡ record { cells = []; bp = 0 } }
     {
         Stack {
-            cells: Cells::new(alloc),
+            cells: Pile::new(alloc),
             bp: 0,
         }
     }
 
     /// Puts a cell on top. After `NoMemory` the cell is dropped and the stack is as before.
+    #[inline(always)]
     pub fn push(&mut self, cell: Cell) -> Result<(), NoMemory>
         ensures ok { OnOk result (self.new ≡ record self.old { cells = cell ∷ self.old.cells }) }
         ensures err { OnErr result (self.new ≡ self.old) }
@@ -55,6 +56,7 @@ impl Stack {
     }
 
     /// How many cells there are: the place of the next one that is pushed.
+    #[inline(always)]
     pub fn len(&self) -> usize
         ensures count { result ≡ length self.now.cells }
     {
@@ -62,6 +64,7 @@ impl Stack {
     }
 
     /// BP: offsets from it reach the cells beneath it.
+    #[inline(always)]
     pub fn bp(&self) -> usize
         ensures bp { result ≡ self.now.bp }
     {
@@ -69,6 +72,7 @@ impl Stack {
     }
 
     /// The cell at a place.
+    #[inline(always)]
     pub fn at(&self, place: usize) -> &Cell
         requires inside { place < length self.now.cells }
         ensures cell { cell_at self.now.cells place ≡ Some result.now }
@@ -77,6 +81,7 @@ impl Stack {
     }
 
     /// Drops the `n` topmost cells. BP stays, even where its place is among them.
+    #[inline(always)]
     pub fn drop_top(&mut self, n: usize)
         requires inside { n ≤ length self.old.cells }
         ensures dropped { self.new ≡ record self.old { cells = drop n self.old.cells } }
@@ -87,6 +92,7 @@ impl Stack {
 
     /// Puts a value into the cell at a place. After `NoMemory` it is dropped and the stack is as
     /// before.
+    #[inline(always)]
     pub fn set(&mut self, place: usize, value: Value) -> Result<(), NoMemory>
         requires inside { place < length self.old.cells }
         requires no_base { (bp : ℕ) → cell_at self.old.cells place ≢ Some (BaseCell bp) }
@@ -109,17 +115,18 @@ impl Stack {
     /// right beneath BP and the `locals` topmost cells. A base cell among them is kept like any
     /// other; compiled code asks for none.
     pub fn capture(
-        &self,
+        &mut self,
         script: u32,
         place: u32,
         globals: usize,
         locals: usize,
     ) -> Result<Saved, NoMemory>
-        requires bp { self.now.bp ≤ length self.now.cells }
-        requires globals { globals ≤ self.now.bp }
-        requires locals { locals ≤ length self.now.cells }
+        requires bp { self.old.bp ≤ length self.old.cells }
+        requires globals { globals ≤ self.old.bp }
+        requires locals { locals ≤ length self.old.cells }
         ensures state { IfOk result
-            (λ saved. saved ≡ captured script place globals locals self.now) }
+            (λ saved. saved ≡ captured script place globals locals self.old) }
+        ensures same { self.new ≡ self.old }
     {
         let len = self.cells.len();
         Ok(Saved {
@@ -137,8 +144,12 @@ pub fn resume(saved: Saved) -> Result<Stack, NoMemory>
     ensures stack { IfOk result (λ stack. stack ≡ resumed saved) }
 {
     let mut cells = saved.globals;
+    let alloc = cells.allocator();
     let bp = cells.len();
     cells.begin_page(Cell::Base(0))?;
     cells.append(&saved.locals)?;
-    Ok(Stack { cells, bp })
+    Ok(Stack {
+        cells: Pile::of(alloc, cells),
+        bp,
+    })
 }

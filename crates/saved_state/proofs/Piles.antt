@@ -1,0 +1,70 @@
+-- Two lists of cells in a row: the lower ones, and those on top.
+use Rattle.std.proofs.Common.{◌≡◌, ◌<◌, ◌≤◌, ◌+◌, ◌-◌, ◌++◌, ◌∷◌, [], ℕ, suc, List, length, take, set, slice_get, get_or, Some, refl, sym, ap, ◌∙◌, arith, append_assoc}
+use Rattle.std.proofs.lemmas.List.{length-append, append-nil, take-append-le, take_at, set-append_left, set-append_right, length_push, length-take-le, take_more}
+use Rattle.std.proofs.lemmas.Option.{slice_get-get_or}
+use Rattle.std.proofs.Math.Seq.{take-append-add}
+use Rattle.saved_state.proofs.Lists.{get_front, get_behind}
+use Rattle.saved_state.specs.declared.cell.Cell.{Cell}
+
+pub size_is : (low top : List Cell) → length (low ++ top) ≡ length low + length top
+size_is low top = length-append low top
+
+pub pushed_is : (low top : List Cell) (cell : Cell) → low ++ (top ++ cell ∷ []) ≡ (low ++ top) ++ cell ∷ []
+pushed_is low top cell = sym (append_assoc low top (cell ∷ []))
+
+pub pushed_size : (top : List Cell) (cell : Cell) → length (top ++ cell ∷ []) ≡ length top + 1
+pushed_size top cell = length_push top cell
+
+pub got_top : (low top : List Cell) (place : ℕ) → length low ≤ place → slice_get (low ++ top) place ≡ slice_get top (place - length low)
+got_top low top place over =
+    let whole : place ≡ length low + (place - length low) = omega (arith, over) in
+    ap (slice_get (low ++ top)) whole ∙ get_behind low top (place - length low)
+
+pub got_item : (low top : List Cell) (place k : ℕ) (cell : Cell) → length low ≤ place → k ≡ place - length low
+    → k < length top → cell ≡ get_or top k cell → slice_get (low ++ top) place ≡ Some cell
+got_item low top place k cell over at less is =
+    got_top low top place over ∙ ap (slice_get top) (sym at) ∙ slice_get-get_or top k cell less ∙ ap Some (sym is)
+
+pub got_low : (low top : List Cell) (place : ℕ) → place < length low → slice_get (low ++ top) place ≡ slice_get low place
+got_low low top place less = get_front low top place less
+
+pub set_top : (low top : List Cell) (place : ℕ) (cell : Cell) → length low ≤ place
+    → set (low ++ top) place cell ≡ low ++ set top (place - length low) cell
+set_top low top place cell over = set-append_right low top (length low) place cell refl over
+
+pub set_low : (low top : List Cell) (place : ℕ) (cell : Cell) → place < length low → set (low ++ top) place cell ≡ set low place cell ++ top
+set_low low top place cell less = set-append_left low top place cell less
+
+pub kept_top : (low top : List Cell) (n : ℕ) → length low ≤ n → take n (low ++ top) ≡ low ++ take (n - length low) top
+kept_top low top n over =
+    let whole : n ≡ length low + (n - length low) = omega (arith, over) in
+    ap (λ (k : ℕ). take k (low ++ top)) whole ∙ take-append-add low top (n - length low)
+
+pub kept_low : (low top : List Cell) (n : ℕ) → n ≤ length low → take n (low ++ top) ≡ take n low ++ []
+kept_low low top n less = take-append-le n low top less ∙ sym (append-nil (take n low))
+
+pub kept_size : (cells : List Cell) (n : ℕ) → n ≤ length cells → length (take n cells) ≡ n
+kept_size cells n less = length-take-le n cells less
+
+-- the lower ones by themselves
+pub alone : (low : List Cell) → low ++ [] ≡ low
+alone low = append-nil low
+
+pub copied_back : (old put now : List Cell) (n : ℕ) → take (length old) now ≡ old → n ≡ length old → take n now ≡ old
+copied_back old put now n kept is = ap (λ (k : ℕ). take k now) is ∙ kept
+
+pub one_more : (old top now : List Cell) (k : ℕ) (cell : Cell) → now ≡ old ++ take k top → k < length top → cell ≡ get_or top k cell
+    → now ++ cell ∷ [] ≡ old ++ take (k + 1) top
+one_more old top now k cell is less here =
+    ap (λ (t : List Cell). t ++ cell ∷ []) is ∙ append_assoc old (take k top) (cell ∷ []) ∙ ap (λ (t : List Cell). old ++ t) (ap (λ (c : Cell). take k top ++ c ∷ []) here ∙ sym (take_more top k cell less))
+
+pub front : (old more : List Cell) → take (length old) (old ++ more) ≡ old
+front old more = take_at old more (length old) refl
+
+pub ruleset got_lemmas = (got_item, got_low, size_is)
+
+pub ruleset set_lemmas = (set_top, set_low, size_is)
+
+pub ruleset kept_lemmas = (kept_top, kept_low, kept_size, size_is)
+
+pub ruleset settled_lemmas = (alone, size_is)
