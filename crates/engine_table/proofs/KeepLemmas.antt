@@ -64,20 +64,20 @@ free_constant k d e = (none_of (routine_named d.name k.table.routines) None _ e)
 
 -- ---- what a turn keeps
 
-same_turn : (a b : Turn) → ◌≡◌ {A = Next} (Ok a) (Ok b) → a ≡ b
+pub same_turn : (a b : Turn) → ◌≡◌ {A = Next} (Ok a) (Ok b) → a ≡ b
 same_turn a b e = cc
 
-no_turn : (f : HeaderFault) (t : Turn) → ◌≡◌ {A = Next} (Err f) (Ok t) → ⊥
+pub no_turn : (f : HeaderFault) (t : Turn) → ◌≡◌ {A = Next} (Err f) (Ok t) → ⊥
 no_turn f t e = cc
 
 is_turn : (k : Known) (a t : Turn) → ◌≡◌ {A = Next} (Ok a) (Ok t) → KeepsTurn k a → KeepsTurn k t
 is_turn k a t e h = subst (KeepsTurn k) (same_turn a t e) h
 
-unless : (P : Type 0) (o : Option HeaderFault) (next : Next) (t : Turn) → (o ≡ None → next ≡ Ok t → P) → unless_fault o next ≡ Ok t → P
+pub unless : (P : Type 0) (o : Option HeaderFault) (next : Next) (t : Turn) → (o ≡ None → next ≡ Ok t → P) → unless_fault o next ≡ Ok t → P
 unless P None next t h e = h refl e
 unless P (Some f) next t h e = absurd (no_turn f t e)
 
-choose : (P : Type 0) (b : Bool) (one other : Next) (t : Turn) → (b ≡ true → one ≡ Ok t → P) → (b ≡ false → other ≡ Ok t → P)
+pub choose : (P : Type 0) (b : Bool) (one other : Next) (t : Turn) → (b ≡ true → one ≡ Ok t → P) → (b ≡ false → other ≡ Ok t → P)
     → (if b then one else other) ≡ Ok t → P
 choose P true one other t h g e = h refl e
 choose P false one other t h g e = g refl e

@@ -1,6 +1,8 @@
 mod SymbolLemmas
 mod NameLemmas
 mod KeepLemmas
+mod DepthLemmas
+mod HeldLemmas
 mod Progress
 mod Prefixes
 mod Complete

@@ -1,7 +1,6 @@
 -- The tokens of a text, one after another.
-use Rattle.std.proofs.Common.{◌≡◌, ◌≢◌, ℕ, ◌-◌, ◌<◌, ◌≤◌, List, [], ◌∷◌, length, Option, Some, None, Result, Ok, Err, IfOk, IfErr, refl, sym, ap, subst, ◌∙◌, arith}
-use Rattle.std.proofs.lemmas.Option.{none-some}
-use Rattle.nss_lexer.specs.Splitting.{Lexeme, First, Found, AtEnd, BadAt, IsFirst, Splits, AreTokens, whole, broken, token}
+use Rattle.std.proofs.Common.{◌≡◌, ◌≢◌, ℕ, ◌-◌, ◌<◌, ◌≤◌, List, [], ◌∷◌, length, Option, Some, None, Result, Ok, Err, IfOk, IfErr, sym, ap, subst, ◌∙◌, arith}
+use Rattle.nss_lexer.specs.Splitting.{Lexeme, Found, AtEnd, BadAt, IsFirst, Splits, AreTokens, whole, broken, token}
 use Rattle.nwq_value.specs.Engine.{EngineTable}
 use Rattle.engine_table.specs.Known.{Known}
 use Rattle.engine_table.specs.declared.fault.HeaderFault.{HeaderFault}
@@ -14,7 +13,9 @@ use Rattle.engine_table.specs.declared.stage.Turn.TheVariants.{Goes, Gives}
 use Rattle.engine_table.specs.Symbols.{Placed, at, placed_of, placed_all}
 use Rattle.engine_table.specs.Headers as header
 use Rattle.engine_table.specs.Headers.{Fails, Comes, HasTable, IsFaulty, IsRefused, IsAnswer, after, nothing}
-use Rattle.engine_table.specs.Turns.{Next, known_of, turn_at, ended, run_by, run, Leads, Follows, Answers, KeepsStage, HasTokens, HasTokensUpTo}
+use Rattle.engine_table.specs.Turns.{Next, known_of, turn_at, ended, run_by, run, Leads, Follows, Answers, KeepsStage, HasTokens, HasTokensUpTo, depth_of}
+use Rattle.engine_table.specs.Held.{IsCounted}
+use Rattle.engine_table.proofs.DepthLemmas.{follows_depth}
 use Rattle.engine_table.proofs.Whole.{right, IsClash, clash_is}
 
 -- ---- the search for a bad byte
@@ -56,9 +57,11 @@ pub record IsRead (bytes : List ℕ) (at : ℕ) (r : Reader) : Type 0 where
   pub within : at ≤ length bytes
   pub leads : (left : List Lexeme) (ending : Option ℕ) → Splits bytes 0 at left ending → ReadsOn bytes r left ending
   pub keeps : KeepsStage (known_of r.known) r.stage
+  pub counted : IsCounted r.known
+  pub inside : depth_of r.stage ≤ at
 
-pub read_none : (bytes : List ℕ) (r : Reader) → (known_of r.known) ≡ nothing → r.stage ≡ stage.Start → IsRead bytes 0 r
-read_none bytes r known start = record {
+pub read_none : (bytes : List ℕ) (r : Reader) → (known_of r.known) ≡ nothing → r.stage ≡ stage.Start → IsCounted r.known → IsRead bytes 0 r
+read_none bytes r known start counted = record {
   within = omega arith;
   leads = λ left ending split. record {
     all = left;
@@ -67,6 +70,8 @@ read_none bytes r known start = record {
         ∙ ap (λ (z : Stage). run (length bytes) (known_of r.known) z (placed_all left)) (sym start);
   };
   keeps = subst (KeepsStage (known_of r.known)) (sym start) tt;
+  counted = counted;
+  inside = (let none = ap depth_of start in omega (arith, none));
 }
 
 led : (end : ℕ) (k : Known) (xs : List Placed) (what : Turn) (k' : Known) (s' : Stage) → Leads k what k' s'
@@ -80,8 +85,9 @@ followed end k s x xs k' s' f =
     ap (λ (z : Next). run_by z (λ n. run end k n xs) (λ g. run end (after k g) stage.Start xs)) f.is ∙ led end k xs f.what k' s' f.leads
 
 pub read_more : (bytes : List ℕ) (at : ℕ) (r next : Reader) (t : Lexeme) → IsRead bytes at r → IsFirst bytes 0 at (Found t)
-    → Follows (known_of r.known) r.stage (placed_of t) (known_of next.known) next.stage → KeepsStage (known_of next.known) next.stage → IsRead bytes t.end next
-read_more bytes at r next t so first follows keeps = record {
+    → Follows (known_of r.known) r.stage (placed_of t) (known_of next.known) next.stage → KeepsStage (known_of next.known) next.stage → IsCounted next.known
+    → IsRead bytes t.end next
+read_more bytes at r next t so first follows keeps counted = record {
   within = first.within;
   leads = λ left ending split. let on = so.leads (t ∷ left) ending (token at t left ending first split) in record {
     all = on.all;
@@ -89,6 +95,10 @@ read_more bytes at r next t so first follows keeps = record {
     same = on.same ∙ followed (length bytes) (known_of r.known) r.stage (placed_of t) (placed_all left) (known_of next.known) next.stage follows;
   };
   keeps = keeps;
+  counted = counted;
+  inside =
+      (let deeper = follows_depth (known_of r.known) r.stage (placed_of t) (known_of next.known) next.stage follows in
+      omega (arith, deeper, so.inside, first.from, first.some));
 }
 
 -- ---- what is answered

@@ -5,5 +5,6 @@ pub mod Symbols
 pub mod Grammar
 pub mod Headers
 pub mod Turns
+pub mod Held
 pub mod Laws
 pub mod KeptTables

@@ -185,6 +185,11 @@ turn k (stage.Closed f) p s = closed_turn f p s
 abbrev pub turn_at : Known → Stage → Placed → Next
 turn_at k s x = turn k s x.place x.symbol
 
+-- inside how many brackets of a value a line is
+abbrev pub depth_of : Stage → ℕ
+depth_of (stage.Loose o d) = d
+depth_of _ = 0
+
 -- ---- what a stage keeps
 
 -- a function that may be declared, whatever parameters it has already

@@ -1,5 +1,5 @@
-ghost use Rattle.std.specs.Prelude.{◌≡◌, ◌==◌, if◌then◌else◌, ◌≤◌, [], ◌∷◌, ◌++◌, length};
-ghost use Rattle.std.specs.Prelude.{Some, None, IfOk, IfSome, OnOk};
+ghost use Rattle.std.specs.Prelude.{◌≡◌, ◌==◌, if◌then◌else◌, ◌<◌, ◌≤◌, ◌+◌, [], ◌∷◌, ◌++◌};
+ghost use Rattle.std.specs.Prelude.{length, Some, None, IfOk, IfSome, OnErr, OnOk};
 ghost use Rattle.nwq_value.specs.Engine.{IsConstant, constant_named};
 ghost use Rattle.nwq_value.specs.Limits.{parameter_limit};
 ghost use Rattle.engine_table.specs.declared.symbol.Symbol.TheVariants as symbol;
@@ -9,7 +9,9 @@ ghost use Rattle.engine_table.specs.declared.stage.Stage.TheVariants as stage;
 ghost use Rattle.engine_table.specs.Grammar as grammar;
 ghost use Rattle.engine_table.specs.Headers as header;
 ghost use Rattle.engine_table.specs.Turns as turns;
-ghost use Rattle.engine_table.specs.Turns.{Answers, IsOpen, KeepsDeclaration, known_of};
+ghost use Rattle.engine_table.specs.Held.{IsCounted, const_held, default_held, held_limit};
+ghost use Rattle.engine_table.specs.Held.{params_held};
+ghost use Rattle.engine_table.specs.Turns.{Answers, IsOpen, KeepsDeclaration, depth_of, known_of};
 
 use crate::declaration::{Declaration, Declared, Function};
 use crate::fault::HeaderFault;
@@ -157,29 +159,28 @@ fn defined(structure: Option<u8>, value: Symbol) -> Option<Declaration>
 }
 
 /// How many brackets are open behind a token of a loose value, inside so many; `None` where it ends
-/// the value. That more are open than a `u32` counts is want of memory.
-fn brackets(depth: u32, symbol: &Symbol) -> Result<Option<u32>, NoMemory>
-    ensures { IfOk result (λ inside. inside ≡ grammar.brackets depth symbol.now) }
+/// the value.
+fn brackets(depth: u32, symbol: &Symbol) -> Option<u32>
+    requires few { depth < 4294967295 }
+    ensures { result ≡ grammar.brackets depth symbol.now }
 {
     match symbol {
         Symbol::Sign(sign) => brackets_by(depth, *sign),
-        _ => Ok(Some(depth)),
+        _ => Some(depth),
     }
 }
 
 /// The same for a sign.
-fn brackets_by(depth: u32, sign: Sign) -> Result<Option<u32>, NoMemory>
-    ensures { IfOk result (λ inside. inside ≡ grammar.brackets depth (symbol.Sign sign)) }
+fn brackets_by(depth: u32, sign: Sign) -> Option<u32>
+    requires few { depth < 4294967295 }
+    ensures { result ≡ grammar.brackets depth (symbol.Sign sign) }
 {
     match sign {
-        Sign::Open | Sign::Opening => match depth.checked_add(1) {
-            Some(more) => Ok(Some(more)),
-            None => Err(NoMemory),
-        },
-        Sign::Close => Ok(end_or(depth, depth.saturating_sub(1))),
-        Sign::Closing => Ok(Some(depth.saturating_sub(1))),
-        Sign::Comma | Sign::Semicolon => Ok(end_or(depth, depth)),
-        _ => Ok(Some(depth)),
+        Sign::Open | Sign::Opening => Some(depth + 1),
+        Sign::Close => end_or(depth, depth.saturating_sub(1)),
+        Sign::Closing => Some(depth.saturating_sub(1)),
+        Sign::Comma | Sign::Semicolon => end_or(depth, depth),
+        _ => Some(depth),
     }
 }
 
@@ -197,33 +198,55 @@ fn negative(number: u32) -> Const
     Const::Int(number.cast_signed().wrapping_neg())
 }
 
-/// How many bytes of text the constant holds.
-fn text_bytes(constant: &Const) -> usize {
+/// How many bytes the constant's string has.
+fn text_bytes(constant: &Const) -> usize
+    ensures { result ≡ const_held constant.now }
+{
     match constant {
         Const::Text(text) => text.bytes().len(),
         _ => 0,
     }
 }
 
-/// How many bytes of text the defaults hold.
-fn default_bytes(params: &[Param]) -> usize {
-    let mut sum: usize = 0;
-    for param in params {
-        if let Some(constant) = &param.default {
-            sum = sum.saturating_add(text_bytes(constant));
-        }
-    }
-    sum
-}
-
-/// Counts bytes of text that the table is to hold. Too many are want of memory.
-fn hold(text: &mut usize, bytes: usize) -> Result<(), NoMemory> {
-    *text = text.saturating_add(bytes);
-    if *text > MOST_TEXT {
+/// Counts bytes of strings that the table is to hold. It fails exactly where they pass the budget.
+fn hold(text: &mut usize, bytes: usize) -> Result<(), NoMemory>
+    requires few { text.old ≤ held_limit }
+    ensures held { OnOk result (text.new ≡ text.old + bytes) }
+    ensures few { OnOk result (text.new ≤ held_limit) }
+    ensures passed { OnErr result (held_limit < text.old + bytes) }
+{
+    if bytes > MOST_TEXT - *text {
         Err(NoMemory)
     } else {
+        *text += bytes;
         Ok(())
     }
+}
+
+/// Counts the bytes of a parameter's default.
+fn hold_default(text: &mut usize, param: &Param) -> Result<(), NoMemory>
+    requires few { text.old ≤ held_limit }
+    ensures held { OnOk result (text.new ≡ text.old + default_held param.now.default) }
+    ensures few { OnOk result (text.new ≤ held_limit) }
+    ensures passed { OnErr result (held_limit < text.old + default_held param.now.default) }
+{
+    match &param.default {
+        Some(constant) => hold(text, text_bytes(constant)),
+        None => Ok(()),
+    }
+}
+
+/// Counts the bytes of the defaults.
+fn hold_defaults(text: &mut usize, params: &[Param]) -> Result<(), NoMemory>
+    requires few { text.old ≤ held_limit }
+    ensures held { OnOk result (text.new ≡ text.old + params_held params.now) }
+    ensures few { OnOk result (text.new ≤ held_limit) }
+    ensures passed { OnErr result (held_limit < text.old + params_held params.now) }
+{
+    for param in params {
+        hold_default(text, param)?;
+    }
+    Ok(())
 }
 
 /// Whether the constants are equal.
@@ -398,7 +421,8 @@ fn param_type_turn(
 impl Known {
     /// Nothing is known before the first line.
     pub fn new(alloc: Global) -> Known
-        ensures { known_of result ≡ header.nothing }
+        ensures nothing { known_of result ≡ header.nothing }
+        ensures counted { IsCounted result }
     {
         Known {
             words: Words::new(alloc),
@@ -669,9 +693,10 @@ impl Known {
         place: u32,
         symbol: Symbol,
     ) -> Result<Turn, HeaderFault>
+        requires few { depth < 4294967295 }
         ensures { Answers (turns.loose_turn (known_of self.now) owner depth place symbol) result }
     {
-        match brackets(depth, &symbol)? {
+        match brackets(depth, &symbol) {
             Some(inside) => Ok(Turn::Goes(Stage::Loose(owner, inside))),
             None => self.loose_end(owner, place, symbol),
         }
@@ -715,6 +740,7 @@ impl Known {
         place: u32,
         symbol: Symbol,
     ) -> Result<Turn, HeaderFault>
+        requires few { depth_of stage < 4294967295 }
         ensures { Answers (turns.turn (known_of self.now) stage place symbol) result }
     {
         match stage {
@@ -741,10 +767,12 @@ impl Known {
     fn declare_function(&mut self, function: Function) -> Result<(), NoMemory>
         requires open { IsOpen (known_of self.old) function }
         requires few { length function.params ≤ parameter_limit }
-        ensures { OnOk result (known_of self.new
+        requires counted { IsCounted self.old }
+        ensures declared { OnOk result (known_of self.new
             ≡ header.after (known_of self.old) (declaration.Function function)) }
+        ensures counted { OnOk result (IsCounted self.new) }
     {
-        hold(&mut self.text, default_bytes(function.params.as_slice()))?;
+        hold_defaults(&mut self.text, function.params.as_slice())?;
         let Function { head, params } = function;
         let role = role_of(head.name.bytes(), head.ty, params.as_slice());
         self.table.push(Routine {
@@ -759,8 +787,10 @@ impl Known {
     fn define(&mut self, head: Declared, value: Const) -> Result<(), NoMemory>
         requires value { IsConstant value }
         requires free { header.constant_fault (known_of self.old) head ≡ None }
-        ensures { OnOk result (known_of self.new
+        requires counted { IsCounted self.old }
+        ensures declared { OnOk result (known_of self.new
             ≡ header.after (known_of self.old) (declaration.Constant head (Some value))) }
+        ensures counted { OnOk result (IsCounted self.new) }
     {
         if self.table.constant(head.name.bytes()).is_some() {
             return Ok(());
@@ -773,8 +803,10 @@ impl Known {
     fn declare_constant(&mut self, head: Declared, value: Option<Const>) -> Result<(), NoMemory>
         requires value { IfSome value IsConstant }
         requires free { header.constant_fault (known_of self.old) head ≡ None }
-        ensures { OnOk result (known_of self.new
+        requires counted { IsCounted self.old }
+        ensures declared { OnOk result (known_of self.new
             ≡ header.after (known_of self.old) (declaration.Constant head value)) }
+        ensures counted { OnOk result (IsCounted self.new) }
     {
         match value {
             Some(value) => self.define(head, value),
@@ -782,10 +814,14 @@ impl Known {
         }
     }
 
-    /// Takes in what a line declares.
+    /// Takes in what a line declares. It fails where memory is refused, or the strings of the table
+    /// pass the budget.
     pub fn declare(&mut self, declared: Declaration) -> Result<(), NoMemory>
-        requires { KeepsDeclaration (known_of self.old) declared }
-        ensures { OnOk result (known_of self.new ≡ header.after (known_of self.old) declared) }
+        requires keeps { KeepsDeclaration (known_of self.old) declared }
+        requires counted { IsCounted self.old }
+        ensures declared { OnOk result
+            (known_of self.new ≡ header.after (known_of self.old) declared) }
+        ensures counted { OnOk result (IsCounted self.new) }
     {
         match declared {
             Declaration::Passed => Ok(()),

@@ -1,4 +1,4 @@
-ghost use Rattle.std.specs.Prelude.{◌≡◌, ◌≤◌, length, MatchOption, IfOk, IfErr, OnOk, Err};
+ghost use Rattle.std.specs.Prelude.{◌≡◌, ◌<◌, ◌≤◌, length, MatchOption, IfOk, IfErr, OnOk, Err};
 ghost use Rattle.nwq_value.specs.Header.{header_text};
 ghost use Rattle.nwq_value.specs.HeaderTable.{header_table};
 ghost use Rattle.nwq_value.specs.Limits.{file_limit};
@@ -8,7 +8,9 @@ ghost use Rattle.nss_lexer.specs.Lexemes.{IsToken};
 ghost use Rattle.nss_lexer.specs.Splitting.{plain};
 ghost use Rattle.engine_table.specs.Symbols.{IsSymbol, at as placed, placed_of};
 ghost use Rattle.engine_table.specs.Headers.{HasTable, IsRefused, IsWithin, nothing};
+ghost use Rattle.engine_table.specs.Held.{IsCounted, held, held_limit};
 ghost use Rattle.engine_table.specs.Turns.{Answers, KeepsStage, KeepsTurn, Leads, Follows};
+ghost use Rattle.engine_table.specs.Turns.{depth_of};
 ghost use Rattle.engine_table.specs.Turns.{HasTokens, HasTokensUpTo, ended, known_of, turn_at};
 
 use crate::fault::HeaderFault;
@@ -34,6 +36,7 @@ impl Reader {
     fn new(alloc: Global) -> Reader
         ensures known { known_of result.known ≡ nothing }
         ensures stage { result.stage ≡ stage.Start }
+        ensures counted { IsCounted result.known }
     {
         Reader {
             known: Known::new(alloc),
@@ -44,7 +47,9 @@ impl Reader {
     /// Goes on by a turn. The old stage is dropped by a call: dropped by the assignment it would be
     /// proved anew here.
     fn go(&mut self, turn: Turn) -> Result<(), NoMemory>
-        requires { KeepsTurn (known_of self.old.known) turn }
+        requires keeps { KeepsTurn (known_of self.old.known) turn }
+        requires counted { IsCounted self.old.known }
+        ensures counted { OnOk result (IsCounted self.new.known) }
         ensures keeps { OnOk result (KeepsStage (known_of self.new.known) self.new.stage) }
         ensures goes { OnOk result (Leads (known_of self.old.known) turn
             (known_of self.new.known) self.new.stage) }
@@ -64,7 +69,10 @@ impl Reader {
     /// Takes one token more.
     fn take(&mut self, alloc: Global, place: u32, symbol: Symbol) -> Result<(), HeaderFault>
         requires keeps { KeepsStage (known_of self.old.known) self.old.stage }
+        requires few { depth_of self.old.stage < 4294967295 }
+        requires counted { IsCounted self.old.known }
         requires bounds { IsSymbol symbol }
+        ensures counted { OnOk result (IsCounted self.new.known) }
         ensures keeps { OnOk result (KeepsStage (known_of self.new.known) self.new.stage) }
         ensures goes { OnOk result (Follows (known_of self.old.known) self.old.stage
             (placed place symbol) (known_of self.new.known) self.new.stage) }
@@ -86,7 +94,10 @@ impl Reader {
     /// Takes one token more, as the grammar sees it.
     fn read(&mut self, alloc: Global, token: &Token<'_>) -> Result<(), HeaderFault>
         requires keeps { KeepsStage (known_of self.old.known) self.old.stage }
+        requires few { depth_of self.old.stage < 4294967295 }
+        requires counted { IsCounted self.old.known }
         requires token { IsToken token.now }
+        ensures counted { OnOk result (IsCounted self.new.known) }
         ensures keeps { OnOk result (KeepsStage (known_of self.new.known) self.new.stage) }
         ensures goes { OnOk result (Follows (known_of self.old.known) self.old.stage
             (placed_of (plain token.now)) (known_of self.new.known) self.new.stage) }
@@ -103,7 +114,9 @@ impl Reader {
 
     /// The table, where no line is left open.
     fn finish(self, end: u32) -> Result<Table, HeaderFault>
-        ensures { result ≡ ended end (known_of self.known) self.stage }
+        requires counted { IsCounted self.known }
+        ensures ended { result ≡ ended end (known_of self.known) self.stage }
+        ensures budget { IfOk result (λ table. held table ≤ held_limit) }
     {
         let Reader { known, stage } = self;
         let is_whole = matches!(&stage, Stage::Start);
@@ -139,6 +152,7 @@ fn first_bad(bytes: &[u8], from: u32) -> Option<u32>
 fn read_lines(alloc: Global, bytes: &[u8]) -> Result<Table, HeaderFault>
     requires size { length bytes.now ≤ file_limit }
     ensures table { IfOk result (HasTable bytes.now) }
+    ensures budget { IfOk result (λ table. held table ≤ held_limit) }
     ensures refused { IfErr result (IsRefused bytes.now) }
 {
     let mut reader = Reader::new(alloc);
@@ -164,10 +178,14 @@ fn read_lines(alloc: Global, bytes: &[u8]) -> Result<Table, HeaderFault>
     }
 }
 
-/// The table of a header's text, or its first fault, with a place within the text.
+/// The table of a header's text, or its first fault, with a place within the text. `NoMemory` comes
+/// where memory is refused, or where the strings of the lines so far have more than 268,435,456
+/// bytes in all.
 pub fn read_header(alloc: Global, bytes: &[u8]) -> Result<Table, HeaderFault>
     requires size { length bytes.now ≤ file_limit }
     ensures table { IfOk result (HasTable bytes.now) }
+    // No table that is read holds more than its budget.
+    ensures budget { IfOk result (λ table. held table ≤ held_limit) }
     ensures refused { IfErr result (IsRefused bytes.now) }
     ensures within { IfErr result (IsWithin (length bytes.now)) }
 {

@@ -3,14 +3,14 @@ use nwq_value::{Const, FILE_BYTES, NoMemory, Param, Role, Table, Ty};
 use std::alloc::Global;
 use std::test::Fail;
 
-/// The fault of a text, or `NoMemory` where it is a header.
-fn fault_of(alloc: Global, text: &[u8]) -> HeaderFault {
+/// Whether a text is a header, or its fault.
+fn judged(alloc: Global, text: &[u8]) -> Result<(), HeaderFault> {
     if text.len() > FILE_BYTES {
-        return HeaderFault::NoMemory;
+        return Err(HeaderFault::NoMemory);
     }
     match read_header(alloc, text) {
-        Ok(_) => HeaderFault::NoMemory,
-        Err(fault) => fault,
+        Ok(_) => Ok(()),
+        Err(fault) => Err(fault),
     }
 }
 
@@ -77,28 +77,28 @@ fn int_of(table: &Table, name: &[u8]) -> Option<i32> {
 #[test]
 fn faults(rt: HostRuntime) -> Result<(), Fail> {
     for (text, want) in [
-        (b"int A(); int A();".as_slice(), HeaderFault::Twice(13)),
-        (b"int A(); int @".as_slice(), HeaderFault::Bad(13)),
-        (b"int A(".as_slice(), HeaderFault::Header(6)),
-        (b"const int A();".as_slice(), HeaderFault::Header(11)),
-        (b"int A = 1.0;".as_slice(), HeaderFault::Header(8)),
-        (b"struct s A();".as_slice(), HeaderFault::Header(0)),
-        (b"int A=1; int A=2;".as_slice(), HeaderFault::Twice(13)),
-        (b"int A=1; float A=2;".as_slice(), HeaderFault::Twice(15)),
-        (b"int A(); int A x".as_slice(), HeaderFault::Header(15)),
-        (b"void f(float x = 1;".as_slice(), HeaderFault::Header(18)),
+        (b"int A(); int A();".as_slice(), Err(HeaderFault::Twice(13))),
+        (b"int A(); int @".as_slice(), Err(HeaderFault::Bad(13))),
+        (b"int A(".as_slice(), Err(HeaderFault::Header(6))),
+        (b"const int A();".as_slice(), Err(HeaderFault::Header(11))),
+        (b"int A = 1.0;".as_slice(), Err(HeaderFault::Header(8))),
+        (b"struct s A();".as_slice(), Err(HeaderFault::Header(0))),
+        (b"int A=1; int A=2;".as_slice(), Err(HeaderFault::Twice(13))),
+        (b"int A=1; float A=2;".as_slice(), Err(HeaderFault::Twice(15))),
+        (b"int A(); int A x".as_slice(), Err(HeaderFault::Header(15))),
+        (b"void f(float x = 1;".as_slice(), Err(HeaderFault::Header(18))),
         (
             b"#define ENGINE_STRUCTURE_1 effect".as_slice(),
-            HeaderFault::Header(27),
+            Err(HeaderFault::Header(27)),
         ),
         (
             b"#define ENGINE_STRUCTURE_0 sql".as_slice(),
-            HeaderFault::Header(27),
+            Err(HeaderFault::Header(27)),
         ),
-        (b" \n\t// none\n".as_slice(), HeaderFault::NoMemory),
-        (b"".as_slice(), HeaderFault::NoMemory),
+        (b" \n\t// none\n".as_slice(), Ok(())),
+        (b"".as_slice(), Ok(())),
     ] {
-        assert_eq!(rt; fault_of(rt.alloc(), text), want, "{text:?}");
+        assert_eq!(rt; judged(rt.alloc(), text), want, "{text:?}");
     }
     Ok(())
 }
@@ -274,14 +274,11 @@ fn with_params(alloc: Global, count: usize) -> Result<Vec<u8>, NoMemory> {
 #[test]
 fn parameters(rt: HostRuntime) -> Result<(), Fail> {
     let whole = with_params(rt.alloc(), 255)?;
-    assert_eq!(rt;
-        fault_of(rt.alloc(), whole.as_slice()),
-        HeaderFault::NoMemory
-    );
+    assert_eq!(rt; judged(rt.alloc(), whole.as_slice()), Ok(()));
     let long = with_params(rt.alloc(), 256)?;
     assert_eq!(rt;
-        fault_of(rt.alloc(), long.as_slice()),
-        HeaderFault::Header(1025)
+        judged(rt.alloc(), long.as_slice()),
+        Err(HeaderFault::Header(1025))
     );
     Ok(())
 }

@@ -4,11 +4,11 @@ use Rattle.engine_table.proofs.reader.read_lines.Goals as goal
 
 pub returns-in-End-clause-table : goal.returns-in-End-clause-table
 returns-in-End-clause-table c =
-    read_all_ok c.args.bytes.now c.loop-reader.at c.loop-reader.reader c.finish.result c.loop-reader.invariant c.in-End.ensures.first c.finish.ensures
+    read_all_ok c.args.bytes.now c.loop-reader.at c.loop-reader.reader c.finish.result c.loop-reader.invariant c.in-End.ensures.first c.finish.ensures.ended
 
 pub returns-in-End-clause-refused : goal.returns-in-End-clause-refused
 returns-in-End-clause-refused c =
-    read_all_err c.args.bytes.now c.loop-reader.at c.loop-reader.reader c.finish.result c.loop-reader.invariant c.in-End.ensures.first c.finish.ensures
+    read_all_err c.args.bytes.now c.loop-reader.at c.loop-reader.reader c.finish.result c.loop-reader.invariant c.in-End.ensures.first c.finish.ensures.ended
 
 pub returns-in-Bad-clause-refused : goal.returns-in-Bad-clause-refused
 returns-in-Bad-clause-refused c =
@@ -27,4 +27,4 @@ returns-in-None-clause-refused c =
 pub loop-reader-preserved : goal.loop-reader-preserved
 loop-reader-preserved c =
     read_more c.args.bytes.now c.loop-reader.at c.loop-reader.reader c.read.new.self (plain c.in-Token.token) c.loop-reader.invariant
-    c.in-Token.ensures.first c.in-Ok.ensures.goes c.in-Ok.ensures.keeps
+    c.in-Token.ensures.first c.in-Ok.ensures.goes c.in-Ok.ensures.keeps c.in-Ok.ensures.counted
