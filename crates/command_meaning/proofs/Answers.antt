@@ -37,7 +37,7 @@ one_type (Struct n) (Some v) h = ap (λ u. u ∷ []) h
 one_type Refused None h = absurd h
 one_type Refused (Some v) h = ap (λ u. u ∷ []) h
 
-can_be_called : (r : Routine) → is_callable r ≡ true → r.role ≢ Uncallable
+pub can_be_called : (r : Routine) → is_callable r ≡ true → r.role ≢ Uncallable
 unfolding is_callable
 can_be_called r h e = off (sym (ap (λ (b : Bool). not b && not (list_any (λ p. is_void p.ty) r.params)) (ap is_uncallable e)) ∙ h)
   where

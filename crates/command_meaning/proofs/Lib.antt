@@ -7,3 +7,5 @@ mod Running
 mod Literals
 mod Gathered
 mod Compiling
+mod CodeEnds
+mod Once

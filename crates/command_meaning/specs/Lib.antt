@@ -3,3 +3,5 @@ pub mod Files
 pub mod Runs
 pub mod Scripts
 pub mod ListedPlays
+pub mod CodeEnds
+pub mod Once

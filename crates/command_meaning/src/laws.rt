@@ -1,21 +1,25 @@
 //! Laws about the work of commands, each the contract of a function that does nothing.
+ghost use Rattle.command_meaning.specs.CodeEnds.{CheckedPlaysHaveNoFault};
 ghost use Rattle.command_meaning.specs.Files.{FilesAreNotRefused, FilesPlayTheirCode};
 ghost use Rattle.command_meaning.specs.ListedPlays.{ListedPlaysEnd, ListedPlaysStop};
 ghost use Rattle.command_meaning.specs.ListedPlays.{ListedTextsAgree};
+ghost use Rattle.command_meaning.specs.Once.{StartsPlayOnce};
 ghost use Rattle.command_meaning.specs.Runs.{EndsAreAnswered, FewStepsEndAsMeant};
 ghost use Rattle.command_meaning.specs.Runs.{StoppedRunsBeginAsMeant, UnstoppedRunsEndAsMeant};
 ghost use Rattle.command_meaning.specs.Scripts.{ScriptsHaveUnits, ScriptsPlayUnits};
 ghost use Rattle.command_meaning.specs.Units.{TablesAnswerInTypes, UnitsAreWellTyped, UnitsPass};
 
+use crate::scene::Scene;
 use command_plays::laws::one_code;
 use emission_laws::{typed_units_fit, units_are_well_stacked};
 use emission_rules::laws::file_is_code;
 use ncs_code::size_laws;
+use ncs_machine::{calls_keep_fits, entries_keep_fits};
 use nss_lexer::laws::values_are_bytes;
 use play_meaning::{code_plays_end, end_texts_agree, source_plays_end, typed_scripts_are_ready};
 use saved_state::Saved;
 use source_laws::entries_stay_alike;
-use stack_rules::tables_type_execute_script;
+use stack_rules::{runs_are_sound, tables_type_execute_script};
 use typed_laws::{entries_are_plain, functions_are_placed, globals_are_fine};
 use typing_laws::laws::typed_units_have_code;
 use world_core::answers_have_types;
@@ -75,6 +79,23 @@ pub fn listed_units_play_alike()
     code_plays_end();
     end_texts_agree();
 }
+
+/// No play of checked files comes to a stack fault: it ends as plays of the world's rules do.
+pub fn checked_plays_have_no_fault()
+    ensures no_fault { CheckedPlaysHaveNoFault }
+{
+    runs_are_sound::<Scene>();
+    calls_keep_fits();
+    entries_keep_fits();
+    answers_have_types::<Saved>();
+    tables_type_execute_script();
+}
+
+/// Where the evaluation of a script's start leaves nothing on the agenda, the play of its source is
+/// that one entry.
+pub fn starts_play_once()
+    ensures once { StartsPlayOnce }
+{}
 
 /// A command answers as its play ends, where it isn't cut.
 pub fn ends_are_answered()

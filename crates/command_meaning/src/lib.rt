@@ -4,15 +4,19 @@
 //! code, and of plays; here they are joined. `specs/Units.antt` says that a typed unit keeps all
 //! that these laws ask, and that its file loads and passes the checker; `specs/Files.antt` that the
 //! play of the file is the play of the unit's code; `specs/Runs.antt` that its text and its answer
-//! are what the source means, where no entry is stopped, and a beginning of it where one is; and
+//! are what the source means, where no entry is stopped, and a beginning of it where one is;
+//! `specs/Once.antt` that a start which leaves nothing due is the only entry of its play;
+//! `specs/CodeEnds.antt` that no play of checked files comes to a stack fault; and
 //! `specs/Scripts.antt` that each script that is compiled has such a unit. The functions of this
 //! crate do nothing: each is a law, whose contract is proved of the definitions. The pages on it
 //! are docs/THEOREMS.md and docs/MEANING.md.
 #![tactic(auto)]
 
 mod laws;
+mod scene;
 
 pub use laws::{
-    ends_are_answered, files_play_their_code, listed_units_play_alike, runs_end_as_meant,
-    scripts_play_units, tables_answer_in_types, units_are_well_typed, units_pass,
+    checked_plays_have_no_fault, ends_are_answered, files_play_their_code, listed_units_play_alike,
+    runs_end_as_meant, scripts_play_units, starts_play_once, tables_answer_in_types,
+    units_are_well_typed, units_pass,
 };

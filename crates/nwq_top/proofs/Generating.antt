@@ -1,5 +1,5 @@
 -- What `generate` does.
-use Rattle.std.proofs.Common.{arith, ◌≡◌, inl, inr, ℕ, zero, suc, List, [], ◌∷◌, ◌++◌, codes, Result, Ok, Err, refl, subst, ap, ◌∙◌}
+use Rattle.std.proofs.Common.{arith, ◌≡◌, inl, inr, ℕ, zero, suc, List, [], ◌∷◌, ◌++◌, map, codes, Result, Ok, Err, refl, subst, ap, ◌∙◌}
 use Rattle.nwq_value.specs.Engine.{EngineTable}
 use Rattle.nwq_value.specs.HeaderTable.{header_table}
 use Rattle.nwq_outside.specs.Outside.{Contents}
@@ -23,6 +23,8 @@ use Rattle.command_play.specs.Games.{plays_plan}
 use Rattle.command_generate.specs.Generated.{SourceFate, Whole, Faulty, IsSourceFate, whole, faulty, source_by, source_compiled, plan_of, made_area, plays_made, checks_made, generates}
 use Rattle.command_meaning.specs.Units.{code_of, IsUnitOf, UnitsPass}
 use Rattle.command_meaning.specs.ListedPlays.{AreUnitsOf}
+use Rattle.command_meaning.specs.CodeEnds.{CheckedPlaysHaveNoFault}
+use Rattle.play_worlds.specs.Worlds.{begun_by}
 use Rattle.command_meaning.specs.Runs.{answer_by, EndsAreAnswered}
 use Rattle.command_meaning.specs.Scripts.{HoldBytes, ScriptsHaveUnits}
 use Rattle.nwq_top.specs.SourcePlans.{PlaysSources, FewStepsPlayAsMeant, UnstoppedPlansPlayAsMeant, StoppedPlansBeginAsMeant, listing_of}
@@ -40,7 +42,7 @@ the_unit header unit h zero l is = let same : record { name = codes "beat"; unit
 the_unit header unit h (suc n) l is = absurd cc
 
 module _ (pass : UnitsPass) (units : ScriptsHaveUnits) (least : LeastIsTheKept) (own : BuiltInIsTable) (sure : SureLoaded) (answered : EndsAreAnswered)
-    (few : FewStepsPlayAsMeant) (unstopped : UnstoppedPlansPlayAsMeant) (ended : StoppedPlansBeginAsMeant) where
+    (few : FewStepsPlayAsMeant) (unstopped : UnstoppedPlansPlayAsMeant) (ended : StoppedPlansBeginAsMeant) (no_fault : CheckedPlaysHaveNoFault) where
   module _ (cell : CellLookup) (n : ℕ) (held : HoldBytes (made_files n)) (c : Contents) (t : List ℕ) (r : Result Finished Status) (c' : Contents) (t' : List ℕ)
       (uncut : IsCut r → ⊥) where
     -- any work may be cut as it begins; so the laws on plans speak of this play
@@ -76,6 +78,8 @@ module _ (pass : UnitsPass) (units : ScriptsHaveUnits) (least : LeastIsTheKept) 
           stopped = λ is.
               let k = ended cell header_table (made_area n) (plan_of n) (beat_of unit) [] c t (Err Memory) c t (as_plan unit h) is in
               record { stopped = k.stopped; begins = k.begins; taken = told.taken; answer = told.answer ∙ ap answer_by is; contents = told.contents };
+          no_fault = no_fault cell header_table (map script_of (beat_of unit)) (plan_of n).limit (plan_of n).entries (plan_of n).until (made_area n) (plan_of n).random
+              (map (begun_by (made_area n)) (plan_of n).events) (plan_of n).version own (h.passes.stacked, tt);
         }
 
     file_comes : (file text : List ℕ) → Does (checks_made cell n file) c t r c' t'

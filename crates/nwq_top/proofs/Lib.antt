@@ -17,3 +17,7 @@ mod Sure
 mod WordLemmas
 mod Usage
 mod WholeMeaning
+mod NoFaults
+mod Cuts
+mod FileCommands
+mod Changes

@@ -59,7 +59,7 @@ not_taken true x y apart = absurd (apart refl)
 not_taken false x y apart = refl
 
 -- what is put under a name leaves every other name what it held
-insert_keeps : (before : Contents) (name bytes other : List ℕ) → other ≢ name → fin_map.get (fin_map.insert before name bytes) other ≡ fin_map.get before other
+pub insert_keeps : (before : Contents) (name bytes other : List ℕ) → other ≢ name → fin_map.get (fin_map.insert before name bytes) other ≡ fin_map.get before other
 insert_keeps before name bytes other apart =
     fin_map.get-insert nat_list_cmp_total before name bytes other
     ∙ not_taken (is_eq (slice_cmp nat_cmp other name)) _ _ (λ same. apart ((bytes_eq-Decides other name).0 (sym (is_eq-slice_cmp other name) ∙ same)))

@@ -10,7 +10,10 @@ use Rattle.command_plays.specs.Scripts.{plays_file}
 use Rattle.nwq_top.specs.WordLaws.{RunsMean, CompilesMean, PlaysMean, GeneratesMean}
 use Rattle.command_words.specs.Words.{Run, Compile, Tree, Check, Disassemble, Assemble, Play, Generate, NoForm, form_of}
 use Rattle.command_run.specs.Runs.{runs_under, runs}
+use Rattle.command_files.specs.CheckLaws.{SureChecks}
+use Rattle.command_files.specs.Laws.{SureCommands}
 use Rattle.nwq_top.specs.Meaning.{Means, WorkMeans}
+use Rattle.nwq_top.proofs.FileCommands.{tree_means, check_means, disassembles_mean, assembles_mean, no_form_means}
 
 -- the parts of a run in a row
 as_parts : (cell : CellLookup) (header script : List ℕ) (c : Contents) (t : List ℕ) (r : Result Finished Status) (c' : Contents) (t' : List ℕ)
@@ -19,17 +22,17 @@ as_parts : (cell : CellLookup) (header script : List ℕ) (c : Contents) (t : Li
 unfolding runs runs_under
 as_parts cell header script c t r c' t' does = does
 
-pub work_means : RunsMean → CompilesMean → PlaysMean → GeneratesMean → WorkMeans
-work_means run compile play generate cell (Run header script) c t r c' t' held whole does =
+pub work_means : SureCommands → SureChecks → RunsMean → CompilesMean → PlaysMean → GeneratesMean → WorkMeans
+work_means files checks run compile play generate cell (Run header script) c t r c' t' held whole does =
     run cell header script c t r c' t' held whole (as_parts cell header script c t r c' t' does)
-work_means run compile play generate cell (Compile header script) c t r c' t' held whole does = compile header script c t r c' t' held whole does
-work_means run compile play generate cell (Tree file) c t r c' t' held whole does = tt
-work_means run compile play generate cell (Check header file) c t r c' t' held whole does = tt
-work_means run compile play generate cell (Disassemble file to) c t r c' t' held whole does = tt
-work_means run compile play generate cell (Assemble file to) c t r c' t' held whole does = tt
-work_means run compile play generate cell (Play header area plan to list) c t r c' t' held whole does = play cell header area plan to c t r c' t' held whole does
-work_means run compile play generate cell (Generate number) c t r c' t' held whole does = λ small. generate cell number c t r c' t' small whole does
-work_means run compile play generate cell NoForm c t r c' t' held whole does = tt
+work_means files checks run compile play generate cell (Compile header script) c t r c' t' held whole does = compile header script c t r c' t' held whole does
+work_means files checks run compile play generate cell (Tree file) c t r c' t' held whole does = tree_means files c t r c' t' whole file does
+work_means files checks run compile play generate cell (Check header file) c t r c' t' held whole does = check_means checks header file c t r c' t' whole does
+work_means files checks run compile play generate cell (Disassemble file to) c t r c' t' held whole does = disassembles_mean files c t r c' t' whole file to does
+work_means files checks run compile play generate cell (Assemble file to) c t r c' t' held whole does = assembles_mean files c t r c' t' whole file to does
+work_means files checks run compile play generate cell (Play header area plan to list) c t r c' t' held whole does = play cell header area plan to c t r c' t' held whole does
+work_means files checks run compile play generate cell (Generate number) c t r c' t' held whole does = λ small. generate cell number c t r c' t' small whole does
+work_means files checks run compile play generate cell NoForm c t r c' t' held whole does = no_form_means c t r c' t' whole does
 
 -- equal words mean the same
 pub same_meaning : (cell : CellLookup) (words all : List (String Global)) (told status : Status) (c c' : Contents) (t t' : List ℕ) → words ≡ all → told ≡ status

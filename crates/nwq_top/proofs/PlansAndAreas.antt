@@ -2,10 +2,8 @@
 use Rattle.std.proofs.Common.{inl, inr, ℕ, List, ◌++◌, Result, Ok, Err, sym, subst, refl}
 use Rattle.nwq_outside.specs.Outside.{Contents}
 use Rattle.gff_tree.specs.Whole.{PlainGff}
-use Rattle.gff_read.specs.Stands.{Stands}
 use Rattle.area_rules.specs.Area.{PlainArea, area_of}
 use Rattle.plan_text.specs.declared.plan.Plan.{Plan}
-use Rattle.command_work.specs.declared.flaw.AreaFlaw.{AreaFlaw}
 use Rattle.command_work.specs.declared.flaw.AreaFlaw.TheVariants as flaw
 use Rattle.command_work.specs.declared.status.Status.{Status}
 use Rattle.command_work.specs.Refusal.{Refusal, BadArea, line_of, status_of}
@@ -19,8 +17,8 @@ use Rattle.play_inputs.specs.Plans as plans
 use Rattle.play_inputs.specs.Plans.{plan_in, plan_named}
 use Rattle.play_inputs.specs.Areas as areas
 use Rattle.play_inputs.specs.Areas.{area_in, area_named, place_flaw}
-use Rattle.nwq_top.specs.Accepting.{ReadsPlan, ReadsArea}
-use Rattle.nwq_top.specs.Refusing.{RefusesPlan, RefusesArea}
+use Rattle.nwq_top.specs.Accepting.{ReadsPlan, ReadsTree, ReadsArea}
+use Rattle.nwq_top.specs.Refusing.{RefusesPlan, RefusesTree, RefusesArea, none}
 use Rattle.nwq_top.specs.Refusing as refusing
 
 -- ---- a plan
@@ -62,42 +60,40 @@ module _ (c : Contents) (t : List ℕ) (name : List ℕ) where
 
 -- ---- a tree
 
-record HasTree (c : Contents) (name : List ℕ) (tree : PlainGff) : Type 0 where
-  bytes : List ℕ
-  read : IsRead c name bytes
-  stands : Stands bytes tree
-
-data RefusesTree (c : Contents) (name : List ℕ) : Refusal → Type 0 where
-  unread : (why : Refusal) → IsUnread c name why → RefusesTree c name why
-  none : (bytes : List ℕ) → IsRead c name bytes → (why : AreaFlaw) → trees.IsTreeFate bytes (trees.Faulty why) → RefusesTree c name (BadArea name why)
-
 module _ (c : Contents) (t : List ℕ) (name : List ℕ) where
-  tree_does : (tree : PlainGff) → HasTree c name tree → Does (tree_named name) c t (Ok tree) c t
+  pub tree_does : (tree : PlainGff) → ReadsTree c name tree → Does (tree_named name) c t (Ok tree) c t
   unfolding tree_named tree_in
   tree_does tree h =
       then_ok (file_named name) (tree_in name) h.bytes c c c t t t (Ok tree) (read_does c t name h.bytes h.read)
       (inr (record { found = trees.Whole tree; is = trees.whole tree h.stands; goes = gives_does tree c t }))
 
+  pub tree_refuses : (why : Refusal) → RefusesTree c name why → Does (tree_named name) c t (Err (status_of why)) c (t ++ line_of why)
+  unfolding tree_named tree_in
+  tree_refuses why (refusing.unread _ is) = then_err (file_named name) (tree_in name) (status_of why) c c t (t ++ line_of why) (unread_does c t name why is)
+  tree_refuses why (none bytes read cause fate) =
+      then_ok (file_named name) (tree_in name) bytes c c c t t (t ++ line_of why) (Err (status_of why)) (read_does c t name bytes read)
+      (inr (record { found = trees.Faulty cause; is = fate; goes = refused_does (BadArea name cause) c t }))
+
   module _ (r : Result PlainGff Status) (c' : Contents) (t' : List ℕ) where
     abbrev TreeComes : Type 0
-    TreeComes = Came (HasTree c name) (RefusesTree c name) c t r c' t'
+    TreeComes = Came (ReadsTree c name) (RefusesTree c name) c t r c' t'
 
     tree_by : (bytes : List ℕ) → IsRead c name bytes → (fate : trees.TreeFate) → trees.IsTreeFate bytes fate → Does (trees.tree_by name fate) c t r c' t' → TreeComes
     tree_by bytes read (trees.Whole tree) (trees.whole _ stands) does =
-        given_comes (HasTree c name) (RefusesTree c name) c t r c' t' tree (record { bytes = bytes; read = read; stands = stands }) does
+        given_comes (ReadsTree c name) (RefusesTree c name) c t r c' t' tree (record { bytes = bytes; read = read; stands = stands }) does
     tree_by bytes read (trees.Faulty why) fate does =
-        refusal_comes (HasTree c name) (RefusesTree c name) c t r c' t' (BadArea name why) (none bytes read why fate) does
+        refusal_comes (ReadsTree c name) (RefusesTree c name) c t r c' t' (BadArea name why) (none bytes read why fate) does
 
     tree_in_comes : (bytes : List ℕ) → IsRead c name bytes → Does (tree_in name bytes) c t r c' t' → TreeComes
     unfolding tree_in
     tree_in_comes bytes read (inl x) = cut x.0
     tree_in_comes bytes read (inr h) = tree_by bytes read h.found h.is h.goes
 
-    tree_comes : Does (tree_named name) c t r c' t' → TreeComes
+    pub tree_comes : Does (tree_named name) c t r c' t' → TreeComes
     unfolding tree_named
     tree_comes does =
-        then_comes (file_named name) (tree_in name) (IsRead c name) (IsUnread c name) (HasTree c name) (RefusesTree c name) c t r c' t'
-        (file_comes c t name) tree_in_comes unread does
+        then_comes (file_named name) (tree_in name) (IsRead c name) (IsUnread c name) (ReadsTree c name) (RefusesTree c name) c t r c' t'
+        (file_comes c t name) tree_in_comes refusing.unread does
 
 -- ---- an area
 
@@ -114,28 +110,25 @@ module _ (c : Contents) (t : List ℕ) (name : List ℕ) where
       }))
 
   pub area_refuses : (why : Refusal) → RefusesArea c name why → Does (area_named name) c t (Err (status_of why)) c (t ++ line_of why)
-  unfolding area_named area_in tree_named tree_in
+  unfolding area_named area_in
   area_refuses why (refusing.unread _ is) =
-      then_err (tree_named name) (area_in name) (status_of why) c c t (t ++ line_of why)
-      (then_err (file_named name) (tree_in name) (status_of why) c c t (t ++ line_of why) (unread_does c t name why is))
+      then_err (tree_named name) (area_in name) (status_of why) c c t (t ++ line_of why) (tree_refuses c t name why (refusing.unread why is))
   area_refuses why (refusing.faulty bytes read cause fate) =
-      then_err (tree_named name) (area_in name) (status_of why) c c t (t ++ line_of why)
-      (then_ok (file_named name) (tree_in name) bytes c c c t t (t ++ line_of why) (Err (status_of why)) (read_does c t name bytes read)
-      (inr (record { found = trees.Faulty cause; is = fate; goes = refused_does (BadArea name cause) c t })))
+      then_err (tree_named name) (area_in name) (status_of why) c c t (t ++ line_of why) (tree_refuses c t name why (none bytes read cause fate))
   area_refuses why (refusing.broken bytes read tree stands place others is) =
       then_ok (tree_named name) (area_in name) tree c c c t t (t ++ line_of why) (Err (status_of why))
       (tree_does c t name tree (record { bytes = bytes; read = read; stands = stands }))
       (inr (record { found = areas.Broken place; is = areas.broken place others is; goes = refused_does (BadArea name (place_flaw place)) c t }))
 
   denied : (why : Refusal) → RefusesTree c name why → RefusesArea c name why
-  denied why (unread _ is) = refusing.unread why is
+  denied why (refusing.unread _ is) = refusing.unread why is
   denied why (none bytes read cause fate) = refusing.faulty bytes read cause fate
 
   module _ (r : Result PlainArea Status) (c' : Contents) (t' : List ℕ) where
     abbrev AreaComes : Type 0
     AreaComes = Came (ReadsArea c name) (RefusesArea c name) c t r c' t'
 
-    area_by : (tree : PlainGff) → HasTree c name tree → (fate : areas.AreaFate) → areas.IsAreaFate tree.top fate → Does (areas.area_by name tree fate) c t r c' t' → AreaComes
+    area_by : (tree : PlainGff) → ReadsTree c name tree → (fate : areas.AreaFate) → areas.IsAreaFate tree.top fate → Does (areas.area_by name tree fate) c t r c' t' → AreaComes
     area_by tree h areas.Whole (areas.whole unbroken) does =
         given_comes (ReadsArea c name) (RefusesArea c name) c t r c' t' (area_of tree)
         (record { bytes = h.bytes; read = h.read; tree = tree; stands = h.stands; whole = unbroken; is = refl }) does
@@ -143,7 +136,7 @@ module _ (c : Contents) (t : List ℕ) (name : List ℕ) where
         refusal_comes (ReadsArea c name) (RefusesArea c name) c t r c' t' (BadArea name (place_flaw place))
         (refusing.broken h.bytes h.read tree h.stands place others is) does
 
-    area_in_comes : (tree : PlainGff) → HasTree c name tree → Does (area_in name tree) c t r c' t' → AreaComes
+    area_in_comes : (tree : PlainGff) → ReadsTree c name tree → Does (area_in name tree) c t r c' t' → AreaComes
     unfolding area_in
     area_in_comes tree h (inl x) = cut x.0
     area_in_comes tree h (inr k) = area_by tree h k.found k.is k.goes
@@ -151,5 +144,5 @@ module _ (c : Contents) (t : List ℕ) (name : List ℕ) where
     pub area_comes : Does (area_named name) c t r c' t' → AreaComes
     unfolding area_named
     area_comes does =
-        then_comes (tree_named name) (area_in name) (HasTree c name) (RefusesTree c name) (ReadsArea c name) (RefusesArea c name) c t r c' t'
+        then_comes (tree_named name) (area_in name) (ReadsTree c name) (RefusesTree c name) (ReadsArea c name) (RefusesArea c name) c t r c' t'
         (tree_comes c t name) area_in_comes denied does

@@ -37,6 +37,8 @@ use Rattle.command_play.specs.Games.{ends_by, plays_plan, plays_area, plays_scri
 use Rattle.command_play.specs.Laws.{SurePlays}
 use Rattle.command_meaning.specs.Units.{UnitsPass}
 use Rattle.command_meaning.specs.Scripts.{ScriptsHaveUnits}
+use Rattle.command_meaning.specs.CodeEnds.{CheckedPlaysHaveNoFault}
+use Rattle.play_worlds.specs.Worlds.{begun_by}
 use Rattle.nwq_top.specs.SourcePlans.{listing_of, source_plan_played, code_plan_played, PlaysSources, FewStepsPlayAsMeant, UnstoppedPlansPlayAsMeant, StoppedPlansBeginAsMeant}
 use Rattle.nwq_top.specs.Accepting.{HasHeader, ReadsPlan, ReadsArea}
 use Rattle.nwq_top.specs.Accepting as accepting
@@ -47,6 +49,7 @@ use Rattle.nwq_top.proofs.Headers.{header_does, header_refuses, header_comes, is
 use Rattle.nwq_top.proofs.PlansAndAreas.{plan_does, plan_refuses, plan_comes, area_does, area_refuses, area_comes}
 use Rattle.nwq_top.proofs.Listing.{scripts_do, scripts_refuse, Listings, all_listed, one_refused, scripts_come, are_scripts}
 use Rattle.nwq_top.proofs.ListedUnits.{listed_units}
+use Rattle.nwq_top.proofs.NoFaults.{lines_are_stacked}
 use Rattle.nwq_top.proofs.Running.{not_stopped, source_bytes, as_refused}
 
 module _ (pass : UnitsPass) (units : ScriptsHaveUnits) (least : LeastIsTheKept) (reads : HeadersHaveTables) (own : BuiltInIsTable)
@@ -183,7 +186,7 @@ module _ (pass : UnitsPass) (units : ScriptsHaveUnits) (least : LeastIsTheKept) 
   play_done to s count p bytes StoppedInside c t r c' t' same file whole does = absurd cc
   play_done to s count p bytes Paused c t r c' t' same file whole does = absurd cc
 
-  module _ (few : FewStepsPlayAsMeant) (unstopped : UnstoppedPlansPlayAsMeant) (stopped : StoppedPlansBeginAsMeant) where
+  module _ (few : FewStepsPlayAsMeant) (unstopped : UnstoppedPlansPlayAsMeant) (stopped : StoppedPlansBeginAsMeant) (no_fault : CheckedPlaysHaveNoFault) where
     sources_mean : (cell : CellLookup) (header area plan to : List ℕ) (c : Contents) (t : List ℕ) (r : Result Finished Status) (c' : Contents) (t' : List ℕ)
         → AreBytes c → (IsCut r → ⊥) → Does (plays cell header area plan to) c t r c' t'
         → (table : EngineTable) (p : Plan) (listed : List Listed) (a : PlainArea) (left : Contents)
@@ -212,5 +215,8 @@ module _ (pass : UnitsPass) (units : ScriptsHaveUnits) (least : LeastIsTheKept) 
       comes = play_comes cell header area plan to c t r c' t' held whole does;
       refused = λ why left is. play_refused cell header area plan to c t r c' t' held whole why left is does;
       played = λ table p scripts a left h. play_goes cell header area plan to c t r c' t' held whole table p scripts a left h does;
+      no_fault = λ table p scripts a left h.
+          no_fault cell table scripts p.limit p.entries p.until a p.random (map (begun_by a) p.events) p.version
+          (is_table reads own c header table held h.has_header) (lines_are_stacked table p.scripts c left scripts h.lists);
       meant = sources_mean cell header area plan to c t r c' t' held whole does;
     }

@@ -1,5 +1,5 @@
 -- What `run` and `compile` do.
-use Rattle.std.proofs.Common.{◌≡◌, inl, inr, ℕ, List, ◌++◌, length, Result, Err, sym, ap, ◌∙◌}
+use Rattle.std.proofs.Common.{◌≡◌, inl, inr, ℕ, List, [], ◌∷◌, ◌++◌, length, Result, Err, sym, ap, ◌∙◌}
 use Rattle.nwq_value.specs.Engine.{EngineTable, IsTable}
 use Rattle.nwq_outside.specs.Outside.{Contents, AreBytes}
 use Rattle.nss_include.specs.Names.{file_name}
@@ -22,8 +22,14 @@ use Rattle.command_compile.specs.Laws.{SureCompiled}
 use Rattle.command_plays.specs.Scripts.{plays_file}
 use Rattle.command_files.specs.CheckLaws.{SureLoaded}
 use Rattle.command_plays.specs.Laws.{SurePlays}
-use Rattle.command_meaning.specs.Units.{UnitsPass}
+use Rattle.command_meaning.specs.Units.{code_of, UnitsPass}
 use Rattle.command_meaning.specs.Files.{PlaysFile}
+use Rattle.command_meaning.specs.CodeEnds.{CheckedPlaysHaveNoFault}
+use Rattle.command_meaning.specs.Once.{StartsPlayOnce}
+use Rattle.area_rules.specs.Area.{empty_area}
+use Rattle.play_worlds.specs.Worlds.{start_of}
+use Rattle.command_plays.specs.Scripts.{listed}
+use Rattle.nwq_value.specs.Limits.{default_instruction_limit, default_entry_limit, default_until}
 use Rattle.world_rules.specs.Plays.{Done, StoppedInside}
 use Rattle.command_meaning.specs.Runs.{answer_by, FewStepsEndAsMeant, UnstoppedRunsEndAsMeant, StoppedRunsBeginAsMeant}
 use Rattle.command_meaning.specs.Scripts.{HoldBytes, ScriptsHaveUnits}
@@ -102,7 +108,8 @@ module _ (pass : UnitsPass) (units : ScriptsHaveUnits) (least : LeastIsTheKept) 
 
   -- ---- run
 
-  module _ (plays : SurePlays) (few : FewStepsEndAsMeant) (unstopped : UnstoppedRunsEndAsMeant) (stopped : StoppedRunsBeginAsMeant) where
+  module _ (plays : SurePlays) (few : FewStepsEndAsMeant) (unstopped : UnstoppedRunsEndAsMeant) (stopped : StoppedRunsBeginAsMeant) (once : StartsPlayOnce)
+      (no_fault : CheckedPlaysHaveNoFault) where
     pub runs_mean : RunsMean
     runs_mean cell header script c t r c' t' held whole does =
         let each : (table : EngineTable) (bytes : List ℕ) → IsSure (plays_file cell table script (code_name script) bytes) = λ table. plays cell table script (code_name script) in
@@ -123,6 +130,9 @@ module _ (pass : UnitsPass) (units : ScriptsHaveUnits) (least : LeastIsTheKept) 
                 complete = λ done. let told = few cell table script unit c t r c' t' file whole (λ stopped. not_stopped (sym done ∙ stopped)) in told.answer ∙ ap answer_by done;
                 unstopped = unstopped cell table script unit c t r c' t' file whole;
                 stopped = stopped cell table script unit c t r c' t' file whole;
+                once = once cell table script unit;
+                no_fault = no_fault cell table (listed script (code_of unit)) default_instruction_limit default_entry_limit default_until empty_area [] (start_of script ∷ []) 2
+                    kept (h.compiles.passes.stacked, tt);
               };
         }
 

@@ -14,9 +14,8 @@ use Rattle.typing_rules.specs.Verdicts.{unit_faults}
 use Rattle.typing_laws.specs.FaultLaws.{OneLeastFault, LeastIsTheKept}
 use Rattle.emission_rules.specs.Units.{unit_file}
 use Rattle.ncs_code.specs.Plain.{PlainOp}
-use Rattle.ncs_code.specs.File.{IsCode, file_bytes}
+use Rattle.ncs_code.specs.File.{file_bytes}
 use Rattle.command_work.specs.declared.cause.Cause.TheVariants as cause
-use Rattle.command_work.specs.declared.flaw.CodeFlaw.{CodeFlaw}
 use Rattle.command_work.specs.declared.flaw.CodeFlaw.TheVariants as code_flaw
 use Rattle.command_work.specs.declared.status.Status.{Status}
 use Rattle.command_work.specs.Refusal.{Refusal, Absent, TooLong, BadCode, line_of, status_of}
@@ -35,8 +34,8 @@ use Rattle.command_compile.specs.Typings.{cause_of, TypingFate, IsTypingFate, ty
 use Rattle.command_compile.specs.Typings as typing
 use Rattle.command_compile.specs.Files.{file_by, file_in, compiled_in, compiled_named}
 use Rattle.command_meaning.specs.Scripts.{IsScript}
-use Rattle.nwq_top.specs.Accepting.{HasCode}
-use Rattle.nwq_top.specs.Refusing.{RefusesSource, lacks, exceeds, faulty, untyped, large, RefusesBinary}
+use Rattle.nwq_top.specs.Accepting.{HasCode, ReadsCode}
+use Rattle.nwq_top.specs.Refusing.{RefusesSource, lacks, exceeds, faulty, untyped, large, RefusesBinary, RefusesCode, broken}
 use Rattle.nwq_top.specs.Refusing as refusing
 use Rattle.nwq_top.specs.WordLaws.{OneFaultRefuses}
 
@@ -165,42 +164,39 @@ module _ (header : EngineTable) (c : Contents) (t : List ℕ) (name : List ℕ) 
 
 -- ---- a file of bytecode
 
--- it has these instructions
-record HasOps (c : Contents) (name : List ℕ) (ops : List PlainOp) : Type 0 where
-  read : IsRead c name (file_bytes ops)
-  code : IsCode ops
-
--- why it has none
-data RefusesOps (c : Contents) (name : List ℕ) : Refusal → Type 0 where
-  unread : (why : Refusal) → IsUnread c name why → RefusesOps c name why
-  broken : (bytes : List ℕ) → IsRead c name bytes → (why : CodeFlaw) → code.IsCodeFate bytes (code.Faulty why) → RefusesOps c name (BadCode name why)
-
 module _ (c : Contents) (t : List ℕ) (name : List ℕ) where
-  ops_do : (ops : List PlainOp) → HasOps c name ops → Does (code_named name) c t (Ok ops) c t
+  pub ops_do : (ops : List PlainOp) → ReadsCode c name ops → Does (code_named name) c t (Ok ops) c t
   unfolding code_named code_in
   ops_do ops h =
       then_ok (file_named name) (code_in name) (file_bytes ops) c c c t t t (Ok ops) (read_does c t name (file_bytes ops) h.read)
       (inr (record { found = code.Whole ops; is = code.whole ops h.code refl; goes = gives_does ops c t }))
 
+  pub ops_refuse : (why : Refusal) → RefusesCode c name why → Does (code_named name) c t (Err (status_of why)) c (t ++ line_of why)
+  unfolding code_named code_in
+  ops_refuse why (refusing.unread _ is) = then_err (file_named name) (code_in name) (status_of why) c c t (t ++ line_of why) (unread_does c t name why is)
+  ops_refuse why (broken bytes is flaw fate) =
+      then_ok (file_named name) (code_in name) bytes c c c t t (t ++ line_of why) (Err (status_of why)) (read_does c t name bytes is)
+      (inr (record { found = code.Faulty flaw; is = fate; goes = refused_does (BadCode name flaw) c t }))
+
   module _ (r : Result (List PlainOp) Status) (c' : Contents) (t' : List ℕ) where
     abbrev OpsCome : Type 0
-    OpsCome = Came (HasOps c name) (RefusesOps c name) c t r c' t'
+    OpsCome = Came (ReadsCode c name) (RefusesCode c name) c t r c' t'
 
     ops_by : (bytes : List ℕ) → IsRead c name bytes → (fate : code.CodeFate) → code.IsCodeFate bytes fate → Does (code.code_by name fate) c t r c' t' → OpsCome
     ops_by bytes is (code.Whole ops) (code.whole _ whole same) does =
-        given_comes (HasOps c name) (RefusesOps c name) c t r c' t' ops (record { read = subst (IsRead c name) same is; code = whole }) does
+        given_comes (ReadsCode c name) (RefusesCode c name) c t r c' t' ops (record { read = subst (IsRead c name) same is; code = whole }) does
     ops_by bytes is (code.Faulty why) fate does =
-        refusal_comes (HasOps c name) (RefusesOps c name) c t r c' t' (BadCode name why) (broken bytes is why fate) does
+        refusal_comes (ReadsCode c name) (RefusesCode c name) c t r c' t' (BadCode name why) (broken bytes is why fate) does
 
     ops_in : (bytes : List ℕ) → IsRead c name bytes → Does (code_in name bytes) c t r c' t' → OpsCome
     unfolding code_in
     ops_in bytes is (inl x) = cut x.0
     ops_in bytes is (inr h) = ops_by bytes is h.found h.is h.goes
 
-    ops_come : Does (code_named name) c t r c' t' → OpsCome
+    pub ops_come : Does (code_named name) c t r c' t' → OpsCome
     unfolding code_named
     ops_come does =
-        then_comes (file_named name) (code_in name) (IsRead c name) (IsUnread c name) (HasOps c name) (RefusesOps c name) c t r c' t' (file_comes c t name) ops_in unread does
+        then_comes (file_named name) (code_in name) (IsRead c name) (IsUnread c name) (ReadsCode c name) (RefusesCode c name) c t r c' t' (file_comes c t name) ops_in refusing.unread does
 
 module _ (header : EngineTable) (c : Contents) (t : List ℕ) (name : List ℕ) where
   pub binary_does : (ops : List PlainOp) → HasCode header c name ops → Does (checked_named header name) c t (Ok ops) c t
@@ -210,34 +206,31 @@ module _ (header : EngineTable) (c : Contents) (t : List ℕ) (name : List ℕ) 
       (inr (record { found = check.Passes; is = check.passes h.stacked; goes = gives_does ops c t }))
 
   pub binary_refuses : (why : Refusal) → RefusesBinary header c name why → Does (checked_named header name) c t (Err (status_of why)) c (t ++ line_of why)
-  unfolding checked_named checked_in code_named code_in
+  unfolding checked_named checked_in
   binary_refuses why (refusing.unread _ is) =
-      then_err (code_named name) (checked_in header name) (status_of why) c c t (t ++ line_of why)
-      (then_err (file_named name) (code_in name) (status_of why) c c t (t ++ line_of why) (unread_does c t name why is))
+      then_err (code_named name) (checked_in header name) (status_of why) c c t (t ++ line_of why) (ops_refuse c t name why (refusing.unread why is))
   binary_refuses why (refusing.faulty bytes is flaw fate) =
-      then_err (code_named name) (checked_in header name) (status_of why) c c t (t ++ line_of why)
-      (then_ok (file_named name) (code_in name) bytes c c c t t (t ++ line_of why) (Err (status_of why)) (read_does c t name bytes is)
-      (inr (record { found = code.Faulty flaw; is = fate; goes = refused_does (BadCode name flaw) c t })))
+      then_err (code_named name) (checked_in header name) (status_of why) c c t (t ++ line_of why) (ops_refuse c t name why (broken bytes is flaw fate))
   binary_refuses why (refusing.unstacked ops is whole none) =
       then_ok (code_named name) (checked_in header name) ops c c c t t (t ++ line_of why) (Err (status_of why)) (ops_do c t name ops (record { read = is; code = whole }))
       (inr (record { found = check.Unstacked; is = check.unstacked none; goes = refused_does (BadCode name code_flaw.Unstacked) c t }))
 
-  denied : (why : Refusal) → RefusesOps c name why → RefusesBinary header c name why
-  denied why (unread _ is) = refusing.unread why is
+  denied : (why : Refusal) → RefusesCode c name why → RefusesBinary header c name why
+  denied why (refusing.unread _ is) = refusing.unread why is
   denied why (broken bytes is flaw fate) = refusing.faulty bytes is flaw fate
 
   module _ (r : Result (List PlainOp) Status) (c' : Contents) (t' : List ℕ) where
     abbrev BinaryComes : Type 0
     BinaryComes = Came (HasCode header c name) (RefusesBinary header c name) c t r c' t'
 
-    check_comes : (ops : List PlainOp) → HasOps c name ops → (fate : CheckFate) → IsCheckFate header ops fate → Does (check_by name ops fate) c t r c' t' → BinaryComes
+    check_comes : (ops : List PlainOp) → ReadsCode c name ops → (fate : CheckFate) → IsCheckFate header ops fate → Does (check_by name ops fate) c t r c' t' → BinaryComes
     check_comes ops h check.Passes (check.passes stacked) does =
         given_comes (HasCode header c name) (RefusesBinary header c name) c t r c' t' ops (record { read = h.read; code = h.code; stacked = stacked }) does
     check_comes ops h check.Unstacked (check.unstacked none) does =
         refusal_comes (HasCode header c name) (RefusesBinary header c name) c t r c' t' (BadCode name code_flaw.Unstacked)
         (refusing.unstacked ops h.read h.code none) does
 
-    checked_comes : (ops : List PlainOp) → HasOps c name ops → Does (checked_in header name ops) c t r c' t' → BinaryComes
+    checked_comes : (ops : List PlainOp) → ReadsCode c name ops → Does (checked_in header name ops) c t r c' t' → BinaryComes
     unfolding checked_in
     checked_comes ops h (inl x) = cut x.0
     checked_comes ops h (inr k) = check_comes ops h k.found k.is k.goes
@@ -245,5 +238,5 @@ module _ (header : EngineTable) (c : Contents) (t : List ℕ) (name : List ℕ) 
     pub binary_comes : Does (checked_named header name) c t r c' t' → BinaryComes
     unfolding checked_named
     binary_comes does =
-        then_comes (code_named name) (checked_in header name) (HasOps c name) (RefusesOps c name) (HasCode header c name) (RefusesBinary header c name) c t r c' t'
+        then_comes (code_named name) (checked_in header name) (ReadsCode c name) (RefusesCode c name) (HasCode header c name) (RefusesBinary header c name) c t r c' t'
         (ops_come c t name) checked_comes denied does

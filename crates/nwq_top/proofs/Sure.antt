@@ -15,7 +15,7 @@ use Rattle.nwq_top.specs.Command.{work_of, work_with, whole_work}
 use Rattle.nwq_top.specs.Laws.{OneOutcome, Prefixes, OneWhole, WholePrefixes}
 
 module _ (files : SureCommands) (checks : SureChecks) (compiled : SureCompiles) (ran : SureRuns) (games : SureGames) (made : SureGenerated) where
-  sure_work : (cell : CellLookup) (form : Form) → IsSure (work_of cell form)
+  pub sure_work : (cell : CellLookup) (form : Form) → IsSure (work_of cell form)
   sure_work cell (Run header script) = ran cell header script
   sure_work cell (Compile header script) = compiled header script
   sure_work cell (Tree file) = files.tree file
@@ -32,7 +32,7 @@ module _ (files : SureCommands) (checks : SureChecks) (compiled : SureCompiles) 
   pub all_prefixes : Prefixes
   all_prefixes cell form r s c d e t u v = prefixes (work_of cell form) (sure_work cell form) r s c d e t u v
 
-  sure_whole : (given : SureGiven) (form : Form) → IsSure (whole_work form)
+  pub sure_whole : (given : SureGiven) (form : Form) → IsSure (whole_work form)
   unfolding whole_work
   sure_whole given form = sure_then (tables_given (list_of form)) (work_with form) (given (list_of form)) (λ ts. sure_work (cell_of ts) form)
 

@@ -1,4 +1,4 @@
--- What a command accepts, by what the files hold: headers, scripts, plans and areas.
+-- What a command accepts, by what the files hold: headers, scripts, binaries, assembler texts, plans, trees and areas.
 use Rattle.std.specs.Prelude.{◌≡◌, ◌≤◌, ℕ, true, false, List, [], ◌∷◌, length, codes, bytes_eq}
 use Rattle.std.specs.FinMap as fin_map
 use Rattle.nwq_value.specs.Limits.{file_limit}
@@ -11,6 +11,7 @@ use Rattle.typing_rules.specs.Typed.{TypedUnit}
 use Rattle.emission_rules.specs.Units.{unit_file}
 use Rattle.ncs_code.specs.Plain.{PlainOp}
 use Rattle.ncs_code.specs.File.{IsCode, file_bytes}
+use Rattle.ncs_text.specs.Assembly.{IsAssembled}
 use Rattle.stack_rules.specs.Rules.{WellStacked}
 use Rattle.gff_tree.specs.Whole.{PlainGff}
 use Rattle.gff_read.specs.Stands.{Stands}
@@ -42,6 +43,17 @@ pub record Compiles (header : EngineTable) (c : Contents) (name : List ℕ) (uni
   pub script : IsScript header c name unit
   pub small : length (unit_file unit) ≤ file_limit
   pub passes : Passes header unit
+
+-- the file of this name is that of these instructions
+pub record ReadsCode (c : Contents) (name : List ℕ) (ops : List PlainOp) : Type 0 where
+  pub read : IsRead c name (file_bytes ops)
+  pub code : IsCode ops
+
+-- the assembler text of this name stands for this file
+pub record ReadsAssembly (c : Contents) (name file : List ℕ) : Type 0 where
+  pub text : List ℕ
+  pub read : IsRead c name text
+  pub is : IsAssembled text file
 
 -- the file of bytecode of this name has these instructions, and passes the stack checker
 pub record HasCode (header : EngineTable) (c : Contents) (name : List ℕ) (ops : List PlainOp) : Type 0 where
@@ -79,6 +91,12 @@ pub record ReadsPlan (c : Contents) (name : List ℕ) (plan : Plan) : Type 0 whe
   pub bytes : List ℕ
   pub read : IsRead c name bytes
   pub is : HasPlan bytes plan
+
+-- the GFF file of this name stands for this tree
+pub record ReadsTree (c : Contents) (name : List ℕ) (tree : PlainGff) : Type 0 where
+  pub bytes : List ℕ
+  pub read : IsRead c name bytes
+  pub stands : Stands bytes tree
 
 -- the GFF file of this name stands for a tree that breaks no rule of areas, and has this area
 pub record ReadsArea (c : Contents) (name : List ℕ) (area : PlainArea) : Type 0 where

@@ -1,5 +1,5 @@
 -- What the words `generate N` mean.
-use Rattle.std.specs.Prelude.{◌≡◌, ◌≢◌, ◌≤◌, ℕ, ◌*◌, List, [], ◌∷◌, ◌++◌, codes, Result, Err}
+use Rattle.std.specs.Prelude.{◌≡◌, ◌≢◌, ◌≤◌, ℕ, ◌*◌, List, [], ◌∷◌, ◌++◌, map, codes, Result, Err}
 use Rattle.nwq_value.specs.HeaderTable.{header_table}
 use Rattle.nwq_outside.specs.Outside.{Contents}
 use Rattle.typing_rules.specs.Typed.{TypedUnit}
@@ -23,6 +23,7 @@ use Rattle.command_work.specs.Work.{Finished}
 use Rattle.command_plays.specs.Plays.{host_of}
 use Rattle.play_worlds.specs.Worlds.{plan_world}
 use Rattle.command_generate.specs.Generated.{files_with, made_line, summary, plan_of, made_area}
+use Rattle.command_meaning.specs.CodeEnds.{EndsWithoutFault}
 use Rattle.command_meaning.specs.Runs.{answer_by}
 use Rattle.nwq_top.specs.SourcePlans.{listing_of, source_plan_played, code_plan_played}
 use Rattle.nwq_top.specs.Accepting.{Compiles}
@@ -80,6 +81,9 @@ pub record MeansMade (cell : CellLookup) (n : ℕ) (unit : TypedUnit) (c : Conte
       → TellsMade n (listing_of cell header_table (beat_of unit)) (code_made cell n unit) (source_made cell n unit (plan_of n).limit) c t r c' t'
   -- where one was
   pub stopped : (code_made cell n unit).ending ≡ StoppedInside → TellsMadeBeginning cell n unit c t r c' t'
+  -- the play of the code comes to no stack fault
+  pub no_fault : EndsWithoutFault (host_of cell header_table (map script_of (beat_of unit))) (plan_of n).limit (plan_of n).entries (plan_of n).until
+      (plan_world (made_area n) (plan_of n))
 
 -- the line of the source's refusal was put
 pub record IsRefusedMade (why : Refusal) (c : Contents) (t : List ℕ) (r : Result Finished Status) (c' : Contents) (t' : List ℕ) : Type 0 where

@@ -6,7 +6,10 @@ use Rattle.command_work.specs.declared.status.Status.{Status}
 use Rattle.command_work.specs.Work.{IsCut, Does, Finished}
 use Rattle.command_work.specs.Outcomes.{Agrees, IsPrefix}
 use Rattle.command_words.specs.Words.{Form}
-use Rattle.nwq_top.specs.Command.{work_of, whole_work}
+use Rattle.command_work.specs.Counts.{KeepsBut}
+use Rattle.nwq_top.specs.Command.{MayWrite, work_of, whole_work}
+use Rattle.nwq_top.specs.Changes.{MayChange}
+use Rattle.nwq_top.specs.Cuts.{IsFrontOf}
 
 -- What a command does by the files and the bytes taken, where it isn't cut, is one thing: its answer, what it leaves, what it puts.
 abbrev pub OneOutcome : Type 0
@@ -26,3 +29,17 @@ OneWhole = (form : Form) (r s : Result Finished Status) (c d e : Contents) (t u 
 abbrev pub WholePrefixes : Type 0
 WholePrefixes = (form : Form) (r s : Result Finished Status) (c d e : Contents) (t u v : List ℕ) → (IsCut s → ⊥)
     → Does (whole_work form) c t r d u → Does (whole_work form) c t s e v → IsPrefix u v
+
+-- What a command puts and leaves, cut or not, is a front of what it puts and leaves where it isn't cut.
+abbrev pub CutsLeaveFronts : Type 0
+CutsLeaveFronts = (cell : CellLookup) (form : Form) (r : Result Finished Status) (c c' : Contents) (t t' : List ℕ)
+    → Does (work_of cell form) c t r c' t' → IsFrontOf (work_of cell form) c t c' t'
+
+abbrev pub WholeCutsLeaveFronts : Type 0
+WholeCutsLeaveFronts = (form : Form) (r : Result Finished Status) (c c' : Contents) (t t' : List ℕ)
+    → Does (whole_work form) c t r c' t' → IsFrontOf (whole_work form) c t c' t'
+
+-- A command that keeps the names which it may not write changes no more than its end allows.
+abbrev pub NamesChange : Type 0
+NamesChange = (cell : CellLookup) (form : Form) (r : Result Finished Status) (c c' : Contents) (t t' : List ℕ)
+    → KeepsBut (MayWrite form) c c' → Does (work_of cell form) c t r c' t' → KeepsBut (MayChange form c r) c c'

@@ -5,10 +5,13 @@ pub mod SourcePlans
 pub mod Runs
 pub mod Plays
 pub mod Generated
+pub mod FileCommands
 pub mod WordLaws
 pub mod Command
 pub mod Endings
 pub mod Program
+pub mod Cuts
+pub mod Changes
 pub mod Laws
 pub mod GivenTables
 pub mod Meaning

@@ -12,22 +12,24 @@ use Rattle.nwq_top.specs.Refusing.{IsRefused}
 use Rattle.nwq_top.specs.Runs.{MeansRun, MeansCompile}
 use Rattle.nwq_top.specs.Plays.{MeansPlay}
 use Rattle.nwq_top.specs.Generated.{MeansGenerate}
+use Rattle.nwq_top.specs.FileCommands.{MeansTree, MeansCheck, MeansDisassemble, MeansAssemble}
+use Rattle.command_work.specs.Refusal as refusal
 use Rattle.command_words.specs.Words.{Form, Run, Compile, Tree, Check, Disassemble, Assemble, Play, Generate, NoForm, list_of}
 use Rattle.nwq_top.specs.Command.{work_of, whole_work}
 use Rattle.nwq_top.specs.GivenTables.{GivesTables, RefusesGiven, TablesCome}
 
--- What a command that has source texts does, from what the files hold and the bytes taken to those after it: in the words of the language,
--- where cells of tables are looked up so. The other forms have no source text.
+-- What a command does, from what the files hold and the bytes taken to those after it: in the words of the language, of trees, tables of
+-- shapes and listings, where cells of tables are looked up so.
 abbrev pub Means : CellLookup → Form → Contents → List ℕ → Result Finished Status → Contents → List ℕ → Type 0
 Means cell (Run header script) c t r c' t' = MeansRun cell header script c t r c' t'
 Means cell (Compile header script) c t r c' t' = MeansCompile header script c t r c' t'
-Means cell (Tree file) c t r c' t' = Unit {0}
-Means cell (Check header file) c t r c' t' = Unit {0}
-Means cell (Disassemble file to) c t r c' t' = Unit {0}
-Means cell (Assemble file to) c t r c' t' = Unit {0}
+Means cell (Tree file) c t r c' t' = MeansTree file c t r c' t'
+Means cell (Check header file) c t r c' t' = MeansCheck header file c t r c' t'
+Means cell (Disassemble file to) c t r c' t' = MeansDisassemble file to c t r c' t'
+Means cell (Assemble file to) c t r c' t' = MeansAssemble file to c t r c' t'
 Means cell (Play header area plan to list) c t r c' t' = MeansPlay cell header area plan to c t r c' t'
 Means cell (Generate number) c t r c' t' = number ≤ number_limit → MeansGenerate cell number c t r c' t'
-Means cell NoForm c t r c' t' = Unit {0}
+Means cell NoForm c t r c' t' = IsRefused refusal.NoForm c t r c' t'
 
 -- whatever does the work of words does what they mean, where the files hold bytes, unless a failed call or want of memory cut it
 abbrev pub WorkMeans : Type 0

@@ -15,6 +15,9 @@ use Rattle.play_meaning.specs.EndTexts.{source_end_text}
 use Rattle.source_meaning.specs.Evaluation.{Deferred}
 use Rattle.source_meaning.specs.Scripts.{Listed, Setting}
 use Rattle.source_laws.specs.Ledger.{step_cost}
+use Rattle.play_worlds.specs.Worlds.{plan_world}
+use Rattle.command_plays.specs.Plays.{host_of}
+use Rattle.command_meaning.specs.CodeEnds.{EndsWithoutFault}
 use Rattle.command_work.specs.declared.status.Status.{Status}
 use Rattle.command_work.specs.Refusal.{Refusal}
 use Rattle.command_work.specs.Work.{Finished, Does}
@@ -85,8 +88,10 @@ pub record MeansSources (cell : CellLookup) (table : EngineTable) (a : PlainArea
 pub record MeansPlay (cell : CellLookup) (header area plan to : List ℕ) (c : Contents) (t : List ℕ) (r : Result Finished Status) (c' : Contents) (t' : List ℕ) : Type 0 where
   pub comes : PlayComes header area plan c
   pub refused : (why : Refusal) (left : Contents) → RefusesPlay header area plan c why left → IsRefused why left t r c' t'
-  -- binaries may be listed too
+  -- binaries may be listed too; the play comes to no stack fault
   pub played : (table : EngineTable) (p : Plan) (scripts : List Script) (a : PlainArea) (left : Contents)
       → AcceptsPlay header area plan c table p scripts a left → Does (plays_plan cell table a p scripts to) left t r c' t'
+  pub no_fault : (table : EngineTable) (p : Plan) (scripts : List Script) (a : PlainArea) (left : Contents)
+      → AcceptsPlay header area plan c table p scripts a left → EndsWithoutFault (host_of cell table scripts) p.limit p.entries p.until (plan_world a p)
   pub meant : (table : EngineTable) (p : Plan) (listed : List Listed) (a : PlainArea) (left : Contents)
       → AcceptsSources header area plan c table p listed a left → MeansSources cell table a p listed to left t r c' t'

@@ -38,6 +38,8 @@ use Rattle.command_sources.specs.Units as units
 use Rattle.command_sources.specs.Units.{PlainScript, IsUnitFate, spot_of, at_spot, at_token}
 use Rattle.command_files.specs.Codes as codes_of
 use Rattle.command_files.specs.Codes.{IsCodeFate}
+use Rattle.command_files.specs.Assemblies as assemblies
+use Rattle.command_files.specs.Assemblies.{IsAssemblyFate}
 use Rattle.command_files.specs.Trees as trees
 use Rattle.command_files.specs.Trees.{IsTreeFate}
 use Rattle.play_inputs.specs.Areas.{place_flaw}
@@ -72,6 +74,16 @@ pub data RefusesSource (header : EngineTable) (c : Contents) (name : List ℕ) :
   large : (script : PlainScript) (unit : TypedUnit) → IsUnitFate (fin_map.get c) name (units.Whole script) → TypesUnit header script.tree unit
       → file_limit < length (unit_file unit) → RefusesSource header c name (at_spot cause.Large (spot_of script.files None))
 
+-- a file isn't there or is too long, or is no file of bytecode
+pub data RefusesCode (c : Contents) (name : List ℕ) : Refusal → Type 0 where
+  unread : (why : Refusal) → IsUnread c name why → RefusesCode c name why
+  broken : (bytes : List ℕ) → IsRead c name bytes → (why : CodeFlaw) → IsCodeFate bytes (codes_of.Faulty why) → RefusesCode c name (BadCode name why)
+
+-- or is no assembler text
+pub data RefusesAssembly (c : Contents) (name : List ℕ) : Refusal → Type 0 where
+  unread : (why : Refusal) → IsUnread c name why → RefusesAssembly c name why
+  broken : (text : List ℕ) → IsRead c name text → (why : CodeFlaw) → IsAssemblyFate text (assemblies.Faulty why) → RefusesAssembly c name (BadCode name why)
+
 -- a file of bytecode isn't there or is too long, is none, or isn't well stacked
 pub data RefusesBinary (header : EngineTable) (c : Contents) (name : List ℕ) : Refusal → Type 0 where
   unread : (why : Refusal) → IsUnread c name why → RefusesBinary header c name why
@@ -97,6 +109,11 @@ pub data RefusesScripts (header : EngineTable) : List ScriptLine → Contents �
 pub data RefusesPlan (c : Contents) (name : List ℕ) : Refusal → Type 0 where
   unread : (why : Refusal) → IsUnread c name why → RefusesPlan c name why
   faulty : (bytes : List ℕ) → IsRead c name bytes → (line : ℕ) → IsFaulty bytes (plan.Line line) → RefusesPlan c name (BadArea name (area.Line line))
+
+-- a file isn't there or is too long, or its bytes stand for no tree
+pub data RefusesTree (c : Contents) (name : List ℕ) : Refusal → Type 0 where
+  unread : (why : Refusal) → IsUnread c name why → RefusesTree c name why
+  none : (bytes : List ℕ) → IsRead c name bytes → (why : AreaFlaw) → IsTreeFate bytes (trees.Faulty why) → RefusesTree c name (BadArea name why)
 
 pub data RefusesArea (c : Contents) (name : List ℕ) : Refusal → Type 0 where
   unread : (why : Refusal) → IsUnread c name why → RefusesArea c name why

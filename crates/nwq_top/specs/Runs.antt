@@ -1,7 +1,7 @@
 -- What the words `run HEADER SCRIPT` and `compile HEADER SCRIPT` mean.
 use Rattle.std.specs.Prelude.{◌≡◌, ◌≢◌, ℕ, List, ◌++◌, length, Result, Ok}
 use Rattle.nwq_value.specs.Engine.{EngineTable}
-use Rattle.nwq_value.specs.Limits.{default_instruction_limit}
+use Rattle.nwq_value.specs.Limits.{default_instruction_limit, default_entry_limit, default_until}
 use Rattle.nwq_outside.specs.Outside.{Contents}
 use Rattle.typing_rules.specs.Typed.{TypedUnit}
 use Rattle.emission_rules.specs.Units.{unit_file}
@@ -11,6 +11,12 @@ use Rattle.command_work.specs.declared.status.Status.{Status}
 use Rattle.command_work.specs.Refusal.{Refusal}
 use Rattle.command_work.specs.Work.{Finished}
 use Rattle.command_compile.specs.Files.{code_name, compiled_line}
+use Rattle.play_worlds.specs.Worlds.{first_world}
+use Rattle.command_plays.specs.Plays.{host_of}
+use Rattle.command_plays.specs.Scripts.{listed}
+use Rattle.command_meaning.specs.CodeEnds.{EndsWithoutFault}
+use Rattle.command_meaning.specs.Once.{PlaysOnce}
+use Rattle.command_meaning.specs.Units.{code_of}
 use Rattle.command_meaning.specs.Runs.{setting_of, source_played, code_played, sure_steps, TellsMeaning, TellsBeginning}
 use Rattle.nwq_top.specs.Accepting.{HasHeader, Compiles, with_file}
 use Rattle.nwq_top.specs.Refusing.{RefusesHeader, RefusesSource, IsRefused}
@@ -48,6 +54,10 @@ pub record MeansScript (cell : CellLookup) (table : EngineTable) (name : List �
   pub stopped : (code_played cell table name unit).ending ≡ StoppedInside → TellsBeginning cell table name unit c t r c' t'
   -- where the play of the source is done in 8,192 steps for an entry, so is this one
   pub complete : (source_played cell table name unit sure_steps).ending ≡ Done → r ≡ Ok tt
+  -- where the evaluation of its start leaves nothing due, the play of the source is that one entry
+  pub once : PlaysOnce cell table name unit
+  -- the play of the file comes to no stack fault
+  pub no_fault : EndsWithoutFault (host_of cell table (listed name (code_of unit))) default_instruction_limit default_entry_limit default_until (first_world name)
 
 -- What `run HEADER SCRIPT` does, unless a failed call or want of memory cut it.
 pub record MeansRun (cell : CellLookup) (header script : List ℕ) (c : Contents) (t : List ℕ) (r : Result Finished Status) (c' : Contents) (t' : List ℕ) : Type 0 where

@@ -1,6 +1,7 @@
 //! Laws about the work of commands, as the contract of a function that does nothing.
 
 ghost use Rattle.nwq_top.specs.Laws.{OneOutcome, Prefixes, OneWhole, WholePrefixes};
+ghost use Rattle.nwq_top.specs.Laws.{CutsLeaveFronts, NamesChange, WholeCutsLeaveFronts};
 ghost use Rattle.nwq_top.specs.Meaning.{WorkMeans, WholeMeans};
 
 use crate::word_laws::{compiles_mean, generates_mean, plays_mean, runs_mean};
@@ -12,12 +13,15 @@ use command_run::laws::one_run;
 use command_tables::laws::one_set_of_tables;
 
 /// A command that isn't cut has one outcome, and one that is cut has put a prefix of what it puts
-/// whole. So is the whole program, which reads tables first.
+/// whole, and left the files as after a front of what it writes then. So is the whole program,
+/// which reads tables first.
 pub fn one_outcome()
     ensures one { OneOutcome }
     ensures prefixes { Prefixes }
     ensures whole { OneWhole }
     ensures whole_prefixes { WholePrefixes }
+    ensures fronts { CutsLeaveFronts }
+    ensures whole_fronts { WholeCutsLeaveFronts }
 {
     one_file();
     one_script();
@@ -28,12 +32,20 @@ pub fn one_outcome()
     one_set_of_tables();
 }
 
-/// Whatever does the work of words does what they mean: a command that has source texts refuses
-/// what is to be refused, writes files that pass the stack checker, and tells and leaves what the
-/// texts mean.
+/// Which names a command changes: of those that it may write, `play` changes the files of the
+/// sources that its plan lists, and TO only where it is done or cut.
+pub fn names_change()
+    ensures change { NamesChange }
+{}
+
+/// Whatever does the work of words does what they mean: it refuses what is to be refused; writes
+/// files that pass the stack checker, and tells and leaves what source texts mean; and tells and
+/// writes trees, checks and listings of what files hold.
 pub fn work_means()
     ensures means { WorkMeans }
 {
+    one_file();
+    one_check();
     runs_mean();
     compiles_mean();
     plays_mean();

@@ -13,9 +13,11 @@
 //! plan is told, and leaves the area, as the sources mean. `specs/Runs.antt`, `specs/Plays.antt`
 //! and `specs/Generated.antt` say what `run` and `compile`, `play`, and `generate` do: each file
 //! that they write passes the stack checker, and what they tell and leave is what the source texts
-//! mean. What one script means that is run alone the crate `command_meaning` has. The laws of
+//! mean. What one script means that is run alone the crate `command_meaning` has.
+//! `specs/FileCommands.antt` says what `tree`, `check`, `dis` and `asm` do. The laws of
 //! [`word_laws`] say that whatever does the work of the words does this, and one more that typing
-//! refuses a source at one fault.
+//! refuses a source at one fault. `specs/Cuts.antt` says what is left where a call is cut, and
+//! `specs/Changes.antt` which names change.
 //!
 //! The tables that its scripts look cells up in are [`nwq_tables`]', which comes first: the tables
 //! are read, hooks are made with them, and `nwq_main` is handed these hooks and the same words.
@@ -35,11 +37,13 @@ ghost use Rattle.command_work.specs.Work.{IsCut, Does, ending};
 ghost use Rattle.command_work.specs.Counts.{Counted, Tallies, KeepsBut};
 ghost use Rattle.command_words.specs.Words.{form_of};
 ghost use Rattle.nwq_top.specs.Command.{work_of, MayWrite};
+ghost use Rattle.nwq_top.specs.Changes.{MayChange};
+ghost use Rattle.nwq_top.specs.Cuts.{IsFrontOf};
 ghost use Rattle.nwq_top.specs.Endings.{ComesOf};
 ghost use Rattle.nwq_top.specs.Meaning.{Means};
 
 use crate::command::status_of_words;
-use crate::laws::work_means;
+use crate::laws::{names_change, one_outcome, work_means};
 pub use command_work::Status;
 use hook_table::Hooks;
 use nwq_outside::{Files, Sink};
@@ -70,15 +74,27 @@ pub fn nwq_main<F: Files, S: Sink>(
         (form_of (map string_bytes words.now))
         (F.contents files.old) (S.taken out.old)
         (ending result) (F.contents files.new) (S.taken out.new) }
+    // Where one did, what was put and left is a front of what is put and left else.
+    ensures cut { IsTrue F.tells → IsTrue S.tells → IsCut (ending result) →
+        IsFrontOf (work_of (cells_of (map (λ h. h.known) hooks.now.all.items))
+        (form_of (map string_bytes words.now)))
+        (F.contents files.old) (S.taken out.old) (F.contents files.new) (S.taken out.new) }
     // A read, write or put that was refused is the last one, and the status says which.
     ensures counts { Tallies (ending result) (Counted (F.counts files.old) (S.faults out.old))
         (Counted (F.counts files.new) (S.faults out.new)) }
     // Every name that the command may not write has what it had.
     ensures names { KeepsBut (MayWrite (form_of (map string_bytes words.now)))
         (F.contents files.old) (F.contents files.new) }
+    // Of `play` these are the files of the sources that its plan lists, and TO only where the
+    // status is 0, 7 or 8.
+    ensures changes { IsTrue F.tells → IsTrue S.tells →
+        KeepsBut (MayChange (form_of (map string_bytes words.now)) (F.contents files.old)
+        (ending result)) (F.contents files.old) (F.contents files.new) }
     ensures only { ComesOf (form_of (map string_bytes words.now)) result }
 {
     work_means();
+    one_outcome();
+    names_change();
     files.contents_are_bytes();
     status_of_words(alloc, words, files, out, hooks)
 }

@@ -9,7 +9,8 @@ ghost use Rattle.nwq_top.specs.SourcePlans.{UnstoppedPlansPlayAsMeant};
 use command_compile::laws::one_script;
 use command_files::laws::one_check;
 use command_meaning::{
-    ends_are_answered, listed_units_play_alike, runs_end_as_meant, scripts_play_units, units_pass,
+    checked_plays_have_no_fault, ends_are_answered, listed_units_play_alike, runs_end_as_meant,
+    scripts_play_units, starts_play_once, units_pass,
 };
 use command_play::laws::one_game;
 use command_plays::laws::one_code;
@@ -56,6 +57,8 @@ pub fn runs_mean()
     one_check();
     one_code();
     runs_end_as_meant();
+    starts_play_once();
+    checked_plays_have_no_fault();
 }
 
 /// Whatever does the work of `compile` is refused where the header or the script is, and else
@@ -87,6 +90,7 @@ pub fn plays_mean()
     one_listing();
     one_game();
     plans_play_as_meant();
+    checked_plays_have_no_fault();
 }
 
 /// Whatever does the work of `generate` refuses the source that is made, or tells of its play what
@@ -101,6 +105,7 @@ pub fn generates_mean()
     one_check();
     ends_are_answered();
     plans_play_as_meant();
+    checked_plays_have_no_fault();
 }
 
 /// Typing refuses a source at one fault alone: the least one, with its token and its kind.
