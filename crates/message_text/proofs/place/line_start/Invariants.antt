@@ -1,0 +1,8 @@
+use Rattle.std.proofs.Common.{◌≢◌, ℕ, ◌≤◌, ◌<◌, get_or}
+use Rattle.message_text.proofs.place.line_start.Given as goal
+
+abbrev pub invariant-loop-start : goal.invariant-loop-start
+invariant-loop-start l = (l.start ≤ l.fn.at) × ((k : ℕ) → l.start ≤ k → k < l.fn.at → get_or l.bytes k 0 ≢ 10)
+
+abbrev pub decreases-loop-start : goal.decreases-loop-start
+decreases-loop-start l = l.start
