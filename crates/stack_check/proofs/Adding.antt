@@ -1,5 +1,5 @@
 -- A trial is added, and what a routine gives is kept.
-use Rattle.std.proofs.Common.{arith, ◌≡◌, ◌≤◌, ◌<◌, ◌+◌, ℕ, zero, suc, List, [], ◌∷◌, ◌++◌, length, Option, None, Some, slice_get, slice_set, inl, inr, ◌⊎◌, sym, subst, ◌∙◌, ap, refl}
+use Rattle.std.proofs.Common.{arith, ◌≡◌, ◌≤◌, ℕ, zero, suc, List, [], ◌∷◌, ◌++◌, length, Option, None, Some, slice_get, slice_set, inl, inr, ◌⊎◌, sym, subst, ◌∙◌, ap, refl}
 use Rattle.std.specs.Prelude.{get_or, OnOk, Result, Ok, Err}
 use Rattle.std.proofs.lemmas.Bool.{cases_eq}
 use Rattle.nwq_value.specs.declared.memory.NoMemory.{NoMemory}
@@ -7,13 +7,13 @@ use Rattle.nwq_value.specs.Engine.{EngineTable}
 use Rattle.ncs_code.specs.Plain.{PlainOp}
 use Rattle.stack_shape.specs.declared.shape.Entry.{Entry}
 use Rattle.stack_shape.specs.declared.shape.Entry.TheVariants.{Start, Called, Stored}
-use Rattle.stack_check.specs.declared.held.Heap.{Heap}
+use Rattle.stack_lists.specs.declared.held.Heap.{Heap}
 use Rattle.stack_check.specs.declared.facts.Trial.{Trial}
 use Rattle.stack_check.specs.declared.facts.Facts.{Facts}
-use Rattle.stack_check.specs.declared.rows.Row.{Row}
-use Rattle.stack_check.specs.Rows.{PutAt, RowAdded, row_in}
-use Rattle.stack_check.proofs.Left.{left_set, left_trial}
-use Rattle.stack_check.specs.Facts.{current, number_in, first_place, first_held, given_open, open_of, left}
+use Rattle.stack_lists.specs.declared.rows.Row.{Row}
+use Rattle.stack_lists.specs.Rows.{PutAt, RowAdded, row_in}
+use Rattle.stack_check.proofs.Left.{more_set, more_trial}
+use Rattle.stack_check.specs.Facts.{current, FindsMore, number_in, first_place, first_held, given_found, given_open, open_of, seen_of}
 use Rattle.stack_check.specs.Inference.{Formed, TrialAdded, CurrentSet, Keeps, Begins, GivenOwed}
 use Rattle.stack_check.proofs.Keeping.{keeps_given}
 
@@ -98,16 +98,17 @@ trial_added before after rows trial number formed e a s = record {
 pub ruleset adding = (no_row, trial_added)
 
 pub trial_left : (header : EngineTable) (code : List PlainOp) (heap : Heap) (before after : Facts) (trial : Trial) → TrialAdded before after trial
-    → Begins header code heap trial → left after < left before
-trial_left header code heap before after trial a b = left_trial before after trial a.more a.room a.trials b.given b.few.0 b.few.1
+    → Begins header code heap trial → FindsMore before after
+trial_left header code heap before after trial a b = more_trial before after trial a.more a.room a.trials b.given b.few.0 b.few.1
 
 pub given_left : (header : EngineTable) (code : List PlainOp) (heap : Heap) (facts after : Facts) (n given : ℕ) (trial now : Trial)
     → GivenOwed header code heap facts n given → slice_get facts.trials n ≡ Some trial → now ≡ record trial { given = Some given }
-    → after ≡ record facts { trials = slice_set facts.trials n now } → left after < left facts
+    → after ≡ record facts { trials = slice_set facts.trials n now } → FindsMore facts after
 given_left header code heap facts after n given trial now o has e a =
     let none : trial.given ≡ None = ap (λ (t : Trial). t.given) (some_is trial o.trial (sym has ∙ o.has)) ∙ o.new in
-    left_set facts after n trial now has (ap (λ (f : Facts). f.trials) a) (ap (λ (f : Facts). f.rows) a)
+    more_set facts after n trial now has (ap (λ (f : Facts). f.trials) a) (ap (λ (f : Facts). f.rows) a)
     (let p = ap open_of e in let q = ap given_open none in omega (arith, p, q))
+    (let p = ap seen_of e in let q = ap given_found none in omega (arith, p, q))
 
 -- ---- what a routine gives
 

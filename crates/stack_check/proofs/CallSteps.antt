@@ -9,20 +9,19 @@ use Rattle.stack_shape.specs.declared.shape.Slot.{Slot}
 use Rattle.stack_shape.specs.declared.shape.Entry.TheVariants.{Called}
 use Rattle.stack_shape.specs.Stored.{TopShape}
 use Rattle.machine_rules.specs.Act.{next_place}
-use Rattle.stack_check.specs.declared.held.Held.{Held}
-use Rattle.stack_check.specs.declared.held.Heap.{Heap}
+use Rattle.stack_lists.specs.declared.held.Held.{Held}
+use Rattle.stack_lists.specs.declared.held.Heap.{Heap}
 use Rattle.stack_check.specs.declared.facts.Trial.{Trial}
 use Rattle.stack_check.specs.declared.facts.Facts.{Facts}
 use Rattle.stack_check.specs.declared.seen.Seen.{Seen}
 use Rattle.stack_check.specs.declared.seen.Seen.TheVariants.{Quiet, Changed, Bad}
-use Rattle.stack_check.specs.Shared.{read, Grows}
+use Rattle.stack_lists.specs.Shared.{read}
 use Rattle.stack_check.specs.declared.facts.Unseen.{Unseen}
-use Rattle.stack_check.specs.Held.{HeapGrows, Holds, IsIn, shape_of}
-use Rattle.stack_check.specs.Rows.{row_in}
-use Rattle.stack_check.specs.Facts.{current, left}
+use Rattle.stack_lists.specs.Held.{HeapGrows, Holds, IsIn, shape_of}
+use Rattle.stack_lists.specs.Rows.{row_in}
+use Rattle.stack_check.specs.Facts.{FindsMore, current}
 use Rattle.stack_check.specs.Inference.{BeginsAlike, Formed, TrialIn, RowIs, Keeps, LooksOwed, Visited, WhereQuiet, Takes, Owed, Begins, Sound, Sees, Calls, Within, window}
-use Rattle.stack_check.proofs.Walks.{grows_none, grows_then}
-use Rattle.stack_check.proofs.Heaps.{heap_same, still_shape, same_shape}
+use Rattle.stack_lists.proofs.Heaps.{heap_same, still_shape, same_shape}
 use Rattle.stack_check.proofs.Keeping.{keeps_grows}
 use Rattle.stack_check.proofs.Calling.{behind, call_begins, call_looks, call_owed, call_sound, call_sound_none, call_there, never_begins}
 
@@ -37,8 +36,8 @@ callee_entry facts target callee formed c =
 
 pub first_in : (heap : Heap) (facts : Facts) (n p : ℕ) (held : Held) (header : EngineTable) (code : List PlainOp) (trial : Trial) → Keeps header code heap facts
     → row_in facts.rows n p ≡ Some held → trial.taken ≡ held.cells → trial.under ≡ held.under → trial.given ≡ None
-    → trial.unseen.cells ≡ length (read heap.slots held.cells) → trial.unseen.under ≡ length (read heap.slots held.under) → TrialIn heap trial
-first_in heap facts n p held header code trial k r t u g uc uu =
+    → trial.unseen.cells ≡ length (read heap.slots held.cells) → trial.unseen.under ≡ length (read heap.slots held.under) → trial.at_first ≡ trial.unseen → TrialIn heap trial
+first_in heap facts n p held header code trial k r t u g uc uu a =
     let i = k.inside.rows n p held r in
     record {
       taken = subst (λ n. n ≤ length heap.slots) (sym t) i.cells;
@@ -46,6 +45,12 @@ first_in heap facts n p held header code trial k r t u g uc uu =
       given = subst (λ o. IfSome o (λ given. given ≤ length heap.slots)) (sym g) tt;
       unseen_cells = let e = ap (λ n. length (read heap.slots n)) t in omega (arith, uc, e);
       unseen_under = let e = ap (λ n. length (read heap.slots n)) u in omega (arith, uu, e);
+      first_cells =
+          let e = ap (λ n. length (read heap.slots n)) t in
+          let f = ap (λ (u : Unseen). u.cells) a in (omega (arith, f), omega (arith, uc, e, f));
+      first_under =
+          let e = ap (λ n. length (read heap.slots n)) u in
+          let f = ap (λ (u : Unseen). u.under) a in (omega (arith, f), omega (arith, uu, e, f));
     }
 
 pub ruleset first = (first_in, call_begins)
@@ -70,7 +75,7 @@ given_long header code heap facts target callee given k c e =
     omega (arith, l, m)
 
 pub sees_changed : (header : EngineTable) (code : List PlainOp) (a b : Heap) (facts after : Facts) (n p : ℕ) (held : Held) → HeapGrows a b
-    → Keeps header code b after → left after < left facts → Sees header code a b facts after n p held Changed
+    → Keeps header code b after → FindsMore facts after → Sees header code a b facts after n p held Changed
 sees_changed header code a b facts after n p held g k l = record { grows = g; keeps = k; quiet = tt; takes = l }
 
 -- a call on a stack that doesn't begin as its routine takes it

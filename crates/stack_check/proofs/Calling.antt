@@ -1,7 +1,7 @@
 -- Calls and returns, in what was found and in every table.
 use Rattle.std.proofs.Common.{arith, rules, ◌≡◌, ◌≢◌, ◌≤◌, ◌<◌, ◌+◌, ℕ, ℤ, zero, suc, List, [], ◌∷◌, ◌++◌, length, map, Option, None, Some, slice_get, take, drop, ◌-◌, inl, inr, ◌⊎◌, sym, subst, ◌∙◌, ap, refl}
 use Rattle.std.specs.Option.{option_map, option_and_then}
-use Rattle.std.proofs.lemmas.List.{append_assoc, append_cancel_left, append_cancel_right, append-nil, drop-append-le, length-append, length-take, take-append-drop, take-append-le}
+use Rattle.std.proofs.lemmas.List.{append_assoc, append_cancel_right, drop-append-le, length-append, length-take, take-append-drop, take-append-le}
 use Rattle.nwq_value.specs.Engine.{EngineTable}
 use Rattle.ncs_code.specs.Plain.{PlainOp}
 use Rattle.ncs_code.specs.Plain as ops
@@ -14,19 +14,18 @@ use Rattle.stack_shape.specs.Laws.{deeper, deeper_saved, beneath_under}
 use Rattle.machine_rules.specs.Act.{next_place}
 use Rattle.stack_rules.specs.Tables.{Callee, ShapeTable, first_shape}
 use Rattle.stack_rules.specs.Rules.{GoesOn, MayCall, MayReturn, Returns, Obeys, MeetsRules, WellStacked}
-use Rattle.stack_check.specs.declared.held.Held.{Held}
-use Rattle.stack_check.specs.declared.held.Heap.{Heap}
+use Rattle.stack_lists.specs.declared.held.Held.{Held}
+use Rattle.stack_lists.specs.declared.held.Heap.{Heap}
 use Rattle.stack_check.specs.declared.facts.Trial.{Trial}
 use Rattle.stack_check.specs.declared.facts.Facts.{Facts}
-use Rattle.stack_check.specs.Shared.{read}
-use Rattle.stack_shape.specs.declared.reach.Reach.{Reach}
-use Rattle.stack_check.specs.Held.{HeapGrows, shape_of}
-use Rattle.stack_check.specs.Rows.{row_in}
+use Rattle.stack_lists.specs.Shared.{read}
+use Rattle.stack_lists.specs.Held.{HeapGrows, shape_of}
+use Rattle.stack_lists.specs.Rows.{row_in}
 use Rattle.stack_check.specs.declared.facts.Unseen.{Unseen}
 use Rattle.stack_check.specs.Facts.{current, callee_of, callee_at, first_held, kept_callee, lowest, table_of, unseen_cells, unseen_under, without}
-use Rattle.stack_check.specs.Inference.{BeginsAlike, Formed, GivenFits, GivenOver, IsLonger, IsOver, IsThere, LooksOwed, TrialIn, Within, Beyond, RowFits, TrialFits, Keeps, Owed, RowIs, FirstFits, Begins, GivenOwed, Sound, window}
-use Rattle.stack_check.proofs.Heaps.{same_shape}
-use Rattle.stack_check.proofs.Walks.{read_empty}
+use Rattle.stack_check.specs.Inference.{BeginsAlike, GivenFits, GivenOver, IsLonger, IsOver, IsThere, LooksOwed, TrialIn, Within, Beyond, RowFits, TrialFits, Keeps, Owed, RowIs, FirstFits, Begins, GivenOwed, Sound, window}
+use Rattle.stack_lists.proofs.Heaps.{same_shape}
+use Rattle.stack_lists.proofs.Walks.{read_empty}
 use Rattle.stack_check.proofs.Steps.{row_trial}
 use Rattle.stack_check.proofs.Tables.{entry_is, led_at, own_is}
 use Rattle.stack_check.proofs.Windows.{lowest_length, without_on}
@@ -77,7 +76,7 @@ call_fits header code table entry place offset shape x y meets stands f =
 
 -- a trial that has looked at nothing yet
 abbrev new_trial : Heap → ℕ → ℕ → ℕ → Unseen → Trial
-new_trial heap target taken under unseen = record { entry = Called target; taken = taken; under = under; given = None; unseen = unseen }
+new_trial heap target taken under unseen = record { entry = Called target; taken = taken; under = under; given = None; unseen = unseen; at_first = unseen }
 
 -- a trial whose lists begin with what a table's routine takes
 first_fits : (header : EngineTable) (code : List PlainOp) (table : ShapeTable) (heap : Heap) (target taken under : ℕ) (unseen : Unseen) (callee : Callee) (x y : List Slot)

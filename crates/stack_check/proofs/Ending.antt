@@ -1,5 +1,5 @@
 -- The start and the end of the inference.
-use Rattle.std.proofs.Common.{arith, ◌≡◌, ◌<◌, ℕ, zero, suc, List, [], ◌∷◌, ◌++◌, length, map, Option, None, Some, slice_get, inl, inr, sym, subst, ◌∙◌, ap, refl}
+use Rattle.std.proofs.Common.{arith, ◌≡◌, ◌<◌, ◌≤◌, ◌+◌, ◌^◌, ℕ, zero, suc, List, [], ◌∷◌, ◌++◌, length, map, None, Some, slice_get, inl, inr, sym, subst, ◌∙◌, ap, refl}
 use Rattle.std.specs.Prelude.{get_or}
 use Rattle.nwq_value.specs.Engine.{EngineTable}
 use Rattle.ncs_code.specs.Plain.{PlainOp}
@@ -8,23 +8,26 @@ use Rattle.stack_shape.specs.declared.shape.Entry.TheVariants.{Start, Called, St
 use Rattle.stack_shape.specs.Laws.{deeper}
 use Rattle.stack_rules.specs.Tables.{ShapeTable, empty_shape}
 use Rattle.stack_rules.specs.Rules.{MeetsRules, WellStacked}
-use Rattle.stack_check.specs.declared.held.Held.{Held}
-use Rattle.stack_check.specs.declared.held.Heap.{Heap}
-use Rattle.stack_check.specs.declared.lists.Node.{Node}
-use Rattle.stack_check.specs.declared.rows.Row.{Row}
+use Rattle.stack_lists.specs.declared.held.Held.{Held}
+use Rattle.stack_lists.specs.declared.held.Heap.{Heap}
+use Rattle.stack_lists.specs.declared.rows.Row.{Row}
 use Rattle.stack_check.specs.declared.facts.Trial.{Trial}
 use Rattle.stack_check.specs.declared.facts.Facts.{Facts}
 use Rattle.stack_check.specs.declared.seen.Seen.{Seen}
 use Rattle.stack_check.specs.declared.seen.Seen.TheVariants.{Quiet, Changed, Bad}
-use Rattle.stack_check.specs.Shared.{read}
-use Rattle.stack_check.specs.Held.{AllAtMost, HeapGrows, IsIn, shape_of}
-use Rattle.stack_check.specs.Rows.{RowAdded, row_in}
-use Rattle.stack_check.specs.Facts.{current, number_in, first_place, first_held, callee_of, left, table_of}
-use Rattle.stack_check.specs.Checked.{CheckedCode, StoredStand, kept_table}
-use Rattle.stack_check.specs.Inference.{IsTrialOf, IsWhole, TrialIn, IsOver, GivenOver, Beyond, RowFits, TrialFits, Keeps, Visited, WhereQuiet, Takes, SeesRow, SeesAll, SeesDrained, SeesTurn, IsFound}
-use Rattle.stack_check.proofs.Heaps.{heap_same, heap_then, same_shape}
+use Rattle.stack_lists.specs.Shared.{read}
+use Rattle.stack_lists.specs.Held.{AllAtMost, HeapGrows, IsIn, shape_of}
+use Rattle.stack_lists.specs.Rows.{RowAdded, row_in}
+use Rattle.stack_check.specs.Facts.{FindsMore, current, found, left, seen_of, number_in, first_place, first_held, callee_of, table_of}
+use Rattle.stack_check.specs.Checked.{CheckedCode, StoredStand, found_of, kept_table, most_turns}
+use Rattle.stack_lists.specs.declared.todo.Spot.{Spot}
+use Rattle.stack_lists.specs.Worklist.{Worklist, waiting}
+use Rattle.std.proofs.lemmas.List.{length-append}
+use Rattle.stack_check.specs.Inference.{NothingNew, IsTrialOf, IsWhole, TrialIn, IsOver, GivenOver, Beyond, RowFits, TrialFits, Keeps, Visited, WhereQuiet, Takes, SeesRow, SeesAll, SeesDrained, SeesTurn, IsFound}
+use Rattle.stack_lists.proofs.Heaps.{heap_same, heap_then, same_shape}
+use Rattle.stack_check.proofs.Left.{total_under}
 use Rattle.stack_check.proofs.Windows.{deeper_none}
-use Rattle.stack_check.proofs.Walks.{read_empty}
+use Rattle.stack_lists.proofs.Walks.{read_empty}
 use Rattle.stack_check.proofs.Tables.{at_of, found_in, table_same, whole_over, whole_own}
 
 some_is : {A : Type 0} (a b : A) → Some a ≡ Some b → a ≡ b
@@ -62,7 +65,7 @@ drain_changed header code first now next before facts after t p seen s l e = rec
   grows = heap_then first now next s.grows l.grows;
   keeps = subst (λ s. Visited header code next after s) e l.keeps;
   same = tt;
-  takes = subst (λ f. left after < left f) s.same (subst (λ s. Takes facts after s) e l.takes);
+  takes = subst (λ f. FindsMore f after) s.same (subst (λ s. Takes facts after s) e l.takes);
 }
 
 pub drain_bad : (header : EngineTable) (code : List PlainOp) (first now next : Heap) (before facts after : Facts) (t p : ℕ) (seen : Seen)
@@ -75,7 +78,19 @@ pub drain_done : (header : EngineTable) (code : List PlainOp) (first now : Heap)
     → SeesDrained header code first now before facts Quiet
 drain_done header code first now before facts s = record { grows = s.grows; keeps = s.keeps; same = s.same; takes = tt }
 
-pub ruleset draining = (drain_begin, drain_step, drain_changed, drain_bad, drain_done)
+-- what was handed out is waiting no more
+pub drain_less : (a b c : Worklist) (spot : Spot) (seen : Seen) → waiting a ≡ waiting b ++ spot ∷ [] → NothingNew b c seen → seen ≡ Quiet
+    → length (waiting c) < length (waiting a)
+drain_less a b c spot seen h k e =
+    let same : waiting c ≡ waiting b = subst (λ s. NothingNew b c s) e k in
+    let x = ap (λ (z : List Spot). length z) same in
+    let y = ap (λ (z : List Spot). length z) h ∙ length-append (waiting b) (spot ∷ []) in
+    omega (arith, x, y)
+
+pub drain_none : (a b : Worklist) → waiting a ≡ [] → b ≡ a → waiting b ≡ []
+drain_none a b h e = ap (λ (w : Worklist). waiting w) e ∙ h
+
+pub ruleset draining = (drain_begin, drain_step, drain_changed, drain_bad, drain_done, drain_less, drain_none)
 
 -- ---- one turn
 
@@ -104,10 +119,16 @@ pass_turn header code first heap heap' before facts facts' drained seen d e s = 
     k : Keeps header code heap facts
     k = turn_keeps header code first heap before facts drained d e
 
-    quiet : (seen : Seen) → WhereQuiet seen ((facts' ≡ facts) × MeetsRules header code (table_of heap facts)) → WhereQuiet seen (MeetsRules header code (table_of heap' facts'))
-    quiet Quiet q =
-        subst (λ f. MeetsRules header code (table_of heap' f)) (sym q.0)
-        (subst (λ t. MeetsRules header code t) (sym (table_same header code heap heap' facts k s.grows)) q.1)
+    same : facts ≡ before
+    same = subst (λ s. WhereQuiet s (facts ≡ before)) e d.same
+
+    quiet : (seen : Seen) → WhereQuiet seen ((facts' ≡ facts) × MeetsRules header code (table_of heap facts))
+        → WhereQuiet seen ((facts' ≡ before) × MeetsRules header code (table_of heap' facts'))
+    quiet Quiet q = (
+      q.0 ∙ same,
+      subst (λ f. MeetsRules header code (table_of heap' f)) (sym q.0)
+          (subst (λ t. MeetsRules header code t) (sym (table_same header code heap heap' facts k s.grows)) q.1),
+    )
     quiet Changed q = tt
     quiet Bad q = tt
 
@@ -116,7 +137,7 @@ pub ruleset turning = (turn_changed, turn_bad, turn_keeps, pass_turn)
 -- ---- the start
 
 abbrev first_trial : Trial
-first_trial = record { entry = Start; taken = 0; under = 0; given = None; unseen = record { cells = 0; under = 0 } }
+first_trial = record { entry = Start; taken = 0; under = 0; given = None; unseen = record { cells = 0; under = 0 }; at_first = record { cells = 0; under = 0 } }
 
 abbrev nothing_held : Held
 nothing_held = record { cells = 0; under = 0; saved = 0; pending = 0 }
@@ -192,7 +213,7 @@ start_keeps header code heap rows a = record {
     rows = λ n p h r. let is = first_row rows n p h a r in subst (λ h. IsIn heap h) (sym is.2) (start_in heap);
     trials = λ n trial h. let is = one_trial n trial h in
         subst (λ t. TrialIn heap t) (sym is.1)
-        (record { taken = omega arith; under = omega arith; given = tt; unseen_cells = omega arith; unseen_under = omega arith });
+        (record { taken = omega arith; under = omega arith; given = tt; unseen_cells = omega arith; unseen_under = omega arith; first_cells = (omega arith, omega arith); first_under = (omega arith, omega arith) });
   };
   over = record {
     rows = λ n p h trial r e.
@@ -225,7 +246,7 @@ pub ruleset starting = (starts)
 pub ends_found : (header : EngineTable) (code : List PlainOp) (heap : Heap) (before facts : Facts) (seen : Seen) → SeesTurn header code heap before facts seen
     → seen ≡ Quiet → IsFound header code heap facts
 ends_found header code heap before facts seen s e =
-    record { keeps = subst (λ s. Visited header code heap facts s) e s.keeps; meets = subst (λ s. WhereQuiet s (MeetsRules header code (table_of heap facts))) e s.quiet }
+    record { keeps = subst (λ s. Visited header code heap facts s) e s.keeps; meets = (subst (λ s. WhereQuiet s ((facts ≡ before) × MeetsRules header code (table_of heap facts))) e s.quiet).1 }
 
 pub ends_none : (header : EngineTable) (code : List PlainOp) (heap : Heap) (before facts : Facts) (seen : Seen) → SeesTurn header code heap before facts seen
     → seen ≡ Bad → WellStacked header code → ⊥
@@ -236,10 +257,64 @@ pub goes_on : (header : EngineTable) (code : List PlainOp) (heap : Heap) (before
 goes_on header code heap before facts seen s e = subst (λ s. Visited header code heap facts s) e s.keeps
 
 pub goes_down : (header : EngineTable) (code : List PlainOp) (heap : Heap) (before facts : Facts) (seen : Seen) → SeesTurn header code heap before facts seen
-    → seen ≡ Changed → left facts < left before
+    → seen ≡ Changed → FindsMore before facts
 goes_down header code heap before facts seen s e = subst (λ s. Takes before facts s) e s.takes
 
+pub ends_same : (header : EngineTable) (code : List PlainOp) (heap : Heap) (before facts : Facts) (seen : Seen) → SeesTurn header code heap before facts seen
+    → seen ≡ Quiet → facts ≡ before
+ends_same header code heap before facts seen s e =
+    (subst (λ s. WhereQuiet s ((facts ≡ before) × MeetsRules header code (table_of heap facts))) e s.quiet).0
+
 pub ruleset ending = (ends_found, ends_none, goes_on, goes_down)
+
+-- ---- turns
+
+-- so many turns were taken, and each found something
+pub record TurnedSoFar (begun : ℕ) (first : Facts) (turns : ℕ) (facts : Facts) : Type 0 where
+  pub left : turns + left facts ≤ begun + left first
+  pub found : turns + found first ≤ begun + found facts
+
+pub turn_begin : (turns : ℕ) (facts : Facts) → TurnedSoFar turns facts turns facts
+turn_begin turns facts = record { left = omega arith; found = omega arith }
+
+pub turn_more : (begun : ℕ) (first : Facts) (turns next : ℕ) (facts after : Facts) → TurnedSoFar begun first turns facts → next ≡ turns + 1 → FindsMore facts after
+    → TurnedSoFar begun first next after
+turn_more begun first turns next facts after s e m = record { left = omega (arith, s.left, e, m.left); found = omega (arith, s.found, e, m.found) }
+
+pub turn_few : (begun : ℕ) (first : Facts) (turns : ℕ) (facts : Facts) → TurnedSoFar begun first turns facts → begun + left first < 2 ^ 63 → turns < 2 ^ 63
+turn_few begun first turns facts s h = omega (arith, s.left, h)
+
+pub turn_last : (begun : ℕ) (first : Facts) (turns next : ℕ) (facts after : Facts) → TurnedSoFar begun first turns facts → next ≡ turns + 1 → after ≡ facts
+    → next + found first ≤ begun + found after + 1
+turn_last begun first turns next facts after s e same = let f = ap found same in omega (arith, s.found, e, f)
+
+-- ---- what was found at first
+
+pub start_found : (rows : List Row) → length rows ≡ 1
+    → (let f : Facts = record { trials = first_trial ∷ []; called = []; stored = []; rows = rows } in (found f ≡ 1) × (left f < 2 ^ 62))
+unfolding found left
+start_found rows e = (omega (arith, e), omega (arith, e))
+
+pub starts_found : (empty rows : List Row) (trials : List Trial) (called stored : List ℕ) → empty ≡ [] → RowAdded empty rows 0 13 nothing_held
+    → trials ≡ [] ++ first_trial ∷ [] → called ≡ [] → stored ≡ []
+    → (let f : Facts = record { trials = trials; called = called; stored = stored; rows = rows } in (found f ≡ 1) × (left f < 2 ^ 62))
+starts_found empty rows trials called stored e a t c s =
+    let one : length rows ≡ 1 = (let l = ap (λ (rs : List Row). length rs) e in let m = a.more in omega (arith, l, m)) in
+    subst (λ (f : Facts). (found f ≡ 1) × (left f < 2 ^ 62)) (sym (
+    ap (λ ts. record { trials = ts; called = called; stored = stored; rows = rows }) t
+    ∙ ap (λ ns. record { trials = first_trial ∷ []; called = ns; stored = stored; rows = rows }) c
+    ∙ ap (λ ns. record { trials = first_trial ∷ []; called = []; stored = ns; rows = rows }) s)) (start_found rows one)
+
+-- ---- no more than its rows and windows
+
+seen_under : (heap : Heap) (trial : Trial) → TrialIn heap trial → seen_of trial ≤ found_of heap trial
+seen_under heap trial i = omega (arith, i.first_cells.0, i.first_cells.1, i.first_under.0, i.first_under.1)
+
+pub turns_under : (header : EngineTable) (code : List PlainOp) (c : CheckedCode) (turns : ℕ) → IsFound header code c.heap c.facts → turns ≤ found c.facts
+    → turns ≤ most_turns c
+unfolding found
+turns_under header code c turns f h =
+    let t = total_under seen_of (found_of c.heap) c.facts.trials (λ n t e. seen_under c.heap t (f.keeps.inside.trials n t e)) in omega (arith, h, t)
 
 -- ---- what is kept
 

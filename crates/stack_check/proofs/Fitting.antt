@@ -15,14 +15,14 @@ use Rattle.stack_shape.specs.declared.shape.Slot.TheVariants.{Of, Base}
 use Rattle.stack_shape.specs.Stored.{TopShape, stored_shape}
 use Rattle.machine_rules.specs.Outlines.{slot, slots}
 use Rattle.stack_rules.specs.Fits.{Fits}
-use Rattle.stack_check.specs.declared.held.Held.{Held}
-use Rattle.stack_check.specs.declared.held.Heap.{Heap}
+use Rattle.stack_lists.specs.declared.held.Held.{Held}
+use Rattle.stack_lists.specs.declared.held.Heap.{Heap}
 use Rattle.stack_check.specs.declared.facts.Facts.{Facts}
-use Rattle.stack_check.specs.Shared.{read}
-use Rattle.stack_check.specs.Held.{shape_of}
+use Rattle.stack_lists.specs.Shared.{read}
+use Rattle.stack_lists.specs.Held.{shape_of}
 use Rattle.stack_check.specs.Facts.{table_of}
 use Rattle.stack_check.specs.Fitting.{IsValueOf, BeginsWith, BeginsOtherwise, IsFrame, Resumes, IsResumedAt, stored_at}
-use Rattle.stack_check.proofs.Heaps.{same_shape}
+use Rattle.stack_lists.proofs.Heaps.{same_shape}
 
 -- ---- a cell more
 

@@ -1,19 +1,21 @@
 -- What is kept where a shape is reached that every table has.
-use Rattle.std.proofs.Common.{arith, ◌≡◌, ◌<◌, ℕ, List, inl, inr, ◌⊎◌, sym, subst, ◌∙◌, ap}
+use Rattle.std.proofs.Common.{arith, ◌≡◌, ℕ, List, inl, inr, ◌⊎◌, sym, subst, ◌∙◌, ap, refl}
+use Rattle.std.specs.Prelude.{Result, Ok, Err, IfOk}
 use Rattle.nwq_value.specs.Engine.{EngineTable}
 use Rattle.ncs_code.specs.Plain.{PlainOp}
 use Rattle.stack_shape.specs.Stored.{TopShape}
-use Rattle.stack_check.specs.declared.held.Held.{Held}
-use Rattle.stack_check.specs.declared.held.Heap.{Heap}
+use Rattle.stack_lists.specs.declared.held.Held.{Held}
+use Rattle.stack_lists.specs.declared.held.Heap.{Heap}
 use Rattle.stack_check.specs.declared.facts.Facts.{Facts}
 use Rattle.stack_check.specs.declared.seen.Seen.{Seen}
 use Rattle.stack_check.specs.declared.seen.Seen.TheVariants.{Quiet, Changed, Bad}
 use Rattle.stack_check.specs.declared.leads.Lead.TheVariants.{One, Two}
-use Rattle.stack_check.specs.Held.{IsIn, shape_of}
-use Rattle.stack_check.specs.Rows.{row_in}
-use Rattle.stack_check.specs.Inference.{Keeps, Visited, WhereQuiet, Owed, RowIs, Reached, RowsKept, Takes, AllLed, after_change}
-use Rattle.stack_check.specs.Facts.{left}
-use Rattle.stack_check.proofs.Left.{left_row}
+use Rattle.stack_lists.specs.Held.{IsIn, shape_of}
+use Rattle.stack_lists.specs.Rows.{row_in}
+use Rattle.stack_lists.specs.Worklist.{Worklist, waiting}
+use Rattle.stack_check.specs.Inference.{Keeps, NothingNew, Visited, WhereQuiet, Owed, RowIs, Reached, RowsKept, Takes, AllLed, after_change}
+use Rattle.stack_check.specs.Facts.{FindsMore}
+use Rattle.stack_check.proofs.Left.{more_row}
 use Rattle.stack_check.proofs.Steps.{step_kept}
 use Rattle.stack_check.proofs.Keeping.{keeps_row, never_other}
 
@@ -35,7 +37,7 @@ reached_kept heap before after n p held Bad r =
 -- a row more leaves less to be found
 pub reached_takes : (heap : Heap) (before after : Facts) (n p : ℕ) (held : Held) (seen : Seen) → Reached heap before after n p held seen → Takes before after seen
 reached_takes heap before after n p held Quiet r = tt
-reached_takes heap before after n p held Changed r = left_row before after r.0.more r.0.room (ap (λ (f : Facts). f.trials) r.1)
+reached_takes heap before after n p held Changed r = more_row before after r.0.more r.0.room (ap (λ (f : Facts). f.trials) r.1)
 reached_takes heap before after n p held Bad r = tt
 
 pub reached_quiet : (heap : Heap) (before after : Facts) (n p : ℕ) (held : Held) (seen : Seen) → Reached heap before after n p held seen
@@ -70,13 +72,13 @@ pub takes_next : (before mid after : Facts) (seen : Seen) → mid ≡ before →
 takes_next before mid after seen e t = subst (λ f. Takes f after seen) e t
 
 -- and behind one that found something
-pub takes_both : (P : Type 0) (before mid after : Facts) (seen now : Seen) → left mid < left before → Takes mid after seen → WhereQuiet seen ((after ≡ mid) × P)
+pub takes_both : (P : Type 0) (before mid after : Facts) (seen now : Seen) → FindsMore before mid → Takes mid after seen → WhereQuiet seen ((after ≡ mid) × P)
     → now ≡ after_change seen → Takes before after now
 takes_both P before mid after seen now l t q e = subst (λ s. Takes before after s) (sym e) (both seen t q)
   where
     both : (seen : Seen) → Takes mid after seen → WhereQuiet seen ((after ≡ mid) × P) → Takes before after (after_change seen)
-    both Quiet t q = subst (λ f. left f < left before) (sym q.0) l
-    both Changed t q = omega (arith, l, t)
+    both Quiet t q = subst (λ f. FindsMore before f) (sym q.0) l
+    both Changed t q = record { left = omega (arith, l.left, t.left); found = omega (arith, l.found, t.found) }
     both Bad t q = tt
 
 pub changed_keeps : (header : EngineTable) (code : List PlainOp) (heap : Heap) (after : Facts) (seen now : Seen) → now ≡ after_change seen
@@ -103,3 +105,41 @@ two_quiet heap before mid after n t u shape Changed q r = tt
 two_quiet heap before mid after n t u shape Bad q r = tt
 
 pub ruleset leading = (kept_then, one_led, two_quiet, changed_keeps, changed_quiet, step_kept, takes_next)
+
+-- ---- what is handed in
+
+pub waits_then : (a b c : Worklist) (first seen : Seen) → NothingNew a b first → first ≡ Quiet → NothingNew b c seen → NothingNew a c seen
+waits_then a b c first seen h e k = on seen (subst (λ s. NothingNew a b s) e h) k
+  where
+    on : (seen : Seen) → waiting b ≡ waiting a → NothingNew b c seen → NothingNew a c seen
+    on Quiet h k = k ∙ h
+    on Changed h k = tt
+    on Bad h k = tt
+
+pub waits_same : (a b c : Worklist) (seen : Seen) → waiting b ≡ waiting a → NothingNew b c seen → NothingNew a c seen
+waits_same a b c Quiet h k = k ∙ h
+waits_same a b c Changed h k = tt
+waits_same a b c Bad h k = tt
+
+pub waits_changed : (a b : Worklist) (seen now : Seen) → now ≡ after_change seen → NothingNew a b now
+waits_changed a b Quiet now e = subst (λ s. NothingNew a b s) (sym e) tt
+waits_changed a b Changed now e = subst (λ s. NothingNew a b s) (sym e) tt
+waits_changed a b Bad now e = subst (λ s. NothingNew a b s) (sym e) tt
+
+pub waits_from : (a b c : Worklist) (seen : Seen) → b ≡ a → NothingNew b c seen → NothingNew a c seen
+waits_from a b c seen e k = waits_same a b c seen (ap (λ (w : Worklist). waiting w) e) k
+
+pub waits_none : (a : Worklist) (seen : Seen) → NothingNew a a seen
+waits_none a Quiet = refl
+waits_none a Changed = tt
+waits_none a Bad = tt
+
+pub waits_found : (a b : Worklist) (seen : Seen) → seen ≡ Changed → NothingNew a b seen
+waits_found a b seen e = subst (λ s. NothingNew a b s) (sym e) tt
+
+pub waits_weaker : {E : Type 0} (a b c : Worklist) (r : Result Seen E) → waiting b ≡ waiting a → IfOk r (λ seen. NothingNew b c seen)
+    → IfOk r (λ seen. NothingNew a c seen)
+waits_weaker a b c (Ok seen) h k = waits_same a b c seen h k
+waits_weaker a b c (Err e) h k = tt
+
+pub ruleset handing = (waits_then, waits_same, waits_changed, waits_from, waits_none, waits_found, waits_weaker)

@@ -14,19 +14,19 @@ use Rattle.stack_shape.specs.Stored.{TopShape}
 use Rattle.stack_shape.specs.Laws.{deeper}
 use Rattle.stack_rules.specs.Tables.{Callee, ShapeTable}
 use Rattle.stack_rules.specs.Rules.{MeetsRules}
-use Rattle.stack_check.specs.declared.held.Held.{Held}
-use Rattle.stack_check.specs.declared.held.Heap.{Heap}
+use Rattle.stack_lists.specs.declared.held.Held.{Held}
+use Rattle.stack_lists.specs.declared.held.Heap.{Heap}
 use Rattle.stack_check.specs.declared.facts.Trial.{Trial}
 use Rattle.stack_check.specs.declared.facts.Unseen.{Unseen}
 use Rattle.stack_check.specs.declared.facts.Facts.{Facts}
-use Rattle.stack_check.specs.Shared.{read}
-use Rattle.stack_check.specs.Held.{IsIn, HeapGrows, shape_of}
-use Rattle.stack_check.specs.Rows.{RowAdded, row_in}
-use Rattle.stack_check.specs.declared.rows.Row.{Row}
+use Rattle.stack_lists.specs.Shared.{read}
+use Rattle.stack_lists.specs.Held.{IsIn, HeapGrows, shape_of}
+use Rattle.stack_lists.specs.Rows.{RowAdded, row_in}
+use Rattle.stack_lists.specs.declared.rows.Row.{Row}
 use Rattle.stack_check.specs.Facts.{current, first_place, first_held, callee_of, lowest, unseen_cells, unseen_under, with_unseen}
 use Rattle.stack_check.specs.Inference.{IsTrialOf, IsWhole, Formed, TrialIn, AllIn, IsOver, GivenOver, AllOver, Beyond, RowFits, TrialFits, Compares, Keeps, Owed, RowIs, TrialAdded, FirstFits, Begins, GivenOwed, SeesMore, UnseenOwed}
-use Rattle.stack_check.proofs.Heaps.{still_in, still_shape}
-use Rattle.stack_check.proofs.Walks.{read_empty}
+use Rattle.stack_lists.proofs.Heaps.{still_in, still_shape}
+use Rattle.stack_lists.proofs.Walks.{read_empty}
 use Rattle.stack_check.proofs.Windows.{deeper_then, lowest_fewer}
 
 some_is : {A : Type 0} (a b : A) → Some a ≡ Some b → a ≡ b
@@ -60,6 +60,8 @@ trial_still a b trial g h = record {
   given = given_in a b trial.given g h.given;
   unseen_cells = subst (λ (l : List Slot). trial.unseen.cells ≤ length l) (sym (g.slots.same trial.taken h.taken)) h.unseen_cells;
   unseen_under = subst (λ (l : List Slot). trial.unseen.under ≤ length l) (sym (g.slots.same trial.under h.under)) h.unseen_under;
+  first_cells = (h.first_cells.0, subst (λ (l : List Slot). trial.at_first.cells ≤ length l) (sym (g.slots.same trial.taken h.taken)) h.first_cells.1);
+  first_under = (h.first_under.0, subst (λ (l : List Slot). trial.at_first.under ≤ length l) (sym (g.slots.same trial.under h.under)) h.first_under.1);
 }
 
 pub cells_still : (a b : Heap) (trial : Trial) → HeapGrows a b → TrialIn a trial → unseen_cells b trial ≡ unseen_cells a trial
@@ -290,7 +292,7 @@ row_in_heap heap before after added n p h all i a r = elim (a.only n p h r) [
     cells = i.taken;
     under = i.under;
     saved = omega arith;
-    each = subst (λ ns. Rattle.stack_check.specs.Held.AllAtMost (length heap.slots) ns) (sym (read_empty heap.saved)) tt;
+    each = subst (λ ns. Rattle.stack_lists.specs.Held.AllAtMost (length heap.slots) ns) (sym (read_empty heap.saved)) tt;
   })
 ]
 
@@ -421,7 +423,7 @@ given_trial_in heap facts n given trial all g k now (inl old) = all.trials k now
 given_trial_in heap facts n given trial all g k now (inr is) =
     let t = all.trials k trial is.2 in
     subst (λ t. TrialIn heap t) (sym is.1)
-    (record { taken = t.taken; under = t.under; given = g; unseen_cells = t.unseen_cells; unseen_under = t.unseen_under })
+    (record { taken = t.taken; under = t.under; given = g; unseen_cells = t.unseen_cells; unseen_under = t.unseen_under; first_cells = t.first_cells; first_under = t.first_under })
 
 given_first : (facts : Facts) (n given : ℕ) (trial : Trial) → Formed facts → (k : ℕ) (now : Trial)
     → (slice_get facts.trials k ≡ Some now) ⊎ ((k ≡ n) × (now ≡ record trial { given = Some given }) × (slice_get facts.trials k ≡ Some trial))
@@ -579,6 +581,8 @@ keeps_narrow header code heap facts n trial unseen k has m o = record {
       given = t.given;
       unseen_cells = omega (arith, t.unseen_cells, m.cells);
       unseen_under = omega (arith, t.unseen_under, m.under);
+      first_cells = (omega (arith, t.first_cells.0, m.cells), t.first_cells.1);
+      first_under = (omega (arith, t.first_under.0, m.under), t.first_under.1);
     });
   };
   over = record {

@@ -1,48 +1,62 @@
--- How much is left to be found.
-use Rattle.std.proofs.Common.{arith, ◌≡◌, ◌≤◌, ◌<◌, ◌+◌, ◌-◌, ◌*◌, ◌^◌, ℕ, zero, suc, List, [], ◌∷◌, ◌++◌, length, Option, None, Some, slice_get, slice_set, sym, subst, ◌∙◌, ap, refl}
+-- How much was found, and how much is left to be.
+use Rattle.std.proofs.Common.{arith, ◌≡◌, ◌≤◌, ◌<◌, ◌+◌, ◌-◌, ◌*◌, ◌^◌, ℕ, zero, suc, List, [], ◌∷◌, ◌++◌, length, None, Some, slice_get, slice_set, sym, subst, ◌∙◌, ap, refl}
+use Rattle.stack_lists.specs.declared.rows.Row.{Row}
 use Rattle.stack_check.specs.declared.facts.Trial.{Trial}
 use Rattle.stack_check.specs.declared.facts.Facts.{Facts}
-use Rattle.stack_check.specs.Facts.{given_open, open_of, all_open, left}
+use Rattle.stack_check.specs.Facts.{FindsMore, found, given_open, left, open_of, seen_of, total}
 
 some_is : {A : Type 0} (a b : A) → Some a ≡ Some b → a ≡ b
 some_is a b h = cc
 
-open_more : (trials : List Trial) (trial : Trial) → all_open (trials ++ trial ∷ []) ≡ all_open trials + open_of trial
-open_more [] trial = omega arith
-open_more (t ∷ trials) trial = let e = open_more trials trial in omega (arith, e)
+total_more : (of : Trial → ℕ) (trials : List Trial) (trial : Trial) → total of (trials ++ trial ∷ []) ≡ total of trials + of trial
+total_more of [] trial = omega arith
+total_more of (t ∷ trials) trial = let e = total_more of trials trial in omega (arith, e)
 
-open_set : (trials : List Trial) (n : ℕ) (old new : Trial) → slice_get trials n ≡ Some old
-    → all_open (slice_set trials n new) + open_of old ≡ all_open trials + open_of new
-open_set [] n old new h = absurd cc
-open_set (t ∷ trials) zero old new h =
-    let e : open_of t ≡ open_of old = ap open_of (some_is t old h) in omega (arith, e)
-open_set (t ∷ trials) (suc n) old new h = let e = open_set trials n old new h in omega (arith, e)
+total_set : (of : Trial → ℕ) (trials : List Trial) (n : ℕ) (old new : Trial) → slice_get trials n ≡ Some old
+    → total of (slice_set trials n new) + of old ≡ total of trials + of new
+total_set of [] n old new h = absurd cc
+total_set of (t ∷ trials) zero old new h = let e : of t ≡ of old = ap of (some_is t old h) in omega (arith, e)
+total_set of (t ∷ trials) (suc n) old new h = let e = total_set of trials n old new h in omega (arith, e)
+
+pub total_under : (low high : Trial → ℕ) (trials : List Trial) → ((n : ℕ) (t : Trial) → slice_get trials n ≡ Some t → low t ≤ high t) → total low trials ≤ total high trials
+total_under low high [] h = omega arith
+total_under low high (t ∷ trials) h =
+    let a = h 0 t refl in let b = total_under low high trials (λ n t e. h (suc n) t e) in omega (arith, a, b)
 
 numbers_row : (r s o : ℕ) → s ≡ r + 1 → r < 33554432 → 67108866 * (33554432 - s) + o < 67108866 * (33554432 - r) + o
 numbers_row r s o e h = omega (arith, e, h)
 
-pub left_row : (before after : Facts) → length after.rows ≡ length before.rows + 1 → length before.rows < 2 ^ 25 → after.trials ≡ before.trials
-    → left after < left before
-unfolding left
-left_row before after e h t =
-    subst (λ o. 67108866 * (33554432 - length after.rows) + o < 67108866 * (33554432 - length before.rows) + all_open before.trials)
-    (sym (ap all_open t)) (numbers_row (length before.rows) (length after.rows) (all_open before.trials) e h)
+pub more_row : (before after : Facts) → length after.rows ≡ length before.rows + 1 → length before.rows < 2 ^ 25 → after.trials ≡ before.trials
+    → FindsMore before after
+unfolding left found
+more_row before after e h t = record {
+  left = subst (λ o. 67108866 * (33554432 - length after.rows) + o < 67108866 * (33554432 - length before.rows) + total open_of before.trials)
+      (sym (ap (total open_of) t)) (numbers_row (length before.rows) (length after.rows) (total open_of before.trials) e h);
+  found = let s : total seen_of after.trials ≡ total seen_of before.trials = ap (total seen_of) t in omega (arith, e, s);
+}
 
 numbers_trial : (r s o p q : ℕ) → s ≡ r + 1 → r < 33554432 → q ≡ o + p → p ≤ 67108865 → 67108866 * (33554432 - s) + q < 67108866 * (33554432 - r) + o
 numbers_trial r s o p q e h i j = omega (arith, e, h, i, j)
 
-pub left_trial : (before after : Facts) (trial : Trial) → length after.rows ≡ length before.rows + 1 → length before.rows < 2 ^ 25
-    → after.trials ≡ before.trials ++ trial ∷ [] → trial.given ≡ None → trial.unseen.cells ≤ 2 ^ 25 → trial.unseen.under ≤ 2 ^ 25 → left after < left before
-unfolding left
-left_trial before after trial e h t g c u =
-    numbers_trial (length before.rows) (length after.rows) (all_open before.trials) (open_of trial) (all_open after.trials) e h
-    (ap all_open t ∙ open_more before.trials trial) (let o : given_open trial.given ≡ 1 = ap given_open g in omega (arith, o, c, u))
+pub more_trial : (before after : Facts) (trial : Trial) → length after.rows ≡ length before.rows + 1 → length before.rows < 2 ^ 25
+    → after.trials ≡ before.trials ++ trial ∷ [] → trial.given ≡ None → trial.unseen.cells ≤ 2 ^ 25 → trial.unseen.under ≤ 2 ^ 25 → FindsMore before after
+unfolding left found
+more_trial before after trial e h t g c u = record {
+  left = numbers_trial (length before.rows) (length after.rows) (total open_of before.trials) (open_of trial) (total open_of after.trials) e h
+      (ap (total open_of) t ∙ total_more open_of before.trials trial)
+      (let o : given_open trial.given ≡ 1 = ap given_open g in omega (arith, o, c, u));
+  found = let s : total seen_of after.trials ≡ total seen_of before.trials + seen_of trial = ap (total seen_of) t ∙ total_more seen_of before.trials trial in
+      omega (arith, e, s);
+}
 
-pub left_set : (before after : Facts) (n : ℕ) (old new : Trial) → slice_get before.trials n ≡ Some old → after.trials ≡ slice_set before.trials n new
-    → after.rows ≡ before.rows → open_of new < open_of old → left after < left before
-unfolding left
-left_set before after n old new h t r o =
-    let e = open_set before.trials n old new h in
-    let f = ap all_open t in
-    let g : length after.rows ≡ length before.rows = ap (λ (rs : List Rattle.stack_check.specs.declared.rows.Row.Row). length rs) r in
-    omega (arith, e, f, g, o)
+pub more_set : (before after : Facts) (n : ℕ) (old new : Trial) → slice_get before.trials n ≡ Some old → after.trials ≡ slice_set before.trials n new
+    → after.rows ≡ before.rows → open_of new < open_of old → seen_of old < seen_of new → FindsMore before after
+unfolding left found
+more_set before after n old new h t r o s =
+    let f = ap (total open_of) t in
+    let k = ap (total seen_of) t in
+    let g : length after.rows ≡ length before.rows = ap (λ (rs : List Row). length rs) r in
+    record {
+      left = let e = total_set open_of before.trials n old new h in omega (arith, e, f, g, o);
+      found = let e = total_set seen_of before.trials n old new h in omega (arith, e, k, g, s);
+    }

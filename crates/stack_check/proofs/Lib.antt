@@ -1,9 +1,3 @@
-pub mod SharedLists
-pub mod Walks
-pub mod Heaps
-pub mod Numbers
-pub mod RowLemmas
-pub mod Links
 pub mod Windows
 pub mod Left
 pub mod Keeping
@@ -21,3 +15,4 @@ pub mod Storing
 pub mod Passing
 pub mod Ending
 pub mod Fitting
+mod Behind

@@ -1,32 +1,32 @@
 -- A pass over all places: where it finds nothing to do, the table that was found meets the rules.
-use Rattle.std.proofs.Common.{arith, ◌≡◌, ◌≤◌, ◌<◌, ◌+◌, ◌-◌, ℕ, zero, suc, List, [], ◌∷◌, ◌++◌, length, map, Option, None, Some, slice_get, inl, inr, ◌⊎◌, sym, subst, ◌∙◌, ap, refl}
+use Rattle.std.proofs.Common.{arith, ◌≡◌, ◌≤◌, ◌<◌, ◌+◌, ◌-◌, ℕ, zero, suc, List, [], ◌∷◌, ◌++◌, length, map, Option, None, Some, slice_get, inl, inr, sym, subst, ◌∙◌, ap, refl}
 use Rattle.std.specs.Option.{option_map, option_and_then}
 use Rattle.std.proofs.lemmas.Bool.{cases_eq}
 use Rattle.std.proofs.lemmas.List.{take-append-drop}
 use Rattle.nwq_value.specs.Engine.{EngineTable}
 use Rattle.ncs_code.specs.Plain.{PlainOp}
 use Rattle.stack_shape.specs.declared.shape.Entry.{Entry}
-use Rattle.stack_shape.specs.declared.shape.Entry.TheVariants.{Start, Called, Stored}
+use Rattle.stack_shape.specs.declared.shape.Entry.TheVariants.{Start, Called}
 use Rattle.stack_shape.specs.Stored.{TopShape}
-use Rattle.stack_rules.specs.Tables.{Callee, ShapeTable, first_shape}
+use Rattle.stack_rules.specs.Tables.{Callee, first_shape}
 use Rattle.stack_rules.specs.Rules.{IsSound, MeetsRules}
-use Rattle.stack_check.specs.declared.held.Held.{Held}
-use Rattle.stack_check.specs.declared.held.Heap.{Heap}
-use Rattle.stack_check.specs.declared.rows.Row.{Row}
+use Rattle.stack_lists.specs.declared.held.Held.{Held}
+use Rattle.stack_lists.specs.declared.held.Heap.{Heap}
+use Rattle.stack_lists.specs.declared.rows.Row.{Row}
 use Rattle.stack_check.specs.declared.facts.Trial.{Trial}
 use Rattle.stack_check.specs.declared.facts.Facts.{Facts}
 use Rattle.stack_check.specs.declared.seen.Seen.{Seen}
 use Rattle.stack_check.specs.declared.seen.Seen.TheVariants.{Quiet, Changed, Bad}
-use Rattle.stack_check.specs.Shared.{read}
-use Rattle.stack_check.specs.Held.{HeapGrows, shape_of}
-use Rattle.stack_check.specs.Rows.{row_in}
-use Rattle.stack_check.specs.Facts.{current, first_place, first_held, kept_callee, left, table_of, unseen_cells, unseen_under}
+use Rattle.stack_lists.specs.Shared.{read}
+use Rattle.stack_lists.specs.Held.{HeapGrows, shape_of}
+use Rattle.stack_lists.specs.Rows.{row_in}
+use Rattle.stack_check.specs.Facts.{FindsMore, current, first_place, first_held, kept_callee, table_of, unseen_cells, unseen_under}
 use Rattle.stack_check.specs.Inference.{IsWhole, IsOver, TrialIn, Keeps, Visited, WhereQuiet, Takes, Sound, Sees, RowSound, SeesRow, SeesAll}
-use Rattle.stack_check.proofs.Heaps.{heap_same, heap_then, same_shape}
+use Rattle.stack_lists.proofs.Heaps.{heap_same, heap_then, same_shape}
 use Rattle.stack_check.proofs.Calling.{taken_is, under_is}
-use Rattle.stack_check.proofs.RowLemmas.{row_number}
+use Rattle.stack_lists.proofs.RowLemmas.{row_number}
 use Rattle.stack_check.proofs.Tables.{at_of, entry_is, found_in, sound_before, whole_over}
-use Rattle.stack_check.proofs.Walks.{read_empty}
+use Rattle.stack_lists.proofs.Walks.{read_empty}
 
 some_is : {A : Type 0} (a b : A) → Some a ≡ Some b → a ≡ b
 some_is a b h = cc
@@ -114,7 +114,7 @@ all_changed header code first now next before facts after number t p seen s l e 
   grows = heap_then first now next s.grows l.grows;
   keeps = subst (λ s. Visited header code next after s) e l.keeps;
   quiet = tt;
-  takes = subst (λ f. left after < left f) s.same (subst (λ s. Takes facts after s) e l.takes);
+  takes = subst (λ f. FindsMore f after) s.same (subst (λ s. Takes facts after s) e l.takes);
 }
 
 pub all_bad : (header : EngineTable) (code : List PlainOp) (first now next : Heap) (before facts after : Facts) (number t p : ℕ) (seen : Seen)

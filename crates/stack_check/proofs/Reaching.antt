@@ -1,14 +1,14 @@
 -- Shapes that are reached.
 use Rattle.std.proofs.Common.{◌≡◌, ℕ, map, Some, sym, ◌∙◌, ap}
 use Rattle.stack_shape.specs.Stored.{TopShape}
-use Rattle.stack_check.specs.declared.held.Held.{Held}
-use Rattle.stack_check.specs.declared.held.Heap.{Heap}
+use Rattle.stack_lists.specs.declared.held.Held.{Held}
+use Rattle.stack_lists.specs.declared.held.Heap.{Heap}
 use Rattle.stack_check.specs.declared.facts.Facts.{Facts}
-use Rattle.stack_check.specs.Shared.{read}
-use Rattle.stack_check.specs.Held.{shape_of}
-use Rattle.stack_check.specs.Rows.{row_in}
+use Rattle.stack_lists.specs.Shared.{read}
+use Rattle.stack_lists.specs.Held.{shape_of}
+use Rattle.stack_lists.specs.Rows.{row_in}
 use Rattle.stack_check.specs.Inference.{RowIs}
-use Rattle.stack_check.proofs.Heaps.{same_shape}
+use Rattle.stack_lists.proofs.Heaps.{same_shape}
 
 pub parts_same : (heap : Heap) (a b : Held) → a.pending ≡ b.pending → read heap.slots a.cells ≡ read heap.slots b.cells
     → read heap.slots a.under ≡ read heap.slots b.under

@@ -1,5 +1,5 @@
 -- What the functions on RETN owe.
-use Rattle.std.proofs.Common.{◌≡◌, ◌<◌, ℕ, List, [], ◌∷◌, Some, slice_get, sym, subst, refl}
+use Rattle.std.proofs.Common.{◌≡◌, ℕ, List, [], ◌∷◌, Some, slice_get, sym, subst, refl}
 use Rattle.nwq_value.specs.Engine.{EngineTable}
 use Rattle.ncs_code.specs.Plain.{PlainOp}
 use Rattle.ncs_code.specs.Plain as ops
@@ -7,16 +7,16 @@ use Rattle.ncs_code.specs.File.{op_at}
 use Rattle.stack_shape.specs.declared.shape.Entry.{Entry}
 use Rattle.stack_shape.specs.declared.shape.Entry.TheVariants.{Start, Called, Stored}
 use Rattle.stack_rules.specs.Rules.{Returns}
-use Rattle.stack_check.specs.declared.held.Held.{Held}
-use Rattle.stack_check.specs.declared.held.Heap.{Heap}
+use Rattle.stack_lists.specs.declared.held.Held.{Held}
+use Rattle.stack_lists.specs.declared.held.Heap.{Heap}
 use Rattle.stack_check.specs.declared.facts.Trial.{Trial}
 use Rattle.stack_check.specs.declared.facts.Facts.{Facts}
 use Rattle.stack_check.specs.declared.seen.Seen.TheVariants.{Quiet, Changed, Bad}
-use Rattle.stack_check.specs.Shared.{read}
-use Rattle.stack_check.specs.Rows.{row_in}
-use Rattle.stack_check.specs.Facts.{left}
+use Rattle.stack_lists.specs.Shared.{read}
+use Rattle.stack_lists.specs.Rows.{row_in}
+use Rattle.stack_check.specs.Facts.{FindsMore}
 use Rattle.stack_check.specs.Inference.{Keeps, Sees}
-use Rattle.stack_check.proofs.Heaps.{heap_same}
+use Rattle.stack_lists.proofs.Heaps.{heap_same}
 use Rattle.stack_check.proofs.CallSteps.{sees_changed}
 use Rattle.stack_check.proofs.Calling.{never_saved, never_pending, never_gives, return_owed, return_sound, end_sound}
 
@@ -49,7 +49,7 @@ gives_quiet header code heap facts n p target held trial given k stands has e g 
     record { grows = heap_same heap; keeps = k; quiet = (refl, return_sound header code heap facts n p target held trial given k stands has e g same s z); takes = tt }
 
 pub gives_changed : (header : EngineTable) (code : List PlainOp) (heap : Heap) (facts after : Facts) (n p : ℕ) (held : Held) → Keeps header code heap after
-    → left after < left facts → Sees header code heap heap facts after n p held Changed
+    → FindsMore facts after → Sees header code heap heap facts after n p held Changed
 gives_changed header code heap facts after n p held k l = sees_changed header code heap heap facts after n p held (heap_same heap) k l
 
 pub ruleset giving = (gives_bad, gives_quiet, gives_changed, return_owed)

@@ -1,25 +1,22 @@
 -- What an instruction looks at.
-use Rattle.std.proofs.Common.{arith, ◌≡◌, ◌≤◌, ◌<◌, ◌+◌, ◌-◌, ℕ, List, [], ◌∷◌, length, map, Bool, true, false, Option, None, Some, slice_get, slice_set, sym, subst, ◌∙◌, ap, refl}
+use Rattle.std.proofs.Common.{arith, ◌≡◌, ◌+◌, ◌-◌, ℕ, List, [], ◌∷◌, map, true, false, None, Some, slice_get, slice_set, sym, subst, ◌∙◌, ap, refl}
 use Rattle.nwq_value.specs.Engine.{EngineTable}
 use Rattle.ncs_code.specs.Plain.{PlainOp}
-use Rattle.stack_shape.specs.declared.shape.Slot.{Slot}
 use Rattle.stack_shape.specs.declared.reach.Reach.{Reach}
 use Rattle.stack_shape.specs.Stored.{TopShape}
-use Rattle.stack_rules.specs.Tables.{ShapeTable}
-use Rattle.stack_rules.specs.Rules.{MeetsRules}
-use Rattle.stack_check.specs.declared.held.Held.{Held}
-use Rattle.stack_check.specs.declared.held.Heap.{Heap}
+use Rattle.stack_lists.specs.declared.held.Held.{Held}
+use Rattle.stack_lists.specs.declared.held.Heap.{Heap}
 use Rattle.stack_check.specs.declared.facts.Trial.{Trial}
 use Rattle.stack_check.specs.declared.facts.Unseen.{Unseen}
 use Rattle.stack_check.specs.declared.facts.Facts.{Facts}
-use Rattle.stack_check.specs.Shared.{read}
-use Rattle.stack_check.specs.Held.{shape_of}
-use Rattle.stack_check.specs.Rows.{row_in}
-use Rattle.stack_check.specs.Facts.{given_open, open_of, left, with_unseen}
-use Rattle.stack_check.specs.Inference.{Keeps, IsThere, LooksOwed, SeesMore, UnseenOwed, Within, is_nil, narrowed, unseen_after}
+use Rattle.stack_lists.specs.Shared.{read}
+use Rattle.stack_lists.specs.Held.{shape_of}
+use Rattle.stack_lists.specs.Rows.{row_in}
+use Rattle.stack_check.specs.Facts.{FindsMore, given_found, given_open, open_of, seen_of}
+use Rattle.stack_check.specs.Inference.{Keeps, IsThere, LooksOwed, SeesMore, UnseenOwed, Within, is_nil, unseen_after}
 use Rattle.stack_check.proofs.Windows.{after_less, fits_after, lowest_length, within_same}
 use Rattle.stack_check.proofs.Keeping.{keeps_narrow}
-use Rattle.stack_check.proofs.Left.{left_set}
+use Rattle.stack_check.proofs.Left.{more_set}
 use Rattle.stack_check.proofs.Steps.{row_trial}
 
 some_is : {A : Type 0} (a b : A) → Some a ≡ Some b → a ≡ b
@@ -34,13 +31,17 @@ narrow_keeps header code heap facts after n trial now unseen k has m o e a =
     subst (λ f. Keeps header code heap f) (sym (a ∙ ap (λ t. record facts { trials = slice_set facts.trials n t }) e))
     (keeps_narrow header code heap facts n trial unseen k has m o)
 
-pub narrow_left : (facts after : Facts) (n : ℕ) (trial now : Trial) (unseen : Unseen) → slice_get facts.trials n ≡ Some trial → SeesMore trial.unseen unseen
-    → now ≡ record trial { unseen = unseen } → after ≡ record facts { trials = slice_set facts.trials n now } → left after < left facts
-narrow_left facts after n trial now unseen has m e a =
-    left_set facts after n trial now has (ap (λ (f : Facts). f.trials) a) (ap (λ (f : Facts). f.rows) a)
+pub narrow_more : (header : EngineTable) (code : List PlainOp) (heap : Heap) (facts after : Facts) (n : ℕ) (trial now : Trial) (unseen : Unseen)
+    → Keeps header code heap facts → slice_get facts.trials n ≡ Some trial → SeesMore trial.unseen unseen
+    → now ≡ record trial { unseen = unseen } → after ≡ record facts { trials = slice_set facts.trials n now } → FindsMore facts after
+narrow_more header code heap facts after n trial now unseen k has m e a =
+    let i = k.inside.trials n trial has in
+    more_set facts after n trial now has (ap (λ (f : Facts). f.trials) a) (ap (λ (f : Facts). f.rows) a)
     (let o : open_of now ≡ given_open trial.given + unseen.cells + unseen.under = ap open_of e in omega (arith, o, m.less))
+    (let o : seen_of now ≡ given_found trial.given + (trial.at_first.cells - unseen.cells) + (trial.at_first.under - unseen.under) = ap seen_of e in
+    omega (arith, o, m.less, m.cells, m.under, i.first_cells.0, i.first_under.0))
 
-pub ruleset narrowing = (narrow_keeps, narrow_left)
+pub ruleset narrowing = (narrow_keeps, narrow_more)
 
 -- ---- how much is unseen
 

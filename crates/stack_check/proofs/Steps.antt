@@ -13,16 +13,16 @@ use Rattle.stack_shape.specs.Rule.{IsOneStep, rule}
 use Rattle.machine_rules.specs.Act.{next_place}
 use Rattle.stack_rules.specs.Tables.{ShapeTable}
 use Rattle.stack_rules.specs.Rules.{Leads, AsksFurther, Follows, Obeys, MeetsRules, WellStacked}
-use Rattle.stack_check.specs.declared.held.Held.{Held}
-use Rattle.stack_check.specs.declared.held.Heap.{Heap}
+use Rattle.stack_lists.specs.declared.held.Held.{Held}
+use Rattle.stack_lists.specs.declared.held.Heap.{Heap}
 use Rattle.stack_check.specs.declared.facts.Trial.{Trial}
 use Rattle.stack_check.specs.declared.facts.Facts.{Facts}
 use Rattle.stack_check.specs.declared.leads.Lead.{Lead}
-use Rattle.stack_check.specs.Held.{HeapGrows, IsIn, shape_of}
-use Rattle.stack_check.specs.Rows.{row_in}
-use Rattle.stack_check.specs.Facts.{current, table_of, unseen_cells, unseen_under}
-use Rattle.stack_check.specs.Inference.{RowFits, Keeps, Owed, RowIs, IsLed, AllLed, RowsKept, IsOver, IsOverIn, IsStep, IsThere, LooksOwed, Within, Sound, AsksFurtherOf, leads_of}
-use Rattle.stack_check.proofs.Heaps.{still_shape}
+use Rattle.stack_lists.specs.Held.{HeapGrows, IsIn, shape_of}
+use Rattle.stack_lists.specs.Rows.{row_in}
+use Rattle.stack_check.specs.Facts.{table_of, unseen_cells, unseen_under}
+use Rattle.stack_check.specs.Inference.{RowFits, Keeps, Owed, IsLed, AllLed, RowsKept, IsOver, IsStep, IsThere, LooksOwed, Within, Sound, AsksFurtherOf, leads_of}
+use Rattle.stack_lists.proofs.Heaps.{still_shape}
 use Rattle.stack_check.proofs.Keeping.{over_still}
 use Rattle.stack_check.proofs.Tables.{led_at, own_is}
 

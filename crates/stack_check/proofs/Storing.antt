@@ -1,5 +1,5 @@
 -- Stored states.
-use Rattle.std.proofs.Common.{arith, ◌≡◌, ◌≤◌, ◌<◌, ◌+◌, ℕ, ℤ, zero, suc, List, [], ◌∷◌, ◌++◌, length, map, Option, None, Some, slice_get, sym, subst, ◌∙◌, ap, refl}
+use Rattle.std.proofs.Common.{arith, ◌≡◌, ◌≤◌, ◌+◌, ℕ, ℤ, zero, suc, List, [], ◌∷◌, ◌++◌, length, map, Option, None, Some, slice_get, sym, subst, ◌∙◌, ap, refl}
 use Rattle.std.specs.Prelude.{get_or}
 use Rattle.std.proofs.lemmas.List.{append-nil}
 use Rattle.nwq_value.specs.Engine.{EngineTable}
@@ -11,13 +11,13 @@ use Rattle.stack_shape.specs.declared.shape.Slot.TheVariants.{Of, Base}
 use Rattle.stack_shape.specs.declared.shape.Entry.TheVariants.{Stored}
 use Rattle.stack_shape.specs.declared.store.StoredTypes.{StoredTypes}
 use Rattle.stack_shape.specs.Stored.{TopShape, stored_shape, stored_types}
-use Rattle.stack_shape.specs.Laws.{deeper, deeper_saved, beneath_under, RuleLooksFromTop, StoresLookFromTop}
+use Rattle.stack_shape.specs.Laws.{deeper, beneath_under, RuleLooksFromTop, StoresLookFromTop}
 use Rattle.stack_shape.specs.Rule.{IsOneStep, rule}
 use Rattle.stack_rules.specs.Tables.{ShapeTable}
 use Rattle.stack_rules.specs.Rules.{AsksFurther}
-use Rattle.stack_check.specs.declared.held.Held.{Held}
-use Rattle.stack_check.specs.declared.held.Heap.{Heap}
-use Rattle.stack_check.specs.declared.lists.Node.{Node}
+use Rattle.stack_lists.specs.declared.held.Held.{Held}
+use Rattle.stack_lists.specs.declared.held.Heap.{Heap}
+use Rattle.stack_lists.specs.declared.lists.Node.{Node}
 use Rattle.stack_check.specs.declared.facts.Trial.{Trial}
 use Rattle.stack_check.specs.declared.facts.Facts.{Facts}
 use Rattle.stack_check.specs.declared.seen.Seen.{Seen}
@@ -26,16 +26,15 @@ use Rattle.stack_check.specs.declared.leads.Kind.{Kind}
 use Rattle.stack_check.specs.declared.leads.Kind.TheVariants.{Call, Return, Store, Step}
 use Rattle.std.specs.Option.{option_map}
 use Rattle.machine_rules.specs.Act.{next_place}
-use Rattle.stack_check.specs.Shared.{read, Grows}
-use Rattle.stack_check.specs.Held.{AllAtMost, HeapGrows, Holds, IsIn, shape_of}
-use Rattle.stack_check.specs.Rows.{row_in}
-use Rattle.stack_check.specs.Facts.{current, number_in, table_of, first_held, callee_of}
-use Rattle.stack_check.specs.Inference.{IsOver, IsWhole, TrialIn, AsksFurtherOf, Takes, Beyond, RowIs, Keeps, Visited, WhereQuiet, Owed, Begins, Sound, Sees, SeesStep, Resumes, IsStored, Stores, IsPlain, IsCall, after_change, kind_of}
-use Rattle.stack_check.proofs.Heaps.{heap_then, heap_same, same_shape}
-use Rattle.stack_check.specs.Facts.{left}
-use Rattle.stack_check.proofs.Walks.{read_empty, grows_then, grows_none}
+use Rattle.stack_lists.specs.Shared.{read, Grows}
+use Rattle.stack_lists.specs.Held.{AllAtMost, HeapGrows, Holds, IsIn, shape_of}
+use Rattle.stack_lists.specs.Rows.{row_in}
+use Rattle.stack_check.specs.Facts.{FindsMore, current, number_in, table_of, first_held, callee_of}
+use Rattle.stack_check.specs.Inference.{IsWhole, TrialIn, Takes, Beyond, RowIs, Keeps, Visited, WhereQuiet, Owed, Begins, Sound, Sees, SeesStep, Resumes, IsStored, Stores, IsPlain, IsCall, after_change, kind_of}
+use Rattle.stack_lists.proofs.Heaps.{heap_then, heap_same, same_shape}
+use Rattle.stack_lists.proofs.Walks.{read_empty, grows_then, grows_none}
 use Rattle.stack_check.proofs.Windows.{deeper_none}
-use Rattle.stack_check.proofs.Tables.{at_of, led_at, whole_over}
+use Rattle.stack_check.proofs.Tables.{led_at, whole_over}
 use Rattle.stack_check.proofs.Keeping.{keeps_grows}
 use Rattle.stack_check.proofs.Following.{takes_both}
 use Rattle.stack_check.proofs.Steps.{row_trial, table_follows, no_rule, no_op}
@@ -82,12 +81,12 @@ counts_of facts site (suc n) e ne = ap number_in (sym e)
 pub ruleset counting = (counts_of)
 
 first_is : (heap : Heap) (held : Held) (site : ℕ) → (held.saved ≡ 0) × (held.pending ≡ 0)
-    → shape_of heap (first_held (record { entry = Stored site; taken = held.cells; under = held.under; given = None; unseen = record { cells = 0; under = 0 } })) ≡ shape_of heap held
+    → shape_of heap (first_held (record { entry = Stored site; taken = held.cells; under = held.under; given = None; unseen = record { cells = 0; under = 0 }; at_first = record { cells = 0; under = 0 } })) ≡ shape_of heap held
 first_is heap held site z = same_shape _ _ _ _ _ _ _ _ refl refl (ap (λ n. map (read heap.slots) (read heap.saved n)) (sym z.0)) (sym z.1)
 
 pub stored_begins : (header : EngineTable) (code : List PlainOp) (heap : Heap) (site : ℕ) (held : Held) → Resumes header code site (shape_of heap held)
     → (held.saved ≡ 0) × (held.pending ≡ 0)
-    → Begins header code heap (record { entry = Stored site; taken = held.cells; under = held.under; given = None; unseen = record { cells = 0; under = 0 } })
+    → Begins header code heap (record { entry = Stored site; taken = held.cells; under = held.under; given = None; unseen = record { cells = 0; under = 0 }; at_first = record { cells = 0; under = 0 } })
 stored_begins header code heap site held r z = record {
   by = λ table meets. record {
     x = [];
@@ -108,8 +107,8 @@ stored_begins header code heap site held r z = record {
 }
 
 pub stored_in : (heap : Heap) (held : Held) (site : ℕ) → IsIn heap held
-    → TrialIn heap (record { entry = Stored site; taken = held.cells; under = held.under; given = None; unseen = record { cells = 0; under = 0 } })
-stored_in heap held site i = record { taken = i.cells; under = i.under; given = tt; unseen_cells = omega arith; unseen_under = omega arith }
+    → TrialIn heap (record { entry = Stored site; taken = held.cells; under = held.under; given = None; unseen = record { cells = 0; under = 0 }; at_first = record { cells = 0; under = 0 } })
+stored_in heap held site i = record { taken = i.cells; under = i.under; given = tt; unseen_cells = omega arith; unseen_under = omega arith; first_cells = (omega arith, omega arith); first_under = (omega arith, omega arith) }
 
 pub stored_owed : (header : EngineTable) (code : List PlainOp) (heap : Heap) (facts : Facts) (site number : ℕ) (held : Held) → Keeps header code heap facts
     → Resumes header code site (shape_of heap held) → current facts (Stored site) ≡ Some number → Owed header code heap facts number (resume_place site) held
@@ -135,7 +134,7 @@ stored_quiet heap facts after site number shape Quiet c q = (q.0, record { numbe
 stored_quiet heap facts after site number shape Changed c q = tt
 stored_quiet heap facts after site number shape Bad c q = tt
 
-pub stored_takes : (before after : Facts) → left after < left before → Takes before after Changed
+pub stored_takes : (before after : Facts) → FindsMore before after → Takes before after Changed
 stored_takes before after l = l
 
 pub ruleset resuming = (stored_begins, stored_in, stored_owed, stored_quiet)

@@ -1,5 +1,5 @@
 -- The table that was found: each shape without what its trial hasn't looked at.
-use Rattle.std.proofs.Common.{arith, ◌≡◌, ◌≤◌, ◌-◌, ℕ, zero, suc, List, [], ◌∷◌, ◌++◌, length, take, map, Option, None, Some, slice_get, sym, subst, ◌∙◌, ap, refl}
+use Rattle.std.proofs.Common.{◌≡◌, ◌≤◌, ℕ, List, [], length, Option, None, Some, slice_get, sym, subst, ◌∙◌, ap, refl}
 use Rattle.std.specs.Option.{option_map, option_and_then}
 use Rattle.std.proofs.Math.Path.{fun_ext}
 use Rattle.nwq_value.specs.Engine.{EngineTable}
@@ -11,19 +11,18 @@ use Rattle.stack_shape.specs.Stored.{TopShape}
 use Rattle.stack_shape.specs.Laws.{deeper}
 use Rattle.stack_rules.specs.Tables.{Callee, ShapeTable}
 use Rattle.stack_rules.specs.Rules.{IsSound}
-use Rattle.stack_check.specs.declared.held.Held.{Held}
-use Rattle.stack_check.specs.declared.held.Heap.{Heap}
+use Rattle.stack_lists.specs.declared.held.Held.{Held}
+use Rattle.stack_lists.specs.declared.held.Heap.{Heap}
 use Rattle.stack_check.specs.declared.facts.Trial.{Trial}
-use Rattle.stack_check.specs.declared.facts.Unseen.{Unseen}
 use Rattle.stack_check.specs.declared.facts.Facts.{Facts}
-use Rattle.stack_check.specs.Shared.{read}
-use Rattle.stack_check.specs.Held.{HeapGrows, shape_of}
-use Rattle.stack_check.specs.Rows.{row_in}
+use Rattle.stack_lists.specs.Shared.{read}
+use Rattle.stack_lists.specs.Held.{HeapGrows, shape_of}
+use Rattle.stack_lists.specs.Rows.{row_in}
 use Rattle.stack_check.specs.Facts.{current, lowest, unseen_cells, unseen_under, without, cut, cut_for, kept_callee, callee_at, shape_at, table_of}
 use Rattle.stack_check.specs.Inference.{Formed, TrialIn, IsWhole, IsOver, Keeps, RowIs, Sound}
-use Rattle.stack_check.proofs.Heaps.{still_shape}
+use Rattle.stack_lists.proofs.Heaps.{still_shape}
 use Rattle.stack_check.proofs.Keeping.{cells_still, under_still, over_still}
-use Rattle.stack_check.proofs.Windows.{cut_deeper, deeper_none, lowest_none, without_on}
+use Rattle.stack_check.proofs.Windows.{cut_deeper, deeper_none, lowest_none}
 
 some_is : {A : Type 0} (a b : A) → Some a ≡ Some b → a ≡ b
 some_is a b h = cc

@@ -11,20 +11,17 @@ use Rattle.stack_shape.specs.Rule.{IsOneStep, rule}
 use Rattle.machine_rules.specs.Act.{next_place}
 use Rattle.stack_rules.specs.Tables.{ShapeTable}
 use Rattle.stack_rules.specs.Rules.{AsksFurther}
-use Rattle.stack_check.specs.declared.held.Held.{Held}
-use Rattle.stack_check.specs.declared.held.Heap.{Heap}
+use Rattle.stack_lists.specs.declared.held.Held.{Held}
+use Rattle.stack_lists.specs.declared.held.Heap.{Heap}
 use Rattle.stack_check.specs.declared.facts.Facts.{Facts}
 use Rattle.stack_check.specs.declared.seen.Seen.{Seen}
 use Rattle.stack_check.specs.declared.seen.Seen.TheVariants.{Quiet, Changed, Bad}
 use Rattle.stack_check.specs.declared.leads.Lead.{Lead}
-use Rattle.stack_check.specs.Held.{AfterStep, shape_of}
-use Rattle.stack_check.specs.Rows.{row_in}
-use Rattle.stack_check.specs.Facts.{table_of}
-use Rattle.stack_check.specs.Inference.{AllLed, Keeps, Visited, WhereQuiet, IsOver, IsStep, IsThere, LooksOwed, Within, AsksFurtherOf, Takes, Sound, Sees, SeesStep, RowsKept, IsPlain, leads_of}
-use Rattle.stack_check.specs.Held.{HeapGrows}
-use Rattle.stack_check.specs.Facts.{left}
-use Rattle.stack_check.specs.declared.facts.Trial.{Trial}
-use Rattle.stack_check.proofs.Heaps.{still_shape}
+use Rattle.stack_lists.specs.Held.{AfterStep, shape_of}
+use Rattle.stack_lists.specs.Rows.{row_in}
+use Rattle.stack_check.specs.Facts.{FindsMore, table_of}
+use Rattle.stack_check.specs.Inference.{AllLed, Keeps, Visited, WhereQuiet, IsStep, IsThere, Within, AsksFurtherOf, Takes, Sound, Sees, SeesStep, RowsKept, IsPlain, leads_of}
+use Rattle.stack_lists.proofs.Heaps.{still_shape}
 use Rattle.stack_check.proofs.Keeping.{keeps_grows}
 use Rattle.stack_check.proofs.Steps.{looks_owed, no_rule, rule_there, step_made, step_sound}
 
@@ -73,7 +70,7 @@ step_sees law deep header code a b facts facts' n p held after op lead seen k r 
 
 -- more was looked at
 pub step_more : (header : EngineTable) (code : List PlainOp) (a b : Heap) (facts facts' : Facts) (n p : ℕ) (held after : Held) (op : PlainOp) (shape : Option TopShape)
-    → AfterStep a b (Some after) shape → Keeps header code b facts' → left facts' < left facts → SeesStep header code a b facts facts' n p held op Changed
+    → AfterStep a b (Some after) shape → Keeps header code b facts' → FindsMore facts facts' → SeesStep header code a b facts facts' n p held op Changed
 step_more header code a b facts facts' n p held after op shape s k l = record { grows = s.0; keeps = k; quiet = tt; takes = l }
 
 -- an instruction that stores no state

@@ -1,8 +1,8 @@
 -- What lies beneath a shape, and how much of it an instruction has looked at.
-use Rattle.std.proofs.Common.{arith, ◌≡◌, ◌≢◌, ◌≤◌, ◌<◌, ◌+◌, ◌-◌, ℕ, zero, suc, List, [], ◌∷◌, ◌++◌, length, take, drop, Option, None, Some, Bool, true, false, inl, inr, sym, subst, ◌∙◌, ap, refl}
+use Rattle.std.proofs.Common.{arith, ◌≡◌, ◌≤◌, ◌<◌, ◌+◌, ◌-◌, ℕ, zero, suc, List, [], ◌∷◌, ◌++◌, length, take, drop, Bool, true, false, inl, inr, sym, subst, ◌∙◌, ap, refl}
 use Rattle.std.specs.Prelude.{min}
-use Rattle.std.proofs.lemmas.List.{append_assoc, append-nil, length-append, length-drop, length-take, take-append-drop}
-use Rattle.std.proofs.Math.Seq.{drop-append_seam, take-append_seam}
+use Rattle.std.proofs.lemmas.List.{append_assoc, append-nil, length-append, length-drop, take-append-drop}
+use Rattle.std.proofs.Math.Seq.{take-append_seam}
 use Rattle.stack_shape.specs.declared.shape.Slot.{Slot}
 use Rattle.stack_shape.specs.declared.reach.Reach.{Reach}
 use Rattle.stack_shape.specs.Stored.{TopShape}
@@ -10,7 +10,7 @@ use Rattle.stack_shape.specs.Laws.{beneath_under, deeper_saved, deeper}
 use Rattle.stack_check.specs.declared.facts.Unseen.{Unseen}
 use Rattle.stack_check.specs.Facts.{lowest, without, cut_saved, cut}
 use Rattle.stack_check.specs.Inference.{IsThere, SeesMore, is_nil, narrowed, unseen_after}
-use Rattle.stack_check.proofs.Heaps.{same_shape}
+use Rattle.stack_lists.proofs.Heaps.{same_shape}
 
 -- ---- in two steps
 

@@ -1,5 +1,5 @@
 -- What an inference has found, and the table of shapes that it stands for.
-use Rattle.std.specs.Prelude.{ℕ, zero, suc, ◌+◌, ◌-◌, ◌*◌, ◌^◌, List, [], ◌∷◌, length, take, drop, Option, None, Some, slice_get, slice_set, get_or}
+use Rattle.std.specs.Prelude.{◌<◌, ℕ, zero, suc, ◌+◌, ◌-◌, ◌*◌, List, [], ◌∷◌, length, take, drop, Option, None, Some, slice_get, slice_set, get_or}
 use Rattle.std.specs.Option.{option_map, option_and_then}
 use Rattle.ncs_code.specs.File.{header_size, resume_place}
 use Rattle.stack_shape.specs.declared.shape.Slot.{Slot}
@@ -8,14 +8,14 @@ use Rattle.stack_shape.specs.declared.shape.Entry.TheVariants.{Start, Called, St
 use Rattle.stack_shape.specs.Stored.{TopShape}
 use Rattle.stack_shape.specs.Laws.{beneath_under}
 use Rattle.stack_rules.specs.Tables.{Callee, ShapeTable}
-use Rattle.stack_check.specs.declared.held.Held.{Held}
-use Rattle.stack_check.specs.declared.held.Heap.{Heap}
+use Rattle.stack_lists.specs.declared.held.Held.{Held}
+use Rattle.stack_lists.specs.declared.held.Heap.{Heap}
 use Rattle.stack_check.specs.declared.facts.Trial.{Trial}
 use Rattle.stack_check.specs.declared.facts.Unseen.{Unseen}
 use Rattle.stack_check.specs.declared.facts.Facts.{Facts}
-use Rattle.stack_check.specs.Shared.{read}
-use Rattle.stack_check.specs.Held.{shape_of}
-use Rattle.stack_check.specs.Rows.{row_in}
+use Rattle.stack_lists.specs.Shared.{read}
+use Rattle.stack_lists.specs.Held.{shape_of}
+use Rattle.stack_lists.specs.Rows.{row_in}
 
 -- ---- trials: an entry, with the lists of its first call
 
@@ -105,7 +105,12 @@ callee_at heap facts target = option_map (kept_callee heap) (option_and_then (sl
 abbrev pub table_of : Heap → Facts → ShapeTable
 table_of heap facts = record { at = shape_at heap facts; called = callee_at heap facts }
 
--- ---- how much may still be found
+-- ---- how much was found, and how much may still be
+
+-- of all trials
+abbrev pub total : (Trial → ℕ) → List Trial → ℕ
+total of [] = 0
+total of (trial ∷ trials) = of trial + total of trials
 
 -- of a trial: what its routine gives, and the slots that it hasn't looked at
 abbrev pub given_open : Option ℕ → ℕ
@@ -115,13 +120,25 @@ given_open (Some given) = 0
 abbrev pub open_of : Trial → ℕ
 open_of trial = given_open trial.given + trial.unseen.cells + trial.unseen.under
 
-abbrev pub all_open : List Trial → ℕ
-all_open [] = 0
-all_open (trial ∷ trials) = open_of trial + all_open trials
-
 -- A row more, perhaps with a trial of its own, is worth more than all that is open of one trial.
 unfoldable pub left : Facts → ℕ
-left facts = 67108866 * (33554432 - length facts.rows) + all_open facts.trials
+left facts = 67108866 * (33554432 - length facts.rows) + total open_of facts.trials
+
+-- of a trial: what its routine gives, and the slots that it has looked at since it began
+abbrev pub given_found : Option ℕ → ℕ
+given_found None = 0
+given_found (Some given) = 1
+
+abbrev pub seen_of : Trial → ℕ
+seen_of trial = given_found trial.given + (trial.at_first.cells - trial.unseen.cells) + (trial.at_first.under - trial.unseen.under)
+
+-- rows, given lists, and slots that were looked at
+unfoldable pub found : Facts → ℕ
+found facts = length facts.rows + total seen_of facts.trials
+
+pub record FindsMore (before after : Facts) : Type 0 where
+  pub left : left after < left before
+  pub found : found before < found after
 
 -- a trial that has looked at more
 abbrev pub with_unseen : Facts → ℕ → Trial → Unseen → Facts

@@ -13,9 +13,9 @@ use Rattle.stack_shape.specs.declared.shape.Entry.TheVariants.{Stored}
 use Rattle.stack_shape.specs.declared.store.StoredTypes.{StoredTypes}
 use Rattle.stack_shape.specs.Stored.{TopShape, stored_shape}
 use Rattle.machine_rules.specs.Outlines.{slots}
-use Rattle.stack_check.specs.declared.held.Held.{Held}
+use Rattle.stack_lists.specs.declared.held.Held.{Held}
 use Rattle.stack_check.specs.declared.facts.Facts.{Facts}
-use Rattle.stack_check.specs.Rows.{row_in}
+use Rattle.stack_lists.specs.Rows.{row_in}
 use Rattle.stack_check.specs.Facts.{current}
 
 -- the cell holds a value, whose type the slot has

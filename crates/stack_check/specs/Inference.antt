@@ -14,8 +14,8 @@ use Rattle.stack_shape.specs.declared.reach.Reach.{Reach}
 use Rattle.stack_rules.specs.Tables.{Callee, ShapeTable}
 use Rattle.stack_shape.specs.Rule.{IsOneStep, rule}
 use Rattle.stack_rules.specs.Rules.{AsksFurther, IsSound, MeetsRules, WellStacked}
-use Rattle.stack_check.specs.declared.held.Held.{Held}
-use Rattle.stack_check.specs.declared.held.Heap.{Heap}
+use Rattle.stack_lists.specs.declared.held.Held.{Held}
+use Rattle.stack_lists.specs.declared.held.Heap.{Heap}
 use Rattle.stack_check.specs.declared.facts.Trial.{Trial}
 use Rattle.stack_check.specs.declared.facts.Unseen.{Unseen}
 use Rattle.stack_check.specs.declared.facts.Facts.{Facts}
@@ -25,10 +25,11 @@ use Rattle.stack_check.specs.declared.leads.Lead.{Lead}
 use Rattle.stack_check.specs.declared.leads.Lead.TheVariants.{One, Two}
 use Rattle.stack_check.specs.declared.leads.Kind.{Kind}
 use Rattle.stack_check.specs.declared.leads.Kind.TheVariants.{Call, Return, Store, Step}
-use Rattle.stack_check.specs.Shared.{read}
-use Rattle.stack_check.specs.Held.{HeapGrows, IsIn, shape_of}
-use Rattle.stack_check.specs.Rows.{RowAdded, row_in}
-use Rattle.stack_check.specs.Facts.{current, first_place, first_held, callee_of, left, table_of, unseen_cells, unseen_under}
+use Rattle.stack_lists.specs.Shared.{read}
+use Rattle.stack_lists.specs.Held.{HeapGrows, IsIn, shape_of}
+use Rattle.stack_lists.specs.Rows.{RowAdded, row_in}
+use Rattle.stack_lists.specs.Worklist.{Worklist, waiting}
+use Rattle.stack_check.specs.Facts.{FindsMore, current, first_place, first_held, callee_of, table_of, unseen_cells, unseen_under}
 
 -- ---- the facts hang together
 
@@ -62,6 +63,8 @@ pub record TrialIn (heap : Heap) (trial : Trial) : Type 0 where
   pub given : IfSome trial.given (λ given. given ≤ length heap.slots)
   pub unseen_cells : trial.unseen.cells ≤ length (read heap.slots trial.taken)
   pub unseen_under : trial.unseen.under ≤ length (read heap.slots trial.under)
+  pub first_cells : (trial.unseen.cells ≤ trial.at_first.cells) × (trial.at_first.cells ≤ length (read heap.slots trial.taken))
+  pub first_under : (trial.unseen.under ≤ trial.at_first.under) × (trial.at_first.under ≤ length (read heap.slots trial.under))
 
 pub record AllIn (heap : Heap) (facts : Facts) : Type 0 where
   pub rows : (number place : ℕ) (held : Held) → row_in facts.rows number place ≡ Some held → IsIn heap held
@@ -145,9 +148,13 @@ WhereChanged Quiet P = Unit {0}
 WhereChanged Changed P = P
 WhereChanged Bad P = Unit {0}
 
--- Where something was found, less is left to be found.
+-- Where something was found, more is found, and less is left.
 abbrev pub Takes : Facts → Facts → Seen → Type 0
-Takes before after seen = WhereChanged seen (left after < left before)
+Takes before after seen = WhereChanged seen (FindsMore before after)
+
+-- What is quiet hands in nothing that is to be looked at.
+abbrev pub NothingNew : Worklist → Worklist → Seen → Type 0
+NothingNew before after seen = WhereQuiet seen (waiting after ≡ waiting before)
 
 -- ---- one shape
 
@@ -411,7 +418,7 @@ pub record SeesDrained (header : EngineTable) (code : List PlainOp) (heap heap' 
 -- what one turn of the inference leaves
 pub record SeesTurn (header : EngineTable) (code : List PlainOp) (heap : Heap) (before facts : Facts) (seen : Seen) : Type 0 where
   pub keeps : Visited header code heap facts seen
-  pub quiet : WhereQuiet seen (MeetsRules header code (table_of heap facts))
+  pub quiet : WhereQuiet seen ((facts ≡ before) × MeetsRules header code (table_of heap facts))
   pub takes : Takes before facts seen
 
 -- A table was found, and compares with every other.

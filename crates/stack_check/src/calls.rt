@@ -1,28 +1,26 @@
 ghost use Rattle.std.specs.Prelude.{◌+◌, ◌-◌, ◌≡◌, ◌<◌, ◌≤◌, ◌++◌, None, Some, IfOk, IfSome};
 ghost use Rattle.std.specs.Prelude.{IsTrue, length, take, true, ◌↔◌};
 ghost use Rattle.stack_shape.specs.declared.shape.Entry.TheVariants.{Called};
-ghost use Rattle.stack_check.specs.Shared.{read};
-ghost use Rattle.stack_check.specs.Rows.{row_in};
-ghost use Rattle.stack_check.specs.Held.{HeapGrows, Holds, IsIn, shape_of};
-ghost use Rattle.stack_check.specs.Facts.{left};
-ghost use Rattle.stack_check.specs.Inference.{AllIn, BeginsAlike, Calls, IsCall, Keeps, Sees, TrialIn};
-ghost use Rattle.stack_check.specs.Inference.{RowIs, Within, window};
+ghost use Rattle.stack_lists.specs.Shared.{read};
+ghost use Rattle.stack_lists.specs.Rows.{row_in};
+ghost use Rattle.stack_lists.specs.Held.{HeapGrows, Holds, IsIn, shape_of};
+ghost use Rattle.stack_check.specs.Facts.{FindsMore};
+ghost use Rattle.stack_check.specs.Inference.{AllIn, BeginsAlike, Calls, IsCall, Keeps, NothingNew};
+ghost use Rattle.stack_check.specs.Inference.{RowIs, Sees, TrialIn, Within, window};
 
 use crate::facts::{Facts, Trial, Unseen, begin};
-use crate::held::{Heap, Held};
 use crate::reach::{Found, follow};
 use crate::see::see;
 use crate::seen::Seen;
-use crate::slots::{join, same};
-use crate::todo::{Spot, Todo};
 use ncs_file::Code;
 use nwq_value::{NoMemory, Table};
+use stack_lists::{Heap, Held, Spot, Todo, join, same};
 use stack_shape::{Entry, Reach};
 use std::alloc::Global;
 
 /// The shape with so many of the slots that a routine gives on top of what lies beneath those that
 /// it takes.
-#[tactic(auto, using(crate::proofs::Heaps::changing))]
+#[tactic(auto, using(stack_lists::proofs::Heaps::changing))]
 fn with_given(
     alloc: Global,
     heap: &mut Heap,
@@ -62,17 +60,19 @@ fn call_first(
     requires row { row_in facts.old.rows from.trial from.place ≡ Some from.held }
     requires op { IsCall code.now from.place target }
     ensures keeps { IfOk result (λ _. Keeps table.now code.now heap.now facts.new) }
-    ensures takes { IfOk result (λ _. left facts.new < left facts.old) }
+    ensures takes { IfOk result (λ _. FindsMore facts.old facts.new) }
 {
+    let unseen = Unseen {
+        cells: heap.slots.depth(from.held.cells),
+        under: heap.slots.depth(from.held.under),
+    };
     let trial = Trial {
         entry: Entry::Called(target),
         taken: from.held.cells,
         under: from.held.under,
         given: None,
-        unseen: Unseen {
-            cells: heap.slots.depth(from.held.cells),
-            under: heap.slots.depth(from.held.under),
-        },
+        unseen,
+        at_first: unseen,
     };
     begin(code, table, heap, facts, todo, trial)
 }
@@ -159,6 +159,7 @@ fn is_found(
 }
 
 /// A call of a routine of which it is known what it gives.
+#[tactic(auto, using(crate::proofs::Following::handing))]
 fn call_given(
     alloc: Global,
     code: &Code,
@@ -184,6 +185,7 @@ fn call_given(
     ensures sees { IfOk result (λ seen. Sees table.now code.now heap.old heap.new facts.old
         facts.new
         from.trial from.place from.held seen) }
+    ensures waits { IfOk result (λ seen. NothingNew todo.old todo.new seen) }
 {
     let count = (heap.slots.depth(given) - callee.unseen.cells) as usize;
     let rest = heap
@@ -202,6 +204,7 @@ fn call_given(
 }
 
 /// A call of a routine whose trial is this one.
+#[tactic(auto, using(crate::proofs::Following::handing))]
 fn call_known(
     alloc: Global,
     code: &Code,
@@ -222,6 +225,7 @@ fn call_known(
     ensures sees { IfOk result (λ seen. Sees table.now code.now heap.old heap.new facts.old
         facts.new
         from.trial from.place from.held seen) }
+    ensures waits { IfOk result (λ seen. NothingNew todo.old todo.new seen) }
 {
     if !begins(heap, from.held, callee)? {
         return Ok(Seen::Bad);
@@ -241,6 +245,7 @@ fn call_known(
 }
 
 /// JSR.
+#[tactic(auto, using(crate::proofs::Following::handing))]
 pub fn call(
     alloc: Global,
     code: &Code,
@@ -259,6 +264,7 @@ pub fn call(
     ensures sees { IfOk result (λ seen. Sees table.now code.now heap.old heap.new facts.old
         facts.new
         from.trial from.place from.held seen) }
+    ensures waits { IfOk result (λ seen. NothingNew todo.old todo.new seen) }
 {
     let spot = Spot {
         trial: from.trial,

@@ -1,18 +1,19 @@
-ghost use Rattle.std.specs.Prelude.{◌≡◌, ◌↔◌, IfOk, Err, IsTrue};
+ghost use Rattle.std.specs.Prelude.{◌≡◌, ◌≤◌, ◌↔◌, IfOk, Err, IsTrue, length};
 ghost use Rattle.stack_rules.specs.Tables.{ShapeTable};
 ghost use Rattle.stack_rules.specs.Fits.{Fits};
 ghost use Rattle.stack_rules.specs.Rules.{MeetsRules, WellStacked};
-ghost use Rattle.stack_check.specs.Checked.{StoredStand, kept_table};
+ghost use Rattle.stack_check.specs.Checked.{IsWithinBudget, StoredStand, kept_table, most_turns};
+ghost use Rattle.stack_lists.specs.Budget.{most};
 ghost use Rattle.stack_check.specs.declared.fault.CheckFault.TheVariants.{Unstacked};
 
 use crate::facts::Facts;
 use crate::fault::CheckFault;
 use crate::fits::fits;
-use crate::held::Heap;
 use crate::infer::{Kept, infer};
 use ncs_file::Code;
 use nwq_value::Table;
 use saved_state::Saved;
+use stack_lists::Heap;
 use std::alloc::Global;
 use std::marker::Model;
 
@@ -21,6 +22,7 @@ pub struct Checked {
     code: Code,
     heap: Heap,
     facts: Facts,
+    turns: u64,
 }
 
 impl Model for Checked {
@@ -28,20 +30,40 @@ impl Model for Checked {
 
     ghost Value = { CheckedCode };
 
-    ghost view = { λ c. record { code = c.code; heap = c.heap; facts = c.facts } };
+    ghost view = { λ c. record {
+      code = c.code;
+      heap = c.heap;
+      facts = c.facts;
+      turns = c.turns;
+    } };
 }
 
 impl Drop for Checked {
     fn drop(self) {
-        let Checked { code, heap, facts } = self;
+        let Checked {
+            code,
+            heap,
+            facts,
+            turns: _,
+        } = self;
         drop(code);
         drop(heap);
         drop(facts);
     }
 }
 
+/// What is kept is within its budget.
+fn bounded(heap: &Heap, facts: &Facts)
+    ensures rows { length facts.now.rows ≤ most }
+    ensures nodes { length heap.now.slots ≤ most }
+{
+    let _rows = facts.rows.len();
+    let _nodes = heap.slots.len();
+}
+
 /// The code with a table of shapes that meets the rules under this header, or `Unstacked` exactly
-/// where there is none. The code is dropped on a refusal.
+/// where there is none. `NoMemory` comes where memory is refused, and past 2^25 rows or nodes of
+/// lists. The code is dropped on a refusal.
 #[tactic(auto, using(crate::proofs::Ending::checking))]
 pub fn check(alloc: Global, code: Code, table: &Table) -> Result<Checked, CheckFault>
     // What was handed in is kept.
@@ -51,14 +73,24 @@ pub fn check(alloc: Global, code: Code, table: &Table) -> Result<Checked, CheckF
     // What it says of stored states stands in every table that meets the rules.
     ensures stored { IfOk result (λ c. (other : ShapeTable) → MeetsRules table.now code other
         → StoredStand (kept_table c) other) }
+    // No table that is kept passes the budget.
+    ensures within { IfOk result (λ c. IsWithinBudget c) }
+    // Each turn but the last finds a row, what a routine gives, or a slot of a window.
+    ensures turns { IfOk result (λ c. c.turns ≤ most_turns c) }
     // Where no table is found there is none.
     ensures unstacked { result ≡ Err Unstacked → WellStacked table.now code → ⊥ }
 {
     match infer(alloc, &code, table)? {
         None => Err(CheckFault::Unstacked),
         Some(kept) => {
-            let Kept { heap, facts } = kept;
-            Ok(Checked { code, heap, facts })
+            let Kept { heap, facts, turns } = kept;
+            bounded(&heap, &facts);
+            Ok(Checked {
+                code,
+                heap,
+                facts,
+                turns,
+            })
         }
     }
 }
@@ -69,6 +101,13 @@ impl Checked {
         ensures code { result.now ≡ self.now.code }
     {
         &self.code
+    }
+
+    /// How many turns the inference took.
+    pub fn turns(&self) -> u64
+        ensures turns { result ≡ self.now.turns }
+    {
+        self.turns
     }
 
     /// Whether a captured state of this code fits the kept table: it resumes where a STORE_STATE

@@ -1,16 +1,13 @@
 ghost use Rattle.std.specs.Prelude.{◌≡◌, ◌≢◌, ◌<◌, ◌≤◌, ◌^◌, Some, IfOk, OnOk, length, slice_get};
 ghost use Rattle.stack_shape.specs.declared.shape.Entry.TheVariants.{Start};
-ghost use Rattle.stack_check.specs.Facts.{first_place, first_held, left};
+ghost use Rattle.stack_check.specs.Facts.{FindsMore, first_place, first_held};
 ghost use Rattle.stack_check.specs.Inference.{Begins, Formed, GivenOwed, Keeps, SeesMore};
 ghost use Rattle.stack_check.specs.Inference.{TrialAdded, TrialIn, UnseenOwed};
 ghost use Rattle.stack_check.specs.Inference.{CurrentSet};
 
-use crate::held::{Heap, Held};
-use crate::places::Places;
-use crate::rows::Rows;
-use crate::todo::{Spot, Todo};
 use ncs_file::Code;
 use nwq_value::{Items, NoMemory, Table};
+use stack_lists::{Heap, Held, Places, Rows, Spot, Todo, room};
 use stack_shape::Entry;
 
 /// How many of the lowest slots of two lists no instruction has looked at.
@@ -30,6 +27,8 @@ pub struct Trial {
     /// What the routine leaves in the place of `taken`, once a RETN was found.
     pub given: Option<u32>,
     pub unseen: Unseen,
+    /// How much was unseen when it began.
+    pub at_first: Unseen,
 }
 
 /// What was found so far.
@@ -90,9 +89,7 @@ fn add_trial(facts: &mut Facts, trial: Trial) -> Result<u32, NoMemory>
     ensures added { IfOk result (λ _. TrialAdded facts.old facts.new trial) }
 {
     let number = facts.trials.len();
-    if number >= u32::MAX as usize {
-        return Err(NoMemory);
-    }
+    room(number)?;
     let number = number as u32;
     facts.trials.push(trial)?;
     facts
@@ -117,7 +114,7 @@ pub fn begin(
     requires begins { Begins table.now code.now heap.now trial }
     requires inside { TrialIn heap.now trial }
     ensures keeps { IfOk result (λ _. Keeps table.now code.now heap.now facts.new) }
-    ensures takes { IfOk result (λ _. left facts.new < left facts.old) }
+    ensures takes { IfOk result (λ _. FindsMore facts.old facts.new) }
 {
     let _ = code;
     let _ = table;
@@ -144,13 +141,13 @@ pub fn give(
     requires owed { GivenOwed table.now code.now heap.now facts.old number given }
     requires inside { given ≤ length heap.now.slots }
     ensures keeps { IfOk result (λ _. Keeps table.now code.now heap.now facts.new) }
-    ensures takes { IfOk result (λ _. left facts.new < left facts.old) }
+    ensures takes { IfOk result (λ _. FindsMore facts.old facts.new) }
 {
     let _ = code;
     let _ = table;
     let _ = heap;
     match facts.trials.get(number as usize) {
-        None => Err(NoMemory),
+        None => unreachable!(),
         Some(trial) => {
             let trial = Trial {
                 entry: trial.entry,
@@ -158,6 +155,7 @@ pub fn give(
                 under: trial.under,
                 given: Some(given),
                 unseen: trial.unseen,
+                at_first: trial.at_first,
             };
             facts.trials.set(number as usize, trial);
             Ok(())
@@ -181,7 +179,7 @@ pub fn narrow(
     requires less { SeesMore trial.unseen unseen }
     requires owed { UnseenOwed table.now code.now heap.now facts.old number trial unseen }
     ensures keeps { Keeps table.now code.now heap.now facts.new }
-    ensures takes { left facts.new < left facts.old }
+    ensures takes { FindsMore facts.old facts.new }
 {
     let _ = code;
     let _ = table;
@@ -192,6 +190,7 @@ pub fn narrow(
         under: trial.under,
         given: trial.given,
         unseen,
+        at_first: trial.at_first,
     };
     facts.trials.set(number as usize, trial);
 }

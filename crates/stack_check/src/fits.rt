@@ -1,15 +1,14 @@
 ghost use Rattle.std.specs.Prelude.{◌≡◌, ◌↔◌, [], IsTrue, MatchOption, reverse};
-ghost use Rattle.stack_check.specs.Shared.{read};
-ghost use Rattle.stack_check.specs.Held.{shape_of};
+ghost use Rattle.stack_lists.specs.Shared.{read};
+ghost use Rattle.stack_lists.specs.Held.{shape_of};
 ghost use Rattle.stack_check.specs.Facts.{table_of};
 ghost use Rattle.stack_check.specs.Fitting.{BeginsWith, IsFrame, IsResumedAt, IsValueOf, Resumes};
 ghost use Rattle.stack_check.specs.Fitting.{BeginsOtherwise, stored_at};
 ghost use Rattle.stack_rules.specs.Fits.{Fits};
 
 use crate::facts::Facts;
-use crate::held::{Heap, Held};
-use crate::stacks::Stacks;
 use saved_state::{Cell, Cells, Saved};
+use stack_lists::{Heap, Held, Stacks};
 use stack_shape::Slot;
 
 /// Whether a cell holds a value of the slot's type.

@@ -1,20 +1,18 @@
-ghost use Rattle.std.specs.Prelude.{◌≡◌, false, true, Some, IfOk, MatchOption};
+ghost use Rattle.std.specs.Prelude.{◌≡◌, ◌<◌, ◌≤◌, ◌+◌, ◌^◌, [], false, true, IfOk, IfSome};
+ghost use Rattle.std.specs.Prelude.{MatchOption};
 ghost use Rattle.stack_rules.specs.Rules.{WellStacked};
-ghost use Rattle.stack_check.specs.Inference.{IsFound, Keeps, SeesAll, SeesDrained};
-ghost use Rattle.stack_check.specs.Inference.{SeesRow, SeesTurn};
+ghost use Rattle.stack_lists.specs.Worklist.{waiting};
+ghost use Rattle.stack_check.specs.Facts.{found, left};
+ghost use Rattle.stack_check.specs.Inference.{IsFound, Keeps, NothingNew, SeesAll, SeesDrained};
+ghost use Rattle.stack_check.specs.Inference.{SeesRow, SeesTurn, WhereQuiet};
 
 use crate::facts::{Facts, Trial, Unseen};
-use crate::held::{Heap, Held};
-use crate::lists::Lists;
-use crate::places::Places;
 use crate::reach::Found;
-use crate::rows::Rows;
 use crate::seen::Seen;
-use crate::stacks::Stacks;
-use crate::todo::{Spot, Todo};
 use crate::visit::visit;
 use ncs_file::Code;
 use nwq_value::{Items, NoMemory, Table};
+use stack_lists::{Heap, Held, Lists, Places, Rows, Spot, Stacks, Todo};
 use stack_shape::Entry;
 use std::alloc::Global;
 
@@ -34,6 +32,7 @@ fn look(
     ensures sees { IfOk result (λ seen. SeesRow table.now code.now heap.old heap.new facts.old
         facts.new
         trial place seen) }
+    ensures waits { IfOk result (λ seen. NothingNew todo.old todo.new seen) }
 {
     match facts.rows.find(trial, place) {
         None => Ok(Seen::Quiet),
@@ -45,7 +44,8 @@ fn look(
     }
 }
 
-/// Looks at what is to be looked at, up to the first that is not quiet.
+/// Looks at what is to be looked at, up to the first that is not quiet. What is quiet hands in
+/// nothing, so each spot is looked at once.
 #[tactic(auto, using(crate::proofs::Ending::draining))]
 fn drain(
     alloc: Global,
@@ -58,12 +58,9 @@ fn drain(
     requires keeps { Keeps table.now code.now heap.old facts.old }
     ensures sees { IfOk result (λ seen. SeesDrained table.now code.now heap.old heap.new facts.old
         facts.new seen) }
+    ensures none { IfOk result (λ seen. WhereQuiet seen (waiting todo.new ≡ [])) }
 {
-    // What is quiet hands in nothing, so all are looked at that were handed in.
-    for _look in 0..todo.len() {
-        let Some(spot) = todo.next() else {
-            return Ok(Seen::Quiet);
-        };
+    while let Some(spot) = todo.next() {
         let seen = look(
             alloc, code, table, heap, facts, todo, spot.trial, spot.place,
         )?;
@@ -116,11 +113,15 @@ fn turn(
     heap: &mut Heap,
     facts: &mut Facts,
     todo: &mut Todo,
+    turns: &mut u64,
 ) -> Result<Seen, NoMemory>
     requires keeps { Keeps table.now code.now heap.old facts.old }
+    requires few { turns.old < 2 ^ 63 }
     ensures sees { IfOk result (λ seen. SeesTurn table.now code.now heap.new facts.old
         facts.new seen) }
+    ensures turns { turns.new ≡ turns.old + 1 }
 {
+    *turns += 1;
     let seen = drain(alloc, code, table, heap, facts, todo)?;
     match seen {
         Seen::Changed => Ok(Seen::Changed),
@@ -136,6 +137,7 @@ fn turn(
 #[tactic(auto, using(crate::proofs::Ending::starting))]
 fn first_facts(alloc: Global, code: &Code, table: &Table, heap: &Heap) -> Result<Facts, NoMemory>
     ensures keeps { IfOk result (λ facts. Keeps table.now code.now heap.now facts) }
+    ensures begins { IfOk result (λ facts. (found facts ≡ 1) × (left facts < 2 ^ 62)) }
 {
     let _ = code;
     let _ = table;
@@ -152,6 +154,7 @@ fn first_facts(alloc: Global, code: &Code, table: &Table, heap: &Heap) -> Result
         under: 0,
         given: None,
         unseen: Unseen { cells: 0, under: 0 },
+        at_first: Unseen { cells: 0, under: 0 },
     };
     let mut rows = Rows::new(alloc);
     rows.add(0, 13, held)?;
@@ -170,6 +173,8 @@ fn first_facts(alloc: Global, code: &Code, table: &Table, heap: &Heap) -> Result
 pub struct Kept {
     pub heap: Heap,
     pub facts: Facts,
+    /// How many turns it took.
+    pub turns: u64,
 }
 
 /// Goes on until a pass finds nothing to do, and tells whether there is a table.
@@ -181,18 +186,23 @@ fn settle(
     heap: &mut Heap,
     facts: &mut Facts,
     todo: &mut Todo,
+    turns: &mut u64,
 ) -> Result<bool, NoMemory>
     requires keeps { Keeps table.now code.now heap.old facts.old }
+    requires begins { turns.old + left facts.old < 2 ^ 63 }
     ensures found { IfOk result (λ found. found ≡ true → IsFound table.now code.now heap.new
         facts.new) }
     ensures none { IfOk result (λ found. found ≡ false → WellStacked table.now code.now → ⊥) }
+    // A turn that isn't the last one finds something.
+    ensures turns { IfOk result (λ is_found. is_found ≡ true → turns.new + found facts.old
+        ≤ turns.old + found facts.new + 1) }
 {
     todo.add(Spot {
         trial: 0,
         place: 13,
     })?;
-    'turns: loop {
-        match turn(alloc, code, table, heap, facts, todo)? {
+    'work: loop {
+        match turn(alloc, code, table, heap, facts, todo, turns)? {
             Seen::Quiet => return Ok(true),
             Seen::Bad => return Ok(false),
             Seen::Changed => {}
@@ -204,6 +214,7 @@ fn settle(
 pub fn infer(alloc: Global, code: &Code, table: &Table) -> Result<Option<Kept>, NoMemory>
     ensures found { IfOk result (λ kept. MatchOption kept (WellStacked table.now code.now → ⊥)
         (λ k. IsFound table.now code.now k.heap k.facts)) }
+    ensures turns { IfOk result (λ kept. IfSome kept (λ k. k.turns ≤ found k.facts)) }
 {
     let heap = Heap {
         slots: Stacks::new(alloc),
@@ -217,7 +228,11 @@ pub fn infer(alloc: Global, code: &Code, table: &Table) -> Result<Option<Kept>, 
             Err(error)
         }
         Ok(facts) => {
-            let mut kept = Kept { heap, facts };
+            let mut kept = Kept {
+                heap,
+                facts,
+                turns: 0,
+            };
             let mut todo = Todo::new(alloc);
             let found = settle(
                 alloc,
@@ -226,6 +241,7 @@ pub fn infer(alloc: Global, code: &Code, table: &Table) -> Result<Option<Kept>, 
                 &mut kept.heap,
                 &mut kept.facts,
                 &mut todo,
+                &mut kept.turns,
             );
             drop(todo);
             match found {

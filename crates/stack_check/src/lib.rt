@@ -3,11 +3,11 @@
 //! [`check`] finds a table of shapes that meets the rules of `stack_rules`, or tells that there is
 //! none. [`Checked`] keeps the code and the table; contracts see it as `specs/Checked.antt` says.
 //! What the table says of stored states stands in every table that meets the rules, so a captured
-//! state that fits it fits them all ([`fits_too`]).
+//! state that fits it fits them all ([`fits_too`]), and resumes where the code stores its like
+//! ([`stands_behind`]).
 //!
-//! The shapes' lists share their lower parts (`lists`): a push is one node, whatever lies beneath.
-//! What the inference keeps true of every table is in `specs/Inference.antt`. The page is
-//! docs/SHAPES.md.
+//! What is found is kept in shared lists, rows and a worklist (`stack_lists`). What the inference
+//! keeps true of every table is in `specs/Inference.antt`. The page is docs/SHAPES.md.
 #![tactic(auto)]
 
 mod calls;
@@ -15,22 +15,15 @@ mod checked;
 mod facts;
 mod fault;
 mod fits;
-mod held;
 mod infer;
 mod laws;
 mod leads;
-mod lists;
-mod places;
 mod reach;
 mod returns;
-mod rows;
 mod see;
 mod seen;
-mod slots;
-mod stacks;
-mod todo;
 mod visit;
 
 pub use checked::{Checked, check};
 pub use fault::CheckFault;
-pub use laws::fits_too;
+pub use laws::{fits_too, stands_behind};

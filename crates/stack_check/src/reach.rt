@@ -1,25 +1,24 @@
 ghost use Rattle.std.specs.Prelude.{◌≡◌, IfOk, ◌↔◌, IsTrue, map};
 ghost use Rattle.ncs_code.specs.Plain.{plain};
-ghost use Rattle.stack_check.specs.Shared.{read};
-ghost use Rattle.stack_check.specs.Held.{IsIn, shape_of};
-ghost use Rattle.stack_check.specs.Inference.{AllLed, IsLed, IsStep, Keeps, Owed, Reached};
+ghost use Rattle.stack_lists.specs.Shared.{read};
+ghost use Rattle.stack_lists.specs.Held.{IsIn, shape_of};
+ghost use Rattle.stack_check.specs.Inference.{AllLed, IsLed, IsStep, Keeps, NothingNew, Owed};
+ghost use Rattle.stack_check.specs.Inference.{Reached};
 ghost use Rattle.stack_check.specs.Inference.{RowIs, RowsKept, Takes};
 ghost use Rattle.stack_check.specs.Inference.{Visited, WhereQuiet, after_change, leads_of};
 ghost use Rattle.machine_rules.specs.Act.{next_place};
 
 use crate::facts::Facts;
-use crate::held::{Heap, Held};
 use crate::leads::Lead;
 use crate::seen::Seen;
-use crate::slots::same;
-use crate::todo::{Spot, Todo};
 use ncs_code::Op;
 use ncs_file::Code;
 use nwq_value::{NoMemory, Table};
+use stack_lists::{Heap, Held, Spot, Todo, same};
 use stack_shape::rules_look_from_the_top;
 
 /// Whether both saved lists have the same lists of slots.
-#[tactic(auto, using(crate::proofs::Walks::comparing))]
+#[tactic(auto, using(stack_lists::proofs::Walks::comparing))]
 fn same_saved(heap: &Heap, a: u32, b: u32) -> bool
     ensures { IsTrue result ↔ (map (read heap.now.slots) (read heap.now.saved a)
         ≡ map (read heap.now.slots) (read heap.now.saved b)) }
@@ -81,7 +80,10 @@ fn reach(
 }
 
 /// Has a place looked at where its shape is new.
-fn note(todo: &mut Todo, seen: Seen, spot: Spot) -> Result<(), NoMemory> {
+#[tactic(auto, using(crate::proofs::Following::handing))]
+fn note(todo: &mut Todo, seen: Seen, spot: Spot) -> Result<(), NoMemory>
+    ensures waits { NothingNew todo.old todo.new seen }
+{
     match seen {
         Seen::Changed => todo.add(spot),
         Seen::Quiet => Ok(()),
@@ -108,6 +110,7 @@ pub fn follow(
     ensures takes { IfOk result (λ seen. Takes facts.old facts.new seen) }
     ensures quiet { IfOk result (λ seen. WhereQuiet seen ((facts.new ≡ facts.old)
         × RowIs heap.now facts.old spot.trial spot.place (shape_of heap.now held))) }
+    ensures waits { IfOk result (λ seen. NothingNew todo.old todo.new seen) }
 {
     let _ = code;
     let _ = table;
@@ -158,6 +161,7 @@ fn lead_to(
     ensures takes { IfOk result (λ seen. Takes facts.old facts.new seen) }
     ensures quiet { IfOk result (λ seen. WhereQuiet seen ((facts.new ≡ facts.old)
         × RowIs heap.now facts.old from.trial place (shape_of heap.now after))) }
+    ensures waits { IfOk result (λ seen. NothingNew todo.old todo.new seen) }
 {
     rules_look_from_the_top();
     let _ = op;
@@ -167,7 +171,7 @@ fn lead_to(
 }
 
 /// Reaches the shape after an instruction wherever it leads.
-#[tactic(auto, using(crate::proofs::Following::leading))]
+#[tactic(auto, using(crate::proofs::Following::leading, crate::proofs::Following::handing))]
 pub fn lead(
     code: &Code,
     table: &Table,
@@ -189,6 +193,7 @@ pub fn lead(
     ensures takes { IfOk result (λ seen. Takes facts.old facts.new seen) }
     ensures quiet { IfOk result (λ seen. WhereQuiet seen ((facts.new ≡ facts.old)
         × AllLed heap.now facts.old from.trial lead (shape_of heap.now after))) }
+    ensures waits { IfOk result (λ seen. NothingNew todo.old todo.new seen) }
 {
     match lead {
         Lead::One(place) => lead_to(code, table, heap, facts, todo, from, op, after, lead, place),

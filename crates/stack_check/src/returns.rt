@@ -1,19 +1,17 @@
 ghost use Rattle.std.specs.Prelude.{◌≡◌, [], Some, IfOk, slice_get};
-ghost use Rattle.stack_check.specs.Shared.{read};
+ghost use Rattle.stack_lists.specs.Shared.{read};
 ghost use Rattle.ncs_code.specs.Plain.{Retn};
 ghost use Rattle.ncs_code.specs.File.{op_at};
 ghost use Rattle.stack_shape.specs.declared.shape.Entry.TheVariants.{Called};
-ghost use Rattle.stack_check.specs.Rows.{row_in};
-ghost use Rattle.stack_check.specs.Inference.{Keeps, Sees};
+ghost use Rattle.stack_lists.specs.Rows.{row_in};
+ghost use Rattle.stack_check.specs.Inference.{Keeps, NothingNew, Sees};
 
 use crate::facts::{Facts, Trial, give};
-use crate::held::Heap;
 use crate::reach::Found;
 use crate::seen::Seen;
-use crate::slots::same;
-use crate::todo::Todo;
 use ncs_file::Code;
 use nwq_value::{NoMemory, Table};
+use stack_lists::{Heap, Todo, same};
 use stack_shape::Entry;
 
 /// RETN of a called routine, with nothing saved or pending.
@@ -38,6 +36,7 @@ fn return_cells(
     ensures sees { IfOk result (λ seen. Sees table.now code.now heap.now heap.now facts.old
         facts.new
         from.trial from.place from.held seen) }
+    ensures waits { IfOk result (λ seen. NothingNew todo.old todo.new seen) }
 {
     match trial.given {
         None => {
@@ -75,6 +74,7 @@ fn return_called(
     ensures sees { IfOk result (λ seen. Sees table.now code.now heap.now heap.now facts.old
         facts.new
         from.trial from.place from.held seen) }
+    ensures waits { IfOk result (λ seen. NothingNew todo.old todo.new seen) }
 {
     if from.held.pending != 0 {
         return Ok(Seen::Bad);
@@ -103,6 +103,7 @@ pub fn returned(
     ensures sees { IfOk result (λ seen. Sees table.now code.now heap.now heap.now facts.old
         facts.new
         from.trial from.place from.held seen) }
+    ensures waits { IfOk result (λ seen. NothingNew todo.old todo.new seen) }
 {
     match trial.entry {
         Entry::Start => Ok(Seen::Quiet),

@@ -1,16 +1,15 @@
 ghost use Rattle.std.specs.Prelude.{◌≡◌, ◌<◌, ◌↔◌, Some, IfOk, IsTrue, min, true, false};
-ghost use Rattle.stack_check.specs.Rows.{row_in};
-ghost use Rattle.stack_check.specs.Facts.{left};
-ghost use Rattle.stack_check.specs.Held.{shape_of};
+ghost use Rattle.stack_lists.specs.Rows.{row_in};
+ghost use Rattle.stack_check.specs.Facts.{FindsMore};
+ghost use Rattle.stack_lists.specs.Held.{shape_of};
 ghost use Rattle.stack_check.specs.Inference.{IsThere, Keeps, LooksOwed, Within, narrowed};
 ghost use Rattle.stack_check.specs.Inference.{unseen_after};
 
 use crate::facts::{Facts, Trial, Unseen, narrow};
-use crate::held::{Heap, Held};
 use crate::reach::Found;
-use crate::todo::{Spot, Todo};
 use ncs_file::Code;
 use nwq_value::{NoMemory, Table};
+use stack_lists::{Heap, Held, Spot, Todo};
 use stack_shape::{Entry, Reach};
 
 fn least(a: u32, b: u32) -> u32
@@ -82,9 +81,10 @@ pub fn see(
     requires looks { IsThere (shape_of heap.now from.held) reach }
     requires owed { LooksOwed table.now code.now heap.now facts.old from.trial from.place reach }
     ensures keeps { IfOk result (λ _. Keeps table.now code.now heap.now facts.new) }
-    ensures more { IfOk result (λ more. more ≡ true → left facts.new < left facts.old) }
+    ensures more { IfOk result (λ more. more ≡ true → FindsMore facts.old facts.new) }
     ensures within { IfOk result (λ more. more ≡ false → (facts.new ≡ facts.old)
         × Within heap.now facts.old from.trial (shape_of heap.now from.held) reach) }
+    ensures same { IfOk result (λ more. more ≡ false → todo.new ≡ todo.old) }
 {
     match facts.trials.get(from.trial as usize) {
         None => unreachable!(),

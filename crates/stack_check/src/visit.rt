@@ -8,33 +8,31 @@ ghost use Rattle.stack_shape.specs.Rule.{IsOneStep};
 ghost use Rattle.stack_shape.specs.Stored.{stored_shape, stored_types};
 ghost use Rattle.stack_shape.specs.declared.shape.Entry.TheVariants.{Stored};
 ghost use Rattle.stack_shape.specs.declared.shape.Slot.TheVariants.{Base};
-ghost use Rattle.stack_check.specs.Held.{HeapGrows, Holds, IsIn, shape_of};
-ghost use Rattle.stack_check.specs.Rows.{row_in};
+ghost use Rattle.stack_lists.specs.Held.{HeapGrows, Holds, IsIn, shape_of};
+ghost use Rattle.stack_lists.specs.Rows.{row_in};
 ghost use Rattle.stack_check.specs.Facts.{current};
-ghost use Rattle.stack_check.specs.Inference.{IsPlain, IsStored, Keeps, Resumes, Sees};
+ghost use Rattle.stack_check.specs.Inference.{IsPlain, IsStored, Keeps, NothingNew, Resumes, Sees};
 ghost use Rattle.stack_check.specs.Inference.{SeesStep, Stores, Takes, Visited, WhereQuiet};
 ghost use Rattle.stack_check.specs.Inference.{leads_of};
 
 use crate::calls::call;
 use crate::facts::{Facts, Trial, Unseen, begin};
-use crate::held::{Heap, Held, step, top};
 use crate::leads::{Kind, kind_of, leads_of};
 use crate::reach::{Found, after_change, follow, lead};
 use crate::returns::returned;
 use crate::see::see;
 use crate::seen::Seen;
-use crate::slots::put_types;
-use crate::todo::{Spot, Todo};
 use ncs_code::{Op, place_laws};
 use ncs_file::Code;
 use nwq_value::{NoMemory, Table};
+use stack_lists::{Heap, Held, Spot, Todo, put_types, step, top};
 use stack_shape::{
     Entry, Slot, StoredTypes, reach_of, rules_look_from_the_top, rules_look_no_deeper, stored_types,
 };
 use std::alloc::Global;
 
 /// An instruction with a rule of one shape, but for what it stores.
-#[tactic(auto, using(crate::proofs::Visits::steps))]
+#[tactic(auto, using(crate::proofs::Visits::steps, crate::proofs::Following::handing))]
 fn visit_step(
     alloc: Global,
     code: &Code,
@@ -54,6 +52,7 @@ fn visit_step(
     requires bound { from.place < 2 ^ 31 }
     ensures sees { IfOk result (λ seen. SeesStep table.now code.now heap.old heap.new facts.old
         facts.new from.trial from.place from.held (plain op.now) seen) }
+    ensures waits { IfOk result (λ seen. NothingNew todo.old todo.new seen) }
 {
     rules_look_from_the_top();
     rules_look_no_deeper();
@@ -116,6 +115,7 @@ fn resume(
     ensures takes { IfOk result (λ seen. Takes facts.old facts.new seen) }
     ensures quiet { IfOk result (λ seen. WhereQuiet seen ((facts.new ≡ facts.old)
         × IsStored heap.now facts.old site (shape_of heap.now held))) }
+    ensures waits { IfOk result (λ seen. NothingNew todo.old todo.new seen) }
 {
     match stored_trial(facts, site) {
         None => {
@@ -125,6 +125,7 @@ fn resume(
                 under: held.under,
                 given: None,
                 unseen: Unseen { cells: 0, under: 0 },
+                at_first: Unseen { cells: 0, under: 0 },
             };
             begin(code, table, heap, facts, todo, trial)?;
             Ok(Seen::Changed)
@@ -159,6 +160,7 @@ fn store(
     ensures takes { IfOk result (λ seen. Takes facts.old facts.new seen) }
     ensures quiet { IfOk result (λ seen. WhereQuiet seen ((facts.new ≡ facts.old)
         × IsStored heap.new facts.old site (stored_shape types.now))) }
+    ensures waits { IfOk result (λ seen. NothingNew todo.old todo.new seen) }
 {
     let held = hold_stored(heap, types)?;
     let seen = resume(code, table, heap, facts, todo, site, held)?;
@@ -166,7 +168,7 @@ fn store(
 }
 
 /// STORE_STATE, of a state of these types.
-#[tactic(auto, using(crate::proofs::Storing::storing))]
+#[tactic(auto, using(crate::proofs::Storing::storing, crate::proofs::Following::handing))]
 fn visit_store(
     alloc: Global,
     code: &Code,
@@ -188,6 +190,7 @@ fn visit_store(
     ensures sees { IfOk result (λ seen. Sees table.now code.now heap.old heap.new facts.old
         facts.new
         from.trial from.place from.held seen) }
+    ensures waits { IfOk result (λ seen. NothingNew todo.old todo.new seen) }
 {
     rules_look_from_the_top();
     let first = visit_step(alloc, code, table, heap, facts, todo, from, op, next)?;
@@ -227,6 +230,7 @@ fn visit_plain(
     ensures sees { IfOk result (λ seen. Sees table.now code.now heap.old heap.new facts.old
         facts.new
         from.trial from.place from.held seen) }
+    ensures waits { IfOk result (λ seen. NothingNew todo.old todo.new seen) }
 {
     let seen = visit_step(alloc, code, table, heap, facts, todo, from, op, next)?;
     Ok(seen)
@@ -256,6 +260,7 @@ fn visit_stored(
     ensures sees { IfOk result (λ seen. Sees table.now code.now heap.old heap.new facts.old
         facts.new
         from.trial from.place from.held seen) }
+    ensures waits { IfOk result (λ seen. NothingNew todo.old todo.new seen) }
 {
     rules_look_from_the_top();
     let types = {
@@ -300,6 +305,7 @@ fn visit_return(
     ensures sees { IfOk result (λ seen. Sees table.now code.now heap.now heap.now facts.old
         facts.new
         from.trial from.place from.held seen) }
+    ensures waits { IfOk result (λ seen. NothingNew todo.old todo.new seen) }
 {
     match facts.trials.get(from.trial as usize) {
         None => unreachable!(),
@@ -330,6 +336,7 @@ fn visit_op(
     ensures sees { IfOk result (λ seen. Sees table.now code.now heap.old heap.new facts.old
         facts.new
         from.trial from.place from.held seen) }
+    ensures waits { IfOk result (λ seen. NothingNew todo.old todo.new seen) }
 {
     let next = end_of(code, op, from.place, size);
     match kind_of(op, from.place) {
@@ -359,6 +366,7 @@ pub fn visit(
     ensures sees { IfOk result (λ seen. Sees table.now code.now heap.old heap.new facts.old
         facts.new
         from.trial from.place from.held seen) }
+    ensures waits { IfOk result (λ seen. NothingNew todo.old todo.new seen) }
 {
     match code.op_at(from.place) {
         None => Ok(Seen::Bad),

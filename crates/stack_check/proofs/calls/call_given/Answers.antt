@@ -1,9 +1,9 @@
-use Rattle.std.proofs.Common.{arith, rules, ◌≡◌, ◌≤◌, ◌-◌, ◌∙◌, drop, length, refl, subst, sym, take, ap, ◌++◌}
+use Rattle.std.proofs.Common.{arith, rules, ◌≤◌, ◌-◌, ◌∙◌, drop, length, refl, subst, sym, take, ap, ◌++◌}
 use Rattle.stack_shape.specs.declared.reach.Reach.{Reach}
-use Rattle.stack_check.specs.Shared.{read}
-use Rattle.stack_check.specs.Held.{HeapGrows, Holds, shape_of}
-use Rattle.stack_check.specs.declared.held.Heap.{Heap}
-use Rattle.stack_check.specs.Inference.{Calls, Keeps, Owed, Sees}
+use Rattle.stack_lists.specs.Shared.{read}
+use Rattle.stack_lists.specs.Held.{HeapGrows, Holds, shape_of}
+use Rattle.stack_lists.specs.declared.held.Heap.{Heap}
+use Rattle.stack_check.specs.Inference.{Calls, Sees}
 use Rattle.stack_check.proofs.Keeping.{keeps_grows}
 use Rattle.stack_check.proofs.CallSteps.{behind_shape, callee_in, given_in, given_long, given_owed, given_sees, given_there, holds_behind}
 use Rattle.stack_check.proofs.calls.call_given.Goals as goal
@@ -33,6 +33,7 @@ returns-then-branch c = record {
       c.requires.keeps c.requires.op.stands (subst (λ t. Calls c.args.facts.now t c.args.callee) (sym c.requires.op.leads) c.requires.calls) c.requires.given c.requires.next c.requires.begins c.requires.within (c.in_ok-is_found.ensures.found (search rules))
       (behind_shape c.args.heap.now c.args.from.held c.args.callee c.args.given c.lower-rest.result _ _ (ap (λ n. n - c.args.callee.unseen.cells) c.depth.ensures.depth)
       (c.lower-rest.ensures.reads ∙ ap (λ (r : Reach). drop r.cells (read c.args.heap.now.slots c.args.from.held.cells)) c.window.ensures) refl));
+  waits = refl;
 }
 
 pub with_given-requires-clause-given : goal.with_given-requires-clause-given
@@ -68,4 +69,5 @@ returns c = record {
         cells = take (c.depth.result - c.args.callee.unseen.cells) (read h.slots c.args.given) ++ read h.slots c.lower-rest.result;
       })) c.in_ok-is_found.ensures.same c.in_ok-now.ensures))
       c.in_ok-seen.ensures.keeps c.in_ok-seen.ensures.quiet c.in_ok-seen.ensures.takes;
+  waits = c.in_ok-seen.ensures.waits;
 }

@@ -1,11 +1,13 @@
-use Rattle.std.proofs.Common.{rules, ◌∙◌, subst, sym}
+use Rattle.std.proofs.Common.{ap}
+use Rattle.stack_lists.specs.Worklist.{Worklist, waiting}
+use Rattle.std.proofs.Common.{rules, subst, sym}
 use Rattle.std.proofs.lemmas.Bool.{iff_false}
-use Rattle.stack_check.specs.Held.{shape_of}
-use Rattle.stack_check.specs.declared.held.Heap.{Heap}
+use Rattle.stack_lists.specs.Held.{shape_of}
+use Rattle.stack_lists.specs.declared.held.Heap.{Heap}
 use Rattle.stack_check.specs.declared.facts.Facts.{Facts}
-use Rattle.stack_check.specs.Inference.{BeginsAlike, Calls, IsThere, LooksOwed, Sees, TrialIn, Within, window}
+use Rattle.stack_check.specs.Inference.{Calls, IsThere, LooksOwed, Sees, TrialIn, Within, window}
 use Rattle.stack_check.proofs.Calling.{call_there}
-use Rattle.stack_check.proofs.CallSteps.{callee_in, looks_there, sees_from, sees_none, sees_other}
+use Rattle.stack_check.proofs.CallSteps.{callee_in, looks_there, sees_none, sees_other}
 use Rattle.stack_check.proofs.calls.call_known.Goals as goal
 
 pub begins-requires-clause-held : goal.begins-requires-clause-held
@@ -20,6 +22,7 @@ returns-then-not-branch c = record {
       (sym c.in_ok-begins.ensures.same)
       (sees_other c.args.table.now c.args.code.now c.args.heap.now c.args.facts.now c.args.from.trial c.args.from.place c.requires.op.offset c.args.from.held c.args.callee c.requires.keeps
       c.requires.row c.requires.op.stands (subst (λ t. Calls c.args.facts.now t c.args.callee) (sym c.requires.op.leads) c.requires.calls) (iff_false c.in_ok-begins.ensures.begins (search rules)));
+  waits = tt;
 }
 
 pub window-requires : goal.window-requires
@@ -50,4 +53,5 @@ returns-in-None c =
           c.requires.op.stands (subst (λ t. Calls c.args.facts.now t c.args.callee) (sym c.requires.op.leads) c.requires.calls) c.in-None.is (c.in_ok-begins.ensures.begins.0 (search rules))
           (subst (λ (h : Heap). Within h c.args.facts.now c.args.from.trial (shape_of h c.args.from.held) (window h c.args.callee)) c.in_ok-begins.ensures.same
           (subst (λ r. Within c.begins.new.heap c.args.facts.now c.args.from.trial (shape_of c.begins.new.heap c.args.from.held) r) c.window.ensures w.1))));
+      waits = ap (λ (w : Worklist). waiting w) (c.in_ok-see.ensures.same (search rules));
     }

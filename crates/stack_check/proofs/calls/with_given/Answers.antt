@@ -1,5 +1,5 @@
 use Rattle.std.proofs.Common.{refl}
-use Rattle.stack_check.proofs.Heaps.{cells_changed}
+use Rattle.stack_lists.proofs.Heaps.{cells_changed}
 use Rattle.stack_check.proofs.calls.with_given.Goals as goal
 
 pub returns : goal.returns

@@ -1,5 +1,5 @@
 use Rattle.std.proofs.Common.{ap, refl}
-use Rattle.stack_check.proofs.Seeing.{narrow_keeps, narrow_left}
+use Rattle.stack_check.proofs.Seeing.{narrow_keeps, narrow_more}
 use Rattle.stack_check.proofs.facts.narrow.Goals as goal
 
 pub returns-clause-keeps : goal.returns-clause-keeps
@@ -9,5 +9,5 @@ returns-clause-keeps c =
 
 pub returns-clause-takes : goal.returns-clause-takes
 returns-clause-takes c =
-    narrow_left c.args.facts.now _ c.args.number c.args.trial _ c.args.unseen c.requires.trial c.requires.less refl
+    narrow_more c.args.table.now c.args.code.now c.args.heap.now c.args.facts.now _ c.args.number c.args.trial _ c.args.unseen c.requires.keeps c.requires.trial c.requires.less refl
     (ap (λ trials. record c.args.facts.now { trials = trials }) c.set.ensures.set)

@@ -1,5 +1,5 @@
 use Rattle.std.proofs.Common.{◌≤◌, length, reverse, take}
-use Rattle.stack_check.specs.Shared.{read}
+use Rattle.stack_lists.specs.Shared.{read}
 use Rattle.stack_check.proofs.Fitting.{FitsSoFar}
 use Rattle.stack_check.proofs.fits.beneath_values.Given as goal
 

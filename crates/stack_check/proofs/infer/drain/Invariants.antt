@@ -1,5 +1,10 @@
+use Rattle.std.proofs.Common.{length}
+use Rattle.stack_lists.specs.Worklist.{waiting}
 use Rattle.stack_check.proofs.Ending.{DrainedSoFar}
 use Rattle.stack_check.proofs.infer.drain.Given as goal
 
-abbrev pub invariant-loop-look : goal.invariant-loop-look
-invariant-loop-look l = DrainedSoFar l.table l.code l.initial.heap l.heap l.initial.facts l.facts
+abbrev pub invariant-loop-spot : goal.invariant-loop-spot
+invariant-loop-spot l = DrainedSoFar l.table l.code l.initial.heap l.heap l.initial.facts l.facts
+
+abbrev pub decreases-loop-spot : goal.decreases-loop-spot
+decreases-loop-spot l = length (waiting l.todo)

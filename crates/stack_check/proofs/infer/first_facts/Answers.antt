@@ -1,6 +1,6 @@
 use Rattle.std.proofs.Common.{[], ◌∷◌, ◌++◌, ◌∙◌, None, ap}
 use Rattle.stack_shape.specs.declared.shape.Entry.TheVariants.{Start}
-use Rattle.stack_check.proofs.Ending.{empty_row, starts}
+use Rattle.stack_check.proofs.Ending.{empty_row, starts, starts_found}
 use Rattle.stack_check.proofs.infer.first_facts.Goals as goal
 
 pub add-requires : goal.add-requires
@@ -10,6 +10,10 @@ pub returns : goal.returns
 returns c = record {
   keeps = starts c.args.table.now c.args.code.now c.args.heap.now c.new-rows.result c.add.new.self c.push.new.self c.new.result c.new-2.result
       c.new-rows.ensures.empty c.in_ok-add.ensures.added
-      (c.in_ok-push.ensures.ok ∙ ap (λ trials. trials ++ record { entry = Start; taken = 0; under = 0; given = None; unseen = record { cells = 0; under = 0 } } ∷ []) c.new-trials.ensures.empty)
+      (c.in_ok-push.ensures.ok ∙ ap (λ trials. trials ++ record { entry = Start; taken = 0; under = 0; given = None; unseen = record { cells = 0; under = 0 }; at_first = record { cells = 0; under = 0 } } ∷ []) c.new-trials.ensures.empty)
+      c.new.ensures.empty c.new-2.ensures.empty;
+  begins = starts_found c.new-rows.result c.add.new.self c.push.new.self c.new.result c.new-2.result
+      c.new-rows.ensures.empty c.in_ok-add.ensures.added
+      (c.in_ok-push.ensures.ok ∙ ap (λ trials. trials ++ record { entry = Start; taken = 0; under = 0; given = None; unseen = record { cells = 0; under = 0 }; at_first = record { cells = 0; under = 0 } } ∷ []) c.new-trials.ensures.empty)
       c.new.ensures.empty c.new-2.ensures.empty;
 }

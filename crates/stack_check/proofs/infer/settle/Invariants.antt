@@ -1,9 +1,10 @@
 use Rattle.stack_check.specs.Facts.{left}
 use Rattle.stack_check.specs.Inference.{Keeps}
+use Rattle.stack_check.proofs.Ending.{TurnedSoFar}
 use Rattle.stack_check.proofs.infer.settle.Given as goal
 
-abbrev pub invariant-turns : goal.invariant-turns
-invariant-turns l = Keeps l.table l.code l.heap l.facts
+abbrev pub invariant-work : goal.invariant-work
+invariant-work l = Keeps l.table l.code l.heap l.facts × TurnedSoFar l.initial.turns l.initial.facts l.turns l.facts
 
-abbrev pub decreases-turns : goal.decreases-turns
-decreases-turns l = left l.facts
+abbrev pub decreases-work : goal.decreases-work
+decreases-work l = left l.facts

@@ -1,4 +1,3 @@
-use Rattle.std.specs.Prelude.{IfOk}
 use Rattle.stack_check.proofs.Following.{reached_keeps, reached_takes}
 use Rattle.stack_check.proofs.reach.follow.Goals as goal
 

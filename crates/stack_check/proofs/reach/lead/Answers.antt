@@ -1,7 +1,7 @@
 use Rattle.std.proofs.Common.{◌≡◌, subst, sym}
 use Rattle.std.specs.Prelude.{IfOk}
 use Rattle.std.proofs.lemmas.Result.{IfOk-weaker}
-use Rattle.stack_check.specs.Held.{shape_of}
+use Rattle.stack_lists.specs.Held.{shape_of}
 use Rattle.stack_check.specs.Inference.{AllLed, RowIs, RowsKept, Takes, WhereQuiet}
 use Rattle.stack_check.proofs.Following.{changed_keeps, changed_quiet, kept_then, one_led, takes_both, takes_next, two_quiet}
 use Rattle.stack_check.proofs.Steps.{step_kept}

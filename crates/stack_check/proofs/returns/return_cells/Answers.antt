@@ -1,3 +1,4 @@
+use Rattle.std.proofs.Common.{refl}
 use Rattle.std.proofs.lemmas.Bool.{iff_false}
 use Rattle.stack_check.proofs.ReturnSteps.{gives_bad, gives_quiet}
 use Rattle.stack_check.proofs.returns.return_cells.Goals as goal
@@ -7,6 +8,7 @@ returns-then-same c = record {
   sees = gives_quiet c.args.table.now c.args.code.now c.args.heap.now c.args.facts.now c.args.from.trial c.args.from.place c.args.target c.args.from.held
       c.args.trial c.in-Some.given c.requires.keeps c.requires.op c.requires.trial c.requires.entry c.in-Some.is (c.same.ensures.0 c.if-same.true)
       c.requires.saved c.requires.pending;
+  waits = refl;
 }
 
 pub returns-else-same : goal.returns-else-same
@@ -14,4 +16,5 @@ returns-else-same c = record {
   sees = gives_bad c.args.table.now c.args.code.now c.args.heap.now c.args.facts.now c.args.from.trial c.args.from.place c.args.target c.args.from.held
       c.args.trial c.in-Some.given c.requires.keeps c.requires.row c.requires.op c.requires.trial c.requires.entry c.in-Some.is
       (iff_false c.same.ensures c.if-same.false);
+  waits = tt;
 }

@@ -1,3 +1,4 @@
+use Rattle.std.proofs.Common.{refl}
 use Rattle.stack_check.proofs.ReturnSteps.{start_quiet, stored_quiet}
 use Rattle.stack_check.proofs.returns.returned.Goals as goal
 
@@ -5,10 +6,12 @@ pub returns-in-Start : goal.returns-in-Start
 returns-in-Start c = record {
   sees = start_quiet c.args.table.now c.args.code.now c.args.heap.now c.args.facts.now c.args.from.trial c.args.from.place c.args.from.held c.args.trial
       c.requires.keeps c.requires.op c.requires.trial c.in-Start.is;
+  waits = refl;
 }
 
 pub returns-in-Stored : goal.returns-in-Stored
 returns-in-Stored c = record {
   sees = stored_quiet c.args.table.now c.args.code.now c.args.heap.now c.args.facts.now c.args.from.trial c.args.from.place c.in-Stored._site c.args.from.held
       c.args.trial c.requires.keeps c.requires.op c.requires.trial c.in-Stored.is;
+  waits = refl;
 }

@@ -1,6 +1,6 @@
 use Rattle.std.proofs.Common.{map, refl, ◌++◌, ◌∙◌, ap}
 use Rattle.stack_shape.specs.declared.shape.Slot.TheVariants.{Of}
-use Rattle.stack_check.specs.Shared.{read}
+use Rattle.stack_lists.specs.Shared.{read}
 use Rattle.stack_check.proofs.Storing.{shape_held}
 use Rattle.stack_check.proofs.visit.hold_stored.Goals as goal
 

@@ -1,7 +1,8 @@
+use Rattle.stack_check.proofs.Following.{waits_from}
 use Rattle.std.proofs.Common.{rules, ◌≡◌, ap, subst, sym, ◌∙◌}
 use Rattle.ncs_code.specs.Plain.{plain}
 use Rattle.stack_shape.specs.Rule.{rule}
-use Rattle.stack_check.specs.Held.{AfterStep, shape_of}
+use Rattle.stack_lists.specs.Held.{AfterStep, shape_of}
 use Rattle.stack_check.specs.declared.facts.Facts.{Facts}
 use Rattle.stack_check.specs.Inference.{AllLed, IsStep, IsThere, LooksOwed, Takes, WhereQuiet, Within, leads_of}
 use Rattle.stack_check.proofs.Visits.{step_sees, step_none, step_is, step_keeps, step_there}
@@ -17,6 +18,7 @@ returns-in-None c = record {
       c.args.from.place c.args.from.held (plain c.args.op.now) c.requires.keeps c.requires.row c.requires.op c.requires.one
       (subst (λ o. AfterStep c.args.heap.now c.step.new.heap o (rule c.args.table.now (plain c.args.op.now) (shape_of c.args.heap.now c.args.from.held)))
       c.in-None.is c.in_ok-step.ensures.after);
+  waits = tt;
 }
 
 pub see-requires-clause-keeps : goal.see-requires-clause-keeps
@@ -63,4 +65,5 @@ returns-in_ok-seen-in-Some c =
           (subst (λ (f : Facts). WhereQuiet c.in_ok-seen-in-Some.seen ((c.lead.new.facts ≡ f)
           × AllLed c.step.new.heap f c.args.from.trial c.leads_of-leads.result (shape_of c.step.new.heap c.in-Some.after))) w.0 c.in_ok-seen-in-Some.ensures.quiet)
           (subst (λ (f : Facts). Takes f c.lead.new.facts c.in_ok-seen-in-Some.seen) w.0 c.in_ok-seen-in-Some.ensures.takes);
+      waits = waits_from c.args.todo.now c.see.new.todo c.lead.new.todo c.in_ok-seen-in-Some.seen (c.in_ok-see-in-Some.ensures.same (search rules)) c.in_ok-seen-in-Some.ensures.waits;
     }

@@ -1,3 +1,4 @@
+use Rattle.stack_check.proofs.Following.{waits_changed, waits_then}
 use Rattle.std.proofs.Common.{subst}
 use Rattle.ncs_code.specs.Plain.{plain}
 use Rattle.stack_check.specs.declared.seen.Seen.{Seen}
@@ -27,6 +28,7 @@ returns-in-Bad c = record {
       c.args.from.place c.args.from.held (plain c.args.op.now)
       (subst (λ (s : Seen). SeesStep c.args.table.now c.args.code.now c.args.heap.now c.visit_step.new.heap c.args.facts.now c.visit_step.new.facts
       c.args.from.trial c.args.from.place c.args.from.held (plain c.args.op.now) s) c.in-Bad.is c.in_ok-first.ensures.sees);
+  waits = tt;
 }
 
 pub returns-in_ok-seen-in-Quiet : goal.returns-in_ok-seen-in-Quiet
@@ -36,6 +38,7 @@ returns-in_ok-seen-in-Quiet c = record {
       (subst (λ (s : Seen). SeesStep c.args.table.now c.args.code.now c.args.heap.now c.visit_step.new.heap c.args.facts.now c.visit_step.new.facts
       c.args.from.trial c.args.from.place c.args.from.held (plain c.args.op.now) s) c.in-Quiet.is c.in_ok-first.ensures.sees)
       c.in_ok-seen-in-Quiet.ensures.grows c.in_ok-seen-in-Quiet.ensures.keeps c.in_ok-seen-in-Quiet.ensures.quiet c.in_ok-seen-in-Quiet.ensures.takes;
+  waits = waits_then c.args.todo.now c.visit_step.new.todo c.store.new.todo c.in_ok-first.first c.in_ok-seen-in-Quiet.seen c.in_ok-first.ensures.waits c.in-Quiet.is c.in_ok-seen-in-Quiet.ensures.waits;
 }
 
 pub returns-in_ok-seen-in-Changed : goal.returns-in_ok-seen-in-Changed
@@ -46,4 +49,5 @@ returns-in_ok-seen-in-Changed c = record {
       c.args.from.trial c.args.from.place c.args.from.held (plain c.args.op.now) s) c.in-Changed.is c.in_ok-first.ensures.sees)
       c.in_ok-seen-in-Changed.ensures.grows c.in_ok-seen-in-Changed.ensures.keeps c.in_ok-seen-in-Changed.ensures.quiet c.in_ok-seen-in-Changed.ensures.takes
       c.after_change.ensures;
+  waits = waits_changed c.args.todo.now c.store-in-Changed.new.todo c.in_ok-seen-in-Changed.seen c.after_change.result c.after_change.ensures;
 }

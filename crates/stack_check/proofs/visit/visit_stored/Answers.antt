@@ -10,4 +10,5 @@ returns-in-None c = record {
       (sym c.in-None.is ∙ types_on_tops c.in_ok-types.types c.args.globals c.args.locals c.top-under.result.lists.now c.top-cells.result.lists.now
       c.args.heap.now.slots c.top-under.result.number c.top-cells.result.number c.args.from.held.under c.args.from.held.cells c.in_ok-types.ensures.types
       c.top-under.ensures.lists c.top-under.ensures.number c.top-cells.ensures.lists c.top-cells.ensures.number);
+  waits = tt;
 }

@@ -1,8 +1,0 @@
-use Rattle.std.proofs.Common.{arith, rules, refl}
-use Rattle.stack_check.proofs.Walks.{put_step}
-use Rattle.stack_check.proofs.slots.put_slots.Goals as goal
-
-pub loop-i-preserved : goal.loop-i-preserved
-loop-i-preserved c =
-    put_step _ _ _ _ _ _ _ _ _ _ c.loop-i.invariant (omega (arith, c.loop-i-test.true)) refl (search rules)
-    c.in_ok-at.ensures.grows c.in_ok-at.ensures.inside c.in_ok-at.ensures.reads

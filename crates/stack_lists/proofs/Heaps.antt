@@ -1,0 +1,187 @@
+-- Shapes that are held, and steps on them.
+use Rattle.std.proofs.Common.{arith, ◌≡◌, ◌≤◌, ◌+◌, ℕ, List, [], ◌∷◌, ◌++◌, length, map, drop, Option, None, Some, sym, subst, ◌∙◌, ap, refl}
+use Rattle.std.specs.Option.{option_map}
+use Rattle.stack_shape.specs.declared.shape.Slot.{Slot}
+use Rattle.stack_shape.specs.declared.shape.Slot.TheVariants.{Of, Base}
+use Rattle.stack_shape.specs.declared.effect.StackEffect.{StackEffect}
+use Rattle.stack_shape.specs.StackEffects.{after_effect}
+use Rattle.stack_shape.specs.declared.store.StoredTypes.{StoredTypes}
+use Rattle.nwq_value.specs.declared.value.Ty.{Ty}
+use Rattle.stack_shape.specs.Stored.{TopShape, stored_types}
+use Rattle.nwq_value.specs.declared.engine.Routine.{Routine}
+use Rattle.stack_shape.specs.Rule.{affected, called, based, restored, stored}
+use Rattle.stack_lists.specs.declared.lists.Node.{Node}
+use Rattle.stack_lists.specs.declared.held.Held.{Held}
+use Rattle.stack_lists.specs.declared.held.Heap.{Heap}
+use Rattle.stack_lists.specs.Shared.{read, Grows}
+use Rattle.stack_lists.specs.Held.{shape_of, AllAtMost, IsIn, HeapGrows, AfterStep, Holds}
+use Rattle.stack_lists.proofs.Walks.{grows_none, grows_then}
+
+-- ---- growing
+
+pub heap_same : (h : Heap) → HeapGrows h h
+heap_same h = record { slots = grows_none h.slots; saved = grows_none h.saved }
+
+pub heap_then : (a b c : Heap) → HeapGrows a b → HeapGrows b c → HeapGrows a c
+heap_then a b c g h = record { slots = grows_then a.slots b.slots c.slots g.slots h.slots; saved = grows_then a.saved b.saved c.saved g.saved h.saved }
+
+all_more : (a b : ℕ) (ns : List ℕ) → a ≤ b → AllAtMost a ns → AllAtMost b ns
+all_more a b [] h all = tt
+all_more a b (n ∷ ns) h all = (omega (arith, h, all.0), all_more a b ns h all.1)
+
+-- the same lists, read in a larger heap
+map_same : (before after : List (Node Slot)) (ns : List ℕ) → Grows before after → AllAtMost (length before) ns → map (read after) ns ≡ map (read before) ns
+map_same before after [] g all = refl
+map_same before after (n ∷ ns) g all =
+    ap (λ xs. xs ∷ map (read after) ns) (g.same n all.0) ∙ ap (λ rest. read before n ∷ rest) (map_same before after ns g all.1)
+
+pub still_in : (a b : Heap) (held : Held) → HeapGrows a b → IsIn a held → IsIn b held
+still_in a b held g h = record {
+  cells = omega (arith, g.slots.longer, h.cells);
+  under = omega (arith, g.slots.longer, h.under);
+  saved = omega (arith, g.saved.longer, h.saved);
+  each = subst (λ ns. AllAtMost (length b.slots) ns) (sym (g.saved.same held.saved h.saved))
+      (all_more (length a.slots) (length b.slots) (read a.saved held.saved) g.slots.longer h.each);
+}
+
+pub same_shape : (cells under : List Slot) (saved : List (List Slot)) (pending : ℕ) (cells' under' : List Slot) (saved' : List (List Slot)) (pending' : ℕ)
+    → cells ≡ cells' → under ≡ under' → saved ≡ saved' → pending ≡ pending'
+    → (let a : TopShape = record { cells = cells; under = under; saved = saved; pending = pending } in a)
+    ≡ record { cells = cells'; under = under'; saved = saved'; pending = pending' }
+same_shape cells under saved pending cells' under' saved' pending' c u s p =
+    ap (λ c. record { cells = c; under = under; saved = saved; pending = pending }) c
+    ∙ ap (λ u. record { cells = cells'; under = u; saved = saved; pending = pending }) u
+    ∙ ap (λ s. record { cells = cells'; under = under'; saved = s; pending = pending }) s
+    ∙ ap (λ p. record { cells = cells'; under = under'; saved = saved'; pending = p }) p
+
+pub still_shape : (a b : Heap) (held : Held) → HeapGrows a b → IsIn a held → shape_of b held ≡ shape_of a held
+still_shape a b held g h =
+    same_shape _ _ _ _ _ _ _ _ (g.slots.same held.cells h.cells) (g.slots.same held.under h.under)
+    (ap (map (read b.slots)) (g.saved.same held.saved h.saved) ∙ map_same a.slots b.slots (read a.saved held.saved) g.slots h.each) refl
+
+-- ---- other cells, and another number of pending states
+
+pub cells_changed : (before after : Heap) (held now : Held) (cells : List Slot) (pending : ℕ) → IsIn before held → Grows before.slots after.slots
+    → after.saved ≡ before.saved → now.under ≡ held.under → now.saved ≡ held.saved → now.pending ≡ pending → now.cells ≤ length after.slots
+    → read after.slots now.cells ≡ cells → Holds before after now (record (shape_of before held) { cells = cells; pending = pending })
+cells_changed before after held now cells pending h g s under saved p in_ r =
+    let grown : HeapGrows before after = record { slots = g; saved = subst (λ ns. Grows before.saved ns) (sym s) (grows_none before.saved) } in
+    let old = still_in before after held grown h in
+    record {
+      grows = grown;
+      inside = record {
+        cells = in_;
+        under = subst (λ n. n ≤ length after.slots) (sym under) old.under;
+        saved = subst (λ n. n ≤ length after.saved) (sym saved) old.saved;
+        each = subst (λ n. AllAtMost (length after.slots) (read after.saved n)) (sym saved) old.each;
+      };
+      is = same_shape _ _ _ _ _ _ _ _ r (ap (read after.slots) under ∙ g.same held.under h.under)
+          (ap (λ n. map (read after.slots) (read after.saved n)) saved ∙ ap TopShape.saved (still_shape before after held grown h)) p;
+    }
+
+pub effect_reads : (before after : List (Node Slot)) (cells below on : ℕ) (e : StackEffect) → read before below ≡ drop e.pops (read before cells)
+    → read after on ≡ map Of e.pushes ++ read before below → read after on ≡ after_effect e (read before cells)
+effect_reads before after cells below on e h i = i ∙ ap (λ rest. map Of e.pushes ++ rest) h
+
+pub lower_in : (nodes : List (Node Slot)) (cells below : ℕ) → below ≤ cells → cells ≤ length nodes → below ≤ length nodes
+lower_in nodes cells below h i = omega (arith, h, i)
+
+pub ruleset changing = (cells_changed, effect_reads, lower_in)
+
+-- ---- where there is a step
+
+pub effect_none : (a : Heap) (s : TopShape) → AfterStep a a None (affected None s)
+effect_none a s = (heap_same a, refl)
+
+pub effect_some : (a b : Heap) (after : Held) (e : StackEffect) (s : TopShape) → Holds a b after (record s { cells = after_effect e s.cells })
+    → AfterStep a b (Some after) (affected (Some e) s)
+effect_some a b after e s h = (h.grows, h.inside, ap Some (sym h.is))
+
+pub ruleset affecting = (effect_none, effect_some)
+
+-- ---- SAVEBP
+
+pub base_set : (a b : Heap) (held now : Held) → IsIn a held → Grows a.slots b.slots → Grows a.saved b.saved → now.under ≡ held.cells → now.pending ≡ held.pending
+    → now.cells ≤ length b.slots → now.saved ≤ length b.saved → read b.slots now.cells ≡ Base ∷ read a.slots held.cells
+    → read b.saved now.saved ≡ held.under ∷ read a.saved held.saved → Holds a b now (based (shape_of a held))
+base_set a b held now h g s under pending c_in s_in c r =
+    let grown : HeapGrows a b = record { slots = g; saved = s } in
+    let old = still_in a b held grown h in
+    record {
+      grows = grown;
+      inside = record {
+        cells = c_in;
+        under = subst (λ n. n ≤ length b.slots) (sym under) old.cells;
+        saved = s_in;
+        each = subst (λ ns. AllAtMost (length b.slots) ns) (sym r)
+            (old.under, all_more (length a.slots) (length b.slots) (read a.saved held.saved) g.longer h.each);
+      };
+      is = same_shape _ _ _ _ _ _ _ _ c (ap (read b.slots) under ∙ g.same held.cells h.cells)
+          (ap (map (read b.slots)) r ∙ ap (λ xs. xs ∷ map (read b.slots) (read a.saved held.saved)) (g.same held.under h.under)
+          ∙ ap (λ rest. read a.slots held.under ∷ rest) (map_same a.slots b.slots (read a.saved held.saved) g h.each)) pending;
+    }
+
+pub ruleset basing = (base_set)
+
+-- ---- RESTOREBP
+
+pub restore_empty : (a : Heap) (held : Held) → read a.slots held.cells ≡ [] → AfterStep a a None (restored (shape_of a held).cells (shape_of a held).saved (shape_of a held).pending)
+restore_empty a held e = (heap_same a, ap (λ cells. restored cells (shape_of a held).saved held.pending) e)
+
+pub restore_value : (a : Heap) (held : Held) (slot : Slot) (t : Ty) (rest : List Slot) → read a.slots held.cells ≡ slot ∷ rest → slot ≡ Of t
+    → AfterStep a a None (restored (shape_of a held).cells (shape_of a held).saved (shape_of a held).pending)
+restore_value a held slot t rest e i =
+    (heap_same a, ap (λ cells. restored cells (shape_of a held).saved held.pending) (e ∙ ap (λ s. s ∷ rest) i))
+
+pub restore_unsaved : (a : Heap) (held : Held) (slot : Slot) (rest : List Slot) → read a.slots held.cells ≡ slot ∷ rest → slot ≡ Base
+    → read a.saved held.saved ≡ [] → AfterStep a a None (restored (shape_of a held).cells (shape_of a held).saved (shape_of a held).pending)
+restore_unsaved a held slot rest e i s = (
+  heap_same a,
+  ap (λ cells. restored cells (shape_of a held).saved held.pending) (e ∙ ap (λ s. s ∷ rest) i)
+      ∙ ap (λ saved. restored (Base ∷ rest) (map (read a.slots) saved) held.pending) s,
+)
+
+pub restore_base : (a : Heap) (held now : Held) (slot : Slot) → IsIn a held → read a.slots held.cells ≡ slot ∷ read a.slots now.cells → slot ≡ Base
+    → read a.saved held.saved ≡ now.under ∷ read a.saved now.saved → now.pending ≡ held.pending → now.cells ≤ length a.slots → now.saved ≤ length a.saved
+    → AfterStep a a (Some now) (restored (shape_of a held).cells (shape_of a held).saved (shape_of a held).pending)
+restore_base a held now slot h e i s p c_in s_in =
+    let all = subst (λ ns. AllAtMost (length a.slots) ns) s h.each in (
+      heap_same a,
+      record { cells = c_in; under = all.0; saved = s_in; each = all.1 },
+      ap (λ cells. restored cells (shape_of a held).saved held.pending) (e ∙ ap (λ s. s ∷ read a.slots now.cells) i)
+          ∙ ap (λ saved. restored (Base ∷ read a.slots now.cells) (map (read a.slots) saved) held.pending) s
+          ∙ ap (λ p. Some (record (shape_of a now) { pending = p })) (sym p),
+    )
+
+pub ruleset restoring = (restore_empty, restore_value, restore_unsaved, restore_base)
+
+-- ---- STORE_STATE
+
+pub store_none : (a : Heap) (held : Held) (globals locals : ℕ) → None ≡ stored_types globals locals (read a.slots held.under) (read a.slots held.cells)
+    → AfterStep a a None (stored globals locals (shape_of a held))
+store_none a held globals locals e = (heap_same a, ap (option_map (λ t. record (shape_of a held) { pending = held.pending + 1 })) (sym e))
+
+pub store_some : (a : Heap) (held now : Held) (globals locals : ℕ) (t : StoredTypes) → IsIn a held
+    → Some t ≡ stored_types globals locals (read a.slots held.under) (read a.slots held.cells)
+    → now ≡ record held { pending = held.pending + 1 } → AfterStep a a (Some now) (stored globals locals (shape_of a held))
+store_some a held now globals locals t h e n = subst (λ now. AfterStep a a (Some now) (stored globals locals (shape_of a held))) (sym n) (
+  heap_same a,
+  record { cells = h.cells; under = h.under; saved = h.saved; each = h.each },
+  ap (option_map (λ t. record (shape_of a held) { pending = held.pending + 1 })) (sym e),
+)
+
+pub ruleset storing = (store_none, store_some)
+
+-- ---- ACTION
+
+pub called_none : (a : Heap) (o : Option Routine) (count : ℕ) (s : TopShape) → o ≡ None → AfterStep a a None (called o count s)
+called_none a o count s e = (heap_same a, ap (λ o. called o count s) e)
+
+pub ruleset calling = (called_none)
+
+-- ---- any step
+
+pub step_holds : (a b : Heap) (after : Held) (s : TopShape) → Holds a b after s → AfterStep a b (Some after) (Some s)
+step_holds a b after s h = (h.grows, h.inside, ap Some (sym h.is))
+
+pub ruleset stepping = (step_holds)

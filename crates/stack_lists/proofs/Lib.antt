@@ -1,0 +1,7 @@
+pub mod SharedLists
+pub mod Walks
+pub mod Heaps
+pub mod Numbers
+pub mod RowLemmas
+pub mod Links
+mod Worklists

@@ -1,0 +1,347 @@
+-- Lists of slots with their depths and lists further down in them.
+use Rattle.std.proofs.Common.{arith, ◌≡◌, ◌≢◌, ◌≤◌, ◌<◌, ◌+◌, ◌-◌, ℕ, zero, suc, List, [], ◌∷◌, ◌++◌, length, take, drop, false, Option, None, Some, slice_get, inl, inr, ◌⊎◌, sym, subst, ◌∙◌, ap, refl}
+use Rattle.std.specs.Prelude.{Result, Ok, Err, OnOk, OnErr}
+use Rattle.std.specs.Ordering.{nat_cmp, is_eq}
+use Rattle.std.specs.BTreeMap.{BTreeMap, Updates, get, is_at}
+use Rattle.std.specs.Map.{lookup}
+use Rattle.std.proofs.lemmas.Bool.{cases_eq}
+use Rattle.std.proofs.lemmas.Bool.Decides.{nat_tests}
+use Rattle.std.proofs.lemmas.List.{append_assoc, append_cancel_left, drop_all, length-append, length-map}
+use Rattle.std.proofs.Math.Seq.{drop-append_seam}
+use Rattle.stack_shape.specs.declared.shape.Slot.{Slot}
+use Rattle.stack_lists.specs.declared.lists.Node.{Node}
+use Rattle.stack_lists.specs.declared.stacks.Link.{Link}
+use Rattle.stack_lists.specs.declared.stacks.Agreed.{Agreed}
+use Rattle.stack_lists.specs.Shared.{with_node, read_within, read, Grows}
+use Rattle.stack_lists.specs.Stacks.{node_of, nodes_of, LiesOn, IsLink, IsNew, IsTop, AreLinked, Agrees, AllAgree}
+use Rattle.stack_lists.proofs.SharedLists.{grows_one, older_one, pop_inside, pop_older, pop_none, pop_top, pushed_reads, read_zero}
+use Rattle.stack_lists.proofs.Walks.{read_empty}
+
+some_is : {A : Type 0} (a b : A) → Some a ≡ Some b → a ≡ b
+some_is a b h = cc
+
+-- ---- links and nodes
+
+pub nodes_length : (links : List Link) → length (nodes_of links) ≡ length links
+nodes_length links = length-map links node_of
+
+pub nodes_few : (links : List Link) → AreLinked links → length links ≤ 33554432
+nodes_few links all = all.few
+
+pub ruleset counting = (nodes_length, nodes_few)
+
+nodes_more : (links : List Link) (l : Link) → nodes_of (links ++ l ∷ []) ≡ nodes_of links ++ node_of l ∷ []
+nodes_more [] l = refl
+nodes_more (m ∷ links) l = ap (λ rest. node_of m ∷ rest) (nodes_more links l)
+
+get_node : (links : List Link) (k : ℕ) (l : Link) → slice_get links k ≡ Some l → slice_get (nodes_of links) k ≡ Some (node_of l)
+get_node [] k l h = absurd cc
+get_node (m ∷ links) zero l h = ap (λ l. Some (node_of l)) (some_is m l h)
+get_node (m ∷ links) (suc k) l h = get_node links k l h
+
+no_node : (links : List Link) (k : ℕ) → slice_get links k ≡ None → slice_get (nodes_of links) k ≡ None
+no_node [] zero h = refl
+no_node [] (suc k) h = refl
+no_node (m ∷ links) zero h = absurd cc
+no_node (m ∷ links) (suc k) h = no_node links k h
+
+link_fits : (links : List Link) (k : ℕ) (l : Link) → slice_get links k ≡ Some l → k < length links
+link_fits [] k l h = absurd cc
+link_fits (m ∷ links) zero l h = omega arith
+link_fits (m ∷ links) (suc k) l h = omega (arith, link_fits links k l h)
+
+-- ---- the top of a list
+
+pub top_is : (links : List Link) (number k : ℕ) (l : Link) → AreLinked links → 0 < number → k ≡ number - 1 → Some l ≡ slice_get links k
+    → IsTop (nodes_of links) number l
+top_is links number k l all p e h =
+    let n = get_node links k l (sym h) in
+    let f = link_fits links k l (sym h) in
+    record {
+      link = subst (λ n. IsLink (nodes_of links) n l) (let s : suc k ≡ number = omega (arith, p, e) in s) (all.each k l (sym h));
+      top = pop_top (nodes_of links) number k (node_of l) all.older p e n;
+      older = pop_older (nodes_of links) number k (node_of l) all.older p e n;
+      inside = pop_inside (nodes_of links) k (node_of l) all.older n;
+      few = omega (arith, all.few, f, p, e);
+    }
+
+pub top_none : (links : List Link) (number k : ℕ) → 0 < number → k ≡ number - 1 → None ≡ slice_get links k → read (nodes_of links) number ≡ []
+top_none links number k p e h = pop_none (nodes_of links) number k p e (no_node links k (sym h))
+
+pub top_zero : (nodes : List (Node Slot)) (number : ℕ) → number ≡ 0 → read nodes number ≡ []
+top_zero nodes number e = read_zero nodes number e
+
+pub ruleset linking = (top_is, top_none, top_zero)
+
+-- ---- depths
+
+with_short : (o : Option (Node Slot)) (limit : ℕ) (go : ℕ → List Slot) → ((n : ℕ) → length (go n) ≤ limit) → length (with_node o go) ≤ suc limit
+with_short None limit go h = omega arith
+with_short (Some n) limit go h = let l = h n.below in omega (arith, l)
+
+within_short : (limit : ℕ) (nodes : List (Node Slot)) (number : ℕ) → length (read_within limit nodes number) ≤ limit
+within_short zero nodes number = omega arith
+within_short (suc limit) nodes zero = omega arith
+within_short (suc limit) nodes (suc k) = with_short (slice_get nodes k) limit (read_within limit nodes) (within_short limit nodes)
+
+read_short : (nodes : List (Node Slot)) (number : ℕ) → length (read nodes number) ≤ number
+unfolding read
+read_short nodes number = within_short number nodes number
+
+pub depth_none : (nodes : List (Node Slot)) (number : ℕ) → read nodes number ≡ [] → 0 ≡ length (read nodes number)
+depth_none nodes number e = sym (ap (λ (l : List Slot). length l) e)
+
+pub depth_is : (nodes : List (Node Slot)) (number : ℕ) (l : Link) → IsTop nodes number l → l.depth ≡ length (read nodes number)
+depth_is nodes number l t = t.link.depth
+
+pub depth_few : (nodes : List (Node Slot)) (number : ℕ) (l : Link) → IsTop nodes number l → l.depth ≤ 33554432
+depth_few nodes number l t = let s = read_short nodes number in omega (arith, t.link.depth, s, t.few)
+
+pub ruleset measuring = (depth_none, depth_is, depth_few)
+
+-- ---- further down
+
+pub lies_same : (nodes : List (Node Slot)) (number : ℕ) → LiesOn nodes number number
+lies_same nodes number = record { front = []; is = refl }
+
+pub lies_then : (nodes : List (Node Slot)) (a b c : ℕ) → LiesOn nodes a b → LiesOn nodes b c → LiesOn nodes a c
+lies_then nodes a b c h i = record { front = h.front ++ i.front; is = h.is ∙ ap (λ z. h.front ++ z) i.is ∙ sym (append_assoc h.front i.front (read nodes c)) }
+
+pub lies_below : (nodes : List (Node Slot)) (number : ℕ) (l : Link) → IsTop nodes number l → LiesOn nodes number l.below
+lies_below nodes number l t = record { front = l.slot ∷ []; is = t.top }
+
+pub jump_far : (nodes : List (Node Slot)) (number : ℕ) (l m : Link) → IsTop nodes number l → IsTop nodes l.jump m → LiesOn nodes number m.jump
+jump_far nodes number l m t u = lies_then nodes number l.jump m.jump t.link.on u.link.on
+
+pub jump_older : (nodes : List (Node Slot)) (number : ℕ) (l m : Link) → IsTop nodes number l → IsTop nodes l.jump m → m.jump ≤ number
+jump_older nodes number l m t u = omega (arith, t.link.older, u.link.older)
+
+pub ruleset jumping = (lies_same, jump_far, jump_older)
+
+pub near_none : (nodes : List (Node Slot)) (number depth : ℕ) → depth < length (read nodes number) → read nodes number ≡ [] → ⊥
+near_none nodes number depth h e = let l = ap (λ (l : List Slot). length l) e in omega (arith, h, l)
+
+pub near_below : (nodes : List (Node Slot)) (number depth : ℕ) (l : Link) → IsTop nodes number l → depth < length (read nodes number)
+    → depth ≤ length (read nodes l.below)
+near_below nodes number depth l t h = let e = ap (λ (l : List Slot). length l) t.top in omega (arith, h, e)
+
+pub near_on : (nodes : List (Node Slot)) (number : ℕ) (l : Link) → IsTop nodes number l → LiesOn nodes number l.jump
+near_on nodes number l t = t.link.on
+
+pub near_older : (nodes : List (Node Slot)) (number : ℕ) (l : Link) → IsTop nodes number l → l.jump < number
+near_older nodes number l t = t.link.older
+
+pub below_older : (nodes : List (Node Slot)) (number : ℕ) (l : Link) → IsTop nodes number l → l.below < number
+below_older nodes number l t = t.older
+
+pub ruleset nearing = (near_none, near_below, near_on, near_older, below_older, lies_below)
+
+pub ruleset lowest = (lies_same, lies_then)
+
+lower_of : (front below all : List Slot) (count : ℕ) → all ≡ front ++ below → length below ≡ length all - count → count ≤ length all → below ≡ drop count all
+lower_of front below all count e l h =
+    let n : length front ≡ count = let a = ap (λ (z : List Slot). length z) e ∙ length-append front below in omega (arith, l, h, a) in
+    sym (ap (drop count) e ∙ subst (λ k. drop k (front ++ below) ≡ below) n (drop-append_seam front below))
+
+pub lower_is : (nodes : List (Node Slot)) (number result count depth : ℕ) → LiesOn nodes number result → length (read nodes result) ≡ depth - count
+    → depth ≡ length (read nodes number) → count < depth → read nodes result ≡ drop count (read nodes number)
+lower_is nodes number result count depth on l d h =
+    lower_of on.front (read nodes result) (read nodes number) count on.is (l ∙ ap (λ n. n - count) d) (omega (arith, d, h))
+
+pub lower_all : (nodes : List (Node Slot)) (number count depth : ℕ) → depth ≡ length (read nodes number) → depth ≤ count
+    → read nodes 0 ≡ drop count (read nodes number)
+lower_all nodes number count depth d h = read_empty nodes ∙ sym (drop_all count (read nodes number) (omega (arith, d, h)))
+
+pub ruleset lowering = (lower_is, lower_all)
+
+-- ---- a link more
+
+reads_still : (before after : List (Node Slot)) (a b : ℕ) → Grows before after → a ≤ length before → b ≤ length before → LiesOn before a b → LiesOn after a b
+reads_still before after a b g h i on = record { front = on.front; is = g.same a h ∙ on.is ∙ ap (λ z. on.front ++ z) (sym (g.same b i)) }
+
+link_still : (before after : List (Node Slot)) (number : ℕ) (l : Link) → Grows before after → number ≤ length before → IsLink before number l → IsLink after number l
+link_still before after number l g h i = record {
+  depth = i.depth ∙ ap (λ (z : List Slot). length z) (sym (g.same number h));
+  older = i.older;
+  on = reads_still before after number l.jump g h (omega (arith, i.older, h)) i.on;
+}
+
+get_end : (xs : List Link) (x y : Link) (k : ℕ) → slice_get (xs ++ x ∷ []) k ≡ Some y → (slice_get xs k ≡ Some y) ⊎ ((k ≡ length xs) × (y ≡ x))
+get_end [] x y zero h = inr (refl, some_is y x (sym h))
+get_end [] x y (suc k) h = absurd cc
+get_end (z ∷ xs) x y zero h = inl h
+get_end (z ∷ xs) x y (suc k) h = elim (get_end xs x y k h) [
+  | inl a ↦ inl a
+  | inr b ↦ inr (ap (λ n. suc n) b.0, b.1)
+]
+
+pub added_grows : (links after : List Link) (l : Link) → AreLinked links → after ≡ links ++ l ∷ [] → Grows (nodes_of links) (nodes_of after)
+added_grows links after l all e = grows_one (nodes_of links) (nodes_of after) (node_of l) all.older (ap nodes_of e ∙ nodes_more links l)
+
+pub added_reads : (links after : List Link) (l : Link) (number : ℕ) → AreLinked links → after ≡ links ++ l ∷ [] → l.below ≤ length (nodes_of links)
+    → number ≡ length links + 1 → read (nodes_of after) number ≡ l.slot ∷ read (nodes_of links) l.below
+added_reads links after l number all e h n =
+    ap (read (nodes_of after)) (n ∙ ap (λ n. n + 1) (sym (nodes_length links)))
+    ∙ pushed_reads (nodes_of links) (nodes_of after) l.slot l.below all.older (ap nodes_of e ∙ nodes_more links l) h
+
+pub added_inside : (links after : List Link) (l : Link) (number : ℕ) → after ≡ links ++ l ∷ [] → number ≡ length links + 1 → number ≤ length (nodes_of after)
+added_inside links after l number e n =
+    let a = ap (λ (z : List Link). length z) e ∙ length-append links (l ∷ []) in
+    let b = nodes_length after in
+    omega (arith, a, b, n)
+
+new_link : (links after : List Link) (l : Link) → AreLinked links → after ≡ links ++ l ∷ [] → l.below ≤ length (nodes_of links)
+    → l.depth ≡ length (read (nodes_of links) l.below) + 1 → LiesOn (nodes_of links) l.below l.jump → l.jump ≤ l.below → IsLink (nodes_of after) (suc (length links)) l
+new_link links after l all e h d on older =
+    let g = added_grows links after l all e in
+    let r = added_reads links after l (suc (length links)) all e h (omega arith) in
+    record {
+      depth = d ∙ (let s = ap (λ (z : List Slot). length z) r in omega (arith, s));
+      older = let n = nodes_length links in omega (arith, older, h, n);
+      on = record {
+        front = l.slot ∷ on.front;
+        is = r ∙ ap (λ z. l.slot ∷ z) (on.is ∙ ap (λ z. on.front ++ z) (sym (g.same l.jump (omega (arith, older, h)))));
+      };
+    }
+
+pub ruleset adding = (added_grows, added_reads, added_inside)
+
+pub added_linked : (links after : List Link) (l : Link) → AreLinked links → after ≡ links ++ l ∷ [] → l.below ≤ length (nodes_of links)
+    → l.depth ≡ length (read (nodes_of links) l.below) + 1 → LiesOn (nodes_of links) l.below l.jump → l.jump ≤ l.below → length links < 33554432 → AreLinked after
+added_linked links after l all e h d on older room = record {
+  older = older_one (nodes_of links) (nodes_of after) (node_of l) all.older (ap nodes_of e ∙ nodes_more links l) h;
+  each = λ k m f. elim (get_end links l m k (ap (λ xs. slice_get xs k) (sym e) ∙ f)) [
+    | inl old ↦ link_still (nodes_of links) (nodes_of after) (suc k) m (added_grows links after l all e)
+        (let i = link_fits links k m old in let n = nodes_length links in omega (arith, i, n)) (all.each k m old)
+    | inr is ↦ subst (λ (m : Link). IsLink (nodes_of after) (suc k) m) (sym is.1)
+        (subst (λ k. IsLink (nodes_of after) (suc k) l) (sym is.0) (new_link links after l all e h d on older))
+  ];
+  few = let a = ap (λ (z : List Link). length z) e ∙ length-append links (l ∷ []) in omega (arith, a, room);
+}
+
+pub agree_still : (before after : List (Node Slot)) (agreed : BTreeMap ℕ Agreed) → Grows before after → AllAgree before agreed → AllAgree after agreed
+agree_still before after agreed g all = record {
+  by = λ key a e.
+      let h = all.by key a e in
+      record {
+        first = omega (arith, h.first, g.longer);
+        second = omega (arith, h.second, g.longer);
+        same = ap (take a.count) (g.same a.first h.first) ∙ h.same ∙ ap (take a.count) (sym (g.same a.second h.second));
+      };
+}
+
+pub agree_begin : (nodes : List (Node Slot)) (agreed : BTreeMap ℕ Agreed) → agreed.entries ≡ [] → AllAgree nodes agreed
+agree_begin nodes agreed e = record { by = λ key a h. absurd (nothing key a (sym (ap (lookup (is_at (nat_cmp key))) e) ∙ h)) }
+  where
+    nothing : (key : ℕ) (a : Agreed) → None ≡ Some a → ⊥
+    nothing key a h = absurd cc
+
+pub links_begin : AreLinked []
+links_begin = record { older = record { by = λ k n h. absurd cc }; each = λ k l h. absurd cc; few = omega arith }
+
+-- ---- fronts
+
+take_less : (a b : ℕ) (l : List Slot) → a ≤ b → take a l ≡ take a (take b l)
+take_less zero b l h = refl
+take_less (suc a) zero l h = absurd (omega (arith, h))
+take_less (suc a) (suc b) [] h = refl
+take_less (suc a) (suc b) (x ∷ l) h = ap (λ z. x ∷ z) (take_less a b l (omega (arith, h)))
+
+pub agree_less : (x y : List Slot) (count known : ℕ) → take known x ≡ take known y → count ≤ known → take count x ≡ take count y
+agree_less x y count known e h = take_less count known x h ∙ ap (take count) e ∙ sym (take_less count known y h)
+
+take_none : (n : ℕ) → take n [] ≡ (let xs : List Slot = [] in xs)
+take_none zero = refl
+take_none (suc n) = refl
+
+take_then : (a n : ℕ) (l : List Slot) → take (a + n) l ≡ take a l ++ take n (drop a l)
+take_then zero n l = ap (λ k. take k l) (there n)
+  where
+    there : (n : ℕ) → zero + n ≡ n
+    there n = omega arith
+take_then (suc a) n [] = take_none (suc a + n) ∙ sym (take_none n)
+take_then (suc a) n (x ∷ l) = ap (λ k. take k (x ∷ l)) (there a n) ∙ ap (λ z. x ∷ z) (take_then a n l)
+  where
+    there : (a n : ℕ) → suc a + n ≡ suc (a + n)
+    there a n = omega arith
+
+split : (known count : ℕ) (l : List Slot) → known ≤ count → take count l ≡ take known l ++ take (count - known) (drop known l)
+split known count l h = ap (λ k. take k l) (let e : count ≡ known + (count - known) = omega (arith, h) in e) ∙ take_then known (count - known) l
+
+pub agree_more : (x y u v : List Slot) (count known : ℕ) → take known x ≡ take known y → known ≤ count → u ≡ drop known x → v ≡ drop known y
+    → take (count - known) u ≡ take (count - known) v → take count x ≡ take count y
+agree_more x y u v count known e h a b f =
+    split known count x h ∙ ap (λ z. z ++ take (count - known) (drop known x)) e
+    ∙ ap (λ z. take known y ++ z) (ap (take (count - known)) (sym a) ∙ f ∙ ap (take (count - known)) b) ∙ sym (split known count y h)
+
+pub agree_back : (x y u v : List Slot) (count known : ℕ) → take known x ≡ take known y → known ≤ count → u ≡ drop known x → v ≡ drop known y
+    → take count x ≡ take count y → take (count - known) u ≡ take (count - known) v
+agree_back x y u v count known e h a b f =
+    ap (take (count - known)) a
+    ∙ append_cancel_left (take known x) _ _ (sym (split known count x h) ∙ f ∙ split known count y h
+    ∙ ap (λ z. z ++ take (count - known) (drop known y)) (sym e))
+    ∙ ap (take (count - known)) (sym b)
+
+pub take_top : (l rest : List Slot) (slot : Slot) (left next : ℕ) → l ≡ slot ∷ rest → 0 < left → next ≡ left - 1 → take left l ≡ slot ∷ take next rest
+take_top l rest slot zero next e p n = absurd (omega (arith, p))
+take_top l rest slot (suc left) next e p n = ap (take (suc left)) e ∙ ap (λ k. slot ∷ take k rest) (let f : left ≡ next = omega (arith, n) in f)
+
+take_nil : (n : ℕ) (l : List Slot) → l ≡ [] → take n l ≡ []
+take_nil zero l e = refl
+take_nil (suc n) [] e = refl
+take_nil (suc n) (x ∷ l) e = absurd cc
+
+pub front_end : (l : List Slot) (left : ℕ) → l ≡ [] → take left l ≡ []
+front_end l left e = take_nil left l e
+
+pub front_done : (x y : List Slot) (left : ℕ) → left ≤ 0 → take left x ≡ take left y
+front_done x y zero h = refl
+front_done x y (suc left) h = absurd (omega (arith, h))
+
+pub ruleset fronts = (take_top, front_end, front_done)
+
+pub none_known : (x y : List Slot) → take 0 x ≡ take 0 y
+none_known x y = refl
+
+pub known_is : (nodes : List (Node Slot)) (agreed : BTreeMap ℕ Agreed) (key a b : ℕ) (v : Agreed) → AllAgree nodes agreed → Some v ≡ get nat_cmp agreed key
+    → v.first ≡ a → v.second ≡ b → take v.count (read nodes a) ≡ take v.count (read nodes b)
+known_is nodes agreed key a b v all e f s =
+    let h = all.by key v (sym e) in
+    ap (λ n. take v.count (read nodes n)) (sym f) ∙ h.same ∙ ap (λ n. take v.count (read nodes n)) s
+
+pub ruleset knowing = (none_known, known_is)
+
+other_cmp : (k q : ℕ) → q ≢ k → is_eq (nat_cmp k q) ≡ false
+other_cmp k q ne = grind (arith, nat_tests, ne)
+
+pub agree_kept : (nodes : List (Node Slot)) (before after : BTreeMap ℕ Agreed) (key : ℕ) (a : Agreed) → AllAgree nodes before → a.first ≤ length nodes
+    → a.second ≤ length nodes → take a.count (read nodes a.first) ≡ take a.count (read nodes a.second) → Updates nat_cmp before after key (Some a)
+    → AllAgree nodes after
+agree_kept nodes before after key a all f s same u = record {
+  by = λ q b e. elim (cases_eq q key) [
+    | inl i ↦ subst (λ (b : Agreed). Agrees nodes b) (some_is a b (sym u.1 ∙ ap (get nat_cmp after) (sym i) ∙ e)) (record { first = f; second = s; same = same })
+    | inr ne ↦ all.by q b (sym (u.2 q (other_cmp key q ne)) ∙ e)
+  ];
+}
+
+pub agree_unchanged : (nodes : List (Node Slot)) (before after : BTreeMap ℕ Agreed) → after.entries ≡ before.entries → AllAgree nodes before → AllAgree nodes after
+agree_unchanged nodes before after e all = record {
+  by = λ key a h. all.by key a (ap (lookup (is_at (nat_cmp key))) (sym e) ∙ h);
+}
+
+pub ruleset agreeing = (agree_less, agree_more, agree_back)
+
+pub added_all : (links after : List Link) (l : Link) (agreed : BTreeMap ℕ Agreed) → AreLinked links × AllAgree (nodes_of links) agreed → after ≡ links ++ l ∷ []
+    → IsNew (nodes_of links) l → length links < 33554432 → AreLinked after × AllAgree (nodes_of after) agreed
+added_all links after l agreed all e n room = (
+  added_linked links after l all.0 e n.below n.depth n.on n.older room,
+  agree_still (nodes_of links) (nodes_of after) agreed (added_grows links after l all.0 e) all.1,
+)
+
+pub agree_after : {E O : Type 0} (links : List Link) (before after : BTreeMap ℕ Agreed) (key : ℕ) (a : Agreed) (r : Result O E)
+    → AreLinked links × AllAgree (nodes_of links) before
+    → (a.first ≤ length (nodes_of links)) × (a.second ≤ length (nodes_of links))
+    → take a.count (read (nodes_of links) a.first) ≡ take a.count (read (nodes_of links) a.second)
+    → OnOk r (Updates nat_cmp before after key (Some a)) → OnErr r (after.entries ≡ before.entries) → AreLinked links × AllAgree (nodes_of links) after
+agree_after links before after key a (Ok o) all i same u e = (all.0, agree_kept (nodes_of links) before after key a all.1 i.0 i.1 same u)
+agree_after links before after key a (Err x) all i same u e = (all.0, agree_unchanged (nodes_of links) before after e all.1)

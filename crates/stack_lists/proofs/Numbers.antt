@@ -1,0 +1,51 @@
+-- Numbers by place.
+use Rattle.std.proofs.Common.{arith, ◌≡◌, ◌≢◌, ◌<◌, ℕ, zero, suc, List, [], ◌∷◌, ◌++◌, length, get_or, slice_set, ◌∙◌, ap, refl, None, Some, slice_get}
+use Rattle.stack_lists.specs.Rows.{PutAt, SameNumbers}
+
+pub same_begin : (a : List ℕ) → SameNumbers a a
+same_begin a = record { by = λ k. refl }
+
+one_zero : (a : List ℕ) (k : ℕ) → get_or (a ++ 0 ∷ []) k 0 ≡ get_or a k 0
+one_zero [] zero = refl
+one_zero [] (suc k) = refl
+one_zero (x ∷ a) zero = refl
+one_zero (x ∷ a) (suc k) = one_zero a k
+
+pub same_more : (a b c : List ℕ) → SameNumbers a b → c ≡ b ++ 0 ∷ [] → SameNumbers a c
+same_more a b c h e = record { by = λ k. ap (λ xs. get_or xs k 0) e ∙ one_zero b k ∙ h.by k }
+
+pub ruleset extending = (same_begin, same_more)
+
+set_here : (a : List ℕ) (place number : ℕ) → place < length a → get_or (slice_set a place number) place 0 ≡ number
+set_here [] place number h = absurd (omega (arith, h))
+set_here (x ∷ a) zero number h = refl
+set_here (x ∷ a) (suc place) number h = set_here a place number (omega (arith, h))
+
+set_other : (a : List ℕ) (place number k : ℕ) → k ≢ place → get_or (slice_set a place number) k 0 ≡ get_or a k 0
+set_other [] place number k ne = refl
+set_other (x ∷ a) zero number zero ne = absurd (ne refl)
+set_other (x ∷ a) zero number (suc k) ne = refl
+set_other (x ∷ a) (suc place) number zero ne = refl
+set_other (x ∷ a) (suc place) number (suc k) ne = set_other a place number k (λ e. ne (ap (λ n. suc n) e))
+
+pub put_set : (before more after : List ℕ) (place number : ℕ) → SameNumbers before more → place < length more → after ≡ slice_set more place number
+    → PutAt before after place number
+put_set before more after place number same in_ e = record {
+  here = ap (λ xs. get_or xs place 0) e ∙ set_here more place number in_;
+  others = λ k ne. ap (λ xs. get_or xs k 0) e ∙ set_other more place number k ne ∙ same.by k;
+}
+
+pub ruleset putting = (put_set)
+
+pub got_some : (xs : List ℕ) (k x : ℕ) → Some x ≡ slice_get xs k → x ≡ get_or xs k 0
+got_some [] k x h = absurd cc
+got_some (y ∷ xs) zero x h = cc
+got_some (y ∷ xs) (suc k) x h = got_some xs k x h
+
+pub got_none : (xs : List ℕ) (k : ℕ) → None ≡ slice_get xs k → 0 ≡ get_or xs k 0
+got_none [] zero h = refl
+got_none [] (suc k) h = refl
+got_none (y ∷ xs) zero h = absurd cc
+got_none (y ∷ xs) (suc k) h = got_none xs k h
+
+pub ruleset getting = (got_some, got_none)

@@ -1,0 +1,17 @@
+use Rattle.std.proofs.Common.{refl, subst}
+use Rattle.std.specs.Prelude.{OnOk}
+use Rattle.stack_lists.specs.Worklist.{CallersAdded, Worklist}
+use Rattle.stack_lists.proofs.Worklists.{callers_done}
+use Rattle.stack_lists.proofs.todo.Todo.add_callers.Goals as goal
+
+pub returns : goal.returns
+returns c = record {
+  added = subst (λ (before : Worklist). OnOk c.put_all.result (CallersAdded before (record {
+    first = c.self.inside.first.items;
+    later = c.put_all.new.spots.items;
+    calls = c.self.inside.calls;
+    called = c.put.new.self;
+  }) c.args.target)) c.self.view_is
+      (callers_done (record { first = c.self.inside.first.items; later = c.self.inside.later.items; calls = c.self.inside.calls; called = c.self.inside.called })
+      _ c.args.target c.get-number.result c.put_all.result refl refl c.get-number.ensures.number c.put_all.ensures.put c.in_ok-put.ensures.put);
+}

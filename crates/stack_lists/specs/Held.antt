@@ -1,0 +1,42 @@
+-- Shapes whose lists are numbers of shared lists.
+use Rattle.std.specs.Prelude.{◌≡◌, ◌≤◌, ℕ, List, [], ◌∷◌, length, map, Option, None, Some}
+use Rattle.stack_shape.specs.Stored.{TopShape}
+use Rattle.stack_lists.specs.declared.held.Held.{Held}
+use Rattle.stack_lists.specs.declared.held.Heap.{Heap}
+use Rattle.stack_lists.specs.Shared.{read, Grows}
+
+-- the shape that is held
+abbrev pub shape_of : Heap → Held → TopShape
+shape_of heap held = record {
+  cells = read heap.slots held.cells;
+  under = read heap.slots held.under;
+  saved = map (read heap.slots) (read heap.saved held.saved);
+  pending = held.pending;
+}
+
+abbrev pub AllAtMost : ℕ → List ℕ → Type 0
+AllAtMost most [] = Unit {0}
+AllAtMost most (n ∷ ns) = (n ≤ most) × AllAtMost most ns
+
+-- each list of the shape is there
+pub record IsIn (heap : Heap) (held : Held) : Type 0 where
+  pub cells : held.cells ≤ length heap.slots
+  pub under : held.under ≤ length heap.slots
+  pub saved : held.saved ≤ length heap.saved
+  pub each : AllAtMost (length heap.slots) (read heap.saved held.saved)
+
+-- shapes are only added
+pub record HeapGrows (before after : Heap) : Type 0 where
+  pub slots : Grows before.slots after.slots
+  pub saved : Grows before.saved after.saved
+
+-- The shape after a step, where there is one.
+abbrev pub AfterStep : Heap → Heap → Option Held → Option TopShape → Type 0
+AfterStep before after None shape = HeapGrows before after × (shape ≡ None)
+AfterStep before after (Some held) shape = HeapGrows before after × IsIn after held × (shape ≡ Some (shape_of after held))
+
+-- the shape is held
+pub record Holds (before after : Heap) (held : Held) (shape : TopShape) : Type 0 where
+  pub grows : HeapGrows before after
+  pub inside : IsIn after held
+  pub is : shape_of after held ≡ shape

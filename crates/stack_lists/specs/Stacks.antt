@@ -1,0 +1,54 @@
+-- Lists of slots that share their lower parts, with their depths and lists that lie far down in them.
+use Rattle.std.specs.Prelude.{◌≡◌, ◌≤◌, ◌<◌, ◌+◌, ◌^◌, ℕ, suc, List, ◌∷◌, ◌++◌, length, map, take, Some, slice_get}
+use Rattle.std.specs.Ordering.{nat_cmp}
+use Rattle.std.specs.BTreeMap.{BTreeMap, get}
+use Rattle.stack_shape.specs.declared.shape.Slot.{Slot}
+use Rattle.stack_lists.specs.declared.lists.Node.{Node}
+use Rattle.stack_lists.specs.declared.stacks.Link.{Link}
+use Rattle.stack_lists.specs.declared.stacks.Agreed.{Agreed}
+use Rattle.stack_lists.specs.Shared.{AreOlder, read}
+
+abbrev pub node_of : Link → Node Slot
+node_of l = record { item = l.slot; below = l.below }
+
+abbrev pub nodes_of : List Link → List (Node Slot)
+nodes_of links = map node_of links
+
+-- The one list ends with the other.
+pub record LiesOn (nodes : List (Node Slot)) (upper lower : ℕ) : Type 0 where
+  pub front : List Slot
+  pub is : read nodes upper ≡ front ++ read nodes lower
+
+pub record IsLink (nodes : List (Node Slot)) (number : ℕ) (l : Link) : Type 0 where
+  pub depth : l.depth ≡ length (read nodes number)
+  pub older : l.jump < number
+  pub on : LiesOn nodes number l.jump
+
+-- the link is the list's top
+pub record IsTop (nodes : List (Node Slot)) (number : ℕ) (l : Link) : Type 0 where
+  pub link : IsLink nodes number l
+  pub top : read nodes number ≡ l.slot ∷ read nodes l.below
+  pub older : l.below < number
+  pub inside : l.below ≤ length nodes
+  pub few : number ≤ 2 ^ 25
+
+-- a link may be added
+pub record IsNew (nodes : List (Node Slot)) (l : Link) : Type 0 where
+  pub below : l.below ≤ length nodes
+  pub depth : l.depth ≡ length (read nodes l.below) + 1
+  pub on : LiesOn nodes l.below l.jump
+  pub older : l.jump ≤ l.below
+
+pub record AreLinked (links : List Link) : Type 0 where
+  pub older : AreOlder (nodes_of links)
+  pub each : (k : ℕ) (l : Link) → slice_get links k ≡ Some l → IsLink (nodes_of links) (suc k) l
+  pub few : length links ≤ 2 ^ 25
+
+-- so many of the topmost slots are the same
+pub record Agrees (nodes : List (Node Slot)) (a : Agreed) : Type 0 where
+  pub first : a.first ≤ length nodes
+  pub second : a.second ≤ length nodes
+  pub same : take a.count (read nodes a.first) ≡ take a.count (read nodes a.second)
+
+pub record AllAgree (nodes : List (Node Slot)) (agreed : BTreeMap ℕ Agreed) : Type 0 where
+  pub by : (key : ℕ) (a : Agreed) → get nat_cmp agreed key ≡ Some a → Agrees nodes a
