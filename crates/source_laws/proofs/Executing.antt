@@ -25,7 +25,7 @@ use Rattle.source_laws.specs.Simulation.{HoldsValue, value_place, value_credits}
 use Rattle.source_laws.specs.Calling.{ExecutesRun}
 use Rattle.source_laws.specs.Executing.{script_of, IsHostOf, start_state, IsAtLast, last_state, StartsDo, ScriptsExecute}
 use Rattle.source_laws.proofs.Ledger.{took_none, took_cost, took_less, sim_after, sim_bind, sim_paid, sim_chosen}
-use Rattle.source_laws.proofs.StayAlike.{may_run_alike, no_script_keeps_alike, too_deep_keeps_alike}
+use Rattle.world_rules.specs.StayAlike.{may_run_alike, no_script_keeps_alike, too_deep_keeps_alike}
 
 -- ---- listed scripts by their names
 

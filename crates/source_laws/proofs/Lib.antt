@@ -15,15 +15,11 @@ mod AllStatements
 mod UnitCalls
 mod Functions
 mod Placing
-mod WorldMaps
-mod RowMaps
 mod EngineAlike
 mod BareStarts
 mod Globals
 mod Starts
 mod Resumes
-mod TurnMaps
-mod StayAlike
 mod Executing
 mod Entries
 mod Listed

@@ -1,10 +1,6 @@
 mod Played
 mod Examples
 mod Edges
-mod MapLemmas
-mod RowMaps
-mod TurnMaps
-mod AlikeLemmas
 mod Queues
 mod KeptLemmas
 mod RowsKept

@@ -1,12 +1,9 @@
 -- Worlds that differ in their stored actions alone, where a relation says which actions belong together.
-use Rattle.std.specs.Prelude.{◌≡◌, ℕ, ℤ, List, Option, None, Some}
-use Rattle.std.specs.List.{AllZip}
-use Rattle.action_queue.specs.declared.queue.Item.{Item}
-use Rattle.action_queue.specs.declared.queue.Item.TheVariants.{Do, Wait, Speak}
+use Rattle.std.specs.Prelude.{◌≡◌, Option, None, Some}
 use Rattle.delay_agenda.specs.declared.entry.Entry.{Entry}
 use Rattle.delay_agenda.specs.declared.entry.Kind.{Kind}
 use Rattle.delay_agenda.specs.declared.entry.Kind.TheVariants.{Event, Stored, Turn, Unapply}
-use Rattle.world_rules.specs.World.{World, queue_of, effects_of}
+use Rattle.world_rules.specs.World.{World}
 use Rattle.world_rules.specs.Rows.{Answered}
 use Rattle.world_rules.specs.Turns.{Begun, Turned}
 use Rattle.world_rules.specs.Mapped.{map_world}
@@ -49,12 +46,6 @@ pub record EntryAlike {X Y : Type 0} (R : X → Y → Type 0) (e : Entry X) (f :
   pub number : e.number ≡ f.number
   pub kind : KindAlike R e.kind f.kind
 
-abbrev pub ItemAlike : {X Y : Type 0} → (X → Y → Type 0) → Item X → Item Y → Type 0
-ItemAlike R (Do x) (Do y) = R x y
-ItemAlike R (Wait m) (Wait n) = m ≡ n
-ItemAlike R (Speak a) (Speak b) = a ≡ b
-ItemAlike R _ _ = ⊥
-
 -- two calls' answers: one value, and worlds that are alike
 pub record AnsweredAlike {X Y : Type 0} (R : X → Y → Type 0) (a : Answered X) (b : Answered Y) : Type 0 where
   pub value : a.value ≡ b.value
@@ -70,17 +61,3 @@ BegunAlike R (Some a) None = ⊥
 pub record TurnedAlike {X Y : Type 0} (R : X → Y → Type 0) (t : Turned X) (u : Turned Y) : Type 0 where
   pub action : OptionAlike R t.action u.action
   pub world : Alike R t.world u.world
-
--- what two worlds have in common that are alike, and what stands at one place in both
-pub record AreAlikeThroughout {X Y : Type 0} (R : X → Y → Type 0) (w : World X) (v : World Y) : Type 0 where
-  pub clock : w.clock ≡ v.clock
-  pub area : w.area ≡ v.area
-  pub trace : w.trace ≡ v.trace
-  pub random : w.random ≡ v.random
-  pub user : w.user ≡ v.user
-  pub version : w.version ≡ v.version
-  pub next : w.agenda.next ≡ v.agenda.next
-  pub entries : AllZip (EntryAlike R) w.agenda.entries v.agenda.entries
-  pub busy : (o : ℕ) → (queue_of o w).busy ≡ (queue_of o v).busy
-  pub actions : (o : ℕ) → AllZip (ItemAlike R) (queue_of o w).actions (queue_of o v).actions
-  pub effects : (o : ℕ) → effects_of o w ≡ effects_of o v

@@ -8,14 +8,10 @@ use Rattle.world_rules.specs.World.{World}
 use Rattle.world_rules.specs.Rows.{Call}
 use Rattle.world_rules.specs.Engine.{engine, may_run, no_script, too_deep}
 use Rattle.world_rules.specs.Turns.{Planned, new_world, begin, turn, turn_done, unapply, fault, drained}
-use Rattle.world_rules.specs.Alike.{Alike, AreAlikeThroughout, AnsweredAlike, BegunAlike, OptionAlike, TurnedAlike}
+use Rattle.world_rules.specs.Alike.{Alike, AnsweredAlike, BegunAlike, OptionAlike, TurnedAlike}
 
 abbrev pub call : {X : Type 0} → ℕ → List Value → Option X → Call X
 call caller values action = record { caller = caller; values = values; action = action }
-
--- worlds that are alike have all in common but their stored actions, and these belong together place by place
-abbrev pub AlikeTells : {X Y : Type 0} → (X → Y → Type 0) → Type 0
-AlikeTells {X = X} {Y = Y} R = (w : World X) (v : World Y) → Alike R w v → AreAlikeThroughout R w v
 
 -- the world of a plan's beginning has no stored actions
 abbrev pub NewIsAlike : {X Y : Type 0} → (X → Y → Type 0) → Type 0

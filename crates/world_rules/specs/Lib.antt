@@ -9,6 +9,10 @@ pub mod Turns
 pub mod Mapped
 pub mod Alike
 pub mod AlikeLaws
+pub mod WorldMaps
+pub mod RowMaps
+pub mod TurnMaps
+pub mod StayAlike
 pub mod Kept
 pub mod Plays
 pub mod Settled

@@ -1,6 +1,6 @@
 //! What the engine's routines do in a world, and what plays of entries are, as definitions.
 //!
-//! There is no code here that runs. `specs/World.antt` says what a world is, generic in the stored
+//! `specs/World.antt` says what a world is, generic in the stored
 //! actions, and `specs/Changes.antt` the small changes that everything else is made of.
 //! `specs/Rows.antt` has the engine's own routines, one line each, `specs/Pure.antt` the functions
 //! of strings and numbers, and `specs/Engine.antt` what a call of a header's routine gives.
@@ -8,11 +8,12 @@
 //! how an entry is run by its kind, and what a play comes to: entry after entry, until none is due
 //! or a limit is met. It is generic in how scripts run, so that the play of files and the play of
 //! what source texts mean are one definition; `specs/EndText.antt` has the text at a play's end,
-//! and `specs/Settled.antt` what holds of the worlds between entries. The types below are the parts
-//! of a world that are plain data.
+//! and `specs/Settled.antt` what holds of the worlds between entries.
 //!
-//! The functions of this crate do nothing. Each is a law: its contract is proved of the
-//! definitions, for whoever calls it. docs/ENGINE.md tells the rows in words, docs/WORLD.md the
+//! The types below are the parts of a world that are plain data. Beside their calls, the functions
+//! of this crate do nothing: each is a law, whose contract is proved of the definitions, for whoever
+//! calls it. `specs/StayAlike.antt` proves that worlds which differ in their stored actions alone
+//! stay so. docs/ENGINE.md tells the rows in words, docs/WORLD.md the
 //! world, docs/PLAYS.md plays.
 #![tactic(auto)]
 
@@ -21,8 +22,5 @@ mod laws;
 mod plays;
 
 pub use data::{Line, Objects, Standing, Stood, Things, Told, Trace, at_least_zero};
-pub use laws::{
-    Carries, alike_worlds_agree, calls_keep_alike, calls_keep_worlds, entries_keep_alike,
-    entries_keep_worlds,
-};
+pub use laws::{calls_keep_worlds, entries_keep_worlds};
 pub use plays::{plays_go_on, plays_settle};

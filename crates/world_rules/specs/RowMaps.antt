@@ -22,7 +22,7 @@ use Rattle.world_rules.specs.Changes.{told, post, later, with_action, with_actio
 use Rattle.world_rules.specs.Rows.{Call, Row, rows, leaves, drawn_from, drawn, assigned, delayed, awake, appended, appended_do, at_rest, cleared, changed_variables, applied, applied_to, removed, event_script, signalled}
 use Rattle.world_rules.specs.Engine.{row_numbered, by_row, by_role, by_routine, engine}
 use Rattle.world_rules.specs.Mapped.{map_item, map_world, map_call, map_answered}
-use Rattle.source_laws.proofs.WorldMaps.{map_if, post_map, has_turn_map, without_turn_map, queue_map, effects_map, with_effects_map, with_actions_map, with_busy_map, with_action_map, with_effect_map}
+use Rattle.world_rules.specs.WorldMaps.{map_if, post_map, has_turn_map, without_turn_map, queue_map, effects_map, with_effects_map, with_actions_map, with_busy_map, with_action_map, with_effect_map}
 
 -- what happens only under a test
 pub where_map : {X Y : Type 0} (f : X → Y) (b : Bool) (w v : World X) (u : World Y) → u ≡ map_world f v

@@ -1,5 +1,5 @@
 -- Entries begin and do the same where the stored actions are changed.
-use Rattle.std.proofs.Common.{◌≡◌, ℕ, ℤ, pos, zero, suc, Bool, true, false, List, [], ◌∷◌, ◌++◌, map, length, Option, None, Some, refl, sym, ap, ap₂, ◌∙◌}
+use Rattle.std.proofs.Common.{◌≡◌, ℕ, ℤ, pos, zero, suc, false, List, [], ◌∷◌, map, length, Option, None, Some, refl, sym, ap, ◌∙◌}
 use Rattle.std.specs.Prelude.{if◌then◌else◌, nat_le, replicate}
 use Rattle.std.specs.Option.{option_map}
 use Rattle.std.specs.List.{fold, find}
@@ -10,13 +10,12 @@ use Rattle.delay_agenda.specs.declared.entry.Entry.{Entry}
 use Rattle.delay_agenda.specs.declared.entry.Kind.{Kind}
 use Rattle.delay_agenda.specs.declared.entry.Kind.TheVariants.{Event, Stored, Turn, Unapply}
 use Rattle.world_rules.specs.declared.data.Stood.{Stood}
-use Rattle.world_rules.specs.declared.data.Things.{Things}
 use Rattle.world_rules.specs.declared.data.Told.TheVariants as line
 use Rattle.world_rules.specs.World.{World, queue_of, effects_of}
-use Rattle.world_rules.specs.Changes.{told, post, later, with_actions, with_busy, with_effects, without_first, is_numbered}
-use Rattle.world_rules.specs.Turns.{Planned, idle, still, with_planned, new_world, user_number, Begun, with_entries, begun, begin, next_turn, turn_done, Turned, turned, turn, expired, unapply}
-use Rattle.world_rules.specs.Mapped.{map_kind, map_entry, map_item, map_queue, map_things, map_world, map_begun, map_turned}
-use Rattle.world_rules.proofs.MapLemmas.{map_if, post_map, queue_map, effects_map, with_effects_map, with_actions_map, with_busy_map}
+use Rattle.world_rules.specs.Changes.{told, post, later, with_actions, with_effects, without_first, is_numbered}
+use Rattle.world_rules.specs.Turns.{Planned, idle, still, with_planned, new_world, user_number, with_entries, begun, begin, next_turn, turn_done, turned, turn, expired, unapply}
+use Rattle.world_rules.specs.Mapped.{map_kind, map_entry, map_item, map_things, map_world, map_begun, map_turned}
+use Rattle.world_rules.specs.WorldMaps.{map_if, post_map, queue_map, effects_map, with_effects_map, with_actions_map, with_busy_map}
 
 -- ---- the world at the beginning
 
