@@ -19,7 +19,7 @@ returns-in-Err-Syntax c =
     let many : length c.as_slice.result.now ≡ c.len.result = c.as_slice.ensures.len ∙ sym c.len.ensures in
     let fault : c.in-Err-Syntax.field-0 ≡ Syntax c.in-Err-Syntax.at = cc in
     let refused : Refuses (symbols_of c.as_slice.result.now) (Syntax c.in-Err-Syntax.at) =
-        subst (λ (f : ParseFault). Refuses (symbols_of c.as_slice.result.now) f) fault c.in-Err-Syntax.ensures.refused in
+    subst (λ (f : ParseFault). Refuses (symbols_of c.as_slice.result.now) f) fault c.in-Err-Syntax.ensures.refused in
     subst (λ n. IsTrue (c.in-Err-Syntax.at == n) ↔ CanFollow c.args.before.now c.args.token) many
     (refused_follows c.args.before.now c.as_slice.result.now c.args.token c.in-Err-Syntax.at
     (c.as_slice.ensures.value ∙ c.in_ok-push.ensures.items ∙ ap (λ xs. xs ++ c.args.token ∷ []) c.in_ok-all.ensures.items)

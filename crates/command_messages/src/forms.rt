@@ -1,0 +1,178 @@
+//! The forms of the words, and which word of a command line is wrong.
+
+use crate::form::{put_sentence, put_words};
+use nwq_text::{is_script_name, put_count};
+use nwq_value::NoMemory;
+
+/// The version of the program.
+pub const VERSION: &str = "1.0";
+
+/// A form of words: a command, and what follows it.
+struct Form {
+    command: &'static str,
+    words: &'static str,
+    does: &'static str,
+    /// How many words follow at least and at most.
+    least: usize,
+    most: usize,
+    /// Which of them is the name of a script.
+    script: Option<usize>,
+}
+
+const FORMS: [Form; 8] = [
+    Form {
+        command: "run",
+        words: "HEADER SCRIPT",
+        does: "plays one start of a script",
+        least: 2,
+        most: 2,
+        script: Some(1),
+    },
+    Form {
+        command: "compile",
+        words: "HEADER SCRIPT",
+        does: "writes SCRIPT.ncs",
+        least: 2,
+        most: 2,
+        script: Some(1),
+    },
+    Form {
+        command: "tree",
+        words: "FILE",
+        does: "shows the tree of a GFF file",
+        least: 1,
+        most: 1,
+        script: None,
+    },
+    Form {
+        command: "check",
+        words: "HEADER FILE",
+        does: "checks a file of bytecode",
+        least: 2,
+        most: 2,
+        script: None,
+    },
+    Form {
+        command: "dis",
+        words: "FILE TO",
+        does: "writes a file of bytecode as text",
+        least: 2,
+        most: 2,
+        script: None,
+    },
+    Form {
+        command: "asm",
+        words: "FILE TO",
+        does: "writes a text as a file of bytecode",
+        least: 2,
+        most: 2,
+        script: None,
+    },
+    Form {
+        command: "play",
+        words: "HEADER AREA PLAN TO [TABLES]",
+        does: "plays a plan over an area, and leaves the area in TO",
+        least: 4,
+        most: 5,
+        script: None,
+    },
+    Form {
+        command: "generate",
+        words: "NUMBER",
+        does: "plays what is made from a number of 0 to 1,000,000",
+        least: 1,
+        most: 1,
+        script: None,
+    },
+];
+
+/// The form of this command.
+fn form_of(command: &str) -> Option<&'static Form> {
+    for form in FORMS.iter() {
+        if form.command == command {
+            return Some(form);
+        }
+    }
+    None
+}
+
+/// A word that begins with `-` and isn't `-` alone.
+fn dashed(words: &[String]) -> Option<&str> {
+    for word in words {
+        let bytes = word.as_bytes();
+        if bytes.len() > 1 && bytes[0] == b'-' {
+            return Some(word.as_str());
+        }
+    }
+    None
+}
+
+/// Appends how many words a command takes and was given.
+fn put_counts(out: &mut Vec<u8>, form: &Form, given: usize) -> Result<(), NoMemory> {
+    put_sentence(out, "`%` takes ", form.command.as_bytes())?;
+    put_words(out, form.words)?;
+    put_words(out, ", and was given ")?;
+    put_count(out, given as u64)?;
+    put_words(out, if given == 1 { " word" } else { " words" })
+}
+
+/// Appends what is wrong with the words behind a command.
+fn put_wrong_rest(out: &mut Vec<u8>, form: &Form, rest: &[String]) -> Result<(), NoMemory> {
+    if rest.len() < form.least || rest.len() > form.most {
+        return put_counts(out, form, rest.len());
+    }
+    match form.script {
+        Some(at) if at < rest.len() && !is_script_name(rest[at].as_bytes()) => put_sentence(
+            out,
+            "`%` is no name of a script: 1 to 16 of a to z, 0 to 9 and `_`, without `.nss`",
+            rest[at].as_bytes(),
+        ),
+        _ => put_sentence(
+            out,
+            "`%` isn't given what it takes",
+            form.command.as_bytes(),
+        ),
+    }
+}
+
+/// Appends which word is wrong.
+fn put_wrong(out: &mut Vec<u8>, words: &[String]) -> Result<(), NoMemory> {
+    let Some((command, rest)) = words.split_first() else {
+        return put_words(out, "no command is given");
+    };
+    if let Some(word) = dashed(words) {
+        return put_sentence(
+            out,
+            "`%` begins with `-`: there are no options",
+            word.as_bytes(),
+        );
+    }
+    match form_of(command.as_str()) {
+        None => put_sentence(out, "`%` is no command", command.as_bytes()),
+        Some(form) => put_wrong_rest(out, form, rest),
+    }
+}
+
+fn put_form(out: &mut Vec<u8>, form: &Form) -> Result<(), NoMemory> {
+    put_words(out, "  nwq ")?;
+    put_words(out, form.command)?;
+    put_words(out, " ")?;
+    put_words(out, form.words)?;
+    put_words(out, "  (")?;
+    put_words(out, form.does)?;
+    put_words(out, ")\n")
+}
+
+/// Appends what is said after words that are no form of a command: the program and its version,
+/// which word is wrong, and the forms.
+pub(crate) fn put_usage(out: &mut Vec<u8>, words: &[String]) -> Result<(), NoMemory> {
+    put_words(out, "nwq ")?;
+    put_words(out, VERSION)?;
+    put_words(out, ": error: ")?;
+    put_wrong(out, words)?;
+    put_words(out, " [words]\nusage:\n")?;
+    for form in FORMS.iter() {
+        put_form(out, form)?;
+    }
+    put_words(out, "HEADER is a header file, or - for the built-in one\n")
+}

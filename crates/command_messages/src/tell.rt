@@ -1,0 +1,354 @@
+//! The message after a command.
+
+ghost use Rattle.std.specs.Prelude.{◌≡◌, ◌≤◌, length};
+ghost use Rattle.nwq_value.specs.Limits.{file_limit};
+
+use crate::asked::{Asking, include_of, line_of_file};
+use crate::flaws::{kind_of, line_in, place_of_line, put_flaw};
+use crate::form::{put_end, put_head, put_kind, put_plain, put_sentence, put_whole, put_words};
+use crate::forms::put_usage;
+use crate::places::{Spot, put_cause, token_at};
+use crate::system::{MEMORY, put_fault};
+use crate::takes::{given_at, put_parameters};
+use crate::told::{Told, same, told_by};
+use crate::units::{Ask, header_of, put_of_scripts, read_escaped, scripts_of, table_of};
+use command_words::{Command, command_of};
+use command_work::Status;
+use nss_lexer::Kind;
+use nwq_outside::{Files, Sink, Trouble};
+use nwq_text::put_text;
+use nwq_value::{NoMemory, Table, Text};
+use std::alloc::Global;
+
+/// How the program ended: its number, the last line on standard output, and the last name at which
+/// the system failed.
+#[derive(Clone, Copy)]
+pub struct End<'a> {
+    pub number: u8,
+    pub line: &'a [u8],
+    pub trouble: Option<&'a Trouble>,
+}
+
+/// The table of the header that a command names, where a cause is told by it.
+fn table_for<F: Files>(
+    alloc: Global,
+    command: Command<'_>,
+    cause: &[u8],
+    files: &mut F,
+) -> Option<Table>
+    ensures same { F.contents files.new ≡ F.contents files.old }
+{
+    if same(cause, b"arity") || same(cause, b"mismatch") {
+        table_of(alloc, header_of(command)?, files)
+    } else {
+        None
+    }
+}
+
+/// What a message asks of the units, for causes that are told by them.
+fn ask_of<'a>(alloc: Global, spot: Spot<'a>) -> Result<Option<Ask<'a>>, NoMemory>
+    requires size { length spot.bytes.now ≤ file_limit }
+    requires place { spot.at ≤ length spot.bytes.now }
+{
+    if same(spot.cause, b"syntax") {
+        return Ok(Some(Ask::Following));
+    }
+    if !same(spot.cause, b"arity") {
+        return Ok(None);
+    }
+    match (
+        token_at(spot.bytes, spot.at),
+        given_at(alloc, spot.bytes, spot.at)?,
+    ) {
+        (Some(token), Some(given)) => Ok(Some(Ask::Arity {
+            name: token.text,
+            given,
+        })),
+        _ => Ok(None),
+    }
+}
+
+/// Appends the parameters of the routine whose argument has another type.
+fn put_mismatch(out: &mut Vec<u8>, spot: Spot<'_>, table: Option<&Table>) -> Result<(), NoMemory>
+    requires size { length spot.bytes.now ≤ file_limit }
+    requires place { spot.at ≤ length spot.bytes.now }
+{
+    if !same(spot.cause, b"mismatch") {
+        return Ok(());
+    }
+    match token_at(spot.bytes, spot.at) {
+        Some(token) if matches!(token.kind, Kind::Name) => put_parameters(out, table, token.text),
+        _ => Ok(()),
+    }
+}
+
+/// Appends the sentence for a place, and what the units and the header add to it.
+fn put_told<F: Files>(
+    alloc: Global,
+    out: &mut Vec<u8>,
+    command: Command<'_>,
+    spot: Spot<'_>,
+    files: &mut F,
+) -> Result<(), NoMemory>
+    requires size { length spot.bytes.now ≤ file_limit }
+    requires place { spot.at ≤ length spot.bytes.now }
+    ensures same { F.contents files.new ≡ F.contents files.old }
+{
+    let table = table_for(alloc, command, spot.cause, files);
+    let Some(ask) = ask_of(alloc, spot)? else {
+        put_cause(out, spot)?;
+        return put_mismatch(out, spot, table.as_ref());
+    };
+    let scripts = scripts_of(alloc, command, files)?;
+    let is_arity = matches!(ask, Ask::Arity { .. });
+    if !is_arity {
+        put_cause(out, spot)?;
+    }
+    let told = put_of_scripts(
+        alloc,
+        out,
+        scripts.as_slice(),
+        table.as_ref(),
+        spot,
+        ask,
+        files,
+    )?;
+    if is_arity && !told {
+        put_cause(out, spot)?;
+    }
+    Ok(())
+}
+
+/// Appends the message on a place of a source text.
+fn put_place_message<F: Files>(
+    alloc: Global,
+    out: &mut Vec<u8>,
+    command: Command<'_>,
+    name: &[u8],
+    at: u32,
+    cause: &[u8],
+    files: &mut F,
+) -> Result<(), NoMemory>
+    ensures same { F.contents files.new ≡ F.contents files.old }
+{
+    match read_escaped(alloc, name, files)? {
+        Some(bytes) if at as usize <= bytes.len() => {
+            let spot = Spot {
+                name,
+                bytes: bytes.as_slice(),
+                at,
+                cause,
+            };
+            put_head(out, name, spot.bytes, at)?;
+            put_told(alloc, out, command, spot, files)?;
+            put_end(out, cause, spot.bytes, at)
+        }
+        _ => {
+            put_plain(out, name)?;
+            put_words(out, ": error: the file is refused")?;
+            put_kind(out, cause)
+        }
+    }
+}
+
+/// What a line of a file is that is no source text.
+fn line_sentence(command: Command<'_>, name: &[u8]) -> &'static str {
+    if name.ends_with(b".2da") {
+        return "this line breaks the rules of 2DA files";
+    }
+    match command {
+        Command::Assemble(_file, _to) => {
+            "this is no instruction with its arguments, or it leads to no beginning of one"
+        }
+        Command::Play { plan, .. } if plan.as_bytes() == name => {
+            "this is no line of a plan: one blank stands between fields, and none at the end"
+        }
+        _ => "this line names no table: a name in lower case, once, without `.2da`",
+    }
+}
+
+/// Appends the message on a file that is no source text.
+fn put_flaw_message<F: Files>(
+    alloc: Global,
+    out: &mut Vec<u8>,
+    command: Command<'_>,
+    name: &[u8],
+    flaw: &[u8],
+    files: &mut F,
+) -> Result<(), NoMemory>
+    ensures same { F.contents files.new ≡ F.contents files.old }
+{
+    if let Some(number) = line_in(flaw)
+        && let Some(bytes) = read_escaped(alloc, name, files)?
+    {
+        let at = place_of_line(bytes.as_slice(), number) as u32;
+        put_head(out, name, bytes.as_slice(), at)?;
+        put_words(out, line_sentence(command, name))?;
+        return put_end(out, kind_of(flaw), bytes.as_slice(), at);
+    }
+    put_plain(out, name)?;
+    put_words(out, ": error: ")?;
+    put_flaw(out, flaw)?;
+    put_kind(out, kind_of(flaw))
+}
+
+/// The place that asks for a file that isn't there: an include, or a line of a plan or of a list.
+fn asking_for<F: Files>(
+    alloc: Global,
+    command: Command<'_>,
+    wanted: &[u8],
+    files: &mut F,
+) -> Result<Option<Asking>, NoMemory>
+    ensures same { F.contents files.new ≡ F.contents files.old }
+{
+    if let Command::Play { plan, list, .. } = command {
+        if let Some(list) = list
+            && let Some(asking) = line_of_file(alloc, list, wanted, files)?
+        {
+            return Ok(Some(asking));
+        }
+        if let Some(asking) = line_of_file(alloc, plan, wanted, files)? {
+            return Ok(Some(asking));
+        }
+    }
+    let scripts = scripts_of(alloc, command, files)?;
+    include_in(alloc, scripts.as_slice(), wanted, files)
+}
+
+/// The first of these scripts that includes a file, itself or by another include.
+fn include_in<F: Files>(
+    alloc: Global,
+    scripts: &[Text],
+    wanted: &[u8],
+    files: &mut F,
+) -> Result<Option<Asking>, NoMemory>
+    ensures same { F.contents files.new ≡ F.contents files.old }
+{
+    for script in scripts {
+        if let Some(asking) = include_of(alloc, script, wanted, files)? {
+            return Ok(Some(asking));
+        }
+    }
+    Ok(None)
+}
+
+/// Appends the message on a file that isn't there.
+fn put_missing<F: Files>(
+    alloc: Global,
+    out: &mut Vec<u8>,
+    command: Command<'_>,
+    name: &[u8],
+    files: &mut F,
+) -> Result<(), NoMemory>
+    ensures same { F.contents files.new ≡ F.contents files.old }
+{
+    match asking_for(alloc, command, name, files)? {
+        Some(asking) => put_asked(alloc, out, name, &asking),
+        None => put_whole(out, name, "there is no such file", "missing"),
+    }
+}
+
+fn put_asked(
+    alloc: Global,
+    out: &mut Vec<u8>,
+    name: &[u8],
+    asking: &Asking,
+) -> Result<(), NoMemory> {
+    let mut asker = Vec::new(alloc);
+    put_text(&mut asker, asking.name.as_bytes())?;
+    put_head(out, asker.as_slice(), asking.bytes.as_slice(), asking.at)?;
+    put_sentence(out, "there is no file `%`, which this line asks for", name)?;
+    put_end(out, b"missing", asking.bytes.as_slice(), asking.at)
+}
+
+/// Appends the message on what a line of refusal tells.
+fn put_line_told<F: Files>(
+    alloc: Global,
+    out: &mut Vec<u8>,
+    command: Command<'_>,
+    status: Status,
+    line: &[u8],
+    files: &mut F,
+) -> Result<(), NoMemory>
+    ensures same { F.contents files.new ≡ F.contents files.old }
+{
+    match told_by(status, line) {
+        Told::Nothing => Ok(()),
+        Told::Missing(name) => put_missing(alloc, out, command, name, files),
+        Told::Long(name) => put_whole(out, name, "the file has more than 16,777,216 bytes", "long"),
+        Told::Place { name, at, cause } => {
+            put_place_message(alloc, out, command, name, at, cause, files)
+        }
+        Told::Flaw { name, flaw } => put_flaw_message(alloc, out, command, name, flaw, files),
+    }
+}
+
+/// The status of a number with which the program ends.
+fn status_numbered(number: u8) -> Status {
+    match number {
+        1 => Status::Words,
+        2 => Status::Script,
+        3 => Status::Code,
+        4 => Status::Area,
+        5 => Status::Limit,
+        6 => Status::Missing,
+        7 => Status::Fault,
+        8 => Status::Memory,
+        9 => Status::Long,
+        _ => Status::Done,
+    }
+}
+
+/// The words after the program's name, which is the first of all.
+fn after_name(all: &[String]) -> &[String] {
+    match all.split_first() {
+        Some((_name, words)) => words,
+        None => all,
+    }
+}
+
+/// The message after a command, which is empty where nothing is to be said.
+fn message<F: Files>(
+    alloc: Global,
+    words: &[String],
+    end: End<'_>,
+    files: &mut F,
+) -> Result<Vec<u8>, NoMemory>
+    ensures same { F.contents files.new ≡ F.contents files.old }
+{
+    let mut out = Vec::new(alloc);
+    let status = status_numbered(end.number);
+    match status {
+        Status::Done | Status::Limit => {}
+        Status::Words => put_usage(&mut out, words)?,
+        Status::Fault => put_fault(&mut out, end.trouble)?,
+        Status::Memory => put_words(&mut out, MEMORY)?,
+        _ => put_line_told(alloc, &mut out, command_of(words), status, end.line, files)?,
+    }
+    Ok(out)
+}
+
+/// Puts a message, unless it is empty. Where the sink doesn't take it, nothing more is done.
+fn put<E: Sink>(text: &[u8], err: &mut E) {
+    if !text.is_empty() {
+        let _answer = err.put(text);
+    }
+}
+
+/// Says why the program ended with its number, where that is no success. `all` are its words, the
+/// first of which is its name, and the files are read once more. No file is written, and nothing
+/// that fails here has any effect but on what is said.
+pub fn tell_end<F: Files, E: Sink>(
+    alloc: Global,
+    all: &[String],
+    end: End<'_>,
+    files: &mut F,
+    err: &mut E,
+)
+    ensures same { F.contents files.new ≡ F.contents files.old }
+{
+    match message(alloc, after_name(all), end, files) {
+        Ok(text) => put(text.as_slice(), err),
+        Err(NoMemory) => put(MEMORY.as_bytes(), err),
+    }
+}

@@ -1,0 +1,138 @@
+//! What the last line on standard output tells of a refusal.
+
+ghost use Rattle.std.specs.Prelude.{◌≡◌, bytes_eq};
+
+use command_work::Status;
+use nwq_text::{cut, read_number};
+
+/// What a line of refusal tells. Names are escaped as they stand there.
+#[derive(Clone, Copy)]
+pub(crate) enum Told<'a> {
+    Nothing,
+    /// A file isn't there.
+    Missing(&'a [u8]),
+    /// A file is too long.
+    Long(&'a [u8]),
+    /// A source text is refused at an offset.
+    Place {
+        name: &'a [u8],
+        at: u32,
+        cause: &'a [u8],
+    },
+    /// Another file is refused.
+    Flaw {
+        name: &'a [u8],
+        flaw: &'a [u8],
+    },
+}
+
+/// The words that begin what is said of a file that is no source text.
+const FLAWS: [&[u8]; 14] = [
+    b"short",
+    b"version",
+    b"section",
+    b"range",
+    b"type",
+    b"shared",
+    b"deep",
+    b"label",
+    b"line",
+    b"shape",
+    b"large",
+    b"magic",
+    b"length",
+    b"unstacked",
+];
+
+pub(crate) fn same(a: &[u8], b: &[u8]) -> bool
+    ensures { result ≡ bytes_eq a.now b.now }
+{
+    a == b
+}
+
+/// The first word of a text.
+pub(crate) fn first_word(text: &[u8]) -> &[u8] {
+    match cut(text, b' ') {
+        Some((word, _rest)) => word,
+        None => text,
+    }
+}
+
+/// What follows the first word of a text.
+pub(crate) fn second_word(text: &[u8]) -> &[u8] {
+    match cut(text, b' ') {
+        Some((_word, rest)) => rest,
+        None => b"",
+    }
+}
+
+/// What stands before the last blank of a text, and behind it.
+fn last_cut(text: &[u8]) -> Option<(&[u8], &[u8])> {
+    let mut at = text.len();
+    while at > 0 {
+        at -= 1;
+        if text[at] == b' ' {
+            return Some((&text[..at], &text[at + 1..]));
+        }
+    }
+    None
+}
+
+fn begins_flaw(text: &[u8]) -> bool {
+    let word = first_word(text);
+    let is_offset = read_number(word).is_some();
+    is_offset || same(word, b"target") || FLAWS.iter().any(|flaw| *flaw == word)
+}
+
+/// What a line tells of a file that is no source text: its name goes as far as the first word of a
+/// flaw.
+fn flaw_in(text: &[u8]) -> Told<'_> {
+    for (i, byte) in text.iter().enumerate() {
+        if *byte == b' ' && begins_flaw(&text[i + 1..]) {
+            return Told::Flaw {
+                name: &text[..i],
+                flaw: &text[i + 1..],
+            };
+        }
+    }
+    Told::Nothing
+}
+
+fn offset_in(digits: &[u8]) -> Option<u32> {
+    match read_number(digits) {
+        Some(at) if at <= u64::from(u32::MAX) => Some(at as u32),
+        _ => None,
+    }
+}
+
+/// What a line tells of a source text.
+fn place_in(text: &[u8]) -> Option<Told<'_>> {
+    let (front, cause) = last_cut(text)?;
+    let (front, digits) = last_cut(front)?;
+    let (name, _line) = last_cut(front)?;
+    let at = offset_in(digits)?;
+    Some(Told::Place { name, at, cause })
+}
+
+/// A line without its newline.
+fn without_newline(line: &[u8]) -> &[u8] {
+    match line.split_last() {
+        Some((last, before)) if *last == b'\n' => before,
+        _ => line,
+    }
+}
+
+/// What the last line tells where a command ended with this status.
+pub(crate) fn told_by(status: Status, line: &[u8]) -> Told<'_> {
+    let text = without_newline(line);
+    match cut(text, b' ') {
+        None => Told::Nothing,
+        Some((_word, rest)) => match status {
+            Status::Missing => Told::Missing(rest),
+            Status::Long => Told::Long(rest),
+            Status::Script => place_in(rest).unwrap_or(Told::Nothing),
+            Status::Code | Status::Area => flaw_in(rest),
+            _ => Told::Nothing,
+        },
+    }
+}

@@ -1,0 +1,236 @@
+//! The files that a message reads once more: headers, plans, units of scripts. Nothing is written.
+
+ghost use Rattle.std.specs.Prelude.{◌≡◌, ◌≤◌, length, IfOk, IfSome};
+ghost use Rattle.nwq_value.specs.Limits.{file_limit, token_limit};
+
+use crate::places::{Spot, put_following};
+use crate::takes::{arity_named, put_arity};
+use command_words::Command;
+use engine_table::{built_in, read_header};
+use message_tokens::syntax_fault;
+use nss_include::{Unit, gather};
+use nss_lexer::Token;
+use nwq_outside::{Files, Read};
+use nwq_text::read_text;
+use nwq_value::{Items, NoMemory, Table, Text};
+use plan_text::{Plan, read_plan};
+use std::alloc::Global;
+
+/// The content of a name, if it can be read.
+pub(crate) fn read_named<F: Files>(alloc: Global, name: &str, files: &mut F) -> Option<Items<u8>>
+    ensures same { F.contents files.new ≡ F.contents files.old }
+    ensures size { IfSome result (λ bytes. length bytes ≤ file_limit) }
+{
+    match files.read(alloc, name) {
+        Read::Bytes(bytes) => Some(Items::of_vec(bytes)),
+        _ => None,
+    }
+}
+
+/// The name that an escaped text stands for.
+pub(crate) fn name_in(alloc: Global, escaped: &[u8]) -> Result<Option<String>, NoMemory> {
+    match read_text(alloc, escaped)? {
+        None => Ok(None),
+        Some(name) => Ok(Some(String::from_utf8_lossy(alloc, name.bytes())?)),
+    }
+}
+
+/// The content of an escaped name, if it can be read.
+pub(crate) fn read_escaped<F: Files>(
+    alloc: Global,
+    escaped: &[u8],
+    files: &mut F,
+) -> Result<Option<Items<u8>>, NoMemory>
+    ensures same { F.contents files.new ≡ F.contents files.old }
+    ensures size { IfOk result (λ read. IfSome read (λ bytes. length bytes ≤ file_limit)) }
+{
+    match name_in(alloc, escaped)? {
+        None => Ok(None),
+        Some(name) => Ok(read_named(alloc, name.as_str(), files)),
+    }
+}
+
+/// The header that a command names.
+pub(crate) fn header_of<'a>(command: Command<'a>) -> Option<&'a str> {
+    match command {
+        Command::Run(header, _script) => Some(header),
+        Command::Compile(header, _script) => Some(header),
+        Command::Check(header, _file) => Some(header),
+        Command::Play { header, .. } => Some(header),
+        _ => None,
+    }
+}
+
+fn table_in(alloc: Global, bytes: &[u8]) -> Option<Table>
+    requires { length bytes.now ≤ file_limit }
+{
+    match read_header(alloc, bytes) {
+        Ok(table) => Some(table),
+        Err(_) => None,
+    }
+}
+
+/// The table of a header, if it has one.
+pub(crate) fn table_of<F: Files>(alloc: Global, header: &str, files: &mut F) -> Option<Table>
+    ensures same { F.contents files.new ≡ F.contents files.old }
+{
+    if header == "-" {
+        return built_in(alloc).ok();
+    }
+    match read_named(alloc, header, files) {
+        None => None,
+        Some(bytes) => table_in(alloc, bytes.as_slice()),
+    }
+}
+
+/// The names of the scripts that a plan lists.
+fn names_of(alloc: Global, plan: &Plan) -> Result<Vec<Text>, NoMemory> {
+    let mut names = Vec::new(alloc);
+    for script in plan.scripts.as_slice() {
+        names.push(script.name.copy(alloc)?)?;
+    }
+    Ok(names)
+}
+
+fn names_in(alloc: Global, bytes: &[u8]) -> Result<Vec<Text>, NoMemory> {
+    match read_plan(alloc, bytes) {
+        Err(_) => Ok(Vec::new(alloc)),
+        Ok(plan) => names_of(alloc, &plan),
+    }
+}
+
+fn one_name(alloc: Global, name: &str) -> Result<Vec<Text>, NoMemory> {
+    let mut names = Vec::new(alloc);
+    names.push(Text::of(alloc, name.as_bytes())?)?;
+    Ok(names)
+}
+
+/// The names of the scripts that a command compiles, in order.
+pub(crate) fn scripts_of<F: Files>(
+    alloc: Global,
+    command: Command<'_>,
+    files: &mut F,
+) -> Result<Vec<Text>, NoMemory>
+    ensures same { F.contents files.new ≡ F.contents files.old }
+{
+    match command {
+        Command::Run(_header, script) => one_name(alloc, script),
+        Command::Compile(_header, script) => one_name(alloc, script),
+        Command::Play { plan, .. } => match read_named(alloc, plan, files) {
+            None => Ok(Vec::new(alloc)),
+            Some(bytes) => names_in(alloc, bytes.as_slice()),
+        },
+        _ => Ok(Vec::new(alloc)),
+    }
+}
+
+/// Whether token `i` stands at this offset, or all tokens end before it.
+fn stands_at(tokens: &[Token<'_>], i: usize, at: u32) -> bool {
+    match tokens.get(i) {
+        Some(token) => token.start == at,
+        None => i == tokens.len(),
+    }
+}
+
+/// Appends what could stand at a place, where a unit is refused there by the grammar.
+#[tactic(auto, using(crate::proofs::UnitTokens::few_tokens))]
+fn put_following_in(
+    alloc: Global,
+    out: &mut Vec<u8>,
+    unit: &Unit,
+    spot: Spot<'_>,
+) -> Result<bool, NoMemory> {
+    let tokens = unit.tokens(alloc)?;
+    match syntax_fault(alloc, tokens.as_slice())? {
+        Some(i) if stands_at(tokens.as_slice(), i, spot.at) => {
+            put_following(alloc, out, tokens.as_slice(), i)?;
+            Ok(true)
+        }
+        _ => Ok(false),
+    }
+}
+
+/// Appends how many arguments a function takes, where a unit or the header has it.
+fn put_arity_in(
+    alloc: Global,
+    out: &mut Vec<u8>,
+    unit: &Unit,
+    table: Option<&Table>,
+    name: &[u8],
+    given: u32,
+) -> Result<bool, NoMemory> {
+    let tokens = unit.tokens(alloc)?;
+    match arity_named(table, tokens.as_slice(), name) {
+        None => Ok(false),
+        Some(arity) => {
+            put_arity(out, name, arity, given)?;
+            Ok(true)
+        }
+    }
+}
+
+/// What a message asks of the unit of a script.
+#[derive(Clone, Copy)]
+pub(crate) enum Ask<'a> {
+    /// What could stand at the place.
+    Following,
+    /// How many arguments the function of this name takes, of which so many are given.
+    Arity { name: &'a [u8], given: u32 },
+}
+
+/// Appends what a unit answers. Whether it did.
+fn put_answer(
+    alloc: Global,
+    out: &mut Vec<u8>,
+    unit: &Unit,
+    table: Option<&Table>,
+    spot: Spot<'_>,
+    ask: Ask<'_>,
+) -> Result<bool, NoMemory> {
+    match ask {
+        Ask::Following => put_following_in(alloc, out, unit, spot),
+        Ask::Arity { name, given } => put_arity_in(alloc, out, unit, table, name, given),
+    }
+}
+
+/// Appends what the unit of a script answers, if it has one. Whether it did.
+fn put_of_script<F: Files>(
+    alloc: Global,
+    out: &mut Vec<u8>,
+    script: &Text,
+    table: Option<&Table>,
+    spot: Spot<'_>,
+    ask: Ask<'_>,
+    files: &mut F,
+) -> Result<bool, NoMemory>
+    ensures same { F.contents files.new ≡ F.contents files.old }
+{
+    let name = String::from_utf8_lossy(alloc, script.bytes())?;
+    match gather(alloc, files, name.as_str()) {
+        Err(fault) => {
+            drop(fault);
+            Ok(false)
+        }
+        Ok(unit) => put_answer(alloc, out, &unit, table, spot, ask),
+    }
+}
+
+/// Appends what the first of the scripts answers that does. Whether one did.
+pub(crate) fn put_of_scripts<F: Files>(
+    alloc: Global,
+    out: &mut Vec<u8>,
+    scripts: &[Text],
+    table: Option<&Table>,
+    spot: Spot<'_>,
+    ask: Ask<'_>,
+    files: &mut F,
+) -> Result<bool, NoMemory>
+    ensures same { F.contents files.new ≡ F.contents files.old }
+{
+    for script in scripts {
+        if put_of_script(alloc, out, script, table, spot, ask, files)? {
+            return Ok(true);
+        }
+    }
+    Ok(false)
+}
