@@ -7,6 +7,7 @@ mod end;
 mod whole;
 
 use crate::end::{Words, end_of};
+use command_messages::LastLine;
 use nwq_outside::{RealFiles, RealSink};
 use std::env;
 use std::io::ErrorKind;
@@ -30,7 +31,18 @@ fn main(rt: HostRuntime) -> ExitCode {
         Ok(own) => RealFiles::new(own),
         Err(_) => return ExitCode::from(8),
     };
-    let mut out = RealSink::new(rt.stdout());
+    let mut again = match rt.clone() {
+        Ok(own) => RealFiles::new(own),
+        Err(_) => return ExitCode::from(8),
+    };
+    let mut out = LastLine::new(rt.alloc(), RealSink::new(rt.stdout()));
     let mut err = RealSink::new(rt.stderr());
-    end_of(rt.alloc(), words, &mut files, &mut out, &mut err)
+    end_of(
+        rt.alloc(),
+        words,
+        &mut files,
+        &mut out,
+        &mut again,
+        &mut err,
+    )
 }

@@ -7,7 +7,7 @@ ghost use Rattle.nwq_top.specs.Command.{work_with, whole_work, MayWrite};
 ghost use Rattle.nwq_top.specs.Cuts.{IsFrontOf};
 ghost use Rattle.nwq_top.specs.Endings.{ComesOf};
 ghost use Rattle.nwq_top.specs.Meaning.{MeansWhole};
-ghost use Rattle.nwq_top.specs.Program.{status_number, status_numbered, words_of, TellsUsage};
+ghost use Rattle.nwq_top.specs.Program.{status_number, status_numbered, words_of};
 
 use hook_table::{Call, Hooks, cell_call};
 use nwq_hooks::{all_are_put, call_function, put_cell_hook, put_hook};
@@ -25,13 +25,12 @@ const WANT_OF_MEMORY: u8 = 8;
 /// with them: the number with which the program ends. Where there is no memory for the hooks,
 /// nothing is done.
 #[tactic(auto, using(crate::proofs::EndLemmas::same_cells))]
-fn run_hooked<F: Files, S: Sink, E: Sink>(
+fn run_hooked<F: Files, S: Sink>(
     alloc: Global,
     all: &[String],
     tables: Tables,
     files: &mut F,
     out: &mut S,
-    err: &mut E,
 ) -> Result<u8, NoMemory>
     ensures number { IfOk result (λ number. status_number (status_numbered number) ≡ number) }
     ensures does { IfOk result (λ number. IsTrue F.tells → IsTrue S.tells →
@@ -45,11 +44,8 @@ fn run_hooked<F: Files, S: Sink, E: Sink>(
         (F.contents files.old) (F.contents files.new)) }
     ensures only { IfOk result (λ number.
         ComesOf (form_of (words_of all.now)) (status_numbered number)) }
-    ensures usage { IfOk result (λ number. IsTrue E.tells →
-        TellsUsage (status_numbered number) (E.taken err.old) (E.taken err.new)) }
     ensures files { OnErr result (files.new ≡ files.old) }
     ensures out { OnErr result (out.new ≡ out.old) }
-    ensures err { OnErr result (err.new ≡ err.old) }
 {
     let own = tables.copy(alloc)?;
     let mut hooks = Hooks::new(alloc);
@@ -73,19 +69,18 @@ fn run_hooked<F: Files, S: Sink, E: Sink>(
     )?;
     put_cell_hook(alloc, &mut hooks, cells, tables)?;
     all_are_put(&hooks);
-    Ok(nwq_program(alloc, all, files, out, err, &hooks))
+    Ok(nwq_program(alloc, all, files, out, &hooks))
 }
 
 /// Does what the words say with hooks that look cells up in these tables: the number with which the
 /// program ends.
 #[tactic(auto, using(command_work::specs::Parts::cut_here, crate::proofs::EndLemmas::memory_comes))]
-fn run_with<F: Files, S: Sink, E: Sink>(
+fn run_with<F: Files, S: Sink>(
     alloc: Global,
     all: &[String],
     tables: Tables,
     files: &mut F,
     out: &mut S,
-    err: &mut E,
 ) -> u8
     ensures number { status_number (status_numbered result) ≡ result }
     ensures does { IsTrue F.tells → IsTrue S.tells →
@@ -98,10 +93,8 @@ fn run_with<F: Files, S: Sink, E: Sink>(
     ensures names { KeepsBut (MayWrite (form_of (words_of all.now)))
         (F.contents files.old) (F.contents files.new) }
     ensures only { ComesOf (form_of (words_of all.now)) (status_numbered result) }
-    ensures usage { IsTrue E.tells →
-        TellsUsage (status_numbered result) (E.taken err.old) (E.taken err.new) }
 {
-    match run_hooked(alloc, all, tables, files, out, err) {
+    match run_hooked(alloc, all, tables, files, out) {
         Err(NoMemory) => WANT_OF_MEMORY,
         Ok(number) => number,
     }
@@ -110,13 +103,7 @@ fn run_with<F: Files, S: Sink, E: Sink>(
 /// Reads the tables that the words give, and does what the words say with hooks that look cells up
 /// in them: the number with which the program ends.
 #[tactic(auto, using(crate::proofs::EndLemmas::program_ends))]
-fn run_in_order<F: Files, S: Sink, E: Sink>(
-    alloc: Global,
-    all: &[String],
-    files: &mut F,
-    out: &mut S,
-    err: &mut E,
-) -> u8
+fn run_in_order<F: Files, S: Sink>(alloc: Global, all: &[String], files: &mut F, out: &mut S) -> u8
     ensures number { status_number (status_numbered result) ≡ result }
     ensures does { IsTrue F.tells → IsTrue S.tells →
         Does (whole_work (form_of (words_of all.now))) (F.contents files.old) (S.taken out.old)
@@ -127,23 +114,20 @@ fn run_in_order<F: Files, S: Sink, E: Sink>(
     ensures names { KeepsBut (MayWrite (form_of (words_of all.now)))
         (F.contents files.old) (F.contents files.new) }
     ensures only { ComesOf (form_of (words_of all.now)) (status_numbered result) }
-    ensures usage { IsTrue E.tells →
-        TellsUsage (status_numbered result) (E.taken err.old) (E.taken err.new) }
 {
     match program_tables(alloc, all, files, out) {
         Err(number) => number,
-        Ok(tables) => run_with(alloc, all, tables, files, out, err),
+        Ok(tables) => run_with(alloc, all, tables, files, out),
     }
 }
 
-/// The whole program, given all its words, the files, standard output and standard error: the
-/// number with which it ends.
-pub(crate) fn run_all<F: Files, S: Sink, E: Sink>(
+/// The whole program, given all its words, the files and standard output: the number with
+/// which it ends.
+pub(crate) fn run_all<F: Files, S: Sink>(
     alloc: Global,
     all: &[String],
     files: &mut F,
     out: &mut S,
-    err: &mut E,
 ) -> u8
     ensures number { status_number (status_numbered result) ≡ result }
     ensures does { IsTrue F.tells → IsTrue S.tells →
@@ -166,11 +150,9 @@ pub(crate) fn run_all<F: Files, S: Sink, E: Sink>(
     ensures names { KeepsBut (MayWrite (form_of (words_of all.now)))
         (F.contents files.old) (F.contents files.new) }
     ensures only { ComesOf (form_of (words_of all.now)) (status_numbered result) }
-    ensures usage { IsTrue E.tells →
-        TellsUsage (status_numbered result) (E.taken err.old) (E.taken err.new) }
 {
     whole_means();
     one_outcome();
     files.contents_are_bytes();
-    run_in_order(alloc, all, files, out, err)
+    run_in_order(alloc, all, files, out)
 }
