@@ -139,7 +139,7 @@ call_typed e n count r before after a listed call s other =
     ap value_types call.values ∙ typed r.params before.stack.cells before.pending call.all i.1 ∙ ap (λ (r : Routine). argument_types r.params) (same_routine listed other)
 
 -- what the call comes to
-pub called_as : (table : EngineTable) (n count : ℕ) (r : Routine) (before after : Frame) (a : Arguments) → slice_get table.routines n ≡ Some r → IsCall r n count before after a
+called_as : (table : EngineTable) (n count : ℕ) (r : Routine) (before after : Frame) (a : Arguments) → slice_get table.routines n ≡ Some r → IsCall r n count before after a
     → engine_called table n count before ≡ (if is_execute_script r.role then acts.executed a.values after else Some (Asks n a.values a.action after))
 called_as table n count r before after a listed call =
     ap (option_and_then (λ r. option_and_then (asked n count r before) (arguments r count before.stack.cells before.pending))) listed

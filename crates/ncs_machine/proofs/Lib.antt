@@ -5,6 +5,5 @@ pub mod Fitting
 pub mod Kept
 pub mod Running
 pub mod Calls
-pub mod Cutting
 pub mod Stepping
 pub mod Beginning

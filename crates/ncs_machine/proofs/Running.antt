@@ -1,5 +1,5 @@
 -- A run, turn by turn.
-use Rattle.std.proofs.Common.{arith, ◌≡◌, ◌≤◌, ◌<◌, ◌+◌, ◌-◌, ℕ, suc, List, [], ◌∷◌, length, Option, Some, None, inl, inr, sym, subst, ap, ◌∙◌, refl}
+use Rattle.std.proofs.Common.{arith, ◌≡◌, ◌≤◌, ◌<◌, ◌+◌, ◌-◌, ℕ, suc, List, [], ◌∷◌, length, Option, Some, None, sym, subst, ap, ◌∙◌, refl}
 use Rattle.std.specs.Prelude.{◌^◌}
 use Rattle.nwq_value.specs.Engine.{IsTable}
 use Rattle.nwq_value.specs.Limits.{instruction_limit}
@@ -10,7 +10,6 @@ use Rattle.machine_rules.specs.Frames.{Frame}
 use Rattle.machine_rules.specs.Machine.{Script, Host, State, Next, Goes, Ends, Divided, step}
 use Rattle.ncs_machine.specs.declared.entry.Ran.TheVariants as answer
 use Rattle.ncs_machine.specs.declared.entry.Ran as answers
-use Rattle.machine_rules.specs.Laws.{RunsGoOn, run_on}
 use Rattle.machine_rules.specs.Runs.{Ending, Over, ZeroDivisor, OutOfInstructions, Ran, after_step, counted, run}
 use Rattle.stack_rules.specs.Fits.{Tables}
 use Rattle.stack_rules.specs.Safe.{IsSafe, IsSafeFrame, AreSafeFrames, GoesSafely, from_base}
@@ -19,10 +18,10 @@ use Rattle.world_rules.specs.World.{World, count}
 use Rattle.world_rules.specs.Kept.{IsWorld, EngineKeeps, NoScriptKeeps, TooDeepKeeps}
 use Rattle.world_rules.specs.declared.data.Told.TheVariants as line
 use Rattle.ncs_machine.specs.Host.{EngineView, host}
-use Rattle.ncs_machine.specs.Endings.{EndsAs, IsCalled, IsCutAfter, IsLeft, IsRunOf, WhereRan}
+use Rattle.ncs_machine.specs.Endings.{EndsAs, IsLeft, IsRunOf, WhereRan}
 use Rattle.ncs_machine.specs.Stored.{StatesFit}
 use Rattle.ncs_machine.proofs.Fitting.{engine_keeps, told_keeps}
-use Rattle.ncs_machine.specs.Steps.{AnswersTyped, Frames, GoesWell, IsCutAt, state}
+use Rattle.ncs_machine.specs.Steps.{AnswersTyped, Frames, GoesWell, state}
 use Rattle.world_core.specs.Calls.{IsEarly}
 use Rattle.ncs_machine.proofs.Kept.{AllObjects, AreObjects, WorldLaws, step_leaves}
 
@@ -36,7 +35,6 @@ after_so_many n r = record r { count = n + r.count }
 -- what a run rests on
 pub record Grounds (scripts : List Script) (e : EngineView) (tables : Tables) (first : World Saved) : Type 0 where
   pub steps : StepsSafely (World Saved)
-  pub goes_on : RunsGoOn (World Saved)
   pub sound : IsWellStackedHost (host scripts e) tables first
   pub laws : WorldLaws
 
@@ -44,7 +42,6 @@ pub record SoFar (scripts : List Script) (e : EngineView) (tables : Tables) (lim
   pub grounds : Grounds scripts e tables first.world
   pub safe : IsSafe scripts tables (Reached scripts e tables first.world) s
   pub same : run (host scripts e) limit first ≡ after_so_many done (run (host scripts e) (limit - done) s)
-  pub stopped : run (host scripts e) done first ≡ record { ending = OutOfInstructions; count = done; last = s }
   pub objects : AreObjects (count first.world) s
   pub world : IsWorld s.world
   pub left : IsLeft done first.world s.world
@@ -82,7 +79,6 @@ module _ (scripts : List Script) (e : EngineView) (tables : Tables) (limit : ℕ
     grounds = g;
     safe = safe;
     same = none (run (host scripts e) limit first) ∙ ap (λ n. after_so_many 0 (run (host scripts e) n first)) whole;
-    stopped = refl;
     objects = objects;
     world = world;
     left = none_left first.world;
@@ -93,13 +89,6 @@ module _ (scripts : List Script) (e : EngineView) (tables : Tables) (limit : ℕ
 
       whole : limit ≡ limit - 0
       whole = omega arith
-
-  pub stopped_next : (done : ℕ) (s t : State (World Saved)) → RunsGoOn (World Saved) → run (host scripts e) done first ≡ record { ending = OutOfInstructions; count = done; last = s }
-      → step (host scripts e) s ≡ Some (Goes t) → run (host scripts e) (done + 1) first ≡ record { ending = OutOfInstructions; count = done + 1; last = t }
-  stopped_next done s t law is h =
-      law (host scripts e) done 1 first
-      ∙ ap (λ (r : Ran (World Saved)). run_on (host scripts e) 1 r.ending r) is
-      ∙ ap (λ (r : Ran (World Saved)). record r { count = done + r.count }) (run_next (host scripts e) s t 0 h)
 
   pub goes_on : (done : ℕ) (s t : State (World Saved)) → SoFar scripts e tables limit first done s → done < limit
       → step (host scripts e) s ≡ Some (Goes t) → SoFar scripts e tables limit first (done + 1) t
@@ -113,7 +102,6 @@ module _ (scripts : List Script) (e : EngineView) (tables : Tables) (limit : ℕ
         safe = subst (GoesSafely scripts tables (Reached scripts e tables first.world)) h (steps_on scripts e tables first.world s g x.safe);
         same = x.same ∙ ap (λ n. after_so_many done (run (host scripts e) n s)) one_more ∙ ap (after_so_many done) (run_next (host scripts e) s t (limit - (done + 1)) h)
             ∙ shifted (run (host scripts e) (limit - (done + 1)) t);
-        stopped = stopped_next done s t g.goes_on x.stopped h;
         objects = l.objects (count first.world) left.objects x.objects;
         world = l.world x.world own;
         left = joined_left done first.world s.world t.world left (l.left x.world own);
@@ -201,12 +189,11 @@ more_left n m w v less l = record { objects = l.objects; clock = l.clock; no_les
 
 -- ---- how a run begins
 
-pub grounds_are : (scripts : List Script) (e : EngineView) (tables : Tables) (first : World Saved) → StepsSafely (World Saved) → RunsGoOn (World Saved) → EngineKeeps Saved → NoScriptKeeps Saved → TooDeepKeeps Saved
+pub grounds_are : (scripts : List Script) (e : EngineView) (tables : Tables) (first : World Saved) → StepsSafely (World Saved) → EngineKeeps Saved → NoScriptKeeps Saved → TooDeepKeeps Saved
     → TablesTypeExecuteScript → IsTable e.table → AllMeet e.table scripts tables → AnswersTyped e → Grounds scripts e tables first
 unfolding host
-grounds_are scripts e tables first steps goes_on engine no_script too_deep types table meets typed = record {
+grounds_are scripts e tables first steps engine no_script too_deep types table meets typed = record {
   steps = steps;
-  goes_on = goes_on;
   sound = record {
     scripts = meets;
     execute = types e.table table;
@@ -215,11 +202,11 @@ grounds_are scripts e tables first steps goes_on engine no_script too_deep types
   laws = record { engine = engine; no_script = no_script; too_deep = too_deep };
 }
 
-pub run_begins : (scripts : List Script) (e : EngineView) (tables : Tables) (limit : ℕ) (m : Frames) (w : World Saved) → StepsSafely (World Saved) → RunsGoOn (World Saved) → EngineKeeps Saved → NoScriptKeeps Saved → TooDeepKeeps Saved
+pub run_begins : (scripts : List Script) (e : EngineView) (tables : Tables) (limit : ℕ) (m : Frames) (w : World Saved) → StepsSafely (World Saved) → EngineKeeps Saved → NoScriptKeeps Saved → TooDeepKeeps Saved
     → TablesTypeExecuteScript → IsTable e.table → IsWorld w → AllMeet e.table scripts tables → AnswersTyped e → IsSafeFrame scripts tables m.running → m.waiting ≡ [] → m.running.self ≤ count w
     → SoFar scripts e tables limit (state m w) 0 (state m w)
-run_begins scripts e tables limit m w steps goes_on engine no_script too_deep types table world meets typed safe alone caller =
-    begins scripts e tables limit (state m w) (grounds_are scripts e tables w steps goes_on engine no_script too_deep types table meets typed)
+run_begins scripts e tables limit m w steps engine no_script too_deep types table world meets typed safe alone caller =
+    begins scripts e tables limit (state m w) (grounds_are scripts e tables w steps engine no_script too_deep types table meets typed)
     (record { running = safe; waiting = subst (AreSafeFrames scripts tables) (sym alone) tt; world = Unchanged })
     (record { running = caller; waiting = subst (AllObjects (count w)) (sym alone) tt })
     world
@@ -260,37 +247,5 @@ stopped_run scripts e tables limit m first w v done self x h own =
 
 pub cut_run : (n self : ℕ) (r : Ran (World Saved)) (scripts : List Script) (tables : Tables) (w v : World Saved) → IsRunOf answer.NoMemory n self r scripts tables w v
 cut_run n self r scripts tables w v = record { ending = tt; counted = tt; own = tt; world = tt; fit = tt; left = tt }
-
--- the world of a run that was cut short
-cut_world : (scripts : List Script) (e : EngineView) (tables : Tables) (limit : ℕ) (first : State (World Saved)) (done : ℕ) (s : State (World Saved)) (v : World Saved)
-    → SoFar scripts e tables limit first done s → (n : Option (Next (World Saved))) → step (host scripts e) s ≡ n → IsCutAt n s.world v
-    → (v ≡ s.world) ⊎ IsCalled (run (host scripts e) (suc done) first) done v
-cut_world scripts e tables limit first done s v x None is cut = inl cut
-cut_world scripts e tables limit first done s v x (Some (Goes t)) is (inl same) = inl same
-cut_world scripts e tables limit first done s v x (Some (Goes t)) is (inr left) =
-    let next : suc done ≡ done + 1 = omega arith in
-    let all = ap (λ n. run (host scripts e) n first) next ∙ stopped_next scripts e tables limit first done s t x.grounds.goes_on x.stopped is in
-    inr (record {
-      ending = ap (λ (r : Ran (World Saved)). r.ending) all;
-      count = ap (λ (r : Ran (World Saved)). r.count) all ∙ sym next;
-      world = left ∙ sym (ap (λ (r : Ran (World Saved)). r.last.world) all);
-    })
-cut_world scripts e tables limit first done s v x (Some Ends) is (inl same) = inl same
-cut_world scripts e tables limit first done s v x (Some Ends) is (inr left) = absurd left
-cut_world scripts e tables limit first done s v x (Some Divided) is (inl same) = inl same
-cut_world scripts e tables limit first done s v x (Some Divided) is (inr left) = absurd left
-
-pub cut_after : (scripts : List Script) (e : EngineView) (tables : Tables) (limit : ℕ) (first : State (World Saved)) (done self : ℕ) (s : State (World Saved)) (v : World Saved)
-    → SoFar scripts e tables limit first done s → IsCutAt (step (host scripts e) s) s.world v → self ≡ s.running.self
-    → IsCutAfter (λ n. run (host scripts e) n first) done self v
-cut_after scripts e tables limit first done self s v x cut own = record {
-  ending = ap (λ (r : Ran (World Saved)). r.ending) x.stopped;
-  count = ap (λ (r : Ran (World Saved)). r.count) x.stopped;
-  own = own ∙ sym (ap (λ (r : Ran (World Saved)). r.last.running.self) x.stopped);
-  world = elim (cut_world scripts e tables limit first done s v x (step (host scripts e) s) refl cut) [
-    | inl same ↦ inl (same ∙ sym (ap (λ (r : Ran (World Saved)). r.last.world) x.stopped))
-    | inr called ↦ inr called
-  ];
-}
 
 pub ruleset run_lemmas = (own_inside, still_early, cut_run)

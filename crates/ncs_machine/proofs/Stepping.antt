@@ -23,7 +23,7 @@ use Rattle.machine_rules.specs.Machine.{Script, Host, State, Next, Goes, Divided
 use Rattle.world_rules.specs.World.{World}
 use Rattle.ncs_machine.specs.declared.scripts.Loaded.{Loaded}
 use Rattle.ncs_machine.specs.Host.{EngineView, host, script_of, scripts_of}
-use Rattle.ncs_machine.specs.Steps.{Frames, GoesWell, IsCutAt, MayLeave, state}
+use Rattle.ncs_machine.specs.Steps.{Frames, GoesWell, state}
 
 some_act : (o : Option Act) (a : Act) (P : Act → Type 0) → o ≡ Some a → P a → IfSome o P
 some_act o a P e p = subst (λ o. IfSome o P) (sym e) p
@@ -182,17 +182,5 @@ pub decoded_next : (scripts : List Loaded) (e : EngineView) (m : Frames) (w : Wo
 decoded_next scripts e m w l decoded n h next well is =
     act_next scripts e m w l next.op n h next.stands well
     (subst (λ (o : Option Act). IfSome o (λ a. followed (host (scripts_of scripts) e) (state m w) a ≡ n)) (same_act e.table l m.running.place decoded m.running next) is)
-
-pub decoded_cut : (scripts : List Loaded) (e : EngineView) (m : Frames) (w v : World Saved) (l : Loaded) (decoded : Step) → slice_get scripts m.running.script ≡ Some l
-    → IsNext l m.running.place decoded → GoesWell (step (host (scripts_of scripts) e) (state m w))
-    → IfSome (act e.table (op_of decoded) m.running) (λ a. MayLeave (followed (host (scripts_of scripts) e) (state m w) a) w v)
-    → IsCutAt (step (host (scripts_of scripts) e) (state m w)) w v
-decoded_cut scripts e m w v l decoded h next well leaves =
-    let a = from_some (act e.table (op_of decoded) m.running) (λ a. MayLeave (followed (host (scripts_of scripts) e) (state m w) a) w v)
-    (decoded_case scripts e m w l decoded h next well) leaves in
-    subst (λ (n : Option (Next (World Saved))). IsCutAt n w v)
-    (sym (act_step scripts e m w l next.op h next.stands
-    ∙ ap (option_map (followed (host (scripts_of scripts) e) (state m w))) (sym (same_act e.table l m.running.place decoded m.running next) ∙ a.1)))
-    a.2
 
 pub ruleset step_lemmas = (not_listed)

@@ -1,5 +1,5 @@
 -- How a run's answer tells its ending, and what a run leaves of a world.
-use Rattle.std.specs.Prelude.{◌≡◌, ◌≤◌, ◌+◌, ℕ, suc, List}
+use Rattle.std.specs.Prelude.{◌≡◌, ◌≤◌, ◌+◌, ℕ, List}
 use Rattle.saved_state.specs.declared.saved.Saved.{Saved}
 use Rattle.machine_rules.specs.Machine.{Script}
 use Rattle.machine_rules.specs.Runs.{Ran as Run}
@@ -48,25 +48,3 @@ pub record IsRunOf (ran : Ran) (instructions self : ℕ) (r : Run (World Saved))
 abbrev pub FitsBegin : List Script → Tables → Begin → Type 0
 FitsBegin scripts tables Start = Unit {0}
 FitsBegin scripts tables (Stored saved) = FitsOne scripts tables saved
-
--- ---- a run that was cut short for want of memory
-
--- one more instruction than so many, an engine call that was finished, leads to this world
-pub record IsCalled (r : Run (World Saved)) (n : ℕ) (v : World Saved) : Type 0 where
-  pub ending : r.ending ≡ OutOfInstructions
-  pub count : r.count ≡ suc n
-  pub world : v ≡ r.last.world
-
--- So many instructions were finished, and the last script ran as this object: the world is as they leave it, with what the engine call did
--- that was finished behind them, if one was. The runs are by their limits.
-pub record IsCutAfter (runs : ℕ → Run (World Saved)) (n self : ℕ) (v : World Saved) : Type 0 where
-  pub ending : (runs n).ending ≡ OutOfInstructions
-  pub count : (runs n).count ≡ n
-  pub own : self ≡ (runs n).last.running.self
-  pub world : (v ≡ (runs n).last.world) ⊎ IsCalled (runs (suc n)) n v
-
-abbrev pub IsCut : Ran → (ℕ → Run (World Saved)) → ℕ → ℕ → World Saved → Type 0
-IsCut NoMemory runs n self v = IsCutAfter runs n self v
-IsCut Ended runs n self v = Unit {0}
-IsCut Divide runs n self v = Unit {0}
-IsCut Limit runs n self v = Unit {0}

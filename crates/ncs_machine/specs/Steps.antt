@@ -48,19 +48,3 @@ abbrev pub Stays : Step → World Saved → World Saved → Type 0
 Stays code.Goes w v = Unit {0}
 Stays code.Ends w v = v ≡ w
 Stays code.Divides w v = v ≡ w
-
--- ---- a step that found no memory
-
--- the world after what a step leads to
-abbrev pub LeavesBy : Next (World Saved) → World Saved → Type 0
-LeavesBy (Goes t) v = v ≡ t.world
-LeavesBy Ends v = ⊥
-LeavesBy Divided v = ⊥
-
--- The world is as it was, or, where an engine call was finished, as the step leaves it.
-abbrev pub MayLeave : Next (World Saved) → World Saved → World Saved → Type 0
-MayLeave n w v = (v ≡ w) ⊎ LeavesBy n v
-
-abbrev pub IsCutAt : Option (Next (World Saved)) → World Saved → World Saved → Type 0
-IsCutAt None w v = v ≡ w
-IsCutAt (Some n) w v = MayLeave n w v

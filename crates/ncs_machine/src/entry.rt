@@ -5,7 +5,7 @@ ghost use Rattle.machine_rules.specs.Runs.{run as run_of};
 ghost use Rattle.stack_rules.specs.Laws.{AllMeet};
 ghost use Rattle.stack_rules.specs.Safe.{IsSafeFrame};
 ghost use Rattle.world_rules.specs.World.{count};
-ghost use Rattle.ncs_machine.specs.Endings.{FitsBegin, IsCut, IsRunOf};
+ghost use Rattle.ncs_machine.specs.Endings.{FitsBegin, IsRunOf};
 ghost use Rattle.ncs_machine.specs.Host.{engine_view, host, run_from, scripts_of, tables_of};
 ghost use Rattle.ncs_machine.specs.Steps.{state};
 ghost use Rattle.world_core.specs.Calls.{AreServing};
@@ -15,7 +15,6 @@ use crate::scene::Scene;
 use crate::scripts::{Begin, Scripts};
 use hook_table::Hooks;
 use machine_frames::Frame;
-use machine_rules::limits_count_instructions;
 use nwq_value::Table;
 use saved_state::Saved;
 use stack_rules::{entries_begin_safely, steps_are_safe, tables_type_execute_script};
@@ -59,9 +58,6 @@ fn run_machine(
         machine.old.running }
     requires alone { machine.old.waiting ≡ [] }
     ensures room { world.old.room ≤ world.new.room }
-    ensures cut { IsCut result.0 (λ n. run_of (host (scripts_of scripts.now)
-        (engine_view table.now (map (λ h. h.known) hooks.now.all.items))) n
-        (state machine.old world.old.world)) result.1 result.2 world.new.world }
     ensures run { IsRunOf result.0 result.1 result.2
         (run_of (host (scripts_of scripts.now)
         (engine_view table.now (map (λ h. h.known) hooks.now.all.items))) limit
@@ -70,7 +66,6 @@ fn run_machine(
         world.old.world world.new.world }
 {
     steps_are_safe::<Scene>();
-    limits_count_instructions::<Scene>();
     calls_keep_worlds::<Saved>();
     tables_type_execute_script();
     world.keeps();
@@ -92,7 +87,7 @@ fn run_machine(
 
 /// The run of an entry that begins so, with `caller` as self: how it ends, how many instructions it
 /// takes in all its scripts, and the object on which the last one ran.
-#[tactic(auto, using(crate::proofs::Beginning::begin_lemmas, crate::proofs::Cutting::begin_cut))]
+#[tactic(auto, using(crate::proofs::Beginning::begin_lemmas))]
 pub fn run(
     alloc: Global,
     scripts: &Scripts,
@@ -115,9 +110,6 @@ pub fn run(
         (tables_of scripts.now) }
     requires hooks { AreServing (map (λ h. h.known) hooks.now.all.items) }
     ensures room { world.old.room ≤ world.new.room }
-    ensures cut { IsCut result.0 (λ n. run_from (host (scripts_of scripts.now)
-        (engine_view table.now (map (λ h. h.known) hooks.now.all.items)))
-        n script begin caller world.old.world) result.1 result.2 world.new.world }
     ensures run { IsRunOf result.0 result.1 result.2
         (run_from (host (scripts_of scripts.now)
         (engine_view table.now (map (λ h. h.known) hooks.now.all.items)))

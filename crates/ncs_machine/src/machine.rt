@@ -1,6 +1,6 @@
 //! The frames of a running entry, and one step.
 ghost use Rattle.std.specs.Prelude.{◌≡◌, ◌≢◌, ◌≤◌, ◌<◌, ◌+◌, ◌^◌, [], ◌∷◌, length, map, None};
-ghost use Rattle.std.specs.Prelude.{IfOk, OnOk, OnErr};
+ghost use Rattle.std.specs.Prelude.{IfOk, OnOk};
 ghost use Rattle.std.specs.List.{position_from};
 ghost use Rattle.nwq_value.specs.Limits.{file_limit};
 ghost use Rattle.ncs_code.specs.Plain.{Action};
@@ -209,7 +209,6 @@ impl Machine {
     ) -> Result<(), NoMemory>
         requires few { length scripts.now < 2 ^ 32 }
         ensures room { world.old.room ≤ world.new.room }
-        ensures err { OnErr result (world.new.world ≡ world.old.world) }
         ensures begun { (e : EngineView) → OnOk result
             (begun (host (scripts_of scripts.now) e)
             (script_named (scripts_of scripts.now) name.now) name.now target
@@ -240,7 +239,6 @@ impl Machine {
     ) -> Result<(), NoMemory>
         requires few { length scripts.now < 2 ^ 32 }
         ensures room { world.old.room ≤ world.new.room }
-        ensures err { OnErr result (world.new.world ≡ world.old.world) }
         ensures executed { (e : EngineView) → OnOk result
             (executed (host (scripts_of scripts.now) e) name.now target self.old.running
             (state self.old world.old.world) ≡ state self.new world.new.world) }
@@ -252,7 +250,6 @@ impl Machine {
     }
 
     /// A call of the engine, behind it.
-    #[tactic(auto, using(crate::proofs::Cutting::ask_lemmas))]
     pub(crate) fn ask(
         &mut self,
         world: &mut World<Saved>,
@@ -268,10 +265,6 @@ impl Machine {
         requires types { FitArguments
             (engine_view table.now (map (λ h. h.known) hooks.now.all.items)) n values }
         ensures room { world.old.room ≤ world.new.room }
-        ensures err { OnErr result ((world.new.world ≡ world.old.world)
-            ⊎ (world.new.world ≡ (engine_answer (engine_view table.now
-            (map (λ h. h.known) hooks.now.all.items)) n
-            self.old.running.self values action world.old.world).world)) }
         ensures answered { OnOk result (answered (answer_of (engine_answer
             (engine_view table.now (map (λ h. h.known) hooks.now.all.items)) n
             self.old.running.self values action world.old.world)) self.old.running

@@ -1,5 +1,5 @@
 //! One instruction of a running entry.
-ghost use Rattle.std.specs.Prelude.{◌≡◌, ◌≢◌, ◌≤◌, ◌<◌, ◌+◌, ◌^◌, None, Some, IfOk, IfSome, OnErr};
+ghost use Rattle.std.specs.Prelude.{◌≡◌, ◌≢◌, ◌≤◌, ◌<◌, ◌+◌, ◌^◌, None, Some, IfOk, IfSome};
 ghost use Rattle.std.specs.Prelude.{length, map};
 ghost use Rattle.nwq_value.specs.Limits.{file_limit};
 ghost use Rattle.ncs_code.specs.Spelling.{op_size};
@@ -9,8 +9,7 @@ ghost use Rattle.machine_rules.specs.Machine.{followed, step};
 ghost use Rattle.world_rules.specs.World.{count};
 ghost use Rattle.decoded_code.specs.Steps.{op_of};
 ghost use Rattle.ncs_machine.specs.Host.{engine_view, host, scripts_of};
-ghost use Rattle.ncs_machine.specs.Steps.{GoesWell, IsCutAt, MayLeave, Stays, next_of};
-ghost use Rattle.ncs_machine.specs.Steps.{state};
+ghost use Rattle.ncs_machine.specs.Steps.{GoesWell, Stays, next_of, state};
 ghost use Rattle.world_core.specs.Calls.{AreServing, IsEarly};
 
 use crate::machine::{Machine, Next};
@@ -25,7 +24,7 @@ use world_core::World;
 
 impl Machine {
     /// An instruction, in the running script.
-    #[tactic(auto, using(crate::proofs::Stepping::act_lemmas, crate::proofs::Cutting::act_still), unfolding(machine_rules::specs::Act::act))]
+    #[tactic(auto, using(crate::proofs::Stepping::act_lemmas), unfolding(machine_rules::specs::Act::act))]
     fn act(
         &mut self,
         alloc: Global,
@@ -46,10 +45,6 @@ impl Machine {
         requires small { self.old.running.place + op_size (op_of decoded.now) ≤ file_limit }
         ensures room { world.old.room ≤ world.new.room }
         ensures stays { IfOk result (λ next. Stays next world.old.world world.new.world) }
-        ensures err { OnErr result (IfSome (act table.now (op_of decoded.now) self.old.running)
-            (λ a. MayLeave (followed (host (scripts_of scripts.now)
-            (engine_view table.now (map (λ h. h.known) hooks.now.all.items)))
-            (state self.old world.old.world) a) world.old.world world.new.world)) }
         ensures next { IfOk result (λ next. IfSome (act table.now (op_of decoded.now)
             self.old.running) (λ a. followed (host (scripts_of scripts.now)
             (engine_view table.now (map (λ h. h.known) hooks.now.all.items)))
@@ -108,9 +103,6 @@ impl Machine {
             (state self.old world.old.world)) }
         ensures room { world.old.room ≤ world.new.room }
         ensures stays { IfOk result (λ next. Stays next world.old.world world.new.world) }
-        ensures err { OnErr result (IsCutAt (step (host (scripts_of scripts.now)
-            (engine_view table.now (map (λ h. h.known) hooks.now.all.items)))
-            (state self.old world.old.world)) world.old.world world.new.world) }
         ensures next { IfOk result (λ next.
             step (host (scripts_of scripts.now)
             (engine_view table.now (map (λ h. h.known) hooks.now.all.items)))

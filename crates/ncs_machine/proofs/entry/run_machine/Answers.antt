@@ -2,13 +2,13 @@ use Rattle.std.proofs.Common.{arith, Some, subst, ap, ◌∙◌}
 use Rattle.ncs_machine.specs.Host.{scripts_of, tables_of}
 use Rattle.ncs_machine.specs.Steps.{Stays, next_of, state}
 use Rattle.ncs_machine.proofs.Answers.{answers_typed}
-use Rattle.ncs_machine.proofs.Running.{cut_after, divided_run, ended_run, goes_on, run_begins, steps_well, stopped_run}
+use Rattle.ncs_machine.proofs.Running.{divided_run, ended_run, goes_on, run_begins, steps_well, stopped_run}
 use Rattle.ncs_machine.proofs.entry.run_machine.Goals as goal
 
 pub loop-done-init : goal.loop-done-init
 loop-done-init g c = record {
   running = run_begins (scripts_of c.args.scripts.now) _ (tables_of c.args.scripts.now) c.args.limit c.args.machine.now c.args.world.now.world
-      c.steps_are_safe.ensures.steps c.limits_count_instructions.ensures.goes_on c.calls_keep_worlds.ensures.engine c.calls_keep_worlds.ensures.no_script c.calls_keep_worlds.ensures.too_deep
+      c.steps_are_safe.ensures.steps c.calls_keep_worlds.ensures.engine c.calls_keep_worlds.ensures.no_script c.calls_keep_worlds.ensures.too_deep
       c.tables_type_execute_script.ensures.typed c.keeps-2.ensures.table c.keeps.ensures.kept c.requires.meets
       (answers_typed _ c.answers_have_types.ensures.typed c.keeps-2.ensures.table)
       c.requires.safe c.requires.alone c.requires.caller;
@@ -48,9 +48,3 @@ pub returns-clause-run : goal.returns-clause-run
 returns-clause-run g c =
     stopped_run (scripts_of c.args.scripts.now) _ (tables_of c.args.scripts.now) c.args.limit c.loop-done.machine c.args.machine.now c.args.world.now.world c.loop-done.world.world
     c.loop-done.done c.own.result c.loop-done.invariant.running (omega (arith, c.loop-done-test.false, c.loop-done.auto)) c.own.ensures.own
-
-pub returns-in-Err-clause-cut : goal.returns-in-Err-clause-cut
-returns-in-Err-clause-cut g c =
-    cut_after (scripts_of c.args.scripts.now) _ (tables_of c.args.scripts.now) c.args.limit (state c.args.machine.now c.args.world.now.world)
-    c.loop-done.done c.own-own.result (state c.loop-done.machine c.loop-done.world.world) c.step.new.world.world
-    c.loop-done.invariant.running c.in-Err.ensures.err c.own-own.ensures.own

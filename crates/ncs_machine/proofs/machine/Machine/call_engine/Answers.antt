@@ -1,7 +1,6 @@
 use Rattle.std.proofs.Common.{[], sym, ◌∙◌}
 use Rattle.ncs_machine.specs.Host.{scripts_of}
 use Rattle.ncs_machine.proofs.Calls.{asks_follow, call_case, call_typed, executes_both, executes_follow}
-use Rattle.ncs_machine.proofs.Cutting.{asks_leave}
 use Rattle.ncs_machine.proofs.machine.Machine.call_engine.Goals as goal
 
 pub returns-in_ok-execute_named-in-Some-clause-called : goal.returns-in_ok-execute_named-in-Some-clause-called
@@ -31,10 +30,3 @@ pub execute_named-requires-clause-both : goal.execute_named-requires-clause-both
 execute_named-requires-clause-both g c =
     executes_both (record { table = c.args.table.now; cell = λ name column row. [] }) c.args.number c.args.count c.in-Some.routine.now c.args.self.now.running c.take.new.self.running c.in_ok-args-in-Some.args
     (sym c.in-Some.ensures.entry) (sym c.executes-other_script.ensures.test ∙ c.if-other_script.true) c.requires.case c.in_ok-args-in-Some.ensures.call
-
-pub returns-in_err-ask-in-Some-clause-err : goal.returns-in_err-ask-in-Some-clause-err
-returns-in_err-ask-in-Some-clause-err g c =
-    asks_leave (scripts_of c.args.scripts.now) _ c.args.number c.args.count c.in-Some.routine.now
-    c.args.self.now c.take.new.self c.in_ok-args-in-Some.args c.args.world.now.world c.ask.new.world.world
-    (sym c.in-Some.ensures.entry) (sym c.executes-other_script.ensures.test ∙ c.if-other_script.false) c.in_ok-args-in-Some.ensures.call
-    c.in_err-ask-in-Some.ensures.err
