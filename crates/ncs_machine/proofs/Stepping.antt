@@ -102,15 +102,16 @@ act_next scripts e m w l op n h stands well is =
 
 padded_length : (bytes : List ℕ) → length (take text_limit bytes ++ replicate (length bytes - text_limit) 0) ≡ length bytes
 padded_length bytes =
-    let joined = length-append (take text_limit bytes) (replicate (length bytes - text_limit) 0) in
-    let zeros : length (replicate (length bytes - text_limit) 0) ≡ length bytes - text_limit = length-replicate (length bytes - text_limit) 0 in
+    let joined : length (take text_limit bytes ++ replicate (length bytes - text_limit) 0) ≡ length (take text_limit bytes) + (length bytes - text_limit)
+        = length-append (take text_limit bytes) (replicate (length bytes - text_limit) 0)
+        ∙ ap (λ (n : ℕ). length (take text_limit bytes) + n) (length-replicate (length bytes - text_limit) 0) in
     elim (cases_lt (length bytes) text_limit) [
       | inl short ↦
           let all = ap length (take_all text_limit bytes (omega (arith, short))) in
-          omega (arith, joined, zeros, all, short)
+          omega (arith, joined, all, short)
       | inr long ↦
           let full = length-take-le text_limit bytes long in
-          omega (arith, joined, zeros, full, long)
+          omega (arith, joined, full, long)
     ]
 
 padded_text : (bytes : List ℕ) → take text_limit (take text_limit bytes ++ replicate (length bytes - text_limit) 0) ≡ take text_limit bytes

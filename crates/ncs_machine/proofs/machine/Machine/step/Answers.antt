@@ -6,8 +6,8 @@ use Rattle.ncs_machine.specs.Steps.{next_of, state}
 use Rattle.ncs_machine.proofs.Stepping.{IsNext, begins_here, decoded_case, decoded_deep, decoded_next, decoded_small, next_is}
 use Rattle.ncs_machine.proofs.machine.Machine.step.Goals as goal
 
-pub step_at-requires : goal.step_at-requires
-step_at-requires g c =
+pub step_at-decoded-requires : goal.step_at-decoded-requires
+step_at-decoded-requires g c =
     let l = c.in-Some.script.now in
     let listed : slice_get c.args.scripts.now c.args.self.now.running.script ≡ Some l = search rules in
     record {
@@ -40,4 +40,4 @@ returns-clause-next g c =
     let there = subst (λ n. IfSome (op_at l.code.code n) (λ op. op_of c.step_at-decoded.result.now ≡ kept op)) c.place.ensures.place c.step_at-decoded.ensures.step in
     let next = next_is l c.args.self.now.running.place c.step_at-decoded.result.now some there in
     decoded_next c.args.scripts.now _ c.args.self.now c.args.world.now.world l c.step_at-decoded.result.now
-    (next_of c.in_ok-next.next (state c.act.new.self c.act.new.world.world)) listed next c.requires.well c.in_ok-next.ensures.next
+    (next_of c.in_ok-next-in-Some.next (state c.act.new.self c.act.new.world.world)) listed next c.requires.well c.in_ok-next-in-Some.ensures.next
