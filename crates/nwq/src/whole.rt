@@ -4,6 +4,7 @@ ghost use Rattle.command_work.specs.Work.{IsCut, Does, ending};
 ghost use Rattle.command_work.specs.Counts.{Counted, Tallies, KeepsBut};
 ghost use Rattle.command_words.specs.Words.{form_of};
 ghost use Rattle.nwq_top.specs.Command.{work_with, whole_work, MayWrite};
+ghost use Rattle.nwq_top.specs.Cuts.{IsFrontOf};
 ghost use Rattle.nwq_top.specs.Endings.{ComesOf};
 ghost use Rattle.nwq_top.specs.Meaning.{MeansWhole};
 ghost use Rattle.nwq_top.specs.Program.{status_number, status_numbered, words_of, TellsUsage};
@@ -11,14 +12,14 @@ ghost use Rattle.nwq_top.specs.Program.{status_number, status_numbered, words_of
 use hook_table::{Call, Hooks, cell_call};
 use nwq_hooks::{all_are_put, call_function, put_cell_hook, put_hook};
 use nwq_outside::{Files, Sink};
-use nwq_top::laws::whole_means;
+use nwq_top::laws::{one_outcome, whole_means};
 use nwq_top::{nwq_program, program_tables};
 use nwq_value::{Args, NoMemory, Value};
 use std::alloc::Global;
 use table_2da::Tables;
 
 /// The number of the status for want of memory.
-pub(crate) const WANT_OF_MEMORY: u8 = 8;
+const WANT_OF_MEMORY: u8 = 8;
 
 /// Makes the hooks, of which the tenth looks cells up in these tables, and does what the words say
 /// with them: the number with which the program ends. Where there is no memory for the hooks,
@@ -155,6 +156,10 @@ pub(crate) fn run_all<F: Files, S: Sink, E: Sink>(
         (IsCut (ending (status_numbered result)) → ⊥) →
         MeansWhole (form_of (words_of all.now)) (F.contents files.old) (S.taken out.old)
         (ending (status_numbered result)) (F.contents files.new) (S.taken out.new) }
+    // Where one did, what was put and left is a front of what is put and left else.
+    ensures cut { IsTrue F.tells → IsTrue S.tells → IsCut (ending (status_numbered result)) →
+        IsFrontOf (whole_work (form_of (words_of all.now)))
+        (F.contents files.old) (S.taken out.old) (F.contents files.new) (S.taken out.new) }
     ensures counts { Tallies (ending (status_numbered result))
         (Counted (F.counts files.old) (S.faults out.old))
         (Counted (F.counts files.new) (S.faults out.new)) }
@@ -165,6 +170,7 @@ pub(crate) fn run_all<F: Files, S: Sink, E: Sink>(
         TellsUsage (status_numbered result) (E.taken err.old) (E.taken err.new) }
 {
     whole_means();
+    one_outcome();
     files.contents_are_bytes();
     run_in_order(alloc, all, files, out, err)
 }
