@@ -103,8 +103,8 @@ act_next scripts e m w l op n h stands well is =
 padded_length : (bytes : List ℕ) → length (take text_limit bytes ++ replicate (length bytes - text_limit) 0) ≡ length bytes
 padded_length bytes =
     let joined : length (take text_limit bytes ++ replicate (length bytes - text_limit) 0) ≡ length (take text_limit bytes) + (length bytes - text_limit)
-        = length-append (take text_limit bytes) (replicate (length bytes - text_limit) 0)
-        ∙ ap (λ (n : ℕ). length (take text_limit bytes) + n) (length-replicate (length bytes - text_limit) 0) in
+    = length-append (take text_limit bytes) (replicate (length bytes - text_limit) 0)
+    ∙ ap (λ (n : ℕ). length (take text_limit bytes) + n) (length-replicate (length bytes - text_limit) 0) in
     elim (cases_lt (length bytes) text_limit) [
       | inl short ↦
           let all = ap length (take_all text_limit bytes (omega (arith, short))) in

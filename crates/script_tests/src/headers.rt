@@ -84,9 +84,15 @@ fn faults(rt: HostRuntime) -> Result<(), Fail> {
         (b"int A = 1.0;".as_slice(), Err(HeaderFault::Header(8))),
         (b"struct s A();".as_slice(), Err(HeaderFault::Header(0))),
         (b"int A=1; int A=2;".as_slice(), Err(HeaderFault::Twice(13))),
-        (b"int A=1; float A=2;".as_slice(), Err(HeaderFault::Twice(15))),
+        (
+            b"int A=1; float A=2;".as_slice(),
+            Err(HeaderFault::Twice(15)),
+        ),
         (b"int A(); int A x".as_slice(), Err(HeaderFault::Header(15))),
-        (b"void f(float x = 1;".as_slice(), Err(HeaderFault::Header(18))),
+        (
+            b"void f(float x = 1;".as_slice(),
+            Err(HeaderFault::Header(18)),
+        ),
         (
             b"#define ENGINE_STRUCTURE_1 effect".as_slice(),
             Err(HeaderFault::Header(27)),
