@@ -48,6 +48,13 @@ impl Ready {
         }
     }
 
+    /// The code as it was checked.
+    pub fn checked(&self) -> &Checked
+        ensures checked { result.now ≡ self.now }
+    {
+        &self.checked
+    }
+
     /// What is known of the code.
     pub fn sound(&self)
         ensures code { IsCode self.now.code }
