@@ -1,6 +1,6 @@
 -- Which states a play can go on from: seven rules, and the first that is broken.
-use Rattle.std.specs.Prelude.{◌≡◌, ◌<◌, ◌≤◌, ◌^◌, ◌⊎◌, ℕ, zero, suc, Bool, false, List, [], ◌∷◌, length, map, Option, None, Some, IsTrue, slice_get}
-use Rattle.std.specs.List.{AllByRecursion, IsDistinct}
+use Rattle.std.specs.Prelude.{◌≡◌, ◌<◌, ◌≤◌, ◌^◌, ◌⊎◌, ℕ, zero, suc, Bool, true, false, ◌&&◌, nat_le, List, [], ◌∷◌, length, map, Option, None, Some, IsTrue, slice_get}
+use Rattle.std.specs.List.{AllByRecursion, IsDistinct, list_all}
 use Rattle.std.specs.Str.{bytes_eq}
 use Rattle.nwq_value.specs.Engine.{EngineTable}
 use Rattle.nwq_value.specs.HeaderTable.{header_table}
@@ -14,6 +14,8 @@ use Rattle.gff_read.specs.Stands.{Stands}
 use Rattle.local_variables.specs.Variables.{same_variable}
 use Rattle.area_rules.specs.Objects.{objects_of}
 use Rattle.area_rules.specs.Broken.{broken_places}
+use Rattle.delay_agenda.specs.declared.entry.Entry.{Entry as AgendaEntry}
+use Rattle.saved_state.specs.declared.saved.Saved.{Saved}
 use Rattle.delay_agenda.specs.Waiting.{IsAgenda, turn_count}
 use Rattle.world_rules.specs.Kept.{IsPlaced, turns_allowed}
 use Rattle.stack_rules.specs.Tables.{ShapeTable}
@@ -30,7 +32,7 @@ use Rattle.state_format.specs.declared.parts.Kind.TheVariants as kind
 use Rattle.state_format.specs.declared.parts.Entry.{Entry}
 use Rattle.state_format.specs.declared.parts.Script.{Script}
 use Rattle.state_format.specs.declared.parts.Parts.{Parts}
-use Rattle.play_save.specs.World.{saved_of, variables_of, kind_of, entries_of}
+use Rattle.play_save.specs.World.{saved_of, variables_of, kind_of, entry_of, entries_of}
 
 -- ---- 1: the header
 
@@ -87,29 +89,42 @@ KindHolds Is (kind.Stored o c) = Is c
 KindHolds Is (kind.Turn o) = Unit {0}
 KindHolds Is (kind.Unapply o) = Unit {0}
 
-abbrev pub IsShort : List ℕ → Type 0
-IsShort text = length text ≤ text_limit
+-- a text is as long as a string may be
+abbrev pub is_short : List ℕ → Bool
+is_short text = nat_le (length text) text_limit
 
-abbrev pub IsShortCell : Cell → Type 0
-IsShortCell (cell.Int n) = Unit {0}
-IsShortCell (cell.Text text) = IsShort text
-IsShortCell (cell.Object o) = Unit {0}
-IsShortCell (cell.Effect e) = Unit {0}
-IsShortCell (cell.Event n) = Unit {0}
+abbrev pub is_short_cell : Cell → Bool
+is_short_cell (cell.Int n) = true
+is_short_cell (cell.Text text) = is_short text
+is_short_cell (cell.Object o) = true
+is_short_cell (cell.Effect e) = true
+is_short_cell (cell.Event n) = true
 
-abbrev pub HasShortCells : Captured → Type 0
-HasShortCells c = AllByRecursion IsShortCell c.globals × AllByRecursion IsShortCell c.locals
+abbrev pub are_short_cells : List Cell → Bool
+are_short_cells cells = list_all is_short_cell cells
 
-abbrev pub IsShortItem : Item → Type 0
-IsShortItem (item.Do c) = HasShortCells c
-IsShortItem (item.Wait ms) = Unit {0}
-IsShortItem (item.Speak text) = IsShort text
+abbrev pub has_short_cells : Captured → Bool
+has_short_cells c = are_short_cells c.globals && are_short_cells c.locals
 
-abbrev pub IsShortKind : Kind → Type 0
-IsShortKind (kind.Event o script user) = IsShort script
-IsShortKind (kind.Stored o c) = HasShortCells c
-IsShortKind (kind.Turn o) = Unit {0}
-IsShortKind (kind.Unapply o) = Unit {0}
+abbrev pub is_short_item : Item → Bool
+is_short_item (item.Do c) = has_short_cells c
+is_short_item (item.Wait ms) = true
+is_short_item (item.Speak text) = is_short text
+
+abbrev pub are_short_items : List Item → Bool
+are_short_items items = list_all is_short_item items
+
+abbrev pub has_short_items : Object → Bool
+has_short_items o = are_short_items o.items
+
+abbrev pub is_short_kind : Kind → Bool
+is_short_kind (kind.Event o script user) = is_short script
+is_short_kind (kind.Stored o c) = has_short_cells c
+is_short_kind (kind.Turn o) = true
+is_short_kind (kind.Unapply o) = true
+
+abbrev pub is_short_entry : Entry → Bool
+is_short_entry e = is_short_kind e.kind
 
 -- ---- 4: limits, names and texts
 
@@ -135,29 +150,33 @@ pub record HasCounts (s : Parts) : Type 0 where
   pub due : AllByRecursion (λ (e : Entry). e.due < count_limit) s.agenda
 
 -- each script has the name of one, and no two have the same
-pub record HasNames (s : Parts) : Type 0 where
-  pub names : AllByRecursion (λ (x : Script). IsTrue (is_script_name x.name)) s.scripts
-  pub distinct : IsDistinct bytes_eq (map (λ (x : Script). x.name) s.scripts)
+pub record AreNamed (scripts : List Script) : Type 0 where
+  pub names : AllByRecursion (λ (x : Script). IsTrue (is_script_name x.name)) scripts
+  pub distinct : IsDistinct bytes_eq (map (λ (x : Script). x.name) scripts)
 
 -- no two variables of an object have one type and name, and texts that are no variables' are as long as a string may be
 pub record HasTexts (s : Parts) : Type 0 where
   pub variables : AllByRecursion (λ (o : Object). IsDistinct same_variable (variables_of o)) s.objects
-  pub items : AllByRecursion (λ (o : Object). AllByRecursion IsShortItem o.items) s.objects
-  pub entries : AllByRecursion (λ (e : Entry). IsShortKind e.kind) s.agenda
+  pub items : IsTrue (list_all has_short_items s.objects)
+  pub entries : IsTrue (list_all is_short_entry s.agenda)
 
 pub record KeepsLimits (s : Parts) : Type 0 where
   pub bounds : HasBounds s
   pub counts : HasCounts s
-  pub names : HasNames s
+  pub names : AreNamed s.scripts
   pub texts : HasTexts s
 
 -- ---- 5: the agenda
 
--- The entries are in order, their numbers distinct and below the next. None was due before the clock, and their objects are there.
-pub record HasAgenda (s : Parts) : Type 0 where
-  pub agenda : IsAgenda (record { entries = entries_of s; next = s.next })
-  pub due : AllByRecursion (λ (e : Entry). s.clock ≤ e.due) s.agenda
-  pub placed : AllByRecursion (λ (e : Entry). IsPlaced (length s.objects) (kind_of e.kind)) s.agenda
+-- Entries that wait: they are in order, their numbers distinct and below the next. None was due before the clock, and their objects are
+-- there, of so many.
+pub record AreWaiting (next clock objects : ℕ) (entries : List Entry) : Type 0 where
+  pub agenda : IsAgenda (record { entries = map entry_of entries; next = next })
+  pub due : AllByRecursion (λ (e : Entry). clock ≤ e.due) entries
+  pub placed : AllByRecursion (λ (e : Entry). IsPlaced objects (kind_of e.kind)) entries
+
+abbrev pub HasAgenda : Parts → Type 0
+HasAgenda s = AreWaiting s.next s.clock (length s.objects) s.agenda
 
 -- ---- 6: captured states
 
@@ -174,13 +193,17 @@ pub record HasStates (s : Parts) : Type 0 where
 
 -- ---- 7: Turns
 
--- the object of this number has one Turn on the agenda where it is busy, else none, and one that isn't busy has nothing to do
-pub record IsSettledIn (s : Parts) (number : ℕ) (o : Object) : Type 0 where
-  pub turns : turn_count number (entries_of s) ≡ turns_allowed o.busy
+-- an object with so many Turns on the agenda is busy where it has one; one that isn't busy has none, and nothing to do
+pub record IsSettledBy (turns : ℕ) (o : Object) : Type 0 where
+  pub turns : turns ≡ turns_allowed o.busy
   pub idle : o.busy ≡ false → o.items ≡ []
 
+-- so is each object, by its number
+abbrev pub AreSettled : List (AgendaEntry Saved) → List Object → Type 0
+AreSettled entries objects = (i : ℕ) (o : Object) → slice_get objects i ≡ Some o → IsSettledBy (turn_count (suc i) entries) o
+
 abbrev pub HasTurns : Parts → Type 0
-HasTurns s = (i : ℕ) (o : Object) → slice_get s.objects i ≡ Some o → IsSettledIn s (suc i) o
+HasTurns s = AreSettled (entries_of s) s.objects
 
 -- ---- all of them
 

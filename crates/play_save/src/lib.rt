@@ -12,9 +12,25 @@
 //! broken off. docs/SAVES.md tells the format and the rules.
 #![tactic(auto)]
 
+mod entries;
 mod fault;
+mod fitting;
+mod keep;
+mod kept_entries;
+mod kept_objects;
+mod kept_values;
+mod limits;
+mod opened;
+mod prepare;
+mod rules;
 mod state;
+mod things;
+mod turns;
+mod values;
+mod waiting;
+mod world;
 
 pub use fault::StateFault;
-pub use state::{Opened, State, put_state, read_state};
+pub use opened::Opened;
+pub use state::{State, put_state, read_state};
 pub use state_format::SaveFault;

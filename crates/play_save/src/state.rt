@@ -16,10 +16,16 @@ ghost use Rattle.play_save.specs.States.{script_parts};
 ghost use Rattle.play_save.specs.declared.fault.StateFault.TheVariants.{NoMemory as NoRoom};
 
 use crate::fault::StateFault;
+use crate::keep::keep;
+use crate::opened::{Opened, open};
+use crate::rules::test_parts;
+use engine_table::laws::one_header;
+use ncs_code::spelling_laws;
 use ncs_machine::Scripts;
-use nwq_value::{NoMemory, Table};
+use nwq_value::NoMemory;
 use saved_state::Saved;
-use state_format::{Parts, SaveFault};
+use stack_check::fits_too;
+use state_format::{Parts, ReadFault, SaveFault, one_state, put_parts, read_parts};
 use std::alloc::Global;
 use std::marker::Model;
 use world_core::World;
@@ -48,19 +54,6 @@ impl Drop for State {
     }
 }
 
-/// What a play goes on from: its header's table, its scripts, its world, how far it may go
-/// (instructions an entry, entries in all, and until when), how many entries it took, and how many
-/// instructions it executed.
-#[derive(Drop)]
-pub struct Opened {
-    pub table: Table,
-    pub scripts: Scripts,
-    pub world: World<Saved>,
-    pub limits: (u64, u64, u64),
-    pub taken: u64,
-    pub done: u64,
-}
-
 impl State {
     /// The state of a play that isn't inside an entry. `header` is nothing for the built-in one,
     /// and `area` the bytes of the area's file as they were first read. What was handed over is
@@ -86,7 +79,21 @@ impl State {
         // The state tells the very world, without the lines that it keeps.
         ensures world { IfOk result (λ s. IsWorldOf s (resting world.world)) }
     {
-        unreachable!()
+        spelling_laws();
+        fits_too();
+        one_header();
+        world.keeps();
+        match world.into_parts() {
+            Err(NoMemory) => Err(NoMemory),
+            Ok((objects, saved)) => {
+                objects.keeps();
+                let file = area.as_slice();
+                let parts = keep(
+                    alloc, &header, scripts, file, &objects, saved, limits, taken, done,
+                )?;
+                Ok(State { parts })
+            }
+        }
     }
 
     /// What the play goes on from. The state is dropped where memory runs out.
@@ -108,7 +115,17 @@ impl State {
         ensures fit { IfOk result (λ o.
             StatesFit (scripts_of o.scripts) (tables_of o.scripts) o.world.world) }
     {
-        unreachable!()
+        let State { parts } = self;
+        match open(alloc, &parts) {
+            Err(NoMemory) => {
+                drop(parts);
+                Err(NoMemory)
+            }
+            Ok(opened) => {
+                drop(parts);
+                Ok(opened)
+            }
+        }
     }
 
     /// What every state keeps.
@@ -125,7 +142,7 @@ pub fn put_state(alloc: Global, state: &State) -> Result<Vec<u8>, SaveFault>
         (λ v. StateOf v.items state.now × (length v.items ≤ file_limit))
         (λ e. IsTooLarge (parts_bytes state.now) e) }
 {
-    unreachable!()
+    put_parts(alloc, &state.parts)
 }
 
 /// The state that the bytes of a file stand for, or why they are refused.
@@ -139,5 +156,16 @@ pub fn read_state(alloc: Global, bytes: &[u8]) -> Result<State, StateFault>
     // Why they are refused.
     ensures refused { IfErr result (Refuses bytes.now) }
 {
-    unreachable!()
+    one_state();
+    match read_parts(alloc, bytes) {
+        Err(ReadFault::Place(at)) => Err(StateFault::Place(at)),
+        Err(ReadFault::NoMemory) => Err(StateFault::NoMemory),
+        Ok(parts) => match test_parts(alloc, &parts) {
+            Err(fault) => {
+                drop(parts);
+                Err(fault)
+            }
+            Ok(()) => Ok(State { parts }),
+        },
+    }
 }
