@@ -37,7 +37,7 @@ use Rattle.play_save.specs.World.{saved_of, item_of, things_of, variables_of, ki
 use Rattle.play_save.specs.Rules.{IsHeaderOf, IsFileOf, IsSound, HasHeader, HasScripts, HasArea, HasBounds, HasCounts, AreNamed, HasTexts, KeepsLimits, HasAgenda, HasStates, HasTurns, IsCapturedIn, ItemHolds, KindHolds, count_limit}
 use Rattle.play_save.specs.States.{script_part, script_parts, Limits, MayLimit, MayList, MayRest, MayCount, IsPlayOf, HasCome}
 use Rattle.play_save.specs.Keeping.{Tells}
-use Rattle.play_save.proofs.Fitting.{Laws, one_table, one_file}
+use Rattle.play_save.proofs.CapturedLemmas.{Laws, one_table, one_file}
 use Rattle.std.specs.Option.{option_map}
 use Rattle.std.proofs.lemmas.Option.{slice_get-map}
 
@@ -62,14 +62,14 @@ map_map f g (x ∷ xs) = ap (λ (l : List _). g (f x) ∷ l) (map_map f g xs)
 -- ---- 1 and 2
 
 pub header_there : (s : Parts) (header : Option (List ℕ)) (scripts : List Loaded) → s.header ≡ header → MayList header scripts → HasHeader s
-header_there s header scripts same may = (may.table, subst (λ h. IsHeaderOf h may.table) (sym same) may.header)
+header_there s header scripts same may = (may.table, subst (λ h. IsHeaderOf h may.table) (sym same) may.headed)
 
 sound_parts : (table : EngineTable) (ls : List Loaded) → AllByRecursion (λ (l : Loaded). IsCode l.code.code) ls
     → ((n : ℕ) (script : MachineScript) → slice_get (scripts_of ls) n ≡ Some script → WellStacked table script.code)
     → AllByRecursion (λ (x : Script). IsSound table x.code) (script_parts ls)
 sound_parts table [] code stacked = tt
 sound_parts table (l ∷ ls) code stacked = (
-  record { ops = l.code.code; file = record { code = code.0; bytes = refl }; stacked = stacked 0 (script_of l) refl },
+  record { ops = l.code.code; file = record { code = code.0; spelled = refl }; stacked = stacked 0 (script_of l) refl },
   sound_parts table ls code.1 (λ n script at. stacked (suc n) script at),
 )
 
@@ -77,7 +77,7 @@ pub scripts_there : (s : Parts) (header : Option (List ℕ)) (scripts : List Loa
     → AllByRecursion (λ (l : Loaded). IsCode l.code.code) scripts → HasScripts s
 scripts_there s header scripts same parts may code = record {
   table = may.table;
-  header = subst (λ h. IsHeaderOf h may.table) (sym same) may.header;
+  header = subst (λ h. IsHeaderOf h may.table) (sym same) may.headed;
   scripts = subst (AllByRecursion (λ (x : Script). IsSound may.table x.code)) (sym parts)
       (sound_parts may.table scripts code (λ n script at. (tables_of scripts n, may.meets n script at)));
 }
@@ -90,8 +90,8 @@ same_count xs ys e = sym (length_map bare xs) ∙ ap length e ∙ length_map bar
 pub area_there : (s : Parts) (scripts : List Loaded) (area : List ℕ) (w : World Saved) → s.area ≡ area → MayRest scripts area w → IsArea w.area → IsWorld w → Tells s w → HasArea s
 area_there s scripts area w same may is world tells = record {
   tree = w.area.tree;
-  area = subst (λ a. _) (sym same) may.area;
-  counted = sym (length_map things_of s.objects) ∙ ap length tells.objects.things ∙ world.counted ∙ same_count w.area.objects (objects_of w.area.tree.top) is.same;
+  area = subst (λ a. _) (sym same) may.file;
+  counted = sym (length_map things_of s.objects) ∙ ap length tells.objects.kept ∙ world.counted ∙ same_count w.area.objects (objects_of w.area.tree.top) is.same;
 }
 
 -- ---- 4
@@ -120,9 +120,9 @@ limits_kept s header scripts area limits taken done w play come limited listed r
     random = subst (λ (l : List ℕ). _) (sym tells.random) rests.random;
   };
   counts = record {
-    taken = (let a = counted.taken in let b = come.taken in let c = play.entries in omega arith);
+    taken = (let a = counted.entries in let b = come.taken in let c = play.entries in omega arith);
     clock = (let a = counted.clock in let b = tells.clock in let c = play.until in omega arith);
-    done = (let a = counted.done in let b = come.done in omega arith);
+    done = (let a = counted.instructions in let b = come.done in omega arith);
     next = (let a = rests.next in let b = tells.next in omega arith);
     due = all_back entry_of (λ (e : Entry Saved). e.due < count_limit) s.agenda (subst (AllByRecursion (λ (e : Entry Saved). e.due < count_limit)) (sym tells.entries) rests.due);
   };
@@ -148,7 +148,7 @@ agenda_there s w world tells = record {
   placed = all_back entry_of (λ (e : Entry Saved). IsPlaced (length s.objects) e.kind) s.agenda
       (subst (λ (l : List (Entry Saved)). AllByRecursion (λ (e : Entry Saved). IsPlaced (length s.objects) e.kind) l) (sym tells.entries)
       (subst (λ n. AllByRecursion (λ (e : Entry Saved). IsPlaced n e.kind) w.agenda.entries)
-      (sym (sym (length_map things_of s.objects) ∙ ap length tells.objects.things ∙ world.counted)) world.placed));
+      (sym (sym (length_map things_of s.objects) ∙ ap length tells.objects.kept ∙ world.counted)) world.placed));
 }
 
 queue_here : (objects : List Object) (things : List (Things Saved)) (i : ℕ) (o : Object) → map things_of objects ≡ things → slice_get objects i ≡ Some o → slice_get things i ≡ Some (things_of o)
@@ -160,9 +160,9 @@ no_items (x ∷ items) e = absurd cc
 
 pub turns_there : (s : Parts) (scripts : List Loaded) (area : List ℕ) (w : World Saved) → MayRest scripts area w → Tells s w → HasTurns s
 turns_there s scripts area w rests tells i o at =
-    let here : queue_of (suc i) w ≡ (things_of o).queue = ap queue_in (queue_here s.objects w.things i o tells.objects.things at) in
+    let here : queue_of (suc i) w ≡ (things_of o).queue = ap queue_in (queue_here s.objects w.things i o tells.objects.kept at) in
     record {
-      turns = ap (turn_count (suc i)) tells.entries ∙ rests.turns (suc i) ∙ ap (λ (q : Queued Saved). turns_allowed q.busy) here;
+      own = ap (turn_count (suc i)) tells.entries ∙ rests.turns (suc i) ∙ ap (λ (q : Queued Saved). turns_allowed q.busy) here;
       idle = λ free. no_items o.items (ap (λ (q : Queued Saved). q.actions) (sym here) ∙ rests.idle (suc i) (ap (λ (q : Queued Saved). q.busy) here ∙ free));
     }
 
@@ -190,8 +190,8 @@ captured_there s header ls c laws same parts may code is =
       script = script_part found.loaded;
       listed = ap (λ (l : List Script). slice_get l c.script) parts ∙ slice_get-map script_part ls c.script ∙ ap (option_map script_part) found.held;
       fits = λ table ops shapes heading file meets.
-          let tables : table ≡ may.table = one_table header table may.table laws.header (subst (λ h. IsHeaderOf h table) same heading) may.header in
-          let lists : ops ≡ found.loaded.code.code = one_file ops found.loaded.code.code (file_bytes found.loaded.code.code) laws.spellings (ap (drop 13) (sym file.bytes)) file (record { code = found.code; bytes = refl }) in
+          let tables : table ≡ may.table = one_table header table may.table laws.header (subst (λ h. IsHeaderOf h table) same heading) may.headed in
+          let lists : ops ≡ found.loaded.code.code = one_file ops found.loaded.code.code (file_bytes found.loaded.code.code) laws.spellings (ap (drop 13) (sym file.spelled)) file (record { code = found.code; spelled = refl }) in
           laws.fits (tables_of ls c.script) shapes (saved_of c)
           (may.stand c.script is.listed.0 shapes is.listed.1
           (subst (λ (x : MachineScript). MeetsRules may.table x.code shapes) (sym found.is) (subst (λ t. MeetsRules t found.loaded.code.code shapes) tables (subst (λ o. MeetsRules table o shapes) lists meets))))
@@ -227,6 +227,6 @@ pub states_there : (s : Parts) (header : Option (List ℕ)) (ls : List Loaded) (
 states_there s header ls area w laws same parts may code rests tells =
     let f = λ c is. captured_there s header ls c laws same parts may code is in
     record {
-      items = objects_there s ls f s.objects (subst (AllByRecursion (ThingsFit (scripts_of ls) (tables_of ls))) (sym tells.objects.things) rests.fit.queues);
+      items = objects_there s ls f s.objects (subst (AllByRecursion (ThingsFit (scripts_of ls) (tables_of ls))) (sym tells.objects.kept) rests.fit.queues);
       entries = entries_there s ls f s.agenda (subst (AllByRecursion (EntryFits (scripts_of ls) (tables_of ls))) (sym tells.entries) rests.fit.agenda);
     }

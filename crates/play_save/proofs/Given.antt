@@ -74,7 +74,7 @@ turns_kept s w things agenda turns (suc i) = by_object (slice_get s.objects i) r
     by_object : (found : Option Object) → slice_get s.objects i ≡ found → turn_count (suc i) (map entry_of s.agenda) ≤ turns_allowed (queue_of (suc i) w).busy
     by_object (Some o) at =
         let here : queue_of (suc i) w ≡ (things_of o).queue = ap queue_in (ap (λ ts. slice_get ts i) things ∙ queue_is s.objects i o at) in
-        let is = (turns i o at).turns in
+        let is = (turns i o at).own in
         subst (λ q. turn_count (suc i) (map entry_of s.agenda) ≤ turns_allowed q.busy) (sym here) (omega (arith, is))
     by_object None at =
         let past = past_end s.objects i at in

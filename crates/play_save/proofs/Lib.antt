@@ -3,7 +3,7 @@ pub mod Headers
 pub mod Scripts
 pub mod Agendas
 pub mod Testing
-pub mod Fitting
+pub mod CapturedLemmas
 pub mod Turning
 pub mod Given
 pub mod Opening

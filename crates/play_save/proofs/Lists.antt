@@ -2,6 +2,8 @@
 use Rattle.std.proofs.Common.{◌≡◌, ◌<◌, ◌≤◌, ℕ, zero, suc, ◌+◌, List, [], ◌∷◌, ◌++◌, length, take, drop, get_or, map, sym, ap, refl, ◌∙◌, add-one, subst, arith}
 use Rattle.std.specs.Prelude.{Bool, true, false, ◌&&◌, IsTrue}
 use Rattle.std.specs.List.{AllByRecursion, list_all}
+use Rattle.action_queue.specs.Queued.{Queued}
+use Rattle.action_queue.specs.declared.queue.Item.{Item}
 
 taken_more : {A B : Type 0} (f : A → B) (xs : List A) (i : ℕ) (x : A) → i < length xs → x ≡ get_or xs i x → map f (take (suc i) xs) ≡ map f (take i xs) ++ f x ∷ []
 taken_more f [] i x h e = absurd (omega arith)
@@ -54,3 +56,11 @@ take_whole zero [] h = refl
 take_whole zero (x ∷ xs) h = absurd (omega arith)
 take_whole (suc n) [] h = refl
 take_whole (suc n) (x ∷ xs) h = ap (λ (l : List _). x ∷ l) (take_whole n xs (omega arith))
+
+-- one action more
+pub queue_more : {A X : Type 0} (f : A → Item X) (busy : Bool) (xs : List A) (i : ℕ) (x : A) (y : Item X) (old new : Queued X)
+    → old ≡ record { actions = map f (take i xs); busy = busy } → new ≡ record old { actions = old.actions ++ y ∷ [] } → y ≡ f x → i < length xs → x ≡ get_or xs i x
+    → new ≡ record { actions = map f (take (i + 1) xs); busy = busy }
+queue_more f busy xs i x y old new before grown is h at =
+    grown ∙ ap (λ (q : Queued _). record q { actions = q.actions ++ y ∷ [] }) before
+    ∙ ap (λ (l : List _). record { actions = l; busy = busy }) (map_more f xs i x y (map f (take i xs)) (map f (take i xs) ++ y ∷ []) refl refl is h at)

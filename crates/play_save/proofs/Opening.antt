@@ -59,7 +59,7 @@ same_parts table [] (l ∷ ls) small are = absurd are
 same_parts table (p ∷ parts) [] small are = absurd are
 same_parts table (p ∷ parts) (l ∷ ls) small are =
     let name : l.name ≡ p.name = are.0.name ∙ take_whole text_limit p.name small.0 in
-    let code = are.0.checked.file.bytes in
+    let code = are.0.checked.file.spelled in
     let rest = same_parts table parts ls small.1 are.1 in cc
 
 -- ---- captured states

@@ -9,7 +9,7 @@ use Rattle.gff_tree.specs.Whole.{PlainGff}
 use Rattle.area_rules.specs.Area.{PlainArea, area_of}
 use Rattle.stack_rules.specs.Tables.{ShapeTable}
 use Rattle.stack_rules.specs.Rules.{MeetsRules}
-use Rattle.stack_check.specs.Checked.{StoredStand, kept_table}
+use Rattle.stack_check.specs.Checked.{CheckedCode, StoredStand, kept_table}
 use Rattle.stack_rules.specs.Fits.{Fits}
 use Rattle.delay_agenda.specs.Order.{IsBefore}
 use Rattle.delay_agenda.specs.Waiting.{turn_count}
@@ -45,15 +45,15 @@ BreaksLast s fault.NoMemory = Unit {0}
 
 -- ---- scripts
 
--- the code of a script's file, by a table of shapes that says of stored states what every one says
-pub record IsCheckedOf (table : EngineTable) (bytes : List ℕ) (l : Loaded) : Type 0 where
-  pub file : IsFileOf l.code.code bytes
-  pub meets : MeetsRules table l.code.code (kept_table l.code)
-  pub stand : (other : ShapeTable) → MeetsRules table l.code.code other → StoredStand (kept_table l.code) other
+-- the code of a file, by a table of shapes that says of stored states what every one says
+pub record IsCheckedOf (table : EngineTable) (bytes : List ℕ) (c : CheckedCode) : Type 0 where
+  pub file : IsFileOf c.code bytes
+  pub meets : MeetsRules table c.code (kept_table c)
+  pub stand : (other : ShapeTable) → MeetsRules table c.code other → StoredStand (kept_table c) other
 
 -- a script's part, checked; of its name only what a string holds
 pub record IsScriptOf (table : EngineTable) (part : Script) (l : Loaded) : Type 0 where
-  pub checked : IsCheckedOf table part.code l
+  pub checked : IsCheckedOf table part.code l.code
   pub name : l.name ≡ take text_limit part.name
 
 abbrev pub AreScriptsOf : EngineTable → List Script → List Loaded → Type 0
@@ -65,11 +65,11 @@ AreScriptsOf table (part ∷ parts) (l ∷ ls) = IsScriptOf table part l × AreS
 -- ---- the area
 
 -- the area that bytes tell, with so many objects
-pub record IsReadFrom (bytes : List ℕ) (objects : ℕ) (area : PlainArea) : Type 0 where
+pub record IsReadFrom (bytes : List ℕ) (objects : ℕ) (read : PlainArea) : Type 0 where
   pub tree : PlainGff
   pub of : IsAreaOf tree bytes
-  pub area : area ≡ area_of tree
-  pub counted : objects ≡ length area.objects
+  pub area : read ≡ area_of tree
+  pub counted : objects ≡ length read.objects
 
 -- ---- the agenda
 

@@ -20,13 +20,13 @@ use Rattle.delay_agenda.specs.declared.entry.Kind.TheVariants.{Event, Stored, Tu
 
 -- a part tells a value, can be written, and has short texts
 pub record IsPartOf {A B : Type 0} (tells : B → A) (Is : B → Type 0) (is_short : B → Bool) (x : A) (p : B) : Type 0 where
-  pub tells : tells p ≡ x
+  pub same : tells p ≡ x
   pub form : Is p
   pub short : IsTrue (is_short p)
 
 -- so do parts of so many values, one by one
 pub record ArePartsOf {A B : Type 0} (tells : B → A) (Is : B → Type 0) (is_short : B → Bool) (xs : List A) (ps : List B) : Type 0 where
-  pub tells : map tells ps ≡ xs
+  pub same : map tells ps ≡ xs
   pub form : AllByRecursion Is ps
   pub short : IsTrue (list_all is_short ps)
 
@@ -61,7 +61,7 @@ QueuesHaveValues things = AllByRecursion (λ (t : Things Saved). AllByRecursion 
 
 -- objects of a world, with their variables in its area, as parts
 pub record AreObjectsOf (objects : List AreaObject) (things : List (Things Saved)) (parts : List Object) : Type 0 where
-  pub things : map things_of parts ≡ things
+  pub kept : map things_of parts ≡ things
   pub variables : map variables_of parts ≡ map (λ (o : AreaObject). o.vars) objects
   pub form : AllByRecursion IsObject parts
   pub short : IsTrue (list_all has_short_items parts)

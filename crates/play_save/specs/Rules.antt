@@ -49,7 +49,7 @@ HasHeader s = (table : EngineTable) × IsHeaderOf s.header table
 -- the bytes are a file of these instructions
 pub record IsFileOf (ops : List PlainOp) (bytes : List ℕ) : Type 0 where
   pub code : IsCode ops
-  pub bytes : bytes ≡ file_bytes ops
+  pub spelled : bytes ≡ file_bytes ops
 
 -- the bytes are a well-stacked file
 pub record IsSound (table : EngineTable) (bytes : List ℕ) : Type 0 where
@@ -195,7 +195,7 @@ pub record HasStates (s : Parts) : Type 0 where
 
 -- an object with so many Turns on the agenda is busy where it has one; one that isn't busy has none, and nothing to do
 pub record IsSettledBy (turns : ℕ) (o : Object) : Type 0 where
-  pub turns : turns ≡ turns_allowed o.busy
+  pub own : turns ≡ turns_allowed o.busy
   pub idle : o.busy ≡ false → o.items ≡ []
 
 -- so is each object, by its number

@@ -72,7 +72,7 @@ pub record MayLimit (limits : Limits) : Type 0 where
 -- the scripts have names, no two the same, and are checked under a table of the header
 pub record MayList (header : Option (List ℕ)) (scripts : List Loaded) : Type 0 where
   pub table : EngineTable
-  pub header : IsHeaderOf header table
+  pub headed : IsHeaderOf header table
   pub few : length scripts ≤ script_limit
   pub names : AllByRecursion (λ (l : Loaded). IsTrue (is_script_name l.name)) scripts
   pub distinct : IsDistinct bytes_eq (map (λ (l : Loaded). l.name) scripts)
@@ -81,7 +81,7 @@ pub record MayList (header : Option (List ℕ)) (scripts : List Loaded) : Type 0
 
 -- the world of a play of these scripts between two of its entries, whose area is that of these bytes
 pub record MayRest (scripts : List Loaded) (area : List ℕ) (w : World Saved) : Type 0 where
-  pub area : IsAreaOf w.area.tree area
+  pub file : IsAreaOf w.area.tree area
   pub version : (w.version ≡ 1) ⊎ (w.version ≡ 2)
   pub random : length w.random ≤ random_limit
   pub next : w.agenda.next < count_limit
@@ -92,25 +92,25 @@ pub record MayRest (scripts : List Loaded) (area : List ℕ) (w : World Saved) :
 
 -- how far the play has come
 pub record MayCount (limits : Limits) (w : World Saved) (taken done : ℕ) : Type 0 where
-  pub taken : taken ≤ limits.1
+  pub entries : taken ≤ limits.1
   pub clock : w.clock ≤ limits.2
-  pub done : done < count_limit
+  pub instructions : done < count_limit
 
 -- ---- what a state says of a play
 
 -- what a play is of: its header and scripts, its area as it was first read, and its limits
-pub record IsPlayOf (s : Parts) (header : Option (List ℕ)) (scripts : List Script) (area : List ℕ) (limits : Limits) : Type 0 where
-  pub header : s.header ≡ header
-  pub scripts : s.scripts ≡ scripts
-  pub area : s.area ≡ area
+pub record IsPlayOf (s : Parts) (text : Option (List ℕ)) (listed : List Script) (file : List ℕ) (limits : Limits) : Type 0 where
+  pub header : s.header ≡ text
+  pub scripts : s.scripts ≡ listed
+  pub area : s.area ≡ file
   pub limit : s.limit ≡ limits.0
   pub entries : s.entries ≡ limits.1
   pub until : s.until ≡ limits.2
 
 -- how many entries it took, and how many instructions it executed
-pub record HasCome (s : Parts) (taken done : ℕ) : Type 0 where
-  pub taken : s.taken ≡ taken
-  pub done : s.done ≡ done
+pub record HasCome (s : Parts) (entries instructions : ℕ) : Type 0 where
+  pub taken : s.taken ≡ entries
+  pub done : s.done ≡ instructions
 
 -- ---- refusals
 

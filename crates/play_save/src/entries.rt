@@ -67,8 +67,8 @@ pub(crate) fn agenda(
 {
     let mut agenda = Agenda::start_at(alloc, next);
     for part in parts {
-        let next = entry(alloc, part)?;
-        agenda.put(next)?;
+        let held = entry(alloc, part)?;
+        agenda.put(held)?;
     }
     Ok(agenda)
 }

@@ -20,7 +20,6 @@ mod kept_entries;
 mod kept_objects;
 mod kept_values;
 mod limits;
-mod opened;
 mod prepare;
 mod rules;
 mod state;
@@ -31,6 +30,5 @@ mod waiting;
 mod world;
 
 pub use fault::StateFault;
-pub use opened::Opened;
-pub use state::{State, put_state, read_state};
+pub use state::{Opened, State, put_state, read_state};
 pub use state_format::SaveFault;

@@ -2,6 +2,7 @@
 ghost use Rattle.std.specs.Prelude.{◌≡◌, map, IfOk, IsTrue, MatchOption};
 ghost use Rattle.std.specs.List.{list_all, IsDistinct};
 ghost use Rattle.local_variables.specs.Variables.{same_variable};
+ghost use Rattle.local_variables.specs.Variables.{variable_of as variable_seen};
 ghost use Rattle.play_save.specs.World.{item_of, stood_of, things_of, variable_of};
 ghost use Rattle.play_save.specs.Rules.{are_short_items, has_short_items, is_short_item};
 
@@ -80,7 +81,7 @@ pub(crate) fn objects(alloc: Global, parts: &[Object]) -> Result<Objects<Saved>,
 
 /// A variable, borrowed.
 fn variable(part: &Variable) -> Var<'_>
-    ensures tells { local_variables.specs.Variables.variable_of result ≡ variable_of part.now }
+    ensures tells { variable_seen result ≡ variable_of part.now }
 {
     match part {
         Variable::Int(name, n) => Var::Int(name.as_slice(), *n),

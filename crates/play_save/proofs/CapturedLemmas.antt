@@ -92,7 +92,7 @@ captured_if s p c laws prepared is =
       listed = pair.listed;
       fits = λ table ops shapes header file meets.
           let tables : table ≡ p.table = one_table s.header table p.table laws.header header prepared.header in
-          let lists : ops ≡ pair.loaded.code.code = one_file ops pair.loaded.code.code pair.part.code laws.spellings (ap (drop 13) (sym file.bytes ∙ checked.file.bytes)) file checked.file in
+          let lists : ops ≡ pair.loaded.code.code = one_file ops pair.loaded.code.code pair.part.code laws.spellings (ap (drop 13) (sym file.spelled ∙ checked.file.spelled)) file checked.file in
           laws.fits (kept_table pair.loaded.code) shapes (saved_of c)
           (checked.stand shapes (subst (λ t. MeetsRules t pair.loaded.code.code shapes) tables (subst (λ o. MeetsRules table o shapes) lists meets)))
           (subst (λ (l : Loaded). Fits (kept_table l.code) (saved_of c)) (sym same) is.fits);
