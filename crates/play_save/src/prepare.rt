@@ -197,6 +197,7 @@ pub(crate) struct Prepared {
 }
 
 /// The scripts and the area of a state, or the first of these that isn't there.
+#[tactic(auto, using(crate::proofs::Testing::breaks_scripts, crate::proofs::Testing::breaks_area))]
 fn prepare_under(alloc: Global, parts: &Parts, table: Table) -> Result<Prepared, StateFault>
     requires header { IsHeaderOf parts.now.header table }
     ensures prepared { IfOk result (IsPreparedFor parts.now) }
@@ -225,6 +226,7 @@ fn prepare_under(alloc: Global, parts: &Parts, table: Table) -> Result<Prepared,
 }
 
 /// The header's table, the scripts and the area of a state, or the first of these that isn't there.
+#[tactic(auto, using(crate::proofs::Testing::breaks_header))]
 pub(crate) fn prepare(alloc: Global, parts: &Parts) -> Result<Prepared, StateFault>
     ensures prepared { IfOk result (IsPreparedFor parts.now) }
     ensures broken { IfErr result (BreaksFirst parts.now) }

@@ -17,6 +17,7 @@ use state_format::Parts;
 use std::alloc::Global;
 
 /// Whether each captured state fits the code of its script.
+#[tactic(auto, using(crate::proofs::CapturedLemmas::states_by, crate::proofs::CapturedLemmas::items_if, crate::proofs::CapturedLemmas::entries_if))]
 fn test_states(alloc: Global, parts: &Parts, prepared: &Prepared) -> Result<(), StateFault>
     requires prepared { IsPreparedFor parts.now prepared.now }
     requires texts { HasTexts parts.now }
@@ -50,6 +51,7 @@ fn test_turns(alloc: Global, parts: &Parts) -> Result<(), StateFault>
 }
 
 /// The last two rules of a state that keeps those before.
+#[tactic(auto, using(crate::proofs::Testing::last_states, crate::proofs::Testing::last_turns))]
 fn test_last(alloc: Global, parts: &Parts, prepared: &Prepared) -> Result<(), StateFault>
     requires prepared { IsPreparedFor parts.now prepared.now }
     requires texts { HasTexts parts.now }
@@ -65,6 +67,7 @@ fn test_last(alloc: Global, parts: &Parts, prepared: &Prepared) -> Result<(), St
 }
 
 /// The rules behind the limits of a state that keeps those before.
+#[tactic(auto, using(crate::proofs::Testing::breaks_agenda, crate::proofs::Testing::breaks_last, crate::proofs::Testing::all_kept))]
 fn test_within(alloc: Global, parts: &Parts, prepared: &Prepared) -> Result<(), StateFault>
     requires prepared { IsPreparedFor parts.now prepared.now }
     requires limits { KeepsLimits parts.now }
@@ -84,6 +87,7 @@ fn test_within(alloc: Global, parts: &Parts, prepared: &Prepared) -> Result<(), 
 }
 
 /// The rules of a state whose header, scripts and area are there.
+#[tactic(auto, using(crate::proofs::Testing::breaks_limits))]
 fn test_rest(alloc: Global, parts: &Parts, prepared: &Prepared) -> Result<(), StateFault>
     requires prepared { IsPreparedFor parts.now prepared.now }
     ensures kept { MatchResult result (λ _. IsAccepted parts.now) (BreaksFirst parts.now) }
