@@ -1,5 +1,5 @@
 -- Lists that are made, and tested, member by member.
-use Rattle.std.proofs.Common.{◌≡◌, ◌<◌, ◌≤◌, ℕ, zero, suc, ◌+◌, List, [], ◌∷◌, ◌++◌, length, take, drop, get_or, map, sym, ap, refl, ◌∙◌, add-one, subst, arith}
+use Rattle.std.proofs.Common.{◌≡◌, ◌<◌, ◌≤◌, ℕ, zero, suc, ◌+◌, ◌-◌, List, [], ◌∷◌, ◌++◌, length, take, drop, get_or, map, sym, ap, refl, ◌∙◌, add-one, subst, arith}
 use Rattle.std.specs.Prelude.{Bool, true, false, ◌&&◌, ◌↔◌, IsTrue}
 use Rattle.std.specs.List.{AllByRecursion, list_all}
 use Rattle.action_queue.specs.Queued.{Queued}
@@ -33,6 +33,14 @@ take_whole zero [] h = refl
 take_whole zero (x ∷ xs) h = absurd (omega arith)
 take_whole (suc n) [] h = refl
 take_whole (suc n) (x ∷ xs) h = ap (λ (l : List _). x ∷ l) (take_whole n xs (omega arith))
+
+-- what a slice up to the end shows
+pub rest_whole : {A : Type 0} (j : ℕ) (xs : List A) → take (length xs - j) (drop j xs) ≡ drop j xs
+rest_whole zero xs = take_whole (length xs - 0) xs (omega arith)
+rest_whole (suc j) [] = take_whole (0 - suc j) [] (omega arith)
+rest_whole (suc j) (x ∷ xs) =
+    let same : length (x ∷ xs) - suc j ≡ length xs - j = omega arith in
+    ap (λ (k : ℕ). take k (drop j xs)) same ∙ rest_whole j xs
 
 pub and_true : (a b : Bool) → IsTrue a → IsTrue b → IsTrue (a && b)
 and_true true b x y = y

@@ -1,5 +1,5 @@
 -- Names of scripts, and counts, tested one by one.
-use Rattle.std.proofs.Common.{◌≡◌, ◌<◌, ◌≤◌, ℕ, zero, suc, ◌+◌, List, [], ◌∷◌, length, take, drop, get_or, map, sym, ap, refl, ◌∙◌, subst, arith}
+use Rattle.std.proofs.Common.{◌≡◌, ◌<◌, ◌≤◌, ℕ, zero, suc, ◌+◌, ◌-◌, List, [], ◌∷◌, length, take, drop, get_or, map, sym, ap, refl, ◌∙◌, subst, arith}
 use Rattle.std.specs.Prelude.{Bool, true, false, not, nat_lt, ◌↔◌, IsTrue}
 use Rattle.std.specs.List.{AllByRecursion, IsDistinct, list_all}
 use Rattle.std.specs.Str.{bytes_eq}
@@ -8,7 +8,7 @@ use Rattle.nwq_text.specs.Names.{is_script_name}
 use Rattle.state_format.specs.declared.parts.Entry.{Entry}
 use Rattle.state_format.specs.declared.parts.Script.{Script}
 use Rattle.play_save.specs.Rules.{AreNamed, count_limit}
-use Rattle.play_save.proofs.Lists.{both_true, and_true, tests_all, drop_at}
+use Rattle.play_save.proofs.Lists.{tests_all, drop_at, rest_whole}
 
 -- ---- counts
 
@@ -77,19 +77,22 @@ named_at xs i x all h at =
     record { name = here.names.0; new = named_new x (drop (i + 1) xs) here }
 
 -- what was tested of one name: whether it is one, and whether it is new
-pub record IsTested (xs : List Script) (i : ℕ) (x : Script) (n : List ℕ) (is new : Bool) : Type 0 where
+pub record IsTested (xs : List Script) (i : ℕ) (x : Script) (n : List ℕ) (named fresh : Bool) : Type 0 where
   pub name : n ≡ x.name
-  pub is : is ≡ is_script_name n
-  pub new : new ≡ list_all (λ (y : Script). not (bytes_eq n y.name)) (drop (i + 1) xs)
+  pub is : named ≡ is_script_name n
+  pub new : fresh ≡ list_all (λ (y : Script). not (bytes_eq n y.name)) (take (length xs - (i + 1)) (drop (i + 1) xs))
   pub inside : i < length xs
   pub at : x ≡ get_or xs i x
+
+tested_new : (xs : List Script) (i : ℕ) (x : Script) (n : List ℕ) (is new : Bool) → IsTested xs i x n is new → new ≡ list_all (λ (y : Script). not (bytes_eq n y.name)) (drop (i + 1) xs)
+tested_new xs i x n is new t = t.new ∙ ap (λ (l : List Script). list_all (λ (y : Script). not (bytes_eq n y.name)) l) (rest_whole (i + 1) xs)
 
 -- one name more, before those that were tested
 pub tested_more : (xs : List Script) (i k : ℕ) (x : Script) (n : List ℕ) (is new : Bool) → IsTested xs i x n is new → IsTrue is → IsTrue new → AreNamed (drop k xs) → k ≡ i + 1
     → AreNamed (drop i xs)
 tested_more xs i k x n is new t named fresh rest same =
     named_step xs i k x (subst (λ (m : List ℕ). IsTrue (is_script_name m)) t.name (subst (λ (b : Bool). IsTrue b) t.is named))
-    (subst (λ (m : List ℕ). IsTrue (list_all (λ (y : Script). not (bytes_eq m y.name)) (drop (i + 1) xs))) t.name (subst (λ (b : Bool). IsTrue b) t.new fresh)) rest same t.inside t.at
+    (subst (λ (m : List ℕ). IsTrue (list_all (λ (y : Script). not (bytes_eq m y.name)) (drop (i + 1) xs))) t.name (subst (λ (b : Bool). IsTrue b) (tested_new xs i x n is new t) fresh)) rest same t.inside t.at
 
 never_true : (b : Bool) → b ≡ false → IsTrue b → ⊥
 never_true true e t = absurd cc
@@ -104,6 +107,6 @@ tested_none xs i x n is new t none = (
 pub tested_old : (xs : List Script) (i : ℕ) (x : Script) (n : List ℕ) (is new : Bool) → IsTested xs i x n is new → new ≡ false → IsTrue false ↔ AreNamed xs
 tested_old xs i x n is new t none = (
   (λ f. absurd (never_true false refl f)),
-  (λ all. absurd (never_true new none (subst (λ (b : Bool). IsTrue b) (sym t.new)
+  (λ all. absurd (never_true new none (subst (λ (b : Bool). IsTrue b) (sym (tested_new xs i x n is new t))
       (subst (λ (m : List ℕ). IsTrue (list_all (λ (y : Script). not (bytes_eq m y.name)) (drop (i + 1) xs))) (sym t.name) (named_at xs i x all t.inside t.at).new)))),
 )

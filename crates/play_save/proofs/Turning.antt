@@ -1,6 +1,6 @@
 -- Turns that are counted, and the objects that have them.
 use Rattle.std.proofs.Common.{◌≡◌, ◌≢◌, ◌<◌, ◌≤◌, ℕ, ℤ, zero, suc, ◌+◌, ◌-◌, Bool, true, false, List, [], ◌∷◌, ◌++◌, length, take, get_or, map, sym, ap, refl, ◌∙◌, subst, add-one, inl, inr, ◌⊎◌, arith}
-use Rattle.std.specs.Prelude.{Option, Some, None, slice_get, slice_set, IsTrue, nat_eq, if◌then◌else◌}
+use Rattle.std.specs.Prelude.{Option, Some, None, slice_get, slice_set, IsTrue, ◌↔◌, nat_eq, if◌then◌else◌}
 use Rattle.std.specs.List.{AllByRecursion}
 use Rattle.std.specs.Option.{option_map}
 use Rattle.std.proofs.lemmas.Bool.Decides.{nat_tests}
@@ -16,7 +16,8 @@ use Rattle.state_format.specs.declared.parts.Kind.{Kind as PartKind}
 use Rattle.state_format.specs.declared.parts.Kind.TheVariants as kind
 use Rattle.state_format.specs.declared.parts.Object.{Object}
 use Rattle.play_save.specs.World.{entry_of, kind_of}
-use Rattle.play_save.specs.Rules.{IsSettledBy}
+use Rattle.state_format.specs.declared.parts.Parts.{Parts}
+use Rattle.play_save.specs.Rules.{IsSettledBy, AreSettled, HasTurns}
 use Rattle.play_save.specs.Breaking.{CountsOne, CountsTurns, IsTurnOnlyOf}
 use Rattle.play_save.proofs.Lists.{map_more}
 
@@ -172,6 +173,12 @@ settled_more entries objects counts seen i o are long same is h settled before k
         subst (λ (y : Object). IsSettledBy (turn_count (suc k) (map entry_of entries)) y) (object_same objects i x o (ap (λ (j : ℕ). slice_get objects j) (sym here) ∙ at) is)
         (subst (λ (n : ℕ). IsSettledBy n o) (turns ∙ ap (λ (j : ℕ). turn_count (suc j) (map entry_of entries)) (sym here)) settled)
     by_test false e = before k x (grind (arith, nat_tests, e, below)) at
+
+-- what was found of all objects, as a state has them
+pub settled_is : (s : Parts) (objects : List Object) (entries : List Part) (b : Bool) → objects ≡ s.objects → entries ≡ s.agenda → (IsTrue b ↔ AreSettled (map entry_of entries) objects)
+    → IsTrue b ↔ HasTurns s
+settled_is s objects entries b listed waiting is =
+    subst (λ (l : List Part). IsTrue b ↔ AreSettled (map entry_of l) s.objects) waiting (subst (λ (l : List Object). IsTrue b ↔ AreSettled (map entry_of entries) l) listed is)
 
 -- ---- no Turns at first
 
