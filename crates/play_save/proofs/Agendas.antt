@@ -30,14 +30,6 @@ put_behind (a ∷ xs) e order =
     first_of [] all = all.0
     first_of (y ∷ ys) all = first_of ys all.1
 
-order_front : {X : Type 0} (xs ys : List (Entry X)) → AreInOrder (xs ++ ys) → AreInOrder xs
-order_front [] ys order = tt
-order_front (x ∷ xs) ys order = (front_of xs order.0, order_front xs ys order.1)
-  where
-    front_of : (zs : List _) → IsBeforeAll x (zs ++ ys) → IsBeforeAll x zs
-    front_of [] all = tt
-    front_of (z ∷ zs) all = (all.0, front_of zs all.1)
-
 order_taken : (parts : List Part) (i : ℕ) → AreInOrder (map entry_of parts) → AreInOrder (map entry_of (take i parts))
 order_taken [] zero order = tt
 order_taken [] (suc i) order = tt
@@ -114,12 +106,6 @@ none_numbered n (e ∷ es) none = (grind (arith, nat_tests), none_numbered n es 
 numbered_none : (n : ℕ) (es : List Part) → HasNone n (map entry_of es) → is_numbered es n ≡ false
 numbered_none n [] none = refl
 numbered_none n (e ∷ es) none = let other = none.0 in let rest = numbered_none n es none.1 in grind (arith, nat_tests)
-
-pub waiting_none : (next clock objects n : ℕ) (es : List Part) → n ≡ length es → AreWaiting next clock objects (drop n es)
-waiting_none next clock objects zero [] e = record { agenda = record { order = tt; below = tt; distinct = tt }; due = tt; placed = tt }
-waiting_none next clock objects (suc n) [] e = absurd (omega arith)
-waiting_none next clock objects zero (x ∷ es) e = absurd (omega arith)
-waiting_none next clock objects (suc n) (x ∷ es) e = waiting_none next clock objects n es (omega arith)
 
 waiting_more : (next clock objects : ℕ) (e : Part) (es : List Part) → IsWaiting next clock objects e → IsBeforeFirst e es → is_numbered es e.number ≡ false
     → AreWaiting next clock objects es → AreWaiting next clock objects (e ∷ es)

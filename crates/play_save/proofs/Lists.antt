@@ -54,17 +54,6 @@ tests_all p P (x ∷ xs) each = (
   (λ all. and_true (p x) (list_all p xs) ((each x).1 all.0) ((tests_all p P xs each).1 all.1)),
 )
 
-false_never : IsTrue false → ⊥
-false_never t = cc
-
--- one that fails says that not all are so
-pub fails_all : {A : Type 0} (P : A → Type 0) (xs : List A) (i : ℕ) (x : A) → (P x → ⊥) → i < length xs → x ≡ get_or xs i x → IsTrue false ↔ AllByRecursion P xs
-fails_all P xs i x never h e = ((λ t. absurd (false_never t)), (λ all. absurd (never (all_at P xs i x all h e))))
-
--- all are so, where those before the end are
-pub passes_all : {A : Type 0} (P : A → Type 0) (xs : List A) (i : ℕ) → AllByRecursion P (take i xs) → length xs ≤ i → IsTrue true ↔ AllByRecursion P xs
-passes_all P xs i all h = ((λ t. subst (AllByRecursion P) (take_whole i xs h) all), (λ t. refl))
-
 pub test_at : {A : Type 0} (p : A → Bool) (xs : List A) (i : ℕ) (x : A) → IsTrue (list_all p xs) → i < length xs → x ≡ get_or xs i x → IsTrue (p x)
 test_at p [] i x all h e = absurd (omega arith)
 test_at p (y ∷ ys) zero x all h e = subst (λ z. IsTrue (p z)) (sym e) (both_true (p y) (list_all p ys) all).0

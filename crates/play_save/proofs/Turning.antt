@@ -40,18 +40,6 @@ count_taken o parts i part h at =
     let front = map entry_of (take i parts) in
     ap (turn_count o) (sym (map_more entry_of parts i part (entry_of part) front (front ++ entry_of part ∷ []) refl refl refl h at)) ∙ count_end o front (entry_of part)
 
-set_here : (xs : List ℕ) (k v : ℕ) → k < length xs → slice_get (slice_set xs k v) k ≡ Some v
-set_here [] k v h = absurd (omega arith)
-set_here (x ∷ xs) zero v h = refl
-set_here (x ∷ xs) (suc k) v h = set_here xs k v (omega arith)
-
-set_there : (xs : List ℕ) (k i v : ℕ) → i ≢ k → slice_get (slice_set xs k v) i ≡ slice_get xs i
-set_there [] k i v h = refl
-set_there (x ∷ xs) zero zero v h = absurd (h refl)
-set_there (x ∷ xs) zero (suc i) v h = refl
-set_there (x ∷ xs) (suc k) zero v h = refl
-set_there (x ∷ xs) (suc k) (suc i) v h = set_there xs k i v (λ e. h (ap suc e))
-
 -- ---- an entry's Turn
 
 zero_apart : (i : ℕ) → nat_eq 0 (suc i) ≡ false
@@ -73,40 +61,6 @@ pub turn_placed : (most : ℕ) (e : Part) (object : ℕ) → e.kind ≡ kind.Tur
 turn_placed most e object is placed =
     let both : (1 ≤ object) × (object ≤ most) = subst (λ (k : PartKind). IsPlaced most (kind_of k)) is placed in
     both.1
-
--- ---- one entry counted
-
-counted_same : (m : Option ℕ) (b : Bool) → b ≡ false → m ≡ option_map (λ (n : ℕ). if b then suc n else n) m
-counted_same None b e = refl
-counted_same (Some n) true e = absurd cc
-counted_same (Some n) false e = refl
-
-pub one_none : (xs : List ℕ) (e : Part) (object : ℕ) → IsTurnOnlyOf object e → object ≡ 0 → CountsOne xs e xs
-one_none xs e object own none i =
-    counted_same (slice_get xs i) (is_turn_of (suc i) (entry_of e)) (own i ∙ ap (λ (o : ℕ). nat_eq o (suc i)) none ∙ zero_apart i)
-
-pub some_at : (xs : List ℕ) (k : ℕ) → k < length xs → slice_get xs k ≡ Some (get_or xs k 0)
-some_at [] k h = absurd (omega arith)
-some_at (x ∷ xs) zero h = refl
-some_at (x ∷ xs) (suc k) h = some_at xs k (omega arith)
-
-pub one_turn : (xs new : List ℕ) (e : Part) (object k : ℕ) → IsTurnOnlyOf object e → object ≡ suc k → k < length xs → new ≡ slice_set xs k (get_or xs k 0 + 1) → CountsOne xs e new
-one_turn xs new e object k own number inside now i = by_test (nat_eq object (suc i)) refl
-  where
-    by_test : (b : Bool) → nat_eq object (suc i) ≡ b → slice_get new i ≡ option_map (λ (n : ℕ). if is_turn_of (suc i) (entry_of e) then suc n else n) (slice_get xs i)
-    by_test true is =
-        let same : k ≡ i = grind (arith, nat_tests, number, is) in
-        ap (λ (l : List ℕ). slice_get l i) now ∙ ap (λ (j : ℕ). slice_get (slice_set xs k (get_or xs k 0 + 1)) j) (sym same) ∙ set_here xs k (get_or xs k 0 + 1) inside
-        ∙ ap Some (add-one (get_or xs k 0)) ∙ ap (λ (b : Bool). Some (if b then suc (get_or xs k 0) else get_or xs k 0)) (sym (own i ∙ is))
-        ∙ ap (option_map (λ (n : ℕ). if is_turn_of (suc i) (entry_of e) then suc n else n)) (sym (some_at xs k inside) ∙ ap (slice_get xs) same)
-    by_test false is =
-        let other : i ≢ k = grind (arith, nat_tests, number, is) in
-        ap (λ (l : List ℕ). slice_get l i) now ∙ set_there xs k i (get_or xs k 0 + 1) other ∙ counted_same (slice_get xs i) (is_turn_of (suc i) (entry_of e)) (own i ∙ is)
-
-pub set_length : (xs : List ℕ) (k v : ℕ) → length (slice_set xs k v) ≡ length xs
-set_length [] k v = refl
-set_length (x ∷ xs) zero v = refl
-set_length (x ∷ xs) (suc k) v = ap suc (set_length xs k v)
 
 -- ---- all entries so far
 
@@ -148,6 +102,11 @@ counts_room counts parts i objects most are long below k n at =
 
 -- ---- objects by their numbers
 
+some_at : (xs : List ℕ) (k : ℕ) → k < length xs → slice_get xs k ≡ Some (get_or xs k 0)
+some_at [] k h = absurd (omega arith)
+some_at (x ∷ xs) zero h = refl
+some_at (x ∷ xs) (suc k) h = some_at xs k (omega arith)
+
 pub object_inside : (objects : List Object) (i : ℕ) (o : Object) → slice_get objects i ≡ Some o → i < length objects
 object_inside [] i o at = absurd cc
 object_inside (x ∷ objects) zero o at = omega arith
@@ -179,30 +138,6 @@ pub settled_is : (s : Parts) (objects : List Object) (entries : List Part) (b : 
     → IsTrue b ↔ HasTurns s
 settled_is s objects entries b listed waiting is =
     subst (λ (l : List Part). IsTrue b ↔ AreSettled (map entry_of l) s.objects) waiting (subst (λ (l : List Object). IsTrue b ↔ AreSettled (map entry_of entries) l) listed is)
-
--- ---- no Turns at first
-
-pub zeros_more : (xs new : List ℕ) → AllByRecursion (λ (n : ℕ). n ≡ 0) xs → new ≡ xs ++ 0 ∷ [] → AllByRecursion (λ (n : ℕ). n ≡ 0) new
-zeros_more xs new all is = subst (AllByRecursion (λ (n : ℕ). n ≡ 0)) (sym is) (zeros_end xs all)
-  where
-    zeros_end : (ys : List ℕ) → AllByRecursion (λ (n : ℕ). n ≡ 0) ys → AllByRecursion (λ (n : ℕ). n ≡ 0) (ys ++ 0 ∷ [])
-    zeros_end [] every = (refl, tt)
-    zeros_end (y ∷ ys) every = (every.0, zeros_end ys every.1)
-
-pub one_longer : (xs new : List ℕ) (k n : ℕ) → length xs ≡ n → new ≡ xs ++ k ∷ [] → length new ≡ n + 1
-one_longer xs new k n long is = ap length is ∙ end_longer xs ∙ ap (λ m. m + 1) long
-  where
-    end_longer : (ys : List ℕ) → length (ys ++ k ∷ []) ≡ length ys + 1
-    end_longer [] = omega arith
-    end_longer (y ∷ ys) = let rest = end_longer ys in omega arith
-
-pub zeros_count : (counts : List ℕ) (objects : ℕ) → AllByRecursion (λ (n : ℕ). n ≡ 0) counts → length counts ≡ objects → CountsTurns counts [] objects
-zeros_count counts objects all long i h = zero_at counts i all (omega (arith, h, long))
-  where
-    zero_at : (xs : List ℕ) (k : ℕ) → AllByRecursion (λ (n : ℕ). n ≡ 0) xs → k < length xs → slice_get xs k ≡ Some 0
-    zero_at [] k every l = absurd (omega arith)
-    zero_at (x ∷ xs) zero every l = ap Some every.0
-    zero_at (x ∷ xs) (suc k) every l = zero_at xs k every.1 (omega arith)
 
 -- ---- objects that are not there
 
