@@ -48,6 +48,13 @@ impl Ready {
         }
     }
 
+    /// The checked code.
+    pub fn checked(&self) -> &Checked
+        ensures checked { result.now ≡ self.now }
+    {
+        &self.checked
+    }
+
     /// What is known of the code.
     pub fn sound(&self)
         ensures code { IsCode self.now.code }

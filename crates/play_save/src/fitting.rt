@@ -20,7 +20,7 @@ fn is_fitting(alloc: Global, scripts: &Scripts, part: &Captured) -> Result<bool,
         None => Ok(false),
         Some(script) => {
             let saved = saved(alloc, part)?;
-            Ok(script.code.fits(&saved))
+            Ok(script.code.checked().fits(&saved))
         }
     }
 }

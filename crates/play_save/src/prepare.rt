@@ -104,13 +104,6 @@ fn check_code(alloc: Global, table: &Table, bytes: &Items<u8>) -> Result<Checked
     }
 }
 
-/// Checked code under a name.
-fn loaded(name: Text, code: Checked) -> Loaded
-    ensures { result ≡ record { name = name; code = code } }
-{
-    Loaded { name, code }
-}
-
 /// A script of a state, checked under a header.
 fn script(alloc: Global, table: &Table, part: &Script) -> Result<Loaded, StateFault>
     ensures script { IfOk result (IsScriptOf table.now part.now) }
@@ -118,7 +111,7 @@ fn script(alloc: Global, table: &Table, part: &Script) -> Result<Loaded, StateFa
 {
     let name = Text::of(alloc, part.name.as_slice())?;
     match check_code(alloc, table, &part.code) {
-        Ok(code) => Ok(loaded(name, code)),
+        Ok(code) => Ok(Loaded::of(alloc, name, code)?),
         Err(fault) => {
             drop(name);
             Err(fault)
