@@ -1,0 +1,10 @@
+pub mod Lists
+pub mod Headers
+pub mod Scripts
+pub mod Agendas
+pub mod Testing
+pub mod CapturedLemmas
+pub mod Turning
+pub mod Given
+pub mod Opening
+pub mod Accepting
