@@ -17,8 +17,9 @@ fn list_named(alloc: Global, name: Text, code: Checked) -> Result<Scripts, NoMem
     ensures listed { IfOk result
         (λ scripts. scripts ≡ record { name = name; code = code } ∷ []) }
 {
+    let loaded = Loaded::of(alloc, name, code)?;
     let mut scripts = Items::new(alloc);
-    scripts.push(Loaded { name, code })?;
+    scripts.push(loaded)?;
     Ok(scripts)
 }
 

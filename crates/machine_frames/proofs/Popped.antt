@@ -1,6 +1,11 @@
 -- Values on top of cells.
-use Rattle.std.proofs.Common.{arith, ◌≡◌, ◌≢◌, ◌≤◌, ◌+◌, ℕ, suc, List, [], ◌∷◌, length, drop, Option, Some, None, sym, ap, ◌∙◌, refl}
-use Rattle.std.specs.Prelude.{ℤ, slice_get, slice_set}
+use Rattle.std.proofs.Common.{arith, ◌≡◌, ◌≢◌, ◌<◌, ◌≤◌, ◌+◌, ◌++◌, ℕ, suc, List, [], ◌∷◌, length, take, drop, replicate, Option, Some, None, Bool, true, inl, inr, sym, ap, ◌∙◌, refl}
+use Rattle.std.specs.Prelude.{ℤ, slice_get, slice_set, nat_lt, if◌then◌else◌}
+use Rattle.std.proofs.lemmas.Bool.{cases_lt}
+use Rattle.std.proofs.lemmas.Bool.Decides.{nat_tests}
+use Rattle.std.proofs.lemmas.List.{append-nil, take_all, take_at}
+use Rattle.nwq_value.specs.Limits.{text_limit}
+use Rattle.decoded_code.specs.Steps.{whole}
 use Rattle.nwq_value.specs.declared.value.Value.TheVariants.{Int, Text, Object, Effect, Event}
 use Rattle.nwq_value.specs.Operators.{is_zero}
 use Rattle.saved_state.specs.declared.cell.Cell.{Cell}
@@ -138,3 +143,16 @@ texts_is f cells a b h i =
     ∙ ap (λ (below : List Cell). Some (Holds (Text (f a b)) ∷ below)) (drop_two cells)
 
 pub ruleset text_lemmas = (first_text, second_text, texts_lie, texts_is)
+
+-- ---- a constant string
+
+-- the text of a string, whatever is left out behind it
+pub text_pushed : (text : List ℕ) (left_out : ℕ) → length text ≤ text_limit → take text_limit (whole text left_out) ≡ text
+text_pushed text left_out less = elim (cases_lt (length text) text_limit) [
+  | inl short ↦
+      let test : nat_lt (length text) text_limit ≡ true = grind (arith, nat_tests) in
+      ap (λ (t : Bool). take text_limit (text ++ replicate (if t then 0 else left_out) 0)) test
+      ∙ ap (take text_limit) (append-nil text)
+      ∙ take_all text_limit text less
+  | inr full ↦ take_at text (replicate (if nat_lt (length text) text_limit then 0 else left_out) 0) text_limit (omega (arith, less, full))
+]

@@ -1,11 +1,11 @@
 //! Instructions that change nothing but the cells.
 ghost use Rattle.std.specs.Prelude.{◌≡◌, ◌≢◌, ◌&&◌, ◌+◌, ◌≤◌, false, None, Some, OnOk, slice_get};
-ghost use Rattle.ncs_code.specs.Plain.{plain};
 ghost use Rattle.ncs_code.specs.Spelling.{op_size};
 ghost use Rattle.ncs_code.specs.File.{jump_place};
 ghost use Rattle.nwq_value.specs.Limits.{file_limit};
 ghost use Rattle.machine_rules.specs.Act.{cells_after, is_division, place_after};
 ghost use Rattle.machine_rules.specs.Cells.{zero_on_top};
+ghost use Rattle.decoded_code.specs.Steps.{op_of};
 ghost use Rattle.machine_frames.specs.Operations.{operation_of};
 
 use crate::operation::{Binary, Unary};
@@ -14,19 +14,20 @@ use crate::ranges::{
 };
 use crate::top::cell;
 use crate::values::{
-    add, drop_int, kind_ints, negate, one_int, push_literal, push_start, two_ints,
+    add, drop_int, kind_ints, negate, one_int, push_object, push_start, push_text,
 };
-use ncs_code::Op;
+use decoded_code::Step;
 use nwq_value::{NoMemory, Value};
 use saved_state::{Cell, Stack};
 use stack_shape::{depth_of, range_at};
 use std::alloc::Global;
 
 /// Whether the top cell is a divisor.
-pub fn is_division(op: &Op<'_>) -> bool
-    ensures test { result ≡ is_division (plain op.now) }
+#[inline(always)]
+pub fn is_division(step: &Step) -> bool
+    ensures test { result ≡ is_division (op_of step.now) }
 {
-    matches!(op, Op::Div { .. } | Op::Mod)
+    matches!(step, Step::Div { .. } | Step::Mod)
 }
 
 /// Whether an int that is 0 is on top.
@@ -60,21 +61,22 @@ pub fn jump(at: u32, offset: i32) -> u32
 }
 
 /// The place that follows an instruction of this size.
-pub fn place_after(op: &Op<'_>, at: u32, size: u32, stack: &Stack) -> u32
+#[inline(always)]
+pub fn place_after(step: &Step, at: u32, size: u32, stack: &Stack) -> u32
     requires small { at + size ≤ file_limit }
-    requires size { size ≡ op_size (plain op.now) }
-    ensures place { result ≡ place_after (plain op.now) at stack.now.cells }
+    requires size { size ≡ op_size (op_of step.now) }
+    ensures place { result ≡ place_after (op_of step.now) at stack.now.cells }
 {
-    match op {
-        Op::Jmp { offset } => jump(at, *offset),
-        Op::Jz { offset } => {
+    match step {
+        Step::Jmp { offset } => jump(at, *offset),
+        Step::Jz { offset } => {
             if zero_on_top(stack) {
                 jump(at, *offset)
             } else {
                 at + size
             }
         }
-        Op::Jnz { offset } => {
+        Step::Jnz { offset } => {
             if zero_on_top(stack) {
                 at + size
             } else {
@@ -86,100 +88,103 @@ pub fn place_after(op: &Op<'_>, at: u32, size: u32, stack: &Stack) -> u32
 }
 
 /// The operation of an instruction that is for two ints alone, behind its type byte.
-fn operation(op: &Op<'_>) -> Option<(u8, Binary)>
-    ensures operation { result ≡ operation_of (plain op.now) }
+#[inline(always)]
+fn operation(step: &Step) -> Option<(u8, Binary)>
+    ensures operation { result ≡ operation_of (op_of step.now) }
 {
-    match op {
-        Op::LogAnd => Some((0x20, Binary::LogAnd)),
-        Op::LogOr => Some((0x20, Binary::LogOr)),
-        Op::IncOr => Some((0x20, Binary::IncOr)),
-        Op::ExcOr => Some((0x20, Binary::ExcOr)),
-        Op::BoolAnd => Some((0x20, Binary::BoolAnd)),
-        Op::Geq { kind } => Some((*kind, Binary::Geq)),
-        Op::Gt { kind } => Some((*kind, Binary::Gt)),
-        Op::Lt { kind } => Some((*kind, Binary::Lt)),
-        Op::Leq { kind } => Some((*kind, Binary::Leq)),
-        Op::ShLeft => Some((0x20, Binary::ShLeft)),
-        Op::ShRight => Some((0x20, Binary::ShRight)),
-        Op::UshRight => Some((0x20, Binary::UshRight)),
-        Op::Sub { kind } => Some((*kind, Binary::Sub)),
-        Op::Mul { kind } => Some((*kind, Binary::Mul)),
-        Op::Div { kind } => Some((*kind, Binary::Div)),
-        Op::Mod => Some((0x20, Binary::Mod)),
+    match step {
+        Step::LogAnd => Some((0x20, Binary::LogAnd)),
+        Step::LogOr => Some((0x20, Binary::LogOr)),
+        Step::IncOr => Some((0x20, Binary::IncOr)),
+        Step::ExcOr => Some((0x20, Binary::ExcOr)),
+        Step::BoolAnd => Some((0x20, Binary::BoolAnd)),
+        Step::Geq { kind } => Some((*kind, Binary::Geq)),
+        Step::Gt { kind } => Some((*kind, Binary::Gt)),
+        Step::Lt { kind } => Some((*kind, Binary::Lt)),
+        Step::Leq { kind } => Some((*kind, Binary::Leq)),
+        Step::ShLeft => Some((0x20, Binary::ShLeft)),
+        Step::ShRight => Some((0x20, Binary::ShRight)),
+        Step::UshRight => Some((0x20, Binary::UshRight)),
+        Step::Sub { kind } => Some((*kind, Binary::Sub)),
+        Step::Mul { kind } => Some((*kind, Binary::Mul)),
+        Step::Div { kind } => Some((*kind, Binary::Div)),
+        Step::Mod => Some((0x20, Binary::Mod)),
         _ => None,
     }
 }
 
 /// The cells after an instruction, in a script that runs with the object `own` as self.
 #[tactic(auto, using(crate::proofs::OperationLemmas::operation_lemmas))]
-pub fn change(alloc: Global, stack: &mut Stack, op: &Op<'_>, own: u32) -> Result<(), NoMemory>
-    requires case { cells_after (plain op.now) own stack.old ≢ None }
-    requires divisor { (is_division (plain op.now) && zero_on_top stack.old.cells) ≡ false }
-    ensures cells { OnOk result (cells_after (plain op.now) own stack.old ≡ Some stack.new.cells) }
+pub fn change(alloc: Global, stack: &mut Stack, step: &Step, own: u32) -> Result<(), NoMemory>
+    requires case { cells_after (op_of step.now) own stack.old ≢ None }
+    requires divisor { (is_division (op_of step.now) && zero_on_top stack.old.cells) ≡ false }
+    ensures cells { OnOk result (cells_after (op_of step.now) own stack.old ≡ Some stack.new.cells) }
     ensures bp { OnOk result (stack.new.bp ≡ stack.old.bp) }
 {
-    match operation(op) {
+    match operation(step) {
         Some((kind, operation)) => kind_ints(stack, kind, operation),
-        None => change_otherwise(alloc, stack, op, own),
+        None => change_otherwise(alloc, stack, step, own),
     }
 }
 
 /// The same of an instruction that isn't for two ints alone.
 #[tactic(auto, using(crate::proofs::RangeLemmas::reach_lemmas), unfolding(machine_rules::specs::Act::cells_after))]
-fn change_otherwise(alloc: Global, stack: &mut Stack, op: &Op<'_>, own: u32) -> Result<(), NoMemory>
-    requires case { cells_after (plain op.now) own stack.old ≢ None }
-    requires other { operation_of (plain op.now) ≡ None }
-    ensures cells { OnOk result (cells_after (plain op.now) own stack.old ≡ Some stack.new.cells) }
+fn change_otherwise(alloc: Global, stack: &mut Stack, step: &Step, own: u32) -> Result<(), NoMemory>
+    requires case { cells_after (op_of step.now) own stack.old ≢ None }
+    requires other { operation_of (op_of step.now) ≡ None }
+    ensures cells { OnOk result (cells_after (op_of step.now) own stack.old ≡ Some stack.new.cells) }
     ensures bp { OnOk result (stack.new.bp ≡ stack.old.bp) }
 {
-    match op {
-        Op::CpDownSp { offset, size } => write_range(alloc, stack, range_at(*offset, *size)),
-        Op::RsAdd { kind } => push_start(alloc, stack, *kind),
-        Op::CpTopSp { offset, size } => push_range(alloc, stack, range_at(*offset, *size)),
-        Op::Const(lit) => push_literal(alloc, stack, own, lit),
-        Op::Equal { kind, size } => compare(stack, *kind, *size, false),
-        Op::Nequal { kind, size } => compare(stack, *kind, *size, true),
-        Op::Add { kind } => add(alloc, stack, *kind),
-        Op::Neg { kind } => negate(stack, *kind),
-        Op::Comp => one_int(stack, Unary::Comp),
-        Op::MovSp { offset } => {
+    match step {
+        Step::CpDownSp { offset, size } => write_range(alloc, stack, range_at(*offset, *size)),
+        Step::RsAdd { kind } => push_start(alloc, stack, *kind),
+        Step::CpTopSp { offset, size } => push_range(alloc, stack, range_at(*offset, *size)),
+        Step::ConstInt(n) => stack.push(Cell::Value(Value::Int(*n))),
+        Step::ConstText { left_out, text } => push_text(alloc, stack, *left_out, text),
+        Step::ConstObject(n) => push_object(stack, own, *n),
+        Step::Equal { kind, size } => compare(stack, *kind, *size, false),
+        Step::Nequal { kind, size } => compare(stack, *kind, *size, true),
+        Step::Add { kind } => add(alloc, stack, *kind),
+        Step::Neg { kind } => negate(stack, *kind),
+        Step::Comp => one_int(stack, Unary::Comp),
+        Step::MovSp { offset } => {
             drop_values(stack, depth_of(*offset));
             Ok(())
         }
-        Op::Jmp { .. } => Ok(()),
-        Op::Jz { .. } => {
+        Step::Jmp { .. } => Ok(()),
+        Step::Jz { .. } => {
             drop_int(stack);
             Ok(())
         }
-        Op::Destruct {
+        Step::Destruct {
             total,
             offset,
             size,
         } => keep_range(alloc, stack, *total, *offset, *size),
-        Op::Not => one_int(stack, Unary::Not),
-        Op::DecISp { offset } => change_int(stack, range_at(*offset, 4), Unary::Dec),
-        Op::IncISp { offset } => change_int(stack, range_at(*offset, 4), Unary::Inc),
-        Op::Jnz { .. } => {
+        Step::Not => one_int(stack, Unary::Not),
+        Step::DecISp { offset } => change_int(stack, range_at(*offset, 4), Unary::Dec),
+        Step::IncISp { offset } => change_int(stack, range_at(*offset, 4), Unary::Inc),
+        Step::Jnz { .. } => {
             drop_int(stack);
             Ok(())
         }
-        Op::CpDownBp { offset, size } => {
+        Step::CpDownBp { offset, size } => {
             let range = bp_range(stack, *offset, *size);
             write_range(alloc, stack, range)
         }
-        Op::CpTopBp { offset, size } => {
+        Step::CpTopBp { offset, size } => {
             let range = bp_range(stack, *offset, *size);
             push_range(alloc, stack, range)
         }
-        Op::DecIBp { offset } => {
+        Step::DecIBp { offset } => {
             let range = bp_range(stack, *offset, 4);
             change_int(stack, range, Unary::Dec)
         }
-        Op::IncIBp { offset } => {
+        Step::IncIBp { offset } => {
             let range = bp_range(stack, *offset, 4);
             change_int(stack, range, Unary::Inc)
         }
-        Op::Nop => Ok(()),
+        Step::Nop => Ok(()),
         _ => unreachable!(),
     }
 }

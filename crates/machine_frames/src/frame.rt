@@ -2,7 +2,7 @@
 ghost use Rattle.std.specs.Prelude.{◌≡◌, ◌≢◌, ◌+◌, ◌≤◌, ◌<◌, ◌^◌, None, Some, IfOk, OnOk, length};
 ghost use Rattle.std.specs.Prelude.{if◌then◌else◌};
 ghost use Rattle.nwq_value.specs.Limits.{file_limit};
-ghost use Rattle.ncs_code.specs.Plain.{plain, Jsr, SaveBp, RestoreBp, StoreState};
+ghost use Rattle.ncs_code.specs.Plain.{Jsr, SaveBp, RestoreBp, StoreState};
 ghost use Rattle.ncs_code.specs.Spelling.{op_size};
 ghost use Rattle.machine_rules.specs.Frames.{started, continued};
 ghost use Rattle.machine_rules.specs.Machine.{with_answer};
@@ -10,12 +10,13 @@ ghost use Rattle.machine_rules.specs.Act.{Moves, Divides, Returns, based, called
 ghost use Rattle.machine_rules.specs.Act.{returned, stored, stored_cells};
 ghost use Rattle.std.specs.Prelude.{◌∷◌};
 ghost use Rattle.std.specs.Option.{option_map};
+ghost use Rattle.decoded_code.specs.Steps.{op_of};
 ghost use Rattle.machine_frames.specs.Tops.{bp_on_top};
 ghost use Rattle.machine_rules.specs.Frames.{Frame as FrameView};
 
 use crate::change::{change, is_division, jump, place_after, zero_on_top};
 use crate::top::cell;
-use ncs_code::Op;
+use decoded_code::Step;
 use nwq_value::{NoMemory, Value};
 use saved_state::{Cell, Saved, Stack, resume};
 use stack_shape::cell_count;
@@ -120,18 +121,18 @@ impl Frame {
     /// An instruction of this size that changes nothing but the cells and the place. `false` says
     /// that its divisor is 0.
     #[tactic(auto, using(crate::proofs::FrameLemmas::moved_lemmas))]
-    pub fn moves(&mut self, alloc: Global, op: &Op<'_>, size: u32) -> Result<bool, NoMemory>
-        requires case { moved (plain op.now) self.old ≢ None }
-        requires size { size ≡ op_size (plain op.now) }
+    pub fn moves(&mut self, alloc: Global, step: &Step, size: u32) -> Result<bool, NoMemory>
+        requires case { moved (op_of step.now) self.old ≢ None }
+        requires size { size ≡ op_size (op_of step.now) }
         requires small { self.old.place + size ≤ file_limit }
-        ensures act { IfOk result (λ goes. moved (plain op.now) self.old
+        ensures act { IfOk result (λ goes. moved (op_of step.now) self.old
             ≡ Some (if goes then Moves self.new else Divides)) }
     {
-        if is_division(op) && zero_on_top(&self.stack) {
+        if is_division(step) && zero_on_top(&self.stack) {
             return Ok(false);
         }
-        let place = place_after(op, self.place, size, &self.stack);
-        change(alloc, &mut self.stack, op, self.own)?;
+        let place = place_after(step, self.place, size, &self.stack);
+        change(alloc, &mut self.stack, step, self.own)?;
         self.place = place;
         Ok(true)
     }

@@ -20,6 +20,7 @@ use stack_shape::{CellRange, cell_count, range_at};
 use std::alloc::Global;
 
 /// The values of a range are pushed.
+#[inline(always)]
 #[tactic(auto, using(crate::proofs::RangeLemmas::pushed_lemmas))]
 pub fn push_range(
     alloc: Global,
@@ -37,6 +38,7 @@ pub fn push_range(
 }
 
 /// The top values are written onto the cells of a range.
+#[inline(always)]
 #[tactic(auto, using(crate::proofs::RangeLemmas::written_lemmas))]
 pub fn write_range(
     alloc: Global,
@@ -54,6 +56,7 @@ pub fn write_range(
 }
 
 /// The int so far down changes where it stands.
+#[inline(always)]
 #[tactic(auto, using(crate::proofs::RangeLemmas::at_lemmas))]
 fn change_at(stack: &mut Stack, depth: usize, op: Unary) -> Result<(), NoMemory>
     requires case { int_at (unary_of op) depth stack.old.cells ≢ None }
@@ -67,6 +70,7 @@ fn change_at(stack: &mut Stack, depth: usize, op: Unary) -> Result<(), NoMemory>
 }
 
 /// The int at a range changes.
+#[inline(always)]
 #[tactic(auto, using(crate::proofs::RangeLemmas::changed_lemmas))]
 pub fn change_int(stack: &mut Stack, range: Option<CellRange>, op: Unary) -> Result<(), NoMemory>
     requires case { int_changed (unary_of op) range stack.old.cells ≢ None }
@@ -81,6 +85,7 @@ pub fn change_int(stack: &mut Stack, range: Option<CellRange>, op: Unary) -> Res
 }
 
 /// The cells at an offset from BP, as those so far down from the top.
+#[inline(always)]
 #[tactic(auto, using(crate::proofs::RangeLemmas::bp_lemmas))]
 pub fn bp_range(stack: &Stack, offset: i32, size: u16) -> Option<CellRange>
     requires inside { reached (bp_range stack.now offset size) stack.now.cells ≢ None }
@@ -99,6 +104,7 @@ pub fn bp_range(stack: &Stack, offset: i32, size: u16) -> Option<CellRange>
 }
 
 /// So many values are popped.
+#[inline(always)]
 #[tactic(auto, using(crate::proofs::RangeLemmas::dropped_lemmas))]
 pub fn drop_values(stack: &mut Stack, count: Option<usize>)
     requires case { values_dropped count stack.old.cells ≢ None }

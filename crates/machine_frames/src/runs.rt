@@ -1,5 +1,5 @@
 //! Instructions that read and write runs of values.
-ghost use Rattle.std.specs.Prelude.{◌≡◌, ◌≢◌, ◌≤◌, ◌<◌, ◌+◌, ◌^◌, Some, OnOk, IfSome, drop, length};
+ghost use Rattle.std.specs.Prelude.{◌≡◌, ◌≢◌, ◌≤◌, ◌<◌, ◌+◌, ◌^◌, Some, OnOk, IfOk, IfSome, drop, length};
 ghost use Rattle.nwq_value.specs.Operators.{values_eq};
 ghost use Rattle.machine_rules.specs.Cells.{int_changed, overwritten, range_kept, range_pushed};
 ghost use Rattle.machine_rules.specs.Cells.{range_written, runs_compared, pair_compared};
@@ -8,9 +8,20 @@ ghost use Rattle.machine_frames.specs.Operations.{unary_of};
 ghost use Rattle.machine_frames.specs.Tops.{AreValues, answer_of};
 
 use crate::top::{put, value};
-use nwq_value::NoMemory;
+use nwq_value::{NoMemory, Value};
 use saved_state::{Cell, Stack};
 use std::alloc::Global;
+
+/// An equal value. Most are ints, which are copied here.
+#[inline(always)]
+fn copied(alloc: Global, value: &Value) -> Result<Value, NoMemory>
+    ensures ok { IfOk result (λ copy. copy ≡ value.now) }
+{
+    match value {
+        Value::Int(n) => Ok(Value::Int(*n)),
+        _ => value.copy(alloc),
+    }
+}
 
 /// Writes the `count` values that begin `from` cells down onto those that begin `onto` cells down,
 /// the lowest first, so that each is read before it is written.
@@ -32,7 +43,7 @@ pub fn copy_down(
     let mut left = count;
     while left > 0 {
         left -= 1;
-        let copy = value(stack, from + left).copy(alloc)?;
+        let copy = copied(alloc, value(stack, from + left))?;
         put(stack, onto + left, copy)?;
     }
     Ok(())
@@ -54,7 +65,7 @@ pub fn push_copies(
     let mut left = count;
     while left > 0 {
         left -= 1;
-        let copy = value(stack, above + (count - 1)).copy(alloc)?;
+        let copy = copied(alloc, value(stack, above + (count - 1)))?;
         stack.push(Cell::Value(copy))?;
     }
     Ok(())

@@ -9,6 +9,7 @@ use nwq_value::{NoMemory, Text, Value};
 use saved_state::{Cell, Stack};
 
 /// The cell that lies so many others down.
+#[inline(always)]
 #[tactic(auto, using(crate::proofs::Depths::cell_down))]
 pub fn cell(stack: &Stack, depth: usize) -> &Cell
     requires inside { depth < length stack.now.cells }
@@ -19,6 +20,7 @@ pub fn cell(stack: &Stack, depth: usize) -> &Cell
 }
 
 /// The value there.
+#[inline(always)]
 #[tactic(auto, using(crate::proofs::Depths::value_lies, crate::proofs::Depths::value_held))]
 pub fn value(stack: &Stack, depth: usize) -> &Value
     requires value { HasValue depth stack.now.cells }
@@ -31,6 +33,7 @@ pub fn value(stack: &Stack, depth: usize) -> &Value
 }
 
 /// The int there.
+#[inline(always)]
 #[tactic(auto, using(crate::proofs::Depths::int_is_value, crate::proofs::Depths::int_held))]
 pub fn int(stack: &Stack, depth: usize) -> i32
     requires int { HasInt depth stack.now.cells }
@@ -61,6 +64,7 @@ pub fn text(stack: &Stack, depth: usize) -> &Text
 }
 
 /// Puts a value in the place of the one there.
+#[inline(always)]
 #[tactic(auto, using(crate::proofs::Depths::value_lies, crate::proofs::Depths::put_down, crate::proofs::Depths::no_base))]
 pub fn put(stack: &mut Stack, depth: usize, value: Value) -> Result<(), NoMemory>
     requires value { HasValue depth stack.old.cells }

@@ -1,7 +1,8 @@
 //! Instructions that pop and push values.
 ghost use Rattle.std.specs.Prelude.{◌≡◌, ◌≢◌, ◌&&◌, false, None, Some, OnOk};
 ghost use Rattle.nwq_value.specs.Operators.{opposite, joined_texts};
-ghost use Rattle.ncs_code.specs.Plain.{plain_lit};
+ghost use Rattle.ncs_code.specs.Plain.{Object as ObjectLit, Text as TextLit};
+ghost use Rattle.decoded_code.specs.Steps.{whole};
 ghost use Rattle.machine_rules.specs.Act.{added, if_ints, int_dropped};
 ghost use Rattle.machine_rules.specs.Cells.{of_int, of_ints, of_texts, value_pushed, zero_on_top};
 ghost use Rattle.machine_rules.specs.Values.{literal_value, starting_value};
@@ -10,13 +11,13 @@ ghost use Rattle.machine_frames.specs.Tops.{negated};
 
 use crate::operation::{Binary, Unary, of_one, of_two};
 use crate::top::{int, put, text};
-use ncs_code::Lit;
 use nwq_value::{NoMemory, Text, Value, start_of};
 use saved_state::{Cell, Stack};
 use stack_shape::type_of_one;
 use std::alloc::Global;
 
 /// An operation of the two ints on top.
+#[inline(always)]
 #[tactic(auto, using(crate::proofs::Popped::two_lemmas))]
 pub fn two_ints(stack: &mut Stack, op: Binary) -> Result<(), NoMemory>
     requires case { of_ints (binary_of op) stack.old.cells ≢ None }
@@ -31,6 +32,7 @@ pub fn two_ints(stack: &mut Stack, op: Binary) -> Result<(), NoMemory>
 }
 
 /// The same of an instruction whose type byte says that it is of ints.
+#[inline(always)]
 pub fn kind_ints(stack: &mut Stack, kind: u8, op: Binary) -> Result<(), NoMemory>
     requires case { if_ints kind (of_ints (binary_of op) stack.old.cells) ≢ None }
     requires divisor { (divides op && zero_on_top stack.old.cells) ≡ false }
@@ -46,6 +48,7 @@ pub fn kind_ints(stack: &mut Stack, kind: u8, op: Binary) -> Result<(), NoMemory
 }
 
 /// An operation of the int on top.
+#[inline(always)]
 #[tactic(auto, using(crate::proofs::Popped::one_lemmas))]
 pub fn one_int(stack: &mut Stack, op: Unary) -> Result<(), NoMemory>
     requires case { of_int (unary_of op) stack.old.cells ≢ None }
@@ -97,6 +100,7 @@ pub fn add(alloc: Global, stack: &mut Stack, kind: u8) -> Result<(), NoMemory>
 }
 
 /// Pops an int.
+#[inline(always)]
 #[tactic(auto, using(crate::proofs::Popped::drop_lemmas))]
 pub fn drop_int(stack: &mut Stack)
     requires case { int_dropped stack.old.cells ≢ None }
@@ -119,27 +123,30 @@ pub fn push_start(alloc: Global, stack: &mut Stack, kind: u8) -> Result<(), NoMe
     }
 }
 
-/// CONST, in a script that runs with the object `own` as self.
-pub fn push_literal(
+/// CONST of a string, of which so many bytes are left out behind the text.
+#[tactic(auto, using(crate::proofs::Popped::text_pushed))]
+pub fn push_text(
     alloc: Global,
     stack: &mut Stack,
-    own: u32,
-    lit: &Lit<'_>,
+    left_out: u32,
+    text: &Text,
 ) -> Result<(), NoMemory>
-    requires case { value_pushed (literal_value own (plain_lit lit.now)) stack.old.cells ≢ None }
     ensures cells { OnOk result
-        (value_pushed (literal_value own (plain_lit lit.now)) stack.old.cells
+        (value_pushed (literal_value 0 (TextLit (whole text.now left_out))) stack.old.cells
         ≡ Some stack.new.cells) }
     ensures bp { OnOk result (stack.new.bp ≡ stack.old.bp) }
 {
-    match lit {
-        Lit::Int(n) => stack.push(Cell::Value(Value::Int(*n))),
-        Lit::Float(_) => unreachable!(),
-        Lit::Text(bytes) => {
-            let text = Text::of(alloc, bytes)?;
-            stack.push(Cell::Value(Value::Text(text)))
-        }
-        Lit::Object(0) => stack.push(Cell::Value(Value::Object(own))),
-        Lit::Object(_) => stack.push(Cell::Value(Value::Object(0))),
-    }
+    let _bytes = text.bytes();
+    stack.push(Cell::Value(Value::Text(text.copy(alloc)?)))
+}
+
+/// CONST of an object, in a script that runs with the object `own` as self.
+pub fn push_object(stack: &mut Stack, own: u32, object: u32) -> Result<(), NoMemory>
+    ensures cells { OnOk result
+        (value_pushed (literal_value own (ObjectLit object)) stack.old.cells
+        ≡ Some stack.new.cells) }
+    ensures bp { OnOk result (stack.new.bp ≡ stack.old.bp) }
+{
+    let pushed = if object == 0 { own } else { 0 };
+    stack.push(Cell::Value(Value::Object(pushed)))
 }

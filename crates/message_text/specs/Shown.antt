@@ -29,7 +29,7 @@ points cut = if cut then codes "..." else []
 abbrev pub points_blank : Bool → List ℕ
 points_blank cut = if cut then codes "   " else []
 
--- the part of its line that is shown of a place: it has the place, and all of the line on each side where nothing says that it was cut
+-- the part of its line that is shown of a place: it has the place, and it is told whether something of the line is left out before it
 pub record IsWindow (bytes : List ℕ) (at : ℕ) (w : Window) : Type 0 where
   pub from : w.from ≤ at
   pub to : at ≤ w.to

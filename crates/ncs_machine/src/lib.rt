@@ -2,7 +2,8 @@
 //!
 //! What an entry's run comes to is `machine_rules`'s definition, in the host that `specs/Host.antt`
 //! makes of the listed scripts and the engine. The scripts were checked, so each instruction that
-//! is reached has a case: no answer is a stack fault. docs/MACHINE.md tells the machine in words.
+//! is reached has a case: no answer is a stack fault. Each script's instructions are decoded once,
+//! before it runs. docs/MACHINE.md tells the machine in words.
 #![tactic(auto)]
 
 mod call;
@@ -16,4 +17,4 @@ mod step;
 pub use entry::{Ran, run};
 pub use laws::{calls_keep_fits, entries_keep_fits};
 pub use machine::script_named;
-pub use scripts::{Begin, Loaded, Scripts};
+pub use scripts::{Begin, Loaded, Ready, Scripts};

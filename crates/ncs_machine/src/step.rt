@@ -2,27 +2,28 @@
 ghost use Rattle.std.specs.Prelude.{◌≡◌, ◌≢◌, ◌≤◌, ◌<◌, ◌+◌, ◌^◌, None, Some, IfOk, IfSome};
 ghost use Rattle.std.specs.Prelude.{length, map};
 ghost use Rattle.nwq_value.specs.Limits.{file_limit};
-ghost use Rattle.ncs_code.specs.Plain.{plain};
 ghost use Rattle.ncs_code.specs.Spelling.{op_size};
 ghost use Rattle.machine_rules.specs.Act.{Moves, act};
 ghost use Rattle.machine_rules.specs.Frames.{Frame as FrameView};
 ghost use Rattle.machine_rules.specs.Machine.{followed, step};
 ghost use Rattle.world_rules.specs.World.{count};
+ghost use Rattle.decoded_code.specs.Steps.{op_of};
 ghost use Rattle.ncs_machine.specs.Host.{engine_view, host, scripts_of};
 ghost use Rattle.ncs_machine.specs.Steps.{GoesWell, Stays, next_of, state};
 ghost use Rattle.world_core.specs.Calls.{AreServing, IsEarly};
 
 use crate::machine::{Machine, Next};
 use crate::scripts::Scripts;
+use decoded_code::Step;
 use hook_table::Hooks;
-use ncs_code::{Op, place_laws};
+use ncs_code::place_laws;
 use nwq_value::{NoMemory, Table};
 use saved_state::Saved;
 use std::alloc::Global;
 use world_core::World;
 
 impl Machine {
-    /// An instruction of this size, in the running script.
+    /// An instruction, in the running script.
     #[tactic(auto, using(crate::proofs::Stepping::act_lemmas), unfolding(machine_rules::specs::Act::act))]
     fn act(
         &mut self,
@@ -31,51 +32,50 @@ impl Machine {
         world: &mut World<Saved>,
         hooks: &Hooks,
         table: &Table,
-        op: &Op<'_>,
-        size: u32,
+        decoded: &Step,
     ) -> Result<Next, NoMemory>
         requires few { length scripts.now < 2 ^ 32 }
         requires early { IsEarly world.old.world }
         requires caller { self.old.running.self ≤ count world.old.world }
         requires hooks { AreServing (map (λ h. h.known) hooks.now.all.items) }
-        requires case { act table.now (plain op.now) self.old.running ≢ None }
+        requires case { act table.now (op_of decoded.now) self.old.running ≢ None }
         requires deep { (f : FrameView)
-            → act table.now (plain op.now) self.old.running ≡ Some (Moves f)
+            → act table.now (op_of decoded.now) self.old.running ≡ Some (Moves f)
             → f.stack.bp ≤ length f.stack.cells }
-        requires size { size ≡ op_size (plain op.now) }
-        requires small { self.old.running.place + size ≤ file_limit }
+        requires small { self.old.running.place + op_size (op_of decoded.now) ≤ file_limit }
         ensures room { world.old.room ≤ world.new.room }
         ensures stays { IfOk result (λ next. Stays next world.old.world world.new.world) }
-        ensures next { IfOk result (λ next. IfSome (act table.now (plain op.now)
+        ensures next { IfOk result (λ next. IfSome (act table.now (op_of decoded.now)
             self.old.running) (λ a. followed (host (scripts_of scripts.now)
             (engine_view table.now (map (λ h. h.known) hooks.now.all.items)))
             (state self.old world.old.world) a
             ≡ next_of next (state self.new world.new.world))) }
     {
-        match op {
-            Op::Action { routine, count } => {
+        let size = decoded.size();
+        match decoded {
+            Step::Action { routine, count } => {
                 self.call_engine(alloc, scripts, world, hooks, table, *routine, *count, size)?;
                 Ok(Next::Goes)
             }
-            Op::Jsr { offset } => {
+            Step::Jsr { offset } => {
                 self.running.call(*offset, size)?;
                 Ok(Next::Goes)
             }
-            Op::Retn => Ok(self.give_back()),
-            Op::SaveBp => {
+            Step::Retn => Ok(self.give_back()),
+            Step::SaveBp => {
                 self.running.save_bp(size)?;
                 Ok(Next::Goes)
             }
-            Op::RestoreBp => {
+            Step::RestoreBp => {
                 self.running.restore_bp(size);
                 Ok(Next::Goes)
             }
-            Op::StoreState { globals, locals } => {
+            Step::StoreState { globals, locals } => {
                 self.running.store(*globals, *locals, size)?;
                 Ok(Next::Goes)
             }
             _ => {
-                if self.running.moves(alloc, op, size)? {
+                if self.running.moves(alloc, decoded, size)? {
                     Ok(Next::Goes)
                 } else {
                     Ok(Next::Divides)
@@ -113,15 +113,10 @@ impl Machine {
         match scripts.get(self.script() as usize) {
             None => unreachable!(),
             Some(script) => {
-                let code = script.code.code();
-                code.sound();
-                match code.op_at(self.place()) {
-                    None => unreachable!(),
-                    Some((op, size)) => {
-                        let next = self.act(alloc, scripts, world, hooks, table, &op, size)?;
-                        Ok(next)
-                    }
-                }
+                script.code.sound();
+                let decoded = script.code.step_at(self.place());
+                let next = self.act(alloc, scripts, world, hooks, table, decoded)?;
+                Ok(next)
             }
         }
     }

@@ -14,7 +14,6 @@ use Rattle.table_2da.specs.Look.{cell_of}
 use Rattle.command_words.specs.Words.{Form, Run, Compile, Tree, Check, Disassemble, Assemble, Play, Generate, NoForm, list_of}
 use Rattle.nwq_top.specs.Command.{work_of, work_with, whole_work}
 use Rattle.nwq_top.specs.Endings.{ComesOf}
-use Rattle.nwq_top.specs.Program.{TellsUsage}
 
 -- memory may be wanted for every form of words
 pub memory_comes : (form : Form) → ComesOf form Memory
@@ -76,19 +75,6 @@ refusal_ends Fault h = refl
 refusal_ends Memory h = refl
 refusal_ends Long h = refl
 
--- nor does it tell how words go
-pub refusal_is_quiet : (status : Status) (t t' : List ℕ) → StopsArea status → t' ≡ t → TellsUsage status t t'
-refusal_is_quiet Done t t' h same = same
-refusal_is_quiet Words t t' h same = absurd h
-refusal_is_quiet Script t t' h same = same
-refusal_is_quiet Code t t' h same = same
-refusal_is_quiet Area t t' h same = same
-refusal_is_quiet Limit t t' h same = same
-refusal_is_quiet Missing t t' h same = same
-refusal_is_quiet Fault t t' h same = same
-refusal_is_quiet Memory t t' h same = same
-refusal_is_quiet Long t t' h same = same
-
 -- ---- the works
 
 -- hooks that have these tables look cells up in them
@@ -113,4 +99,4 @@ whole_ends form status c c' t t' stops read =
 pub refusal_tallies : (status : Status) (before now : Counts) → StopsArea status → TalliesEnd status before now → Tallies (ending status) before now
 refusal_tallies status before now stops tally = subst (λ r. Tallies r before now) (sym (refusal_ends status stops)) tally
 
-pub ruleset program_ends = (memory_comes, refusal_comes, refusal_is_quiet, whole_goes_on, whole_ends, refusal_tallies)
+pub ruleset program_ends = (memory_comes, refusal_comes, whole_goes_on, whole_ends, refusal_tallies)

@@ -1,9 +1,19 @@
--- With which number the program ends.
-use Rattle.std.specs.Prelude.{ℕ, Result, Ok, Err}
+-- How the program ends, by its words.
+use Rattle.std.specs.Prelude.{◌≡◌, ℕ}
 use Rattle.command_work.specs.declared.status.Status.TheVariants.{Memory}
-use Rattle.nwq_top.specs.Program.{status_number}
+use Rattle.command_words.specs.Words.{Form, NoForm, form_of}
+use Rattle.nwq_top.specs.Program.{status_number, words_of}
+use Rattle.nwq.specs.declared.end.Words.{Words}
+use Rattle.nwq.specs.declared.end.Words.TheVariants.{All, NoText, NoMemory}
 
--- where there was no memory for the words, the files or the sinks, as where the command wants it
-abbrev pub end_number : {E : Type 0} → Result ℕ E → ℕ
-end_number (Ok number) = number
-end_number (Err error) = status_number Memory
+-- the form of its words; words that are no text, or for which there was no memory, are none
+abbrev pub form_in : Words → Form
+form_in (All all) = form_of (words_of all.items)
+form_in NoText = NoForm
+form_in NoMemory = NoForm
+
+-- where there was no memory for the words, it ends with the number of want of memory
+abbrev pub EndsWanting : Words → ℕ → Type 0
+EndsWanting NoMemory number = number ≡ status_number Memory
+EndsWanting (All all) number = Unit {0}
+EndsWanting NoText number = Unit {0}

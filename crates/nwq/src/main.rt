@@ -1,51 +1,48 @@
-//! The program: it makes the real files, standard output and standard error, hands them with its
-//! words to `whole::run_all`, which makes the hooks, and ends with the number that comes back
-//! (`specs/Ending.antt`). What that call promises is the whole program's contract: see
+//! The program: it takes its words, makes the real files, standard output and standard error, and
+//! ends as `end::end_of` says. What that call promises is the whole program's contract: see
 //! docs/COMMANDS.md and docs/THEOREMS.md.
 #![tactic(auto)]
 
+mod end;
 mod whole;
 
-ghost use Rattle.std.specs.Prelude.{◌≡◌};
-ghost use Rattle.std.specs.Process.{exit_status};
-ghost use Rattle.nwq.specs.Ending.{end_number};
-
-use crate::whole::{WANT_OF_MEMORY, run_all};
+use crate::end::{Words, end_of};
+use command_messages::LastLine;
 use nwq_outside::{RealFiles, RealSink};
 use std::env;
-use std::io::{self, ErrorKind};
+use std::io::ErrorKind;
 use std::process::ExitCode;
 
 /// The program's name and the words after it.
-fn all_words(rt: &HostRuntime) -> io::Result<Vec<String>> {
+fn all_words(rt: &HostRuntime) -> Words {
     match env::args(rt) {
-        Ok(all) => Ok(all.collect(rt.alloc())?),
-        Err(error) if error.kind() == ErrorKind::OutOfMemory => Err(error),
-        // Words that are no text are no form of a command, as no words are.
-        Err(_) => Ok(Vec::new(rt.alloc())),
-    }
-}
-
-/// Does what the words say with real files and sinks.
-fn run(rt: HostRuntime) -> io::Result<u8> {
-    let all = all_words(&rt)?;
-    let mut files = RealFiles::new(rt.clone()?);
-    let mut out = RealSink::new(rt.stdout());
-    let mut err = RealSink::new(rt.stderr());
-    Ok(run_all(rt.alloc(), all.as_slice(), &mut files, &mut out, &mut err))
-}
-
-/// How the program ends: with the number that came back, or, where there was no memory for the
-/// words, the files or the sinks, as where a command wants it.
-fn end(outcome: io::Result<u8>) -> ExitCode
-    ensures { exit_status result ≡ end_number outcome }
-{
-    match outcome {
-        Ok(number) => ExitCode::from(number),
-        Err(_) => ExitCode::from(WANT_OF_MEMORY),
+        Ok(all) => match all.collect(rt.alloc()) {
+            Ok(all) => Words::All(all),
+            Err(_) => Words::NoMemory,
+        },
+        Err(error) if error.kind() == ErrorKind::OutOfMemory => Words::NoMemory,
+        Err(_) => Words::NoText,
     }
 }
 
 fn main(rt: HostRuntime) -> ExitCode {
-    end(run(rt))
+    let words = all_words(&rt);
+    let mut files = match rt.clone() {
+        Ok(own) => RealFiles::new(own),
+        Err(_) => return ExitCode::from(8),
+    };
+    let mut again = match rt.clone() {
+        Ok(own) => RealFiles::new(own),
+        Err(_) => return ExitCode::from(8),
+    };
+    let mut out = LastLine::new(rt.alloc(), RealSink::new(rt.stdout()));
+    let mut err = RealSink::new(rt.stderr());
+    end_of(
+        rt.alloc(),
+        words,
+        &mut files,
+        &mut out,
+        &mut again,
+        &mut err,
+    )
 }

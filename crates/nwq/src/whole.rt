@@ -4,33 +4,33 @@ ghost use Rattle.command_work.specs.Work.{IsCut, Does, ending};
 ghost use Rattle.command_work.specs.Counts.{Counted, Tallies, KeepsBut};
 ghost use Rattle.command_words.specs.Words.{form_of};
 ghost use Rattle.nwq_top.specs.Command.{work_with, whole_work, MayWrite};
+ghost use Rattle.nwq_top.specs.Cuts.{IsFrontOf};
 ghost use Rattle.nwq_top.specs.Endings.{ComesOf};
 ghost use Rattle.nwq_top.specs.Meaning.{MeansWhole};
-ghost use Rattle.nwq_top.specs.Program.{status_number, status_numbered, words_of, TellsUsage};
+ghost use Rattle.nwq_top.specs.Program.{status_number, status_numbered, words_of};
 
 use hook_table::{Call, Hooks, cell_call};
 use nwq_hooks::{all_are_put, call_function, put_cell_hook, put_hook};
 use nwq_outside::{Files, Sink};
-use nwq_top::laws::whole_means;
+use nwq_top::laws::{one_outcome, whole_means};
 use nwq_top::{nwq_program, program_tables};
 use nwq_value::{Args, NoMemory, Value};
 use std::alloc::Global;
 use table_2da::Tables;
 
 /// The number of the status for want of memory.
-pub(crate) const WANT_OF_MEMORY: u8 = 8;
+const WANT_OF_MEMORY: u8 = 8;
 
 /// Makes the hooks, of which the tenth looks cells up in these tables, and does what the words say
 /// with them: the number with which the program ends. Where there is no memory for the hooks,
 /// nothing is done.
 #[tactic(auto, using(crate::proofs::EndLemmas::same_cells))]
-fn run_hooked<F: Files, S: Sink, E: Sink>(
+fn run_hooked<F: Files, S: Sink>(
     alloc: Global,
     all: &[String],
     tables: Tables,
     files: &mut F,
     out: &mut S,
-    err: &mut E,
 ) -> Result<u8, NoMemory>
     ensures number { IfOk result (λ number. status_number (status_numbered number) ≡ number) }
     ensures does { IfOk result (λ number. IsTrue F.tells → IsTrue S.tells →
@@ -44,11 +44,8 @@ fn run_hooked<F: Files, S: Sink, E: Sink>(
         (F.contents files.old) (F.contents files.new)) }
     ensures only { IfOk result (λ number.
         ComesOf (form_of (words_of all.now)) (status_numbered number)) }
-    ensures usage { IfOk result (λ number. IsTrue E.tells →
-        TellsUsage (status_numbered number) (E.taken err.old) (E.taken err.new)) }
     ensures files { OnErr result (files.new ≡ files.old) }
     ensures out { OnErr result (out.new ≡ out.old) }
-    ensures err { OnErr result (err.new ≡ err.old) }
 {
     let own = tables.copy(alloc)?;
     let mut hooks = Hooks::new(alloc);
@@ -72,19 +69,18 @@ fn run_hooked<F: Files, S: Sink, E: Sink>(
     )?;
     put_cell_hook(alloc, &mut hooks, cells, tables)?;
     all_are_put(&hooks);
-    Ok(nwq_program(alloc, all, files, out, err, &hooks))
+    Ok(nwq_program(alloc, all, files, out, &hooks))
 }
 
 /// Does what the words say with hooks that look cells up in these tables: the number with which the
 /// program ends.
 #[tactic(auto, using(command_work::specs::Parts::cut_here, crate::proofs::EndLemmas::memory_comes))]
-fn run_with<F: Files, S: Sink, E: Sink>(
+fn run_with<F: Files, S: Sink>(
     alloc: Global,
     all: &[String],
     tables: Tables,
     files: &mut F,
     out: &mut S,
-    err: &mut E,
 ) -> u8
     ensures number { status_number (status_numbered result) ≡ result }
     ensures does { IsTrue F.tells → IsTrue S.tells →
@@ -97,10 +93,8 @@ fn run_with<F: Files, S: Sink, E: Sink>(
     ensures names { KeepsBut (MayWrite (form_of (words_of all.now)))
         (F.contents files.old) (F.contents files.new) }
     ensures only { ComesOf (form_of (words_of all.now)) (status_numbered result) }
-    ensures usage { IsTrue E.tells →
-        TellsUsage (status_numbered result) (E.taken err.old) (E.taken err.new) }
 {
-    match run_hooked(alloc, all, tables, files, out, err) {
+    match run_hooked(alloc, all, tables, files, out) {
         Err(NoMemory) => WANT_OF_MEMORY,
         Ok(number) => number,
     }
@@ -109,13 +103,7 @@ fn run_with<F: Files, S: Sink, E: Sink>(
 /// Reads the tables that the words give, and does what the words say with hooks that look cells up
 /// in them: the number with which the program ends.
 #[tactic(auto, using(crate::proofs::EndLemmas::program_ends))]
-fn run_in_order<F: Files, S: Sink, E: Sink>(
-    alloc: Global,
-    all: &[String],
-    files: &mut F,
-    out: &mut S,
-    err: &mut E,
-) -> u8
+fn run_in_order<F: Files, S: Sink>(alloc: Global, all: &[String], files: &mut F, out: &mut S) -> u8
     ensures number { status_number (status_numbered result) ≡ result }
     ensures does { IsTrue F.tells → IsTrue S.tells →
         Does (whole_work (form_of (words_of all.now))) (F.contents files.old) (S.taken out.old)
@@ -126,23 +114,20 @@ fn run_in_order<F: Files, S: Sink, E: Sink>(
     ensures names { KeepsBut (MayWrite (form_of (words_of all.now)))
         (F.contents files.old) (F.contents files.new) }
     ensures only { ComesOf (form_of (words_of all.now)) (status_numbered result) }
-    ensures usage { IsTrue E.tells →
-        TellsUsage (status_numbered result) (E.taken err.old) (E.taken err.new) }
 {
     match program_tables(alloc, all, files, out) {
         Err(number) => number,
-        Ok(tables) => run_with(alloc, all, tables, files, out, err),
+        Ok(tables) => run_with(alloc, all, tables, files, out),
     }
 }
 
-/// The whole program, given all its words, the files, standard output and standard error: the
-/// number with which it ends.
-pub(crate) fn run_all<F: Files, S: Sink, E: Sink>(
+/// The whole program, given all its words, the files and standard output: the number with
+/// which it ends.
+pub(crate) fn run_all<F: Files, S: Sink>(
     alloc: Global,
     all: &[String],
     files: &mut F,
     out: &mut S,
-    err: &mut E,
 ) -> u8
     ensures number { status_number (status_numbered result) ≡ result }
     ensures does { IsTrue F.tells → IsTrue S.tells →
@@ -155,16 +140,19 @@ pub(crate) fn run_all<F: Files, S: Sink, E: Sink>(
         (IsCut (ending (status_numbered result)) → ⊥) →
         MeansWhole (form_of (words_of all.now)) (F.contents files.old) (S.taken out.old)
         (ending (status_numbered result)) (F.contents files.new) (S.taken out.new) }
+    // Where one did, what was put and left is a front of what is put and left else.
+    ensures cut { IsTrue F.tells → IsTrue S.tells → IsCut (ending (status_numbered result)) →
+        IsFrontOf (whole_work (form_of (words_of all.now)))
+        (F.contents files.old) (S.taken out.old) (F.contents files.new) (S.taken out.new) }
     ensures counts { Tallies (ending (status_numbered result))
         (Counted (F.counts files.old) (S.faults out.old))
         (Counted (F.counts files.new) (S.faults out.new)) }
     ensures names { KeepsBut (MayWrite (form_of (words_of all.now)))
         (F.contents files.old) (F.contents files.new) }
     ensures only { ComesOf (form_of (words_of all.now)) (status_numbered result) }
-    ensures usage { IsTrue E.tells →
-        TellsUsage (status_numbered result) (E.taken err.old) (E.taken err.new) }
 {
     whole_means();
+    one_outcome();
     files.contents_are_bytes();
-    run_in_order(alloc, all, files, out, err)
+    run_in_order(alloc, all, files, out)
 }

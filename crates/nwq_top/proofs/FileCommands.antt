@@ -111,7 +111,7 @@ module _ {A : Type 0} (w : Work A) (f : A → Work Finished) (sure : IsSure (the
     refused = λ why is. as_refused (then w f) sure why c c c' t t' r whole (refusal_not_cut why) (then_err w f (status_of why) c c t (t ++ line_of why) (refused why is)) does;
     done = λ a h.
         let same = agree (then w f) sure r (Ok tt) c c' (fin_map.insert c to (bytes a)) t t' (t ++ line a) whole (λ x. x) does
-            (then_ok w f a c c (fin_map.insert c to (bytes a)) t t (t ++ line a) (Ok tt) (reads a h) (writes a)) in
+        (then_ok w f a c c (fin_map.insert c to (bytes a)) t t (t ++ line a) (Ok tt) (reads a h) (writes a)) in
         record { answer = same.answer; taken = same.taken; contents = same.contents };
   }
 

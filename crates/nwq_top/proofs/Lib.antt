@@ -15,7 +15,6 @@ mod Meaning
 mod Rows
 mod Sure
 mod WordLemmas
-mod Usage
 mod WholeMeaning
 mod NoFaults
 mod Cuts

@@ -1,6 +1,5 @@
--- With which number the program ends, and what it says on standard error.
-use Rattle.std.specs.Prelude.{◌≡◌, ℕ, ◌==◌, if◌then◌else◌, List, drop, map, codes, String, string_bytes, Result, Ok, Err}
-use Rattle.nwq_outside.specs.Outside.{TookPrefix}
+-- With which number the program ends.
+use Rattle.std.specs.Prelude.{ℕ, ◌==◌, if◌then◌else◌, List, drop, map, String, string_bytes, Result, Ok, Err}
 use Rattle.command_work.specs.declared.status.Status.{Status}
 use Rattle.command_work.specs.declared.status.Status.TheVariants.{Done, Words, Script, Code, Area, Limit, Missing, Fault, Memory, Long}
 
@@ -39,11 +38,3 @@ by_status (Err n) = Err (status_numbered n)
 -- the words of the command are all but the program's name
 abbrev pub words_of : {A : Type 0} → List (String A) → List (List ℕ)
 words_of all = map string_bytes (drop 1 all)
-
-abbrev pub usage_line : List ℕ
-usage_line = codes "usage: nwq run HEADER SCRIPT | compile HEADER SCRIPT | tree FILE | check HEADER FILE | dis FILE TO | asm FILE TO | play HEADER AREA PLAN TO [TABLES] | generate NUMBER (HEADER: a header file, or - for the built-in one)\n"
-
--- the usage line is put after words that are no form of a command, as far as standard error takes it, and nothing else ever
-abbrev pub TellsUsage : Status → List ℕ → List ℕ → Type 0
-TellsUsage Words t t' = TookPrefix usage_line t t'
-TellsUsage _ t t' = t' ≡ t

@@ -7,8 +7,7 @@ ghost use Rattle.command_words.specs.Words.{form_of, list_of};
 ghost use Rattle.nwq_top.specs.Command.{work_of, MayWrite};
 ghost use Rattle.nwq_top.specs.Endings.{ComesOf};
 ghost use Rattle.nwq_top.specs.Meaning.{Means};
-ghost use Rattle.nwq_top.specs.Program.{status_number, status_numbered, words_of, usage_line};
-ghost use Rattle.nwq_top.specs.Program.{by_status, TellsUsage};
+ghost use Rattle.nwq_top.specs.Program.{by_status, status_number, status_numbered, words_of};
 
 use crate::{nwq_main, nwq_tables};
 use command_work::Status;
@@ -16,11 +15,6 @@ use hook_table::Hooks;
 use nwq_outside::{Files, Sink};
 use std::alloc::Global;
 use table_2da::Tables;
-
-/// What is said on standard error after words that are no form of a command.
-const USAGE: &str = "usage: nwq run HEADER SCRIPT | compile HEADER SCRIPT | tree FILE \
-    | check HEADER FILE | dis FILE TO | asm FILE TO | play HEADER AREA PLAN TO [TABLES] \
-    | generate NUMBER (HEADER: a header file, or - for the built-in one)\n";
 
 /// The words after the program's name, which is the first of all.
 fn after_name(all: &[String]) -> &[String]
@@ -38,19 +32,6 @@ fn number_of(status: Status) -> u8
     ensures status { status_numbered result ≡ status }
 {
     status as u8
-}
-
-/// After words that are no form of a command, says how the words go. Where standard error doesn't
-/// take it, nothing more is done.
-fn tell_usage<E: Sink>(status: Status, err: &mut E)
-    ensures { IsTrue E.tells → TellsUsage status (E.taken err.old) (E.taken err.new) }
-{
-    match status {
-        Status::Words => {
-            let _answer = err.put(USAGE.as_bytes());
-        }
-        _ => {}
-    }
 }
 
 /// The tables that the program's words give, read before anything else is done, or the number with
@@ -79,14 +60,13 @@ pub fn program_tables<F: Files, S: Sink>(
     }
 }
 
-/// What the program does, given all its words, the files, standard output, standard error and the
-/// hooks that scripts call: the number with which it ends.
-pub fn nwq_program<F: Files, S: Sink, E: Sink>(
+/// What the program does, given all its words, the files, standard output and the hooks
+/// that scripts call: the number with which it ends.
+pub fn nwq_program<F: Files, S: Sink>(
     alloc: Global,
     all: &[String],
     files: &mut F,
     out: &mut S,
-    err: &mut E,
     hooks: &Hooks,
 ) -> u8
     requires hooks { AreServing (map (λ h. h.known) hooks.now.all.items) }
@@ -108,10 +88,7 @@ pub fn nwq_program<F: Files, S: Sink, E: Sink>(
     ensures names { KeepsBut (MayWrite (form_of (words_of all.now)))
         (F.contents files.old) (F.contents files.new) }
     ensures only { ComesOf (form_of (words_of all.now)) (status_numbered result) }
-    ensures usage { IsTrue E.tells →
-        TellsUsage (status_numbered result) (E.taken err.old) (E.taken err.new) }
 {
     let status = nwq_main(alloc, after_name(all), files, out, hooks);
-    tell_usage(status, err);
     number_of(status)
 }

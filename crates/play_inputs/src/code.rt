@@ -176,7 +176,10 @@ pub(crate) fn read_script<F: Files, S: Sink>(
                 drop(name);
                 Err(status)
             }
-            Ok(code) => Ok(Loaded { name, code }),
+            Ok(code) => match Loaded::of(alloc, name, code) {
+                Err(NoMemory) => Err(Status::Memory),
+                Ok(loaded) => Ok(loaded),
+            },
         },
     }
 }

@@ -1,10 +1,11 @@
 -- The state of a play that may be saved keeps all rules.
-use Rattle.std.proofs.Common.{◌≡◌, ◌<◌, ◌≤◌, ℕ, zero, suc, Bool, true, false, List, [], ◌∷◌, length, map, drop, sym, ap, refl, ◌∙◌, subst, arith}
+use Rattle.std.proofs.Common.{◌≡◌, ◌<◌, ◌≤◌, ℕ, zero, suc, Bool, true, false, ◌⊎◌, List, [], ◌∷◌, length, map, sym, ap, refl, ◌∙◌, subst, arith}
 use Rattle.std.specs.Prelude.{Option, Some, None, slice_get, IsTrue}
 use Rattle.std.specs.List.{AllByRecursion, IsDistinct, list_all}
 use Rattle.std.specs.Str.{bytes_eq}
 use Rattle.nwq_text.specs.Names.{is_script_name}
 use Rattle.nwq_value.specs.Engine.{EngineTable}
+use Rattle.nwq_value.specs.Limits.{instruction_limit, entry_limit, time_limit, script_limit, random_limit}
 use Rattle.ncs_code.specs.File.{IsCode, file_bytes}
 use Rattle.ncs_code.specs.Plain.{PlainOp}
 use Rattle.local_variables.specs.Variables.{same_variable}
@@ -34,7 +35,7 @@ use Rattle.state_format.specs.declared.parts.Entry.{Entry as Part}
 use Rattle.state_format.specs.declared.parts.Script.{Script}
 use Rattle.state_format.specs.declared.parts.Parts.{Parts}
 use Rattle.play_save.specs.World.{saved_of, item_of, things_of, variables_of, kind_of, entry_of, entries_of}
-use Rattle.play_save.specs.Rules.{IsHeaderOf, IsFileOf, IsSound, HasHeader, HasScripts, HasArea, HasBounds, HasCounts, AreNamed, HasTexts, KeepsLimits, HasAgenda, HasStates, HasTurns, IsCapturedIn, ItemHolds, KindHolds, count_limit}
+use Rattle.play_save.specs.Rules.{IsHeaderOf, IsAreaOf, IsFileOf, IsSound, HasHeader, HasScripts, HasArea, HasBounds, HasCounts, AreNamed, HasTexts, KeepsLimits, HasAgenda, HasStates, HasTurns, IsCapturedIn, ItemHolds, KindHolds, count_limit}
 use Rattle.play_save.specs.States.{script_part, script_parts, Limits, MayLimit, MayList, MayRest, MayCount, IsPlayOf, HasCome}
 use Rattle.play_save.specs.Keeping.{Tells}
 use Rattle.play_save.proofs.CapturedLemmas.{Laws, one_table, one_file}
@@ -90,7 +91,7 @@ same_count xs ys e = sym (length_map bare xs) ∙ ap length e ∙ length_map bar
 pub area_there : (s : Parts) (scripts : List Loaded) (area : List ℕ) (w : World Saved) → s.area ≡ area → MayRest scripts area w → IsArea w.area → IsWorld w → Tells s w → HasArea s
 area_there s scripts area w same may is world tells = record {
   tree = w.area.tree;
-  area = subst (λ a. _) (sym same) may.file;
+  area = subst (IsAreaOf w.area.tree) (sym same) may.file;
   counted = sym (length_map things_of s.objects) ∙ ap length tells.objects.kept ∙ world.counted ∙ same_count w.area.objects (objects_of w.area.tree.top) is.same;
 }
 
@@ -112,18 +113,18 @@ pub limits_kept : (s : Parts) (header : Option (List ℕ)) (scripts : List Loade
     → MayCount limits w taken done → IsArea w.area → Tells s w → KeepsLimits s
 limits_kept s header scripts area limits taken done w play come limited listed rests counted is tells = record {
   bounds = record {
-    version = subst (λ v. _) (sym tells.version) rests.version;
-    limit = subst (λ n. _) (sym play.limit) limited.limit;
-    entries = subst (λ n. _) (sym play.entries) limited.entries;
-    until = subst (λ n. _) (sym play.until) limited.until;
-    scripts = subst (λ (l : List Script). _) (sym play.scripts) (let few = listed.few in omega (arith, length_map script_part scripts));
-    random = subst (λ (l : List ℕ). _) (sym tells.random) rests.random;
+    version = subst (λ (v : ℕ). (v ≡ 1) ⊎ (v ≡ 2)) (sym tells.version) rests.version;
+    limit = subst (λ (n : ℕ). (1 ≤ n) × (n ≤ instruction_limit)) (sym play.limit) limited.limit;
+    entries = subst (λ (n : ℕ). (1 ≤ n) × (n ≤ entry_limit)) (sym play.entries) limited.entries;
+    until = subst (λ (n : ℕ). n ≤ time_limit) (sym play.until) limited.until;
+    scripts = subst (λ (l : List Script). length l ≤ script_limit) (sym play.scripts) (let few = listed.few in omega (arith, length_map script_part scripts));
+    random = subst (λ (l : List ℕ). length l ≤ random_limit) (sym tells.random) rests.random;
   };
   counts = record {
     taken = (let a = counted.entries in let b = come.taken in let c = play.entries in omega arith);
     clock = (let a = counted.clock in let b = tells.clock in let c = play.until in omega arith);
-    done = (let a = counted.instructions in let b = come.done in omega arith);
-    next = (let a = rests.next in let b = tells.next in omega arith);
+    done = subst (λ (n : ℕ). n < count_limit) (sym come.done) counted.instructions;
+    next = subst (λ (n : ℕ). n < count_limit) (sym tells.next) rests.next;
     due = all_back entry_of (λ (e : Entry Saved). e.due < count_limit) s.agenda (subst (AllByRecursion (λ (e : Entry Saved). e.due < count_limit)) (sym tells.entries) rests.due);
   };
   names = subst AreNamed (sym play.scripts) (record {
@@ -139,9 +140,13 @@ limits_kept s header scripts area limits taken done w play come limited listed r
 
 -- ---- 5 and 7
 
+same_agenda : (s : Parts) (w : World Saved) → Tells s w → record { entries = entries_of s; next = s.next } ≡ w.agenda
+same_agenda s w tells =
+    ap (λ (l : List (Entry Saved)). record { entries = l; next = s.next }) tells.entries ∙ ap (λ (n : ℕ). record { entries = w.agenda.entries; next = n }) tells.next
+
 pub agenda_there : (s : Parts) (w : World Saved) → IsWorld w → Tells s w → HasAgenda s
 agenda_there s w world tells = record {
-  agenda = subst IsAgenda (let a = tells.entries in let b = tells.next in cc) world.agenda;
+  agenda = subst IsAgenda (sym (same_agenda s w tells)) world.agenda;
   due = all_back entry_of (λ (e : Entry Saved). s.clock ≤ e.due) s.agenda
       (subst (λ (l : List (Entry Saved)). AllByRecursion (λ (e : Entry Saved). s.clock ≤ e.due) l) (sym tells.entries)
       (subst (λ n. AllByRecursion (λ (e : Entry Saved). n ≤ e.due) w.agenda.entries) (sym tells.clock) world.due));
@@ -191,7 +196,7 @@ captured_there s header ls c laws same parts may code is =
       listed = ap (λ (l : List Script). slice_get l c.script) parts ∙ slice_get-map script_part ls c.script ∙ ap (option_map script_part) found.held;
       fits = λ table ops shapes heading file meets.
           let tables : table ≡ may.table = one_table header table may.table laws.header (subst (λ h. IsHeaderOf h table) same heading) may.headed in
-          let lists : ops ≡ found.loaded.code.code = one_file ops found.loaded.code.code (file_bytes found.loaded.code.code) laws.spellings (ap (drop 13) (sym file.spelled)) file (record { code = found.code; spelled = refl }) in
+          let lists : ops ≡ found.loaded.code.code = one_file ops found.loaded.code.code (file_bytes found.loaded.code.code) laws.spellings file (record { code = found.code; spelled = refl }) in
           laws.fits (tables_of ls c.script) shapes (saved_of c)
           (may.stand c.script is.listed.0 shapes is.listed.1
           (subst (λ (x : MachineScript). MeetsRules may.table x.code shapes) (sym found.is) (subst (λ t. MeetsRules t found.loaded.code.code shapes) tables (subst (λ o. MeetsRules table o shapes) lists meets))))
@@ -225,7 +230,7 @@ entries_there s ls f (e ∷ es) all = (kind_there s ls f e.kind all.0, entries_t
 pub states_there : (s : Parts) (header : Option (List ℕ)) (ls : List Loaded) (area : List ℕ) (w : World Saved) → Laws → s.header ≡ header → s.scripts ≡ script_parts ls → MayList header ls
     → AllByRecursion (λ (l : Loaded). IsCode l.code.code) ls → MayRest ls area w → Tells s w → HasStates s
 states_there s header ls area w laws same parts may code rests tells =
-    let f = λ c is. captured_there s header ls c laws same parts may code is in
+    let f : (c : Captured) → FitsOne (scripts_of ls) (tables_of ls) (saved_of c) → IsCapturedIn s c = λ c is. captured_there s header ls c laws same parts may code is in
     record {
       items = objects_there s ls f s.objects (subst (AllByRecursion (ThingsFit (scripts_of ls) (tables_of ls))) (sym tells.objects.kept) rests.fit.queues);
       entries = entries_there s ls f s.agenda (subst (AllByRecursion (EntryFits (scripts_of ls) (tables_of ls))) (sym tells.entries) rests.fit.agenda);

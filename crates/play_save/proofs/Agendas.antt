@@ -21,7 +21,7 @@ before_true : {X : Type 0} (a b : Entry X) → IsBefore a b → is_before a b �
 before_true a b (inl x) = grind (arith, nat_tests)
 before_true a b (inr x) = let e = x.0 in let l = x.1 in grind (arith, nat_tests)
 
-put_behind : {X : Type 0} {X : Type 0} (xs : List (Entry X)) (e : Entry X) → AreInOrder (xs ++ e ∷ []) → put_entry e xs ≡ xs ++ e ∷ []
+put_behind : {X : Type 0} (xs : List (Entry X)) (e : Entry X) → AreInOrder (xs ++ e ∷ []) → put_entry e xs ≡ xs ++ e ∷ []
 put_behind [] e order = refl
 put_behind (a ∷ xs) e order =
     let t = before_true a e (first_of xs order.0) in rw t (ap (λ (l : List _). a ∷ l) (put_behind xs e order.1))
@@ -30,21 +30,15 @@ put_behind (a ∷ xs) e order =
     first_of [] all = all.0
     first_of (y ∷ ys) all = first_of ys all.1
 
-order_front : {X : Type 0} (xs ys : List (Entry X)) → AreInOrder (xs ++ ys) → AreInOrder xs
-order_front [] ys order = tt
-order_front (x ∷ xs) ys order = (front_of xs order.0, order_front xs ys order.1)
-  where
-    front_of : (zs : List _) → IsBeforeAll x (zs ++ ys) → IsBeforeAll x zs
-    front_of [] all = tt
-    front_of (z ∷ zs) all = (all.0, front_of zs all.1)
-
 order_taken : (parts : List Part) (i : ℕ) → AreInOrder (map entry_of parts) → AreInOrder (map entry_of (take i parts))
-order_taken [] i order = tt
+order_taken [] zero order = tt
+order_taken [] (suc i) order = tt
 order_taken (p ∷ parts) zero order = tt
 order_taken (p ∷ parts) (suc i) order = (taken_of parts i order.0, order_taken parts i order.1)
   where
     taken_of : (ps : List Part) (k : ℕ) → IsBeforeAll (entry_of p) (map entry_of ps) → IsBeforeAll (entry_of p) (map entry_of (take k ps))
-    taken_of [] k all = tt
+    taken_of [] zero all = tt
+    taken_of [] (suc k) all = tt
     taken_of (q ∷ ps) zero all = tt
     taken_of (q ∷ ps) (suc k) all = (all.0, taken_of ps k all.1)
 
@@ -113,12 +107,6 @@ numbered_none : (n : ℕ) (es : List Part) → HasNone n (map entry_of es) → i
 numbered_none n [] none = refl
 numbered_none n (e ∷ es) none = let other = none.0 in let rest = numbered_none n es none.1 in grind (arith, nat_tests)
 
-pub waiting_none : (next clock objects n : ℕ) (es : List Part) → n ≡ length es → AreWaiting next clock objects (drop n es)
-waiting_none next clock objects zero [] e = record { agenda = record { order = tt; below = tt; distinct = tt }; due = tt; placed = tt }
-waiting_none next clock objects (suc n) [] e = absurd (omega arith)
-waiting_none next clock objects zero (x ∷ es) e = absurd (omega arith)
-waiting_none next clock objects (suc n) (x ∷ es) e = waiting_none next clock objects n es (omega arith)
-
 waiting_more : (next clock objects : ℕ) (e : Part) (es : List Part) → IsWaiting next clock objects e → IsBeforeFirst e es → is_numbered es e.number ≡ false
     → AreWaiting next clock objects es → AreWaiting next clock objects (e ∷ es)
 waiting_more next clock objects e es is first none rest = record {
@@ -175,3 +163,25 @@ pub numbers_step : (before after : BTreeSet ℕ) (es : List Part) (i k : ℕ) (e
 numbers_step before after es i k e has adds same h at n =
     adds n ∙ ap (λ (b : Bool). nat_eq n e.number || b) (has n ∙ ap (λ (j : ℕ). is_numbered (drop j es) n) same)
     ∙ ap (λ (l : List Part). is_numbered l n) (sym (drop_at es i e h at))
+
+-- ---- what the tests found
+
+true_apart : true ≡ false → ⊥
+true_apart t = absurd cc
+
+-- a number that was new is none of those behind
+pub number_new : (numbers : BTreeSet ℕ) (es : List Part) (i k : ℕ) (e : Part) (fresh : Bool) → HasNumbers numbers (drop k es) → fresh ≡ not (has_number numbers e.number) → fresh ≡ true
+    → k ≡ i + 1 → is_numbered (drop (i + 1) es) e.number ≡ false
+number_new numbers es i k e fresh has is new same =
+    ap (λ (j : ℕ). is_numbered (drop j es) e.number) (sym same) ∙ sym (has e.number) ∙ not_new (has_number numbers e.number) (sym is ∙ new)
+  where
+    not_new : (b : Bool) → not b ≡ true → b ≡ false
+    not_new true n = absurd (true_apart (sym n))
+    not_new false n = refl
+
+-- one that wasn't new is no number of entries that wait
+pub number_old : (next clock objects : ℕ) (numbers : BTreeSet ℕ) (es : List Part) (i k : ℕ) (e : Part) (fresh : Bool) → HasNumbers numbers (drop k es)
+    → fresh ≡ not (has_number numbers e.number) → fresh ≡ false → k ≡ i + 1 → i < length es → e ≡ get_or es i e → AreWaiting next clock objects es → ⊥
+number_old next clock objects numbers es i k e fresh has is old same h at w =
+    let none : has_number numbers e.number ≡ false = has e.number ∙ ap (λ (j : ℕ). is_numbered (drop j es) e.number) same ∙ (waiting_at next clock objects es i e h at w).new in
+    true_apart (sym (ap not none) ∙ sym is ∙ old)

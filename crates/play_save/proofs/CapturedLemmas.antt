@@ -3,13 +3,15 @@ use Rattle.std.proofs.Common.{◌≡◌, ◌<◌, ◌≤◌, ℕ, zero, suc, Lis
 use Rattle.std.specs.Prelude.{Option, Some, None, slice_get}
 use Rattle.std.specs.List.{AllByRecursion}
 use Rattle.nwq_value.specs.Engine.{EngineTable}
+use Rattle.nwq_value.specs.Limits.{file_limit}
 use Rattle.engine_table.specs.Headers.{OneHeader}
 use Rattle.ncs_code.specs.Plain.{PlainOp}
-use Rattle.ncs_code.specs.File.{file_bytes, spellings}
+use Rattle.ncs_code.specs.File.{file_bytes, file_length, header_size, spellings}
+use Rattle.ncs_code.specs.Spelling.{four}
 use Rattle.ncs_code.specs.Reading.{ops_of}
-use Rattle.ncs_code.specs.Laws.{SpellingLaws}
+use Rattle.ncs_code.specs.Laws.{SpellingLaws, FileLength}
 use Rattle.stack_rules.specs.Tables.{ShapeTable}
-use Rattle.stack_rules.specs.Rules.{MeetsRules}
+use Rattle.stack_rules.specs.Rules.{MeetsRules, WellStacked}
 use Rattle.stack_rules.specs.Fits.{Fits}
 use Rattle.stack_check.specs.Checked.{FitsToo, kept_table}
 use Rattle.ncs_machine.specs.declared.scripts.Loaded.{Loaded}
@@ -23,7 +25,7 @@ use Rattle.state_format.specs.declared.parts.Entry.{Entry}
 use Rattle.state_format.specs.declared.parts.Script.{Script}
 use Rattle.state_format.specs.declared.parts.Parts.{Parts}
 use Rattle.play_save.specs.World.{saved_of}
-use Rattle.play_save.specs.Rules.{IsHeaderOf, IsFileOf, IsCapturedIn, ItemHolds, KindHolds, HasStates}
+use Rattle.play_save.specs.Rules.{IsHeaderOf, IsFileOf, IsSound, IsCapturedIn, ItemHolds, KindHolds, HasStates}
 use Rattle.play_save.specs.Breaking.{AreScriptsOf, IsScriptOf, IsFitting, IsPreparedFor}
 use Rattle.play_save.specs.declared.prepare.Prepared.{Prepared}
 
@@ -34,17 +36,27 @@ one_table None a b one x y = x ∙ sym y
 one_table (Some bytes) a b one x y = one.one_table bytes a b x.1 y.1
 
 -- the magic and the length stand before the spellings
-front_dropped : (n : ℕ) (xs ys : List ℕ) → length xs ≡ n → drop n (xs ++ ys) ≡ ys
-front_dropped zero [] ys e = refl
-front_dropped zero (x ∷ xs) ys e = absurd (omega arith)
-front_dropped (suc n) [] ys e = absurd (omega arith)
-front_dropped (suc n) (x ∷ xs) ys e = front_dropped n xs ys (omega arith)
+spelled_after : (ops : List PlainOp) → drop header_size (file_bytes ops) ≡ spellings ops
+unfolding four
+spelled_after ops = refl
 
-pub one_file : (a b : List PlainOp) (bytes : List ℕ) → SpellingLaws → spellings a ≡ spellings b → IsFileOf a bytes → IsFileOf b bytes → a ≡ b
-one_file a b bytes laws same x y =
+pub one_file : (a b : List PlainOp) (bytes : List ℕ) → SpellingLaws → IsFileOf a bytes → IsFileOf b bytes → a ≡ b
+one_file a b bytes laws x y =
+    let same : spellings a ≡ spellings b = sym (spelled_after a) ∙ ap (drop header_size) (sym x.spelled ∙ y.spelled) ∙ spelled_after b in
     let shorter : length (spellings b) ≤ length (spellings a) = omega (arith, ap length same) in
     sym (laws.listed (length (spellings a)) a x.code.each (omega arith))
     ∙ ap (ops_of (length (spellings a))) same ∙ laws.listed (length (spellings a)) b y.code.each shorter
+
+-- a file whose code is not well stacked isn't sound
+pub unsound : (table : EngineTable) (bytes : List ℕ) (ops : List PlainOp) → SpellingLaws → IsFileOf ops bytes → (WellStacked table ops → ⊥) → IsSound table bytes → ⊥
+unsound table bytes ops laws file never sound = never (subst (WellStacked table) (one_file sound.ops ops bytes laws sound.file file) sound.stacked)
+
+-- a file's bytes aren't more than a file may have
+pub too_long : (bytes : List ℕ) → FileLength → file_limit < length bytes → ((ops : List PlainOp) × IsFileOf ops bytes) → ⊥
+too_long bytes sizes long has =
+    let count : length bytes ≡ file_length has.0 = ap length has.1.spelled ∙ sizes has.0 in
+    let most = has.1.code.bounded in
+    absurd (omega (arith, count, most, long))
 
 -- ---- scripts by their numbers
 
@@ -92,7 +104,7 @@ captured_if s p c laws prepared is =
       listed = pair.listed;
       fits = λ table ops shapes header file meets.
           let tables : table ≡ p.table = one_table s.header table p.table laws.header header prepared.header in
-          let lists : ops ≡ pair.loaded.code.code = one_file ops pair.loaded.code.code pair.part.code laws.spellings (ap (drop 13) (sym file.spelled ∙ checked.file.spelled)) file checked.file in
+          let lists : ops ≡ pair.loaded.code.code = one_file ops pair.loaded.code.code pair.part.code laws.spellings file checked.file in
           laws.fits (kept_table pair.loaded.code) shapes (saved_of c)
           (checked.stand shapes (subst (λ t. MeetsRules t pair.loaded.code.code shapes) tables (subst (λ o. MeetsRules table o shapes) lists meets)))
           (subst (λ (l : Loaded). Fits (kept_table l.code) (saved_of c)) (sym same) is.fits);

@@ -1,4 +1,5 @@
 pub mod Lists
+pub mod NamesLemmas
 pub mod Headers
 pub mod Scripts
 pub mod Agendas

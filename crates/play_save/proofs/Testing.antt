@@ -47,17 +47,17 @@ prepared_area s p is = record { tree = is.area.tree; area = is.area.of; counted 
 -- ---- the rule that a test broke
 
 pub breaks_limits : (s : Parts) (p : Prepared) (e : StateFault) → IsPreparedFor s p → Breaks 4 (KeepsLimits s) e → BreaksFirst s e
-breaks_limits s p e is b = breaks_at 4 s e (KeepsLimits s) b (λ no. (prepared_header s p is, (prepared_scripts s p is, (prepared_area s p is, no))))
+breaks_limits s p e is b = breaks_at 4 s e (KeepsLimits s) b (λ never. (prepared_header s p is, (prepared_scripts s p is, (prepared_area s p is, never))))
 
 pub breaks_agenda : (s : Parts) (p : Prepared) (e : StateFault) → IsPreparedFor s p → KeepsLimits s → Breaks 5 (HasAgenda s) e → BreaksFirst s e
-breaks_agenda s p e is limits b = breaks_at 5 s e (HasAgenda s) b (λ no. (prepared_header s p is, (prepared_scripts s p is, (prepared_area s p is, (limits, no)))))
+breaks_agenda s p e is limits b = breaks_at 5 s e (HasAgenda s) b (λ never. (prepared_header s p is, (prepared_scripts s p is, (prepared_area s p is, (limits, never)))))
 
 pub breaks_last : (s : Parts) (p : Prepared) (e : StateFault) → IsPreparedFor s p → KeepsLimits s → HasAgenda s → BreaksLast s e → BreaksFirst s e
 breaks_last s p (fault.Place at) is limits agenda b = b
-breaks_last s p (fault.Unfit n) is limits agenda (inl no) =
-    subst (λ k. IsUnfit k s) (sym no.0) (prepared_header s p is, (prepared_scripts s p is, (prepared_area s p is, (limits, (agenda, no.1)))))
-breaks_last s p (fault.Unfit n) is limits agenda (inr no) =
-    subst (λ k. IsUnfit k s) (sym no.0) (prepared_header s p is, (prepared_scripts s p is, (prepared_area s p is, (limits, (agenda, (no.1.0, no.1.1))))))
+breaks_last s p (fault.Unfit n) is limits agenda (inl broken) =
+    subst (λ k. IsUnfit k s) (sym broken.0) (prepared_header s p is, (prepared_scripts s p is, (prepared_area s p is, (limits, (agenda, broken.1)))))
+breaks_last s p (fault.Unfit n) is limits agenda (inr broken) =
+    subst (λ k. IsUnfit k s) (sym broken.0) (prepared_header s p is, (prepared_scripts s p is, (prepared_area s p is, (limits, (agenda, (broken.1.0, broken.1.1))))))
 breaks_last s p fault.NoMemory is limits agenda b = tt
 
 pub all_kept : (s : Parts) (p : Prepared) → IsPreparedFor s p → KeepsLimits s → HasAgenda s → HasStates s → HasTurns s → IsAccepted s
@@ -75,22 +75,26 @@ last_turns s (fault.Unfit n) states b = inr (b.0, (states, b.1))
 last_turns s fault.NoMemory states b = tt
 
 pub breaks_header : (s : Parts) (e : StateFault) → Breaks 1 ((table : EngineTable) × IsHeaderOf s.header table) e → BreaksFirst s e
-breaks_header s e b = breaks_at 1 s e ((table : EngineTable) × IsHeaderOf s.header table) b (λ no. no)
+breaks_header s e b = breaks_at 1 s e ((table : EngineTable) × IsHeaderOf s.header table) b (λ never. never)
 
 pub breaks_scripts : (s : Parts) (table : EngineTable) (e : StateFault) → OneHeader → IsHeaderOf s.header table
     → Breaks 2 (AllByRecursion (λ (x : Script). IsSound table x.code) s.scripts) e → BreaksFirst s e
 breaks_scripts s table e one header b =
     breaks_at 2 s e (AllByRecursion (λ (x : Script). IsSound table x.code) s.scripts) b
-    (λ no. ((table, header), λ has. no (subst (λ t. AllByRecursion (λ (x : Script). IsSound t x.code) s.scripts) (one_table s.header has.table table one has.header header) has.scripts)))
+    (λ never. ((table, header), λ has. never (subst (λ t. AllByRecursion (λ (x : Script). IsSound t x.code) s.scripts) (one_table s.header has.table table one has.header header) has.scripts)))
 
-pub breaks_area : (s : Parts) (table : EngineTable) (ls : List Loaded) (e : StateFault) → IsHeaderOf s.header table → AreScriptsOf table s.scripts ls
-    → Breaks 3 ((area : PlainArea) × IsReadFrom s.area (length s.objects) area) e → BreaksFirst s e
-breaks_area s table ls e header scripts b =
-    breaks_at 3 s e ((area : PlainArea) × IsReadFrom s.area (length s.objects) area) b
-    (λ no. (
+pub breaks_area : (s : Parts) (table : EngineTable) (parts : List Script) (ls : List Loaded) (e : StateFault) (bytes : List ℕ) (objects : ℕ) → IsHeaderOf s.header table
+    → parts ≡ s.scripts → AreScriptsOf table parts ls → bytes ≡ s.area → objects ≡ length s.objects
+    → Breaks 3 ((area : PlainArea) × IsReadFrom bytes objects area) e → BreaksFirst s e
+breaks_area s table parts ls e bytes objects header listed are own count b =
+    let scripts : AreScriptsOf table s.scripts ls = subst (λ (l : List Script). AreScriptsOf table l ls) listed are in
+    let broken : Breaks 3 ((area : PlainArea) × IsReadFrom s.area (length s.objects) area) e =
+    subst (λ n. Breaks 3 ((area : PlainArea) × IsReadFrom s.area n area) e) count (subst (λ l. Breaks 3 ((area : PlainArea) × IsReadFrom l objects area) e) own b) in
+    breaks_at 3 s e ((area : PlainArea) × IsReadFrom s.area (length s.objects) area) broken
+    (λ never. (
       (table, header),
       (
         record { table = table; header = header; scripts = scripts_sound table s.scripts ls scripts },
-        λ has. no (area_of has.tree, record { tree = has.tree; of = has.area; area = refl; counted = has.counted }),
+        λ has. never (area_of has.tree, record { tree = has.tree; of = has.area; area = refl; counted = has.counted }),
       ),
     ))

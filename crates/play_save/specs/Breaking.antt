@@ -1,6 +1,7 @@
 -- What the tests of the rules find. No public clause speaks of it.
-use Rattle.std.specs.Prelude.{◌≡◌, ◌⊎◌, ◌<◌, ◌≤◌, ℕ, suc, Bool, nat_eq, ◌||◌, List, [], ◌∷◌, length, map, take, Some, slice_get}
+use Rattle.std.specs.Prelude.{◌≡◌, ◌⊎◌, ◌<◌, ◌≤◌, ℕ, suc, Bool, nat_eq, ◌||◌, List, [], ◌∷◌, length, map, take, Some, slice_get, if◌then◌else◌}
 use Rattle.std.specs.List.{list_any}
+use Rattle.std.specs.Option.{option_map}
 use Rattle.std.specs.Ordering.{nat_cmp}
 use Rattle.std.specs.BTreeSet.{BTreeSet, contains}
 use Rattle.nwq_value.specs.Engine.{EngineTable}
@@ -12,7 +13,7 @@ use Rattle.stack_rules.specs.Rules.{MeetsRules}
 use Rattle.stack_check.specs.Checked.{CheckedCode, StoredStand, kept_table}
 use Rattle.stack_rules.specs.Fits.{Fits}
 use Rattle.delay_agenda.specs.Order.{IsBefore}
-use Rattle.delay_agenda.specs.Waiting.{turn_count}
+use Rattle.delay_agenda.specs.Waiting.{turn_count, is_turn_of}
 use Rattle.world_rules.specs.Kept.{IsPlaced}
 use Rattle.ncs_machine.specs.declared.scripts.Loaded.{Loaded}
 use Rattle.state_format.specs.declared.parts.Captured.{Captured}
@@ -111,6 +112,14 @@ pub record IsFitting (scripts : List Loaded) (c : Captured) : Type 0 where
 -- under each place how many Turns the object of the number above it has
 abbrev pub CountsTurns : List ℕ → List Entry → ℕ → Type 0
 CountsTurns counts entries objects = (i : ℕ) → i < objects → slice_get counts i ≡ Some (turn_count (suc i) (map entry_of entries))
+
+-- an entry is a Turn of the object of this number, and 0 tells that it is none
+abbrev pub IsTurnOnlyOf : ℕ → Entry → Type 0
+IsTurnOnlyOf object e = (i : ℕ) → is_turn_of (suc i) (entry_of e) ≡ nat_eq object (suc i)
+
+-- one count more, where the entry is a Turn
+abbrev pub CountsOne : List ℕ → Entry → List ℕ → Type 0
+CountsOne before e after = (i : ℕ) → slice_get after i ≡ option_map (λ (n : ℕ). if is_turn_of (suc i) (entry_of e) then suc n else n) (slice_get before i)
 
 -- ---- what a state's bytes are of
 

@@ -1,5 +1,5 @@
 //! The limits of a state's numbers, names and texts.
-ghost use Rattle.std.specs.Prelude.{◌≡◌, ◌↔◌, ◌&&◌, nat_lt, not, IfOk, IsTrue, MatchResult};
+ghost use Rattle.std.specs.Prelude.{◌≡◌, ◌↔◌, ◌<◌, ◌&&◌, nat_lt, not, IfOk, IsTrue, MatchResult};
 ghost use Rattle.std.specs.List.{list_all, AllByRecursion, IsDistinct};
 ghost use Rattle.std.specs.Str.{bytes_eq};
 ghost use Rattle.local_variables.specs.Variables.{same_variable};
@@ -79,15 +79,24 @@ fn is_short_entry(entry: &Entry) -> bool
     }
 }
 
+fn have_short_items(objects: &[Object]) -> bool
+    ensures test { result ≡ list_all has_short_items objects.now }
+{
+    objects.iter().all(|object| has_short_items(object))
+}
+
+fn are_short_entries(entries: &[Entry]) -> bool
+    ensures test { result ≡ list_all is_short_entry entries.now }
+{
+    entries.iter().all(|entry| is_short_entry(entry))
+}
+
 /// Whether texts that are no variables' are short.
 fn has_short_texts(parts: &Parts) -> bool
     ensures items { result ≡ (list_all has_short_items parts.now.objects
         && list_all is_short_entry parts.now.agenda) }
 {
-    let objects = parts.objects.as_slice();
-    let entries = parts.agenda.as_slice();
-    objects.iter().all(|object| has_short_items(object))
-        && entries.iter().all(|entry| is_short_entry(entry))
+    have_short_items(parts.objects.as_slice()) && are_short_entries(parts.agenda.as_slice())
 }
 
 /// Whether no two variables of an object have one type and name.
@@ -152,6 +161,12 @@ fn has_counts(parts: &Parts) -> bool
 
 /// Whether all is due below the limit of counts.
 fn are_soon(entries: &[Entry]) -> bool
+    ensures test { IsTrue result ↔ AllByRecursion (λ e. e.due < count_limit) entries.now }
+{
+    test_dues(entries)
+}
+
+fn test_dues(entries: &[Entry]) -> bool
     ensures test { result ≡ list_all (λ e. nat_lt e.due count_limit) entries.now }
 {
     entries.iter().all(|entry| entry.due < COUNT_LIMIT)

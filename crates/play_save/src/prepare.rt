@@ -22,6 +22,7 @@ use engine_table::{HeaderFault, built_in, read_header};
 use gff_bytes::View;
 use gff_read::{TreeFault, one_tree, read};
 use gff_tree::Gff;
+use ncs_code::{size_laws, spelling_laws};
 use ncs_file::{Code, LoadFault, load, one_fault};
 use ncs_machine::{Loaded, Scripts};
 use nwq_value::{FILE_BYTES, Items, Table, Text};
@@ -75,6 +76,7 @@ fn load_code(alloc: Global, bytes: &Items<u8>) -> Result<Code, StateFault>
     ensures broken { IfErr result (Breaks 2 ((ops : List PlainOp) × IsFileOf ops bytes.now)) }
 {
     one_fault();
+    size_laws();
     if bytes.len() > FILE_BYTES {
         return Err(StateFault::Unfit(2));
     }
@@ -91,6 +93,7 @@ fn check_code(alloc: Global, table: &Table, bytes: &Items<u8>) -> Result<Checked
     ensures checked { IfOk result (IsCheckedOf table.now bytes.now) }
     ensures broken { IfErr result (Breaks 2 (IsSound table.now bytes.now)) }
 {
+    spelling_laws();
     match load_code(alloc, bytes) {
         Err(fault) => Err(fault),
         Ok(code) => match check(alloc, code, table) {
@@ -101,6 +104,13 @@ fn check_code(alloc: Global, table: &Table, bytes: &Items<u8>) -> Result<Checked
     }
 }
 
+/// Checked code under a name.
+fn loaded(name: Text, code: Checked) -> Loaded
+    ensures { result ≡ record { name = name; code = code } }
+{
+    Loaded { name, code }
+}
+
 /// A script of a state, checked under a header.
 fn script(alloc: Global, table: &Table, part: &Script) -> Result<Loaded, StateFault>
     ensures script { IfOk result (IsScriptOf table.now part.now) }
@@ -108,7 +118,7 @@ fn script(alloc: Global, table: &Table, part: &Script) -> Result<Loaded, StateFa
 {
     let name = Text::of(alloc, part.name.as_slice())?;
     match check_code(alloc, table, &part.code) {
-        Ok(code) => Ok(Loaded { name, code }),
+        Ok(code) => Ok(loaded(name, code)),
         Err(fault) => {
             drop(name);
             Err(fault)

@@ -1,11 +1,12 @@
 //! Whether objects are busy exactly where they have a Turn.
-ghost use Rattle.std.specs.Prelude.{◌≡◌, ◌↔◌, [], length, map, suc, slice_get, Some, IfOk, IsTrue};
+ghost use Rattle.std.specs.Prelude.{◌≡◌, ◌↔◌, ◌<◌, ◌≤◌, [], ℕ};
+ghost use Rattle.std.specs.Prelude.{length, map, suc, slice_get, Some, IfOk, IsTrue};
 ghost use Rattle.std.specs.List.{AllByRecursion};
 ghost use Rattle.delay_agenda.specs.Waiting.{turn_count};
 ghost use Rattle.world_rules.specs.Kept.{IsPlaced, turns_allowed};
 ghost use Rattle.play_save.specs.World.{entry_of, kind_of};
 ghost use Rattle.play_save.specs.Rules.{IsSettledBy, AreSettled};
-ghost use Rattle.play_save.specs.Breaking.{CountsTurns};
+ghost use Rattle.play_save.specs.Breaking.{CountsOne, CountsTurns, IsTurnOnlyOf};
 
 use nwq_value::{Items, NoMemory};
 use state_format::{Entry, Kind, Object};
@@ -23,6 +24,37 @@ fn no_turns(alloc: Global, objects: usize) -> Result<Items<u64>, NoMemory>
     Ok(counts)
 }
 
+/// The object of a Turn; 0 for any other entry.
+#[tactic(auto, using(crate::proofs::Turning::only_turn, crate::proofs::Turning::no_event, crate::proofs::Turning::no_stored, crate::proofs::Turning::no_unapply, crate::proofs::Turning::turn_placed))]
+fn turn_object(objects: usize, entry: &Entry) -> usize
+    requires placed { IsPlaced objects (kind_of entry.now.kind) }
+    ensures turn { IsTurnOnlyOf result entry.now }
+    ensures placed { result ≤ objects }
+{
+    match &entry.kind {
+        Kind::Turn { object } => *object as usize,
+        Kind::Event { .. } => 0,
+        Kind::Stored { .. } => 0,
+        Kind::Unapply { .. } => 0,
+    }
+}
+
+/// Counts an entry that is a Turn.
+fn count_one(counts: &mut Items<u64>, objects: usize, entry: &Entry)
+    requires placed { IsPlaced objects (kind_of entry.now.kind) }
+    requires len { length counts.old ≡ objects }
+    requires room { (i n : ℕ) → slice_get counts.old i ≡ Some n → n < 18446744073709551615 }
+    ensures counts { CountsOne counts.old entry.now counts.new }
+    ensures len { length counts.new ≡ length counts.old }
+{
+    let turn = turn_object(objects, entry);
+    if turn == 0 {
+        return;
+    }
+    let count = counts.as_slice()[turn - 1];
+    counts.set(turn - 1, count + 1);
+}
+
 /// How many Turns each of so many objects has.
 fn count_turns(alloc: Global, objects: usize, entries: &[Entry]) -> Result<Items<u64>, NoMemory>
     requires placed { AllByRecursion (λ e. IsPlaced objects (kind_of e.kind)) entries.now }
@@ -31,11 +63,7 @@ fn count_turns(alloc: Global, objects: usize, entries: &[Entry]) -> Result<Items
 {
     let mut counts = no_turns(alloc, objects)?;
     for entry in entries {
-        if let Kind::Turn { object } = &entry.kind {
-            let at = *object as usize - 1;
-            let count = counts.as_slice()[at];
-            counts.set(at, count + 1);
-        }
+        count_one(&mut counts, objects, entry);
     }
     Ok(counts)
 }

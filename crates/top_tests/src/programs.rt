@@ -4,6 +4,7 @@ ghost use Rattle.std.specs.Prelude.{map};
 ghost use Rattle.world_core.specs.Calls.{AreServing};
 
 use crate::answers::words_of;
+use command_messages::{End, LastLine, tell_end};
 use hook_table::Hooks;
 use nwq_outside::{MemFiles, MemSink};
 use nwq_top::nwq_program;
@@ -24,12 +25,12 @@ const ROWS: &[(&str, u8, &str)] = &[
     ("nwq run", 1, "refused words\n"),
 ];
 
-/// Whether standard error is told how words go, exactly after words that are none.
+/// Whether standard error is told why the program ended, exactly where that is no success.
 fn is_told(number: u8, told: &[u8]) -> bool {
-    if number == 1 {
-        told.starts_with(b"usage: nwq run HEADER SCRIPT | ") && told.ends_with(b"\n")
-    } else {
-        told.is_empty()
+    match number {
+        0 => told.is_empty(),
+        1 => told.starts_with(b"nwq 1.0: error: ") && told.ends_with(b"\n"),
+        _ => told.ends_with(b"]\n") || told.ends_with(b"^\n"),
     }
 }
 
@@ -49,10 +50,17 @@ fn ends(
 ) -> bool
     requires hooks { AreServing (map (λ h. h.known) hooks.now.all.items) }
 {
-    let mut out = MemSink::new(alloc);
+    let mut out = LastLine::new(alloc, MemSink::new(alloc));
     let mut err = MemSink::new(alloc);
-    let found = nwq_program(alloc, all, files, &mut out, &mut err, hooks);
-    found == number && out.bytes() == text.as_bytes() && is_told(number, err.bytes())
+    let found = nwq_program(alloc, all, files, &mut out, hooks);
+    let end = End {
+        number: found,
+        line: out.line(),
+        trouble: None,
+    };
+    tell_end(alloc, all, end, files, &mut err);
+    let told = out.inner().bytes();
+    found == number && told == text.as_bytes() && is_told(number, err.bytes())
 }
 
 /// Whether the program over two scripts ends with this number, and prints this.

@@ -26,3 +26,5 @@ pub all_posted : {X : Type 0} → (w : World X) (starts : List Start) (i : ℕ) 
 all_posted {X = X} w starts i over under =
     let same : i ≡ length starts = omega (arith, over, under) in
     ap (λ (k : ℕ). fold with_planned w (map planned (drop k starts))) same ∙ ap (λ (ss : List Start). fold with_planned w (map planned ss)) (drop_all starts)
+
+pub ruleset posted_all = (one_more_start, all_posted)

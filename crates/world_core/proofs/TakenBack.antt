@@ -11,3 +11,5 @@ pub taken_back_after : (before more between after : List ℕ) → between ≡ be
 taken_back_after before more between after is kept =
     let longer : length before ≤ length between = rw (is, length-append) (omega arith)
     in sym (take-take (length before) (length between) after longer) ∙ ap (take (length before)) kept ∙ taken_back before more between is
+
+pub ruleset takes_back = (taken_back, taken_back_after)

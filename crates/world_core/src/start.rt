@@ -43,7 +43,7 @@ fn post_start<X: Drop>(parts: &mut Parts<X>, start: &Start) -> Result<(), NoMemo
 }
 
 /// Posts events, one after the other.
-#[tactic(auto, using(crate::proofs::StartLemmas::one_more_start, crate::proofs::StartLemmas::all_posted))]
+#[tactic(auto, using(crate::proofs::StartLemmas::posted_all))]
 pub(crate) fn post_all<X: Drop>(parts: &mut Parts<X>, starts: &[Start]) -> Result<(), NoMemory>
     requires first { parts.old.world.agenda.next ≡ 0 }
     ensures posted { OnOk result

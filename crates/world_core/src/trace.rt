@@ -53,7 +53,7 @@ fn put_printed(out: &mut Vec<u8>, value: &Value) -> Result<(), NoMemory>
     put_print(out, value)
 }
 
-#[tactic(auto, using(crate::proofs::TakenBack::taken_back, crate::proofs::TakenBack::taken_back_after))]
+#[tactic(auto, using(crate::proofs::TakenBack::takes_back))]
 fn put_call(out: &mut Vec<u8>, name: &[u8], args: &[Value]) -> Result<(), NoMemory>
     ensures ok { OnOk result (out.new.items
         ≡ out.old.items ++ codes "call " ++ name.now ++ 40 ∷ arguments_text args.now ++ 41 ∷ []) }
@@ -67,7 +67,7 @@ fn put_call(out: &mut Vec<u8>, name: &[u8], args: &[Value]) -> Result<(), NoMemo
     Ok(())
 }
 
-#[tactic(auto, using(crate::proofs::TakenBack::taken_back, crate::proofs::TakenBack::taken_back_after))]
+#[tactic(auto, using(crate::proofs::TakenBack::takes_back))]
 fn put_applied(out: &mut Vec<u8>, duration: i32, effect: &Effect) -> Result<(), NoMemory>
     ensures ok { OnOk result (out.new.items ≡ out.old.items
         ++ codes "apply " ++ signed_decimal duration ++ 32 ∷ effect_text effect.now) }
@@ -107,7 +107,7 @@ fn put_told(out: &mut Vec<u8>, told: &Told) -> Result<(), NoMemory>
 }
 
 /// Appends when and on which object.
-#[tactic(auto, using(crate::proofs::TakenBack::taken_back, crate::proofs::TakenBack::taken_back_after))]
+#[tactic(auto, using(crate::proofs::TakenBack::takes_back))]
 fn put_head(out: &mut Vec<u8>, clock: u64, object: u32) -> Result<(), NoMemory>
     ensures ok { OnOk result (out.new.items
         ≡ out.old.items ++ (decimal clock ++ 32 ∷ object_text object ++ 32 ∷ [])) }
@@ -121,7 +121,7 @@ fn put_head(out: &mut Vec<u8>, clock: u64, object: u32) -> Result<(), NoMemory>
 }
 
 /// Appends a line.
-#[tactic(auto, using(crate::proofs::TakenBack::taken_back, crate::proofs::TakenBack::taken_back_after), unfolding(world_rules::specs::Trace::line_text))]
+#[tactic(auto, using(crate::proofs::TakenBack::takes_back), unfolding(world_rules::specs::Trace::line_text))]
 fn put_line(out: &mut Vec<u8>, line: &Line) -> Result<(), NoMemory>
     ensures ok { OnOk result (out.new.items ≡ out.old.items ++ line_text line.now) }
     ensures err { OnErr result (take (length out.old.items) out.new.items ≡ out.old.items) }
@@ -142,12 +142,16 @@ fn put_lines(out: &mut Vec<u8>, lines: &[Line]) -> Result<(), NoMemory>
     Ok(())
 }
 
+/// The bytes that are asked for at once for each line; most take fewer.
+const LINE_ROOM: usize = 32;
+
 /// Appends the text of lines.
 #[tactic(auto, unfolding(world_rules::specs::Trace::trace_text))]
 pub(crate) fn put_trace(out: &mut Vec<u8>, lines: &[Line]) -> Result<(), NoMemory>
     ensures ok { OnOk result (out.new.items ≡ out.old.items ++ trace_text lines.now) }
     ensures err { OnErr result (out.new.items ≡ out.old.items) }
 {
+    out.reserve(lines.len().saturating_mul(LINE_ROOM))?;
     let start = out.len();
     let done = put_lines(out, lines);
     if done.is_err() {

@@ -76,3 +76,7 @@ nothing_waits_in until (x ∷ rest) w is none = absurd (none-some x.due none)
 
 pub nothing_waits : {X : Type 0} → (until : ℕ) (w : World X) → None ≡ first_due w.agenda.entries → begin until w ≡ None
 nothing_waits until w none = nothing_waits_in until w.agenda.entries w refl none
+
+pub ruleset first_entry = (nothing_begun, first_begun)
+
+pub ruleset no_entry = (none_due, nothing_waits)

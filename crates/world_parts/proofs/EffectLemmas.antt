@@ -166,6 +166,10 @@ pub none_without_object : {X : Type 0} → (o : ℕ) (e : Effect) (w : World X) 
 none_without_object o e w counted missing =
     ap (λ (es : List Stood). if list_any (is_effect e) es then told o (line.Remove e) (with_effects o (without_first (is_effect e) es) w) else w) (none_past o w counted missing)
 
+pub ruleset removals = (removed_at, none_removed, place_inside, none_without_object)
+
+pub ruleset expirations = (expired_at, none_expired, place_inside)
+
 -- no other duration applies anything
 pub other_duration : {X : Type 0} → (n : ℤ) (o : ℕ) (e : Effect) (ms : ℤ) (w : World X) → n ≢ pos 0 → n ≢ pos 1 → n ≢ pos 2 → applied n o e ms w ≡ w
 other_duration (negsuc n) o e ms w a b c = refl

@@ -1,7 +1,6 @@
 -- What is kept of objects, where one of them is changed.
 use Rattle.std.proofs.Common.{◌≡◌, ◌<◌, ◌≤◌, ◌-◌, ℕ, zero, suc, List, [], ◌∷◌, length, get_or, set, Result, Ok, Err, Option, Some, slice_get, refl, sym, ap, subst, ◌∙◌, arith}
 use Rattle.std.specs.Result.{OnOk}
-use Rattle.std.proofs.lemmas.Option.{slice_get-get_or}
 use Rattle.action_queue.specs.Queued.{Queued}
 use Rattle.nwq_value.specs.declared.memory.NoMemory.{NoMemory}
 use Rattle.world_rules.specs.declared.data.Stood.{Stood}
@@ -23,14 +22,6 @@ pub things_of : {X : Type 0} → (o : ℕ) (things : List (Things X)) (t : Thing
 things_of zero things t first within is = absurd (omega (arith, first))
 things_of (suc i) things t first within is =
     subst (λ (k : ℕ). t ≡ get_or things k t → slice_get things i ≡ Some t) (pred_suc i) (λ is. things_read things i t within is) is
-
--- what is read of its effects
-pub effect_read : {X : Type 0} → (o : ℕ) (things : List (Things X)) (t : Things X) (es : List Stood) (at : ℕ) (s : Stood) → things_at o things ≡ Some t → es ≡ t.effects →
-    at < length (effects_in (things_at o things)) → s ≡ get_or es at s → slice_get (effects_in (things_at o things)) at ≡ Some s
-effect_read {X = X} o things t es at s is made lt read =
-    let same : effects_in (things_at o things) ≡ es = ap (λ (f : Option (Things X)). effects_in f) is ∙ sym made in
-    let inside : at < length es = subst (λ (es : List Stood). at < length es) same lt in
-    ap (λ (es : List Stood). slice_get es at) same ∙ (slice_get-get_or es at s inside ∙ ap Some (sym read))
 
 -- what is kept of it is changed
 queue_put : {X : Type 0} → (things : List (Things X)) (i : ℕ) (t : Things X) (q : Queued X) → i < length things → t ≡ get_or things i t →
@@ -90,3 +81,5 @@ busy_at (suc i) q (t ∷ things) same = busy_at i q things same
 pub busy_stays : {X : Type 0} → (o : ℕ) (actions : List (Item X)) (w : World X) → (queue_of o (with_actions o actions w)).busy ≡ (queue_of o w).busy
 busy_stays zero actions w = refl
 busy_stays (suc i) actions w = busy_at i (record (queue_of (suc i) w) { actions = actions }) w.things refl
+
+pub ruleset cleared = (long_changed, busy_stays)

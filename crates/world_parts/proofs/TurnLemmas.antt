@@ -66,8 +66,12 @@ pub turn_speak : {X : Type 0} → (o : ℕ) (bytes : List ℕ) (w : World X) →
     turn o w ≡ record { action = None; world = turn_done o (told o (line.Speak bytes) (with_actions o (drop 1 (queue_of o w).actions) w)) }
 turn_speak {X = X} o bytes w some = ap (λ (items : List (Item X)). turned o items w) (cons_of (Speak bytes) (queue_of o w).actions some)
 
+pub ruleset turn_cases = (turn_none, turn_do, turn_wait, turn_speak)
+
 pub rests : {X : Type 0} → (o : ℕ) (w : World X) → None ≡ slice_get (queue_of o w).actions 0 → turn_done o w ≡ with_busy o false w
 rests {X = X} o w none = ap (λ (items : List (Item X)). next_turn o items w) (nil_of (queue_of o w).actions none)
 
 pub goes_on : {X : Type 0} → (o : ℕ) (i : Item X) (w : World X) → Some i ≡ slice_get (queue_of o w).actions 0 → turn_done o w ≡ post w.clock (Turn o) w
 goes_on {X = X} o i w some = ap (λ (items : List (Item X)). next_turn o items w) (cons_of i (queue_of o w).actions some)
+
+pub ruleset turned_on = (rests, goes_on)

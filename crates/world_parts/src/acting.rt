@@ -127,7 +127,7 @@ impl<X: Drop> Parts<X> {
         }
     }
 
-    #[tactic(auto, using(crate::proofs::ThingsLemmas::long_changed, crate::proofs::ThingsLemmas::busy_stays))]
+    #[tactic(auto, using(crate::proofs::ThingsLemmas::cleared))]
     /// The queue of an object is emptied. In version 1 a Turn that is on the agenda stays there, in
     /// version 2 it goes.
     pub(crate) fn clear_all(&mut self, o: u32)

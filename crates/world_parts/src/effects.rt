@@ -9,7 +9,7 @@ use crate::parts::Parts;
 use crate::things::add_effect;
 use delay_agenda::Kind;
 use nwq_value::{Effect, NoMemory};
-use world_rules::{Stood, Told};
+use world_rules::{Standing, Stood, Told};
 
 /// Whether an effect that stands is equal to this one.
 fn is_effect(effect: &Effect, stood: &Stood) -> bool
@@ -19,17 +19,23 @@ fn is_effect(effect: &Effect, stood: &Stood) -> bool
 }
 
 /// The place of the first effect that is equal to this one.
-fn place_of_equal(standing: &[Stood], effect: &Effect) -> Option<usize>
+fn place_of_equal(standing: &Standing, effect: &Effect) -> Option<usize>
     ensures place { result ≡ position (is_effect effect.now) standing.now }
 {
-    standing.iter().position(|stood| is_effect(effect, stood))
+    standing
+        .as_deque()
+        .iter()
+        .position(|stood| is_effect(effect, stood))
 }
 
 /// The place of the first effect of this number.
-fn place_of_number(standing: &[Stood], number: u64) -> Option<usize>
+fn place_of_number(standing: &Standing, number: u64) -> Option<usize>
     ensures place { result ≡ position (is_numbered number) standing.now }
 {
-    standing.iter().position(|stood| stood.is_numbered(number))
+    standing
+        .as_deque()
+        .iter()
+        .position(|stood| stood.is_numbered(number))
 }
 
 impl<X: Drop> Parts<X> {
@@ -132,7 +138,7 @@ impl<X: Drop> Parts<X> {
 
     /// The first effect of an object that is equal to this one goes, where there is one. A number
     /// without an object has none.
-    #[tactic(auto, using(crate::proofs::EffectLemmas::removed_at, crate::proofs::EffectLemmas::none_removed, crate::proofs::EffectLemmas::place_inside, crate::proofs::EffectLemmas::none_without_object))]
+    #[tactic(auto, using(crate::proofs::EffectLemmas::removals))]
     pub(crate) fn remove_effect(&mut self, o: u32, effect: Effect)
         requires world { IsWorld self.old.world }
         requires line { 1 ≤ self.old.lines }
@@ -153,7 +159,7 @@ impl<X: Drop> Parts<X> {
     }
 
     /// The first effect of this number that stands on an object ends, where there is one.
-    #[tactic(auto, using(crate::proofs::EffectLemmas::expired_at, crate::proofs::EffectLemmas::none_expired, crate::proofs::EffectLemmas::place_inside))]
+    #[tactic(auto, using(crate::proofs::EffectLemmas::expirations))]
     pub fn unapply(&mut self, o: u32, number: u64)
         requires first { 1 ≤ o }
         requires within { o ≤ length self.old.world.things }

@@ -19,7 +19,7 @@ use nwq_value::{Items, NoMemory, Randoms};
 use std::alloc::Global;
 use std::collections::VecDeque;
 use std::marker::Model;
-use world_rules::{Line, Stood, Things, Told};
+use world_rules::{Line, Standing, Stood, Things, Told};
 
 /// The parts of a world.
 ///
@@ -264,16 +264,16 @@ impl<X: Drop> Parts<X> {
           world = with_effects o (remove (effects_of o self.old.world) at) self.old.world;
         } }
     {
-        take_effect(self.alloc, &mut self.things, o, at)
+        take_effect(&mut self.things, o, at)
     }
 
     /// The effects that stand on an object.
-    pub fn effects(&self, o: u32) -> &[Stood]
+    pub fn effects(&self, o: u32) -> &Standing
         requires first { 1 ≤ o }
         requires within { o ≤ length self.now.world.things }
         ensures effects { result.now ≡ effects_of o self.now.world }
     {
-        of_object(self.things.as_slice(), o).effects.as_slice()
+        &of_object(self.things.as_slice(), o).effects
     }
 
     /// What an object is to do, and its mark.

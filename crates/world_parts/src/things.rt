@@ -6,9 +6,7 @@ ghost use Rattle.world_rules.specs.Changes.{changed_object};
 ghost use Rattle.world_rules.specs.World.{things_at, queue_in, effects_in};
 
 use action_queue::Item;
-use nwq_value::{Items, NoMemory};
-use std::alloc::Global;
-use std::mem;
+use nwq_value::NoMemory;
 use world_rules::{Stood, Things};
 
 /// Sets an object's mark; its actions stay.
@@ -88,12 +86,7 @@ pub(crate) fn add_effect<X: Drop>(
 }
 
 /// Takes the effect at a place off an object.
-pub(crate) fn take_effect<X: Drop>(
-    alloc: Global,
-    things: &mut Vec<Things<X>>,
-    o: u32,
-    at: usize,
-) -> Stood
+pub(crate) fn take_effect<X: Drop>(things: &mut Vec<Things<X>>, o: u32, at: usize) -> Stood
     requires first { 1 ≤ o }
     requires within { o ≤ length things.old.items }
     requires there { at < length (effects_in (things_at o things.old.items)) }
@@ -103,10 +96,7 @@ pub(crate) fn take_effect<X: Drop>(
     }) things.old.items }
 {
     let object = &mut things[o as usize - 1];
-    let mut effects = mem::replace(&mut object.effects, Items::new(alloc)).into_vec();
-    let taken = effects.remove(at);
-    drop(mem::replace(&mut object.effects, Items::of_vec(effects)));
-    taken
+    object.effects.take(at)
 }
 
 /// What is kept of an object.

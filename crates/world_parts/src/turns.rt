@@ -9,9 +9,9 @@ use crate::parts::Parts;
 use crate::things::set_busy;
 use action_queue::{Item, Queue};
 use delay_agenda::{Entry, Kind};
-use nwq_value::{Items, NoMemory};
+use nwq_value::NoMemory;
 use std::alloc::Global;
-use world_rules::{Things, Told};
+use world_rules::{Standing, Things, Told};
 
 /// So many objects that have nothing to do, and on which no effect stands.
 #[tactic(auto, using(crate::proofs::BeginLemmas::one_more))]
@@ -22,7 +22,7 @@ pub(crate) fn idle_objects<X: Drop>(alloc: Global, n: u32) -> Result<Vec<Things<
     for done in 0..n {
         objects.push(Things {
             queue: Queue::new(alloc),
-            effects: Items::new(alloc),
+            effects: Standing::new(alloc),
         })?;
     }
     Ok(objects)
@@ -40,7 +40,7 @@ fn user_number<X>(kind: &Kind<X>) -> i32
 
 impl<X: Drop> Parts<X> {
     /// Takes the first entry that waits, and sets the clock to when it is due.
-    #[tactic(auto, using(crate::proofs::BeginLemmas::nothing_begun, crate::proofs::BeginLemmas::first_begun))]
+    #[tactic(auto, using(crate::proofs::BeginLemmas::first_entry))]
     fn begin_first(&mut self, until: u64) -> Option<Entry<X>>
         requires due { IfSome (first_due self.old.world.agenda.entries) (λ due. due ≤ until) }
         ensures begun { IsBegunAs until self.old.world result self.new.world }
@@ -55,7 +55,7 @@ impl<X: Drop> Parts<X> {
     }
 
     /// Takes the next entry that is due by a time, and sets the clock to when it is due.
-    #[tactic(auto, using(crate::proofs::BeginLemmas::none_due, crate::proofs::BeginLemmas::nothing_waits))]
+    #[tactic(auto, using(crate::proofs::BeginLemmas::no_entry))]
     pub fn begin(&mut self, until: u64) -> Option<Entry<X>>
         ensures begun { IsBegunAs until self.old.world result self.new.world }
         ensures posts { self.old.posts ≤ self.new.posts }
@@ -73,7 +73,7 @@ impl<X: Drop> Parts<X> {
     }
 
     /// The object turns to its next action at once, or rests where it has none.
-    #[tactic(auto, using(crate::proofs::TurnLemmas::rests, crate::proofs::TurnLemmas::goes_on))]
+    #[tactic(auto, using(crate::proofs::TurnLemmas::turned_on))]
     pub fn turn_done(&mut self, o: u32)
         requires first { 1 ≤ o }
         requires within { o ≤ length self.old.world.things }
@@ -92,7 +92,7 @@ impl<X: Drop> Parts<X> {
     }
 
     /// The object turns to the first action of its queue. A stored one is the answer.
-    #[tactic(auto, using(crate::proofs::TurnLemmas::turn_none, crate::proofs::TurnLemmas::turn_do, crate::proofs::TurnLemmas::turn_wait, crate::proofs::TurnLemmas::turn_speak, crate::proofs::ThingsLemmas::long_changed))]
+    #[tactic(auto, using(crate::proofs::TurnLemmas::turn_cases, crate::proofs::ThingsLemmas::long_changed))]
     pub fn turn(&mut self, o: u32) -> Option<X>
         requires first { 1 ≤ o }
         requires within { o ≤ length self.old.world.things }

@@ -2,6 +2,7 @@ ghost use Rattle.std.specs.Prelude.{◌≡◌};
 ghost use Rattle.world_rules.specs.Arguments.{at_least_zero};
 ghost use Rattle.world_rules.specs.Changes.{is_numbered};
 
+use crate::standing::Standing;
 use action_queue::Queue;
 use nwq_value::{Args, Effect, Items, Text, Value};
 
@@ -34,9 +35,6 @@ pub fn at_least_zero(n: i32) -> u64
     }
     n as u64
 }
-
-/// The effects of one object, in the order in which they came.
-pub type Standing = Items<Stood>;
 
 /// What a world keeps of one object beside the area.
 #[derive(Drop)]

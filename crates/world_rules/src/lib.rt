@@ -20,7 +20,9 @@
 mod data;
 mod laws;
 mod plays;
+mod standing;
 
-pub use data::{Line, Objects, Standing, Stood, Things, Told, Trace, at_least_zero};
+pub use data::{Line, Objects, Stood, Things, Told, Trace, at_least_zero};
 pub use laws::{calls_keep_worlds, entries_keep_worlds};
 pub use plays::{plays_go_on, plays_settle};
+pub use standing::Standing;

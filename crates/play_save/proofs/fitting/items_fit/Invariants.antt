@@ -5,4 +5,4 @@ use Rattle.play_save.specs.Breaking.{IsFitting}
 use Rattle.play_save.proofs.fitting.items_fit.Given as goal
 
 abbrev pub invariant-loop-item : goal.invariant-loop-item
-invariant-loop-item g l = AllByRecursion (ItemHolds (IsFitting l.scripts)) (take l.item-index l.items)
+invariant-loop-item l = AllByRecursion (ItemHolds (IsFitting l.scripts)) (take l.item-index l.items)

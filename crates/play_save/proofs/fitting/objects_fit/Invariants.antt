@@ -5,4 +5,4 @@ use Rattle.play_save.specs.Breaking.{IsFitting}
 use Rattle.play_save.proofs.fitting.objects_fit.Given as goal
 
 abbrev pub invariant-loop-object : goal.invariant-loop-object
-invariant-loop-object g l = AllByRecursion (λ o. AllByRecursion (ItemHolds (IsFitting l.scripts)) o.items) (take l.object-index l.objects)
+invariant-loop-object l = AllByRecursion (λ o. AllByRecursion (ItemHolds (IsFitting l.scripts)) o.items) (take l.object-index l.objects)

@@ -5,4 +5,4 @@ use Rattle.play_save.specs.World.{variables_of}
 use Rattle.play_save.proofs.limits.are_distinct.Given as goal
 
 abbrev pub invariant-loop-object : goal.invariant-loop-object
-invariant-loop-object g l = AllByRecursion (λ o. IsDistinct same_variable (variables_of o)) (take l.object-index l.objects)
+invariant-loop-object l = AllByRecursion (λ o. IsDistinct same_variable (variables_of o)) (take l.object-index l.objects)

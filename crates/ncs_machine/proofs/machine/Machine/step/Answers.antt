@@ -1,26 +1,43 @@
-use Rattle.std.proofs.Common.{◌≡◌, Some, rules}
-use Rattle.std.specs.Prelude.{slice_get}
-use Rattle.ncs_code.specs.Plain.{plain}
+use Rattle.std.proofs.Common.{◌≡◌, ◌≢◌, Some, None, rules, subst, sym}
+use Rattle.std.specs.Prelude.{slice_get, IfSome}
 use Rattle.ncs_code.specs.File.{op_at}
+use Rattle.decoded_code.specs.Steps.{kept, op_of}
 use Rattle.ncs_machine.specs.Steps.{next_of, state}
-use Rattle.ncs_machine.proofs.Stepping.{act_case, act_deep, act_next}
+use Rattle.ncs_machine.proofs.Stepping.{IsNext, begins_here, decoded_case, decoded_deep, decoded_next, decoded_small, next_is}
 use Rattle.ncs_machine.proofs.machine.Machine.step.Goals as goal
+
+pub step_at-decoded-requires : goal.step_at-decoded-requires
+step_at-decoded-requires g c =
+    let l = c.in-Some.script.now in
+    let listed : slice_get c.args.scripts.now c.args.self.now.running.script ≡ Some l = search rules in
+    record {
+      begins = subst (λ n. op_at l.code.code n ≢ None) (sym c.place.ensures.place)
+          (begins_here c.args.scripts.now _ c.args.self.now c.args.world.now.world l listed c.requires.well);
+    }
+
+pub act-requires : goal.act-requires
+act-requires g c =
+    let l = c.in-Some.script.now in
+    let listed : slice_get c.args.scripts.now c.args.self.now.running.script ≡ Some l = search rules in
+    let some = begins_here c.args.scripts.now _ c.args.self.now c.args.world.now.world l listed c.requires.well in
+    let there = subst (λ n. IfSome (op_at l.code.code n) (λ op. op_of c.step_at-decoded.result.now ≡ kept op)) c.place.ensures.place c.step_at-decoded.ensures.step in
+    let next = next_is l c.args.self.now.running.place c.step_at-decoded.result.now some there in
+    record {
+      few = c.requires.few;
+      early = c.requires.early;
+      caller = c.requires.caller;
+      hooks = c.requires.hooks;
+      case = decoded_case c.args.scripts.now _ c.args.self.now c.args.world.now.world l c.step_at-decoded.result.now listed next c.requires.well;
+      deep = λ f moves. decoded_deep c.args.scripts.now _ c.args.self.now c.args.world.now.world l c.step_at-decoded.result.now f listed next c.requires.well moves;
+      small = decoded_small c.place_laws.ensures.places l c.args.self.now.running.place c.step_at-decoded.result.now c.sound.ensures.code next;
+    }
 
 pub returns-clause-next : goal.returns-clause-next
 returns-clause-next g c =
-    let listed : slice_get c.args.scripts.now c.args.self.now.running.script ≡ Some c.in-Some.script.now = search rules in
-    let stands : op_at c.in-Some.script.now.code.code c.args.self.now.running.place ≡ Some (plain c.in-Some-op_at.op) = search rules in
-    act_next c.args.scripts.now _ c.args.self.now c.args.world.now.world c.in-Some.script.now (plain c.in-Some-op_at.op)
-    (next_of c.in_ok-next-in-Some-op_at.next (state c.act.new.self c.act.new.world.world)) listed stands c.requires.well c.in_ok-next-in-Some-op_at.ensures.next
-
-pub act-requires-clause-case : goal.act-requires-clause-case
-act-requires-clause-case g c =
-    let listed : slice_get c.args.scripts.now c.args.self.now.running.script ≡ Some c.in-Some.script.now = search rules in
-    let stands : op_at c.in-Some.script.now.code.code c.args.self.now.running.place ≡ Some (plain c.in-Some-op_at.op) = search rules in
-    act_case c.args.scripts.now _ c.args.self.now c.args.world.now.world c.in-Some.script.now (plain c.in-Some-op_at.op) listed stands c.requires.well
-
-pub act-requires-clause-deep : goal.act-requires-clause-deep
-act-requires-clause-deep g c =
-    let listed : slice_get c.args.scripts.now c.args.self.now.running.script ≡ Some c.in-Some.script.now = search rules in
-    let stands : op_at c.in-Some.script.now.code.code c.args.self.now.running.place ≡ Some (plain c.in-Some-op_at.op) = search rules in
-    λ f moves. act_deep c.args.scripts.now _ c.args.self.now c.args.world.now.world c.in-Some.script.now (plain c.in-Some-op_at.op) f listed stands c.requires.well moves
+    let l = c.in-Some.script.now in
+    let listed : slice_get c.args.scripts.now c.args.self.now.running.script ≡ Some l = search rules in
+    let some = begins_here c.args.scripts.now _ c.args.self.now c.args.world.now.world l listed c.requires.well in
+    let there = subst (λ n. IfSome (op_at l.code.code n) (λ op. op_of c.step_at-decoded.result.now ≡ kept op)) c.place.ensures.place c.step_at-decoded.ensures.step in
+    let next = next_is l c.args.self.now.running.place c.step_at-decoded.result.now some there in
+    decoded_next c.args.scripts.now _ c.args.self.now c.args.world.now.world l c.step_at-decoded.result.now
+    (next_of c.in_ok-next-in-Some.next (state c.act.new.self c.act.new.world.world)) listed next c.requires.well c.in_ok-next-in-Some.ensures.next

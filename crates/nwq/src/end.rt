@@ -1,0 +1,118 @@
+//! How the program ends.
+ghost use Rattle.std.specs.Prelude.{◌≡◌, IsTrue};
+ghost use Rattle.std.specs.Process.{exit_status};
+ghost use Rattle.command_work.specs.Work.{IsCut, Does, ending};
+ghost use Rattle.command_work.specs.Counts.{Counted, Tallies, KeepsBut};
+ghost use Rattle.nwq_top.specs.Command.{whole_work, MayWrite};
+ghost use Rattle.nwq_top.specs.Cuts.{IsFrontOf};
+ghost use Rattle.nwq_top.specs.Endings.{ComesOf};
+ghost use Rattle.nwq_top.specs.Meaning.{MeansWhole};
+ghost use Rattle.nwq_top.specs.Program.{status_number, status_numbered};
+ghost use Rattle.nwq.specs.Ending.{EndsWanting, form_in};
+
+use crate::whole::run_all;
+use command_messages::{End, LastLine, tell_end};
+use nwq_outside::{Files, RealFiles, Sink, Trouble};
+use nwq_top::laws::one_outcome;
+use std::alloc::{AllocGlobal, Global};
+use std::process::ExitCode;
+use std::rt::Files as HostFiles;
+
+/// The number of the status for want of memory.
+const WANT_OF_MEMORY: u8 = 8;
+
+/// The program's name and the words after it, as it is given them.
+#[derive(Drop)]
+pub(crate) enum Words {
+    All(Vec<String>),
+    /// Some of them are no text.
+    NoText,
+    NoMemory,
+}
+
+/// Files that tell at which name the outside failed last.
+pub(crate) trait Troubled {
+    fn trouble(&self) -> Option<&Trouble>;
+}
+
+impl<R: HostFiles + AllocGlobal> Troubled for RealFiles<R> {
+    fn trouble(&self) -> Option<&Trouble> {
+        RealFiles::trouble(self)
+    }
+}
+
+/// Says why the program ends with its number, and ends with it whatever comes of that. The message
+/// writes no file.
+fn told<F: Troubled, S: Sink, A: Files, E: Sink>(
+    alloc: Global,
+    all: &[String],
+    number: u8,
+    files: &F,
+    out: &LastLine<S>,
+    again: &mut A,
+    err: &mut E,
+) -> ExitCode
+    ensures number { exit_status result ≡ number }
+    ensures same { A.contents again.new ≡ A.contents again.old }
+{
+    let end = End {
+        number,
+        line: out.line(),
+        trouble: files.trouble(),
+    };
+    tell_end(alloc, all, end, again, err);
+    ExitCode::from(number)
+}
+
+/// The whole program, given its words, the files, standard output, the files as its message reads
+/// them once more, and standard error: how it ends. Words that are no text are no form of a
+/// command.
+#[tactic(auto, using(command_work::specs::Parts::cut_here))]
+pub(crate) fn end_of<F: Files + Troubled, S: Sink, A: Files, E: Sink>(
+    alloc: Global,
+    words: Words,
+    files: &mut F,
+    out: &mut LastLine<S>,
+    again: &mut A,
+    err: &mut E,
+) -> ExitCode
+    // It ends with the number of a status, by which these say what it did.
+    ensures number { status_number (status_numbered (exit_status result)) ≡ exit_status result }
+    ensures does { IsTrue F.tells → IsTrue S.tells →
+        Does (whole_work (form_in words)) (F.contents files.old) (S.taken out.old.inner)
+        (ending (status_numbered (exit_status result)))
+        (F.contents files.new) (S.taken out.new.inner) }
+    ensures means { IsTrue F.tells → IsTrue S.tells →
+        (IsCut (ending (status_numbered (exit_status result))) → ⊥) →
+        MeansWhole (form_in words) (F.contents files.old) (S.taken out.old.inner)
+        (ending (status_numbered (exit_status result)))
+        (F.contents files.new) (S.taken out.new.inner) }
+    ensures cut { IsTrue F.tells → IsTrue S.tells →
+        IsCut (ending (status_numbered (exit_status result))) →
+        IsFrontOf (whole_work (form_in words)) (F.contents files.old) (S.taken out.old.inner)
+        (F.contents files.new) (S.taken out.new.inner) }
+    ensures counts { Tallies (ending (status_numbered (exit_status result)))
+        (Counted (F.counts files.old) (S.faults out.old.inner))
+        (Counted (F.counts files.new) (S.faults out.new.inner)) }
+    ensures names { KeepsBut (MayWrite (form_in words))
+        (F.contents files.old) (F.contents files.new) }
+    ensures only { ComesOf (form_in words) (status_numbered (exit_status result)) }
+    // Where there was no memory for the words, it ends as where a command wants it.
+    ensures memory { EndsWanting words (exit_status result) }
+    // The message comes after all that, and writes no file.
+    ensures same { A.contents again.new ≡ A.contents again.old }
+{
+    one_outcome();
+    match words {
+        Words::All(all) => {
+            let number = run_all(alloc, all.as_slice(), files, out);
+            told(alloc, all.as_slice(), number, files, out, again, err)
+        }
+        Words::NoText => {
+            let none = Vec::new(alloc);
+            let number = run_all(alloc, none.as_slice(), files, out);
+            told(alloc, none.as_slice(), number, files, out, again, err)
+        }
+        Words::NoMemory => told(alloc, &[], WANT_OF_MEMORY, files, out, again, err),
+    }
+}
