@@ -1,10 +1,11 @@
 -- The world that is put together of a state's parts.
 use Rattle.std.proofs.Common.{◌≡◌, ◌<◌, ◌≤◌, ℕ, zero, suc, ◌+◌, Bool, true, false, List, [], ◌∷◌, length, take, get_or, map, sym, ap, refl, ◌∙◌, subst, add-one, inl, inr, arith}
-use Rattle.std.specs.Prelude.{Option, Some, None, slice_get}
+use Rattle.std.specs.Prelude.{pos, Option, Some, None, MatchOption, slice_get}
 use Rattle.std.specs.Option.{option_map}
-use Rattle.std.specs.List.{AllByRecursion}
-use Rattle.local_variables.specs.Variables.{Variable}
-use Rattle.area_rules.specs.Objects.{AreaObject}
+use Rattle.std.specs.List.{AllByRecursion, IsDistinct}
+use Rattle.std.proofs.lemmas.List.{take_all}
+use Rattle.local_variables.specs.Variables.{Variable, same_variable}
+use Rattle.area_rules.specs.Objects.{AreaObject, objects_of}
 use Rattle.area_rules.specs.Area.{PlainArea, changed, changed_at}
 use Rattle.delay_agenda.specs.declared.entry.Entry.{Entry}
 use Rattle.delay_agenda.specs.Waiting.{Waiting, IsAgenda, turn_count}
@@ -12,11 +13,13 @@ use Rattle.world_rules.specs.declared.data.Things.{Things}
 use Rattle.world_rules.specs.World.{World, queue_of, things_at, queue_in}
 use Rattle.world_rules.specs.Kept.{IsWorld, IsPlaced, turns_allowed}
 use Rattle.saved_state.specs.declared.saved.Saved.{Saved}
+use Rattle.state_format.specs.declared.parts.Variable.{Variable as VariablePart}
 use Rattle.state_format.specs.declared.parts.Object.{Object}
 use Rattle.state_format.specs.declared.parts.Entry.{Entry as Part}
 use Rattle.state_format.specs.declared.parts.Parts.{Parts}
-use Rattle.play_save.specs.World.{variables_of, with_variables, things_of, entry_of}
+use Rattle.play_save.specs.World.{variable_of, variables_of, with_variables, things_of, entry_of, area_from, world_of}
 use Rattle.play_save.specs.Rules.{HasAgenda, HasTurns}
+use Rattle.play_save.specs.Breaking.{IsReadFrom}
 use Rattle.play_save.proofs.Turning.{none_placed}
 
 -- ---- variables in the place of others
@@ -103,3 +106,69 @@ given_more first before after ps i o p vs same was now number is h at =
     now ∙ ap (λ (a : PlainArea). changed a o (λ _. vs)) was
     ∙ ap (λ (k : ℕ). record first { objects = changed_at k (λ _. vs) (with_variables first.objects (take i ps)) }) (omega arith)
     ∙ ap (λ (l : List AreaObject). record first { objects = l }) (given_at first.objects ps i p vs is h same at ∙ ap (λ (k : ℕ). with_variables first.objects (take k ps)) (sym (add-one i)))
+
+-- ---- the loop over the objects
+
+pub given_none : (area : PlainArea) → area ≡ record area { objects = with_variables area.objects [] }
+given_none area = ap (λ (l : List AreaObject). record area { objects = l }) (sym (with_none area.objects))
+
+pub given_within : (first area : PlainArea) (ps : List Object) (i : ℕ) → area ≡ record first { objects = with_variables first.objects (take i ps) } → length ps ≡ length first.objects → i < length ps
+    → i + 1 ≤ length area.objects
+given_within first area ps i is counted h =
+    let count = ap (λ (a : PlainArea). length a.objects) is ∙ given_length first.objects (take i ps) in omega (arith, count, counted, h)
+
+pub given_whole : (first area : PlainArea) (ps : List Object) (i : ℕ) → area ≡ record first { objects = with_variables first.objects (take i ps) } → length ps ≤ i
+    → area ≡ record first { objects = with_variables first.objects ps }
+given_whole first area ps i is h = is ∙ ap (λ (l : List Object). record first { objects = with_variables first.objects l }) (take_all i ps h)
+
+-- what is found of an object's variables
+pub made_of : (found : Option (List Variable)) (lent : List VariablePart) (p : Object) (vs : List Variable) → lent ≡ p.variables → found ≡ Some vs
+    → MatchOption found (IsDistinct same_variable (map variable_of lent) → ⊥) (λ vars. (vars ≡ map variable_of lent) × IsDistinct same_variable (map variable_of lent)) → vs ≡ variables_of p
+made_of None lent p vs same is made = absurd cc
+made_of (Some vars) lent p vs same is made = let here : vars ≡ vs = cc in sym here ∙ made.0 ∙ ap (λ (l : List VariablePart). map variable_of l) same
+
+pub made_not : (found : Option (List Variable)) (lent : List VariablePart) (p : Object) → lent ≡ p.variables → found ≡ None
+    → MatchOption found (IsDistinct same_variable (map variable_of lent) → ⊥) (λ vars. (vars ≡ map variable_of lent) × IsDistinct same_variable (map variable_of lent))
+    → IsDistinct same_variable (variables_of p) → ⊥
+made_not None lent p same is made distinct = made (subst (λ (l : List VariablePart). IsDistinct same_variable (map variable_of l)) (sym same) distinct)
+made_not (Some vars) lent p same is made distinct = absurd cc
+
+-- ---- the world of all these
+
+abbrev waiting_of : ℕ → List Part → Waiting Saved
+waiting_of next parts = record { entries = map entry_of parts; next = next }
+
+pub world_ready : (s : Parts) (area given : PlainArea) (w : World Saved) (objects lent : List Object) (entries : List Part) → w.area ≡ given → w.things ≡ map things_of objects
+    → objects ≡ s.objects → w.agenda ≡ waiting_of s.next entries → entries ≡ s.agenda → w.clock ≡ s.clock → given ≡ record area { objects = with_variables area.objects lent }
+    → length s.objects ≡ length area.objects → HasAgenda s → HasTurns s → IsWorld w
+world_ready s area given w objects lent entries here things os waiting es clock made counted agenda turns =
+    world_kept s w (things ∙ ap (λ (l : List Object). map things_of l) os) (waiting ∙ ap (waiting_of s.next) es) clock
+    (ap (λ (a : PlainArea). length a.objects) here ∙ ap (λ (a : PlainArea). length a.objects) made ∙ given_length area.objects lent ∙ sym counted) agenda turns
+
+abbrev made_world : Parts → PlainArea → List (Things Saved) → Waiting Saved → List ℕ → World Saved
+made_world s area things waiting random = record {
+  clock = s.clock;
+  area = area;
+  things = things;
+  agenda = waiting;
+  trace = [];
+  random = random;
+  user = pos 0;
+  version = s.version;
+}
+
+area_made : (s : Parts) (area given : PlainArea) (lent : List Object) → IsReadFrom s.area (length s.objects) area → given ≡ record area { objects = with_variables area.objects lent }
+    → lent ≡ s.objects → given ≡ area_from area.tree s
+area_made s area given lent read made same =
+    let objects : area.objects ≡ objects_of area.tree.top = ap (λ (a : PlainArea). a.objects) read.area ∙ ap (λ (a : PlainArea). objects_of a.tree.top) (sym read.area) in
+    made ∙ ap (λ (l : List Object). record area { objects = with_variables area.objects l }) same
+    ∙ ap (λ (l : List AreaObject). record area { objects = with_variables l s.objects }) objects
+
+pub world_told : (s : Parts) (area given : PlainArea) (things : List (Things Saved)) (waiting : Waiting Saved) (random : List ℕ) (objects lent : List Object) (entries : List Part) (numbers : List ℕ)
+    → IsReadFrom s.area (length s.objects) area → things ≡ map things_of objects → objects ≡ s.objects → waiting ≡ waiting_of s.next entries → entries ≡ s.agenda → random ≡ numbers
+    → numbers ≡ s.random → given ≡ record area { objects = with_variables area.objects lent } → lent ≡ s.objects → made_world s given things waiting random ≡ world_of area.tree s
+world_told s area given things waiting random objects lent entries numbers read ts os ws es rs ns made same =
+    ap (λ (a : PlainArea). made_world s a things waiting random) (area_made s area given lent read made same)
+    ∙ ap (λ (l : List (Things Saved)). made_world s (area_from area.tree s) l waiting random) (ts ∙ ap (λ (l : List Object). map things_of l) os)
+    ∙ ap (λ (a : Waiting Saved). made_world s (area_from area.tree s) (map things_of s.objects) a random) (ws ∙ ap (waiting_of s.next) es)
+    ∙ ap (λ (l : List ℕ). made_world s (area_from area.tree s) (map things_of s.objects) (waiting_of s.next s.agenda) l) (rs ∙ ns)

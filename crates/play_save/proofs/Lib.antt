@@ -7,5 +7,8 @@ pub mod Testing
 pub mod CapturedLemmas
 pub mod Turning
 pub mod Given
+pub mod Keeping
+pub mod Short
 pub mod Opening
 pub mod Accepting
+pub mod Saving

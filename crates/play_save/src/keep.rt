@@ -2,6 +2,7 @@
 ghost use Rattle.std.specs.Prelude.{◌≡◌, length, IfOk};
 ghost use Rattle.std.specs.List.{AllByRecursion};
 ghost use Rattle.std.specs.Option.{option_map};
+ghost use Rattle.ncs_code.specs.File.{IsCode};
 ghost use Rattle.state_format.specs.Parts.{HasForm, IsBlob, IsList, IsMaybe, IsNumber};
 ghost use Rattle.play_save.specs.States.{HasCome, IsPlayOf, script_parts};
 ghost use Rattle.play_save.specs.Keeping.{AreObjectsOf, KindHasValues, QueuesHaveValues, Tells};
@@ -9,7 +10,7 @@ ghost use Rattle.world_parts.specs.Saved.{put_together};
 
 use crate::kept_entries::{entries, scripts};
 use crate::kept_objects::object;
-use crate::kept_values::{MOST, bytes};
+use crate::kept_values::{MOST, bytes, long, octet, word};
 use area_tree::Area;
 use ncs_machine::Scripts;
 use nwq_value::{Items, NoMemory, Randoms};
@@ -54,7 +55,11 @@ fn randoms(alloc: Global, random: &Randoms) -> Result<Randoms, NoMemory>
     if random.len() > MOST {
         return Err(NoMemory);
     }
-    Randoms::of_slice(alloc, random.as_slice())
+    let mut all = Randoms::new(alloc);
+    for n in random.as_slice() {
+        all.push(word(*n))?;
+    }
+    Ok(all)
 }
 
 /// The parts of a play's state.
@@ -77,6 +82,7 @@ pub(crate) fn keep(
         (script_parts listed.now) file.now limits) }
     ensures come { IfOk result (λ s. HasCome s taken done) }
     ensures tells { IfOk result (λ s. Tells s (put_together area.now saved)) }
+    ensures code { IfOk result (λ s. AllByRecursion (λ l. IsCode l.code.code) listed.now) }
 {
     let WorldParts {
         clock,
@@ -85,7 +91,16 @@ pub(crate) fn keep(
         random,
         version,
     } = saved;
-    let next = agenda.next_number();
+    let version = octet(version);
+    let (limit, most, until) = limits;
+    let limit = long(limit);
+    let most = long(most);
+    let until = long(until);
+    let clock = long(clock);
+    let taken = long(taken);
+    let done = long(done);
+    let number = agenda.next_number();
+    let next = long(number);
     let entries = entries(alloc, agenda)?;
     let objects = objects(alloc, area, things.as_slice())?;
     let random = randoms(alloc, &random)?;
@@ -97,9 +112,9 @@ pub(crate) fn keep(
         scripts,
         area,
         version,
-        limit: limits.0,
-        entries: limits.1,
-        until: limits.2,
+        limit,
+        entries: most,
+        until,
         clock,
         taken,
         done,

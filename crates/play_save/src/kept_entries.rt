@@ -1,13 +1,14 @@
 //! The entries of an agenda, and scripts, as parts of a state.
 ghost use Rattle.std.specs.Prelude.{◌≡◌, length, IfOk};
 ghost use Rattle.std.specs.List.{AllByRecursion};
-ghost use Rattle.state_format.specs.Parts.{IsEntry, IsKind, IsNumber, IsScript};
+ghost use Rattle.ncs_code.specs.File.{IsCode};
+ghost use Rattle.state_format.specs.Parts.{IsEntry, IsKind, IsList, IsNumber, IsScript};
 ghost use Rattle.play_save.specs.World.{entry_of, kind_of};
 ghost use Rattle.play_save.specs.Rules.{is_short_entry, is_short_kind};
 ghost use Rattle.play_save.specs.States.{script_part, script_parts};
 ghost use Rattle.play_save.specs.Keeping.{ArePartsOf, IsPartOf, KindHasValues};
 
-use crate::kept_values::{MOST, bytes, saved, text};
+use crate::kept_values::{MOST, bytes, int, long, saved, text, word};
 use delay_agenda::{Agenda, Entry, Kind};
 use ncs_file::store;
 use ncs_machine::{Loaded, Scripts};
@@ -28,20 +29,20 @@ fn kind(alloc: Global, kind: &Kind<Saved>) -> Result<KindPart, NoMemory>
         } => {
             let script = text(alloc, script)?;
             Ok(KindPart::Event {
-                object: *object,
+                object: word(*object),
                 script,
-                user: *user,
+                user: int(*user),
             })
         }
         Kind::Stored { object, action } => {
             let state = saved(alloc, action)?;
             Ok(KindPart::Stored {
-                object: *object,
+                object: word(*object),
                 state,
             })
         }
-        Kind::Turn { object } => Ok(KindPart::Turn { object: *object }),
-        Kind::Unapply { object } => Ok(KindPart::Unapply { object: *object }),
+        Kind::Turn { object } => Ok(KindPart::Turn { object: word(*object) }),
+        Kind::Unapply { object } => Ok(KindPart::Unapply { object: word(*object) }),
     }
 }
 
@@ -51,8 +52,8 @@ fn entry(alloc: Global, entry: &Entry<Saved>) -> Result<EntryPart, NoMemory>
 {
     let kind = kind(alloc, &entry.kind)?;
     Ok(EntryPart {
-        due: entry.due,
-        number: entry.number,
+        due: long(entry.due),
+        number: long(entry.number),
         kind,
     })
 }
@@ -66,7 +67,7 @@ pub(crate) fn entries(alloc: Global, agenda: Agenda<Saved>) -> Result<Items<Entr
 {
     let mut agenda = agenda;
     let mut all = Items::new(alloc);
-    for _ in 0..MOST {
+    for _done in 0..MOST {
         match agenda.take() {
             None => return Ok(all),
             Some(next) => all.push(entry(alloc, &next)?)?,
@@ -80,7 +81,9 @@ pub(crate) fn entries(alloc: Global, agenda: Agenda<Saved>) -> Result<Items<Entr
 fn script(alloc: Global, loaded: &Loaded) -> Result<Script, NoMemory>
     ensures part { IfOk result (λ part. part ≡ script_part loaded.now) }
     ensures form { IfOk result (λ part. IsScript part) }
+    ensures code { IsCode loaded.now.code.code }
 {
+    loaded.code.code().sound();
     let name = bytes(alloc, loaded.name.bytes())?;
     let code = bytes(alloc, store(loaded.code.code()))?;
     Ok(Script { name, code })
@@ -89,8 +92,12 @@ fn script(alloc: Global, loaded: &Loaded) -> Result<Script, NoMemory>
 /// The names and the files of scripts.
 pub(crate) fn scripts(alloc: Global, scripts: &Scripts) -> Result<Items<Script>, NoMemory>
     ensures parts { IfOk result (λ parts. parts ≡ script_parts scripts.now) }
-    ensures form { IfOk result (AllByRecursion IsScript) }
+    ensures form { IfOk result (IsList IsScript) }
+    ensures code { IfOk result (λ parts. AllByRecursion (λ l. IsCode l.code.code) scripts.now) }
 {
+    if scripts.len() > MOST {
+        return Err(NoMemory);
+    }
     let mut all = Items::new(alloc);
     for loaded in scripts.as_slice() {
         all.push(script(alloc, loaded)?)?;

@@ -2,12 +2,12 @@
 ghost use Rattle.std.specs.Prelude.{◌≡◌, length, IfOk, IsTrue};
 ghost use Rattle.std.specs.List.{AllByRecursion};
 ghost use Rattle.local_variables.specs.Variables.{variable_of as variable_seen};
-ghost use Rattle.state_format.specs.Parts.{IsItem, IsNumber, IsObject, IsStanding, IsVariable};
+ghost use Rattle.state_format.specs.Parts.{IsItem, IsMaybe, IsNumber, IsObject, IsStanding, IsVariable};
 ghost use Rattle.play_save.specs.World.{item_of, stood_of, things_of, variable_of, variables_of};
 ghost use Rattle.play_save.specs.Rules.{has_short_items, is_short_item};
 ghost use Rattle.play_save.specs.Keeping.{any_text, ArePartsOf, HasValues, IsPartOf};
 
-use crate::kept_values::{MOST, bytes, effect, saved, text};
+use crate::kept_values::{MOST, bytes, effect, int, long, saved, text};
 use action_queue::{Item, Queue};
 use local_variables::{Var, Vars};
 use nwq_value::{Items, NoMemory};
@@ -22,7 +22,7 @@ fn item(alloc: Global, item: &Item<Saved>) -> Result<ItemPart, NoMemory>
 {
     match item {
         Item::Do(state) => Ok(ItemPart::Do(saved(alloc, state)?)),
-        Item::Wait(ms) => Ok(ItemPart::Wait(*ms)),
+        Item::Wait(ms) => Ok(ItemPart::Wait(int(*ms))),
         Item::Speak(said) => Ok(ItemPart::Speak(text(alloc, said)?)),
     }
 }
@@ -43,12 +43,23 @@ fn items(alloc: Global, queue: &Queue<Saved>) -> Result<Items<ItemPart>, NoMemor
     Err(NoMemory)
 }
 
+/// The number of an effect, where it has one.
+fn number(number: Option<u64>) -> Option<u64>
+    ensures same { result ≡ number }
+    ensures form { IsMaybe (IsNumber 8) result }
+{
+    match number {
+        None => None,
+        Some(n) => Some(long(n)),
+    }
+}
+
 fn stood(alloc: Global, stood: &Stood) -> Result<StandingPart, NoMemory>
     ensures part { IfOk result (IsPartOf stood_of IsStanding any_text stood.now) }
 {
     let effect = effect(alloc, &stood.effect)?;
     Ok(StandingPart {
-        number: stood.number,
+        number: number(stood.number),
         effect,
     })
 }
@@ -89,7 +100,7 @@ fn variables(alloc: Global, vars: &Vars) -> Result<Items<Variable>, NoMemory>
     }
     let mut all = Items::new(alloc);
     let mut walk = vars.walk();
-    for _ in 0..vars.len() {
+    for _done in 0..vars.len() {
         match walk.next() {
             None => unreachable!(),
             Some(v) => all.push(variable(alloc, v)?)?,

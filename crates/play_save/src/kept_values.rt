@@ -16,6 +16,42 @@ use std::alloc::Global;
 /// How many members a list of a state has at most, and how many bytes a blob.
 pub(crate) const MOST: usize = 4_294_967_295;
 
+/// A number: a field of its size holds it. So with the four below.
+pub(crate) fn int(n: i32) -> i32
+    ensures same { result ≡ n }
+    ensures form { IsSigned result }
+{
+    n
+}
+
+pub(crate) fn octet(n: u8) -> u8
+    ensures same { result ≡ n }
+    ensures form { IsNumber 1 result }
+{
+    n
+}
+
+pub(crate) fn half(n: u16) -> u16
+    ensures same { result ≡ n }
+    ensures form { IsNumber 2 result }
+{
+    n
+}
+
+pub(crate) fn word(n: u32) -> u32
+    ensures same { result ≡ n }
+    ensures form { IsNumber 4 result }
+{
+    n
+}
+
+pub(crate) fn long(n: u64) -> u64
+    ensures same { result ≡ n }
+    ensures form { IsNumber 8 result }
+{
+    n
+}
+
 /// Bytes, where a field holds their count.
 pub(crate) fn bytes(alloc: Global, bytes: &[u8]) -> Result<Items<u8>, NoMemory>
     ensures same { IfOk result (λ kept. kept ≡ bytes.now) }
@@ -34,6 +70,14 @@ pub(crate) fn text(alloc: Global, text: &Text) -> Result<Items<u8>, NoMemory>
     bytes(alloc, text.bytes())
 }
 
+/// A number of a list.
+fn listed(n: &i32) -> i32
+    ensures same { result ≡ n.now }
+    ensures form { IsSigned result }
+{
+    int(*n)
+}
+
 fn ints(alloc: Global, ints: &[i32]) -> Result<Items<i32>, NoMemory>
     ensures same { IfOk result (λ kept. kept ≡ ints.now) }
     ensures form { IfOk result (λ kept. IsList IsSigned kept) }
@@ -43,7 +87,7 @@ fn ints(alloc: Global, ints: &[i32]) -> Result<Items<i32>, NoMemory>
     }
     let mut all = Items::new(alloc);
     for n in ints {
-        all.push(*n)?;
+        all.push(listed(n))?;
     }
     Ok(all)
 }
@@ -53,7 +97,7 @@ pub(crate) fn effect(alloc: Global, effect: &Effect) -> Result<EffectPart, NoMem
 {
     let ints = ints(alloc, effect.ints())?;
     Ok(EffectPart {
-        routine: effect.routine(),
+        routine: half(effect.routine()),
         ints,
     })
 }
@@ -62,11 +106,11 @@ fn value(alloc: Global, value: &Value) -> Result<CellPart, NoMemory>
     ensures part { IfOk result (IsPartOf cell_of IsCell is_short_cell (Holds value.now)) }
 {
     match value {
-        Value::Int(n) => Ok(CellPart::Int(*n)),
+        Value::Int(n) => Ok(CellPart::Int(int(*n))),
         Value::Text(held) => Ok(CellPart::Text(text(alloc, held)?)),
-        Value::Object(o) => Ok(CellPart::Object(*o)),
+        Value::Object(o) => Ok(CellPart::Object(word(*o))),
         Value::Effect(held) => Ok(CellPart::Effect(effect(alloc, held)?)),
-        Value::Event(n) => Ok(CellPart::Event(*n)),
+        Value::Event(n) => Ok(CellPart::Event(int(*n))),
     }
 }
 
@@ -107,8 +151,8 @@ pub(crate) fn saved(alloc: Global, saved: &Saved) -> Result<Captured, NoMemory>
     let globals = cells(alloc, &saved.globals)?;
     let locals = cells(alloc, &saved.locals)?;
     Ok(Captured {
-        script: saved.script,
-        place: saved.place,
+        script: word(saved.script),
+        place: word(saved.place),
         globals,
         locals,
     })

@@ -19,7 +19,6 @@ pub(crate) fn effect(alloc: Global, part: &EffectPart) -> Result<Effect, NoMemor
 }
 
 /// The text of bytes that aren't too many for one.
-#[tactic(auto, using(crate::proofs::Lists::take_whole))]
 pub(crate) fn text(alloc: Global, bytes: &Items<u8>) -> Result<Text, NoMemory>
     requires short { IsTrue (is_short bytes.now) }
     ensures same { IfOk result (λ text. text ≡ bytes.now) }

@@ -3,4 +3,4 @@ use Rattle.play_save.specs.World.{stood_of}
 use Rattle.play_save.proofs.things.standing.Given as goal
 
 abbrev pub invariant-loop-part : goal.invariant-loop-part
-invariant-loop-part g l = l.all ≡ map stood_of (take l.part-index l.parts)
+invariant-loop-part l = l.all ≡ map stood_of (take l.part-index l.parts)

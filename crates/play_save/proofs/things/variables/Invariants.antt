@@ -3,4 +3,4 @@ use Rattle.play_save.specs.World.{variable_of}
 use Rattle.play_save.proofs.things.variables.Given as goal
 
 abbrev pub invariant-loop-part : goal.invariant-loop-part
-invariant-loop-part g l = l.vars ≡ map variable_of (take l.part-index l.parts)
+invariant-loop-part l = l.vars ≡ map variable_of (take l.part-index l.parts)
