@@ -14,7 +14,7 @@ use nwq_value::{Items, NoMemory};
 use saved_state::Saved;
 use state_format::{Item as ItemPart, Object, Standing as StandingPart, Variable};
 use std::alloc::Global;
-use world_rules::{Stood, Things};
+use world_rules::{Standing, Stood, Things};
 
 fn item(alloc: Global, item: &Item<Saved>) -> Result<ItemPart, NoMemory>
     requires values { HasValues item.now }
@@ -64,18 +64,19 @@ fn stood(alloc: Global, stood: &Stood) -> Result<StandingPart, NoMemory>
     })
 }
 
-fn standing(alloc: Global, effects: &[Stood]) -> Result<Items<StandingPart>, NoMemory>
+fn standing(alloc: Global, effects: &Standing) -> Result<Items<StandingPart>, NoMemory>
     ensures parts { IfOk result (ArePartsOf stood_of IsStanding any_text effects.now) }
     ensures few { IfOk result (λ parts. IsNumber 4 (length parts)) }
 {
-    if effects.len() > MOST {
-        return Err(NoMemory);
-    }
     let mut all = Items::new(alloc);
-    for effect in effects {
-        all.push(stood(alloc, effect)?)?;
+    for i in 0..MOST {
+        match effects.get(i) {
+            None => return Ok(all),
+            Some(effect) => all.push(stood(alloc, effect)?)?,
+        }
     }
-    Ok(all)
+    drop(all);
+    Err(NoMemory)
 }
 
 fn variable(alloc: Global, v: Var<'_>) -> Result<Variable, NoMemory>
@@ -118,7 +119,7 @@ pub(crate) fn object(alloc: Global, vars: &Vars, things: &Things<Saved>) -> Resu
     ensures short { IfOk result (λ part. IsTrue (has_short_items part)) }
 {
     let variables = variables(alloc, vars)?;
-    let effects = standing(alloc, things.effects.as_slice())?;
+    let effects = standing(alloc, &things.effects)?;
     let items = items(alloc, &things.queue)?;
     Ok(Object {
         busy: things.queue.is_busy(),

@@ -45,7 +45,7 @@ fn queue(alloc: Global, busy: bool, parts: &[ItemPart]) -> Result<Queue<Saved>, 
 fn standing(alloc: Global, parts: &[StandingPart]) -> Result<Standing, NoMemory>
     ensures tells { IfOk result (λ standing. standing ≡ map stood_of parts.now) }
 {
-    let mut all = Items::new(alloc);
+    let mut all = Standing::new(alloc);
     for part in parts {
         let effect = effect(alloc, &part.effect)?;
         all.push(Stood {

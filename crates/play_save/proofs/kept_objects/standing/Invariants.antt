@@ -5,5 +5,5 @@ use Rattle.play_save.specs.Keeping.{any_text}
 use Rattle.play_save.proofs.Keeping.{IsKeeping}
 use Rattle.play_save.proofs.kept_objects.standing.Given as goal
 
-abbrev pub invariant-loop-effect : goal.invariant-loop-effect
-invariant-loop-effect l = IsKeeping stood_of IsStanding any_text l.effects (drop l.effect-index l.effects) l.effect-index l.all
+abbrev pub invariant-loop-i : goal.invariant-loop-i
+invariant-loop-i l = IsKeeping stood_of IsStanding any_text l.effects (drop l.i l.effects) l.i l.all
