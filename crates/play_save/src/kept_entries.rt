@@ -83,9 +83,9 @@ fn script(alloc: Global, loaded: &Loaded) -> Result<Script, NoMemory>
     ensures form { IfOk result (λ part. IsScript part) }
     ensures code { IsCode loaded.now.code.code }
 {
-    loaded.code.code().sound();
+    loaded.code.checked().code().sound();
     let name = bytes(alloc, loaded.name.bytes())?;
-    let code = bytes(alloc, store(loaded.code.code()))?;
+    let code = bytes(alloc, store(loaded.code.checked().code()))?;
     Ok(Script { name, code })
 }
 
