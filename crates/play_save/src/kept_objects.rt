@@ -2,7 +2,8 @@
 ghost use Rattle.std.specs.Prelude.{◌≡◌, length, IfOk, IsTrue};
 ghost use Rattle.std.specs.List.{AllByRecursion};
 ghost use Rattle.local_variables.specs.Variables.{variable_of as variable_seen};
-ghost use Rattle.state_format.specs.Parts.{IsItem, IsMaybe, IsNumber, IsObject, IsStanding, IsVariable};
+ghost use Rattle.state_format.specs.Parts.{IsItem, IsMaybe, IsNumber, IsObject, IsStanding};
+ghost use Rattle.state_format.specs.Parts.{IsVariable};
 ghost use Rattle.play_save.specs.World.{item_of, stood_of, things_of, variable_of, variables_of};
 ghost use Rattle.play_save.specs.Rules.{has_short_items, is_short_item};
 ghost use Rattle.play_save.specs.Keeping.{any_text, ArePartsOf, HasValues, IsPartOf};
