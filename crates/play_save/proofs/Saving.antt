@@ -51,14 +51,25 @@ accepted s header scripts area limits taken done w objects parts laws play come 
     let tells : Tells s (resting w) = subst (Tells s) same told in
     let kept : IsArea w.area = subst IsArea (ap (λ (x : World Saved). x.area) same) is in
     let may = rests_too scripts area w rests in
-    let whole = world_too w world in
-    (header_there s header scripts play.header listed,
-    (scripts_there s header scripts play.header play.scripts listed code,
-    (area_there s scripts area (resting w) play.area may kept whole tells,
-    (limits_kept s header scripts area limits taken done (resting w) play come limited listed may (count_too limits w taken done counted) kept tells,
-    (agenda_there s (resting w) whole tells,
-    (states_there s header scripts area (resting w) laws play.header play.scripts listed code may tells,
-    (turns_there s scripts area (resting w) may tells, tt)))))))
+    let whole = world_too w world in (
+      header_there s header scripts play.header listed,
+      (
+        scripts_there s header scripts play.header play.scripts listed code,
+        (
+          area_there s scripts area (resting w) play.area may kept whole tells,
+          (
+            limits_kept s header scripts area limits taken done (resting w) play come limited listed may (count_too limits w taken done counted) kept tells,
+            (
+              agenda_there s (resting w) whole tells,
+              (
+                states_there s header scripts area (resting w) laws play.header play.scripts listed code may tells,
+                (turns_there s scripts area (resting w) may tells, tt),
+              ),
+            ),
+          ),
+        ),
+      ),
+    )
 
 -- ---- the very world
 

@@ -41,8 +41,12 @@ fn kind(alloc: Global, kind: &Kind<Saved>) -> Result<KindPart, NoMemory>
                 state,
             })
         }
-        Kind::Turn { object } => Ok(KindPart::Turn { object: word(*object) }),
-        Kind::Unapply { object } => Ok(KindPart::Unapply { object: word(*object) }),
+        Kind::Turn { object } => Ok(KindPart::Turn {
+            object: word(*object),
+        }),
+        Kind::Unapply { object } => Ok(KindPart::Unapply {
+            object: word(*object),
+        }),
     }
 }
 

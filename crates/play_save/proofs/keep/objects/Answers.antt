@@ -17,7 +17,7 @@ loop-i-preserved c = (
   objects_more c.args.area.now.objects c.args.things.now c.loop-i.i c.index-things-i.result c.loop-i.all c.push.new.self c.in_ok-next.next c.loop-i.invariant.0 c.in_ok-push.ensures.ok
       c.in_ok-next.ensures.things (c.in_ok-next.ensures.variables ∙ c.vars.ensures.vars ∙ object_here c.args.area.now c.loop-i.i) c.in_ok-next.ensures.form c.in_ok-next.ensures.short
       (omega (arith, c.requires.counted, c.loop-i-test.true)) c.loop-i-test.true c.index-things-i.is,
-  count_more c.loop-i.all c.push.new.self c.in_ok-next.next c.loop-i.i c.loop-i.invariant.1 c.in_ok-push.ensures.ok
+  count_more c.loop-i.all c.push.new.self c.in_ok-next.next c.loop-i.i c.loop-i.invariant.1 c.in_ok-push.ensures.ok,
 )
 
 pub object-requires : goal.object-requires

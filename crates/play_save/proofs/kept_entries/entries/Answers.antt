@@ -15,11 +15,12 @@ loop-done-init c = (keep_none entry_of IsEntry is_short_entry c.args.agenda.wait
 
 pub loop-done-preserved : goal.loop-done-preserved
 loop-done-preserved c =
-    let left = ap (λ (w : Waiting Saved). w.entries) c.take.ensures.left in
-    (keep_taken entry_of IsEntry is_short_entry c.args.agenda.waiting.entries c.loop-done.agenda.waiting.entries c.take.new.self.waiting.entries c.loop-done._done c.in-Some.next c.loop-done.all
-    c.push.new.self c.in_ok-entry-in-Some.field-0 c.loop-done.invariant.0 c.in_ok-push-in-Some.ensures.ok c.in_ok-entry-in-Some.ensures.part (sym c.take.ensures.taken ∙ c.in-Some.is) left,
-    subst (λ (l : List (Entry Saved)). AllByRecursion (λ (e : Entry Saved). KindHasValues e.kind) l) (sym left)
-    (all_left (λ (e : Entry Saved). KindHasValues e.kind) c.loop-done.agenda.waiting.entries c.loop-done.invariant.1))
+    let left = ap (λ (w : Waiting Saved). w.entries) c.take.ensures.left in (
+      keep_taken entry_of IsEntry is_short_entry c.args.agenda.waiting.entries c.loop-done.agenda.waiting.entries c.take.new.self.waiting.entries c.loop-done._done c.in-Some.next c.loop-done.all
+          c.push.new.self c.in_ok-entry-in-Some.field-0 c.loop-done.invariant.0 c.in_ok-push-in-Some.ensures.ok c.in_ok-entry-in-Some.ensures.part (sym c.take.ensures.taken ∙ c.in-Some.is) left,
+      subst (λ (l : List (Entry Saved)). AllByRecursion (λ (e : Entry Saved). KindHasValues e.kind) l) (sym left)
+          (all_left (λ (e : Entry Saved). KindHasValues e.kind) c.loop-done.agenda.waiting.entries c.loop-done.invariant.1),
+    )
 
 pub entry-requires : goal.entry-requires
 entry-requires c = record { values = all_got (λ (e : Entry Saved). KindHasValues e.kind) c.loop-done.agenda.waiting.entries 0 c.in-Some.next c.loop-done.invariant.1 (sym c.take.ensures.taken ∙ c.in-Some.is) }

@@ -17,11 +17,14 @@ loop-loaded-preserved c =
     let lent = c.as_slice-loaded-items.ensures.items in
     let within : c.loop-loaded.loaded-index < length c.args.scripts.now = subst (λ (l : List Loaded). c.loop-loaded.loaded-index < length l) lent c.loop-loaded-test.true in
     let item : c.loaded-item.result ≡ get_or c.args.scripts.now c.loop-loaded.loaded-index c.loaded-item.result =
-    c.loaded-item.is ∙ ap (λ (l : List Loaded). get_or l c.loop-loaded.loaded-index c.loaded-item.result) lent in
-    (map_more script_part c.args.scripts.now c.loop-loaded.loaded-index c.loaded-item.result c.in_ok-script.field-0 c.loop-loaded.all c.push.new.self c.loop-loaded.invariant.0 c.in_ok-push.ensures.ok
-    c.in_ok-script.ensures.part within item,
-    (subst (AllByRecursion IsScript) (sym c.in_ok-push.ensures.ok) (all_behind IsScript c.loop-loaded.all c.in_ok-script.field-0 c.loop-loaded.invariant.1.0 c.in_ok-script.ensures.form),
-    all_more (λ (x : Loaded). IsCode x.code.code) c.args.scripts.now c.loop-loaded.loaded-index c.loaded-item.result c.loop-loaded.invariant.1.1 c.script.ensures.code within item))
+    c.loaded-item.is ∙ ap (λ (l : List Loaded). get_or l c.loop-loaded.loaded-index c.loaded-item.result) lent in (
+      map_more script_part c.args.scripts.now c.loop-loaded.loaded-index c.loaded-item.result c.in_ok-script.field-0 c.loop-loaded.all c.push.new.self c.loop-loaded.invariant.0 c.in_ok-push.ensures.ok
+          c.in_ok-script.ensures.part within item,
+      (
+        subst (AllByRecursion IsScript) (sym c.in_ok-push.ensures.ok) (all_behind IsScript c.loop-loaded.all c.in_ok-script.field-0 c.loop-loaded.invariant.1.0 c.in_ok-script.ensures.form),
+        all_more (λ (x : Loaded). IsCode x.code.code) c.args.scripts.now c.loop-loaded.loaded-index c.loaded-item.result c.loop-loaded.invariant.1.1 c.script.ensures.code within item,
+      ),
+    )
 
 pub returns : goal.returns
 returns c =

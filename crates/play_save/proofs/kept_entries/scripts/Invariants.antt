@@ -7,5 +7,5 @@ use Rattle.play_save.specs.States.{script_part}
 use Rattle.play_save.proofs.kept_entries.scripts.Given as goal
 
 abbrev pub invariant-loop-loaded : goal.invariant-loop-loaded
-invariant-loop-loaded l = (l.all ≡ map script_part (take l.loaded-index l.scripts)) 
+invariant-loop-loaded l = (l.all ≡ map script_part (take l.loaded-index l.scripts))
     × (AllByRecursion IsScript l.all × AllByRecursion (λ (x : Loaded). IsCode x.code.code) (take l.loaded-index l.scripts))

@@ -14,8 +14,10 @@ loop-i-preserved c = keep_got item_of IsItem is_short_item c.args.queue.now.acti
     c.in_ok-push-in-Some.ensures.ok c.in_ok-item-in-Some.ensures.part (lent_some c.args.queue.now.actions c.loop-i.i c.at.result c.in-Some.next c.at.ensures.action c.in-Some.is)
 
 pub item-requires : goal.item-requires
-item-requires c = record { values = all_got HasValues c.args.queue.now.actions c.loop-i.i c.in-Some.next.now c.requires.values
-    (lent_some c.args.queue.now.actions c.loop-i.i c.at.result c.in-Some.next c.at.ensures.action c.in-Some.is) }
+item-requires c = record {
+  values = all_got HasValues c.args.queue.now.actions c.loop-i.i c.in-Some.next.now c.requires.values
+      (lent_some c.args.queue.now.actions c.loop-i.i c.at.result c.in-Some.next c.at.ensures.action c.in-Some.is);
+}
 
 pub returns-in-None : goal.returns-in-None
 returns-in-None c = record {

@@ -12,11 +12,12 @@ loop-done-init c = (keep_none variable_of IsVariable any_text c.args.vars.now c.
 
 pub loop-done-preserved : goal.loop-done-preserved
 loop-done-preserved c =
-    let next = c.next.ensures.first ∙ ap (λ (l : List Variable). slice_get l 0) c.loop-done.invariant.1 ∙ first_left c.args.vars.now c.loop-done._done in
-    (keep_got variable_of IsVariable any_text c.args.vars.now c.loop-done._done (variable_seen c.in-Some.v) c.loop-done.all c.push.new.self c.in_ok-variable-in-Some.field-0
-    c.loop-done.invariant.0 c.in_ok-push-in-Some.ensures.ok c.in_ok-variable-in-Some.ensures.part
-    (seen_some variable_seen c.args.vars.now c.loop-done._done c.next.result c.in-Some.v next c.in-Some.is),
-    c.next.ensures.rest ∙ ap (λ (l : List Variable). drop 1 l) c.loop-done.invariant.1 ∙ left_more c.args.vars.now c.loop-done._done)
+    let next = c.next.ensures.first ∙ ap (λ (l : List Variable). slice_get l 0) c.loop-done.invariant.1 ∙ first_left c.args.vars.now c.loop-done._done in (
+      keep_got variable_of IsVariable any_text c.args.vars.now c.loop-done._done (variable_seen c.in-Some.v) c.loop-done.all c.push.new.self c.in_ok-variable-in-Some.field-0
+          c.loop-done.invariant.0 c.in_ok-push-in-Some.ensures.ok c.in_ok-variable-in-Some.ensures.part
+          (seen_some variable_seen c.args.vars.now c.loop-done._done c.next.result c.in-Some.v next c.in-Some.is),
+      c.next.ensures.rest ∙ ap (λ (l : List Variable). drop 1 l) c.loop-done.invariant.1 ∙ left_more c.args.vars.now c.loop-done._done,
+    )
 
 pub unreachable-requires : goal.unreachable-requires
 unreachable-requires c =

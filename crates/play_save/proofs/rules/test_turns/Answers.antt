@@ -11,6 +11,9 @@ returns-then-branch c = record {
 
 pub returns-else-branch : goal.returns-else-branch
 returns-else-branch c = record {
-  kept = (refl, iff_false (settled_is c.args.parts.now c.as_slice.result.now c.as_slice-2.result.now c.in_ok-are_settled.field-0 c.as_slice.ensures.items c.as_slice-2.ensures.items
-      c.in_ok-are_settled.ensures.test) (search rules));
+  kept = (
+    refl,
+    iff_false (settled_is c.args.parts.now c.as_slice.result.now c.as_slice-2.result.now c.in_ok-are_settled.field-0 c.as_slice.ensures.items c.as_slice-2.ensures.items
+        c.in_ok-are_settled.ensures.test) (search rules),
+  );
 }

@@ -21,16 +21,17 @@ returns c =
 
 pub invariant_of-result : goal.invariant_of-result
 invariant_of-result c =
-    let made = c.in_ok-parts-in-Ok.ensures in
-    (made.form,
-    accepted c.in_ok-parts-in-Ok.parts _ c.args.scripts.now c.args.area.items c.args.limits c.args.taken c.args.done c.args.world.world c.in-Ok.objects c.in-Ok.saved
-    (record { header = c.one_header.ensures.one; spellings = c.spelling_laws.ensures.spelling; fits = c.fits_too.ensures.fits })
-    (record {
-      header = made.play.header;
-      scripts = made.play.scripts;
-      area = made.play.area ∙ c.as_slice-file.ensures.value;
-      limit = made.play.limit;
-      entries = made.play.entries;
-      until = made.play.until;
-    })
-    made.come c.requires.limits c.requires.listed c.requires.rests c.requires.come made.code c.keeps-in-Ok.ensures.keeps c.keeps.ensures.kept c.in-Ok.ensures.parts made.tells)
+    let made = c.in_ok-parts-in-Ok.ensures in (
+      made.form,
+      accepted c.in_ok-parts-in-Ok.parts _ c.args.scripts.now c.args.area.items c.args.limits c.args.taken c.args.done c.args.world.world c.in-Ok.objects c.in-Ok.saved
+          (record { header = c.one_header.ensures.one; spellings = c.spelling_laws.ensures.spelling; fits = c.fits_too.ensures.fits })
+          (record {
+            header = made.play.header;
+            scripts = made.play.scripts;
+            area = made.play.area ∙ c.as_slice-file.ensures.value;
+            limit = made.play.limit;
+            entries = made.play.entries;
+            until = made.play.until;
+          })
+          made.come c.requires.limits c.requires.listed c.requires.rests c.requires.come made.code c.keeps-in-Ok.ensures.keeps c.keeps.ensures.kept c.in-Ok.ensures.parts made.tells,
+    )
