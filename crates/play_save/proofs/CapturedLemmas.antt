@@ -1,6 +1,7 @@
 -- Captured states that fit the tables that are kept, and those that fit every table.
 use Rattle.std.proofs.Common.{◌≡◌, ◌<◌, ◌≤◌, ℕ, zero, suc, List, [], ◌∷◌, ◌++◌, length, drop, sym, ap, refl, ◌∙◌, subst, arith}
-use Rattle.std.specs.Prelude.{Option, Some, None, slice_get}
+use Rattle.std.specs.Prelude.{Option, Some, None, slice_get, Bool, true, false, IsTrue, ◌↔◌}
+use Rattle.std.proofs.lemmas.Bool.{iff_false}
 use Rattle.std.specs.List.{AllByRecursion}
 use Rattle.nwq_value.specs.Engine.{EngineTable}
 use Rattle.nwq_value.specs.Limits.{file_limit}
@@ -166,3 +167,22 @@ pub states_by : (s : Parts) (p : Prepared) → OneHeader → SpellingLaws → Fi
     → AllByRecursion (λ (o : Object). AllByRecursion (ItemHolds (IsFitting p.scripts)) o.items) s.objects
     → AllByRecursion (λ (e : Entry). KindHolds (IsFitting p.scripts) e.kind) s.agenda → HasStates s
 states_by s p one spelled fits prepared items entries = states_if s p (record { header = one; spellings = spelled; fits = fits }) prepared items entries
+
+-- ---- what the tests of all states say
+
+abbrev pub ItemsFit : Prepared → List Object → Type 0
+ItemsFit p os = AllByRecursion (λ (o : Object). AllByRecursion (ItemHolds (IsFitting p.scripts)) o.items) os
+
+abbrev pub EntriesFit : Prepared → List Entry → Type 0
+EntriesFit p es = AllByRecursion (λ (e : Entry). KindHolds (IsFitting p.scripts) e.kind) es
+
+pub states_tested : (s : Parts) (p : Prepared) (os : List Object) (es : List Entry) (a b : Bool) → Laws → IsPreparedFor s p → os ≡ s.objects → es ≡ s.agenda
+    → (IsTrue a ↔ ItemsFit p os) → (IsTrue b ↔ EntriesFit p es) → a ≡ true → b ≡ true → HasStates s
+states_tested s p os es a b laws prepared objects agenda items entries first second =
+    states_if s p laws prepared (subst (ItemsFit p) objects (items.0 first)) (subst (EntriesFit p) agenda (entries.0 second))
+
+pub items_untested : (s : Parts) (p : Prepared) (os : List Object) (a : Bool) → IsPreparedFor s p → os ≡ s.objects → (IsTrue a ↔ ItemsFit p os) → a ≡ false → HasStates s → ⊥
+items_untested s p os a prepared objects items never has = iff_false items never (subst (ItemsFit p) (sym objects) (items_if s p prepared has))
+
+pub entries_untested : (s : Parts) (p : Prepared) (es : List Entry) (b : Bool) → IsPreparedFor s p → es ≡ s.agenda → (IsTrue b ↔ EntriesFit p es) → b ≡ false → HasStates s → ⊥
+entries_untested s p es b prepared agenda entries never has = iff_false entries never (subst (EntriesFit p) (sym agenda) (entries_if s p prepared has))

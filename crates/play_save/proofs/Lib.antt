@@ -12,3 +12,4 @@ pub mod Short
 pub mod Opening
 pub mod Accepting
 pub mod Saving
+pub mod Holding

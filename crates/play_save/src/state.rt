@@ -26,6 +26,7 @@ use ncs_machine::Scripts;
 use nwq_value::{NoMemory, Table};
 use saved_state::Saved;
 use stack_check::fits_too;
+use stack_rules::states_hold_values;
 use state_format::{Parts, ReadFault, SaveFault, one_state, put_parts, read_parts};
 use std::alloc::Global;
 use std::marker::Model;
@@ -96,6 +97,7 @@ impl State {
         spelling_laws();
         fits_too();
         one_header();
+        states_hold_values::<()>();
         world.keeps();
         match world.into_parts() {
             Err(NoMemory) => Err(NoMemory),

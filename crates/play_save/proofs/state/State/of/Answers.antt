@@ -1,5 +1,7 @@
 use Rattle.std.proofs.Common.{◌∙◌}
+use Rattle.ncs_machine.specs.Host.{scripts_of, tables_of}
 use Rattle.play_save.proofs.Saving.{accepted, world_is}
+use Rattle.play_save.proofs.Holding.{queues_hold, entries_hold}
 use Rattle.play_save.proofs.state.State.of.Goals as goal
 
 pub returns : goal.returns
@@ -35,3 +37,13 @@ invariant_of-result c =
           })
           made.come c.requires.limits c.requires.listed c.requires.rests c.requires.come made.code c.keeps-in-Ok.ensures.keeps c.keeps.ensures.kept c.in-Ok.ensures.parts made.tells,
     )
+
+pub keep-requires-clause-queues : goal.keep-requires-clause-queues
+keep-requires-clause-queues c =
+    queues_hold (scripts_of c.args.scripts.now) (tables_of c.args.scripts.now) c.args.world.world c.in-Ok.objects c.in-Ok.saved c.states_hold_values.ensures.fitting c.in-Ok.ensures.parts
+    c.requires.rests.fit
+
+pub keep-requires-clause-entries : goal.keep-requires-clause-entries
+keep-requires-clause-entries c =
+    entries_hold (scripts_of c.args.scripts.now) (tables_of c.args.scripts.now) c.args.world.world c.in-Ok.objects c.in-Ok.saved c.states_hold_values.ensures.fitting c.in-Ok.ensures.parts
+    c.requires.rests.fit
