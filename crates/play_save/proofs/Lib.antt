@@ -1,0 +1,15 @@
+pub mod Lists
+pub mod NamesLemmas
+pub mod Headers
+pub mod Scripts
+pub mod Agendas
+pub mod Testing
+pub mod CapturedLemmas
+pub mod Turning
+pub mod Given
+pub mod Keeping
+pub mod Short
+pub mod Opening
+pub mod Accepting
+pub mod Saving
+pub mod Holding

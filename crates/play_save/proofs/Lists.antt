@@ -1,0 +1,93 @@
+-- Lists that are made, and tested, member by member.
+use Rattle.std.proofs.Common.{◌≡◌, ◌<◌, ◌≤◌, ℕ, zero, suc, ◌+◌, ◌-◌, List, [], ◌∷◌, ◌++◌, length, take, drop, get_or, map, sym, ap, refl, ◌∙◌, add-one, subst, arith}
+use Rattle.std.specs.Prelude.{Bool, true, false, ◌&&◌, ◌↔◌, IsTrue}
+use Rattle.std.specs.List.{AllByRecursion, list_all}
+use Rattle.action_queue.specs.Queued.{Queued}
+use Rattle.action_queue.specs.declared.queue.Item.{Item}
+
+taken_more : {A B : Type 0} (f : A → B) (xs : List A) (i : ℕ) (x : A) → i < length xs → x ≡ get_or xs i x → map f (take (suc i) xs) ≡ map f (take i xs) ++ f x ∷ []
+taken_more f [] i x h e = absurd (omega arith)
+taken_more f (y ∷ ys) zero x h e = ap (λ z. f z ∷ []) (sym e)
+taken_more f (y ∷ ys) (suc i) x h e = ap (λ (l : List _). f y ∷ l) (taken_more f ys i x (omega arith) e)
+
+-- one member more of those that were made
+pub map_more : {A B : Type 0} (f : A → B) (xs : List A) (i : ℕ) (x : A) (y : B) (old new : List B) → old ≡ map f (take i xs) → new ≡ old ++ y ∷ [] → y ≡ f x
+    → i < length xs → x ≡ get_or xs i x → new ≡ map f (take (i + 1) xs)
+map_more f xs i x y old new before grown is h e =
+    grown ∙ ap (λ (l : List _). l ++ y ∷ []) before ∙ ap (λ z. map f (take i xs) ++ z ∷ []) is ∙ sym (taken_more f xs i x h e)
+    ∙ ap (λ (k : ℕ). map f (take k xs)) (sym (add-one i))
+
+-- a member is what all are
+pub all_at : {A : Type 0} (P : A → Type 0) (xs : List A) (i : ℕ) (x : A) → AllByRecursion P xs → i < length xs → x ≡ get_or xs i x → P x
+all_at P [] i x all h e = absurd (omega arith)
+all_at P (y ∷ ys) zero x all h e = subst P (sym e) all.0
+all_at P (y ∷ ys) (suc i) x all h e = all_at P ys i x all.1 (omega arith) e
+
+pub both_true : (a b : Bool) → IsTrue (a && b) → IsTrue a × IsTrue b
+both_true true true t = (refl, refl)
+both_true true false t = absurd cc
+both_true false b t = absurd cc
+
+pub take_whole : {A : Type 0} (n : ℕ) (xs : List A) → length xs ≤ n → take n xs ≡ xs
+take_whole zero [] h = refl
+take_whole zero (x ∷ xs) h = absurd (omega arith)
+take_whole (suc n) [] h = refl
+take_whole (suc n) (x ∷ xs) h = ap (λ (l : List _). x ∷ l) (take_whole n xs (omega arith))
+
+-- what a slice up to the end shows
+pub rest_whole : {A : Type 0} (j : ℕ) (xs : List A) → take (length xs - j) (drop j xs) ≡ drop j xs
+rest_whole zero xs = take_whole (length xs - 0) xs (omega arith)
+rest_whole (suc j) [] = take_whole (0 - suc j) [] (omega arith)
+rest_whole (suc j) (x ∷ xs) =
+    let same : length (x ∷ xs) - suc j ≡ length xs - j = omega arith in
+    ap (λ (k : ℕ). take k (drop j xs)) same ∙ rest_whole j xs
+
+pub and_true : (a b : Bool) → IsTrue a → IsTrue b → IsTrue (a && b)
+and_true true b x y = y
+and_true false b x y = absurd cc
+
+-- tests of all members
+pub tests_all : {A : Type 0} (p : A → Bool) (P : A → Type 0) (xs : List A) → ((x : A) → IsTrue (p x) ↔ P x) → IsTrue (list_all p xs) ↔ AllByRecursion P xs
+tests_all p P [] each = ((λ t. tt), (λ all. refl))
+tests_all p P (x ∷ xs) each = (
+  (λ t. ((each x).0 (both_true (p x) (list_all p xs) t).0, (tests_all p P xs each).0 (both_true (p x) (list_all p xs) t).1)),
+  (λ all. and_true (p x) (list_all p xs) ((each x).1 all.0) ((tests_all p P xs each).1 all.1)),
+)
+
+pub test_at : {A : Type 0} (p : A → Bool) (xs : List A) (i : ℕ) (x : A) → IsTrue (list_all p xs) → i < length xs → x ≡ get_or xs i x → IsTrue (p x)
+test_at p [] i x all h e = absurd (omega arith)
+test_at p (y ∷ ys) zero x all h e = subst (λ z. IsTrue (p z)) (sym e) (both_true (p y) (list_all p ys) all).0
+test_at p (y ∷ ys) (suc i) x all h e = test_at p ys i x (both_true (p y) (list_all p ys) all).1 (omega arith) e
+
+drop_more : {A : Type 0} (xs : List A) (i : ℕ) (x : A) → i < length xs → x ≡ get_or xs i x → drop i xs ≡ x ∷ drop (suc i) xs
+drop_more [] i x h e = absurd (omega arith)
+drop_more (y ∷ ys) zero x h e = ap (λ z. z ∷ ys) (sym e)
+drop_more (y ∷ ys) (suc i) x h e = drop_more ys i x (omega arith) e
+
+-- the rest from a member on
+pub drop_at : {A : Type 0} (xs : List A) (i : ℕ) (x : A) → i < length xs → x ≡ get_or xs i x → drop i xs ≡ x ∷ drop (i + 1) xs
+drop_at xs i x h e = drop_more xs i x h e ∙ ap (λ (k : ℕ). x ∷ drop k xs) (sym (add-one i))
+
+pub all_drop : {A : Type 0} (P : A → Type 0) (xs : List A) (i : ℕ) → AllByRecursion P xs → AllByRecursion P (drop i xs)
+all_drop P xs zero all = all
+all_drop P [] (suc i) all = all
+all_drop P (y ∷ ys) (suc i) all = all_drop P ys i all.1
+
+all_taken : {A : Type 0} (P : A → Type 0) (xs : List A) (i : ℕ) (x : A) → AllByRecursion P (take i xs) → P x → i < length xs → x ≡ get_or xs i x
+    → AllByRecursion P (take (suc i) xs)
+all_taken P [] i x all is h e = absurd (omega arith)
+all_taken P (y ∷ ys) zero x all is h e = (subst P e is, tt)
+all_taken P (y ∷ ys) (suc i) x all is h e = (all.0, all_taken P ys i x all.1 is (omega arith) e)
+
+-- what holds of those before and of one more holds of all so far
+pub all_more : {A : Type 0} (P : A → Type 0) (xs : List A) (i : ℕ) (x : A) → AllByRecursion P (take i xs) → P x → i < length xs → x ≡ get_or xs i x
+    → AllByRecursion P (take (i + 1) xs)
+all_more P xs i x all is h e = subst (λ k. AllByRecursion P (take k xs)) (sym (add-one i)) (all_taken P xs i x all is h e)
+
+-- one action more
+pub queue_more : {A X : Type 0} (f : A → Item X) (busy : Bool) (xs : List A) (i : ℕ) (x : A) (y : Item X) (old new : Queued X)
+    → old ≡ record { actions = map f (take i xs); busy = busy } → new ≡ record old { actions = old.actions ++ y ∷ [] } → y ≡ f x → i < length xs → x ≡ get_or xs i x
+    → new ≡ record { actions = map f (take (i + 1) xs); busy = busy }
+queue_more f busy xs i x y old new before grown is h at =
+    grown ∙ ap (λ (q : Queued _). record q { actions = q.actions ++ y ∷ [] }) before
+    ∙ ap (λ (l : List _). record { actions = l; busy = busy }) (map_more f xs i x y (map f (take i xs)) (map f (take i xs) ++ y ∷ []) refl refl is h at)

@@ -1,0 +1,5 @@
+pub mod World
+pub mod Rules
+pub mod States
+pub mod Breaking
+pub mod Keeping

@@ -1,0 +1,34 @@
+//! Saved plays: the state of a play between two of its entries, as bytes and as a world that goes
+//! on.
+//!
+//! Contracts see a [`State`] as its plain parts, those of `state_format`. Every state keeps seven
+//! rules (`specs/Rules.antt`): its header, scripts and area are there, its numbers are inside their
+//! limits, its agenda is in order, each captured state fits the code of its script, and an object
+//! has a Turn exactly where it is busy. [`read_state`] refuses bytes by the first rule that they
+//! break, so no file that is read leads to a fault of the stack, whoever made it.
+//!
+//! [`State::of`] takes a play's state, [`put_state`] writes it, and [`State::restore`] gives the
+//! world that it tells (`specs/World.antt`), with which a play goes on as if it had never been
+//! broken off. docs/SAVES.md tells the format and the rules.
+#![tactic(auto)]
+
+mod entries;
+mod fault;
+mod fitting;
+mod keep;
+mod kept_entries;
+mod kept_objects;
+mod kept_values;
+mod limits;
+mod prepare;
+mod rules;
+mod state;
+mod things;
+mod turns;
+mod values;
+mod waiting;
+mod world;
+
+pub use fault::StateFault;
+pub use state::{Opened, State, put_state, read_state};
+pub use state_format::SaveFault;

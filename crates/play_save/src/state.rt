@@ -1,0 +1,240 @@
+//! The state of a play.
+ghost use Rattle.std.specs.Prelude.{◌≡◌, ◌≤◌, ◌<◌, ◌^◌, length, IfOk, IfErr, MatchResult};
+ghost use Rattle.std.specs.Option.{option_map};
+ghost use Rattle.nwq_value.specs.Limits.{file_limit};
+ghost use Rattle.stack_rules.specs.Laws.{AllMeet};
+ghost use Rattle.ncs_machine.specs.Host.{scripts_of, tables_of};
+ghost use Rattle.ncs_machine.specs.Stored.{StatesFit};
+ghost use Rattle.state_format.specs.Fields.{parts_bytes};
+ghost use Rattle.state_format.specs.Place.{StateOf, IsTooLarge};
+ghost use Rattle.state_format.specs.declared.parts.Parts.{Parts as PlainParts};
+ghost use Rattle.play_save.specs.World.{world_of};
+ghost use Rattle.play_save.specs.Rules.{IsHeaderOf, IsAccepted};
+ghost use Rattle.play_save.specs.States.{AllStand, HasCome, IsPlayOf, IsWorldOf, MayCount};
+ghost use Rattle.play_save.specs.States.{MayLimit, MayList, MayRest, Refuses, resting};
+ghost use Rattle.play_save.specs.States.{script_parts};
+ghost use Rattle.play_save.specs.declared.fault.StateFault.TheVariants.{NoMemory as NoRoom};
+
+use crate::fault::StateFault;
+use crate::keep::keep;
+use crate::prepare::{Prepared, prepare};
+use crate::rules::test_parts;
+use crate::world::world;
+use engine_table::laws::one_header;
+use ncs_code::spelling_laws;
+use ncs_machine::Scripts;
+use nwq_value::{NoMemory, Table};
+use saved_state::Saved;
+use stack_check::fits_too;
+use stack_rules::states_hold_values;
+use state_format::{Parts, ReadFault, SaveFault, one_state, put_parts, read_parts};
+use std::alloc::Global;
+use std::marker::Model;
+use world_core::World;
+
+/// The state of a play between two of its entries. Contracts see its parts.
+pub struct State {
+    parts: Parts,
+}
+
+impl Model for State {
+    ghost use Rattle.state_format.specs.declared.parts.Parts.{Parts};
+    ghost use Rattle.state_format.specs.Parts.{HasForm};
+    ghost use Rattle.play_save.specs.Rules.{IsAccepted};
+
+    ghost Value = { Parts };
+
+    ghost view = { λ s. s.parts };
+
+    ghost invariant = { λ s. HasForm s.parts × IsAccepted s.parts };
+}
+
+impl Drop for State {
+    fn drop(self) {
+        let State { parts } = self;
+        drop(parts);
+    }
+}
+
+/// What a play goes on from: its header's table, its scripts, its world, how far it may go
+/// (instructions an entry, entries in all, and until when), how many entries it took, and how many
+/// instructions it executed.
+#[derive(Drop)]
+pub struct Opened {
+    pub table: Table,
+    pub scripts: Scripts,
+    pub world: World<Saved>,
+    pub limits: (u64, u64, u64),
+    pub taken: u64,
+    pub done: u64,
+}
+
+impl State {
+    /// The state of a play that isn't inside an entry. `header` is nothing for the built-in one,
+    /// and `area` the bytes of the area's file as they were first read. What was handed over is
+    /// dropped where memory runs out.
+    pub fn of(
+        alloc: Global,
+        header: Option<Vec<u8>>,
+        scripts: &Scripts,
+        area: Vec<u8>,
+        world: World<Saved>,
+        limits: (u64, u64, u64),
+        taken: u64,
+        done: u64,
+    ) -> Result<State, NoMemory>
+        requires limits { MayLimit limits }
+        requires listed { MayList (option_map (λ text. text.items) header) scripts.now }
+        requires rests { MayRest scripts.now area.items world.world }
+        requires come { MayCount limits world.world taken done }
+        // What the play is of, and how far it has come.
+        ensures play { IfOk result (λ s. IsPlayOf s (option_map (λ text. text.items) header)
+            (script_parts scripts.now) area.items limits) }
+        ensures come { IfOk result (λ s. HasCome s taken done) }
+        // The state tells the very world, without the lines that it keeps.
+        ensures world { IfOk result (λ s. IsWorldOf s (resting world.world)) }
+    {
+        spelling_laws();
+        fits_too();
+        one_header();
+        states_hold_values::<()>();
+        world.keeps();
+        match world.into_parts() {
+            Err(NoMemory) => Err(NoMemory),
+            Ok((objects, saved)) => {
+                objects.keeps();
+                let file = area.as_slice();
+                let parts = keep(
+                    alloc, &header, scripts, file, &objects, saved, limits, taken, done,
+                )?;
+                Ok(State { parts })
+            }
+        }
+    }
+
+    /// What the play goes on from. The state is dropped where memory runs out.
+    pub fn restore(self, alloc: Global) -> Result<Opened, NoMemory>
+        // What the play is of, and how far it has come.
+        ensures header { IfOk result (λ o. IsHeaderOf self.header o.table) }
+        ensures play { IfOk result (λ o. IsPlayOf self self.header (script_parts o.scripts)
+            self.area o.limits) }
+        ensures come { IfOk result (λ o. HasCome self o.taken o.done) }
+        // The world is the one that the state tells.
+        ensures world { IfOk result (λ o. IsWorldOf self o.world.world) }
+        // The scripts are well stacked, by the tables that are kept, and each captured state in the
+        // world fits: so the play comes to no fault of the stack.
+        ensures few { IfOk result (λ o. length o.scripts < 2 ^ 32) }
+        ensures meets { IfOk result (λ o.
+            AllMeet o.table (scripts_of o.scripts) (tables_of o.scripts)) }
+        ensures stand { IfOk result (λ o.
+            AllStand o.table (scripts_of o.scripts) (tables_of o.scripts)) }
+        ensures fit { IfOk result (λ o.
+            StatesFit (scripts_of o.scripts) (tables_of o.scripts) o.world.world) }
+    {
+        let State { parts } = self;
+        match open(alloc, &parts) {
+            Err(NoMemory) => {
+                drop(parts);
+                Err(NoMemory)
+            }
+            Ok(opened) => {
+                drop(parts);
+                Ok(opened)
+            }
+        }
+    }
+
+    /// What every state keeps.
+    pub fn keeps(&self)
+        ensures accepted { IsAccepted self.now }
+    {
+        let _ = &self.parts;
+    }
+}
+
+/// The one fault that is left where a state keeps all rules.
+fn want_of_memory(fault: StateFault) -> NoMemory
+    requires { fault ≡ NoRoom }
+{
+    match fault {
+        StateFault::NoMemory => NoMemory,
+        _ => unreachable!(),
+    }
+}
+
+/// What the play of a state goes on from.
+pub(crate) fn open(alloc: Global, parts: &Parts) -> Result<Opened, NoMemory>
+    requires accepted { IsAccepted parts.now }
+    ensures header { IfOk result (λ o. IsHeaderOf parts.now.header o.table) }
+    ensures play { IfOk result (λ o. IsPlayOf parts.now parts.now.header
+        (script_parts o.scripts) parts.now.area o.limits) }
+    ensures come { IfOk result (λ o. HasCome parts.now o.taken o.done) }
+    ensures world { IfOk result (λ o. IsWorldOf parts.now o.world.world) }
+    ensures few { IfOk result (λ o. length o.scripts < 2 ^ 32) }
+    ensures meets { IfOk result (λ o.
+        AllMeet o.table (scripts_of o.scripts) (tables_of o.scripts)) }
+    ensures stand { IfOk result (λ o.
+        AllStand o.table (scripts_of o.scripts) (tables_of o.scripts)) }
+    ensures fit { IfOk result (λ o.
+        StatesFit (scripts_of o.scripts) (tables_of o.scripts) o.world.world) }
+{
+    match prepare(alloc, parts) {
+        Err(fault) => Err(want_of_memory(fault)),
+        Ok(prepared) => {
+            let Prepared {
+                table,
+                scripts,
+                area,
+            } = prepared;
+            match world(alloc, area, parts) {
+                Err(NoMemory) => {
+                    drop(table);
+                    drop(scripts);
+                    Err(NoMemory)
+                }
+                Ok(world) => Ok(Opened {
+                    table,
+                    scripts,
+                    world,
+                    limits: (parts.limit, parts.entries, parts.until),
+                    taken: parts.taken,
+                    done: parts.done,
+                }),
+            }
+        }
+    }
+}
+
+/// The bytes of a state, where these aren't more than a file may have.
+pub fn put_state(alloc: Global, state: &State) -> Result<Vec<u8>, SaveFault>
+    ensures exact { MatchResult result
+        (λ v. StateOf v.items state.now × (length v.items ≤ file_limit))
+        (λ e. IsTooLarge (parts_bytes state.now) e) }
+{
+    put_parts(alloc, &state.parts)
+}
+
+/// The state that the bytes of a file stand for, or why they are refused.
+pub fn read_state(alloc: Global, bytes: &[u8]) -> Result<State, StateFault>
+    requires size { length bytes.now ≤ file_limit }
+    // What is read is what the bytes stand for.
+    ensures read { IfOk result (λ s. StateOf bytes.now s) }
+    // Bytes that stand for a state which keeps all rules are read, unless memory runs out.
+    ensures only { (s : PlainParts) → StateOf bytes.now s → IsAccepted s →
+        MatchResult result (λ state. state ≡ s) (λ e. e ≡ NoRoom) }
+    // Why they are refused.
+    ensures refused { IfErr result (Refuses bytes.now) }
+{
+    one_state();
+    match read_parts(alloc, bytes) {
+        Err(ReadFault::Place(at)) => Err(StateFault::Place(at)),
+        Err(ReadFault::NoMemory) => Err(StateFault::NoMemory),
+        Ok(parts) => match test_parts(alloc, &parts) {
+            Err(fault) => {
+                drop(parts);
+                Err(fault)
+            }
+            Ok(()) => Ok(State { parts }),
+        },
+    }
+}
