@@ -32,7 +32,7 @@ use Rattle.ncs_machine.specs.Host.{EngineView, engine_answer, host, no_table}
 use Rattle.ncs_machine.specs.Stored.{StatesFit, ThingsFit, EntryFits, KindFits, BegunFits, EngineKeepsFits, LinesKeepFits, BeginKeepsFits, TurnKeepsFits, TurnDoneKeepsFits, UnapplyKeepsFits}
 use Rattle.module_player.specs.CodePlays.{code_runner, ending_of, run_of}
 use Rattle.play_meaning.specs.Together.{whole}
-use Rattle.command_meaning.specs.CodeEnds.{CodeEnd, Ends, named_ending, event_ending, turn_ending, kind_ending, entry_ending, ends_after, next_ends, code_ends, AreStacked, CheckedPlaysHaveNoFault}
+use Rattle.command_meaning.specs.CodeEnds.{CodeEnd, Ends, named_ending, event_ending, turn_ending, kind_ending, entry_ending, ends_after, next_ends, code_ends, AreStacked, CheckedPlaysGoOn, CheckedPlaysHaveNoFault}
 use Rattle.command_meaning.proofs.Answers.{can_be_called}
 
 -- ---- a table of shapes for each script
@@ -235,11 +235,15 @@ module _ (scripts : List Script) (tables : Tables) (e : EngineView) (sound : (fi
         turn_same (code_ends (host scripts e) limit bounds left) (plays (code_runner (host scripts e) limit) bounds left) (plays_same left)
         (p.entries == bounds.entries) (begin bounds.until p.world) (begins scripts tables bounds.until p.world f) p
 
-pub checked_plays_have_no_fault : ScriptsAreSound (World Saved) → StatesAreSound (World Saved) → EngineKeepsFits → LinesKeepFits → BeginKeepsFits → TurnKeepsFits → TurnDoneKeepsFits → UnapplyKeepsFits
-    → TablesTypeExecuteScript → AnswersHaveTypes Saved → CheckedPlaysHaveNoFault
-checked_plays_have_no_fault run_sound stored_sound engine lines begins turns turns_done unapplies types answers cell header scripts limit entries until area random events version table stacked =
-    let tables = table_of header scripts stacked in
+pub checked_plays_go_on : ScriptsAreSound (World Saved) → StatesAreSound (World Saved) → EngineKeepsFits → LinesKeepFits → BeginKeepsFits → TurnKeepsFits → TurnDoneKeepsFits → UnapplyKeepsFits
+    → TablesTypeExecuteScript → AnswersHaveTypes Saved → CheckedPlaysGoOn
+checked_plays_go_on run_sound stored_sound engine lines begins turns turns_done unapplies types answers cell header scripts tables limit bounds p table meet fit =
     let e : EngineView = record { table = header; cell = cell } in
-    plays_same scripts tables e (λ first. host_is_sound scripts tables e first types answers table (all_meet header scripts stacked))
-    run_sound stored_sound engine lines begins turns turns_done unapplies limit (whole entries until) _ (unplayed (new_world area random events version))
+    plays_same scripts tables e (λ first. host_is_sound scripts tables e first types answers table meet)
+    run_sound stored_sound engine lines begins turns turns_done unapplies limit bounds _ p fit
+
+pub checked_plays_have_no_fault : CheckedPlaysGoOn → CheckedPlaysHaveNoFault
+checked_plays_have_no_fault go_on cell header scripts limit entries until area random events version table stacked =
+    let tables = table_of header scripts stacked in
+    go_on cell header scripts tables limit (whole entries until) (unplayed (new_world area random events version)) table (all_meet header scripts stacked)
     (new_fits scripts tables area random events version)

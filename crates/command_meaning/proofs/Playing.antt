@@ -36,9 +36,9 @@ module _ (answers : TablesAnswerInTypes) (ready : TypedScriptsAreReady) where
       record { tokens = u.tokens; tree = u.tree; parses = u.parses; types = u.types })
 
   pub listed_plays_end : SourcePlaysEnd → ListedPlaysEnd
-  listed_plays_end ends s table units n limit entries until large w v alike =
-      ends s (machine_of s) (hosts s) (answers s.table s.tables table) (are_ready s table units) n limit entries until large w v alike
+  listed_plays_end ends s table units n limit bounds large w v alike =
+      ends s (machine_of s) (hosts s) (answers s.table s.tables table) (are_ready s table units) n limit bounds large w v alike
 
   pub listed_plays_stop : CodePlaysEnd → ListedPlaysStop
-  listed_plays_stop stops s table units limit entries until w v alike =
-      stops s (machine_of s) (hosts s) (answers s.table s.tables table) (are_ready s table units) limit entries until w v alike
+  listed_plays_stop stops s table units limit bounds w v alike =
+      stops s (machine_of s) (hosts s) (answers s.table s.tables table) (are_ready s table units) limit bounds w v alike

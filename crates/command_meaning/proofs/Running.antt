@@ -80,14 +80,14 @@ module _ (plays : FilesPlayTheirCode) (texts : ListedTextsAgree) (keep : Entries
     run_ends : ListedPlaysEnd → PlayEnds (Carries (setting_of cell header name u)) (code_played cell header name u) (source_played cell header name u sure_steps)
     unfolding code_played source_played
     run_ends ends =
-        ends (setting_of cell header name u) table units sure_steps default_instruction_limit default_entry_limit default_until enough
+        ends (setting_of cell header name u) table units sure_steps default_instruction_limit (whole default_entry_limit default_until) enough
         (first_world name) (source_world name) begins_alike
 
     run_stops : ListedPlaysStop → PlayStops (Carries (setting_of cell header name u)) (code_runner (host_of cell header (listed name (code_of u))) default_instruction_limit)
         (whole default_entry_limit default_until) default_instruction_limit (unplayed (first_world name)) (code_played cell header name u) (source_played cell header name u default_instruction_limit)
     unfolding code_played source_played
     run_stops stops =
-        stops (setting_of cell header name u) table units default_instruction_limit default_entry_limit default_until
+        stops (setting_of cell header name u) table units default_instruction_limit (whole default_entry_limit default_until)
         (first_world name) (source_world name) begins_alike
 
   pub few_steps_end_as_meant : ListedPlaysEnd → FewStepsEndAsMeant

@@ -10,11 +10,14 @@ use Rattle.machine_rules.specs.Machine.{Host, Script, script_named}
 use Rattle.machine_rules.specs.Runs as runs
 use Rattle.machine_rules.specs.Runs.{run_script, run_stored}
 use Rattle.stack_rules.specs.Rules.{WellStacked}
+use Rattle.stack_rules.specs.Fits.{Tables}
+use Rattle.stack_rules.specs.Laws.{AllMeet}
+use Rattle.ncs_machine.specs.Stored.{StatesFit}
 use Rattle.world_rules.specs.Pure.{CellLookup}
 use Rattle.world_rules.specs.World.{World}
 use Rattle.world_rules.specs.Turns.{Begun, Planned, begin, new_world, turn}
-use Rattle.world_rules.specs.Plays.{PlayEnd, Done, StoppedInside, Paused, Bounds, Progress, entered, full, further, unplayed}
-use Rattle.module_player.specs.CodePlays.{code_runner, code_play}
+use Rattle.world_rules.specs.Plays.{PlayEnd, Done, StoppedInside, Paused, Bounds, Progress, entered, full, further, play_on, unplayed}
+use Rattle.module_player.specs.CodePlays.{code_runner}
 use Rattle.play_meaning.specs.Together.{whole}
 use Rattle.command_plays.specs.Plays.{host_of}
 
@@ -64,21 +67,31 @@ code_ends host limit bounds (suc left) p =
     if p.entries == bounds.entries then Ends (full (begin bounds.until p.world))
     else next_ends host limit (begin bounds.until p.world) p (code_ends host limit bounds left)
 
--- a whole play from a world on: at most so many instructions in an entry, so many entries, and those that are due by this time
-abbrev pub code_end : Host (World Saved) → ℕ → ℕ → ℕ → World Saved → CodeEnd
-code_end host limit entries until w = code_ends host limit (whole entries until) ((whole entries until).stop - (unplayed w).entries) (unplayed w)
+-- a play that goes on from here: at most so many instructions in an entry, and as far as the bounds allow
+abbrev pub code_end : Host (World Saved) → ℕ → Bounds → Progress Saved → CodeEnd
+code_end host limit bounds p = code_ends host limit bounds (bounds.stop - p.entries) p
 
 -- ---- checked files
 
--- The play of files ends as plays do, and so at no stack fault.
+-- The play of files that goes on from here ends as plays do, and so at no stack fault.
+abbrev pub GoesWithoutFault : Host (World Saved) → ℕ → Bounds → Progress Saved → Type 0
+GoesWithoutFault host limit bounds p = code_end host limit bounds p ≡ Ends (play_on (code_runner host limit) bounds p).ending
+
+-- So does a whole play from a world on.
 abbrev pub EndsWithoutFault : Host (World Saved) → ℕ → ℕ → ℕ → World Saved → Type 0
-EndsWithoutFault host limit entries until w = code_end host limit entries until w ≡ Ends (code_play host limit entries until w).ending
+EndsWithoutFault host limit entries until w = GoesWithoutFault host limit (whole entries until) (unplayed w)
 
 -- every script is well stacked under a header
 abbrev pub AreStacked : EngineTable → List Script → Type 0
 AreStacked header scripts = AllByRecursion (λ s. WellStacked header s.code) scripts
 
--- So does every play of checked files, from the world of an area and of what is planned in it.
+-- So does every play of checked files that goes on from a world whose captured states fit.
+abbrev pub CheckedPlaysGoOn : Type 0
+CheckedPlaysGoOn =
+    (cell : CellLookup) (header : EngineTable) (scripts : List Script) (tables : Tables) (limit : ℕ) (bounds : Bounds) (p : Progress Saved)
+    → IsTable header → AllMeet header scripts tables → StatesFit scripts tables p.world → GoesWithoutFault (host_of cell header scripts) limit bounds p
+
+-- No state is captured in the world of an area and of what is planned in it.
 abbrev pub CheckedPlaysHaveNoFault : Type 0
 CheckedPlaysHaveNoFault =
     (cell : CellLookup) (header : EngineTable) (scripts : List Script) (limit entries until : ℕ) (area : PlainArea) (random : List ℕ) (events : List Planned) (version : ℕ)

@@ -1,5 +1,5 @@
 //! Laws about the work of commands, each the contract of a function that does nothing.
-ghost use Rattle.command_meaning.specs.CodeEnds.{CheckedPlaysHaveNoFault};
+ghost use Rattle.command_meaning.specs.CodeEnds.{CheckedPlaysGoOn, CheckedPlaysHaveNoFault};
 ghost use Rattle.command_meaning.specs.Files.{FilesAreNotRefused, FilesPlayTheirCode};
 ghost use Rattle.command_meaning.specs.ListedPlays.{ListedPlaysEnd, ListedPlaysStop};
 ghost use Rattle.command_meaning.specs.ListedPlays.{ListedTextsAgree};
@@ -80,8 +80,10 @@ pub fn listed_units_play_alike()
     end_texts_agree();
 }
 
-/// No play of checked files comes to a stack fault: it ends as plays of the world's rules do.
+/// No play of checked files comes to a stack fault: it ends as plays of the world's rules do, also
+/// where it goes on from a world whose captured states fit.
 pub fn checked_plays_have_no_fault()
+    ensures goes_on { CheckedPlaysGoOn }
     ensures no_fault { CheckedPlaysHaveNoFault }
 {
     runs_are_sound::<Scene>();

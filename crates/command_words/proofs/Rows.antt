@@ -2,7 +2,8 @@
 use Rattle.std.proofs.Common.{◌≡◌, [], ◌∷◌, None, Some, refl}
 use Rattle.std.specs.Prelude.{codes}
 use Rattle.nwq_text.specs.Names.{is_script_name}
-use Rattle.command_words.specs.Words.{form_of, Run, Compile, Tree, Disassemble, Assemble, Play, NoForm}
+use Rattle.nwq_text.specs.Number.{number_of}
+use Rattle.command_words.specs.Words.{form_of, Run, Compile, Tree, Disassemble, Assemble, Play, Save, Resume, NoForm}
 
 built_in_header : form_of (codes "run" ∷ codes "-" ∷ codes "p" ∷ []) ≡ Run (codes "-") (codes "p")
 unfolding is_script_name
@@ -48,3 +49,28 @@ play_with_tables = refl
 
 two_lists : form_of (codes "play" ∷ codes "-" ∷ codes "a.git" ∷ codes "p.plan" ∷ codes "f.git" ∷ codes "t.txt" ∷ codes "t.txt" ∷ []) ≡ NoForm
 two_lists = refl
+
+save_words : form_of (codes "save" ∷ codes "-" ∷ codes "a.git" ∷ codes "p.plan" ∷ codes "1" ∷ codes "s.nwq" ∷ [])
+    ≡ Save (codes "-") (codes "a.git") (codes "p.plan") 1 (codes "s.nwq") None
+unfolding number_of
+save_words = refl
+
+save_with_tables : form_of (codes "save" ∷ codes "-" ∷ codes "a.git" ∷ codes "p.plan" ∷ codes "1000000" ∷ codes "s.nwq" ∷ codes "t.txt" ∷ [])
+    ≡ Save (codes "-") (codes "a.git") (codes "p.plan") 1000000 (codes "s.nwq") (Some (codes "t.txt"))
+unfolding number_of
+save_with_tables = refl
+
+save_nothing : form_of (codes "save" ∷ codes "-" ∷ codes "a.git" ∷ codes "p.plan" ∷ codes "0" ∷ codes "s.nwq" ∷ []) ≡ NoForm
+unfolding number_of
+save_nothing = refl
+
+save_too_many : form_of (codes "save" ∷ codes "-" ∷ codes "a.git" ∷ codes "p.plan" ∷ codes "1000001" ∷ codes "s.nwq" ∷ []) ≡ NoForm
+unfolding number_of
+save_too_many = refl
+
+resume_words : form_of (codes "resume" ∷ codes "s.nwq" ∷ codes "f.git" ∷ []) ≡ Resume (codes "s.nwq") (codes "f.git") None
+resume_words = refl
+
+resume_with_tables : form_of (codes "resume" ∷ codes "s.nwq" ∷ codes "f.git" ∷ codes "t.txt" ∷ [])
+    ≡ Resume (codes "s.nwq") (codes "f.git") (Some (codes "t.txt"))
+resume_with_tables = refl

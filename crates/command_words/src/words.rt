@@ -3,11 +3,16 @@ ghost use Rattle.std.specs.List.{list_any};
 ghost use Rattle.std.specs.Option.{option_map};
 ghost use Rattle.nwq_text.specs.Number.{number_of};
 ghost use Rattle.command_words.specs.Words.{is_option, command_form, generate_form, one_word_form};
-ghost use Rattle.command_words.specs.Words.{two_word_form, run_form, compile_form, play_form};
+ghost use Rattle.command_words.specs.Words.{two_word_form, three_word_form, four_word_form};
+ghost use Rattle.command_words.specs.Words.{five_word_form, six_word_form};
+ghost use Rattle.command_words.specs.Words.{run_form, compile_form, save_form};
 ghost use Rattle.command_words.specs.Words.{form_of, list_of, IsCommand};
 
 use nwq_text::{is_script_name, read_number};
 use play_generator::NUMBER_LIMIT;
+
+/// As many entries as a play may have.
+const MOST_ENTRIES: u64 = 1_000_000;
 
 /// A command, as its words say it.
 #[derive(Clone, Copy)]
@@ -35,6 +40,22 @@ pub enum Command<'a> {
     },
     /// Plays what is made from a number.
     Generate(u32),
+    /// Plays as `Play` does, breaks off after so many entries, and leaves the play's state in a
+    /// file.
+    Save {
+        header: &'a str,
+        area: &'a str,
+        plan: &'a str,
+        entries: u64,
+        state: &'a str,
+        list: Option<&'a str>,
+    },
+    /// Plays on from the state of a play, and leaves the area in a file.
+    Resume {
+        state: &'a str,
+        to: &'a str,
+        list: Option<&'a str>,
+    },
     /// The words are no form of a command.
     NoForm,
 }
@@ -123,21 +144,45 @@ fn two_words<'a>(command: &str, first: &'a str, second: &'a str) -> Command<'a>
         Command::Disassemble(first, second)
     } else if is_word(command, "asm") {
         Command::Assemble(first, second)
+    } else if is_word(command, "resume") {
+        Command::Resume {
+            state: first,
+            to: second,
+            list: None,
+        }
     } else {
         Command::NoForm
     }
 }
 
-fn play_words<'a>(
+fn three_words<'a>(
+    command: &str,
+    state: &'a str,
+    to: &'a str,
+    list: &'a str,
+) -> Command<'a>
+    ensures { IsCommand result (three_word_form command.now state.now to.now list.now) }
+{
+    if is_word(command, "resume") {
+        Command::Resume {
+            state,
+            to,
+            list: Some(list),
+        }
+    } else {
+        Command::NoForm
+    }
+}
+
+fn four_words<'a>(
     command: &str,
     header: &'a str,
     area: &'a str,
     plan: &'a str,
     to: &'a str,
-    list: Option<&'a str>,
 ) -> Command<'a>
-    ensures { IsCommand result (play_form command.now header.now area.now plan.now to.now
-        (option_map (λ name. name.now) list.entry)) }
+    ensures { IsCommand result
+        (four_word_form command.now header.now area.now plan.now to.now) }
 {
     if is_word(command, "play") {
         Command::Play {
@@ -145,8 +190,84 @@ fn play_words<'a>(
             area,
             plan,
             to,
-            list,
+            list: None,
         }
+    } else {
+        Command::NoForm
+    }
+}
+
+/// Saves the state of a play after as many entries as the word writes.
+fn save_words<'a>(
+    header: &'a str,
+    area: &'a str,
+    plan: &'a str,
+    entries: &str,
+    state: &'a str,
+    list: Option<&'a str>,
+) -> Command<'a>
+    ensures { IsCommand result (save_form header.now area.now plan.now (number_of entries.now)
+        state.now (option_map (λ name. name.now) list.entry)) }
+{
+    match read_number(entries.as_bytes()) {
+        None => Command::NoForm,
+        Some(entries) => {
+            if 1 <= entries && entries <= MOST_ENTRIES {
+                Command::Save {
+                    header,
+                    area,
+                    plan,
+                    entries,
+                    state,
+                    list,
+                }
+            } else {
+                Command::NoForm
+            }
+        }
+    }
+}
+
+fn five_words<'a>(
+    command: &str,
+    header: &'a str,
+    area: &'a str,
+    plan: &'a str,
+    fourth: &'a str,
+    fifth: &'a str,
+) -> Command<'a>
+    ensures { IsCommand result
+        (five_word_form command.now header.now area.now plan.now fourth.now fifth.now) }
+{
+    if is_word(command, "play") {
+        Command::Play {
+            header,
+            area,
+            plan,
+            to: fourth,
+            list: Some(fifth),
+        }
+    } else if is_word(command, "save") {
+        save_words(header, area, plan, fourth, fifth, None)
+    } else {
+        Command::NoForm
+    }
+}
+
+fn six_words<'a>(
+    command: &str,
+    header: &'a str,
+    area: &'a str,
+    plan: &'a str,
+    entries: &str,
+    state: &'a str,
+    list: &'a str,
+) -> Command<'a>
+    ensures { IsCommand result (six_word_form command.now header.now area.now plan.now
+        entries.now state.now list.now) }
+{
+    if is_word(command, "save") {
+        save_words(header, area, plan, entries, state, Some(list))
     } else {
         Command::NoForm
     }
@@ -158,21 +279,35 @@ fn command_by(words: &[String]) -> Command<'_>
     match words {
         [command, file] => one_word(command.as_str(), file.as_str()),
         [command, first, second] => two_words(command.as_str(), first.as_str(), second.as_str()),
-        [command, header, area, plan, to] => play_words(
+        [command, state, to, list] => three_words(
             command.as_str(),
-            header.as_str(),
-            area.as_str(),
-            plan.as_str(),
+            state.as_str(),
             to.as_str(),
-            None,
+            list.as_str(),
         ),
-        [command, header, area, plan, to, list] => play_words(
+        [command, header, area, plan, to] => four_words(
             command.as_str(),
             header.as_str(),
             area.as_str(),
             plan.as_str(),
             to.as_str(),
-            Some(list.as_str()),
+        ),
+        [command, header, area, plan, fourth, fifth] => five_words(
+            command.as_str(),
+            header.as_str(),
+            area.as_str(),
+            plan.as_str(),
+            fourth.as_str(),
+            fifth.as_str(),
+        ),
+        [command, header, area, plan, entries, state, list] => six_words(
+            command.as_str(),
+            header.as_str(),
+            area.as_str(),
+            plan.as_str(),
+            entries.as_str(),
+            state.as_str(),
+            list.as_str(),
         ),
         _ => Command::NoForm,
     }
@@ -197,6 +332,8 @@ pub fn list_in(words: &[String]) -> Option<&str>
 {
     match command_of(words) {
         Command::Play { list, .. } => list,
+        Command::Save { list, .. } => list,
+        Command::Resume { list, .. } => list,
         _ => None,
     }
 }

@@ -7,12 +7,17 @@ use Rattle.nwq_outside.specs.Outside.{Contents, AreBytes}
 use Rattle.engine_table.specs.KeptTables.{HeadersHaveTables, BuiltInIsTable}
 use Rattle.command_work.specs.declared.status.Status.{Status}
 use Rattle.command_work.specs.Refusal.{Refusal, At, line_of, status_of}
-use Rattle.command_work.specs.Work.{Does, file_named}
+use Rattle.command_work.specs.Work.{Gives, then, Does, file_named}
 use Rattle.command_work.specs.Parts.{then_ok, then_err}
 use Rattle.command_work.specs.Reading.{IsRead, IsUnread}
 use Rattle.command_work.specs.Comes.{Came, cut, gives_does, refused_does, given_comes, refusal_comes, then_comes, read_does, unread_does, file_comes}
 use Rattle.command_sources.specs.Headers.{HeaderFate, Whole, Faulty, IsHeaderFate, whole, table_by, table_in, table_named, table_unless, table_of}
+use Rattle.command_save.specs.declared.inputs.HeaderFile.{HeaderFile}
+use Rattle.command_save.specs.Inputs as inputs
+use Rattle.command_save.specs.Inputs.{header_file, header_in, header_named, header_unless, header_of}
 use Rattle.nwq_top.specs.Accepting.{HasHeader, built_in, read}
+use Rattle.nwq_top.specs.Saves as saves
+use Rattle.nwq_top.specs.Saves.{HasHeaderFile}
 use Rattle.nwq_top.specs.Refusing.{RefusesHeader, unread, faulty}
 
 module _ (c : Contents) (t : List ℕ) (word : List ℕ) where
@@ -69,6 +74,78 @@ module _ (c : Contents) (t : List ℕ) (word : List ℕ) where
     pub header_comes : Does (table_of word) c t r c' t' → HeaderComes
     unfolding table_of
     header_comes does = word_comes (bytes_eq word (codes "-")) refl does
+
+-- ---- with the bytes of its file
+
+module _ (c : Contents) (t : List ℕ) (word : List ℕ) where
+  file_unless_built : (b : Bool) → b ≡ true → Does (header_unless b word) c t (Ok inputs.built_in) c t
+  file_unless_built true e = gives_does inputs.built_in c t
+  file_unless_built false e = absurd cc
+
+  file_unless_named : (r : Result HeaderFile Status) (c' : Contents) (t' : List ℕ) (b : Bool) → b ≡ false → Does (header_named word) c t r c' t'
+      → Does (header_unless b word) c t r c' t'
+  file_unless_named r c' t' true e does = absurd cc
+  file_unless_named r c' t' false e does = does
+
+  pub header_file_does : (h : HeaderFile) → HasHeaderFile c word h → Does (header_of word) c t (Ok h) c t
+  unfolding header_of header_named header_in table_in
+  header_file_does h (saves.built_in e) = file_unless_built (bytes_eq word (codes "-")) e
+  header_file_does h (saves.read e bytes is table has) =
+      file_unless_named (Ok h) c t (bytes_eq word (codes "-")) e
+      (then_ok (file_named word) (header_in word) bytes c c c t t t (Ok h) (read_does c t word bytes is)
+      (inr (record { found = Whole table; is = whole table has; goes = gives_does (header_file bytes table) c t })))
+
+  pub header_file_refuses : (why : Refusal) → RefusesHeader c word why → Does (header_of word) c t (Err (status_of why)) c (t ++ line_of why)
+  unfolding header_of header_named header_in table_in
+  header_file_refuses why (unread e _ is) =
+      file_unless_named (Err (status_of why)) c (t ++ line_of why) (bytes_eq word (codes "-")) e
+      (then_err (file_named word) (header_in word) (status_of why) c c t (t ++ line_of why) (unread_does c t word why is))
+  header_file_refuses why (faulty e bytes is cause place fate) =
+      file_unless_named (Err (status_of why)) c (t ++ line_of why) (bytes_eq word (codes "-")) e
+      (then_ok (file_named word) (header_in word) bytes c c c t t (t ++ line_of why) (Err (status_of why)) (read_does c t word bytes is)
+      (inr (record { found = Faulty cause place; is = fate; goes = refused_does (At word (line_number bytes place) place cause) c t })))
+
+  module _ (r : Result HeaderFile Status) (c' : Contents) (t' : List ℕ) where
+    abbrev HeaderFileComes : Type 0
+    HeaderFileComes = Came (HasHeaderFile c word) (RefusesHeader c word) c t r c' t'
+
+    file_fate_comes : bytes_eq word (codes "-") ≡ false → (bytes : List ℕ) → IsRead c word bytes → (fate : HeaderFate) → IsHeaderFate bytes fate
+        → Does (then (table_by word bytes fate) (λ table. Gives (header_file bytes table))) c t r c' t' → HeaderFileComes
+    file_fate_comes e bytes is (Whole table) (whole _ has) does =
+        given_comes (HasHeaderFile c word) (RefusesHeader c word) c t r c' t' (header_file bytes table) (saves.read e bytes is table has) does
+    file_fate_comes e bytes is (Faulty cause place) fate does =
+        refusal_comes (HasHeaderFile c word) (RefusesHeader c word) c t r c' t' (At word (line_number bytes place) place cause) (faulty e bytes is cause place fate) does
+
+    file_in_comes : bytes_eq word (codes "-") ≡ false → (bytes : List ℕ) → IsRead c word bytes → Does (header_in word bytes) c t r c' t' → HeaderFileComes
+    unfolding header_in table_in
+    file_in_comes e bytes is (inl x) = cut x.0
+    file_in_comes e bytes is (inr h) = file_fate_comes e bytes is h.found h.is h.goes
+
+    file_word_comes : (b : Bool) → bytes_eq word (codes "-") ≡ b → Does (header_unless b word) c t r c' t' → HeaderFileComes
+    unfolding header_named
+    file_word_comes true e does = given_comes (HasHeaderFile c word) (RefusesHeader c word) c t r c' t' inputs.built_in (saves.built_in e) does
+    file_word_comes false e does =
+        then_comes (file_named word) (header_in word) (IsRead c word) (IsUnread c word) (HasHeaderFile c word) (RefusesHeader c word) c t r c' t'
+        (file_comes c t word) (file_in_comes e) (unread e) does
+
+    pub header_file_comes : Does (header_of word) c t r c' t' → HeaderFileComes
+    unfolding header_of
+    header_file_comes does = file_word_comes (bytes_eq word (codes "-")) refl does
+
+-- something is there that has this table
+pub record HasTableIn {H : Type 0} (table_in : H → EngineTable) (Has : H → Type 0) (table : EngineTable) : Type 0 where
+  pub header : H
+  pub has : Has header
+  pub same : table_in header ≡ table
+
+-- it is the header that the word names, and one that the word names has its bytes
+pub header_of_file : (c : Contents) (word : List ℕ) (h : HeaderFile) → HasHeaderFile c word h → HasHeader c word h.table
+header_of_file c word h (saves.built_in e) = built_in e
+header_of_file c word h (saves.read e bytes is table has) = read e bytes is table has
+
+pub file_of_header : (c : Contents) (word : List ℕ) (table : EngineTable) → HasHeader c word table → HasTableIn (λ (h : HeaderFile). h.table) (HasHeaderFile c word) table
+file_of_header c word table (built_in e) = record { header = inputs.built_in; has = saves.built_in e; same = refl }
+file_of_header c word table (read e bytes is _ has) = record { header = header_file bytes table; has = saves.read e bytes is table has; same = refl }
 
 -- the table of a header keeps what every table keeps
 pub is_table : HeadersHaveTables → BuiltInIsTable → (c : Contents) (word : List ℕ) (table : EngineTable) → AreBytes c → HasHeader c word table → IsTable table

@@ -5,7 +5,10 @@ mod ListedUnits
 mod SourcePlans
 mod PlansAndAreas
 mod Running
+mod PlayFiles
 mod Playing
+mod Saving
+mod Resuming
 mod MadeSource
 mod MadeTelling
 mod Generating

@@ -7,7 +7,7 @@ use Rattle.plan_text.specs.declared.plan.Plan.{Plan}
 use Rattle.command_work.specs.declared.flaw.AreaFlaw.TheVariants as flaw
 use Rattle.command_work.specs.declared.status.Status.{Status}
 use Rattle.command_work.specs.Refusal.{Refusal, BadArea, line_of, status_of}
-use Rattle.command_work.specs.Work.{Gives, Does, file_named}
+use Rattle.command_work.specs.Work.{Gives, then, Does, file_named}
 use Rattle.command_work.specs.Parts.{then_ok, then_err}
 use Rattle.command_work.specs.Reading.{IsRead, IsUnread}
 use Rattle.command_work.specs.Comes.{Came, cut, gives_does, refused_does, given_comes, refusal_comes, then_comes, read_does, unread_does, file_comes}
@@ -16,8 +16,12 @@ use Rattle.command_files.specs.Trees.{tree_in, tree_named}
 use Rattle.play_inputs.specs.Plans as plans
 use Rattle.play_inputs.specs.Plans.{plan_in, plan_named}
 use Rattle.play_inputs.specs.Areas as areas
-use Rattle.play_inputs.specs.Areas.{area_in, area_named, place_flaw}
+use Rattle.play_inputs.specs.Areas.{area_in, area_named, area_of_bytes, place_flaw}
+use Rattle.gff_read.specs.Stands.{Stands}
+use Rattle.command_save.specs.declared.inputs.AreaFile.{AreaFile}
+use Rattle.command_save.specs.Inputs as inputs
 use Rattle.nwq_top.specs.Accepting.{ReadsPlan, ReadsTree, ReadsArea}
+use Rattle.nwq_top.specs.Saves.{HasAreaFile}
 use Rattle.nwq_top.specs.Refusing.{RefusesPlan, RefusesTree, RefusesArea, none}
 use Rattle.nwq_top.specs.Refusing as refusing
 
@@ -146,3 +150,67 @@ module _ (c : Contents) (t : List ℕ) (name : List ℕ) where
     area_comes does =
         then_comes (tree_named name) (area_in name) (ReadsTree c name) (RefusesTree c name) (ReadsArea c name) (RefusesArea c name) c t r c' t'
         (tree_comes c t name) area_in_comes denied does
+
+-- ---- an area with the bytes of its file
+
+module _ (c : Contents) (t : List ℕ) (name : List ℕ) where
+  pub area_file_does : (a : AreaFile) → HasAreaFile c name a → Does (inputs.area_named name) c t (Ok a) c t
+  unfolding inputs.area_named inputs.area_in area_of_bytes tree_in area_in
+  area_file_does a h =
+      then_ok (file_named name) (inputs.area_in name) a.bytes c c c t t t (Ok a) (read_does c t name a.bytes h.read)
+      (inr (record {
+        found = trees.Whole h.tree;
+        is = trees.whole h.tree h.stands;
+        goes = inr (record {
+          found = areas.Whole;
+          is = areas.whole h.whole;
+          goes = subst (λ x. Does (Gives (inputs.area_file a.bytes x)) c t (Ok a) c t) h.is (gives_does a c t);
+        });
+      }))
+
+  pub area_file_refuses : (why : Refusal) → RefusesArea c name why → Does (inputs.area_named name) c t (Err (status_of why)) c (t ++ line_of why)
+  unfolding inputs.area_named inputs.area_in area_of_bytes tree_in area_in
+  area_file_refuses why (refusing.unread _ is) =
+      then_err (file_named name) (inputs.area_in name) (status_of why) c c t (t ++ line_of why) (unread_does c t name why is)
+  area_file_refuses why (refusing.faulty bytes read cause fate) =
+      then_ok (file_named name) (inputs.area_in name) bytes c c c t t (t ++ line_of why) (Err (status_of why)) (read_does c t name bytes read)
+      (inr (record { found = trees.Faulty cause; is = fate; goes = refused_does (BadArea name cause) c t }))
+  area_file_refuses why (refusing.broken bytes read tree stands place others is) =
+      then_ok (file_named name) (inputs.area_in name) bytes c c c t t (t ++ line_of why) (Err (status_of why)) (read_does c t name bytes read)
+      (inr (record {
+        found = trees.Whole tree;
+        is = trees.whole tree stands;
+        goes = inr (record { found = areas.Broken place; is = areas.broken place others is; goes = refused_does (BadArea name (place_flaw place)) c t });
+      }))
+
+  module _ (r : Result AreaFile Status) (c' : Contents) (t' : List ℕ) where
+    abbrev AreaFileComes : Type 0
+    AreaFileComes = Came (HasAreaFile c name) (RefusesArea c name) c t r c' t'
+
+    area_file_by : (bytes : List ℕ) → IsRead c name bytes → (tree : PlainGff) → Stands bytes tree → (fate : areas.AreaFate) → areas.IsAreaFate tree.top fate
+        → Does (then (areas.area_by name tree fate) (λ a. Gives (inputs.area_file bytes a))) c t r c' t' → AreaFileComes
+    area_file_by bytes read tree stands areas.Whole (areas.whole unbroken) does =
+        given_comes (HasAreaFile c name) (RefusesArea c name) c t r c' t' (inputs.area_file bytes (area_of tree))
+        (record { read = read; tree = tree; stands = stands; whole = unbroken; is = refl }) does
+    area_file_by bytes read tree stands (areas.Broken place) (areas.broken _ others is) does =
+        refusal_comes (HasAreaFile c name) (RefusesArea c name) c t r c' t' (BadArea name (place_flaw place))
+        (refusing.broken bytes read tree stands place others is) does
+
+    tree_file_by : (bytes : List ℕ) → IsRead c name bytes → (fate : trees.TreeFate) → trees.IsTreeFate bytes fate
+        → Does (then (then (trees.tree_by name fate) (area_in name)) (λ a. Gives (inputs.area_file bytes a))) c t r c' t' → AreaFileComes
+    unfolding area_in
+    tree_file_by bytes read (trees.Whole tree) (trees.whole _ stands) (inl x) = cut x.0
+    tree_file_by bytes read (trees.Whole tree) (trees.whole _ stands) (inr h) = area_file_by bytes read tree stands h.found h.is h.goes
+    tree_file_by bytes read (trees.Faulty why) fate does =
+        refusal_comes (HasAreaFile c name) (RefusesArea c name) c t r c' t' (BadArea name why) (refusing.faulty bytes read why fate) does
+
+    area_bytes_come : (bytes : List ℕ) → IsRead c name bytes → Does (inputs.area_in name bytes) c t r c' t' → AreaFileComes
+    unfolding inputs.area_in area_of_bytes tree_in
+    area_bytes_come bytes read (inl x) = cut x.0
+    area_bytes_come bytes read (inr h) = tree_file_by bytes read h.found h.is h.goes
+
+    pub area_file_comes : Does (inputs.area_named name) c t r c' t' → AreaFileComes
+    unfolding inputs.area_named
+    area_file_comes does =
+        then_comes (file_named name) (inputs.area_in name) (IsRead c name) (IsUnread c name) (HasAreaFile c name) (RefusesArea c name) c t r c' t'
+        (file_comes c t name) area_bytes_come refusing.unread does

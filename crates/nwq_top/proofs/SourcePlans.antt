@@ -16,7 +16,7 @@ use Rattle.source_meaning.specs.Scripts.{Listed, Setting}
 use Rattle.source_laws.specs.Carries.{Carries}
 use Rattle.source_laws.specs.Executing.{script_of}
 use Rattle.source_laws.specs.StayAlike.{EntriesKeepAlike}
-use Rattle.play_meaning.specs.Together.{PlaysAlike}
+use Rattle.play_meaning.specs.Together.{PlaysAlike, whole}
 use Rattle.play_meaning.specs.EndTexts.{source_end_text}
 use Rattle.command_work.specs.declared.status.Status.{Status}
 use Rattle.command_work.specs.Work.{Puts, Does, Finished}
@@ -52,7 +52,7 @@ module _ (texts : ListedTextsAgree) (keep : EntriesKeepAlike) where
   unfolding code_plan_played source_plan_played
   few_steps_play_as_meant ends cell header area plan scripts to c t r c' t' h n large goes =
       let s : Setting = listing_of cell header scripts in
-      let alike = ends s h.table h.units n plan.limit plan.entries plan.until large
+      let alike = ends s h.table h.units n plan.limit (whole plan.entries plan.until) large
       (plan_world area plan) (source_plan_world area plan) (plan_alike s area plan) goes in
       record {
         alike = alike;
@@ -64,7 +64,7 @@ module _ (texts : ListedTextsAgree) (keep : EntriesKeepAlike) where
   unfolding code_plan_played source_plan_played
   unstopped_plans_play_as_meant stops cell header area plan scripts to c t r c' t' h goes =
       let s : Setting = listing_of cell header scripts in
-      let so = stops s h.table h.units plan.limit plan.entries plan.until
+      let so = stops s h.table h.units plan.limit (whole plan.entries plan.until)
       (plan_world area plan) (source_plan_world area plan) (plan_alike s area plan) in
       record {
         alike = so.ends goes;
@@ -76,7 +76,7 @@ module _ (texts : ListedTextsAgree) (keep : EntriesKeepAlike) where
   unfolding code_plan_played source_plan_played
   stopped_plans_begin_as_meant stops cell header area plan scripts to c t r c' t' h stopped =
       let s : Setting = listing_of cell header scripts in
-      let so = stops s h.table h.units plan.limit plan.entries plan.until
+      let so = stops s h.table h.units plan.limit (whole plan.entries plan.until)
       (plan_world area plan) (source_plan_world area plan) (plan_alike s area plan) in
       let code = code_plan_played cell header area plan scripts in
       record {

@@ -1,4 +1,4 @@
--- What each form of words does: the seed of the main theorem.
+-- What each form of words does, as work.
 use Rattle.std.specs.Prelude.{◌≡◌, ℕ, List}
 use Rattle.table_2da.specs.Look.{cell_of}
 use Rattle.table_2da.specs.declared.tables.Named.{Named}
@@ -12,8 +12,10 @@ use Rattle.command_run.specs.Runs.{runs}
 use Rattle.command_play.specs.Games.{plays}
 use Rattle.command_generate.specs.Generated.{generates}
 use Rattle.command_play.specs.Tellings.{IsGameFile}
+use Rattle.command_save.specs.Saves.{saves}
+use Rattle.command_save.specs.Resumes.{resumes}
 use Rattle.command_tables.specs.Tables.{tables_given}
-use Rattle.command_words.specs.Words.{Form, Run, Compile, Tree, Check, Disassemble, Assemble, Play, Generate, NoForm, list_of}
+use Rattle.command_words.specs.Words.{Form, Run, Compile, Tree, Check, Disassemble, Assemble, Play, Generate, Save, Resume, NoForm, list_of}
 
 -- the work of each form of words, where cells of tables are looked up so
 abbrev pub work_of : CellLookup → Form → Work Finished
@@ -25,6 +27,8 @@ work_of cell (Disassemble file to) = disassembles file to
 work_of cell (Assemble file to) = assembles file to
 work_of cell (Play header area plan to list) = plays cell header area plan to
 work_of cell (Generate number) = generates cell number
+work_of cell (Save header area plan entries state list) = saves cell header area plan entries state
+work_of cell (Resume state to list) = resumes cell state to
 work_of cell NoForm = Refused refusal.NoForm
 
 -- the work of a form of words, where cells are looked up in these tables
@@ -45,4 +49,6 @@ MayWrite (Disassemble file to) name = name ≡ to
 MayWrite (Assemble file to) name = name ≡ to
 MayWrite (Play header area plan to list) name = IsGameFile to name
 MayWrite (Generate number) name = ⊥
+MayWrite (Save header area plan entries state list) name = IsGameFile state name
+MayWrite (Resume state to list) name = name ≡ to
 MayWrite NoForm name = ⊥

@@ -8,7 +8,8 @@ use Rattle.command_files.specs.Checks.{StopsCheck}
 use Rattle.command_run.specs.Runs.{StopsRun}
 use Rattle.command_play.specs.Tellings.{StopsGame}
 use Rattle.command_generate.specs.Generated.{StopsGenerate}
-use Rattle.command_words.specs.Words.{Form, Run, Compile, Tree, Check, Disassemble, Assemble, Play, Generate, NoForm}
+use Rattle.command_save.specs.Tellings.{StopsResume}
+use Rattle.command_words.specs.Words.{Form, Run, Compile, Tree, Check, Disassemble, Assemble, Play, Generate, Save, Resume, NoForm}
 
 abbrev pub EndsWords : Status → Type 0
 EndsWords Words = Unit {0}
@@ -44,6 +45,10 @@ abbrev pub EndsGenerate : Status → Type 0
 EndsGenerate Done = Unit {0}
 EndsGenerate status = StopsGenerate status
 
+abbrev pub EndsResume : Status → Type 0
+EndsResume Done = Unit {0}
+EndsResume status = StopsResume status
+
 -- one table: the status may come of this form
 abbrev pub ComesOf : Form → Status → Type 0
 ComesOf (Run header script) status = EndsRun status
@@ -54,6 +59,8 @@ ComesOf (Disassemble file to) status = EndsCode status
 ComesOf (Assemble file to) status = EndsCode status
 ComesOf (Play header area plan to list) status = EndsPlay status
 ComesOf (Generate number) status = EndsGenerate status
+ComesOf (Save header area plan entries state list) status = EndsPlay status
+ComesOf (Resume state to list) status = EndsResume status
 ComesOf NoForm status = EndsWords status
 
 -- the same of a command's answer, in which `Done` is no error
@@ -66,6 +73,8 @@ StopsCommand (Disassemble file to) status = StopsCode status
 StopsCommand (Assemble file to) status = StopsCode status
 StopsCommand (Play header area plan to list) status = StopsGame status
 StopsCommand (Generate number) status = StopsGenerate status
+StopsCommand (Save header area plan entries state list) status = StopsGame status
+StopsCommand (Resume state to list) status = StopsResume status
 StopsCommand NoForm status = EndsWords status
 
 abbrev pub ComesOfResult : Form → Result Finished Status → Type 0

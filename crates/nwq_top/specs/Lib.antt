@@ -4,6 +4,7 @@ pub mod ListedUnits
 pub mod SourcePlans
 pub mod Runs
 pub mod Plays
+pub mod Saves
 pub mod Generated
 pub mod FileCommands
 pub mod WordLaws

@@ -12,9 +12,10 @@ use Rattle.nwq_top.specs.Refusing.{IsRefused}
 use Rattle.nwq_top.specs.Runs.{MeansRun, MeansCompile}
 use Rattle.nwq_top.specs.Plays.{MeansPlay}
 use Rattle.nwq_top.specs.Generated.{MeansGenerate}
+use Rattle.nwq_top.specs.Saves.{MeansSave, MeansResume}
 use Rattle.nwq_top.specs.FileCommands.{MeansTree, MeansCheck, MeansDisassemble, MeansAssemble}
 use Rattle.command_work.specs.Refusal as refusal
-use Rattle.command_words.specs.Words.{Form, Run, Compile, Tree, Check, Disassemble, Assemble, Play, Generate, NoForm, list_of}
+use Rattle.command_words.specs.Words.{Form, Run, Compile, Tree, Check, Disassemble, Assemble, Play, Generate, Save, Resume, NoForm, list_of}
 use Rattle.nwq_top.specs.Command.{work_of, whole_work}
 use Rattle.nwq_top.specs.GivenTables.{GivesTables, RefusesGiven, TablesCome}
 
@@ -29,6 +30,8 @@ Means cell (Disassemble file to) c t r c' t' = MeansDisassemble file to c t r c'
 Means cell (Assemble file to) c t r c' t' = MeansAssemble file to c t r c' t'
 Means cell (Play header area plan to list) c t r c' t' = MeansPlay cell header area plan to c t r c' t'
 Means cell (Generate number) c t r c' t' = number ≤ number_limit → MeansGenerate cell number c t r c' t'
+Means cell (Save header area plan entries state list) c t r c' t' = MeansSave cell header area plan entries state c t r c' t'
+Means cell (Resume state to list) c t r c' t' = MeansResume cell state to c t r c' t'
 Means cell NoForm c t r c' t' = IsRefused refusal.NoForm c t r c' t'
 
 -- whatever does the work of words does what they mean, where the files hold bytes, unless a failed call or want of memory cut it

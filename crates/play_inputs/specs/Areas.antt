@@ -3,6 +3,7 @@ use Rattle.std.specs.Prelude.{◌≡◌, ℕ, List, [], ◌∷◌, Option, Some,
 use Rattle.nwq_outside.specs.Outside.{Contents}
 use Rattle.gff_tree.specs.Tree.{PlainNode}
 use Rattle.gff_tree.specs.Whole.{PlainGff}
+use Rattle.gff_read.specs.Stands.{Stands}
 use Rattle.area_rules.specs.declared.fault.AreaFault.{AreaFault}
 use Rattle.area_rules.specs.declared.fault.AreaFault.TheVariants as fault
 use Rattle.area_rules.specs.Broken.{Place, broken_places}
@@ -11,7 +12,7 @@ use Rattle.command_work.specs.declared.flaw.AreaFlaw.{AreaFlaw}
 use Rattle.command_work.specs.declared.flaw.AreaFlaw.TheVariants as flaw
 use Rattle.command_work.specs.Refusal.{BadArea}
 use Rattle.command_work.specs.Work.{Work, Gives, Refused, Finds, then}
-use Rattle.command_files.specs.Trees.{tree_named}
+use Rattle.command_files.specs.Trees.{tree_in, tree_named}
 
 -- what is wrong with a tree that is no area
 abbrev pub area_flaw : AreaFault → Option AreaFlaw
@@ -37,6 +38,16 @@ area_by name tree (Broken place) = Refused (BadArea name (place_flaw place))
 -- the area of a tree, which is that of the file of this name
 unfoldable pub area_in : List ℕ → PlainGff → Work PlainArea
 area_in name tree = Finds (λ (c : Contents) fate. IsAreaFate tree.top fate) (area_by name tree)
+
+-- the area in the bytes of the file of this name
+unfoldable pub area_of_bytes : List ℕ → List ℕ → Work PlainArea
+area_of_bytes name bytes = then (tree_in name bytes) (area_in name)
+
+-- The bytes stand for the tree of this area, which breaks no rule.
+pub record TellsArea (bytes : List ℕ) (area : PlainArea) : Type 0 where
+  pub stands : Stands bytes area.tree
+  pub whole : broken_places area.tree.top ≡ []
+  pub is : area ≡ area_of area.tree
 
 -- the area in the file of this name
 unfoldable pub area_named : List ℕ → Work PlainArea

@@ -4,10 +4,10 @@ use Rattle.std.specs.Prelude.{◌==◌, if◌then◌else◌}
 use Rattle.world_rules.specs.World.{World}
 use Rattle.world_rules.specs.Turns.{Begun, begin}
 use Rattle.world_rules.specs.Alike.{Alike, BegunAlike}
-use Rattle.world_rules.specs.Plays.{Runner, Entered, Bounds, Progress, PlayEnd, Done, StoppedInside, Paused, Played, entered, further, full, after_entry, next_entry, plays, unplayed, play}
+use Rattle.world_rules.specs.Plays.{Runner, Entered, Bounds, Progress, PlayEnd, Done, StoppedInside, Paused, Played, entered, further, full, after_entry, next_entry, plays, play_on, unplayed}
 use Rattle.source_laws.specs.StayAlike.{EntriesStayAlike}
 use Rattle.source_laws.specs.Ledger.{step_cost}
-use Rattle.play_meaning.specs.Together.{Begins, RunEnds, RunStops, RunnersAre, PlaysAlike, PlayEnds, StoppedAt, PlayStops, whole}
+use Rattle.play_meaning.specs.Together.{Begins, RunEnds, RunStops, RunnersAre, PlaysAlike, PlayEnds, StoppedAt, PlayStops}
 use Rattle.play_meaning.proofs.Beginnings.{whole_begins, longer_begins, begins_then, behind_begins}
 use Rattle.play_meaning.proofs.Entering.{EnteredAlike, EntryEnds, EntryStops, entries_go, finish_ends, quiet_ends, finish_stops, quiet_stops}
 
@@ -198,19 +198,18 @@ module _ {X Y : Type 0} (R : X → Y → Type 0) (stay : EntriesStayAlike R) (co
         (ap (λ (n : ℕ). n == bounds.entries) k.entries)
         (turn_stops go on (plays_stop left) (plays_tell source bounds left) (p.entries == bounds.entries) b d (stay.begins bounds.until p.world q.world k.world) p q refl refl k)
 
--- ---- whole plays
+-- ---- plays from their beginning
 
 unplayed_alike : {X Y : Type 0} (R : X → Y → Type 0) (w : World X) (v : World Y) → Alike R w v → ProgressAlike R (unplayed w) (unplayed v)
 unplayed_alike R w v a = record { entries = refl; trace = refl; world = a; paid = omega arith; few = omega arith }
 
-pub whole_ends : {X Y : Type 0} (R : X → Y → Type 0) → EntriesStayAlike R → (code : Runner X) (source : Runner Y) → RunnersAre R (RunEnds R) code source
-    → (entries until : ℕ) (w : World X) (v : World Y) → Alike R w v → PlayEnds R (play code entries until w) (play source entries until v)
-whole_ends R stay code source runners entries until w v a =
-    let bounds : Bounds = record { entries = entries; until = until; stop = entries + 1 } in
+pub bounded_ends : {X Y : Type 0} (R : X → Y → Type 0) → EntriesStayAlike R → (code : Runner X) (source : Runner Y) → RunnersAre R (RunEnds R) code source
+    → (bounds : Bounds) (w : World X) (v : World Y) → Alike R w v → PlayEnds R (play_on code bounds (unplayed w)) (play_on source bounds (unplayed v))
+bounded_ends R stay code source runners bounds w v a =
     plays_end R stay code source bounds runners _ (unplayed w) (unplayed v) (unplayed_alike R w v a)
 
-pub whole_stops : {X Y : Type 0} (R : X → Y → Type 0) → EntriesStayAlike R → (code : Runner X) (source : Runner Y) (limit : ℕ) → RunnersAre R (RunStops R limit) code source
-    → (entries until : ℕ) (w : World X) (v : World Y) → Alike R w v → PlayStops R code (whole entries until) limit (unplayed w) (play code entries until w) (play source entries until v)
-whole_stops R stay code source limit runners entries until w v a =
-    let bounds : Bounds = record { entries = entries; until = until; stop = entries + 1 } in
+pub bounded_stops : {X Y : Type 0} (R : X → Y → Type 0) → EntriesStayAlike R → (code : Runner X) (source : Runner Y) (limit : ℕ) → RunnersAre R (RunStops R limit) code source
+    → (bounds : Bounds) (w : World X) (v : World Y) → Alike R w v
+    → PlayStops R code bounds limit (unplayed w) (play_on code bounds (unplayed w)) (play_on source bounds (unplayed v))
+bounded_stops R stay code source limit runners bounds w v a =
     plays_stop R stay code source bounds limit runners _ (unplayed w) (unplayed v) (unplayed_alike R w v a)

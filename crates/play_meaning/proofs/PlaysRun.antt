@@ -14,7 +14,7 @@ use Rattle.source_laws.specs.StayAlike.{EntriesKeepAlike}
 use Rattle.play_meaning.specs.Together.{RunEnds, RunStops, RunnersAre}
 use Rattle.play_meaning.specs.PlaysRun.{SourcePlaysEnd, CodePlaysEnd}
 use Rattle.play_meaning.proofs.Runs.{run_ends, run_stops}
-use Rattle.play_meaning.proofs.Playing.{whole_ends, whole_stops}
+use Rattle.play_meaning.proofs.Playing.{bounded_ends, bounded_stops}
 
 module _ (s : Setting) (host : MachineHost) (run : EntriesRun s host) (keep : EntriesKeepAlike) where
   ends_go : (n limit : ℕ) → step_cost * n ≤ limit → RunnersAre (Carries s) (RunEnds (Carries s)) (code_runner host limit) (runner s n)
@@ -38,11 +38,11 @@ module _ (s : Setting) (host : MachineHost) (run : EntriesRun s host) (keep : En
   }
 
 pub source_plays_end : ListedScriptsDo → EntriesDo → EntriesKeepAlike → SourcePlaysEnd
-source_plays_end scripts entries keep s host of typed ready n limit most until large w v a =
+source_plays_end scripts entries keep s host of typed ready n limit bounds large w v a =
     let d = scripts s host of typed ready in
-    whole_ends (Carries s) (keep s) (code_runner host limit) (runner s n) (ends_go s host (entries s host of d.starts d.resumes) keep n limit large) most until w v a
+    bounded_ends (Carries s) (keep s) (code_runner host limit) (runner s n) (ends_go s host (entries s host of d.starts d.resumes) keep n limit large) bounds w v a
 
 pub code_plays_end : ListedScriptsDo → EntriesDo → EntriesKeepAlike → CodePlaysEnd
-code_plays_end scripts entries keep s host of typed ready limit most until w v a =
+code_plays_end scripts entries keep s host of typed ready limit bounds w v a =
     let d = scripts s host of typed ready in
-    whole_stops (Carries s) (keep s) (code_runner host limit) (runner s limit) limit (stops_go s host (entries s host of d.starts d.resumes) keep of limit) most until w v a
+    bounded_stops (Carries s) (keep s) (code_runner host limit) (runner s limit) limit (stops_go s host (entries s host of d.starts d.resumes) keep of limit) bounds w v a
