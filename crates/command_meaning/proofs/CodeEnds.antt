@@ -243,7 +243,7 @@ checked_plays_go_on run_sound stored_sound engine lines begins turns turns_done 
     run_sound stored_sound engine lines begins turns turns_done unapplies limit bounds _ p fit
 
 pub checked_plays_have_no_fault : CheckedPlaysGoOn → CheckedPlaysHaveNoFault
-checked_plays_have_no_fault go_on cell header scripts limit entries until area random events version table stacked =
+checked_plays_have_no_fault go_on cell header scripts limit bounds area random events version table stacked =
     let tables = table_of header scripts stacked in
-    go_on cell header scripts tables limit (whole entries until) (unplayed (new_world area random events version)) table (all_meet header scripts stacked)
+    go_on cell header scripts tables limit bounds (unplayed (new_world area random events version)) table (all_meet header scripts stacked)
     (new_fits scripts tables area random events version)

@@ -91,9 +91,9 @@ CheckedPlaysGoOn =
     (cell : CellLookup) (header : EngineTable) (scripts : List Script) (tables : Tables) (limit : ℕ) (bounds : Bounds) (p : Progress Saved)
     → IsTable header → AllMeet header scripts tables → StatesFit scripts tables p.world → GoesWithoutFault (host_of cell header scripts) limit bounds p
 
--- No state is captured in the world of an area and of what is planned in it.
+-- So does every one from the world of an area and of what is planned in it, in which no state is captured.
 abbrev pub CheckedPlaysHaveNoFault : Type 0
 CheckedPlaysHaveNoFault =
-    (cell : CellLookup) (header : EngineTable) (scripts : List Script) (limit entries until : ℕ) (area : PlainArea) (random : List ℕ) (events : List Planned) (version : ℕ)
+    (cell : CellLookup) (header : EngineTable) (scripts : List Script) (limit : ℕ) (bounds : Bounds) (area : PlainArea) (random : List ℕ) (events : List Planned) (version : ℕ)
     → IsTable header → AreStacked header scripts
-    → EndsWithoutFault (host_of cell header scripts) limit entries until (new_world area random events version)
+    → GoesWithoutFault (host_of cell header scripts) limit bounds (unplayed (new_world area random events version))

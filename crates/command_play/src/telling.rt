@@ -27,7 +27,7 @@ use world_core::World;
 
 /// Puts the text at the end of a play that a limit ended.
 #[tactic(auto, using(crate::proofs::TellLemmas::limits))]
-fn tell_limit<S: Sink>(text: Vec<u8>, out: &mut S) -> Result<(), Status>
+pub fn tell_limit<S: Sink>(text: Vec<u8>, out: &mut S) -> Result<(), Status>
     ensures does { IsTrue S.tells → (c : Contents) →
         Does (Puts text.items (Ends Status.Limit)) c (S.taken out.old) result c (S.taken out.new) }
     ensures counts { (counts : FileCounts) → Tallies result (Counted counts (S.faults out.old))
@@ -108,7 +108,7 @@ fn end_by<F: Files, S: Sink>(
 
 /// Writes what a play leaves in its last world, and tells its end.
 #[tactic(auto, using(crate::proofs::TellLemmas::ends))]
-pub(crate) fn tell_end<F: Files, S: Sink>(
+pub fn tell_end<F: Files, S: Sink>(
     alloc: Global,
     world: World<Saved>,
     scripts: &Scripts,

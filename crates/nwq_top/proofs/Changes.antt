@@ -18,8 +18,11 @@ use Rattle.world_rules.specs.Pure.{CellLookup}
 use Rattle.world_rules.specs.Trace.{trace_text}
 use Rattle.module_player.specs.CodePlays.{code_end_text}
 use Rattle.play_worlds.specs.Worlds.{plan_world}
-use Rattle.command_plays.specs.Plays.{played}
-use Rattle.world_rules.specs.Plays.{PlayEnd, Done, OutOfEntries, StoppedInside, Paused}
+use Rattle.command_plays.specs.Plays.{played, played_first}
+use Rattle.saved_state.specs.declared.saved.Saved.{Saved}
+use Rattle.state_format.specs.declared.parts.Parts.{Parts as StateParts}
+use Rattle.state_format.specs.Fields.{parts_bytes}
+use Rattle.world_rules.specs.Plays.{PlayEnd, Done, OutOfEntries, StoppedInside, Paused, Progress, Played}
 use Rattle.command_work.specs.declared.status.Status.{Status}
 use Rattle.command_work.specs.Work.{Work, Gives, Refused, Ends, Writes, Puts, Finds, then, IsCut, Does, Finished, by_size, bytes_of, file_named, puts, writes}
 use Rattle.command_work.specs.Counts.{KeepsBut}
@@ -40,13 +43,20 @@ use Rattle.command_compile.specs.Typings as typings
 use Rattle.command_compile.specs.Typings.{typing_by, typed_in}
 use Rattle.command_compile.specs.Files.{code_name, file_by, file_in, compiled_in, compiled_named}
 use Rattle.play_inputs.specs.Areas as areas
-use Rattle.play_inputs.specs.Areas.{area_by, area_in, area_named}
+use Rattle.play_inputs.specs.Areas.{area_by, area_in, area_named, area_of_bytes}
 use Rattle.play_inputs.specs.Plans as plans
 use Rattle.play_inputs.specs.Plans.{plan_by, plan_in, plan_named}
 use Rattle.play_inputs.specs.Finals.{final_by, final_written}
 use Rattle.play_inputs.specs.Listings.{code_by, writes_loaded, source_named, playable, script_in, lists_on, scripts_listed, IsSourceFile}
-use Rattle.command_play.specs.Games.{ends_by, plays_plan, plays_area, plays_scripts, plays_under, plays}
-use Rattle.command_words.specs.Words.{Run, Compile, Tree, Check, Disassemble, Assemble, Play, Generate, NoForm}
+use Rattle.command_play.specs.Games.{ends_by, tells, plays_plan, plays_area, plays_scripts, plays_under, plays}
+use Rattle.command_save.specs.declared.inputs.HeaderFile.{HeaderFile}
+use Rattle.command_save.specs.declared.inputs.AreaFile.{AreaFile}
+use Rattle.command_save.specs.Inputs as inputs
+use Rattle.command_save.specs.Inputs.{header_file, header_in, header_named, header_unless, header_of}
+use Rattle.command_save.specs.Saves.{saved_line, state_by, state_told, state_written, saves_at, saves_by, saves_plan, saves_area, saves_scripts, saves_under, saves}
+use Rattle.command_save.specs.Resumes as resuming
+use Rattle.command_save.specs.Resumes.{state_in, state_named, played_rest, resumes_from, resumes_state, resumes}
+use Rattle.command_words.specs.Words.{Run, Compile, Tree, Check, Disassemble, Assemble, Play, Generate, Save, Resume, NoForm}
 use Rattle.nwq_top.specs.Accepting.{ReadsPlan}
 use Rattle.nwq_top.specs.Refusing.{RefusesPlan}
 use Rattle.nwq_top.specs.Changes.{IsListedFile, MayLeave}
@@ -145,6 +155,39 @@ module _ (P : List ℕ → Type 0) where
       by_fate tree areas.Whole = tt
       by_fate tree (areas.Broken place) = tt
 
+  header_file_within : (word : List ℕ) → Within P (header_of word)
+  unfolding header_of header_named header_in table_in
+  header_file_within word = by_dash (bytes_eq word (codes "-"))
+    where
+      by_fate : (bytes : List ℕ) (fate : headers.HeaderFate) → Within P (then (table_by word bytes fate) (λ table. Gives (header_file bytes table)))
+      by_fate bytes (headers.Whole table) = tt
+      by_fate bytes (headers.Faulty why place) = tt
+
+      by_dash : (dash : Bool) → Within P (header_unless dash word)
+      by_dash true = tt
+      by_dash false = within_then (file_named word) (header_in word) (read_within word) (λ bytes. by_fate bytes)
+
+  area_file_within : (name : List ℕ) → Within P (inputs.area_named name)
+  unfolding inputs.area_named inputs.area_in area_of_bytes tree_in area_in
+  area_file_within name = within_then (file_named name) (inputs.area_in name) (read_within name) (λ bytes. by_tree bytes)
+    where
+      by_area : (bytes : List ℕ) (tree : PlainGff) (fate : areas.AreaFate) → Within P (then (area_by name tree fate) (λ a. Gives (inputs.area_file bytes a)))
+      by_area bytes tree areas.Whole = tt
+      by_area bytes tree (areas.Broken place) = tt
+
+      by_tree : (bytes : List ℕ) (fate : trees.TreeFate) → Within P (then (then (tree_by name fate) (area_in name)) (λ a. Gives (inputs.area_file bytes a)))
+      by_tree bytes (trees.Whole tree) = by_area bytes tree
+      by_tree bytes (trees.Faulty why) = tt
+
+  state_within : (name : List ℕ) → Within P (state_named name)
+  unfolding state_named state_in
+  state_within name = within_then (file_named name) (state_in name) (read_within name) (λ bytes. by_fate)
+    where
+      by_fate : (fate : resuming.StateFate) → Within P (resuming.state_by name fate)
+      by_fate (resuming.Whole s) = tt
+      by_fate (resuming.Stops place) = tt
+      by_fate (resuming.Unfit rule) = tt
+
   code_by_within : (name : List ℕ) (fate : codes_of.CodeFate) → Within P (codes_of.code_by name fate)
   code_by_within name (codes_of.Whole ops) = tt
   code_by_within name (codes_of.Faulty why) = tt
@@ -241,67 +284,146 @@ module _ (to text : List ℕ) (r : Result Finished Status) (c : Contents) (t : L
   told_keeps Paused area (inl x) = same_keeps Left c c' x.1
   told_keeps Paused area (inr (g, s)) = same_keeps Left c c' s.0
 
--- ---- the play of a plan
+-- ---- the state that is left
 
-module _ (cell : CellLookup) (header area plan to : List ℕ) (c : Contents) (r : Result Finished Status) where
+module _ (name : List ℕ) (r : Result Finished Status) (c : Contents) (t : List ℕ) (c' : Contents) (t' : List ℕ) where
+  state_keeps : (large : Bool) (bytes : List ℕ) (entries : ℕ) → Does (state_by large name bytes entries) c t r c' t' → KeepsBut (λ other. MayLeave r × (other ≡ name)) c c'
+  unfolding state_told
+  state_keeps true bytes entries (g, s) = same_keeps (λ other. MayLeave r × (other ≡ name)) c c' s
+  state_keeps false bytes entries does = written_keeps name (saved_line name entries) r c t c' t' (Ok bytes) does
+
+  at_keeps : (h : HeaderFile) (file : List ℕ) (p : Plan) (scripts : List Script) (q : Progress Saved) → Does (saves_at h file p scripts name q) c t r c' t'
+      → KeepsBut (λ other. MayLeave r × (other ≡ name)) c c'
+  unfolding saves_at state_written
+  at_keeps h file p scripts q (inl x) = same_keeps (λ other. MayLeave r × (other ≡ name)) c c' x.1.0
+  at_keeps h file p scripts q (inr x) = state_keeps _ (parts_bytes x.found) x.found.taken x.goes
+
+  saves_by_keeps : (e : PlayEnd) (h : HeaderFile) (file : List ℕ) (p : Plan) (scripts : List Script) (q : Played Saved) → Does (saves_by e h file p scripts name q) c t r c' t'
+      → KeepsBut (λ other. MayLeave r × (other ≡ name)) c c'
+  saves_by_keeps StoppedInside h file p scripts q (inl x) = same_keeps (λ other. MayLeave r × (other ≡ name)) c c' x.1
+  saves_by_keeps StoppedInside h file p scripts q (inr (g, s)) = same_keeps (λ other. MayLeave r × (other ≡ name)) c c' s.0
+  saves_by_keeps Done h file p scripts q does = at_keeps h file p scripts q.last does
+  saves_by_keeps OutOfEntries h file p scripts q does = at_keeps h file p scripts q.last does
+  saves_by_keeps Paused h file p scripts q does = at_keeps h file p scripts q.last does
+
+-- ---- the files of a plan, and what is done with them
+
+module _ {H A : Type 0} (table_in : H → EngineTable) (plan : List ℕ) (header_work : Work H) (area_work : Work A) (final : H → Plan → List Script → A → Work Finished)
+    (c : Contents) (r : Result Finished Status) (may : List ℕ → Type 0) where
   abbrev Changed : List ℕ → Type 0
-  Changed name = IsListedFile c plan name ⊎ (MayLeave r × (name ≡ to))
+  Changed name = IsListedFile c plan name ⊎ may name
 
-  plan_keeps : (table : EngineTable) (a : PlainArea) (p : Plan) (scripts : List Script) (d d' : Contents) (t t' : List ℕ) → Does (plays_plan cell table a p scripts to) d t r d' t'
-      → KeepsBut Changed d d'
+  module _ (header_within : Within Changed header_work) (area_is_within : Within Changed area_work)
+      (final_keeps : (h : H) (p : Plan) (scripts : List Script) (a : A) (d d' : Contents) (t t' : List ℕ) → Does (final h p scripts a) d t r d' t' → KeepsBut may d d') where
+    area_keeps : (h : H) (p : Plan) (scripts : List Script) (d d' : Contents) (t t' : List ℕ) → Does (then area_work (final h p scripts)) d t r d' t' → KeepsBut Changed d d'
+    area_keeps h p scripts d d' t t' does = by_parts (parts area_work (final h p scripts) d d' t t' r does)
+      where
+        by_parts : Parts area_work (final h p scripts) d t r d' t' → KeepsBut Changed d d'
+        by_parts (ends_first k) = within_keeps Changed area_work area_is_within (Err k.status) d d' t t' k.does
+        by_parts (goes_on k) =
+            then_keeps Changed d k.between d' (within_keeps Changed area_work area_is_within (Ok k.value) d k.between t k.taken k.first)
+            (λ name not. final_keeps h p scripts k.value k.between d' k.taken t' k.second name (λ left. not (inr left)))
+
+    scripts_keep : (p : Plan) → ReadsPlan c plan p → (h : H) (d d' : Contents) (t t' : List ℕ)
+        → Does (then (scripts_listed (table_in h) p.scripts) (λ scripts. then area_work (final h p scripts))) d t r d' t' → KeepsBut Changed d d'
+    unfolding scripts_listed
+    scripts_keep p has h d d' t t' does = by_parts (parts (lists_on (table_in h) [] p.scripts) (λ scripts. then area_work (final h p scripts)) d d' t t' r does)
+      where
+        inside : Within Changed (lists_on (table_in h) [] p.scripts)
+        inside = lines_within Changed (table_in h) p.scripts [] (λ name is. inl (record { is = p; reads = has; listed = is }))
+
+        by_parts : Parts (lists_on (table_in h) [] p.scripts) (λ scripts. then area_work (final h p scripts)) d t r d' t' → KeepsBut Changed d d'
+        by_parts (ends_first k) = within_keeps Changed (lists_on (table_in h) [] p.scripts) inside (Err k.status) d d' t t' k.does
+        by_parts (goes_on k) =
+            then_keeps Changed d k.between d' (within_keeps Changed (lists_on (table_in h) [] p.scripts) inside (Ok k.value) d k.between t k.taken k.first)
+            (area_keeps h p k.value k.between d' k.taken t' k.second)
+
+    header_keeps : (p : Plan) → ReadsPlan c plan p → (d d' : Contents) (t t' : List ℕ)
+        → Does (then header_work (λ h. then (scripts_listed (table_in h) p.scripts) (λ scripts. then area_work (final h p scripts)))) d t r d' t' → KeepsBut Changed d d'
+    header_keeps p has d d' t t' does =
+        by_parts (parts header_work (λ h. then (scripts_listed (table_in h) p.scripts) (λ scripts. then area_work (final h p scripts))) d d' t t' r does)
+      where
+        by_parts : Parts header_work (λ h. then (scripts_listed (table_in h) p.scripts) (λ scripts. then area_work (final h p scripts))) d t r d' t' → KeepsBut Changed d d'
+        by_parts (ends_first k) = within_keeps Changed header_work header_within (Err k.status) d d' t t' k.does
+        by_parts (goes_on k) =
+            then_keeps Changed d k.between d' (within_keeps Changed header_work header_within (Ok k.value) d k.between t k.taken k.first)
+            (scripts_keep p has k.value k.between d' k.taken t' k.second)
+
+    plan_read : (p : Plan) (d : Contents) (t k : List ℕ) → Came (ReadsPlan c plan) (RefusesPlan c plan) c t (Ok p) d k → ReadsPlan c plan p
+    plan_read p d t k (gave a has is e o) = subst (ReadsPlan c plan) (sym (ap (value_or p) is)) has
+    plan_read p d t k (stopped why lacks is e o) = absurd cc
+    plan_read p d t k (cut x) = absurd x
+
+    files_keep : (c' : Contents) (t t' : List ℕ)
+        → Does (then (plan_named plan) (λ p. then header_work (λ h. then (scripts_listed (table_in h) p.scripts) (λ scripts. then area_work (final h p scripts))))) c t r c' t'
+        → KeepsBut Changed c c'
+    files_keep c' t t' does =
+        by_parts (parts (plan_named plan) (λ p. then header_work (λ h. then (scripts_listed (table_in h) p.scripts) (λ scripts. then area_work (final h p scripts)))) c c' t t' r does)
+      where
+        by_parts : Parts (plan_named plan) (λ p. then header_work (λ h. then (scripts_listed (table_in h) p.scripts) (λ scripts. then area_work (final h p scripts)))) c t r c' t'
+            → KeepsBut Changed c c'
+        by_parts (ends_first k) = within_keeps Changed (plan_named plan) (plan_within Changed plan) (Err k.status) c c' t t' k.does
+        by_parts (goes_on k) =
+            then_keeps Changed c k.between c' (within_keeps Changed (plan_named plan) (plan_within Changed plan) (Ok k.value) c k.between t k.taken k.first)
+            (header_keeps k.value (plan_read k.value k.between t k.taken (plan_comes c t plan (Ok k.value) k.between k.taken k.first)) k.between c' k.taken t' k.second)
+
+-- ---- the commands that do
+
+module _ (to : List ℕ) (r : Result Finished Status) where
+  -- a play is told, and leaves its area
+  tells_keeps : (scripts : List Script) (p : Played Saved) (d d' : Contents) (t t' : List ℕ) → Does (tells to scripts p) d t r d' t'
+      → KeepsBut (λ name. MayLeave r × (name ≡ to)) d d'
+  tells_keeps scripts p d d' t t' (inl x) = same_keeps (λ name. MayLeave r × (name ≡ to)) d d' x.1
+  tells_keeps scripts p d d' t t' (inr x) =
+      told_keeps to (code_end_text scripts p) r d (t ++ trace_text p.last.trace) d' t' p.ending p.last.world.area x
+
+  plan_keeps : (cell : CellLookup) (table : EngineTable) (p : Plan) (scripts : List Script) (a : PlainArea) (d d' : Contents) (t t' : List ℕ)
+      → Does (plays_plan cell table a p scripts to) d t r d' t' → KeepsBut (λ name. MayLeave r × (name ≡ to)) d d'
   unfolding plays_plan
-  plan_keeps table a p scripts d d' t t' (inl x) = same_keeps Changed d d' x.1
-  plan_keeps table a p scripts d d' t t' (inr x) = λ name not.
-      let told = played cell table p scripts (plan_world a p) in
-      told_keeps to (code_end_text scripts told) r d (t ++ trace_text told.last.trace) d' t' told.ending told.last.world.area x name (λ left. not (inr left))
+  plan_keeps cell table p scripts a d d' t t' does = tells_keeps scripts (played cell table p scripts (plan_world a p)) d d' t t' does
 
-  area_keeps : (table : EngineTable) (p : Plan) (scripts : List Script) (d d' : Contents) (t t' : List ℕ) → Does (plays_area cell table area p to scripts) d t r d' t' → KeepsBut Changed d d'
-  unfolding plays_area
-  area_keeps table p scripts d d' t t' does = by_parts (parts (area_named area) (λ a. plays_plan cell table a p scripts to) d d' t t' r does)
+  play_keeps : (cell : CellLookup) (header area plan : List ℕ) (c c' : Contents) (t t' : List ℕ) → Does (plays cell header area plan to) c t r c' t'
+      → KeepsBut (λ name. IsListedFile c plan name ⊎ (MayLeave r × (name ≡ to))) c c'
+  unfolding plays plays_under plays_scripts plays_area
+  play_keeps cell header area plan c c' t t' does =
+      files_keep (λ table. table) plan (table_of header) (area_named area) (λ table p scripts a. plays_plan cell table a p scripts to) c r (λ name. MayLeave r × (name ≡ to))
+      (table_within (λ name. IsListedFile c plan name ⊎ (MayLeave r × (name ≡ to))) header) (area_within (λ name. IsListedFile c plan name ⊎ (MayLeave r × (name ≡ to))) area)
+      (plan_keeps cell) c' t t' does
+
+  resume_keeps : (cell : CellLookup) (name : List ℕ) (c c' : Contents) (t t' : List ℕ) → Does (resumes cell name to) c t r c' t'
+      → KeepsBut (λ other. MayLeave r × (other ≡ to)) c c'
+  unfolding resumes resumes_state resumes_from
+  resume_keeps cell name c c' t t' does = by_parts (parts (state_named name) (resumes_state cell to) c c' t t' r does)
     where
-      by_parts : Parts (area_named area) (λ a. plays_plan cell table a p scripts to) d t r d' t' → KeepsBut Changed d d'
-      by_parts (ends_first h) = within_keeps Changed (area_named area) (area_within Changed area) (Err h.status) d d' t t' h.does
-      by_parts (goes_on h) =
-          then_keeps Changed d h.between d' (within_keeps Changed (area_named area) (area_within Changed area) (Ok h.value) d h.between t h.taken h.first)
-          (plan_keeps table h.value p scripts h.between d' h.taken t' h.second)
+      found_keeps : (s : StateParts) (d : Contents) (k : List ℕ) → Does (resumes_state cell to s) d k r c' t' → KeepsBut (λ other. MayLeave r × (other ≡ to)) d c'
+      found_keeps s d k (inl x) = same_keeps (λ other. MayLeave r × (other ≡ to)) d c' x.1.0
+      found_keeps s d k (inr x) = tells_keeps x.found.scripts (played_rest cell s x.found) d c' k t' x.goes
 
-  scripts_keep : (p : Plan) → ReadsPlan c plan p → (table : EngineTable) (d d' : Contents) (t t' : List ℕ) → Does (plays_scripts cell area p to table) d t r d' t' → KeepsBut Changed d d'
-  unfolding plays_scripts scripts_listed
-  scripts_keep p has table d d' t t' does = by_parts (parts (lists_on table [] p.scripts) (plays_area cell table area p to) d d' t t' r does)
-    where
-      inside : Within Changed (lists_on table [] p.scripts)
-      inside = lines_within Changed table p.scripts [] (λ name is. inl (record { is = p; reads = has; listed = is }))
+      by_parts : Parts (state_named name) (resumes_state cell to) c t r c' t' → KeepsBut (λ other. MayLeave r × (other ≡ to)) c c'
+      by_parts (ends_first k) = within_keeps (λ other. MayLeave r × (other ≡ to)) (state_named name) (state_within (λ other. MayLeave r × (other ≡ to)) name) (Err k.status) c c' t t' k.does
+      by_parts (goes_on k) =
+          then_keeps (λ other. MayLeave r × (other ≡ to)) c k.between c'
+          (within_keeps (λ other. MayLeave r × (other ≡ to)) (state_named name) (state_within (λ other. MayLeave r × (other ≡ to)) name) (Ok k.value) c k.between t k.taken k.first)
+          (found_keeps k.value k.between k.taken k.second)
 
-      by_parts : Parts (lists_on table [] p.scripts) (plays_area cell table area p to) d t r d' t' → KeepsBut Changed d d'
-      by_parts (ends_first h) = within_keeps Changed (lists_on table [] p.scripts) inside (Err h.status) d d' t t' h.does
-      by_parts (goes_on h) =
-          then_keeps Changed d h.between d' (within_keeps Changed (lists_on table [] p.scripts) inside (Ok h.value) d h.between t h.taken h.first)
-          (area_keeps table p h.value h.between d' h.taken t' h.second)
+module _ (name : List ℕ) (r : Result Finished Status) where
+  first_keeps : (cell : CellLookup) (n : ℕ) (h : HeaderFile) (p : Plan) (scripts : List Script) (a : AreaFile) (d d' : Contents) (t t' : List ℕ)
+      → Does (saves_plan cell h p scripts n name a) d t r d' t' → KeepsBut (λ other. MayLeave r × (other ≡ name)) d d'
+  unfolding saves_plan
+  first_keeps cell n h p scripts a d d' t t' (inl x) = same_keeps (λ other. MayLeave r × (other ≡ name)) d d' x.1
+  first_keeps cell n h p scripts a d d' t t' (inr x) =
+      let first = played_first cell h.table p scripts n (plan_world a.area p) in
+      saves_by_keeps name r d (t ++ trace_text first.last.trace) d' t' first.ending h a.bytes p scripts first x
 
-  header_keeps : (p : Plan) → ReadsPlan c plan p → (d d' : Contents) (t t' : List ℕ) → Does (plays_under cell header area to p) d t r d' t' → KeepsBut Changed d d'
-  unfolding plays_under
-  header_keeps p has d d' t t' does = by_parts (parts (table_of header) (plays_scripts cell area p to) d d' t t' r does)
-    where
-      by_parts : Parts (table_of header) (plays_scripts cell area p to) d t r d' t' → KeepsBut Changed d d'
-      by_parts (ends_first h) = within_keeps Changed (table_of header) (table_within Changed header) (Err h.status) d d' t t' h.does
-      by_parts (goes_on h) =
-          then_keeps Changed d h.between d' (within_keeps Changed (table_of header) (table_within Changed header) (Ok h.value) d h.between t h.taken h.first)
-          (scripts_keep p has h.value h.between d' h.taken t' h.second)
-
-  plan_read : (p : Plan) (d : Contents) (t k : List ℕ) → Came (ReadsPlan c plan) (RefusesPlan c plan) c t (Ok p) d k → ReadsPlan c plan p
-  plan_read p d t k (gave a has is e o) = subst (ReadsPlan c plan) (sym (ap (value_or p) is)) has
-  plan_read p d t k (stopped why lacks is e o) = absurd cc
-  plan_read p d t k (cut x) = absurd x
-
-  play_keeps : (c' : Contents) (t t' : List ℕ) → Does (plays cell header area plan to) c t r c' t' → KeepsBut Changed c c'
-  unfolding plays
-  play_keeps c' t t' does = by_parts (parts (plan_named plan) (plays_under cell header area to) c c' t t' r does)
-    where
-      by_parts : Parts (plan_named plan) (plays_under cell header area to) c t r c' t' → KeepsBut Changed c c'
-      by_parts (ends_first h) = within_keeps Changed (plan_named plan) (plan_within Changed plan) (Err h.status) c c' t t' h.does
-      by_parts (goes_on h) =
-          then_keeps Changed c h.between c' (within_keeps Changed (plan_named plan) (plan_within Changed plan) (Ok h.value) c h.between t h.taken h.first)
-          (header_keeps h.value (plan_read h.value h.between t h.taken (plan_comes c t plan (Ok h.value) h.between h.taken h.first)) h.between c' h.taken t' h.second)
+  save_keeps : (cell : CellLookup) (header area plan : List ℕ) (n : ℕ) (c c' : Contents) (t t' : List ℕ) → Does (saves cell header area plan n name) c t r c' t'
+      → KeepsBut (λ other. IsListedFile c plan other ⊎ (MayLeave r × (other ≡ name))) c c'
+  unfolding saves saves_under saves_scripts saves_area
+  save_keeps cell header area plan n c c' t t' does =
+      files_keep (λ (h : HeaderFile). h.table) plan (header_of header) (inputs.area_named area) (λ h p scripts a. saves_plan cell h p scripts n name a) c r
+      (λ other. MayLeave r × (other ≡ name))
+      (header_file_within (λ other. IsListedFile c plan other ⊎ (MayLeave r × (other ≡ name))) header)
+      (area_file_within (λ other. IsListedFile c plan other ⊎ (MayLeave r × (other ≡ name))) area)
+      (first_keeps cell n) c' t t' does
 
 pub names_change : NamesChange
 names_change cell (Run header script) r c c' t t' kept does = kept
@@ -310,6 +432,8 @@ names_change cell (Tree file) r c c' t t' kept does = kept
 names_change cell (Check header file) r c c' t t' kept does = kept
 names_change cell (Disassemble file to) r c c' t t' kept does = kept
 names_change cell (Assemble file to) r c c' t t' kept does = kept
-names_change cell (Play header area plan to list) r c c' t t' kept does = play_keeps cell header area plan to c r c' t t' does
+names_change cell (Play header area plan to list) r c c' t t' kept does = play_keeps to r cell header area plan c c' t t' does
 names_change cell (Generate number) r c c' t t' kept does = kept
+names_change cell (Save header area plan entries state list) r c c' t t' kept does = save_keeps state r cell header area plan entries c c' t t' does
+names_change cell (Resume state to list) r c c' t t' kept does = resume_keeps to r cell state c c' t t' does
 names_change cell NoForm r c c' t t' kept does = kept

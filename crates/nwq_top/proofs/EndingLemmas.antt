@@ -6,8 +6,9 @@ use Rattle.command_files.specs.Checks.{StopsCheck}
 use Rattle.command_run.specs.Runs.{StopsRun}
 use Rattle.command_play.specs.Tellings.{StopsGame}
 use Rattle.command_generate.specs.Generated.{StopsGenerate}
-use Rattle.command_words.specs.Words.{Form, Run, Compile, Tree, Check, Disassemble, Assemble, Play, Generate, NoForm}
-use Rattle.nwq_top.specs.Endings.{EndsRun, EndsCompile, EndsTree, EndsCheck, EndsCode, EndsPlay, EndsGenerate, ComesOf, StopsCommand}
+use Rattle.command_save.specs.Tellings.{StopsResume}
+use Rattle.command_words.specs.Words.{Form, Run, Compile, Tree, Check, Disassemble, Assemble, Play, Generate, Save, Resume, NoForm}
+use Rattle.nwq_top.specs.Endings.{EndsRun, EndsCompile, EndsTree, EndsCheck, EndsCode, EndsPlay, EndsGenerate, EndsResume, ComesOf, StopsCommand}
 
 run_ends : (status : Status) → StopsRun status → EndsRun status
 run_ends Done h = tt
@@ -93,6 +94,18 @@ generate_ends Fault h = h
 generate_ends Memory h = h
 generate_ends Long h = h
 
+resume_ends : (status : Status) → StopsResume status → EndsResume status
+resume_ends Done h = tt
+resume_ends Words h = h
+resume_ends Script h = h
+resume_ends Code h = h
+resume_ends Area h = h
+resume_ends Limit h = h
+resume_ends Missing h = h
+resume_ends Fault h = h
+resume_ends Memory h = h
+resume_ends Long h = h
+
 pub stops_come : (form : Form) (status : Status) → StopsCommand form status → ComesOf form status
 stops_come (Run header script) status h = run_ends status h
 stops_come (Compile header script) status h = compile_ends status h
@@ -102,4 +115,6 @@ stops_come (Disassemble file to) status h = code_ends status h
 stops_come (Assemble file to) status h = code_ends status h
 stops_come (Play header area plan to list) status h = play_ends status h
 stops_come (Generate number) status h = generate_ends status h
+stops_come (Save header area plan entries state list) status h = play_ends status h
+stops_come (Resume state to list) status h = resume_ends status h
 stops_come NoForm status h = h

@@ -27,6 +27,7 @@ use Rattle.command_meaning.specs.CodeEnds.{CheckedPlaysHaveNoFault}
 use Rattle.play_worlds.specs.Worlds.{begun_by}
 use Rattle.command_meaning.specs.Runs.{answer_by, EndsAreAnswered}
 use Rattle.command_meaning.specs.Scripts.{HoldBytes, ScriptsHaveUnits}
+use Rattle.play_meaning.specs.Together.{whole}
 use Rattle.nwq_top.specs.SourcePlans.{PlaysSources, FewStepsPlayAsMeant, UnstoppedPlansPlayAsMeant, StoppedPlansBeginAsMeant, listing_of}
 use Rattle.nwq_top.specs.Accepting.{Compiles}
 use Rattle.nwq_top.specs.Refusing.{RefusesSource}
@@ -78,7 +79,7 @@ module _ (pass : UnitsPass) (units : ScriptsHaveUnits) (least : LeastIsTheKept) 
           stopped = λ is.
               let k = ended cell header_table (made_area n) (plan_of n) (beat_of unit) [] c t (Err Memory) c t (as_plan unit h) is in
               record { stopped = k.stopped; begins = k.begins; taken = told.taken; answer = told.answer ∙ ap answer_by is; contents = told.contents };
-          no_fault = no_fault cell header_table (map script_of (beat_of unit)) (plan_of n).limit (plan_of n).entries (plan_of n).until (made_area n) (plan_of n).random
+          no_fault = no_fault cell header_table (map script_of (beat_of unit)) (plan_of n).limit (whole (plan_of n).entries (plan_of n).until) (made_area n) (plan_of n).random
               (map (begun_by (made_area n)) (plan_of n).events) (plan_of n).version own (h.passes.stacked, tt);
         }
 

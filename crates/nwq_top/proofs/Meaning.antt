@@ -7,8 +7,8 @@ use Rattle.command_work.specs.Work.{then, IsCut, Does, Finished, ending}
 use Rattle.command_sources.specs.Headers.{table_of}
 use Rattle.command_compile.specs.Files.{code_name, compiled_named}
 use Rattle.command_plays.specs.Scripts.{plays_file}
-use Rattle.nwq_top.specs.WordLaws.{RunsMean, CompilesMean, PlaysMean, GeneratesMean}
-use Rattle.command_words.specs.Words.{Run, Compile, Tree, Check, Disassemble, Assemble, Play, Generate, NoForm, form_of}
+use Rattle.nwq_top.specs.WordLaws.{RunsMean, CompilesMean, PlaysMean, SavesMean, ResumesMean, GeneratesMean}
+use Rattle.command_words.specs.Words.{Run, Compile, Tree, Check, Disassemble, Assemble, Play, Generate, Save, Resume, NoForm, form_of}
 use Rattle.command_run.specs.Runs.{runs_under, runs}
 use Rattle.command_files.specs.CheckLaws.{SureChecks}
 use Rattle.command_files.specs.Laws.{SureCommands}
@@ -22,17 +22,20 @@ as_parts : (cell : CellLookup) (header script : List ℕ) (c : Contents) (t : Li
 unfolding runs runs_under
 as_parts cell header script c t r c' t' does = does
 
-pub work_means : SureCommands → SureChecks → RunsMean → CompilesMean → PlaysMean → GeneratesMean → WorkMeans
-work_means files checks run compile play generate cell (Run header script) c t r c' t' held whole does =
+pub work_means : SureCommands → SureChecks → RunsMean → CompilesMean → PlaysMean → SavesMean → ResumesMean → GeneratesMean → WorkMeans
+work_means files checks run compile play save resume generate cell (Run header script) c t r c' t' held whole does =
     run cell header script c t r c' t' held whole (as_parts cell header script c t r c' t' does)
-work_means files checks run compile play generate cell (Compile header script) c t r c' t' held whole does = compile header script c t r c' t' held whole does
-work_means files checks run compile play generate cell (Tree file) c t r c' t' held whole does = tree_means files c t r c' t' whole file does
-work_means files checks run compile play generate cell (Check header file) c t r c' t' held whole does = check_means checks header file c t r c' t' whole does
-work_means files checks run compile play generate cell (Disassemble file to) c t r c' t' held whole does = disassembles_mean files c t r c' t' whole file to does
-work_means files checks run compile play generate cell (Assemble file to) c t r c' t' held whole does = assembles_mean files c t r c' t' whole file to does
-work_means files checks run compile play generate cell (Play header area plan to list) c t r c' t' held whole does = play cell header area plan to c t r c' t' held whole does
-work_means files checks run compile play generate cell (Generate number) c t r c' t' held whole does = λ small. generate cell number c t r c' t' small whole does
-work_means files checks run compile play generate cell NoForm c t r c' t' held whole does = no_form_means c t r c' t' whole does
+work_means files checks run compile play save resume generate cell (Compile header script) c t r c' t' held whole does = compile header script c t r c' t' held whole does
+work_means files checks run compile play save resume generate cell (Tree file) c t r c' t' held whole does = tree_means files c t r c' t' whole file does
+work_means files checks run compile play save resume generate cell (Check header file) c t r c' t' held whole does = check_means checks header file c t r c' t' whole does
+work_means files checks run compile play save resume generate cell (Disassemble file to) c t r c' t' held whole does = disassembles_mean files c t r c' t' whole file to does
+work_means files checks run compile play save resume generate cell (Assemble file to) c t r c' t' held whole does = assembles_mean files c t r c' t' whole file to does
+work_means files checks run compile play save resume generate cell (Play header area plan to list) c t r c' t' held whole does = play cell header area plan to c t r c' t' held whole does
+work_means files checks run compile play save resume generate cell (Generate number) c t r c' t' held whole does = λ small. generate cell number c t r c' t' small whole does
+work_means files checks run compile play save resume generate cell (Save header area plan entries state list) c t r c' t' held whole does =
+    save cell header area plan entries state c t r c' t' held whole does
+work_means files checks run compile play save resume generate cell (Resume state to list) c t r c' t' held whole does = resume cell state to c t r c' t' whole does
+work_means files checks run compile play save resume generate cell NoForm c t r c' t' held whole does = no_form_means c t r c' t' whole does
 
 -- equal words mean the same
 pub same_meaning : (cell : CellLookup) (words all : List (String Global)) (told status : Status) (c c' : Contents) (t t' : List ℕ) → words ≡ all → told ≡ status

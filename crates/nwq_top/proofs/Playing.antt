@@ -34,6 +34,7 @@ use Rattle.command_play.specs.Laws.{SurePlays}
 use Rattle.command_meaning.specs.Units.{UnitsPass}
 use Rattle.command_meaning.specs.Scripts.{ScriptsHaveUnits}
 use Rattle.command_meaning.specs.CodeEnds.{CheckedPlaysHaveNoFault}
+use Rattle.play_meaning.specs.Together as together
 use Rattle.play_worlds.specs.Worlds.{begun_by}
 use Rattle.nwq_top.specs.SourcePlans.{listing_of, source_plan_played, code_plan_played, PlaysSources, FewStepsPlayAsMeant, UnstoppedPlansPlayAsMeant, StoppedPlansBeginAsMeant}
 use Rattle.nwq_top.specs.Accepting.{HasHeader, ReadsArea}
@@ -153,7 +154,7 @@ module _ (pass : UnitsPass) (units : ScriptsHaveUnits) (least : LeastIsTheKept) 
       refused = λ why left is. play_refused cell header area plan to c t r c' t' held whole why left is does;
       played = λ table p scripts a left h. play_goes cell header area plan to c t r c' t' held whole table p scripts a left h does;
       no_fault = λ table p scripts a left h.
-          no_fault cell table scripts p.limit p.entries p.until a p.random (map (begun_by a) p.events) p.version
+          no_fault cell table scripts p.limit (together.whole p.entries p.until) a p.random (map (begun_by a) p.events) p.version
           (is_table reads own c header table held h.has_header) (lines_are_stacked table p.scripts c left scripts h.lists);
       meant = sources_mean cell header area plan to c t r c' t' held whole does;
     }

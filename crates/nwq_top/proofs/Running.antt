@@ -27,6 +27,7 @@ use Rattle.command_meaning.specs.Files.{PlaysFile}
 use Rattle.command_meaning.specs.CodeEnds.{CheckedPlaysHaveNoFault}
 use Rattle.command_meaning.specs.Once.{StartsPlayOnce}
 use Rattle.area_rules.specs.Area.{empty_area}
+use Rattle.play_meaning.specs.Together as together
 use Rattle.play_worlds.specs.Worlds.{start_of}
 use Rattle.command_plays.specs.Scripts.{listed}
 use Rattle.nwq_value.specs.Limits.{default_instruction_limit, default_entry_limit, default_until}
@@ -131,7 +132,7 @@ module _ (pass : UnitsPass) (units : ScriptsHaveUnits) (least : LeastIsTheKept) 
                 unstopped = unstopped cell table script unit c t r c' t' file whole;
                 stopped = stopped cell table script unit c t r c' t' file whole;
                 once = once cell table script unit;
-                no_fault = no_fault cell table (listed script (code_of unit)) default_instruction_limit default_entry_limit default_until empty_area [] (start_of script ∷ []) 2
+                no_fault = no_fault cell table (listed script (code_of unit)) default_instruction_limit (together.whole default_entry_limit default_until) empty_area [] (start_of script ∷ []) 2
                     kept (h.compiles.passes.stacked, tt);
               };
         }

@@ -44,16 +44,16 @@ same_work texts s to code source c t r c' t' alike does =
     (subst (λ (a : PlainArea). Does (Puts (trace_text code.last.trace) (ends_by code.ending to a (source_end_text s code.last.count source))) c t r c' t') area
     (subst (λ (end : List ℕ). Does (Puts (trace_text code.last.trace) (ends_by code.ending to code.last.world.area end)) c t r c' t') text does)))
 
-module _ (texts : ListedTextsAgree) (keep : EntriesKeepAlike) where
-  plan_alike : (s : Setting) (area : PlainArea) (plan : Plan) → Alike (Carries s) (plan_world area plan) (source_plan_world area plan)
-  plan_alike s area plan = (keep s).new area plan.random (map (begun_by area) plan.events) plan.version
+pub plan_alike : EntriesKeepAlike → (s : Setting) (area : PlainArea) (plan : Plan) → Alike (Carries s) (plan_world area plan) (source_plan_world area plan)
+plan_alike keep s area plan = (keep s).new area plan.random (map (begun_by area) plan.events) plan.version
 
+module _ (texts : ListedTextsAgree) (keep : EntriesKeepAlike) where
   pub few_steps_play_as_meant : ListedPlaysEnd → FewStepsPlayAsMeant
   unfolding code_plan_played source_plan_played
   few_steps_play_as_meant ends cell header area plan scripts to c t r c' t' h n large goes =
       let s : Setting = listing_of cell header scripts in
       let alike = ends s h.table h.units n plan.limit (whole plan.entries plan.until) large
-      (plan_world area plan) (source_plan_world area plan) (plan_alike s area plan) goes in
+      (plan_world area plan) (source_plan_world area plan) (plan_alike keep s area plan) goes in
       record {
         alike = alike;
         does = same_work texts s to (code_plan_played cell header area plan scripts) (source_plan_played cell header area plan scripts n) c t r c' t' alike
@@ -65,7 +65,7 @@ module _ (texts : ListedTextsAgree) (keep : EntriesKeepAlike) where
   unstopped_plans_play_as_meant stops cell header area plan scripts to c t r c' t' h goes =
       let s : Setting = listing_of cell header scripts in
       let so = stops s h.table h.units plan.limit (whole plan.entries plan.until)
-      (plan_world area plan) (source_plan_world area plan) (plan_alike s area plan) in
+      (plan_world area plan) (source_plan_world area plan) (plan_alike keep s area plan) in
       record {
         alike = so.ends goes;
         does = same_work texts s to (code_plan_played cell header area plan scripts) (source_plan_played cell header area plan scripts plan.limit) c t r c' t'
@@ -77,7 +77,7 @@ module _ (texts : ListedTextsAgree) (keep : EntriesKeepAlike) where
   stopped_plans_begin_as_meant stops cell header area plan scripts to c t r c' t' h stopped =
       let s : Setting = listing_of cell header scripts in
       let so = stops s h.table h.units plan.limit (whole plan.entries plan.until)
-      (plan_world area plan) (source_plan_world area plan) (plan_alike s area plan) in
+      (plan_world area plan) (source_plan_world area plan) (plan_alike keep s area plan) in
       let code = code_plan_played cell header area plan scripts in
       record {
         stopped = so.stopped stopped;

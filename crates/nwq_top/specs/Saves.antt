@@ -1,5 +1,5 @@
 -- What the words `save HEADER AREA PLAN ENTRIES STATE` and `resume STATE TO` mean.
-use Rattle.std.specs.Prelude.{◌≡◌, ◌≢◌, ◌≤◌, ℕ, ◌*◌, ◌+◌, ◌-◌, min, true, false, List, [], ◌++◌, codes, bytes_eq, map, Result, Ok}
+use Rattle.std.specs.Prelude.{◌≡◌, ◌≢◌, ◌≤◌, ℕ, ◌*◌, min, true, false, List, [], ◌++◌, codes, bytes_eq, map, Result, Ok}
 use Rattle.std.specs.FinMap as fin_map
 use Rattle.nwq_value.specs.Engine.{EngineTable}
 use Rattle.nwq_outside.specs.Outside.{Contents}
@@ -14,8 +14,7 @@ use Rattle.machine_rules.specs.Machine.{Script}
 use Rattle.saved_state.specs.declared.saved.Saved.{Saved}
 use Rattle.world_rules.specs.Pure.{CellLookup}
 use Rattle.world_rules.specs.Trace.{trace_text}
-use Rattle.world_rules.specs.GoingOn.{continued}
-use Rattle.world_rules.specs.Plays.{StoppedInside, Bounds, Runner, Played, play_on, unplayed}
+use Rattle.world_rules.specs.Plays.{StoppedInside, Bounds, Played, play_on, unplayed}
 use Rattle.module_player.specs.CodePlays.{code_runner, played_before}
 use Rattle.state_format.specs.declared.parts.Parts.{Parts}
 use Rattle.state_format.specs.Fields.{parts_bytes}
@@ -32,14 +31,15 @@ use Rattle.play_worlds.specs.Worlds.{plan_world}
 use Rattle.command_work.specs.declared.flaw.AreaFlaw.TheVariants as flaw
 use Rattle.command_work.specs.declared.status.Status.{Status}
 use Rattle.command_work.specs.Refusal.{Refusal, BadArea}
-use Rattle.command_work.specs.Work.{Finished, Does}
-use Rattle.command_plays.specs.Plays.{host_of, played}
+use Rattle.command_work.specs.Work.{Finished, IsCut, Does}
+use Rattle.command_plays.specs.Plays.{host_of, played, played_first}
 use Rattle.command_meaning.specs.CodeEnds.{GoesWithoutFault}
-use Rattle.command_play.specs.Games.{tells}
+use Rattle.command_play.specs.Games.{tells, plays}
 use Rattle.command_save.specs.declared.inputs.HeaderFile.{HeaderFile}
 use Rattle.command_save.specs.declared.inputs.AreaFile.{AreaFile}
 use Rattle.command_save.specs.Inputs.{built_in, header_file}
-use Rattle.command_save.specs.Saves.{IsStateAt, saved_line, played_first, saves_plan}
+use Rattle.command_save.specs.Laws.{IsFront, GoOn}
+use Rattle.command_save.specs.Saves.{IsStateAt, saved_line, saves_plan, saves}
 use Rattle.command_save.specs.Resumes.{Going, GoesFrom, played_rest}
 use Rattle.nwq_top.specs.Accepting.{HasScripts, HasSources, ReadsPlan}
 use Rattle.nwq_top.specs.Plays.{RefusesPlay}
@@ -93,7 +93,7 @@ source_first cell header area p scripts n steps =
 
 -- the same of their code, with the instructions that the plan allows
 abbrev pub code_first : CellLookup → HeaderFile → AreaFile → Plan → List Listed → ℕ → Played Saved
-code_first cell h a p listed n = played_first cell h p (map script_of listed) n (plan_world a.area p)
+code_first cell h a p listed n = played_first cell h.table p (map script_of listed) n (plan_world a.area p)
 
 -- The first entries of listed sources are played as the sources mean: the lines that are told are theirs, and the world that is saved is as
 -- theirs. So it is where each of these entries of the sources ends in some steps, and 16 times as many are within the limit; and, with as many
@@ -107,10 +107,6 @@ pub record FirstAsMeant (cell : CellLookup) (h : HeaderFile) (a : AreaFile) (p :
       → Begins (code_first cell h a p listed n).last.trace (source_first cell h.table a.area p listed n p.limit).last.trace
 
 -- ---- `save`
-
--- the play is this front of it, gone on with where it was broken off
-abbrev pub IsFront : Runner Saved → Plan → ℕ → Played Saved → Played Saved → Type 0
-IsFront runner p n front all = all ≡ continued runner (whole p.entries p.until) ((p.entries + 1) - min n p.entries) front.ending front
 
 -- The file of the state holds the one list of bytes of the play's state after its first entries; their lines and then the last one were put.
 pub record IsSaved (header : HeaderFile) (file : AreaFile) (plan : Plan) (scripts : List Script) (name : List ℕ) (p : Played Saved)
@@ -129,10 +125,10 @@ pub record MeansSave (cell : CellLookup) (header area plan : List ℕ) (n : ℕ)
       → AcceptsSave header area plan c h p scripts a left → Does (saves_plan cell h p scripts n name a) left t r c' t'
   -- with status 0 the state is left of the play after the entries that it took
   pub saved : (h : HeaderFile) (p : Plan) (scripts : List Script) (a : AreaFile) (left : Contents) → AcceptsSave header area plan c h p scripts a left
-      → r ≡ Ok tt → IsSaved h a p scripts name (played_first cell h p scripts n (plan_world a.area p)) left t c' t'
+      → r ≡ Ok tt → IsSaved h a p scripts name (played_first cell h.table p scripts n (plan_world a.area p)) left t c' t'
   -- these are the first of the play, which goes on from there
   pub first : (h : HeaderFile) (p : Plan) (scripts : List Script) (a : AreaFile) (left : Contents) → AcceptsSave header area plan c h p scripts a left
-      → IsFront (code_runner (host_of cell h.table scripts) p.limit) p n (played_first cell h p scripts n (plan_world a.area p))
+      → IsFront (code_runner (host_of cell h.table scripts) p.limit) p n (played_first cell h.table p scripts n (plan_world a.area p))
         (played cell h.table p scripts (plan_world a.area p))
   -- binaries may be listed too; no entry comes to a stack fault
   pub no_fault : (h : HeaderFile) (p : Plan) (scripts : List Script) (a : AreaFile) (left : Contents) → AcceptsSave header area plan c h p scripts a left
@@ -175,3 +171,7 @@ pub record MeansResume (cell : CellLookup) (name to : List ℕ) (c : Contents) (
   -- whoever made the state, the play comes to no stack fault
   pub no_fault : (s : Parts) (g : Going) → ReadsState c name s → GoesFrom s g
       → GoesWithoutFault (host_of cell g.table g.scripts) s.limit (rest_entries s) (played_before s.taken s.done g.world)
+  -- where the state was saved of a play, what is told and left is the rest of that play, as it goes unbroken
+  pub unbroken : (header area plan : List ℕ) (n : ℕ) (first all : Contents) (k told whole : List ℕ) (done : Finished) (s : Result Finished Status)
+      → Does (saves cell header area plan n name) first k (Ok done) c told → Does (plays cell header area plan to) first k s all whole → (IsCut s → ⊥)
+      → GoOn name to c' all k told t t' whole r s

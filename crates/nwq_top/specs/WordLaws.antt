@@ -16,9 +16,12 @@ use Rattle.command_sources.specs.Units.{PlainScript, Whole, IsUnitFate}
 use Rattle.command_compile.specs.Files.{code_name, compiled_named, compiles}
 use Rattle.command_plays.specs.Scripts.{plays_file}
 use Rattle.command_play.specs.Games.{plays}
+use Rattle.command_save.specs.Saves.{saves}
+use Rattle.command_save.specs.Resumes.{resumes}
 use Rattle.command_generate.specs.Generated.{generates}
 use Rattle.nwq_top.specs.Runs.{MeansRun, MeansCompile}
 use Rattle.nwq_top.specs.Plays.{MeansPlay}
+use Rattle.nwq_top.specs.Saves.{MeansSave, MeansResume}
 use Rattle.nwq_top.specs.Generated.{MeansGenerate}
 
 -- a header is read, a script compiled under it, and its file, which isn't written, is played
@@ -39,6 +42,18 @@ abbrev pub PlaysMean : Type 0
 PlaysMean =
     (cell : CellLookup) (header area plan to : List ℕ) (c : Contents) (t : List ℕ) (r : Result Finished Status) (c' : Contents) (t' : List ℕ) → AreBytes c → (IsCut r → ⊥)
     → Does (plays cell header area plan to) c t r c' t' → MeansPlay cell header area plan to c t r c' t'
+
+-- the first entries of a plan are played over an area, and the play's state is saved
+abbrev pub SavesMean : Type 0
+SavesMean =
+    (cell : CellLookup) (header area plan : List ℕ) (n : ℕ) (name : List ℕ) (c : Contents) (t : List ℕ) (r : Result Finished Status) (c' : Contents) (t' : List ℕ)
+    → AreBytes c → (IsCut r → ⊥) → Does (saves cell header area plan n name) c t r c' t' → MeansSave cell header area plan n name c t r c' t'
+
+-- a play goes on from its state
+abbrev pub ResumesMean : Type 0
+ResumesMean =
+    (cell : CellLookup) (name to : List ℕ) (c : Contents) (t : List ℕ) (r : Result Finished Status) (c' : Contents) (t' : List ℕ) → (IsCut r → ⊥)
+    → Does (resumes cell name to) c t r c' t' → MeansResume cell name to c t r c' t'
 
 -- a play is made from a number, compiled and played
 abbrev pub GeneratesMean : Type 0

@@ -11,6 +11,7 @@ use command_files::{assemble_file, check_file, disassemble_file, show_tree};
 use command_generate::generate;
 use command_play::play_files;
 use command_run::run;
+use command_save::{resume_play, save_play};
 use command_words::{Command, command_of};
 use command_work::{Status, refuse_form};
 use hook_table::Hooks;
@@ -54,6 +55,15 @@ pub fn command<F: Files, S: Sink>(
             ..
         } => play_files(alloc, header, area, plan, to, hooks, files, out),
         Command::Generate(number) => generate(alloc, number, hooks, out),
+        Command::Save {
+            header,
+            area,
+            plan,
+            entries,
+            state,
+            ..
+        } => save_play(alloc, header, area, plan, entries, state, hooks, files, out),
+        Command::Resume { state, to, .. } => resume_play(alloc, state, to, hooks, files, out),
     }
 }
 

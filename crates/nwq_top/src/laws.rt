@@ -4,12 +4,14 @@ ghost use Rattle.nwq_top.specs.Laws.{OneOutcome, Prefixes, OneWhole, WholePrefix
 ghost use Rattle.nwq_top.specs.Laws.{CutsLeaveFronts, NamesChange, WholeCutsLeaveFronts};
 ghost use Rattle.nwq_top.specs.Meaning.{WorkMeans, WholeMeans};
 
-use crate::word_laws::{compiles_mean, generates_mean, plays_mean, runs_mean};
+use crate::word_laws::{compiles_mean, generates_mean, plays_mean, resumes_mean, runs_mean};
+use crate::word_laws::saves_mean;
 use command_compile::laws::one_script;
 use command_files::laws::{one_check, one_file};
 use command_generate::laws::one_generated;
 use command_play::laws::one_game;
 use command_run::laws::one_run;
+use command_save::laws::one_save;
 use command_tables::laws::one_set_of_tables;
 
 /// A command that isn't cut has one outcome, and one that is cut has put a prefix of what it puts
@@ -29,6 +31,7 @@ pub fn one_outcome()
     one_run();
     one_game();
     one_generated();
+    one_save();
     one_set_of_tables();
 }
 
@@ -49,6 +52,8 @@ pub fn work_means()
     runs_mean();
     compiles_mean();
     plays_mean();
+    saves_mean();
+    resumes_mean();
     generates_mean();
 }
 

@@ -1,7 +1,7 @@
 //! Laws about the work of words, each the contract of a function that does nothing.
 
 ghost use Rattle.nwq_top.specs.WordLaws.{CompilesMean, GeneratesMean, OneFaultRefuses};
-ghost use Rattle.nwq_top.specs.WordLaws.{PlaysMean, RunsMean};
+ghost use Rattle.nwq_top.specs.WordLaws.{PlaysMean, ResumesMean, RunsMean, SavesMean};
 ghost use Rattle.nwq_top.specs.ListedUnits.{PlansListUnits};
 ghost use Rattle.nwq_top.specs.SourcePlans.{FewStepsPlayAsMeant, StoppedPlansBeginAsMeant};
 ghost use Rattle.nwq_top.specs.SourcePlans.{UnstoppedPlansPlayAsMeant};
@@ -14,6 +14,9 @@ use command_meaning::{
 };
 use command_play::laws::one_game;
 use command_plays::laws::one_code;
+use command_save::laws::{
+    fronts_go_on, one_input, one_save, saved_plays_go_on, states_go_safely,
+};
 use command_sources::laws::one_source;
 use engine_table::headers_have_tables;
 use play_inputs::laws::{one_area, one_listing};
@@ -90,6 +93,40 @@ pub fn plays_mean()
     one_listing();
     one_game();
     plans_play_as_meant();
+    checked_plays_have_no_fault();
+}
+
+/// Whatever does the work of `save` is refused as `play` is, and else leaves the state of the play
+/// after its first entries, and tells these, as the sources mean them that the plan lists.
+pub fn saves_mean()
+    ensures means { SavesMean }
+{
+    units_pass();
+    scripts_play_units();
+    one_least_fault();
+    headers_have_tables();
+    one_check();
+    one_area();
+    one_listing();
+    one_input();
+    one_save();
+    fronts_go_on();
+    listed_units_play_alike();
+    entries_stay_alike();
+    checked_plays_have_no_fault();
+}
+
+/// Whatever does the work of `resume` is refused where the state is, and else tells and leaves the
+/// rest of the play: that of the unbroken one, where the state was saved of it. Whoever made the
+/// state, it comes to no stack fault.
+pub fn resumes_mean()
+    ensures means { ResumesMean }
+{
+    headers_have_tables();
+    one_input();
+    one_save();
+    states_go_safely();
+    saved_plays_go_on();
     checked_plays_have_no_fault();
 }
 

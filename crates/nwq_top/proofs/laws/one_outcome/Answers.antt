@@ -4,30 +4,30 @@ use Rattle.nwq_top.proofs.laws.one_outcome.Goals as goal
 
 pub returns-clause-one : goal.returns-clause-one
 returns-clause-one c = one_outcome c.one_file.ensures.commands c.one_check.ensures.command c.one_script.ensures.command
-    c.one_run.ensures.runs c.one_game.ensures.command c.one_generated.ensures.generated
+    c.one_run.ensures.runs c.one_game.ensures.command c.one_generated.ensures.generated c.one_save.ensures.saves c.one_save.ensures.resumes
 
 pub returns-clause-prefixes : goal.returns-clause-prefixes
 returns-clause-prefixes c = all_prefixes c.one_file.ensures.commands c.one_check.ensures.command c.one_script.ensures.command
-    c.one_run.ensures.runs c.one_game.ensures.command c.one_generated.ensures.generated
+    c.one_run.ensures.runs c.one_game.ensures.command c.one_generated.ensures.generated c.one_save.ensures.saves c.one_save.ensures.resumes
 
 pub returns-clause-whole : goal.returns-clause-whole
 returns-clause-whole c = one_whole c.one_file.ensures.commands c.one_check.ensures.command c.one_script.ensures.command
-    c.one_run.ensures.runs c.one_game.ensures.command c.one_generated.ensures.generated c.one_set_of_tables.ensures.tables
+    c.one_run.ensures.runs c.one_game.ensures.command c.one_generated.ensures.generated c.one_save.ensures.saves c.one_save.ensures.resumes c.one_set_of_tables.ensures.tables
 
 pub returns-clause-whole_prefixes : goal.returns-clause-whole_prefixes
 returns-clause-whole_prefixes c = whole_prefixes c.one_file.ensures.commands c.one_check.ensures.command c.one_script.ensures.command
-    c.one_run.ensures.runs c.one_game.ensures.command c.one_generated.ensures.generated c.one_set_of_tables.ensures.tables
+    c.one_run.ensures.runs c.one_game.ensures.command c.one_generated.ensures.generated c.one_save.ensures.saves c.one_save.ensures.resumes c.one_set_of_tables.ensures.tables
 
 pub returns-clause-fronts : goal.returns-clause-fronts
 returns-clause-fronts c =
     cuts_leave_fronts (sure_work c.one_file.ensures.commands c.one_check.ensures.command c.one_script.ensures.command
-    c.one_run.ensures.runs c.one_game.ensures.command c.one_generated.ensures.generated)
+    c.one_run.ensures.runs c.one_game.ensures.command c.one_generated.ensures.generated c.one_save.ensures.saves c.one_save.ensures.resumes)
     (all_prefixes c.one_file.ensures.commands c.one_check.ensures.command c.one_script.ensures.command
-    c.one_run.ensures.runs c.one_game.ensures.command c.one_generated.ensures.generated)
+    c.one_run.ensures.runs c.one_game.ensures.command c.one_generated.ensures.generated c.one_save.ensures.saves c.one_save.ensures.resumes)
 
 pub returns-clause-whole_fronts : goal.returns-clause-whole_fronts
 returns-clause-whole_fronts c =
     whole_cuts_leave_fronts (sure_whole c.one_file.ensures.commands c.one_check.ensures.command c.one_script.ensures.command
-    c.one_run.ensures.runs c.one_game.ensures.command c.one_generated.ensures.generated c.one_set_of_tables.ensures.tables)
+    c.one_run.ensures.runs c.one_game.ensures.command c.one_generated.ensures.generated c.one_save.ensures.saves c.one_save.ensures.resumes c.one_set_of_tables.ensures.tables)
     (whole_prefixes c.one_file.ensures.commands c.one_check.ensures.command c.one_script.ensures.command
-    c.one_run.ensures.runs c.one_game.ensures.command c.one_generated.ensures.generated c.one_set_of_tables.ensures.tables)
+    c.one_run.ensures.runs c.one_game.ensures.command c.one_generated.ensures.generated c.one_save.ensures.saves c.one_save.ensures.resumes c.one_set_of_tables.ensures.tables)

@@ -1,0 +1,9 @@
+mod GoingLemmas
+mod BackLemmas
+mod OneState
+mod OneSave
+mod ReadLemmas
+mod RestLemmas
+mod SavedLemmas
+mod SafeLemmas
+mod FrontLemmas

@@ -1,0 +1,188 @@
+-- What `save` does.
+use Rattle.std.proofs.Common.{◌≡◌, ℕ, Bool, true, false, List, ◌++◌, map, Result, Ok, Err, refl, sym, ap, ◌∙◌, inl, inr, subst}
+use mathlib.Core.List.{append_assoc}
+use Rattle.std.specs.Prelude.{nat_lt, length}
+use Rattle.std.specs.FinMap as fin_map
+use Rattle.nwq_value.specs.Engine.{EngineTable, IsTable}
+use Rattle.nwq_value.specs.Limits.{file_limit}
+use Rattle.nwq_outside.specs.Outside.{Contents, AreBytes}
+use Rattle.plan_text.specs.declared.plan.Plan.{Plan}
+use Rattle.machine_rules.specs.Machine.{Script}
+use Rattle.saved_state.specs.declared.saved.Saved.{Saved}
+use Rattle.state_format.specs.Fields.{parts_bytes}
+use Rattle.world_rules.specs.Pure.{CellLookup}
+use Rattle.world_rules.specs.Trace.{trace_text}
+use Rattle.world_rules.specs.Plays as plays
+use Rattle.world_rules.specs.Plays.{PlayEnd, Played, Progress, unplayed}
+use Rattle.source_meaning.specs.Scripts.{Listed, Setting}
+use Rattle.source_laws.specs.Executing.{script_of}
+use Rattle.source_laws.specs.StayAlike.{EntriesKeepAlike}
+use Rattle.typing_laws.specs.FaultLaws.{LeastIsTheKept}
+use Rattle.engine_table.specs.KeptTables.{HeadersHaveTables, BuiltInIsTable}
+use Rattle.command_work.specs.declared.flaw.AreaFlaw.TheVariants as flaw
+use Rattle.command_work.specs.declared.status.Status.{Status}
+use Rattle.command_work.specs.Refusal.{Refusal}
+use Rattle.command_work.specs.Work.{Work, Puts, IsCut, Does, Finished, puts, writes}
+use Rattle.command_work.specs.Comes.{refusal_not_cut}
+use Rattle.play_inputs.specs.Laws.{SurePlans}
+use Rattle.play_inputs.specs.ListingLaws.{SureListed}
+use Rattle.play_worlds.specs.Worlds.{begun_by, plan_world}
+use Rattle.command_files.specs.CheckLaws.{SureLoaded}
+use Rattle.command_plays.specs.Plays.{host_of, played_first}
+use Rattle.command_meaning.specs.Units.{UnitsPass}
+use Rattle.command_meaning.specs.Scripts.{ScriptsHaveUnits}
+use Rattle.command_meaning.specs.CodeEnds.{CheckedPlaysHaveNoFault}
+use Rattle.command_meaning.specs.ListedPlays.{ListedPlaysEnd, ListedPlaysStop}
+use Rattle.command_save.specs.declared.inputs.HeaderFile.{HeaderFile}
+use Rattle.command_save.specs.declared.inputs.AreaFile.{AreaFile}
+use Rattle.command_save.specs.Inputs.{header_of, area_named}
+use Rattle.command_save.specs.Saves.{IsStateAt, saved_line, state_by, state_told, state_written, saves_at, saves_by, saves_played, saves_plan, saves_area, saves_scripts, saves_under, saves}
+use Rattle.command_save.specs.Laws.{SureHeaderFiles, SureAreaFiles, SureSaves, FrontsGoOn}
+use Rattle.nwq_top.specs.SourcePlans.{listing_of}
+use Rattle.nwq_top.specs.Plays.{RefusesPlay}
+use Rattle.nwq_top.specs.Refusing.{IsRefused}
+use Rattle.nwq_top.specs.Saves.{HasHeaderFile, HasAreaFile, AcceptsSave, AcceptsSourcesToSave, SaveComes, refused, accepted, first_entries, source_first, FirstAsMeant, IsSaved, MeansSave}
+use Rattle.nwq_top.specs.WordLaws.{SavesMean}
+use Rattle.nwq_top.proofs.Headers.{header_file_does, header_file_refuses, header_file_comes, header_of_file, file_of_header, is_table}
+use Rattle.nwq_top.proofs.PlansAndAreas.{area_file_does, area_file_refuses, area_file_comes}
+use Rattle.nwq_top.proofs.Listing.{are_scripts}
+use Rattle.nwq_top.proofs.ListedUnits.{listed_units}
+use Rattle.nwq_top.proofs.NoFaults.{lines_are_stacked}
+use Rattle.nwq_top.proofs.PlayFiles.{ReadsHeaderBy, ReadsAreaBy, FilesCome, are_refused, are_accepted, files_come, files_refuse, files_go}
+use Rattle.nwq_top.proofs.Running.{source_bytes, as_refused}
+use Rattle.nwq_top.proofs.SourcePlans.{plan_alike}
+
+-- ---- what is left and told where a state was saved
+
+module _ (header : HeaderFile) (file : AreaFile) (plan : Plan) (scripts : List Script) (name : List ℕ) (c : Contents) (t : List ℕ) (r : Result Finished Status)
+    (c' : Contents) (t' : List ℕ) (done : r ≡ Ok tt) where
+  -- the file is written, and its line put
+  record Wrote (bytes : List ℕ) (entries : ℕ) (k : List ℕ) : Type 0 where
+    taken : t' ≡ k ++ saved_line name entries
+    contents : c' ≡ fin_map.insert c name bytes
+
+  wrote : (long : Bool) (bytes : List ℕ) (entries : ℕ) (k : List ℕ) → Does (state_by long name bytes entries) c k r c' t' → Wrote bytes entries k
+  unfolding state_told writes puts
+  wrote true bytes entries k (inl x, s) = absurd (apart done x.0)
+    where
+      apart : {status : Status} → r ≡ Ok tt → r ≡ Err status → ⊥
+      apart p q = absurd cc
+  wrote true bytes entries k (inr x, s) = absurd (subst IsCut done x.0)
+  wrote false bytes entries k (inl x) = absurd (subst IsCut done x.0)
+  wrote false bytes entries k (inr (inl x)) = absurd (subst IsCut done x.0)
+  wrote false bytes entries k (inr (inr h)) = record { taken = h.1.1; contents = h.1.0 }
+
+  saved_at : (p : Played Saved) → Does (saves_at header file.bytes plan scripts name p.last) c (t ++ trace_text p.last.trace) r c' t'
+      → IsSaved header file plan scripts name p c t c' t'
+  unfolding saves_at state_written
+  saved_at p (inl x) = absurd (subst IsCut done x.0)
+  saved_at p (inr h) =
+      let w = wrote (nat_lt file_limit (length (parts_bytes h.found))) (parts_bytes h.found) h.found.taken (t ++ trace_text p.last.trace) h.goes in
+      record {
+        state = h.found;
+        is = h.is;
+        taken = w.taken ∙ (ap (λ (n : ℕ). (t ++ trace_text p.last.trace) ++ saved_line name n) h.is.come.taken
+            ∙ sym (append_assoc t (trace_text p.last.trace) (saved_line name p.last.entries)));
+        contents = w.contents;
+      }
+
+  saved_by : (ending : PlayEnd) (p : Played Saved) → Does (saves_by ending header file.bytes plan scripts name p) c (t ++ trace_text p.last.trace) r c' t'
+      → IsSaved header file plan scripts name p c t c' t'
+  saved_by plays.StoppedInside p (inl x) = absurd (subst IsCut done x.0)
+  saved_by plays.StoppedInside p (inr (inl x, s)) = absurd cc
+  saved_by plays.StoppedInside p (inr (inr x, s)) = absurd (subst IsCut done x)
+  saved_by plays.Done p does = saved_at p does
+  saved_by plays.OutOfEntries p does = saved_at p does
+  saved_by plays.Paused p does = saved_at p does
+
+  pub saved_so : (cell : CellLookup) (n : ℕ) → Does (saves_plan cell header plan scripts n name file) c t r c' t'
+      → IsSaved header file plan scripts name (played_first cell header.table plan scripts n (plan_world file.area plan)) c t c' t'
+  unfolding saves_plan
+  saved_so cell n (inl x) = absurd (subst IsCut done x.0)
+  saved_so cell n (inr does) = saved_by _ (played_first cell header.table plan scripts n (plan_world file.area plan)) does
+
+module _ (pass : UnitsPass) (units : ScriptsHaveUnits) (least : LeastIsTheKept) (reads : HeadersHaveTables) (own : BuiltInIsTable)
+    (plans : SurePlans) (loaded : SureLoaded) (lists : SureListed) (headers : SureHeaderFiles) (areas : SureAreaFiles) (sure : SureSaves) where
+  module _ (cell : CellLookup) (header area plan : List ℕ) (n : ℕ) (name : List ℕ) (c : Contents) (t : List ℕ) (r : Result Finished Status) (c' : Contents)
+      (t' : List ℕ) (held : AreBytes c) (whole : IsCut r → ⊥) where
+    abbrev table_in : HeaderFile → EngineTable
+    table_in h = h.table
+
+    abbrev header_reading : ReadsHeaderBy table_in (header_of header) header (λ d. HasHeaderFile d header)
+    header_reading = record {
+      does = λ d k h has. header_file_does d k header h has;
+      refuses = λ d k why is. header_file_refuses d k header why is;
+      comes = λ d k s d' k' does. header_file_comes d k header s d' k' does;
+      has = λ d h has. header_of_file d header h has;
+      of = λ d table has. file_of_header d header table has;
+      sure = headers header;
+    }
+
+    abbrev area_reading : ReadsAreaBy (area_named area) area (λ d. HasAreaFile d area)
+    area_reading = record {
+      does = λ d k a has. area_file_does d k area a has;
+      refuses = λ d k why is. area_file_refuses d k area why is;
+      comes = λ d k s d' k' does. area_file_comes d k area s d' k' does;
+      sure = areas area;
+    }
+
+    abbrev final : HeaderFile → Plan → List Script → AreaFile → Work Finished
+    final h p scripts a = saves_plan cell h p scripts n name a
+
+    as_comes : FilesCome table_in (λ d. HasHeaderFile d header) (λ d. HasAreaFile d area) header area plan c → SaveComes header area plan c
+    as_comes (are_refused why left is) = refused why left is
+    as_comes (are_accepted h p scripts a left k) =
+        accepted h p scripts a left (record { reads_plan = k.reads_plan; has_header = k.has_header; lists = k.lists; reads_area = k.reads_area })
+
+    pub save_comes : Does (saves cell header area plan n name) c t r c' t' → SaveComes header area plan c
+    unfolding saves saves_under saves_scripts saves_area
+    save_comes does =
+        as_comes (files_come pass units least reads own plans loaded lists table_in header area plan (header_of header) (λ d. HasHeaderFile d header) header_reading
+        (area_named area) (λ d. HasAreaFile d area) area_reading final c t r c' t' held whole does)
+
+    pub save_refused : (why : Refusal) (left : Contents) → RefusesPlay header area plan c why left → Does (saves cell header area plan n name) c t r c' t'
+        → IsRefused why left t r c' t'
+    unfolding saves saves_under saves_scripts saves_area
+    save_refused why left is does =
+        as_refused (saves cell header area plan n name) (sure cell header area plan n name) why c left c' t t' r whole (refusal_not_cut why)
+        (files_refuse pass units least reads own plans loaded lists table_in header area plan (header_of header) (λ d. HasHeaderFile d header) header_reading
+        (area_named area) (λ d. HasAreaFile d area) area_reading final c t why left is) does
+
+    pub save_goes : (h : HeaderFile) (p : Plan) (scripts : List Script) (a : AreaFile) (left : Contents) → AcceptsSave header area plan c h p scripts a left
+        → Does (saves cell header area plan n name) c t r c' t' → Does (saves_plan cell h p scripts n name a) left t r c' t'
+    unfolding saves saves_under saves_scripts saves_area
+    save_goes h p scripts a left k does =
+        files_go pass units least reads own plans loaded lists table_in header area plan (header_of header) (λ d. HasHeaderFile d header) header_reading
+        (area_named area) (λ d. HasAreaFile d area) area_reading final c t r c' t' held whole h p scripts a left
+        (record { reads_plan = k.reads_plan; has_header = k.has_header; lists = k.lists; reads_area = k.reads_area }) does
+
+  -- ---- what the sources mean
+
+  module _ (ends : ListedPlaysEnd) (stops : ListedPlaysStop) (keep : EntriesKeepAlike) where
+    first_as_meant : (header area plan : List ℕ) (n : ℕ) (c : Contents) → AreBytes c → (cell : CellLookup) (h : HeaderFile) (p : Plan) (listed : List Listed) (a : AreaFile)
+        (left : Contents) → AcceptsSourcesToSave header area plan c h p listed a left → FirstAsMeant cell h a p listed n
+    unfolding source_first
+    first_as_meant header area plan n c held cell h p listed a left k =
+        let kept : IsTable h.table = is_table reads own c header h.table held (header_of_file c header h k.has_header) in
+        let s : Setting = listing_of cell h.table listed in
+        let one = λ m l is. (listed_units h.table units p.scripts c left listed (source_bytes c held) k.lists m l is).unit in
+        let so = stops s kept one p.limit (first_entries n p) _ _ (plan_alike keep s a.area p) in
+        record {
+          few = λ steps large goes. ends s kept one steps p.limit (first_entries n p) large _ _ (plan_alike keep s a.area p) goes;
+          unstopped = so.ends;
+          stopped = so.told;
+        }
+
+    pub saves_mean : CheckedPlaysHaveNoFault → FrontsGoOn → SavesMean
+    saves_mean no_fault fronts cell header area plan n name c t r c' t' held whole does = record {
+      comes = save_comes cell header area plan n name c t r c' t' held whole does;
+      refused = λ why left is. save_refused cell header area plan n name c t r c' t' held whole why left is does;
+      played = λ h p scripts a left k. save_goes cell header area plan n name c t r c' t' held whole h p scripts a left k does;
+      saved = λ h p scripts a left k done.
+          saved_so h a p scripts name left t r c' t' done cell n (save_goes cell header area plan n name c t r c' t' held whole h p scripts a left k does);
+      first = λ h p scripts a left k. fronts cell h.table p scripts n (plan_world a.area p);
+      no_fault = λ h p scripts a left k.
+          no_fault cell h.table scripts p.limit (first_entries n p) a.area p.random (map (begun_by a.area) p.events) p.version
+          (is_table reads own c header h.table held (header_of_file c header h k.has_header)) (lines_are_stacked h.table p.scripts c left scripts k.lists);
+      meant = λ h p listed a left k. first_as_meant header area plan n c held cell h p listed a left k;
+    }
