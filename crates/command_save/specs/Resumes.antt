@@ -1,5 +1,5 @@
 -- A saved play that goes on.
-use Rattle.std.specs.Prelude.{ℕ, ◌+◌, List}
+use Rattle.std.specs.Prelude.{◌≡◌, ℕ, ◌+◌, List, map}
 use Rattle.nwq_value.specs.Engine.{EngineTable}
 use Rattle.nwq_outside.specs.Outside.{Contents}
 use Rattle.saved_state.specs.declared.saved.Saved.{Saved}
@@ -17,7 +17,7 @@ use Rattle.command_work.specs.Refusal.{BadArea}
 use Rattle.command_work.specs.Work.{Work, Gives, Refused, Finds, then, Finished, file_named}
 use Rattle.command_plays.specs.Plays.{host_of}
 use Rattle.command_play.specs.Games.{tells}
-use Rattle.command_save.specs.Saves.{HasScripts}
+use Rattle.command_save.specs.Saves.{file_of, AreSpelled}
 
 -- ---- the state in a file
 
@@ -56,7 +56,8 @@ pub record Going : Type 0 where
 -- it is what the state tells
 pub record GoesFrom (s : Parts) (g : Going) : Type 0 where
   pub header : IsHeaderOf s.header g.table
-  pub scripts : HasScripts g.scripts s
+  pub scripts : s.scripts ≡ map file_of g.scripts
+  pub spelled : AreSpelled g.scripts
   pub world : IsWorldOf s g.world
 
 -- ---- the play

@@ -37,17 +37,16 @@ use Rattle.command_save.specs.Inputs.{header_of, area_named}
 abbrev pub file_of : Script → ScriptPart
 file_of script = record { name = script.name; code = file_bytes script.code }
 
--- the state is that of these scripts
-pub record HasScripts (scripts : List Script) (s : Parts) : Type 0 where
-  pub are : s.scripts ≡ map file_of scripts
-  pub spelled : AllByRecursion (λ (script : Script). IsCode script.code) scripts
+-- the code of each can stand in a file
+abbrev pub AreSpelled : List Script → Type 0
+AreSpelled scripts = AllByRecursion (λ (script : Script). IsCode script.code) scripts
 
 -- A play of a plan can go on from the state as it stands here, between two entries.
 pub record IsStateAt (header : HeaderFile) (file : List ℕ) (plan : Plan) (scripts : List Script) (p : Progress Saved) (s : Parts) : Type 0 where
   pub form : HasForm s
   pub accepted : IsAccepted s
   pub play : IsPlayOf s header.text (map file_of scripts) file (plan.limit, plan.entries, plan.until)
-  pub spelled : HasScripts scripts s
+  pub spelled : AreSpelled scripts
   pub come : HasCome s p.entries p.count
   pub world : IsWorldOf s (resting p.world)
 

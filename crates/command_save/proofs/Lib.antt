@@ -1,0 +1,7 @@
+mod GoingLemmas
+mod BackLemmas
+mod OneState
+mod OneSave
+mod ReadLemmas
+mod RestLemmas
+mod SavedLemmas

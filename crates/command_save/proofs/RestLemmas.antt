@@ -1,0 +1,168 @@
+-- A play that was saved and resumed tells what the unbroken one tells.
+use Rattle.std.proofs.Common.{arith, ◌≡◌, ◌≢◌, ◌<◌, ◌≤◌, ◌+◌, ◌-◌, ℕ, Bool, true, false, inl, inr, List, [], ◌∷◌, ◌++◌, length, map, Option, Some, None, Result, Ok, Err, refl, ap, sym, subst, ◌∙◌}
+use mathlib.Core.List.{append_assoc, append-nil}
+use Rattle.std.specs.Prelude.{min, nat_lt, fold, IsOk}
+use Rattle.std.specs.FinMap as map
+use Rattle.std.proofs.Math.Nat.{min-le_right}
+use Rattle.std.proofs.Common.{ltb-false}
+use Rattle.std.proofs.lemmas.Grind.{flat_map-append}
+use Rattle.nwq_value.specs.Engine.{EngineTable}
+use Rattle.nwq_value.specs.Limits.{file_limit}
+use Rattle.nwq_outside.specs.Outside.{Contents}
+use Rattle.gff_tree.specs.Whole.{PlainGff}
+use Rattle.gff_write.specs.declared.fault.WriteFault.{WriteFault}
+use Rattle.gff_write.specs.declared.fault.WriteFault.TheVariants as write_fault
+use Rattle.gff_write.specs.File.{written, outcome_of}
+use Rattle.area_back.specs.Back.{tree_back}
+use Rattle.area_rules.specs.Area.{PlainArea}
+use Rattle.plan_text.specs.declared.plan.Line.{Line as PlanLine}
+use Rattle.plan_text.specs.declared.plan.Plan.{Plan}
+use Rattle.saved_state.specs.declared.saved.Saved.{Saved}
+use Rattle.world_rules.specs.declared.data.Line.{Line}
+use Rattle.world_rules.specs.Pure.{CellLookup}
+use Rattle.world_rules.specs.Trace.{line_text, trace_text}
+use Rattle.world_rules.specs.EndText.{world_text, end_text}
+use Rattle.world_rules.specs.World.{World}
+use Rattle.world_rules.specs.Turns.{Planned, with_planned, still, new_world}
+use Rattle.world_rules.specs.Plays as plays
+use Rattle.world_rules.specs.Plays.{PlayEnd, Runner, Bounds, Progress, Played, unplayed, plays as plays_from}
+use Rattle.machine_rules.specs.Machine.{Script, Host}
+use Rattle.module_player.specs.CodePlays.{code_runner, code_play_on, code_end_text}
+use Rattle.play_worlds.specs.Worlds.{begun_by, plan_world}
+use Rattle.command_work.specs.declared.status.Status.{Status}
+use Rattle.command_work.specs.declared.status.Status.TheVariants.{Limit, Memory}
+use Rattle.command_work.specs.Refusal.{Refusal, line_of, status_of}
+use Rattle.command_work.specs.Work.{Work, Gives, Refused, Ends, Writes, Puts, Finds, then, Finished, IsCut, Does, puts, writes}
+use Rattle.command_work.specs.Parts.{ok_not_err, err_not_ok}
+use Rattle.play_inputs.specs.Finals.{final_by, final_written}
+use Rattle.command_plays.specs.Plays.{host_of, played}
+use Rattle.command_play.specs.Games.{ends_by, tells_end, tells}
+use Rattle.state_format.specs.declared.parts.Parts.{Parts}
+use Rattle.play_save.specs.States.{resting}
+use Rattle.command_save.proofs.GoingLemmas.{on, played_after, played_with, left_of, IsRestOf, left_goes, rests, on_ends, stays_quiet, stops_same}
+use Rattle.command_save.proofs.ReadLemmas.{given, held_here}
+use Rattle.command_save.specs.Laws.{GoOn}
+
+-- ---- the plays
+
+planned_quiet : (events : List Planned) (w : World Saved) → w.trace ≡ [] → (fold with_planned w events).trace ≡ []
+planned_quiet [] w quiet = quiet
+planned_quiet (e ∷ events) w quiet = planned_quiet events (with_planned w e) quiet
+
+-- a plan's world keeps no line
+plan_quiet : (area : PlainArea) (plan : Plan) → (plan_world area plan).trace ≡ []
+plan_quiet area plan = planned_quiet (map (begun_by area) plan.events) (still area plan.random plan.version) refl
+
+module _ (host : Host (World Saved)) (limit entries until n : ℕ) (w : World Saved) (quiet : w.trace ≡ []) where
+  abbrev first : Played Saved
+  first = code_play_on host limit entries until (min n entries) 0 0 w
+
+  abbrev rest : Played Saved
+  rest = code_play_on host limit entries until (entries + 1) first.last.entries first.last.count (resting first.last.world)
+
+  abbrev bounds : Bounds
+  bounds = record { entries = entries; until = until; stop = entries + 1 }
+
+  -- the first part, whatever the bound at which it was broken off
+  abbrev begun : Played Saved
+  begun = plays_from (code_runner host limit) bounds (min n entries) (unplayed w)
+
+  first_is : first ≡ begun
+  first_is = stops_same (code_runner host limit) entries until (min n entries) (entries + 1) (min n entries) (unplayed w)
+
+  abbrev IsRest : Played Saved → Type 0
+  IsRest f = IsRestOf (code_runner host limit) bounds f.last.trace (on (code_runner host limit) bounds (unplayed w)) (on (code_runner host limit) bounds (left_of (code_runner host limit) bounds f.last))
+
+  -- the unbroken play is what was told before, and the rest
+  pub goes : first.ending ≢ plays.StoppedInside → IsRest first
+  goes whole =
+      subst IsRest (sym first_is)
+      (subst (λ (p : Played Saved). IsRestOf (code_runner host limit) bounds begun.last.trace p (on (code_runner host limit) bounds (left_of (code_runner host limit) bounds begun.last)))
+      (sym (rests (code_runner host limit) bounds (min n entries) (unplayed w) (omega (arith, min-le_right n entries)) (subst (λ (p : Played Saved). p.ending ≢ plays.StoppedInside) first_is whole)))
+      (left_goes (code_runner host limit) bounds begun.last (stays_quiet (code_runner host limit) bounds (min n entries) (unplayed w) quiet)))
+
+  pub never_paused : (on (code_runner host limit) bounds (unplayed w)).ending ≢ plays.Paused
+  never_paused = on_ends (code_runner host limit) bounds (unplayed w) (omega arith)
+
+-- ---- what is told of both
+
+trace_more : (first rest : List Line) → trace_text (first ++ rest) ≡ trace_text first ++ trace_text rest
+unfolding trace_text
+trace_more first rest = flat_map-append line_text first rest
+
+module _ (runner : Runner Saved) (bounds : Bounds) (scripts : List Script) (to : List ℕ) (front : List Line) (whole rest : Played Saved) (is : IsRestOf runner bounds front whole rest) where
+  pub trace_parts : trace_text whole.last.trace ≡ trace_text front ++ trace_text rest.last.trace
+  trace_parts = ap (λ (p : Played Saved). trace_text p.last.trace) is.is ∙ trace_more front rest.last.trace
+
+  -- the end tells nothing but what both have
+  pub end_does : (r : Result Finished Status) (c c' : Contents) (t t' : List ℕ) → Does (tells_end to scripts whole) c t r c' t' → Does (tells_end to scripts rest) c t r c' t'
+  unfolding end_text world_text
+  end_does r c c' t t' does = subst (λ (p : Played Saved). Does (tells_end to scripts p) c t r c' t') is.is does
+
+  pub same_ending : whole.ending ≡ rest.ending
+  same_ending = ap (λ (p : Played Saved). p.ending) is.is
+
+-- ---- the same end from two contents
+
+-- what a work answered that puts this last, and what it left under a name where it was done
+pub record Ended (to : List ℕ) (answer : Result Finished Status) (put : List ℕ) (content : Option (List ℕ)) (t : List ℕ) (r : Result Finished Status) (c' : Contents) (t' : List ℕ) : Type 0 where
+  pub is : r ≡ answer
+  pub taken : t' ≡ t ++ put
+  pub left : IsOk answer → map.get c' to ≡ content
+
+pub record EndAlike (to : List ℕ) (c2 c3 : Contents) (t t2 u u3 : List ℕ) (r s : Result Finished Status) : Type 0 where
+  pub put : List ℕ
+  pub first : t2 ≡ t ++ put
+  pub second : u3 ≡ u ++ put
+  pub answer : r ≡ s
+  pub area : IsOk s → map.get c2 to ≡ map.get c3 to
+
+both : (to : List ℕ) (answer : Result Finished Status) (put : List ℕ) (content : Option (List ℕ)) (c2 c3 : Contents) (t t2 u u3 : List ℕ) (r s : Result Finished Status)
+    → Ended to answer put content t r c2 t2 → Ended to answer put content u s c3 u3 → EndAlike to c2 c3 t t2 u u3 r s
+both to answer put content c2 c3 t t2 u u3 r s a b = record {
+  put = put;
+  first = a.taken;
+  second = b.taken;
+  answer = a.is ∙ sym b.is;
+  area = λ ok. let done = subst IsOk b.is ok in a.left done ∙ sym (b.left done);
+}
+
+limit_ended : (to text : List ℕ) (c c' : Contents) (t t' : List ℕ) (r : Result Finished Status) → (IsCut r → ⊥) → Does {A = Finished} (Puts text (Ends Limit)) c t r c' t'
+    → Ended to (Err Limit) text None t r c' t'
+limit_ended to text c c' t t' r whole (inl x) = absurd (whole x.0)
+limit_ended to text c c' t t' r whole (inr (inl is, s)) = record { is = is; taken = s.1; left = λ ok. absurd ok }
+limit_ended to text c c' t t' r whole (inr (inr x, s)) = absurd (whole x)
+
+refusal_ended : (to : List ℕ) (why : Refusal) (c c' : Contents) (t t' : List ℕ) (r : Result Finished Status) → (IsCut r → ⊥) → Does {A = Finished} (Refused why) c t r c' t'
+    → Ended to (Err (status_of why)) (line_of why) None t r c' t'
+refusal_ended to why c c' t t' r whole (inl is, s) = record { is = is.0; taken = is.1; left = λ ok. absurd ok }
+refusal_ended to why c c' t t' r whole (inr x, s) = absurd (whole x.0)
+
+write_ended : (to bytes text : List ℕ) (c c' : Contents) (t t' : List ℕ) (r : Result Finished Status) → (IsCut r → ⊥)
+    → Does (Writes to bytes (puts text)) c t r c' t' → Ended to (Ok tt) text (Some bytes) t r c' t'
+unfolding puts
+write_ended to bytes text c c' t t' r whole (inl x) = absurd (whole x.0)
+write_ended to bytes text c c' t t' r whole (inr (inl x)) = absurd (whole x.0)
+write_ended to bytes text c c' t t' r whole (inr (inr (inl is, s))) = record { is = is; taken = s.1; left = λ ok. held_here c c' to bytes s.0 }
+write_ended to bytes text c c' t t' r whole (inr (inr (inr x, s))) = absurd (whole x)
+
+module _ (to text : List ℕ) (c d c2 c3 : Contents) (t t2 u u3 : List ℕ) (r s : Result Finished Status) (whole : IsCut r → ⊥) (whole_too : IsCut s → ⊥) where
+  final_alike : (outcome : Result (List ℕ) WriteFault) → Does (then (final_by to outcome) (λ done. puts text)) c t r c2 t2
+      → Does (then (final_by to outcome) (λ done. puts text)) d u s c3 u3 → EndAlike to c2 c3 t t2 u u3 r s
+  unfolding writes
+  final_alike (Ok bytes) a b =
+      both to (Ok tt) text (Some bytes) c2 c3 t t2 u u3 r s (write_ended to bytes text c c2 t t2 r whole a) (write_ended to bytes text d c3 u u3 s whole_too b)
+  final_alike (Err (write_fault.Large size)) a b = both to _ _ None c2 c3 t t2 u u3 r s (refusal_ended to _ c c2 t t2 r whole a) (refusal_ended to _ d c3 u u3 s whole_too b)
+  final_alike (Err write_fault.NoMemory) (inl is, p) b = absurd (whole (subst IsCut (sym is) tt))
+  final_alike (Err write_fault.NoMemory) (inr x, p) b = absurd (whole x)
+
+  limit_alike : Does {A = Finished} (Puts text (Ends Limit)) c t r c2 t2 → Does {A = Finished} (Puts text (Ends Limit)) d u s c3 u3 → EndAlike to c2 c3 t t2 u u3 r s
+  limit_alike a b = both to (Err Limit) text None c2 c3 t t2 u u3 r s (limit_ended to text c c2 t t2 r whole a) (limit_ended to text d c3 u u3 s whole_too b)
+
+  pub ends_alike : (ending : PlayEnd) (area : PlainArea) → ending ≢ plays.Paused → Does (ends_by ending to area text) c t r c2 t2 → Does (ends_by ending to area text) d u s c3 u3
+      → EndAlike to c2 c3 t t2 u u3 r s
+  unfolding final_written
+  ends_alike plays.Done area ends a b = final_alike (outcome_of (written (tree_back area))) a b
+  ends_alike plays.OutOfEntries area ends a b = limit_alike a b
+  ends_alike plays.StoppedInside area ends a b = limit_alike a b
+  ends_alike plays.Paused area ends a b = absurd (ends refl)
