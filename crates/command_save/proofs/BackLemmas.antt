@@ -39,17 +39,17 @@ map_back : {A B : Type 0} (tells : B → A) (back : A → B) → ((b : B) → ba
 map_back tells back again [] = refl
 map_back tells back again (b ∷ bs) = ap (λ x. x ∷ map back (map tells bs)) (again b) ∙ ap (λ xs. b ∷ xs) (map_back tells back again bs)
 
-effect_back : Effect → EffectPart
+abbrev effect_back : Effect → EffectPart
 effect_back e = record { routine = e.routine; ints = e.ints }
 
-value_back : Value → CellPart
+abbrev value_back : Value → CellPart
 value_back (value.Int n) = cell.Int n
 value_back (value.Text text) = cell.Text text
 value_back (value.Object o) = cell.Object o
 value_back (value.Effect e) = cell.Effect (effect_back e)
 value_back (value.Event n) = cell.Event n
 
-cell_back : Cell → CellPart
+abbrev cell_back : Cell → CellPart
 cell_back (Holds v) = value_back v
 cell_back (Base bp) = cell.Object bp
 
@@ -60,7 +60,7 @@ cell_again (cell.Object o) = refl
 cell_again (cell.Effect e) = refl
 cell_again (cell.Event n) = refl
 
-captured_back : Saved → Captured
+abbrev captured_back : Saved → Captured
 captured_back s = record { script = s.script; place = s.place; globals = map cell_back s.globals; locals = map cell_back s.locals }
 
 captured_again : (c : Captured) → captured_back (saved_of c) ≡ c
@@ -68,7 +68,7 @@ captured_again c =
     ap (λ (l : List CellPart). record (captured_back (saved_of c)) { globals = l }) (map_back cell_of cell_back cell_again c.globals)
     ∙ ap (λ (l : List CellPart). record c { locals = l }) (map_back cell_of cell_back cell_again c.locals)
 
-variable_back : Variable → VariablePart
+abbrev variable_back : Variable → VariablePart
 variable_back (IntVar name n) = variable.Int name n
 variable_back (TextVar name text) = variable.Text name text
 
@@ -76,13 +76,13 @@ variable_again : (v : VariablePart) → variable_back (variable_of v) ≡ v
 variable_again (variable.Int name n) = refl
 variable_again (variable.Text name text) = refl
 
-stood_back : Stood → Standing
+abbrev stood_back : Stood → Standing
 stood_back s = record { number = s.number; effect = effect_back s.effect }
 
 stood_again : (s : Standing) → stood_back (stood_of s) ≡ s
 stood_again s = refl
 
-item_back : Item Saved → ItemPart
+abbrev item_back : Item Saved → ItemPart
 item_back (Do s) = item.Do (captured_back s)
 item_back (Wait ms) = item.Wait ms
 item_back (Speak text) = item.Speak text
@@ -92,7 +92,7 @@ item_again (item.Do c) = ap item.Do (captured_again c)
 item_again (item.Wait ms) = refl
 item_again (item.Speak text) = refl
 
-kind_back : Kind Saved → KindPart
+abbrev kind_back : Kind Saved → KindPart
 kind_back (Event o script user) = kind.Event o script user
 kind_back (Stored o s) = kind.Stored o (captured_back s)
 kind_back (Turn o) = kind.Turn o
@@ -104,7 +104,7 @@ kind_again (kind.Stored o c) = ap (kind.Stored o) (captured_again c)
 kind_again (kind.Turn o) = refl
 kind_again (kind.Unapply o) = refl
 
-entry_back : Entry Saved → EntryPart
+abbrev entry_back : Entry Saved → EntryPart
 entry_back e = record { due = e.due; number = e.number; kind = kind_back e.kind }
 
 entry_again : (e : EntryPart) → entry_back (entry_of e) ≡ e
@@ -112,7 +112,7 @@ entry_again e = ap (λ (k : KindPart). record e { kind = k }) (kind_again e.kind
 
 -- ---- objects
 
-object_back : Things Saved → List Variable → Object
+abbrev object_back : Things Saved → List Variable → Object
 object_back t vars = record {
   busy = t.queue.busy;
   variables = map variable_back vars;

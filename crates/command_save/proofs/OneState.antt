@@ -38,10 +38,31 @@ pub record OneLaws : Type 0 where
 
 -- ---- one state is saved
 
+abbrev made : Option (List ℕ) → List ScriptPart → List ℕ → ℕ → ℕ → ℕ → ℕ → ℕ → ℕ → ℕ → ℕ → List ℕ → List Object → List Entry → Parts
+made header scripts area version limit entries until clock taken done next random objects agenda = record {
+  header = header;
+  scripts = scripts;
+  area = area;
+  version = version;
+  limit = limit;
+  entries = entries;
+  until = until;
+  clock = clock;
+  taken = taken;
+  done = done;
+  next = next;
+  random = random;
+  objects = objects;
+  agenda = agenda;
+}
+
 parts_same : (s t : Parts) → s.header ≡ t.header → s.scripts ≡ t.scripts → s.area ≡ t.area → s.version ≡ t.version → s.limit ≡ t.limit → s.entries ≡ t.entries
     → s.until ≡ t.until → s.clock ≡ t.clock → s.taken ≡ t.taken → s.done ≡ t.done → s.next ≡ t.next → s.random ≡ t.random → s.objects ≡ t.objects
     → s.agenda ≡ t.agenda → s ≡ t
-parts_same s t header scripts area version limit entries until clock taken done next random objects agenda = cc
+parts_same s t header scripts area version limit entries until clock taken done next random objects agenda =
+    let same : made s.header s.scripts s.area s.version s.limit s.entries s.until s.clock s.taken s.done s.next s.random s.objects s.agenda
+    ≡ made t.header t.scripts t.area t.version t.limit t.entries t.until t.clock t.taken t.done t.next t.random t.objects t.agenda = cc in
+    same
 
 -- a state has as many objects as the area of the tree that its bytes stand for
 counted_by : (laws : OneLaws) (s : Parts) (tree : PlainGff) → IsAccepted s → IsAreaOf tree s.area → length s.objects ≡ length (objects_of tree.top)

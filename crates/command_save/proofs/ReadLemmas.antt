@@ -11,14 +11,16 @@ use Rattle.std.proofs.lemmas.Map.Text.{is_eq-slice_cmp}
 use Rattle.nwq_value.specs.Engine.{EngineTable}
 use Rattle.nwq_value.specs.HeaderTable.{header_table}
 use Rattle.nwq_value.specs.Limits.{file_limit}
+use Rattle.nwq_text.specs.Line.{line_number}
 use Rattle.nwq_outside.specs.Outside.{Contents}
 use Rattle.engine_table.specs.Headers.{HasTable}
 use Rattle.gff_tree.specs.Whole.{PlainGff}
 use Rattle.area_rules.specs.Area.{PlainArea}
 use Rattle.play_save.specs.Rules.{IsHeaderOf}
 use Rattle.command_work.specs.declared.status.Status.{Status}
-use Rattle.command_work.specs.Refusal.{status_of}
-use Rattle.command_work.specs.Work.{Work, Gives, then, IsCut, Does, file_named}
+use Rattle.command_work.specs.declared.cause.Cause.TheVariants as cause
+use Rattle.command_work.specs.Refusal.{Refusal, At, status_of}
+use Rattle.command_work.specs.Work.{Work, Gives, Refused, then, IsCut, Does, file_named}
 use Rattle.command_work.specs.Parts.{value_or, ok_not_err, then_ok}
 use Rattle.command_work.specs.Sequences.{Parts, EndsFirst, GoesOn, ends_first, goes_on, parts}
 use Rattle.command_work.specs.Reading.{IsRead, IsUnread}
@@ -77,11 +79,17 @@ pub record FoundHeader (word : List ℕ) (h : HeaderFile) (c c' : Contents) (t t
   pub table : Does (table_of word) c t (Ok h.table) c' t'
   pub is : IsHeaderOf h.text h.table
 
+refused_gives : {A : Type 0} (why : Refusal) (a : A) (c c' : Contents) (t t' : List ℕ) → Does {A = A} (Refused why) c t (Ok a) c' t' → ⊥
+refused_gives why a c c' t t' (inl p, s) = ok_not_err a (status_of why) p.0
+refused_gives why a c c' t t' (inr x, s) = x.0
+
 fate_has : (name text : List ℕ) (fate : HeaderFate) (table : EngineTable) (c c' : Contents) (t t' : List ℕ) → IsHeaderFate text fate
     → Does (table_by name text fate) c t (Ok table) c' t' → HasTable text table
-fate_has name text (headers.Whole own) table c c' t t' (headers.whole own has) does = subst (HasTable text) (sym (given own table c c' t t' does).value) has
-fate_has name text (headers.Faulty why place) table c c' t t' is (inl p, s) = absurd (ok_not_err table _ p.0)
-fate_has name text (headers.Faulty why place) table c c' t t' is (inr x, s) = absurd x.0
+fate_has name text fate table c c' t t' (headers.whole own has) does = subst (HasTable text) (sym (given own table c c' t t' does).value) has
+fate_has name text fate table c c' t t' (headers.bad place fails) does = absurd (refused_gives (At name (line_number text place) place cause.Bad) table c c' t t' does)
+fate_has name text fate table c c' t t' (headers.header place fails) does = absurd (refused_gives (At name (line_number text place) place cause.Header) table c c' t t' does)
+fate_has name text fate table c c' t t' (headers.twice place fails) does = absurd (refused_gives (At name (line_number text place) place cause.Twice) table c c' t t' does)
+fate_has name text fate table c c' t t' (headers.many place fails) does = absurd (refused_gives (At name (line_number text place) place cause.Many) table c c' t t' does)
 
 text_has : (name text : List ℕ) (table : EngineTable) (c c' : Contents) (t t' : List ℕ) → Does (table_in name text) c t (Ok table) c' t' → HasTable text table
 unfolding table_in

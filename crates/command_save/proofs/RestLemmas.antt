@@ -31,7 +31,8 @@ use Rattle.module_player.specs.CodePlays.{code_runner, code_play_on, code_end_te
 use Rattle.play_worlds.specs.Worlds.{begun_by, plan_world}
 use Rattle.command_work.specs.declared.status.Status.{Status}
 use Rattle.command_work.specs.declared.status.Status.TheVariants.{Limit, Memory}
-use Rattle.command_work.specs.Refusal.{Refusal, line_of, status_of}
+use Rattle.command_work.specs.declared.flaw.AreaFlaw.TheVariants as flaw
+use Rattle.command_work.specs.Refusal.{Refusal, BadArea, line_of, status_of}
 use Rattle.command_work.specs.Work.{Work, Gives, Refused, Ends, Writes, Puts, Finds, then, Finished, IsCut, Does, puts, writes}
 use Rattle.command_work.specs.Parts.{ok_not_err, err_not_ok}
 use Rattle.play_inputs.specs.Finals.{final_by, final_written}
@@ -50,7 +51,7 @@ planned_quiet [] w quiet = quiet
 planned_quiet (e ∷ events) w quiet = planned_quiet events (with_planned w e) quiet
 
 -- a plan's world keeps no line
-plan_quiet : (area : PlainArea) (plan : Plan) → (plan_world area plan).trace ≡ []
+pub plan_quiet : (area : PlainArea) (plan : Plan) → (plan_world area plan).trace ≡ []
 plan_quiet area plan = planned_quiet (map (begun_by area) plan.events) (still area plan.random plan.version) refl
 
 module _ (host : Host (World Saved)) (limit entries until n : ℕ) (w : World Saved) (quiet : w.trace ≡ []) where
@@ -67,8 +68,13 @@ module _ (host : Host (World Saved)) (limit entries until n : ℕ) (w : World Sa
   abbrev begun : Played Saved
   begun = plays_from (code_runner host limit) bounds (min n entries) (unplayed w)
 
+  none_less : min n entries - 0 ≡ min n entries
+  none_less = omega arith
+
   first_is : first ≡ begun
-  first_is = stops_same (code_runner host limit) entries until (min n entries) (entries + 1) (min n entries) (unplayed w)
+  first_is =
+      ap (λ (k : ℕ). plays_from (code_runner host limit) (record { entries = entries; until = until; stop = min n entries }) k (unplayed w)) none_less
+      ∙ stops_same (code_runner host limit) entries until (min n entries) (entries + 1) (min n entries) (unplayed w)
 
   abbrev IsRest : Played Saved → Type 0
   IsRest f = IsRestOf (code_runner host limit) bounds f.last.trace (on (code_runner host limit) bounds (unplayed w)) (on (code_runner host limit) bounds (left_of (code_runner host limit) bounds f.last))
@@ -130,12 +136,12 @@ both to answer put content c2 c3 t t2 u u3 r s a b = record {
 limit_ended : (to text : List ℕ) (c c' : Contents) (t t' : List ℕ) (r : Result Finished Status) → (IsCut r → ⊥) → Does {A = Finished} (Puts text (Ends Limit)) c t r c' t'
     → Ended to (Err Limit) text None t r c' t'
 limit_ended to text c c' t t' r whole (inl x) = absurd (whole x.0)
-limit_ended to text c c' t t' r whole (inr (inl is, s)) = record { is = is; taken = s.1; left = λ ok. absurd ok }
+limit_ended to text c c' t t' r whole (inr (inl is, s)) = record { is = is; taken = s.1; left = λ ok. let no : false ≡ true = ok in absurd cc }
 limit_ended to text c c' t t' r whole (inr (inr x, s)) = absurd (whole x)
 
 refusal_ended : (to : List ℕ) (why : Refusal) (c c' : Contents) (t t' : List ℕ) (r : Result Finished Status) → (IsCut r → ⊥) → Does {A = Finished} (Refused why) c t r c' t'
     → Ended to (Err (status_of why)) (line_of why) None t r c' t'
-refusal_ended to why c c' t t' r whole (inl is, s) = record { is = is.0; taken = is.1; left = λ ok. absurd ok }
+refusal_ended to why c c' t t' r whole (inl is, s) = record { is = is.0; taken = is.1; left = λ ok. let no : false ≡ true = ok in absurd cc }
 refusal_ended to why c c' t t' r whole (inr x, s) = absurd (whole x.0)
 
 write_ended : (to bytes text : List ℕ) (c c' : Contents) (t t' : List ℕ) (r : Result Finished Status) → (IsCut r → ⊥)
@@ -147,12 +153,15 @@ write_ended to bytes text c c' t t' r whole (inr (inr (inl is, s))) = record { i
 write_ended to bytes text c c' t t' r whole (inr (inr (inr x, s))) = absurd (whole x)
 
 module _ (to text : List ℕ) (c d c2 c3 : Contents) (t t2 u u3 : List ℕ) (r s : Result Finished Status) (whole : IsCut r → ⊥) (whole_too : IsCut s → ⊥) where
+  large_alike : (why : Refusal) → Does {A = Finished} (Refused why) c t r c2 t2 → Does {A = Finished} (Refused why) d u s c3 u3 → EndAlike to c2 c3 t t2 u u3 r s
+  large_alike why a b = both to (Err (status_of why)) (line_of why) None c2 c3 t t2 u u3 r s (refusal_ended to why c c2 t t2 r whole a) (refusal_ended to why d c3 u u3 s whole_too b)
+
   final_alike : (outcome : Result (List ℕ) WriteFault) → Does (then (final_by to outcome) (λ done. puts text)) c t r c2 t2
       → Does (then (final_by to outcome) (λ done. puts text)) d u s c3 u3 → EndAlike to c2 c3 t t2 u u3 r s
   unfolding writes
   final_alike (Ok bytes) a b =
       both to (Ok tt) text (Some bytes) c2 c3 t t2 u u3 r s (write_ended to bytes text c c2 t t2 r whole a) (write_ended to bytes text d c3 u u3 s whole_too b)
-  final_alike (Err (write_fault.Large size)) a b = both to _ _ None c2 c3 t t2 u u3 r s (refusal_ended to _ c c2 t t2 r whole a) (refusal_ended to _ d c3 u u3 s whole_too b)
+  final_alike (Err (write_fault.Large size)) a b = large_alike (BadArea to (flaw.Large size)) a b
   final_alike (Err write_fault.NoMemory) (inl is, p) b = absurd (whole (subst IsCut (sym is) tt))
   final_alike (Err write_fault.NoMemory) (inr x, p) b = absurd (whole x)
 

@@ -163,15 +163,15 @@ module _ (laws : OneLaws) (cell : CellLookup) (header : HeaderFile) (area : Area
   ends_told : first.ending ≢ plays.StoppedInside → Does (tells_end to scripts last) c1 (t2 ++ trace_text last.last.trace) r2 c2 t3
       → Does (tells_end to scripts unbroken) c (t ++ trace_text unbroken.last.trace) r3 c3 t4
       → EndAlike to c2 c3 (t2 ++ trace_text last.last.trace) t3 (t ++ (trace_text first.last.trace ++ trace_text last.last.trace)) t4 r2 r3
-  ends_told inside resumes plays =
+  ends_told inside rested played_whole =
       let is = goes host plan.limit plan.entries plan.until n w (plan_quiet area.area plan) inside in
       let text = trace_parts _ _ scripts to first.last.trace unbroken last is in
       let ends : last.ending ≢ plays.Paused =
       λ e. never_paused host plan.limit plan.entries plan.until n w (plan_quiet area.area plan) (same_ending _ _ scripts to first.last.trace unbroken last is ∙ e) in
       ends_alike to (code_end_text scripts last) c1 c c2 c3 (t2 ++ trace_text last.last.trace) t3 (t ++ (trace_text first.last.trace ++ trace_text last.last.trace)) t4 r2 r3 uncut uncut_too
-      last.ending last.last.world.area ends resumes
+      last.ending last.last.world.area ends rested
       (subst (λ (x : List ℕ). Does (tells_end to scripts last) c (t ++ x) r3 c3 t4) text
-      (end_does _ _ scripts to first.last.trace unbroken last is r3 c c3 (t ++ trace_text unbroken.last.trace) t4 plays))
+      (end_does _ _ scripts to first.last.trace unbroken last is r3 c c3 (t ++ trace_text unbroken.last.trace) t4 played_whole))
 
   front_parts : (x a line : List ℕ) → (t ≡ t0 ++ x) → t1 ≡ (t ++ a) ++ line → t1 ≡ t0 ++ (x ++ a) ++ line
   front_parts x a line p q = q ∙ ap (λ (l : List ℕ). (l ++ a) ++ line) p ∙ simp append_assoc
@@ -181,12 +181,12 @@ module _ (laws : OneLaws) (cell : CellLookup) (header : HeaderFile) (area : Area
 
   told_both : WasSaved header area.bytes plan scripts name first.last c c1 (t ++ trace_text first.last.trace) t1 → first.ending ≢ plays.StoppedInside
       → Does (resumes cell name to) c1 t2 r2 c2 t3 → Does (tells to scripts unbroken) c t r3 c3 t4 → GoOn name to c2 c3 t0 t1 t2 t3 t4 r2 r3
-  told_both saved inside resumes plays =
+  told_both saved inside on_from unbroken_does =
       let s = saved.state in
       let held = held_here c c1 name (parts_bytes s) saved.contents in
-      let rest : Does (tells to scripts last) c1 t2 r2 c2 t3 = resumed laws cell header area.bytes plan scripts first.last s headed saved.is name to c1 c2 t2 t3 r2 held saved.small uncut resumes in
+      let rest : Does (tells to scripts last) c1 t2 r2 c2 t3 = resumed laws cell header area.bytes plan scripts first.last s headed saved.is name to c1 c2 t2 t3 r2 held saved.small uncut on_from in
       let ends = ends_told inside (told_end (trace_text last.last.trace) (tells_end to scripts last) c1 c2 t2 t3 r2 uncut rest)
-      (told_end (trace_text unbroken.last.trace) (tells_end to scripts unbroken) c c3 t t4 r3 uncut_too plays) in
+      (told_end (trace_text unbroken.last.trace) (tells_end to scripts unbroken) c c3 t t4 r3 uncut_too unbroken_does) in
       record {
         front = begun.0 ++ trace_text first.last.trace;
         rest = trace_text last.last.trace ++ ends.put;
@@ -201,10 +201,10 @@ module _ (laws : OneLaws) (cell : CellLookup) (header : HeaderFile) (area : Area
   pub go_on : Does (saves_plan cell header plan scripts n name area) c t (Ok done) c1 t1 → Does (resumes cell name to) c1 t2 r2 c2 t3
       → Does (plays_plan cell header.table area.area plan scripts to) c t r3 c3 t4 → GoOn name to c2 c3 t0 t1 t2 t3 t4 r2 r3
   unfolding saves_plan plays_plan
-  go_on saves resumes plays =
+  go_on saves_does resumes_does plays_does =
       let by = was_saved header area.bytes plan scripts name c c1 (t ++ trace_text first.last.trace) t1 done first.ending first
-      (told_end (trace_text first.last.trace) (saves_by first.ending header area.bytes plan scripts name first) c c1 t t1 (Ok done) (λ x. x) saves) in
-      told_both by.1 by.0 resumes plays
+      (told_end (trace_text first.last.trace) (saves_by first.ending header area.bytes plan scripts name first) c c1 t t1 (Ok done) (λ x. x) saves_does) in
+      told_both by.1 by.0 resumes_does plays_does
 
 -- ---- the files are read alike
 
@@ -220,41 +220,41 @@ module _ (laws : OneLaws) (tables : SureTables) (listed : SureListed) (areas : S
   by_area : (header : HeaderFile) (area : List ℕ) (plan : Plan) (scripts : List Script) (c : Contents) (t : List ℕ) → IsHeaderOf header.text header.table → IsPrefix t0 t
       → Does (saves_area cell header area plan n name scripts) c t (Ok done) c1 t1 → Does (plays_area cell header.table area plan to scripts) c t r3 c3 t4 → Told
   unfolding saves_area plays_area
-  by_area header area plan scripts c t headed begun saves plays =
-      let one = went_on (area_named area) (saves_plan cell header plan scripts n name) done c c1 t t1 saves in
+  by_area header area plan scripts c t headed begun saves_does plays_does =
+      let one = went_on (area_named area) (saves_plan cell header plan scripts n name) done c c1 t t1 saves_does in
       let found = area_found area one.value c one.between t one.taken one.first in
       go_on laws cell header one.value plan scripts n name to headed one.between c1 c2 c3 one.taken t0 t1 t2 t3 t4
       (prefix_on t0 t one.taken begun (grows (area_named area) (Ok one.value) c one.between t one.taken one.first)) done r2 r3 uncut uncut_too one.second resumes_does
-      (then_known (inputs.area_named area) (λ a. plays_plan cell header.table a plan scripts to) (areas area) one.value.area c one.between c3 t one.taken t4 r3 uncut_too found plays)
+      (then_known (inputs.area_named area) (λ a. plays_plan cell header.table a plan scripts to) (areas area) one.value.area c one.between c3 t one.taken t4 r3 uncut_too found plays_does)
 
   by_scripts : (header : HeaderFile) (area : List ℕ) (plan : Plan) (c : Contents) (t : List ℕ) → IsHeaderOf header.text header.table → IsPrefix t0 t
       → Does (saves_scripts cell area plan n name header) c t (Ok done) c1 t1 → Does (plays_scripts cell area plan to header.table) c t r3 c3 t4 → Told
   unfolding saves_scripts plays_scripts
-  by_scripts header area plan c t headed begun saves plays =
-      let one = went_on (scripts_listed header.table plan.scripts) (saves_area cell header area plan n name) done c c1 t t1 saves in
+  by_scripts header area plan c t headed begun saves_does plays_does =
+      let one = went_on (scripts_listed header.table plan.scripts) (saves_area cell header area plan n name) done c c1 t t1 saves_does in
       by_area header area plan one.value one.between one.taken headed
       (prefix_on t0 t one.taken begun (grows (scripts_listed header.table plan.scripts) (Ok one.value) c one.between t one.taken one.first)) one.second
       (then_known (scripts_listed header.table plan.scripts) (plays_area cell header.table area plan to) (listed header.table plan.scripts) one.value c one.between c3 t one.taken t4 r3 uncut_too
-      one.first plays)
+      one.first plays_does)
 
   by_header : (header area : List ℕ) (plan : Plan) (c : Contents) (t : List ℕ) → IsPrefix t0 t
       → Does (saves_under cell header area n name plan) c t (Ok done) c1 t1 → Does (plays_under cell header area to plan) c t r3 c3 t4 → Told
   unfolding saves_under plays_under
-  by_header header area plan c t begun saves plays =
-      let one = went_on (header_of header) (saves_scripts cell area plan n name) done c c1 t t1 saves in
+  by_header header area plan c t begun saves_does plays_does =
+      let one = went_on (header_of header) (saves_scripts cell area plan n name) done c c1 t t1 saves_does in
       let found = header_found header one.value c one.between t one.taken one.first in
       by_scripts one.value area plan one.between one.taken found.is
       (prefix_on t0 t one.taken begun (grows (header_of header) (Ok one.value) c one.between t one.taken one.first)) one.second
-      (then_known (table_of header) (plays_scripts cell area plan to) (tables header) one.value.table c one.between c3 t one.taken t4 r3 uncut_too found.table plays)
+      (then_known (table_of header) (plays_scripts cell area plan to) (tables header) one.value.table c one.between c3 t one.taken t4 r3 uncut_too found.table plays_does)
 
   pub by_plan : (header area plan : List ℕ) (c : Contents) → Does (saves cell header area plan n name) c t0 (Ok done) c1 t1
       → Does (plays_files cell header area plan to) c t0 r3 c3 t4 → Told
   unfolding saves plays_files
-  by_plan header area plan c saves plays =
-      let one = went_on (plan_named plan) (saves_under cell header area n name) done c c1 t0 t1 saves in
+  by_plan header area plan c saves_does plays_does =
+      let one = went_on (plan_named plan) (saves_under cell header area n name) done c c1 t0 t1 saves_does in
       by_header header area one.value one.between one.taken (grows (plan_named plan) (Ok one.value) c one.between t0 one.taken one.first) one.second
-      (then_known (plan_named plan) (plays_under cell header area to) (plans plan) one.value c one.between c3 t0 one.taken t4 r3 uncut_too one.first plays)
+      (then_known (plan_named plan) (plays_under cell header area to) (plans plan) one.value c one.between c3 t0 one.taken t4 r3 uncut_too one.first plays_does)
 
 pub saved_plays : OneLaws → SureTables → SureListed → SureAreas → SurePlans → SavedPlaysGoOn
-saved_plays laws tables listed areas plans cell header area plan name to n c c1 c2 c3 t t1 t2 t3 t4 done r2 r3 saves resumes uncut plays uncut_too =
-    by_plan laws tables listed areas plans cell n name to c1 c2 c3 t t1 t2 t3 t4 done r2 r3 uncut uncut_too resumes header area plan c saves plays
+saved_plays laws tables listed areas plans cell header area plan name to n c c1 c2 c3 t t1 t2 t3 t4 done r2 r3 saves_does resumes_does uncut plays_does uncut_too =
+    by_plan laws tables listed areas plans cell n name to c1 c2 c3 t t1 t2 t3 t4 done r2 r3 uncut uncut_too resumes_does header area plan c saves_does plays_does
