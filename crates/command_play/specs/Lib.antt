@@ -1,3 +1,4 @@
 pub mod Games
 pub mod Tellings
+pub mod Stops
 pub mod Laws

@@ -14,3 +14,4 @@ mod play;
 mod telling;
 
 pub use game::play_files;
+pub use telling::{tell_end, tell_limit};

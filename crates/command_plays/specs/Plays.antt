@@ -1,5 +1,5 @@
 -- Plays as commands make them: the play of a plan's lines, and how a command ends by the end of its play.
-use Rattle.std.specs.Prelude.{List}
+use Rattle.std.specs.Prelude.{ℕ, List, min}
 use Rattle.nwq_value.specs.Engine.{EngineTable}
 use Rattle.plan_text.specs.declared.plan.Plan.{Plan}
 use Rattle.saved_state.specs.declared.saved.Saved.{Saved}
@@ -9,7 +9,7 @@ use Rattle.machine_rules.specs.Machine.{Script, Host}
 use Rattle.world_rules.specs.Plays as plays
 use Rattle.world_rules.specs.Plays.{PlayEnd, Played}
 use Rattle.ncs_machine.specs.Host.{host}
-use Rattle.module_player.specs.CodePlays.{code_play}
+use Rattle.module_player.specs.CodePlays.{code_play, code_play_on}
 use Rattle.command_work.specs.declared.status.Status.TheVariants.{Limit}
 use Rattle.command_work.specs.Work.{Work, Gives, Ends, Finished}
 
@@ -20,6 +20,21 @@ host_of cell header scripts = host scripts (record { table = header; cell = cell
 -- the play of listed scripts from a world on, with the limits of a plan
 abbrev pub played : CellLookup → EngineTable → Plan → List Script → World Saved → Played Saved
 played cell header plan scripts w = code_play (host_of cell header scripts) plan.limit plan.entries plan.until w
+
+-- how far a play may go: instructions an entry, entries in all, and until when
+abbrev pub Limits : Type 0
+Limits = ℕ × ℕ × ℕ
+
+abbrev pub limits_of : Plan → Limits
+limits_of plan = (plan.limit, plan.entries, plan.until)
+
+-- the play that goes on after so many entries and instructions, and is broken off once so many entries were taken in all
+abbrev pub played_on : CellLookup → EngineTable → Limits → List Script → ℕ → ℕ → ℕ → World Saved → Played Saved
+played_on cell header limits scripts stop taken done w = code_play_on (host_of cell header scripts) limits.0 limits.1 limits.2 stop taken done w
+
+-- the play of a plan, which is broken off once so many entries were taken, or as many as it may take
+abbrev pub played_first : CellLookup → EngineTable → Plan → List Script → ℕ → World Saved → Played Saved
+played_first cell header plan scripts n w = played_on cell header (limits_of plan) scripts (min n plan.entries) 0 0 w
 
 -- a play that a limit ended is told whole, and its command ends with the status of limits
 abbrev pub ends_by : PlayEnd → Work Finished

@@ -12,8 +12,10 @@
 pub mod laws;
 mod lines;
 mod list;
+mod part;
 mod telling;
 
 pub use lines::play_lines;
 pub use list::list_one;
+pub use part::{play_first, play_part};
 pub use telling::{ending_of, told_whole};

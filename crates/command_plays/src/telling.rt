@@ -1,5 +1,5 @@
 //! What comes of a play's answer: the status by which a command ends.
-ghost use Rattle.std.specs.Prelude.{◌≡◌, ◌≢◌, ℕ, List, IfOk, IfErr};
+ghost use Rattle.std.specs.Prelude.{◌≡◌, ◌≢◌, ℕ, List, None, IfOk, IfErr};
 ghost use Rattle.nwq_outside.specs.declared.counts.FileCounts.{FileCounts};
 ghost use Rattle.nwq_outside.specs.Outside.{Contents};
 ghost use Rattle.saved_state.specs.declared.saved.Saved.{Saved as SavedView};
@@ -27,6 +27,22 @@ fn cut_of(how: How) -> Option<Status>
         How::Pause => None,
         How::Fault => Some(Status::Fault),
         How::NoMemory => Some(Status::Memory),
+    }
+}
+
+/// The answer of a play that wasn't cut short, or the status of one that was.
+pub(crate) fn told_uncut(played: Played) -> Result<Played, Status>
+    ensures told { IfOk result (λ answer. cut_of answer.how ≡ None) }
+    ensures same { IfOk result (λ answer. answer ≡ played) }
+    ensures trace { (text before after : List ℕ) → TakesTrace played.how text before after →
+        TakesText text before result after }
+    ensures counts { (before now : ℕ) → (counts : FileCounts) →
+        CountsPlay played.how before now → Tallies result (Counted counts before) (Counted counts now) }
+    ensures only { IfErr result CutsShort }
+{
+    match cut_of(played.how) {
+        Some(status) => Err(status),
+        None => Ok(played),
     }
 }
 

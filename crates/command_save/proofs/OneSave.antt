@@ -13,7 +13,7 @@ use Rattle.machine_rules.specs.Machine.{Script}
 use Rattle.module_player.specs.CodePlays.{code_end_text}
 use Rattle.state_format.specs.declared.parts.Parts.{Parts}
 use Rattle.state_format.specs.Fields.{parts_bytes}
-use Rattle.command_work.specs.Work.{Work, then, by_size, bytes_of, file_named, puts}
+use Rattle.command_work.specs.Work.{Work, then, by_size, bytes_of, file_named, puts, writes}
 use Rattle.command_work.specs.Outcomes.{IsSure, sure_then, sure_puts}
 use Rattle.command_sources.specs.Headers.{table_in, table_named, table_unless, table_of}
 use Rattle.command_sources.specs.Laws.{SureTables}
@@ -29,7 +29,7 @@ use Rattle.command_play.specs.Games.{ends_by, tells}
 use Rattle.command_save.specs.declared.inputs.HeaderFile.{HeaderFile}
 use Rattle.command_save.specs.declared.inputs.AreaFile.{AreaFile}
 use Rattle.command_save.specs.Inputs.{header_file, header_in, header_named, header_unless, header_of, area_file, area_in, area_named}
-use Rattle.command_save.specs.Saves.{saved_line, state_by as written_by, state_written, saves_at, saves_by, saves_plan, saves_area, saves_scripts, saves_under, saves}
+use Rattle.command_save.specs.Saves.{saved_line, state_by as written_by, state_told, state_written, saves_at, saves_by, saves_plan, saves_area, saves_scripts, saves_under, saves}
 use Rattle.command_save.specs.Resumes.{StateFate, Whole, Stops, Unfit, state_by, state_in, state_named, Going, played_rest, resumes_from, resumes_state, resumes}
 use Rattle.command_save.specs.Laws.{SureSaves, SureResumes}
 use Rattle.command_save.proofs.OneState.{OneLaws, one_saved, one_fate, one_going}
@@ -89,6 +89,7 @@ sure_area areas name = sure_small name (area_in name) (λ bytes small. sure_file
 -- ---- a play that is saved
 
 sure_write : (long : Bool) (name bytes : List ℕ) (entries : ℕ) → IsSure (written_by long name bytes entries)
+unfolding state_told writes
 sure_write true name bytes entries = tt
 sure_write false name bytes entries = sure_puts (saved_line name entries)
 

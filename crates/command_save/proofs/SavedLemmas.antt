@@ -21,7 +21,7 @@ use Rattle.state_format.specs.Place.{StateOf}
 use Rattle.play_save.specs.Rules.{IsHeaderOf}
 use Rattle.play_save.specs.States.{resting}
 use Rattle.command_work.specs.declared.status.Status.{Status}
-use Rattle.command_work.specs.Work.{Work, Writes, Puts, then, Finished, IsCut, Does, file_named, puts}
+use Rattle.command_work.specs.Work.{Work, Writes, Puts, then, Finished, IsCut, Does, file_named, puts, writes}
 use Rattle.command_work.specs.Parts.{ok_not_err, then_ok, finds_one}
 use Rattle.command_work.specs.Sequences.{GoesOn, then_known}
 use Rattle.command_work.specs.Reading.{IsRead}
@@ -35,12 +35,12 @@ use Rattle.play_inputs.specs.ListingLaws.{SureListed}
 use Rattle.play_inputs.specs.Laws.{SureAreas, SurePlans}
 use Rattle.play_inputs.specs.Plans.{plan_named}
 use Rattle.play_worlds.specs.Worlds.{plan_world}
-use Rattle.command_plays.specs.Plays.{host_of, played}
+use Rattle.command_plays.specs.Plays.{host_of, played, played_first}
 use Rattle.command_play.specs.Games.{ends_by, tells_end, tells, plays_plan, plays_area, plays_scripts, plays_under, plays as plays_files}
 use Rattle.command_save.specs.declared.inputs.HeaderFile.{HeaderFile}
 use Rattle.command_save.specs.declared.inputs.AreaFile.{AreaFile}
 use Rattle.command_save.specs.Inputs.{header_of, area_named}
-use Rattle.command_save.specs.Saves.{IsStateAt, saved_line, state_by as written_by, state_written, saves_at, saves_by, played_first, saves_plan, saves_area, saves_scripts, saves_under, saves}
+use Rattle.command_save.specs.Saves.{IsStateAt, saved_line, state_by as written_by, state_told, state_written, saves_at, saves_by, saves_plan, saves_area, saves_scripts, saves_under, saves}
 use Rattle.command_save.specs.Resumes.{StateFate, Whole, IsStateFate, whole, state_by, state_in, state_named, Going, GoesFrom, played_rest, resumes_from, resumes_state, resumes}
 use Rattle.command_save.specs.Laws.{GoOn, SavedPlaysGoOn}
 use Rattle.command_save.proofs.OneState.{OneLaws, one_going}
@@ -62,7 +62,7 @@ pub record WasSaved (header : HeaderFile) (file : List ℕ) (plan : Plan) (scrip
 module _ (header : HeaderFile) (file : List ℕ) (plan : Plan) (scripts : List Script) (name : List ℕ) (c c' : Contents) (t t' : List ℕ) (done : Finished) where
   saved_by : (p : Progress Saved) (s : Parts) → IsStateAt header file plan scripts p s → (long : Bool) → nat_lt file_limit (length (parts_bytes s)) ≡ long
       → Does (written_by long name (parts_bytes s) s.taken) c t (Ok done) c' t' → WasSaved header file plan scripts name p c c' t t'
-  unfolding puts
+  unfolding state_told writes puts
   saved_by p s is true long (inl x, k) = absurd (ok_not_err done _ x.0)
   saved_by p s is true long (inr x, k) = absurd x.0
   saved_by p s is false long (inl x) = absurd x.0
@@ -151,7 +151,7 @@ module _ (laws : OneLaws) (cell : CellLookup) (header : HeaderFile) (area : Area
   w = plan_world area.area plan
 
   abbrev first : Played Saved
-  first = played_first cell header plan scripts n w
+  first = played_first cell header.table plan scripts n w
 
   abbrev unbroken : Played Saved
   unbroken = played cell header.table plan scripts w

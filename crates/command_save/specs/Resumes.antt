@@ -7,7 +7,6 @@ use Rattle.world_rules.specs.Pure.{CellLookup}
 use Rattle.world_rules.specs.World.{World}
 use Rattle.world_rules.specs.Plays.{Played}
 use Rattle.machine_rules.specs.Machine.{Script}
-use Rattle.module_player.specs.CodePlays.{code_play_on}
 use Rattle.state_format.specs.declared.parts.Parts.{Parts}
 use Rattle.state_format.specs.Place.{StateOf, StopsAt}
 use Rattle.play_save.specs.Rules.{IsHeaderOf, IsAccepted, IsUnfit}
@@ -15,7 +14,7 @@ use Rattle.play_save.specs.States.{IsWorldOf}
 use Rattle.command_work.specs.declared.flaw.AreaFlaw.TheVariants as flaw
 use Rattle.command_work.specs.Refusal.{BadArea}
 use Rattle.command_work.specs.Work.{Work, Gives, Refused, Finds, then, Finished, file_named}
-use Rattle.command_plays.specs.Plays.{host_of}
+use Rattle.command_plays.specs.Plays.{played_on}
 use Rattle.command_play.specs.Games.{tells}
 use Rattle.command_save.specs.Saves.{file_of, AreSpelled}
 
@@ -64,7 +63,7 @@ pub record GoesFrom (s : Parts) (g : Going) : Type 0 where
 
 -- the rest of the play, by the limits and counts of its state
 abbrev pub played_rest : CellLookup → Parts → Going → Played Saved
-played_rest cell s g = code_play_on (host_of cell g.table g.scripts) s.limit s.entries s.until (s.entries + 1) s.taken s.done g.world
+played_rest cell s g = played_on cell g.table (s.limit, s.entries, s.until) g.scripts (s.entries + 1) s.taken s.done g.world
 
 -- it is told and written as every play
 unfoldable pub resumes_from : CellLookup → List ℕ → Parts → Going → Work Finished

@@ -1,5 +1,5 @@
 -- A play that is broken off after some entries, and what is saved of it.
-use Rattle.std.specs.Prelude.{◌≡◌, ℕ, Bool, true, false, nat_lt, min, List, map, length, ◌++◌, codes, decimal}
+use Rattle.std.specs.Prelude.{◌≡◌, ℕ, Bool, true, false, nat_lt, List, map, length, ◌++◌, codes, decimal}
 use Rattle.std.specs.List.{AllByRecursion}
 use Rattle.nwq_value.specs.Limits.{file_limit}
 use Rattle.nwq_outside.specs.Outside.{Contents}
@@ -9,10 +9,9 @@ use Rattle.plan_text.specs.declared.plan.Plan.{Plan}
 use Rattle.saved_state.specs.declared.saved.Saved.{Saved}
 use Rattle.world_rules.specs.Pure.{CellLookup}
 use Rattle.world_rules.specs.Trace.{trace_text}
-use Rattle.world_rules.specs.World.{World}
 use Rattle.world_rules.specs.Plays.{PlayEnd, Done, OutOfEntries, StoppedInside, Paused, Progress, Played}
 use Rattle.machine_rules.specs.Machine.{Script}
-use Rattle.module_player.specs.CodePlays.{code_play_on, code_end_text}
+use Rattle.module_player.specs.CodePlays.{code_end_text}
 use Rattle.state_format.specs.declared.parts.Script.{Script as ScriptPart}
 use Rattle.state_format.specs.declared.parts.Parts.{Parts}
 use Rattle.state_format.specs.Parts.{HasForm}
@@ -22,11 +21,11 @@ use Rattle.play_save.specs.States.{resting, IsPlayOf, HasCome, IsWorldOf}
 use Rattle.command_work.specs.declared.flaw.AreaFlaw.TheVariants as flaw
 use Rattle.command_work.specs.declared.status.Status.TheVariants.{Limit}
 use Rattle.command_work.specs.Refusal.{BadArea}
-use Rattle.command_work.specs.Work.{Work, Refused, Ends, Writes, Puts, Finds, then, Finished, puts}
+use Rattle.command_work.specs.Work.{Work, Refused, Ends, Puts, Finds, then, Finished, puts, writes}
 use Rattle.play_inputs.specs.Plans.{plan_named}
 use Rattle.play_inputs.specs.Listings.{scripts_listed}
 use Rattle.play_worlds.specs.Worlds.{plan_world}
-use Rattle.command_plays.specs.Plays.{host_of}
+use Rattle.command_plays.specs.Plays.{limits_of, played_first}
 use Rattle.command_save.specs.declared.inputs.HeaderFile.{HeaderFile}
 use Rattle.command_save.specs.declared.inputs.AreaFile.{AreaFile}
 use Rattle.command_save.specs.Inputs.{header_of, area_named}
@@ -45,7 +44,7 @@ AreSpelled scripts = AllByRecursion (λ (script : Script). IsCode script.code) s
 pub record IsStateAt (header : HeaderFile) (file : List ℕ) (plan : Plan) (scripts : List Script) (p : Progress Saved) (s : Parts) : Type 0 where
   pub form : HasForm s
   pub accepted : IsAccepted s
-  pub play : IsPlayOf s header.text (map file_of scripts) file (plan.limit, plan.entries, plan.until)
+  pub play : IsPlayOf s header.text (map file_of scripts) file (limits_of plan)
   pub spelled : AreSpelled scripts
   pub come : HasCome s p.entries p.count
   pub world : IsWorldOf s (resting p.world)
@@ -56,9 +55,13 @@ pub record IsStateAt (header : HeaderFile) (file : List ℕ) (plan : Plan) (scri
 abbrev pub saved_line : List ℕ → ℕ → List ℕ
 saved_line name entries = codes "saved " ++ escaped name ++ codes " entries " ++ decimal entries ++ codes "\n"
 
+-- bytes are written under this name, and then it is told that they were saved after so many entries
+unfoldable pub state_told : List ℕ → List ℕ → ℕ → Work Finished
+state_told name bytes entries = then (writes name bytes) (λ done. puts (saved_line name entries))
+
 abbrev pub state_by : Bool → List ℕ → List ℕ → ℕ → Work Finished
 state_by true name bytes entries = Refused (BadArea name (flaw.Large (length bytes)))
-state_by false name bytes entries = Writes name bytes (puts (saved_line name entries))
+state_by false name bytes entries = state_told name bytes entries
 
 -- the bytes of a state are written under this name, unless they are more than a file may have; and then it is told
 unfoldable pub state_written : List ℕ → Parts → Work Finished
@@ -76,18 +79,13 @@ saves_by Paused header file plan scripts name p = saves_at header file plan scri
 
 -- ---- the play
 
--- the play of a plan, which is broken off once so many entries were taken, but for the plan's limit
-abbrev pub played_first : CellLookup → HeaderFile → Plan → List Script → ℕ → World Saved → Played Saved
-played_first cell header plan scripts n w =
-    code_play_on (host_of cell header.table scripts) plan.limit plan.entries plan.until (min n plan.entries) 0 0 w
-
 -- the trace stands in front
 abbrev pub saves_played : HeaderFile → List ℕ → Plan → List Script → List ℕ → Played Saved → Work Finished
 saves_played header file plan scripts name p = Puts (trace_text p.last.trace) (saves_by p.ending header file plan scripts name p)
 
 unfoldable pub saves_plan : CellLookup → HeaderFile → Plan → List Script → ℕ → List ℕ → AreaFile → Work Finished
 saves_plan cell header plan scripts n name area =
-    saves_played header area.bytes plan scripts name (played_first cell header plan scripts n (plan_world area.area plan))
+    saves_played header area.bytes plan scripts name (played_first cell header.table plan scripts n (plan_world area.area plan))
 
 -- ---- the command: a play's files are read in its order
 

@@ -11,7 +11,7 @@ use Rattle.command_work.specs.declared.flaw.AreaFlaw.{AreaFlaw}
 use Rattle.command_work.specs.declared.flaw.AreaFlaw.TheVariants as flaw
 use Rattle.command_work.specs.Refusal.{BadArea}
 use Rattle.command_work.specs.Work.{Work, Gives, Refused, Finds, then}
-use Rattle.command_files.specs.Trees.{tree_named}
+use Rattle.command_files.specs.Trees.{tree_in, tree_named}
 
 -- what is wrong with a tree that is no area
 abbrev pub area_flaw : AreaFault → Option AreaFlaw
@@ -41,3 +41,7 @@ area_in name tree = Finds (λ (c : Contents) fate. IsAreaFate tree.top fate) (ar
 -- the area in the file of this name
 unfoldable pub area_named : List ℕ → Work PlainArea
 area_named name = then (tree_named name) (area_in name)
+
+-- the area in bytes, which are those of the file of this name
+unfoldable pub area_of_bytes : List ℕ → List ℕ → Work PlainArea
+area_of_bytes name bytes = then (tree_in name bytes) (area_in name)

@@ -1,0 +1,187 @@
+//! What is saved of a play, and how a play ends that is saved.
+ghost use Rattle.std.specs.Prelude.{◌≡◌, ◌<◌, ◌≤◌, ◌^◌, ℕ, None, map, length, IsTrue, IfOk, IfErr};
+ghost use Rattle.std.specs.Option.{option_map};
+ghost use Rattle.plan_text.specs.Plans.{IsPlan};
+ghost use Rattle.saved_state.specs.declared.saved.Saved.{Saved as SavedView};
+ghost use Rattle.world_rules.specs.Plays.{Progress, Played as PlayedView};
+ghost use Rattle.ncs_machine.specs.Host.{scripts_of};
+ghost use Rattle.module_player.specs.CodePlays.{code_end_text};
+ghost use Rattle.module_player.specs.EndTexts.{HasText, IsEnding};
+ghost use Rattle.play_save.specs.States.{MayCount, MayList, MayRest};
+ghost use Rattle.nwq_outside.specs.Outside.{Contents};
+ghost use Rattle.nwq_outside.specs.declared.counts.FileCounts.{FileCounts};
+ghost use Rattle.command_work.specs.Work.{Does, Ends, Puts};
+ghost use Rattle.command_work.specs.Counts.{Counted, Tallies, Refusing, KeepsBut};
+ghost use Rattle.command_plays.specs.Plays.{limits_of};
+ghost use Rattle.command_plays.specs.Tellings.{cut_of};
+ghost use Rattle.command_play.specs.Tellings.{StopsGame};
+ghost use Rattle.command_save.specs.Saves.{IsStateAt, saves_at, saves_by};
+ghost use Rattle.command_save.specs.Tellings.{IsProgress, WhereBroken, MaySave};
+
+use crate::inputs::HeaderFile;
+use crate::written::write_state;
+use command_play::tell_limit;
+use command_work::Status;
+use module_player::{How, Played, end_text};
+use ncs_machine::Scripts;
+use nwq_outside::{Files, Sink};
+use nwq_value::{Items, NoMemory};
+use plan_text::Plan;
+use play_save::State;
+use saved_state::Saved;
+use std::alloc::Global;
+use world_core::World;
+
+/// The text of a header, where it has one.
+fn text_of(header: HeaderFile) -> Option<Vec<u8>>
+    ensures text { option_map (λ text. text.items) result ≡ header.text }
+{
+    let HeaderFile { text, table } = header;
+    drop(table);
+    match text {
+        None => None,
+        Some(text) => Some(text.into_vec()),
+    }
+}
+
+/// The state of a play that isn't inside an entry.
+#[tactic(auto, using(crate::proofs::StateLemmas::states))]
+fn take_state(
+    alloc: Global,
+    header: HeaderFile,
+    file: Items<u8>,
+    plan: &Plan,
+    scripts: &Scripts,
+    world: World<Saved>,
+    played: &Played,
+) -> Result<State, NoMemory>
+    requires plan { IsPlan plan.now }
+    requires listed { MayList header.text scripts.now }
+    requires rests { MayRest scripts.now file world.world }
+    requires come { MayCount (limits_of plan.now) world.world
+        played.now.entries played.now.instructions }
+    ensures state { (p : Progress SavedView) → IsProgress played.now world.world p →
+        IfOk result (λ s. IsStateAt header file plan.now (scripts_of scripts.now) p s) }
+    ensures taken { IfOk result (λ s. s.taken ≡ played.now.entries) }
+{
+    let limits = (plan.limit, plan.entries, plan.until);
+    let header = text_of(header);
+    let state = State::of(
+        alloc,
+        header,
+        scripts,
+        file.into_vec(),
+        world,
+        limits,
+        played.entries,
+        played.instructions,
+    )?;
+    state.keeps();
+    Ok(state)
+}
+
+/// Saves a play that isn't inside an entry in the file of this name.
+#[tactic(auto, using(crate::proofs::StateLemmas::saves))]
+fn save_state<F: Files, S: Sink>(
+    alloc: Global,
+    header: HeaderFile,
+    file: Items<u8>,
+    plan: &Plan,
+    scripts: &Scripts,
+    world: World<Saved>,
+    played: &Played,
+    name: &str,
+    files: &mut F,
+    out: &mut S,
+) -> Result<(), Status>
+    requires plan { IsPlan plan.now }
+    requires listed { MayList header.text scripts.now }
+    requires rests { MayRest scripts.now file world.world }
+    requires come { MayCount (limits_of plan.now) world.world
+        played.now.entries played.now.instructions }
+    ensures does { IsTrue F.tells → IsTrue S.tells → (p : Progress SavedView) →
+        IsProgress played.now world.world p →
+        Does (saves_at header file plan.now (scripts_of scripts.now) name.now p)
+        (F.contents files.old) (S.taken out.old)
+        result (F.contents files.new) (S.taken out.new) }
+    ensures counts { Tallies result (Counted (F.counts files.old) (S.faults out.old))
+        (Counted (F.counts files.new) (S.faults out.new)) }
+    ensures names { KeepsBut (λ other. other ≡ name.now)
+        (F.contents files.old) (F.contents files.new) }
+    ensures only { IfErr result (Refusing Status.Area) }
+{
+    match take_state(alloc, header, file, plan, scripts, world, played) {
+        Err(NoMemory) => Err(Status::Memory),
+        Ok(state) => write_state(alloc, name, &state, played.entries, files, out),
+    }
+}
+
+/// Tells the end of a play that a limit ended inside an entry.
+#[tactic(auto, using(crate::proofs::StateLemmas::stopped))]
+fn tell_stopped<S: Sink>(
+    alloc: Global,
+    world: World<Saved>,
+    scripts: &Scripts,
+    played: &Played,
+    out: &mut S,
+) -> Result<(), Status>
+    requires told { HasText played.now.how }
+    ensures does { IsTrue S.tells → (c : Contents) → (p : PlayedView SavedView) →
+        IsEnding played.now p world.world →
+        Does (Puts (code_end_text (scripts_of scripts.now) p) (Ends Status.Limit))
+        c (S.taken out.old) result c (S.taken out.new) }
+    ensures counts { (counts : FileCounts) → Tallies result (Counted counts (S.faults out.old))
+        (Counted counts (S.faults out.new)) }
+    ensures only { IfErr result (Refusing Status.Limit) }
+{
+    match end_text(alloc, world, scripts, played) {
+        Err(NoMemory) => Err(Status::Memory),
+        Ok((area, text)) => {
+            drop(area);
+            tell_limit(text, out)
+        }
+    }
+}
+
+/// Saves a play as it was broken off, unless that was inside an entry.
+#[tactic(auto, using(crate::proofs::StateLemmas::endings))]
+pub(crate) fn save_broken<F: Files, S: Sink>(
+    alloc: Global,
+    header: HeaderFile,
+    file: Items<u8>,
+    plan: &Plan,
+    scripts: &Scripts,
+    world: World<Saved>,
+    played: &Played,
+    name: &str,
+    files: &mut F,
+    out: &mut S,
+) -> Result<(), Status>
+    requires plan { IsPlan plan.now }
+    requires listed { MayList header.text scripts.now }
+    requires told { cut_of played.now.how ≡ None }
+    requires broken { WhereBroken played.now.how
+        (MaySave scripts.now file (limits_of plan.now) world.world played.now) }
+    ensures does { IsTrue F.tells → IsTrue S.tells → (p : PlayedView SavedView) →
+        IsEnding played.now p world.world →
+        Does (saves_by p.ending header file plan.now (scripts_of scripts.now) name.now p)
+        (F.contents files.old) (S.taken out.old)
+        result (F.contents files.new) (S.taken out.new) }
+    ensures counts { Tallies result (Counted (F.counts files.old) (S.faults out.old))
+        (Counted (F.counts files.new) (S.faults out.new)) }
+    ensures names { KeepsBut (λ other. other ≡ name.now)
+        (F.contents files.old) (F.contents files.new) }
+    ensures only { IfErr result StopsGame }
+{
+    match played.how {
+        How::Done | How::EntryStop | How::Pause => save_state(
+            alloc, header, file, plan, scripts, world, played, name, files, out,
+        ),
+        How::InstrStop => {
+            drop(header);
+            drop(file);
+            tell_stopped(alloc, world, scripts, played, out)
+        }
+        How::Fault | How::NoMemory => unreachable!(),
+    }
+}
