@@ -1,7 +1,8 @@
 ghost use Rattle.std.specs.Prelude.{◌≡◌, ◌++◌, ℕ, length, codes, decimal, IsTrue, IfOk, IfErr};
 ghost use Rattle.nwq_outside.specs.Outside.{Contents};
+ghost use Rattle.stack_rules.specs.Tables.{ShapeTable};
 ghost use Rattle.stack_rules.specs.Rules.{MeetsRules};
-ghost use Rattle.stack_check.specs.Checked.{kept_table};
+ghost use Rattle.stack_check.specs.Checked.{StoredStand, kept_table};
 ghost use Rattle.nwq_outside.specs.declared.counts.FileCounts.{FileCounts};
 ghost use Rattle.command_work.specs.Work.{Does, CutsShort};
 ghost use Rattle.command_work.specs.Counts.{Counted, Tallies, Refusing, StopsCode};
@@ -35,6 +36,9 @@ pub fn check_code<S: Sink>(
         (Counted counts (S.faults out.new)) }
     ensures meets { IfOk result (λ checked.
         MeetsRules table.now checked.code (kept_table checked)) }
+    // What it says of stored states stands in every table that meets the rules.
+    ensures stored { IfOk result (λ checked. (other : ShapeTable) →
+        MeetsRules table.now checked.code other → StoredStand (kept_table checked) other) }
     ensures only { IfErr result (Refusing Status.Code) }
 {
     match check(alloc, code, table) {
@@ -62,6 +66,9 @@ pub fn read_checked<F: Files, S: Sink>(
     // The code is well stacked by the table that is kept.
     ensures meets { IfOk result (λ checked.
         MeetsRules table.now checked.code (kept_table checked)) }
+    // What it says of stored states stands in every table that meets the rules.
+    ensures stored { IfOk result (λ checked. (other : ShapeTable) →
+        MeetsRules table.now checked.code other → StoredStand (kept_table checked) other) }
     ensures only { IfErr result StopsCode }
 {
     match read_code(alloc, name, files, out) {

@@ -22,4 +22,4 @@ pub use check::{check_code, check_file, read_checked};
 pub use code::{code_of_bytes, read_code};
 pub use commands::{assemble_file, disassemble_file, show_tree, write_and_put};
 pub use load::load_checked;
-pub use tree::read_tree;
+pub use tree::{read_tree, tree_of_bytes};

@@ -2,8 +2,9 @@
 ghost use Rattle.std.specs.Prelude.{◌≤◌, ℕ, length, IsTrue, IfOk, IfErr};
 ghost use Rattle.nwq_value.specs.Limits.{file_limit};
 ghost use Rattle.nwq_outside.specs.Outside.{Contents};
+ghost use Rattle.stack_rules.specs.Tables.{ShapeTable};
 ghost use Rattle.stack_rules.specs.Rules.{MeetsRules};
-ghost use Rattle.stack_check.specs.Checked.{kept_table};
+ghost use Rattle.stack_check.specs.Checked.{StoredStand, kept_table};
 ghost use Rattle.nwq_outside.specs.declared.counts.FileCounts.{FileCounts};
 ghost use Rattle.command_work.specs.Work.{Does};
 ghost use Rattle.command_work.specs.Counts.{Counted, Tallies, Refusing};
@@ -34,6 +35,9 @@ pub fn load_checked<S: Sink>(
         (Counted counts (S.faults out.new)) }
     ensures meets { IfOk result (λ checked.
         MeetsRules table.now checked.code (kept_table checked)) }
+    // What it says of stored states stands in every table that meets the rules.
+    ensures stored { IfOk result (λ checked. (other : ShapeTable) →
+        MeetsRules table.now checked.code other → StoredStand (kept_table checked) other) }
     ensures only { IfErr result (Refusing Status.Code) }
 {
     match code_of_bytes(alloc, name, bytes, out) {

@@ -4,6 +4,7 @@ ghost use Rattle.nwq_outside.specs.Outside.{Contents};
 ghost use Rattle.gff_bytes.specs.File.{open_fault};
 ghost use Rattle.gff_tree.specs.Whole.{plain_gff};
 ghost use Rattle.gff_tree.specs.Count.{node_count};
+ghost use Rattle.gff_read.specs.Stands.{Stands};
 ghost use Rattle.nwq_outside.specs.declared.counts.FileCounts.{FileCounts};
 ghost use Rattle.command_work.specs.Work.{Does};
 ghost use Rattle.command_work.specs.Counts.{Counted, Tallies, Refusing, StopsArea};
@@ -56,6 +57,7 @@ fn tree_of_view<S: Sink>(
         (S.taken out.old) (plain_answer result) c (S.taken out.new) }
     ensures counts { (counts : FileCounts) → Tallies result (Counted counts (S.faults out.old))
         (Counted counts (S.faults out.new)) }
+    ensures stands { IfOk result (λ tree. Stands view.now (plain_gff tree)) }
     // The structs of a tree can be numbered by 32 bits.
     ensures few { IfOk result (λ tree. node_count (plain_gff tree).top < 4294967296) }
     ensures only { IfErr result (Refusing Status.Area) }
@@ -71,7 +73,7 @@ fn tree_of_view<S: Sink>(
 
 /// The tree in the bytes of the file of this name.
 #[tactic(auto, using(crate::proofs::TreeLemmas::unopened_does))]
-fn tree_of_bytes<S: Sink>(
+pub fn tree_of_bytes<S: Sink>(
     alloc: Global,
     name: &[u8],
     bytes: &[u8],
@@ -83,6 +85,8 @@ fn tree_of_bytes<S: Sink>(
         (S.taken out.old) (plain_answer result) c (S.taken out.new) }
     ensures counts { (counts : FileCounts) → Tallies result (Counted counts (S.faults out.old))
         (Counted counts (S.faults out.new)) }
+    // What is read is what the bytes stand for.
+    ensures stands { IfOk result (λ tree. Stands bytes.now (plain_gff tree)) }
     // The structs of a tree can be numbered by 32 bits.
     ensures few { IfOk result (λ tree. node_count (plain_gff tree).top < 4294967296) }
     ensures only { IfErr result (Refusing Status.Area) }

@@ -1,8 +1,9 @@
-ghost use Rattle.std.specs.Prelude.{◌≡◌, ◌≤◌, ℕ, List, length, IsTrue, IfErr, Err, bytes_eq, codes};
+ghost use Rattle.std.specs.Prelude.{◌≡◌, ◌≤◌, ℕ, List, length, IsTrue, IfOk, IfErr, Err};
+ghost use Rattle.std.specs.Prelude.{bytes_eq, codes};
 ghost use Rattle.nwq_value.specs.Limits.{file_limit};
 ghost use Rattle.nwq_value.specs.Engine.{EngineTable};
 ghost use Rattle.nwq_outside.specs.Outside.{Contents};
-ghost use Rattle.engine_table.specs.Headers.{IsRefused, IsWithin};
+ghost use Rattle.engine_table.specs.Headers.{HasTable, IsRefused, IsWithin};
 ghost use Rattle.nwq_outside.specs.declared.counts.FileCounts.{FileCounts};
 ghost use Rattle.command_work.specs.Work.{Does};
 ghost use Rattle.command_work.specs.Counts.{Counted, Tallies, TalliesEnd, Refusing, StopsSource};
@@ -47,7 +48,7 @@ fn refuse_header<S: Sink>(
 
 /// The table of a header's text, which is that of the file of this name.
 #[tactic(auto, using(crate::proofs::HeaderLemmas::table_does))]
-fn table_of_text<S: Sink>(
+pub fn table_of_text<S: Sink>(
     alloc: Global,
     name: &[u8],
     bytes: &[u8],
@@ -58,6 +59,7 @@ fn table_of_text<S: Sink>(
         Does (table_in name.now bytes.now) c (S.taken out.old) result c (S.taken out.new) }
     ensures counts { (counts : FileCounts) → Tallies result (Counted counts (S.faults out.old))
         (Counted counts (S.faults out.new)) }
+    ensures has { IfOk result (HasTable bytes.now) }
     ensures only { IfErr result (Refusing Status.Script) }
 {
     match read_header(alloc, bytes) {

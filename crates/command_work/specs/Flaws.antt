@@ -45,3 +45,5 @@ area_flaw_text (area.Label field) = codes "label " ++ decimal field
 area_flaw_text (area.Shape list member entry) = shape_text list member entry
 area_flaw_text (area.Line number) = codes "line " ++ decimal number
 area_flaw_text (area.Large size) = codes "large " ++ decimal size
+area_flaw_text (area.State at) = codes "state " ++ decimal at
+area_flaw_text (area.Unfit rule) = codes "unfit " ++ decimal rule

@@ -15,7 +15,7 @@ pub data Refusal : Type 0 where
   TooLong : (name : List ℕ) → Refusal
   At : (name : List ℕ) (line place : ℕ) (cause : Cause) → Refusal  -- a script's or header's text, in this file
   BadCode : (name : List ℕ) (flaw : CodeFlaw) → Refusal  -- a file of bytecode, or an assembler text
-  BadArea : (name : List ℕ) (flaw : AreaFlaw) → Refusal  -- a GFF file, the area in it, a plan, a table or a list of tables
+  BadArea : (name : List ℕ) (flaw : AreaFlaw) → Refusal  -- a GFF file, the area in it, a plan, a table or a list of tables, a state
 
 abbrev pub cause_word : Cause → List ℕ
 cause_word cause.Bad = codes "bad"

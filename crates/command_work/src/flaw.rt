@@ -33,7 +33,7 @@ pub enum CodeFlaw {
     Large(u64),
 }
 
-/// Why a GFF file, the area in it, or a plan is refused.
+/// Why a GFF file, the area in it, a plan, a table or the state of a play is refused.
 #[derive(Clone, Copy)]
 pub enum AreaFlaw {
     /// The file is too short for a header.
@@ -57,8 +57,12 @@ pub enum AreaFlaw {
     Shape { list: u8, member: u32, entry: u32 },
     /// The line of this number is no line of a plan.
     Line(u64),
-    /// The file of the tree would have so many bytes, more than a file may have.
+    /// The file of the tree or state would have so many bytes, more than a file may have.
     Large(u64),
+    /// The bytes stop being those of a state at this offset.
+    State(u64),
+    /// The state breaks the rule of this number, from 1 on.
+    Unfit(u8),
 }
 
 fn word_of(part: Part) -> &'static str
@@ -108,7 +112,7 @@ fn put_shape(out: &mut Vec<u8>, list: u8, member: u32, entry: u32) -> Result<(),
     put_numbered(out, " ", u64::from(entry))
 }
 
-/// Appends the words for what is wrong with an area, its file or a plan.
+/// Appends the words for what is wrong with an area, its file, a plan, a table or a state.
 pub(crate) fn put_area_flaw(out: &mut Vec<u8>, flaw: AreaFlaw) -> Result<(), NoMemory>
     ensures { OnOk result (out.new.items ≡ out.old.items ++ area_flaw_text flaw) }
 {
@@ -128,5 +132,7 @@ pub(crate) fn put_area_flaw(out: &mut Vec<u8>, flaw: AreaFlaw) -> Result<(), NoM
         } => put_shape(out, list, member, entry),
         AreaFlaw::Line(number) => put_numbered(out, "line ", number),
         AreaFlaw::Large(size) => put_numbered(out, "large ", size),
+        AreaFlaw::State(at) => put_numbered(out, "state ", at),
+        AreaFlaw::Unfit(rule) => put_numbered(out, "unfit ", u64::from(rule)),
     }
 }

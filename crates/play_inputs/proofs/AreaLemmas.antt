@@ -1,5 +1,5 @@
 -- What comes of a tree does the work of its area.
-use Rattle.std.proofs.Common.{◌≡◌, ℕ, inl, List, [], ◌∷◌, Some, None, Result, Ok, Err, refl, ap, subst}
+use Rattle.std.proofs.Common.{◌≡◌, ℕ, inl, List, [], ◌∷◌, Some, None, Result, Ok, Err, refl, sym, ap, subst}
 use Rattle.nwq_outside.specs.Outside.{Contents}
 use Rattle.gff_tree.specs.declared.tree.Gff.{Gff}
 use Rattle.gff_tree.specs.Whole.{PlainGff, plain_gff}
@@ -13,7 +13,8 @@ use Rattle.command_work.specs.declared.status.Status.TheVariants.{Memory}
 use Rattle.command_work.specs.Refusal.{BadArea}
 use Rattle.command_work.specs.Work.{Does}
 use Rattle.command_work.specs.Parts.{Refuses, cut_here, finds_one, refused}
-use Rattle.play_inputs.specs.Areas.{area_flaw, place_flaw, AreaFate, Whole, Broken, IsAreaFate, whole, broken, area_by, area_in}
+use Rattle.play_inputs.specs.Areas.{area_flaw, place_flaw, AreaFate, Whole, Broken, IsAreaFate, whole, broken, area_by, area_in, TellsArea}
+use Rattle.gff_read.specs.Stands.{Stands}
 
 none_some : (why : AreaFlaw) → Some why ≡ None → ⊥
 none_some why e = let none : ⊥ = cc in none
@@ -45,5 +46,9 @@ module _ (name : List ℕ) (c : Contents) where
 
   pub area_cut : (tree : PlainGff) (t : List ℕ) → Does (area_in name tree) c t (Err Memory) c t
   area_cut tree t = cut_here (area_in name tree) Memory c c t t tt refl refl
+
+-- what stands for a tree that breaks no rule tells its area
+pub tells : (bytes : List ℕ) (tree : PlainGff) (area : PlainArea) → Stands bytes tree → (broken_places tree.top ≡ []) × (area ≡ area_of tree) → TellsArea bytes area
+tells bytes tree area stands read = subst (TellsArea bytes) (sym read.1) (record { stands = stands; whole = read.0; is = refl })
 
 pub ruleset areas = (area_does, area_broken, area_cut)

@@ -1,16 +1,18 @@
 -- Scripts are listed one after the other: what is left, from here, does what the whole does from the start.
-use Rattle.std.proofs.Common.{◌≡◌, ◌<◌, ◌≤◌, ◌+◌, ℕ, zero, suc, Bool, inl, inr, List, [], ◌∷◌, ◌++◌, length, get_or, drop, Some, Result, Ok, Err, IsTrue, refl, sym, ap, ◌∙◌, subst, arith}
+use Rattle.std.proofs.Common.{◌≡◌, ◌<◌, ◌≤◌, ◌+◌, ℕ, zero, suc, Bool, inl, inr, List, [], ◌∷◌, ◌++◌, length, get_or, drop, take, Some, Result, Ok, Err, IsTrue, refl, sym, ap, ◌∙◌, subst, arith, append_assoc}
 use Rattle.std.proofs.Math.Seq.{drop-cons}
-use Rattle.std.proofs.lemmas.List.{drop_all, map_push, length-append}
+use Rattle.std.proofs.lemmas.List.{drop_all, map_push, length-append, take_more, take_all}
+use mathlib.Core.List.{append-nil}
 use Rattle.nwq_value.specs.Engine.{EngineTable}
 use Rattle.nwq_outside.specs.Outside.{Contents}
 use Rattle.plan_text.specs.declared.plan.Script.{Script as ScriptLine}
 use Rattle.nwq_text.specs.Names.{is_script_name}
 use Rattle.plan_text.specs.Plans.{AreListed}
 use Rattle.machine_rules.specs.Machine.{Script}
+use Rattle.stack_rules.specs.Tables.{ShapeTable}
 use Rattle.stack_rules.specs.Rules.{MeetsRules}
 use Rattle.stack_rules.specs.Laws.{AllMeet}
-use Rattle.stack_check.specs.Checked.{kept_table}
+use Rattle.stack_check.specs.Checked.{StoredStand, kept_table}
 use Rattle.ncs_machine.specs.Host.{script_of, scripts_of, tables_of}
 use Rattle.ncs_machine.specs.declared.scripts.Loaded.{Loaded}
 use Rattle.command_work.specs.declared.status.Status.{Status}
@@ -18,7 +20,7 @@ use Rattle.command_work.specs.declared.status.Status.TheVariants.{Memory}
 use Rattle.command_work.specs.Work.{Does}
 use Rattle.command_work.specs.Counts.{KeepsBut}
 use Rattle.command_work.specs.Parts.{cut_here, then_ok, then_err}
-use Rattle.play_inputs.specs.Listings.{script_in, lists_on, IsOwnFile, IsSourceFile}
+use Rattle.play_inputs.specs.Listings.{script_in, lists_on, IsOwnFile, IsSourceFile, AllStand, line_names, loaded_names}
 
 -- ---- the work
 
@@ -90,11 +92,36 @@ meets_more header [] x all one (suc n) script is = absurd cc
 meets_more header (y ∷ loaded) x all one zero script is = all zero script is
 meets_more header (y ∷ loaded) x all one (suc n) script is = meets_more header loaded x (λ m s e. all (suc m) s e) one n script is
 
+pub stands_more : (header : EngineTable) (loaded : List Loaded) (x : Loaded) → AllStand header (scripts_of loaded) (tables_of loaded)
+    → ((other : ShapeTable) → MeetsRules header x.code.code other → StoredStand (kept_table x.code) other)
+    → AllStand header (scripts_of (loaded ++ x ∷ [])) (tables_of (loaded ++ x ∷ []))
+stands_more header [] x all one zero script other is meets = one other (subst (λ s. MeetsRules header s.code other) (sym (some_same is)) meets)
+stands_more header [] x all one (suc n) script other is meets = absurd cc
+stands_more header (y ∷ loaded) x all one zero script other is meets = all zero script other is meets
+stands_more header (y ∷ loaded) x all one (suc n) script other is meets =
+    stands_more header loaded x (λ m s o e. all (suc m) s o e) one n script other is meets
+
 -- the same by how the list is now
 module _ (loaded now : List Loaded) (x : Loaded) (is : now ≡ loaded ++ x ∷ []) where
   pub meets_on : (header : EngineTable) → AllMeet header (scripts_of loaded) (tables_of loaded) → MeetsRules header x.code.code (kept_table x.code)
       → AllMeet header (scripts_of now) (tables_of now)
   meets_on header all one = subst (λ l. AllMeet header (scripts_of l) (tables_of l)) (sym is) (meets_more header loaded x all one)
+
+  pub stands_on : (header : EngineTable) → AllStand header (scripts_of loaded) (tables_of loaded)
+      → ((other : ShapeTable) → MeetsRules header x.code.code other → StoredStand (kept_table x.code) other)
+      → AllStand header (scripts_of now) (tables_of now)
+  stands_on header all one = subst (λ l. AllStand header (scripts_of l) (tables_of l)) (sym is) (stands_more header loaded x all one)
+
+  -- the names go on with that of the next line
+  pub names_on : (first : List Loaded) (lines : List ScriptLine) (i : ℕ) (line d : ScriptLine) → i < length lines → line ≡ get_or lines i d → x.name ≡ line.name
+      → loaded_names loaded ≡ loaded_names first ++ line_names (take i lines) → loaded_names now ≡ loaded_names first ++ line_names (take (i + 1) lines)
+  names_on first lines i line d lt at same so =
+      let more : line_names (take (i + 1) lines) ≡ line_names (take i lines) ++ line.name ∷ [] =
+      ap line_names (take_more lines i d lt) ∙ (map_push (λ (l : ScriptLine). l.name) (take i lines) (get_or lines i d)
+      ∙ ap (λ (l : ScriptLine). line_names (take i lines) ++ l.name ∷ []) (sym at)) in
+      ap loaded_names is ∙ (map_push (λ (l : Loaded). l.name) loaded x
+      ∙ (ap (λ n. loaded_names loaded ++ n ∷ []) same ∙ (ap (λ ns. ns ++ line.name ∷ []) so
+      ∙ (sym (append_assoc (loaded_names first) (line_names (take i lines)) (line.name ∷ [])) ∙ ap (λ ns. loaded_names first ++ ns) (sym more)))))
 
   pub scripts_on : scripts_of now ≡ scripts_of loaded ++ script_of x ∷ []
   scripts_on = ap scripts_of is ∙ scripts_more loaded x
@@ -104,6 +131,18 @@ module _ (loaded now : List Loaded) (x : Loaded) (is : now ≡ loaded ++ x ∷ [
 
 pub none_meet : (header : EngineTable) → AllMeet header [] (tables_of [])
 none_meet header n script is = absurd cc
+
+pub none_stand : (header : EngineTable) → AllStand header [] (tables_of [])
+none_stand header n script other is meets = absurd cc
+
+-- all lines are there
+pub names_done : (first loaded : List Loaded) (lines : List ScriptLine) (i : ℕ) → length lines ≤ i
+    → loaded_names loaded ≡ loaded_names first ++ line_names (take i lines) → loaded_names loaded ≡ loaded_names first ++ line_names lines
+names_done first loaded lines i over so = so ∙ ap (λ ls. loaded_names first ++ line_names ls) (take_all i lines over)
+
+-- none are, before the first
+pub names_begin : (first : List Loaded) (lines : List ScriptLine) → loaded_names first ≡ loaded_names first ++ line_names (take 0 lines)
+names_begin first lines = sym (append-nil (loaded_names first))
 
 -- ---- names
 

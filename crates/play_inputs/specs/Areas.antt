@@ -3,6 +3,7 @@ use Rattle.std.specs.Prelude.{◌≡◌, ℕ, List, [], ◌∷◌, Option, Some,
 use Rattle.nwq_outside.specs.Outside.{Contents}
 use Rattle.gff_tree.specs.Tree.{PlainNode}
 use Rattle.gff_tree.specs.Whole.{PlainGff}
+use Rattle.gff_read.specs.Stands.{Stands}
 use Rattle.area_rules.specs.declared.fault.AreaFault.{AreaFault}
 use Rattle.area_rules.specs.declared.fault.AreaFault.TheVariants as fault
 use Rattle.area_rules.specs.Broken.{Place, broken_places}
@@ -38,10 +39,16 @@ area_by name tree (Broken place) = Refused (BadArea name (place_flaw place))
 unfoldable pub area_in : List ℕ → PlainGff → Work PlainArea
 area_in name tree = Finds (λ (c : Contents) fate. IsAreaFate tree.top fate) (area_by name tree)
 
+-- the area in the bytes of the file of this name
+unfoldable pub area_of_bytes : List ℕ → List ℕ → Work PlainArea
+area_of_bytes name bytes = then (tree_in name bytes) (area_in name)
+
+-- The bytes stand for the tree of this area, which breaks no rule.
+pub record TellsArea (bytes : List ℕ) (area : PlainArea) : Type 0 where
+  pub stands : Stands bytes area.tree
+  pub whole : broken_places area.tree.top ≡ []
+  pub is : area ≡ area_of area.tree
+
 -- the area in the file of this name
 unfoldable pub area_named : List ℕ → Work PlainArea
 area_named name = then (tree_named name) (area_in name)
-
--- the area in bytes, which are those of the file of this name
-unfoldable pub area_of_bytes : List ℕ → List ℕ → Work PlainArea
-area_of_bytes name bytes = then (tree_in name bytes) (area_in name)

@@ -1,15 +1,18 @@
-ghost use Rattle.std.specs.Prelude.{◌≡◌, ◌<◌, ℕ, IsTrue, IfErr};
+ghost use Rattle.std.specs.Prelude.{◌≡◌, ◌<◌, ◌≤◌, ℕ, [], length, IsTrue, IfOk, IfErr};
+ghost use Rattle.nwq_value.specs.Limits.{file_limit};
 ghost use Rattle.nwq_outside.specs.Outside.{Contents};
 ghost use Rattle.gff_tree.specs.Whole.{plain_gff};
 ghost use Rattle.gff_tree.specs.Count.{node_count};
+ghost use Rattle.area_rules.specs.Area.{area_of};
+ghost use Rattle.area_rules.specs.Broken.{broken_places};
 ghost use Rattle.nwq_outside.specs.declared.counts.FileCounts.{FileCounts};
 ghost use Rattle.command_work.specs.Work.{Does};
 ghost use Rattle.command_work.specs.Counts.{Counted, Tallies, Refusing, StopsArea};
-ghost use Rattle.play_inputs.specs.Areas.{area_flaw, area_in, area_named};
+ghost use Rattle.play_inputs.specs.Areas.{area_flaw, area_in, area_named, area_of_bytes, TellsArea};
 
 use area_rules::AreaFault;
 use area_tree::Area;
-use command_files::read_tree;
+use command_files::{read_tree, tree_of_bytes};
 use command_work::{AreaFlaw, Status, refuse_area};
 use gff_tree::Gff;
 use nwq_outside::{Files, Sink};
@@ -40,6 +43,8 @@ fn area_of_tree<S: Sink>(alloc: Global, name: &[u8], tree: Gff, out: &mut S) -> 
     ensures does { IsTrue S.tells → (c : Contents) →
         Does (area_in name.now (plain_gff tree)) c
         (S.taken out.old) result c (S.taken out.new) }
+    ensures area { IfOk result (λ area. (broken_places (plain_gff tree).top ≡ [])
+        × (area ≡ area_of (plain_gff tree))) }
     ensures counts { (counts : FileCounts) → Tallies result (Counted counts (S.faults out.old))
         (Counted counts (S.faults out.new)) }
     ensures only { IfErr result (Refusing Status.Area) }
@@ -50,6 +55,28 @@ fn area_of_tree<S: Sink>(alloc: Global, name: &[u8], tree: Gff, out: &mut S) -> 
             Some(flaw) => Err(refuse_area(alloc, name, flaw, out)),
             None => Err(Status::Memory),
         },
+    }
+}
+
+/// The area in the bytes of the GFF file of this name.
+#[tactic(auto, using(crate::proofs::Steps::steps, crate::proofs::AreaLemmas::tells), unfolding(crate::specs::Areas::area_of_bytes))]
+pub fn area_of_bytes<S: Sink>(
+    alloc: Global,
+    name: &[u8],
+    bytes: &[u8],
+    out: &mut S,
+) -> Result<Area, Status>
+    requires size { length bytes.now ≤ file_limit }
+    ensures does { IsTrue S.tells → (c : Contents) →
+        Does (area_of_bytes name.now bytes.now) c (S.taken out.old) result c (S.taken out.new) }
+    ensures counts { (counts : FileCounts) → Tallies result (Counted counts (S.faults out.old))
+        (Counted counts (S.faults out.new)) }
+    ensures tells { IfOk result (TellsArea bytes.now) }
+    ensures only { IfErr result (Refusing Status.Area) }
+{
+    match tree_of_bytes(alloc, name, bytes, out) {
+        Err(status) => Err(status),
+        Ok(tree) => area_of_tree(alloc, name, tree, out),
     }
 }
 

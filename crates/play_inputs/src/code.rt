@@ -2,8 +2,9 @@
 ghost use Rattle.std.specs.Prelude.{◌≡◌, ◌≤◌, ℕ, false, length, string_bytes, IsTrue, IfOk, IfErr};
 ghost use Rattle.nwq_value.specs.Limits.{file_limit};
 ghost use Rattle.nwq_text.specs.Names.{is_script_name};
+ghost use Rattle.stack_rules.specs.Tables.{ShapeTable};
 ghost use Rattle.stack_rules.specs.Rules.{MeetsRules};
-ghost use Rattle.stack_check.specs.Checked.{kept_table};
+ghost use Rattle.stack_check.specs.Checked.{StoredStand, kept_table};
 ghost use Rattle.command_work.specs.Work.{Does};
 ghost use Rattle.command_work.specs.Counts.{Counted, Tallies, KeepsBut};
 ghost use Rattle.command_files.specs.Checks.{plain_answer};
@@ -50,6 +51,8 @@ fn write_loaded<F: Files, S: Sink>(
         (F.contents files.old) (F.contents files.new) }
     ensures meets { IfOk result (λ checked.
         MeetsRules table.now checked.code (kept_table checked)) }
+    ensures stored { IfOk result (λ checked. (other : ShapeTable) →
+        MeetsRules table.now checked.code other → StoredStand (kept_table checked) other) }
     ensures only { IfErr result StopsListing }
 {
     match write_file(file, bytes.as_slice(), files) {
@@ -81,6 +84,8 @@ fn read_source<F: Files, S: Sink>(
         (F.contents files.old) (F.contents files.new) }
     ensures meets { IfOk result (λ checked.
         MeetsRules table.now checked.code (kept_table checked)) }
+    ensures stored { IfOk result (λ checked. (other : ShapeTable) →
+        MeetsRules table.now checked.code other → StoredStand (kept_table checked) other) }
     ensures only { IfErr result StopsListing }
 {
     match read_compiled(alloc, table, name, files, out) {
@@ -110,6 +115,8 @@ fn read_by<F: Files, S: Sink>(
         (F.contents files.old) (F.contents files.new) }
     ensures meets { IfOk result (λ checked.
         MeetsRules table.now checked.code (kept_table checked)) }
+    ensures stored { IfOk result (λ checked. (other : ShapeTable) →
+        MeetsRules table.now checked.code other → StoredStand (kept_table checked) other) }
     ensures only { IfErr result StopsListing }
 {
     if binary {
@@ -138,6 +145,8 @@ fn read_code<F: Files, S: Sink>(
     ensures names { KeepsBut (IsOwnFile line.now) (F.contents files.old) (F.contents files.new) }
     ensures meets { IfOk result (λ checked.
         MeetsRules table.now checked.code (kept_table checked)) }
+    ensures stored { IfOk result (λ checked. (other : ShapeTable) →
+        MeetsRules table.now checked.code other → StoredStand (kept_table checked) other) }
     ensures only { IfErr result StopsListing }
 {
     match script_name(alloc, line.name.bytes()) {
@@ -167,6 +176,9 @@ pub(crate) fn read_script<F: Files, S: Sink>(
     ensures names { KeepsBut (IsOwnFile line.now) (F.contents files.old) (F.contents files.new) }
     ensures meets { IfOk result (λ loaded.
         MeetsRules table.now loaded.code.code (kept_table loaded.code)) }
+    ensures stored { IfOk result (λ loaded. (other : ShapeTable) →
+        MeetsRules table.now loaded.code.code other → StoredStand (kept_table loaded.code) other) }
+    ensures name { IfOk result (λ loaded. loaded.name ≡ line.now.name) }
     ensures only { IfErr result StopsListing }
 {
     match line.name.copy(alloc) {

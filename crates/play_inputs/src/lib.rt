@@ -17,7 +17,7 @@ pub mod laws;
 mod listing;
 mod plan;
 
-pub use area::read_area;
+pub use area::{area_of_bytes, read_area};
 pub use final_file::write_area;
 pub use listing::list_scripts;
 pub use plan::read_plan_file;

@@ -1,12 +1,13 @@
 //! The scripts that a plan lists.
-ghost use Rattle.std.specs.Prelude.{◌≡◌, ◌+◌, ℕ, length, IsTrue, IfOk, IfErr, OnOk};
+ghost use Rattle.std.specs.Prelude.{◌≡◌, ◌+◌, ◌++◌, ℕ, length, map, IsTrue, IfOk, IfErr, OnOk};
 ghost use Rattle.plan_text.specs.Plans.{AreListed};
 ghost use Rattle.stack_rules.specs.Laws.{AllMeet};
 ghost use Rattle.ncs_machine.specs.Host.{scripts_of, tables_of};
 ghost use Rattle.command_work.specs.Work.{Does};
 ghost use Rattle.command_work.specs.Counts.{Counted, Tallies, KeepsBut};
 ghost use Rattle.play_inputs.specs.Listings.{lists_on, scripts_listed, listed_by, listed_answer};
-ghost use Rattle.play_inputs.specs.Listings.{IsSourceFile, StopsListing};
+ghost use Rattle.play_inputs.specs.Listings.{AllStand, IsSourceFile, StopsListing};
+ghost use Rattle.play_inputs.specs.Listings.{line_names, loaded_names};
 
 use crate::code::read_script;
 use command_work::Status;
@@ -28,6 +29,7 @@ fn list_on<F: Files, S: Sink>(
 ) -> Result<(), Status>
     requires named { AreListed lines.now }
     requires meets { AllMeet table.now (scripts_of scripts.old) (tables_of scripts.old) }
+    requires stand { AllStand table.now (scripts_of scripts.old) (tables_of scripts.old) }
     ensures does { IsTrue F.tells → IsTrue S.tells →
         Does (lists_on table.now (scripts_of scripts.old) lines.now)
         (F.contents files.old) (S.taken out.old)
@@ -38,6 +40,10 @@ fn list_on<F: Files, S: Sink>(
         (F.contents files.old) (F.contents files.new) }
     ensures meets { OnOk result
         (AllMeet table.now (scripts_of scripts.new) (tables_of scripts.new)) }
+    ensures stand { OnOk result
+        (AllStand table.now (scripts_of scripts.new) (tables_of scripts.new)) }
+    ensures listed { OnOk result (loaded_names scripts.new
+        ≡ loaded_names scripts.old ++ line_names lines.now) }
     ensures count { OnOk result (length scripts.new ≡ length scripts.old + length lines.now) }
     ensures only { IfErr result StopsListing }
 {
@@ -55,7 +61,7 @@ fn list_on<F: Files, S: Sink>(
 
 /// The scripts that a plan lists, checked under a header. The file of each source is written at
 /// once, also where a later one is refused.
-#[tactic(auto, using(crate::proofs::ListingLemmas::none_meet), unfolding(crate::specs::Listings::scripts_listed))]
+#[tactic(auto, using(crate::proofs::ListingLemmas::none_meet, crate::proofs::ListingLemmas::none_stand), unfolding(crate::specs::Listings::scripts_listed))]
 pub fn list_scripts<F: Files, S: Sink>(
     alloc: Global,
     table: &Table,
@@ -75,6 +81,10 @@ pub fn list_scripts<F: Files, S: Sink>(
     // All are well stacked, by the tables that are kept.
     ensures meets { IfOk result (λ scripts.
         AllMeet table.now (scripts_of scripts) (tables_of scripts)) }
+    // What these tables say of stored states stands in every table that meets the rules.
+    ensures stand { IfOk result (λ scripts.
+        AllStand table.now (scripts_of scripts) (tables_of scripts)) }
+    ensures listed { IfOk result (λ scripts. loaded_names scripts ≡ line_names lines.now) }
     ensures count { IfOk result (λ scripts. length scripts ≡ length lines.now) }
     ensures only { IfErr result StopsListing }
 {

@@ -1,6 +1,6 @@
 use Rattle.std.proofs.Common.{length, ◌∙◌, sym, subst, ◌+◌}
 use Rattle.ncs_machine.specs.Host.{script_of, scripts_of}
-use Rattle.play_inputs.proofs.ListingLemmas.{SoFar, goes_on, stops, cut_on, is_done, named_at, keeps_on, meets_on, scripts_on, count_on}
+use Rattle.play_inputs.proofs.ListingLemmas.{SoFar, goes_on, stops, cut_on, is_done, named_at, keeps_on, meets_on, stands_on, names_on, scripts_on, count_on}
 use Rattle.play_inputs.proofs.listing.list_on.Goals as goal
 
 pub loop-line-preserved : goal.loop-line-preserved
@@ -20,7 +20,10 @@ loop-line-preserved g c =
       keeps_on c.args.lines.now c.loop-line.line-index c.line-item.result _ c0 (g.F.Files.contents c.loop-line.files) c1 c.loop-line-test.true c.line-item.is
           c.loop-line.invariant.2 c.in-Ok.ensures.names,
       meets_on c.loop-line.scripts c.push.new.self c.in-Ok.script pushed c.args.table.now c.loop-line.invariant.3 c.in-Ok.ensures.meets,
-      count_on c.loop-line.scripts c.push.new.self c.in-Ok.script pushed (length c.args.scripts.now) c.loop-line.line-index c.loop-line.invariant.4,
+      stands_on c.loop-line.scripts c.push.new.self c.in-Ok.script pushed c.args.table.now c.loop-line.invariant.4 c.in-Ok.ensures.stored,
+      names_on c.loop-line.scripts c.push.new.self c.in-Ok.script pushed c.args.scripts.now c.args.lines.now c.loop-line.line-index c.line-item.result _
+          c.loop-line-test.true c.line-item.is c.in-Ok.ensures.name c.loop-line.invariant.5,
+      count_on c.loop-line.scripts c.push.new.self c.in-Ok.script pushed (length c.args.scripts.now) c.loop-line.line-index c.loop-line.invariant.6,
     )
 
 pub read_script-requires : goal.read_script-requires

@@ -1,8 +1,8 @@
-use Rattle.std.proofs.Common.{◌≡◌, ◌+◌, length}
+use Rattle.std.proofs.Common.{◌≡◌, ◌+◌, ◌++◌, length, take}
 use Rattle.stack_rules.specs.Laws.{AllMeet}
 use Rattle.ncs_machine.specs.Host.{scripts_of, tables_of}
 use Rattle.command_work.specs.Counts.{Counted, KeepsBut}
-use Rattle.play_inputs.specs.Listings.{IsSourceFile}
+use Rattle.play_inputs.specs.Listings.{IsSourceFile, AllStand, line_names, loaded_names}
 use Rattle.play_inputs.proofs.ListingLemmas.{SoFar}
 use Rattle.play_inputs.proofs.listing.list_on.Given as goal
 
@@ -14,4 +14,6 @@ invariant-loop-line g l =
     ≡ Counted (g.F.Files.counts l.fn.files) (g.S.Sink.faults l.fn.out))
     × KeepsBut (IsSourceFile l.lines) (g.F.Files.contents l.fn.files) (g.F.Files.contents l.files)
     × AllMeet l.table (scripts_of l.scripts) (tables_of l.scripts)
+    × AllStand l.table (scripts_of l.scripts) (tables_of l.scripts)
+    × (loaded_names l.scripts ≡ loaded_names l.fn.scripts ++ line_names (take l.line-index l.lines))
     × (length l.scripts ≡ length l.fn.scripts + l.line-index)
