@@ -1,29 +1,9 @@
--- What the play of a plan writes, by what its parts write.
-use Rattle.std.proofs.Common.{◌≡◌, ◌<◌, ◌^◌, ℕ, inl, inr, List, [], ◌∷◌, length, ◌∙◌, subst, arith}
-use Rattle.nwq_outside.specs.Outside.{Contents}
-use Rattle.plan_text.specs.declared.plan.Script.{Script as ScriptLine}
+-- A plan lists few scripts.
+use Rattle.std.proofs.Common.{◌≡◌, ◌<◌, ◌^◌, ℕ, length, arith}
 use Rattle.plan_text.specs.declared.plan.Plan.{Plan}
-use Rattle.plan_text.specs.Plans.{AreListed, IsPlan}
-use Rattle.command_work.specs.Counts.{KeepsBut}
-use Rattle.play_inputs.specs.Listings.{IsSourceFile}
-use Rattle.command_play.specs.Tellings.{IsCodeFile, IsGameFile}
+use Rattle.plan_text.specs.Plans.{IsPlan}
 
--- the file of a listed source is a file of bytecode
-code_file : (lines : List ScriptLine) (name : List ℕ) → AreListed lines → IsSourceFile lines name → IsCodeFile name
-code_file [] name all own = absurd own
-code_file (line ∷ lines) name all (inl own) = record { script = line.name; named = all.0; is = own.1 }
-code_file (line ∷ lines) name all (inr more) = code_file lines name all.2 more
-
-module _ (plan : Plan) (kept : IsPlan plan) (to : List ℕ) (c c1 : Contents) where
-  pub keeps_listing : (lines : List ScriptLine) → lines ≡ plan.scripts → KeepsBut (IsSourceFile lines) c c1 → KeepsBut (IsGameFile to) c c1
-  keeps_listing lines same before name may_not =
-      before name (λ source. may_not (inl (code_file plan.scripts name kept.scripts (subst (λ ls. IsSourceFile ls name) same source))))
-
-  pub keeps_game : (c2 : Contents) (lines : List ScriptLine) → lines ≡ plan.scripts → KeepsBut (IsSourceFile lines) c c1 → KeepsBut (λ other. other ≡ to) c1 c2
-      → KeepsBut (IsGameFile to) c c2
-  keeps_game c2 lines same before after name may_not = after name (λ is. may_not (inr is)) ∙ keeps_listing lines same before name may_not
-
-  pub few_listed : (n : ℕ) → n ≡ length plan.scripts → n < 2 ^ 32
-  few_listed n is = omega (arith, is, kept.few_scripts)
+pub few_listed : (plan : Plan) (kept : IsPlan plan) (n : ℕ) → n ≡ length plan.scripts → n < 2 ^ 32
+few_listed plan kept n is = omega (arith, is, kept.few_scripts)
 
 pub ruleset keeps = (few_listed)

@@ -1,3 +1,5 @@
 pub mod Games
 pub mod Tellings
+pub mod Stops
+pub mod Files
 pub mod Laws

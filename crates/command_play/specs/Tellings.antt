@@ -4,6 +4,7 @@ use Rattle.nwq_text.specs.Names.{is_script_name}
 use Rattle.command_work.specs.declared.status.Status.{Status}
 use Rattle.command_work.specs.declared.status.Status.TheVariants.{Script, Code, Area, Limit}
 use Rattle.command_work.specs.Counts.{StopsRead}
+use Rattle.command_work.specs.Work.{CutsShort}
 use Rattle.command_compile.specs.Files.{code_name}
 
 -- the file of bytecode of some script
@@ -23,3 +24,9 @@ StopsGame Code = Unit {0}
 StopsGame Area = Unit {0}
 StopsGame Limit = Unit {0}
 StopsGame status = StopsRead status
+
+-- what stops the end of a play: its area isn't written, a limit was reached, or the work is cut
+abbrev pub StopsEnd : Status → Type 0
+StopsEnd Area = Unit {0}
+StopsEnd Limit = Unit {0}
+StopsEnd status = CutsShort status

@@ -21,7 +21,7 @@ use plan_text::Plan;
 use std::alloc::Global;
 
 /// Plays a plan over an area.
-#[tactic(auto, using(crate::proofs::PlayLemmas::plays_in))]
+#[tactic(auto, using(crate::proofs::PlayLemmas::plays_in, crate::proofs::StopLemmas::stops))]
 pub(crate) fn play_plan<F: Files, S: Sink>(
     alloc: Global,
     table: &Table,

@@ -12,7 +12,7 @@ ghost use Rattle.command_work.specs.Work.{Does, Puts, Ends, then, puts};
 ghost use Rattle.command_work.specs.Counts.{Counted, Tallies, Refusing, KeepsBut};
 ghost use Rattle.play_inputs.specs.Finals.{final_written};
 ghost use Rattle.command_play.specs.Games.{ends_by, tells_end};
-ghost use Rattle.command_play.specs.Tellings.{StopsGame};
+ghost use Rattle.command_play.specs.Tellings.{StopsEnd};
 
 use area_tree::Area;
 use command_work::{Status, put};
@@ -70,7 +70,7 @@ fn leave_area<F: Files, S: Sink>(
 }
 
 /// Ends as a play did that leaves this area and has this text at its end.
-#[tactic(auto, using(crate::proofs::TellLemmas::endings, crate::proofs::StopLemmas::stops))]
+#[tactic(auto, using(crate::proofs::TellLemmas::endings, crate::proofs::StopLemmas::ends))]
 fn end_by<F: Files, S: Sink>(
     alloc: Global,
     how: How,
@@ -88,7 +88,7 @@ fn end_by<F: Files, S: Sink>(
         (Counted (F.counts files.new) (S.faults out.new)) }
     ensures names { KeepsBut (λ other. other ≡ to.now)
         (F.contents files.old) (F.contents files.new) }
-    ensures only { IfErr result StopsGame }
+    ensures only { IfErr result StopsEnd }
 {
     match how {
         How::Done => leave_area(alloc, to, area, text, files, out),
@@ -127,7 +127,7 @@ pub fn tell_end<F: Files, S: Sink>(
         (Counted (F.counts files.new) (S.faults out.new)) }
     ensures names { KeepsBut (λ other. other ≡ to.now)
         (F.contents files.old) (F.contents files.new) }
-    ensures only { IfErr result StopsGame }
+    ensures only { IfErr result StopsEnd }
 {
     match end_text(alloc, world, scripts, played) {
         Err(NoMemory) => Err(Status::Memory),

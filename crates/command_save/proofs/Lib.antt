@@ -1,3 +1,11 @@
+mod StepLemmas
+mod StopLemmas
+mod FateLemmas
+mod WriteLemmas
+mod ListLemmas
+mod StateLemmas
+mod PartLemmas
+mod RestOfLemmas
 mod GoingLemmas
 mod BackLemmas
 mod OneState

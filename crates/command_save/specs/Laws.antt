@@ -1,15 +1,21 @@
 -- Statements about saved plays. Each stands on the contract of a function of `laws`.
-use Rattle.std.specs.Prelude.{◌≡◌, ℕ, ◌+◌, ◌-◌, min, List, ◌++◌, Result, Ok}
+use Rattle.std.specs.Prelude.{◌≡◌, ℕ, List, ◌++◌, Result, Ok, ◌+◌, ◌-◌, min}
 use Rattle.std.specs.Result.{IsOk}
 use Rattle.std.specs.FinMap as map
 use Rattle.nwq_outside.specs.Outside.{Contents}
+use Rattle.world_rules.specs.Pure.{CellLookup}
+use Rattle.command_work.specs.declared.status.Status.{Status}
+use Rattle.command_work.specs.Work.{Finished, IsCut, Does}
+use Rattle.command_work.specs.Outcomes.{IsSure}
+use Rattle.command_play.specs.Games.{plays}
+use Rattle.command_save.specs.Saves.{saved_line, saves}
+use Rattle.command_save.specs.Resumes.{resumes, Going, GoesFrom, state_named}
 use Rattle.nwq_value.specs.Engine.{EngineTable}
 use Rattle.plan_text.specs.declared.plan.Plan.{Plan}
 use Rattle.saved_state.specs.declared.saved.Saved.{Saved}
 use Rattle.machine_rules.specs.Machine.{Script}
 use Rattle.stack_rules.specs.Fits.{Tables}
 use Rattle.stack_rules.specs.Laws.{AllMeet}
-use Rattle.world_rules.specs.Pure.{CellLookup}
 use Rattle.world_rules.specs.World.{World}
 use Rattle.world_rules.specs.Plays.{Runner, Played}
 use Rattle.world_rules.specs.GoingOn.{continued}
@@ -18,13 +24,7 @@ use Rattle.module_player.specs.CodePlays.{code_runner}
 use Rattle.state_format.specs.declared.parts.Parts.{Parts}
 use Rattle.play_save.specs.Rules.{IsAccepted}
 use Rattle.command_plays.specs.Plays.{host_of, played, played_first}
-use Rattle.command_work.specs.declared.status.Status.{Status}
-use Rattle.command_work.specs.Work.{Finished, IsCut, Does}
-use Rattle.command_work.specs.Outcomes.{IsSure}
-use Rattle.command_play.specs.Games.{plays}
 use Rattle.command_save.specs.Inputs.{header_of, area_named}
-use Rattle.command_save.specs.Saves.{saved_line, saves}
-use Rattle.command_save.specs.Resumes.{Going, GoesFrom, state_named, resumes}
 
 -- ---- what the files hold decides what comes of a command
 

@@ -1,16 +1,23 @@
 -- What is told of a play that is saved or resumed.
-use Rattle.std.specs.Prelude.{◌≡◌, ℕ, List}
+use Rattle.std.specs.Prelude.{◌≡◌, ◌<◌, ◌≤◌, ◌+◌, ◌^◌, ℕ, List, [], length}
+use Rattle.nwq_value.specs.Limits.{entry_limit, instruction_limit, time_limit}
 use Rattle.saved_state.specs.declared.saved.Saved.{Saved}
 use Rattle.world_rules.specs.World.{World}
-use Rattle.world_rules.specs.Plays.{Progress}
+use Rattle.stack_rules.specs.Laws.{AllMeet}
+use Rattle.world_rules.specs.Pure.{CellLookup}
+use Rattle.world_rules.specs.Plays.{Progress, Played}
 use Rattle.ncs_machine.specs.declared.scripts.Loaded.{Loaded}
+use Rattle.ncs_machine.specs.Host.{scripts_of, tables_of}
+use Rattle.ncs_machine.specs.Stored.{StatesFit}
 use Rattle.module_player.specs.declared.played.How.{How}
 use Rattle.module_player.specs.declared.played.How.TheVariants.{Done, InstrStop, EntryStop, Pause, Fault, NoMemory}
 use Rattle.module_player.specs.declared.played.Played.{Played as Answer}
+use Rattle.play_save.specs.declared.state.Opened.{Opened}
 use Rattle.play_save.specs.States.{Limits, MayCount, MayRest}
 use Rattle.command_work.specs.declared.status.Status.{Status}
 use Rattle.command_work.specs.declared.status.Status.TheVariants.{Limit}
 use Rattle.command_work.specs.Counts.{StopsArea}
+use Rattle.command_plays.specs.Plays.{played_on}
 
 -- an answer tells where a play stands that came to this world
 pub record IsProgress (answer : Answer) (w : World Saved) (p : Progress Saved) : Type 0 where
@@ -31,6 +38,23 @@ WhereBroken Pause fact = fact
 WhereBroken InstrStop fact = Unit {0}
 WhereBroken Fault fact = Unit {0}
 WhereBroken NoMemory fact = Unit {0}
+
+-- what a state opens can be played on
+pub record MayGoOn (o : Opened) : Type 0 where
+  pub few : length o.scripts < 2 ^ 32
+  pub meets : AllMeet o.table (scripts_of o.scripts) (tables_of o.scripts)
+  pub fit : StatesFit (scripts_of o.scripts) (tables_of o.scripts) o.world.world
+  pub quiet : o.world.world.trace ≡ []
+  pub next : o.world.world.agenda.next < 2 ^ 61
+  pub limit : o.limits.0 ≤ instruction_limit
+  pub entries : o.limits.1 ≤ entry_limit
+  pub until : o.limits.2 ≤ time_limit
+  pub taken : o.taken ≤ o.limits.1
+  pub done : o.done < 2 ^ 61
+
+-- the play from there to its end
+abbrev pub rest_of : CellLookup → Opened → Played Saved
+rest_of cell o = played_on cell o.table o.limits (scripts_of o.scripts) (o.limits.1 + 1) o.taken o.done o.world.world
 
 -- What stops a play that is resumed: the state isn't there or is too long, it is refused or the area is, a limit was reached, or the work
 -- is cut.

@@ -1,29 +1,25 @@
 //! The command that resumes: a state is read, and its play goes on.
-ghost use Rattle.std.specs.Prelude.{◌≡◌, ◌<◌, ◌≤◌, ◌^◌, ℕ, length, map, IsTrue, IfOk, IfErr};
-ghost use Rattle.std.specs.List.{AllByRecursion};
-ghost use Rattle.nwq_value.specs.Limits.{entry_limit, file_limit, instruction_limit, time_limit};
+ghost use Rattle.std.specs.Prelude.{◌≡◌, ◌≤◌, ℕ, length, map, IsTrue, IfErr};
+ghost use Rattle.nwq_value.specs.Limits.{file_limit};
 ghost use Rattle.nwq_outside.specs.Outside.{Contents};
 ghost use Rattle.nwq_outside.specs.declared.counts.FileCounts.{FileCounts};
-ghost use Rattle.stack_rules.specs.Laws.{AllMeet};
 ghost use Rattle.world_core.specs.Calls.{AreServing, cells_of};
-ghost use Rattle.ncs_machine.specs.Host.{scripts_of, tables_of};
-ghost use Rattle.ncs_machine.specs.Stored.{StatesFit};
+ghost use Rattle.ncs_machine.specs.Host.{scripts_of};
 ghost use Rattle.command_work.specs.Work.{Does};
 ghost use Rattle.command_work.specs.Counts.{Counted, Tallies, KeepsBut, Refusing, StopsArea};
+ghost use Rattle.command_play.specs.Games.{tells};
+ghost use Rattle.command_play.specs.Tellings.{StopsEnd};
 ghost use Rattle.command_save.specs.Resumes.{resumes, resumes_state, state_in, state_named};
-ghost use Rattle.command_save.specs.Tellings.{StopsResume};
+ghost use Rattle.command_save.specs.Tellings.{MayGoOn, StopsResume, rest_of};
 
 use command_play::tell_end;
 use command_plays::play_part;
 use command_work::{AreaFlaw, Status, read_file, refuse_area};
 use hook_table::Hooks;
-use ncs_machine::Scripts;
 use nwq_outside::{Files, Sink};
-use nwq_value::{NoMemory, Table};
+use nwq_value::NoMemory;
 use play_save::{Opened, State, StateFault, read_state};
-use saved_state::Saved;
 use std::alloc::Global;
-use world_core::World;
 
 /// The state of bytes, which are those of the file of this name.
 #[tactic(auto, using(crate::proofs::FateLemmas::fates))]
@@ -72,5 +68,111 @@ fn read_state_file<F: Files, S: Sink>(
     match read_file(alloc, name, files, out) {
         Err(status) => Err(status),
         Ok(bytes) => state_of_bytes(alloc, name.as_bytes(), bytes.as_slice(), out),
+    }
+}
+
+/// Plays on from what a state tells, and tells and leaves the end as every play does.
+#[tactic(auto, using(crate::proofs::RestOfLemmas::rests, crate::proofs::StopLemmas::stops))]
+fn play_rest<F: Files, S: Sink>(
+    alloc: Global,
+    opened: Opened,
+    to: &str,
+    hooks: &Hooks,
+    files: &mut F,
+    out: &mut S,
+) -> Result<(), Status>
+    requires hooks { AreServing (map (λ h. h.known) hooks.now.all.items) }
+    requires opened { MayGoOn opened }
+    ensures does { IsTrue F.tells → IsTrue S.tells →
+        Does (tells to.now (scripts_of opened.scripts) (rest_of
+        (cells_of (map (λ h. h.known) hooks.now.all.items)) opened))
+        (F.contents files.old) (S.taken out.old)
+        result (F.contents files.new) (S.taken out.new) }
+    ensures counts { Tallies result (Counted (F.counts files.old) (S.faults out.old))
+        (Counted (F.counts files.new) (S.faults out.new)) }
+    ensures names { KeepsBut (λ other. other ≡ to.now)
+        (F.contents files.old) (F.contents files.new) }
+    ensures only { IfErr result StopsEnd }
+{
+    let Opened {
+        table,
+        scripts,
+        world,
+        limits,
+        taken,
+        done,
+    } = opened;
+    let stop = limits.1 + 1;
+    match play_part(
+        alloc, &table, &scripts, world, hooks, limits, stop, taken, done, out,
+    ) {
+        Err(status) => {
+            drop(table);
+            drop(scripts);
+            Err(status)
+        }
+        Ok((world, played)) => {
+            drop(table);
+            let end = tell_end(alloc, world, &scripts, &played, to, files, out);
+            drop(scripts);
+            end
+        }
+    }
+}
+
+/// Plays on from a state.
+#[tactic(auto, using(crate::proofs::RestOfLemmas::states))]
+fn resume_state<F: Files, S: Sink>(
+    alloc: Global,
+    state: State,
+    to: &str,
+    hooks: &Hooks,
+    files: &mut F,
+    out: &mut S,
+) -> Result<(), Status>
+    requires hooks { AreServing (map (λ h. h.known) hooks.now.all.items) }
+    ensures does { IsTrue F.tells → IsTrue S.tells →
+        Does (resumes_state (cells_of (map (λ h. h.known) hooks.now.all.items)) to.now state)
+        (F.contents files.old) (S.taken out.old)
+        result (F.contents files.new) (S.taken out.new) }
+    ensures counts { Tallies result (Counted (F.counts files.old) (S.faults out.old))
+        (Counted (F.counts files.new) (S.faults out.new)) }
+    ensures names { KeepsBut (λ other. other ≡ to.now)
+        (F.contents files.old) (F.contents files.new) }
+    ensures only { IfErr result StopsEnd }
+{
+    state.keeps();
+    match state.restore(alloc) {
+        Err(NoMemory) => Err(Status::Memory),
+        Ok(opened) => play_rest(alloc, opened, to, hooks, files, out),
+    }
+}
+
+/// Goes on with the play that was saved in the file `state`, and leaves the area of a play that is
+/// done in the file `to`.
+#[tactic(auto, using(crate::proofs::StepLemmas::steps, crate::proofs::StopLemmas::stops), unfolding(crate::specs::Resumes::resumes))]
+pub fn resume_play<F: Files, S: Sink>(
+    alloc: Global,
+    state: &str,
+    to: &str,
+    hooks: &Hooks,
+    files: &mut F,
+    out: &mut S,
+) -> Result<(), Status>
+    requires hooks { AreServing (map (λ h. h.known) hooks.now.all.items) }
+    ensures does { IsTrue F.tells → IsTrue S.tells →
+        Does (resumes (cells_of (map (λ h. h.known) hooks.now.all.items)) state.now to.now)
+        (F.contents files.old) (S.taken out.old)
+        result (F.contents files.new) (S.taken out.new) }
+    ensures counts { Tallies result (Counted (F.counts files.old) (S.faults out.old))
+        (Counted (F.counts files.new) (S.faults out.new)) }
+    // The file of the area that is left alone is written.
+    ensures names { KeepsBut (λ other. other ≡ to.now)
+        (F.contents files.old) (F.contents files.new) }
+    ensures only { IfErr result StopsResume }
+{
+    match read_state_file(alloc, state, files, out) {
+        Err(status) => Err(status),
+        Ok(state) => resume_state(alloc, state, to, hooks, files, out),
     }
 }

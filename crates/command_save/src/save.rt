@@ -116,7 +116,7 @@ fn save_area<F: Files, S: Sink>(
 
 /// Lists the scripts of a plan, plays so many of its entries over the area of this name, and saves
 /// the play.
-#[tactic(auto, using(crate::proofs::StepLemmas::steps, crate::proofs::StopLemmas::stops, crate::proofs::FileLemmas::keeps), unfolding(crate::specs::Saves::saves_scripts))]
+#[tactic(auto, using(crate::proofs::StepLemmas::steps, crate::proofs::StopLemmas::stops, crate::proofs::ListLemmas::keeps), unfolding(crate::specs::Saves::saves_scripts))]
 fn save_scripts<F: Files, S: Sink>(
     alloc: Global,
     area: &str,

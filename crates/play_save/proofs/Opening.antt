@@ -7,7 +7,7 @@ use Rattle.std.specs.List.{AllByRecursion, list_all}
 use Rattle.nwq_value.specs.Engine.{EngineTable}
 use Rattle.nwq_value.specs.Limits.{text_limit, script_limit}
 use Rattle.nwq_text.specs.Names.{is_script_name, is_script_byte}
-use Rattle.ncs_code.specs.File.{file_bytes}
+use Rattle.ncs_code.specs.File.{IsCode, file_bytes}
 use Rattle.action_queue.specs.declared.queue.Item.{Item}
 use Rattle.machine_rules.specs.Machine.{Script as MachineScript}
 use Rattle.stack_rules.specs.Tables.{ShapeTable}
@@ -49,6 +49,12 @@ all_meet table (p ∷ parts) [] are number script at = absurd are
 all_meet table (p ∷ parts) (l ∷ ls) are zero script at =
     let same : script_of l ≡ script = cc in subst (λ (x : MachineScript). MeetsRules table x.code (tables_of (l ∷ ls) 0)) same are.0.checked.meets
 all_meet table (p ∷ parts) (l ∷ ls) are (suc number) script at = all_meet table parts ls are.1 number script at
+
+pub all_code : (table : EngineTable) (parts : List Script) (ls : List Loaded) → AreScriptsOf table parts ls → AllByRecursion (λ (l : Loaded). IsCode l.code.code) ls
+all_code table [] [] are = tt
+all_code table [] (l ∷ ls) are = absurd are
+all_code table (p ∷ parts) [] are = absurd are
+all_code table (p ∷ parts) (l ∷ ls) are = (are.0.checked.file.code, all_code table parts ls are.1)
 
 pub all_stand : (table : EngineTable) (parts : List Script) (ls : List Loaded) → AreScriptsOf table parts ls → AllStand table (scripts_of ls) (tables_of ls)
 all_stand table [] [] are number script other at meets = absurd cc

@@ -1,11 +1,14 @@
 //! The state of a play.
 ghost use Rattle.std.specs.Prelude.{◌≡◌, ◌≤◌, ◌<◌, ◌^◌, length, IfOk, IfErr, MatchResult};
+ghost use Rattle.std.specs.List.{AllByRecursion};
 ghost use Rattle.std.specs.Option.{option_map};
 ghost use Rattle.nwq_value.specs.Limits.{file_limit};
+ghost use Rattle.ncs_code.specs.File.{IsCode};
 ghost use Rattle.stack_rules.specs.Laws.{AllMeet};
 ghost use Rattle.ncs_machine.specs.Host.{scripts_of, tables_of};
 ghost use Rattle.ncs_machine.specs.Stored.{StatesFit};
 ghost use Rattle.state_format.specs.Fields.{parts_bytes};
+ghost use Rattle.state_format.specs.Parts.{HasForm};
 ghost use Rattle.state_format.specs.Place.{StateOf, IsTooLarge};
 ghost use Rattle.state_format.specs.declared.parts.Parts.{Parts as PlainParts};
 ghost use Rattle.play_save.specs.World.{world_of};
@@ -93,6 +96,8 @@ impl State {
         ensures come { IfOk result (λ s. HasCome s taken done) }
         // The state tells the very world, without the lines that it keeps.
         ensures world { IfOk result (λ s. IsWorldOf s (resting world.world)) }
+        // The scripts' files, which it has, are those of their instructions.
+        ensures code { IfOk result (λ s. AllByRecursion (λ l. IsCode l.code.code) scripts.now) }
     {
         spelling_laws();
         fits_too();
@@ -124,6 +129,7 @@ impl State {
         // The scripts are well stacked, by the tables that are kept, and each captured state in the
         // world fits: so the play comes to no fault of the stack.
         ensures few { IfOk result (λ o. length o.scripts < 2 ^ 32) }
+        ensures code { IfOk result (λ o. AllByRecursion (λ l. IsCode l.code.code) o.scripts) }
         ensures meets { IfOk result (λ o.
             AllMeet o.table (scripts_of o.scripts) (tables_of o.scripts)) }
         ensures stand { IfOk result (λ o.
@@ -147,6 +153,7 @@ impl State {
     /// What every state keeps.
     pub fn keeps(&self)
         ensures accepted { IsAccepted self.now }
+        ensures form { HasForm self.now }
     {
         let _ = &self.parts;
     }
@@ -171,6 +178,7 @@ pub(crate) fn open(alloc: Global, parts: &Parts) -> Result<Opened, NoMemory>
     ensures come { IfOk result (λ o. HasCome parts.now o.taken o.done) }
     ensures world { IfOk result (λ o. IsWorldOf parts.now o.world.world) }
     ensures few { IfOk result (λ o. length o.scripts < 2 ^ 32) }
+    ensures code { IfOk result (λ o. AllByRecursion (λ l. IsCode l.code.code) o.scripts) }
     ensures meets { IfOk result (λ o.
         AllMeet o.table (scripts_of o.scripts) (tables_of o.scripts)) }
     ensures stand { IfOk result (λ o.

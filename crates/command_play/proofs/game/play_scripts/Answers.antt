@@ -1,4 +1,4 @@
-use Rattle.command_play.proofs.FileLemmas.{keeps_listing, keeps_game}
+use Rattle.command_play.specs.Files.{keeps_listing, keeps_game}
 use Rattle.command_play.proofs.game.play_scripts.Goals as goal
 
 pub returns-in-Err-clause-names : goal.returns-in-Err-clause-names

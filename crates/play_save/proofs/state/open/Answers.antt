@@ -6,7 +6,7 @@ use Rattle.ncs_machine.specs.Host.{scripts_of, tables_of}
 use Rattle.ncs_machine.specs.Stored.{StatesFit}
 use Rattle.play_save.specs.Rules.{IsAreaOf}
 use Rattle.play_save.proofs.CapturedLemmas.{items_if, entries_if}
-use Rattle.play_save.proofs.Opening.{all_meet, all_stand, same_parts, small_names, few_scripts, states_fit, memory_only}
+use Rattle.play_save.proofs.Opening.{all_code, all_meet, all_stand, same_parts, small_names, few_scripts, states_fit, memory_only}
 use Rattle.play_save.proofs.state.open.Goals as goal
 
 pub returns-in-Ok-world : goal.returns-in-Ok-world
@@ -33,6 +33,7 @@ returns-in-Ok-world c =
         world = c.in-Ok-world.ensures.world;
       };
       few = few_scripts p.table s.scripts p.scripts limits.bounds.scripts is.scripts;
+      code = all_code p.table s.scripts p.scripts is.scripts;
       meets = all_meet p.table s.scripts p.scripts is.scripts;
       stand = all_stand p.table s.scripts p.scripts is.scripts;
       fit = subst (λ (w : World Saved). StatesFit (scripts_of p.scripts) (tables_of p.scripts) w) (sym c.in-Ok-world.ensures.world)

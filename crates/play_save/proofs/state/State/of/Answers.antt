@@ -19,6 +19,7 @@ returns c =
       come = made.come;
       world = world_is c.in_ok-parts-in-Ok.parts c.args.scripts.now c.args.area.items c.args.world.world c.in-Ok.objects c.in-Ok.saved (made.play.area ∙ c.as_slice-file.ensures.value)
           c.requires.rests c.keeps-in-Ok.ensures.keeps c.in-Ok.ensures.parts made.tells;
+      code = made.code;
     }
 
 pub invariant_of-result : goal.invariant_of-result

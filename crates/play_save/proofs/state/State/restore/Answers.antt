@@ -16,6 +16,7 @@ returns-in-Ok c =
       come = subst (λ (s : Parts). HasCome s c.in-Ok.opened.taken c.in-Ok.opened.done) c.self.view_is made.come;
       world = subst (λ (s : Parts). IsWorldOf s c.in-Ok.opened.world.world) c.self.view_is made.world;
       few = made.few;
+      code = made.code;
       meets = made.meets;
       stand = made.stand;
       fit = made.fit;

@@ -1,0 +1,105 @@
+-- The state that is taken of a play is the one in which it stands.
+use Rattle.std.proofs.Common.{◌≡◌, ◌≢◌, ◌≤◌, ℕ, List, [], ◌∷◌, map, inl, inr, Option, None, Some, Result, Ok, Err, refl, sym, ap, ◌∙◌, subst}
+use Rattle.std.specs.List.{AllByRecursion}
+use Rattle.nwq_outside.specs.Outside.{Contents}
+use Rattle.ncs_code.specs.File.{IsCode, file_bytes}
+use Rattle.plan_text.specs.declared.plan.Plan.{Plan}
+use Rattle.plan_text.specs.Plans.{IsPlan}
+use Rattle.saved_state.specs.declared.saved.Saved.{Saved}
+use Rattle.world_rules.specs.World.{World}
+use Rattle.world_rules.specs.Plays as plays
+use Rattle.world_rules.specs.Plays.{PlayEnd, Progress, Played}
+use Rattle.machine_rules.specs.Machine.{Script}
+use Rattle.ncs_machine.specs.declared.scripts.Loaded.{Loaded}
+use Rattle.ncs_machine.specs.Host.{scripts_of}
+use Rattle.module_player.specs.CodePlays.{code_end_text}
+use Rattle.module_player.specs.Answers.{EndsAs}
+use Rattle.module_player.specs.EndTexts.{IsEnding, HasText}
+use Rattle.module_player.specs.declared.played.How.{How}
+use Rattle.module_player.specs.declared.played.How.TheVariants.{Done, InstrStop, EntryStop, Pause, Fault, NoMemory}
+use Rattle.module_player.specs.declared.played.Played.{Played as Answer}
+use Rattle.state_format.specs.declared.parts.Script.{Script as ScriptPart}
+use Rattle.state_format.specs.declared.parts.Parts.{Parts}
+use Rattle.state_format.specs.Parts.{HasForm}
+use Rattle.play_save.specs.Rules.{IsAccepted}
+use Rattle.play_save.specs.States.{script_parts, resting, MayLimit, IsPlayOf, HasCome, IsWorldOf}
+use Rattle.command_work.specs.declared.status.Status.{Status}
+use Rattle.command_work.specs.declared.status.Status.TheVariants as status
+use Rattle.command_work.specs.Work.{Does, Puts, Ends, Finished, CutsShort}
+use Rattle.command_work.specs.Counts.{Refusing}
+use Rattle.command_work.specs.Parts.{cut_here, finds_one}
+use Rattle.command_plays.specs.Plays.{limits_of}
+use Rattle.command_plays.specs.Tellings.{cut_of}
+use Rattle.command_save.specs.declared.inputs.HeaderFile.{HeaderFile}
+use Rattle.command_save.specs.Saves.{file_of, AreSpelled, IsStateAt, state_written, saves_at, saves_by}
+use Rattle.command_save.specs.Tellings.{IsProgress, MaySave, WhereBroken}
+
+-- ---- scripts
+
+pub parts_are : (scripts : List Loaded) → script_parts scripts ≡ map file_of (scripts_of scripts)
+parts_are [] = refl
+parts_are (l ∷ scripts) = ap (λ (ps : List ScriptPart). record { name = l.name; code = file_bytes l.code.code } ∷ ps) (parts_are scripts)
+
+pub are_spelled : (scripts : List Loaded) → AllByRecursion (λ (l : Loaded). IsCode l.code.code) scripts → AreSpelled (scripts_of scripts)
+are_spelled [] all = tt
+are_spelled (l ∷ scripts) all = (all.0, are_spelled scripts all.1)
+
+-- ---- the state
+
+pub may_limit : (plan : Plan) → IsPlan plan → MayLimit (limits_of plan)
+may_limit plan kept = record { limit = kept.limit; entries = kept.entries; until = kept.until.1 }
+
+pub state_at : (header : HeaderFile) (text : Option (List ℕ)) (file area : List ℕ) (plan : Plan) (scripts : List Loaded) (w : World Saved) (answer : Answer) (s : Parts)
+    → text ≡ header.text → area ≡ file → IsPlayOf s text (script_parts scripts) area (limits_of plan) → HasCome s answer.entries answer.instructions
+    → IsWorldOf s (resting w) → AllByRecursion (λ (l : Loaded). IsCode l.code.code) scripts → HasForm s → IsAccepted s
+    → (p : Progress Saved) → IsProgress answer w p → IsStateAt header file plan (scripts_of scripts) p s
+state_at header text file area plan scripts w answer s same_text same_area play come world code form accepted p is = record {
+  form = form;
+  accepted = accepted;
+  play = record {
+    header = play.header ∙ same_text;
+    scripts = play.scripts ∙ parts_are scripts;
+    area = play.area ∙ same_area;
+    limit = play.limit;
+    entries = play.entries;
+    until = play.until;
+  };
+  spelled = are_spelled scripts code;
+  come = record { taken = come.taken ∙ is.entries; done = come.done ∙ is.instructions };
+  world = subst (λ (v : World Saved). IsWorldOf s (resting v)) is.world world;
+}
+
+-- ---- the work
+
+module _ (header : HeaderFile) (file : List ℕ) (plan : Plan) (scripts : List Script) (name : List ℕ) (p : Progress Saved) where
+  pub at_does : (s : Parts) (r : Result Finished Status) (c c' : Contents) (t t' : List ℕ) → IsStateAt header file plan scripts p s
+      → Does (state_written name s) c t r c' t' → Does (saves_at header file plan scripts name p) c t r c' t'
+  unfolding saves_at
+  at_does s r c c' t t' is does = finds_one (λ (d : Contents) (x : Parts). IsStateAt header file plan scripts p x) (state_written name) s c c' t t' r is does
+
+  pub at_cut : (c : Contents) (t : List ℕ) → Does (saves_at header file plan scripts name p) c t (Err status.Memory) c t
+  at_cut c t = cut_here (saves_at header file plan scripts name p) status.Memory c c t t tt refl refl
+
+pub memory_refuses : Refusing status.Area status.Memory
+memory_refuses = inr tt
+
+pub ruleset saves = (at_does, at_cut, memory_refuses)
+
+-- ---- by how the play ended
+
+pub progress_is : (answer : Answer) (w : World Saved) (p : Played Saved) → IsEnding answer p w → IsProgress answer w p.last
+progress_is answer w p is = record { entries = is.entries; instructions = is.instructions; world = is.world }
+
+module _ (header : HeaderFile) (file : List ℕ) (plan : Plan) (scripts : List Script) (name : List ℕ) (p : Played Saved) (r : Result Finished Status) (c c' : Contents) (t t' : List ℕ) where
+  pub broken_does : (how : How) (ending : PlayEnd) → EndsAs how ending → how ≢ InstrStop → cut_of how ≡ None → Does (saves_at header file plan scripts name p.last) c t r c' t'
+      → Does (saves_by ending header file plan scripts name p) c t r c' t'
+  broken_does Done ending is apart told does = subst (λ (e : PlayEnd). Does (saves_by e header file plan scripts name p) c t r c' t') (sym is) does
+  broken_does EntryStop ending is apart told does = subst (λ (e : PlayEnd). Does (saves_by e header file plan scripts name p) c t r c' t') (sym is) does
+  broken_does Pause ending is apart told does = subst (λ (e : PlayEnd). Does (saves_by e header file plan scripts name p) c t r c' t') (sym is) does
+  broken_does InstrStop ending is apart told does = absurd (apart refl)
+  broken_does Fault ending is apart told does = absurd cc
+  broken_does NoMemory ending is apart told does = absurd cc
+
+  pub stopped_does : (ending : PlayEnd) → EndsAs InstrStop ending → Does {A = Finished} (Puts (code_end_text scripts p) (Ends status.Limit)) c t r c' t'
+      → Does (saves_by ending header file plan scripts name p) c t r c' t'
+  stopped_does ending is does = subst (λ (e : PlayEnd). Does (saves_by e header file plan scripts name p) c t r c' t') (sym is) does

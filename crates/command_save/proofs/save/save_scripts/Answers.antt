@@ -1,0 +1,18 @@
+use Rattle.command_play.specs.Files.{keeps_listing, keeps_game}
+use Rattle.command_save.proofs.ListLemmas.{may_list}
+use Rattle.command_save.proofs.save.save_scripts.Goals as goal
+
+pub save_area-requires-clause-listed : goal.save_area-requires-clause-listed
+save_area-requires-clause-listed g c =
+    may_list c.args.header c.args.plan.now c.as_slice.result.now c.in-Ok.scripts c.requires.header c.requires.plan c.as_slice.ensures.items c.in-Ok.ensures.count c.in-Ok.ensures.names-listed
+    c.in-Ok.ensures.meets c.in-Ok.ensures.stand
+
+pub returns-in-Err-clause-names : goal.returns-in-Err-clause-names
+returns-in-Err-clause-names g c =
+    keeps_listing c.args.plan.now c.requires.plan c.args.name.now (g.F.Files.contents c.args.files.now) (g.F.Files.contents c.list_scripts.new.files) c.as_slice.result.now
+    c.as_slice.ensures.items c.in-Err.ensures.names
+
+pub returns-in-Ok-clause-names : goal.returns-in-Ok-clause-names
+returns-in-Ok-clause-names g c =
+    keeps_game c.args.plan.now c.requires.plan c.args.name.now (g.F.Files.contents c.args.files.now) (g.F.Files.contents c.list_scripts.new.files)
+    (g.F.Files.contents c.save_area.new.files) c.as_slice.result.now c.as_slice.ensures.items c.in-Ok.ensures.names c.save_area.ensures.names
