@@ -33,17 +33,17 @@ _nwq_header() {
 
 _nwq() {
     local word=${COMP_WORDS[COMP_CWORD]}
-    local commands='run compile play check tree dis asm generate'
+    local commands='run compile play save resume check tree dis asm generate'
     COMPREPLY=()
     case $COMP_CWORD-${COMP_WORDS[1]} in
         1-*) mapfile -t COMPREPLY < <(compgen -W "$commands" -- "$word") ;;
-        2-run | 2-compile | 2-play | 2-check) _nwq_header "$word" ;;
+        2-run | 2-compile | 2-play | 2-save | 2-check) _nwq_header "$word" ;;
         3-run | 3-compile) _nwq_scripts "$word" ;;
         3-check | 2-dis) _nwq_files "$word" ncs ;;
-        3-play) _nwq_files "$word" git gff ;;
-        4-play) _nwq_files "$word" plan ;;
-        6-play) _nwq_files "$word" txt ;;
-        2-tree | 2-asm | 3-dis | 3-asm | 5-play) _nwq_files "$word" ;;
+        3-play | 3-save) _nwq_files "$word" git gff ;;
+        4-play | 4-save) _nwq_files "$word" plan ;;
+        6-play | 7-save | 4-resume) _nwq_files "$word" txt ;;
+        2-tree | 2-asm | 3-dis | 3-asm | 5-play | 6-save | 2-resume | 3-resume) _nwq_files "$word" ;;
     esac
 }
 
