@@ -1,10 +1,8 @@
 -- Shapes that are reached.
-use Rattle.std.proofs.Common.{◌≡◌, ℕ, map, Some, sym, ◌∙◌, ap}
-use Rattle.stack_shape.specs.Stored.{TopShape}
+use Rattle.std.proofs.Common.{◌≡◌, ℕ, Some, sym, ◌∙◌, ap}
 use Rattle.stack_lists.specs.declared.held.Held.{Held}
 use Rattle.stack_lists.specs.declared.held.Heap.{Heap}
 use Rattle.stack_check.specs.declared.facts.Facts.{Facts}
-use Rattle.stack_lists.specs.Shared.{read}
 use Rattle.stack_lists.specs.Held.{shape_of}
 use Rattle.stack_lists.specs.Rows.{row_in}
 use Rattle.stack_check.specs.Inference.{RowIs}

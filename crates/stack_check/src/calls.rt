@@ -3,7 +3,7 @@ ghost use Rattle.std.specs.Prelude.{IsTrue, length, take, true, ◌↔◌};
 ghost use Rattle.stack_shape.specs.declared.shape.Entry.TheVariants.{Called};
 ghost use Rattle.stack_lists.specs.Shared.{read};
 ghost use Rattle.stack_lists.specs.Rows.{row_in};
-ghost use Rattle.stack_lists.specs.Held.{HeapGrows, Holds, IsIn, shape_of};
+ghost use Rattle.stack_lists.specs.Held.{IsIn, shape_of};
 ghost use Rattle.stack_check.specs.Facts.{FindsMore};
 ghost use Rattle.stack_check.specs.Inference.{AllIn, BeginsAlike, Calls, IsCall, Keeps, NothingNew};
 ghost use Rattle.stack_check.specs.Inference.{RowIs, Sees, TrialIn, Within, window};
