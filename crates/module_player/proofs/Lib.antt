@@ -5,3 +5,4 @@ pub mod Playing
 pub mod Whole
 pub mod EndLemmas
 mod Examples
+pub mod Resting

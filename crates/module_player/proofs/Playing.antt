@@ -81,6 +81,8 @@ pub record SoFar (s : Scene) (limit : ℕ) (bounds : Bounds) (first : Progress S
   pub within : number ≤ bounds.entries
   pub next : w.agenda.next ≤ 2 ^ 61 + number * 33554432
   pub total : count ≤ 2 ^ 61 + number * 33554432
+  pub posted : w.agenda.next ≤ first.world.agenda.next + number * 33554432
+  pub executed : count ≤ first.count + number * 33554432
 
 module _ (s : Scene) (limit : ℕ) (bounds : Bounds) (first : Progress Saved) where
   abbrev Run : Runner Saved
@@ -96,7 +98,7 @@ module _ (s : Scene) (limit : ℕ) (bounds : Bounds) (first : Progress Saved) wh
   Sofar tells t0 t f0 f number count w = SoFar s limit bounds first tells t0 t f0 f number count w
 
   abbrev Ends : Answer → Bool → List ℕ → List ℕ → ℕ → ℕ → World Saved → Type 0
-  Ends answer tells t0 t f0 f v = HasPlayed s answer (play_on (runner_in s limit) bounds first) tells t0 t f0 f v
+  Ends answer tells t0 t f0 f v = HasPlayed s answer first (play_on (runner_in s limit) bounds first) tells t0 t f0 f v
 
   one_more : (number : ℕ) → number < bounds.stop → bounds.stop - number ≡ suc (bounds.stop - (number + 1))
   one_more number less = omega (arith, less)
@@ -202,6 +204,8 @@ module _ (s : Scene) (limit : ℕ) (bounds : Bounds) (first : Progress Saved) wh
           within = let k = x.within in omega (arith, apart);
           next = let k = x.next in let m = l.inside.few in omega (arith, limited);
           total = let k = x.total in let m = l.inside.within in omega (arith, limited);
+          posted = let k = x.posted in let m = l.inside.few in omega (arith, limited);
+          executed = let k = x.executed in let m = l.inside.within in omega (arith, limited);
         }
 
     pub play_stops : (n : ℕ) (t' : List ℕ) (f' : ℕ) (v : World Saved) → number < bounds.stop → number ≢ bounds.entries → limit ≤ instruction_limit → bounds.entries ≤ entry_limit
@@ -219,6 +223,8 @@ module _ (s : Scene) (limit : ℕ) (bounds : Bounds) (first : Progress Saved) wh
             fit = l.inside.fit;
             quiet = l.quiet;
             next = let a = x.within in let k = x.next in let m = l.inside.few in omega (arith, limited, few);
+            posted = let a = x.within in let k = x.posted in let m = l.inside.few in omega (arith, limited, few);
+            executed = let a = x.within in let k = x.executed in let m = l.inside.within in omega (arith, limited, few);
           };
           text = λ can. text_on x.lines More t0 t t' (x.text can) (told can) ∙ ap (λ q. t0 ++ trace_text q.last.trace) is;
           counts = faults ∙ x.faults;
@@ -239,6 +245,8 @@ module _ (s : Scene) (limit : ℕ) (bounds : Bounds) (first : Progress Saved) wh
             fit = subst (FitIn s) (sym r.0) x.fit;
             quiet = ap (λ y. y.trace) r.0 ∙ x.quiet;
             next = let a = x.within in let k = x.next in let m = ap (λ y. y.agenda.next) r.0 in omega (arith, few);
+            posted = let a = x.within in let k = x.posted in let m = ap (λ y. y.agenda.next) r.0 in omega (arith, few);
+            executed = let a = x.within in let k = x.executed in omega (arith, few);
           };
           text = λ can. told can ∙ x.text can ∙ ap (λ q. t0 ++ trace_text q.last.trace) is;
           counts = faults ∙ x.faults;
@@ -257,6 +265,8 @@ module _ (s : Scene) (limit : ℕ) (bounds : Bounds) (first : Progress Saved) wh
             fit = x.fit;
             quiet = x.quiet;
             next = let a = x.within in let k = x.next in omega (arith, few);
+            posted = let a = x.within in let k = x.posted in omega (arith, few);
+            executed = let a = x.within in let k = x.executed in omega (arith, few);
           };
           text = λ can. x.text can ∙ ap (λ q. t0 ++ trace_text q.last.trace) is;
           counts = x.faults;
@@ -275,6 +285,8 @@ module _ (s : Scene) (limit : ℕ) (bounds : Bounds) (first : Progress Saved) wh
             fit = x.fit;
             quiet = x.quiet;
             next = let a = x.within in let k = x.next in omega (arith, few);
+            posted = let a = x.within in let k = x.posted in omega (arith, few);
+            executed = let a = x.within in let k = x.executed in omega (arith, few);
           };
           text = λ can. x.text can ∙ ap (λ q. t0 ++ trace_text q.last.trace) is;
           counts = x.faults;
@@ -305,6 +317,8 @@ module _ (s : Scene) (limit : ℕ) (bounds : Bounds) (first : Progress Saved) wh
             fit = x.fit;
             quiet = x.quiet;
             next = let a = x.within in let k = x.next in omega (arith, few);
+            posted = let a = x.within in let k = x.posted in omega (arith, few);
+            executed = let a = x.within in let k = x.executed in omega (arith, few);
           };
           text = λ can. x.text can ∙ ap (λ q. t0 ++ trace_text q.last.trace) is;
           counts = x.faults;
@@ -331,7 +345,7 @@ module _ (s : Scene) (limit : ℕ) (bounds : Bounds) (first : Progress Saved) wh
         → (IsTrue tells → TookPrefix (trace_text More) t t') → Rises f f'
         → Ends (record { how = how.Fault; entries = entries; instructions = instructions }) tells t0 t' f0 f' v
     play_fails entries instructions t' f' v less apart told faults = record {
-      played = record { ending = tt; entries = tt; instructions = tt; world = tt; fit = tt; quiet = tt; next = tt };
+      played = record { ending = tt; entries = tt; instructions = tt; world = tt; fit = tt; quiet = tt; next = tt; posted = tt; executed = tt };
       text = λ can. cut_text t' less apart (x.text can) (told can);
       counts = subst (λ y. Rises y f') x.faults faults;
     }
@@ -340,7 +354,7 @@ module _ (s : Scene) (limit : ℕ) (bounds : Bounds) (first : Progress Saved) wh
         → (IsTrue tells → TookPrefix (trace_text More) t t') → f' ≡ f
         → Ends (record { how = how.NoMemory; entries = entries; instructions = instructions }) tells t0 t' f0 f' v
     play_runs_out entries instructions t' f' v less apart told faults = record {
-      played = record { ending = tt; entries = tt; instructions = tt; world = tt; fit = tt; quiet = tt; next = tt };
+      played = record { ending = tt; entries = tt; instructions = tt; world = tt; fit = tt; quiet = tt; next = tt; posted = tt; executed = tt };
       text = λ can. cut_text t' less apart (x.text can) (told can);
       counts = faults ∙ x.faults;
     }
@@ -359,6 +373,8 @@ play_begins s limit bounds taken done w tells t f fit quiet within next total = 
   within = within;
   next = omega (arith, next);
   total = omega (arith, total);
+  posted = omega arith;
+  executed = omega arith;
 }
   where
     none : (xs : List ℕ) → xs ≡ xs ++ []

@@ -1,11 +1,11 @@
 -- What a play's answer tells.
-use Rattle.std.specs.Prelude.{◌≡◌, ◌<◌, ◌^◌, ℕ, Bool, IsTrue, List, [], ◌++◌}
+use Rattle.std.specs.Prelude.{◌≡◌, ◌≤◌, ◌<◌, ◌+◌, ◌^◌, ℕ, Bool, IsTrue, List, [], ◌++◌}
 use Rattle.nwq_outside.specs.Outside.{Rises, TookPrefix}
 use Rattle.saved_state.specs.declared.saved.Saved.{Saved}
 use Rattle.world_rules.specs.Trace.{trace_text}
 use Rattle.world_rules.specs.World.{World}
 use Rattle.world_rules.specs.Plays as plays
-use Rattle.world_rules.specs.Plays.{PlayEnd}
+use Rattle.world_rules.specs.Plays.{PlayEnd, Progress}
 use Rattle.module_player.specs.declared.played.How.{How}
 use Rattle.module_player.specs.declared.played.Played.{Played}
 use Rattle.module_player.specs.Scenes.{Scene, FitIn}
@@ -47,8 +47,8 @@ CountsPlay Pause before now = now ≡ before
 CountsPlay Fault before now = Rises before now
 CountsPlay NoMemory before now = now ≡ before
 
--- An answer tells of this play, which led to this world.
-pub record IsPlayed (s : Scene) (answer : Played) (p : plays.Played Saved) (v : World Saved) : Type 0 where
+-- An answer tells of this play, which went on from there and led to this world.
+pub record IsPlayed (s : Scene) (answer : Played) (first : Progress Saved) (p : plays.Played Saved) (v : World Saved) : Type 0 where
   pub ending : EndsAs answer.how p.ending
   pub entries : WherePlayed answer.how (answer.entries ≡ p.last.entries)
   pub instructions : WherePlayed answer.how (answer.instructions ≡ p.last.count)
@@ -56,10 +56,12 @@ pub record IsPlayed (s : Scene) (answer : Played) (p : plays.Played Saved) (v : 
   pub fit : WherePlayed answer.how (FitIn s v)
   pub quiet : WherePlayed answer.how (v.trace ≡ [])
   pub next : WherePlayed answer.how (v.agenda.next < 2 ^ 62)
+  pub posted : WherePlayed answer.how (v.agenda.next ≤ first.world.agenda.next + 2 ^ 45)
+  pub executed : WherePlayed answer.how (answer.instructions ≤ first.count + 2 ^ 45)
 
 -- the same with what a sink took, and its faults
-pub record HasPlayed (s : Scene) (answer : Played) (p : plays.Played Saved) (tells : Bool) (before after : List ℕ) (faults now : ℕ) (v : World Saved) : Type 0 where
-  pub played : IsPlayed s answer p v
+pub record HasPlayed (s : Scene) (answer : Played) (first : Progress Saved) (p : plays.Played Saved) (tells : Bool) (before after : List ℕ) (faults now : ℕ) (v : World Saved) : Type 0 where
+  pub played : IsPlayed s answer first p v
   pub text : IsTrue tells → TakesTrace answer.how (trace_text p.last.trace) before after
   pub counts : CountsPlay answer.how faults now
 

@@ -4,3 +4,4 @@ pub mod Entries
 pub mod Turns
 pub mod Answers
 pub mod EndTexts
+pub mod Resting

@@ -8,6 +8,7 @@
 
 mod closing;
 mod entry;
+mod laws;
 mod played;
 mod plays;
 mod scripts;
@@ -15,5 +16,6 @@ mod setting;
 mod turn;
 
 pub use closing::{end_text, put_end_line};
+pub use laws::plays_can_rest;
 pub use played::{How, Played};
 pub use plays::{play, play_on};

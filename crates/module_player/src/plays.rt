@@ -70,7 +70,7 @@ fn play_from<S: Sink>(
     requires done { done < 2 ^ 61 }
     ensures played { HasPlayed (scene setting.now.scripts.now setting.now.table.now
         (map (λ h. h.known)
-        setting.now.hooks.now.all.items)) result
+        setting.now.hooks.now.all.items)) result (played_before taken done world.old.world)
         (play_on (runner_in (scene setting.now.scripts.now setting.now.table.now (map (λ h. h.known)
         setting.now.hooks.now.all.items)) limit)
         (record { entries = entries; until = until; stop = stop })
@@ -182,6 +182,10 @@ pub fn play_on<S: Sink>(
         (tables_of scripts.now) world.new.world) }
     ensures quiet { WherePlayed result.how (world.new.world.trace ≡ []) }
     ensures next { WherePlayed result.how (world.new.world.agenda.next < 2 ^ 62) }
+    // How much at most was posted, and executed.
+    ensures posted { WherePlayed result.how
+        (world.new.world.agenda.next ≤ world.old.world.agenda.next + 2 ^ 45) }
+    ensures executed { WherePlayed result.how (result.instructions ≤ done + 2 ^ 45) }
 {
     let setting = Setting {
         scripts,

@@ -23,6 +23,7 @@ use Rattle.world_rules.specs.World.{World, count}
 use Rattle.world_rules.specs.AlikeLaws.{call}
 use Rattle.world_rules.specs.Engine.{may_run, no_script, too_deep}
 use Rattle.world_rules.specs.Kept.{IsWorld, IsStep, EngineKeeps, NoScriptKeeps, TooDeepKeeps}
+use Rattle.world_rules.specs.Settled.{IsLed, led_on}
 use Rattle.ncs_machine.specs.Host.{EngineView, host, engine_answer}
 use Rattle.ncs_machine.specs.Endings.{IsLeft}
 
@@ -133,6 +134,7 @@ pub record Leaves (s t : State (World Saved)) : Type 0 where
   pub objects : (most : ℕ) → count s.world ≡ most → AreObjects most s → AreObjects most t
   pub world : IsWorld s.world → s.running.self ≤ count s.world → IsWorld t.world
   pub left : IsWorld s.world → s.running.self ≤ count s.world → IsLeft 1 s.world t.world
+  pub led : (first : World Saved) → IsLed first s.world → s.running.self ≤ count s.world → IsLed first t.world
 
 same_left : (w : World Saved) → IsLeft 1 w w
 same_left w = record { objects = refl; clock = refl; no_less = omega arith; few = omega arith; acting = λ o a. a }
@@ -151,6 +153,7 @@ moves_leaves s f e = record {
   objects = λ most n o. record { running = subst (λ k. k ≤ most) (sym e) o.running; waiting = o.waiting };
   world = λ w o. w;
   left = λ w o. same_left s.world;
+  led = λ first l o. l;
 }
 
 may_be : (caller target most : ℕ) (w : World Saved) → count w ≡ most → caller ≤ most → may_run caller target w ≡ true → target ≤ most
@@ -162,6 +165,7 @@ over_leaves (f ∷ waiting) s t e h = subst (Leaves s) (goes_is h) (record {
   objects = λ most n o. let all = subst (AllObjects most) e o.waiting in record { running = all.0; waiting = all.1 };
   world = λ w o. w;
   left = λ w o. same_left s.world;
+  led = λ first l o. l;
 })
   where
     goes_is : {a b : State (World Saved)} → Goes a ≡ Goes b → a ≡ b
@@ -173,6 +177,7 @@ module _ (laws : WorldLaws) (scripts : List Script) (e : EngineView) where
     objects = λ most n o. record { running = subst (λ k. k ≤ most) (sym self) o.running; waiting = o.waiting };
     world = λ w o. (keeps w).world;
     left = λ w o. step_left s.world v (keeps w);
+    led = λ first l o. led_on first s.world v l (keeps l.world);
   }
 
   begun_leaves : (number : Option ℕ) (name : List ℕ) (target : ℕ) (f : Frame) (s : State (World Saved)) → f.self ≡ s.running.self → may_run s.running.self target s.world ≡ true
@@ -186,6 +191,7 @@ module _ (laws : WorldLaws) (scripts : List Script) (e : EngineView) where
         objects = λ most n o. record { running = may_be s.running.self target most s.world n o.running may; waiting = (subst (λ k. k ≤ most) (sym self) o.running, o.waiting) };
         world = λ w o. w;
         left = λ w o. same_left s.world;
+        led = λ first l o. l;
       }
       on false = told_leaves s f (too_deep target name s.world) self (λ w. laws.too_deep target name s.world w)
 
@@ -220,6 +226,8 @@ module _ (laws : WorldLaws) (scripts : List Script) (e : EngineView) where
         objects = λ most n o. record { running = subst (λ k. k ≤ most) (sym (answer_self _ f ∙ self)) o.running; waiting = o.waiting };
         world = λ w o. (laws.engine e.table e.cell n (call f.self values action) s.world w (subst (λ k. k ≤ count s.world) (sym self) o)).world;
         left = λ w o. step_left s.world _ (laws.engine e.table e.cell n (call f.self values action) s.world w (subst (λ k. k ≤ count s.world) (sym self) o));
+        led = λ first l o. led_on first s.world _ l
+            (laws.engine e.table e.cell n (call f.self values action) s.world l.world (subst (λ k. k ≤ count s.world) (sym self) o));
       }
   followed_leaves s t (Executes name target f) self h = subst (Leaves s) (goes_is h) (executed_leaves name target f s self)
   followed_leaves s t Returns self h = over_leaves s.waiting s t refl h

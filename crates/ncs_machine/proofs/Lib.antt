@@ -3,6 +3,7 @@ pub mod Frames
 pub mod Answers
 pub mod Fitting
 pub mod Kept
+pub mod Leading
 pub mod Running
 pub mod Calls
 pub mod Stepping

@@ -3,3 +3,4 @@ pub mod Stored
 pub mod Endings
 pub mod Steps
 pub mod Names
+pub mod Leading

@@ -15,6 +15,6 @@ mod scripts;
 mod step;
 
 pub use entry::{Ran, run};
-pub use laws::{calls_keep_fits, entries_keep_fits};
+pub use laws::{calls_keep_fits, entries_keep_fits, runs_lead};
 pub use machine::script_named;
 pub use scripts::{Begin, Loaded, Ready, Scripts};

@@ -1,4 +1,5 @@
 mod BeginLemmas
 mod ObjectLemmas
 mod WorldLemmas
+mod FreshLemmas
 mod Examples

@@ -6,8 +6,10 @@
 #![tactic(auto)]
 
 mod begin;
+mod laws;
 mod start;
 mod world;
 
+pub use laws::plan_worlds_are_fresh;
 pub use start::first_world;
 pub use world::world_of;

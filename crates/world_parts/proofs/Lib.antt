@@ -4,3 +4,4 @@ pub mod TurnLemmas
 pub mod NameLemmas
 pub mod EffectLemmas
 pub mod BeginLemmas
+pub mod DelayLemmas

@@ -16,6 +16,7 @@ use world_rules::at_least_zero;
 
 impl<X: Drop> Parts<X> {
     /// The time so many milliseconds from now; a negative number is no delay.
+    #[tactic(auto, using(crate::proofs::DelayLemmas::later_is))]
     pub(crate) fn later(&self, ms: i32) -> u64
         requires early { self.now.world.clock < 2 ^ 62 }
         ensures later { result ≡ later ms self.now.world }

@@ -1,16 +1,13 @@
 -- Each routine at its edges: numbers without an object, negative counts and delays, what stands twice, and what isn't there.
-use Rattle.std.proofs.Common.{◌≡◌, ℕ, ℤ, pos, negsuc, List, [], ◌∷◌, Option, None, Some, true, false, refl}
+use Rattle.std.proofs.Common.{◌≡◌, ℕ, ℤ, pos, negsuc, [], ◌∷◌, None, Some, true, false, refl}
 use Rattle.std.specs.Prelude.{codes}
 use Rattle.std.specs.Fmt.{digits}
-use Rattle.action_queue.specs.declared.queue.Item.TheVariants.{Do, Wait, Speak}
 use Rattle.area_rules.specs.Area.{PlainArea, object}
-use Rattle.local_variables.specs.Variables.{IntVar, TextVar, int_named}
-use Rattle.delay_agenda.specs.declared.entry.Entry.{Entry}
-use Rattle.delay_agenda.specs.declared.entry.Kind.TheVariants.{Event, Stored, Turn, Unapply}
+use Rattle.local_variables.specs.Variables.{IntVar, TextVar}
+use Rattle.delay_agenda.specs.declared.entry.Kind.TheVariants.{Event, Stored, Turn}
 use Rattle.nwq_value.specs.Header.{header_routines}
 use Rattle.nwq_value.specs.HeaderTable.{header_table}
 use Rattle.nwq_value.specs.Effect.{Effect}
-use Rattle.nwq_value.specs.declared.value.Value.{Value}
 use Rattle.nwq_value.specs.declared.value.Value.TheVariants as value
 use Rattle.world_rules.specs.declared.data.Told.TheVariants as line
 use Rattle.world_rules.specs.Pure.{pure}

@@ -1,11 +1,10 @@
 -- The definitions at whole plays, entry by entry.
-use Rattle.std.proofs.Common.{◌≡◌, ℕ, ℤ, pos, List, [], ◌∷◌, Option, None, Some, true, false, refl}
+use Rattle.std.proofs.Common.{◌≡◌, ℕ, pos, [], ◌∷◌, None, Some, true, refl}
 use Rattle.std.specs.Prelude.{codes}
 use Rattle.std.specs.Fmt.{digits}
-use Rattle.action_queue.specs.declared.queue.Item.TheVariants.{Do, Wait, Speak}
+use Rattle.action_queue.specs.declared.queue.Item.TheVariants.{Wait, Speak}
 use Rattle.area_rules.specs.Area.{PlainArea, object}
-use Rattle.local_variables.specs.Variables.{IntVar, int_named}
-use Rattle.delay_agenda.specs.declared.entry.Entry.{Entry}
+use Rattle.local_variables.specs.Variables.{IntVar}
 use Rattle.delay_agenda.specs.declared.entry.Kind.TheVariants.{Event, Stored, Turn, Unapply}
 use Rattle.nwq_value.specs.Header.{header_routines}
 use Rattle.nwq_value.specs.HeaderTable.{header_table}

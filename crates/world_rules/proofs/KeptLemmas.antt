@@ -1,8 +1,9 @@
 -- What the small changes leave of a world.
-use Rattle.std.proofs.Common.{◌≡◌, ◌≢◌, ℕ, ℤ, ◌+◌, ◌-◌, ◌≤◌, ◌<◌, zero, suc, Bool, true, false, not, List, [], ◌∷◌, ◌++◌, length, map, Option, None, Some, slice_get, refl, sym, ap, ap₂, subst, ◌∙◌, inl, inr, arith, true≢false}
+use Rattle.std.proofs.Common.{◌≡◌, ◌≢◌, ℕ, ℤ, ◌+◌, ◌-◌, ◌≤◌, zero, suc, Bool, true, false, List, [], ◌∷◌, length, refl, sym, ap, subst, ◌∙◌, inl, inr, arith, true≢false}
 use Rattle.std.specs.Prelude.{if◌then◌else◌, ◌⊎◌, nat_eq, IsTrue}
 use Rattle.std.specs.List.{AllByRecursion}
 use Rattle.std.proofs.lemmas.Bool.Decides.{nat_tests}
+use Rattle.std.proofs.Math.Nat.{min-le_right}
 use Rattle.action_queue.specs.Queued.{Queued}
 use Rattle.action_queue.specs.declared.queue.Item.{Item}
 use Rattle.area_rules.specs.Area as areas
@@ -10,14 +11,17 @@ use Rattle.area_rules.specs.Objects.{AreaObject}
 use Rattle.local_variables.specs.Variables.{Variable}
 use Rattle.delay_agenda.specs.Laws.{PostKeeps, CancelKeeps, PutCounts, CancelCounts}
 use Rattle.delay_agenda.specs.Order.{is_before, put_entry}
-use Rattle.delay_agenda.specs.Waiting.{IsAgenda, is_turn_kind, is_turn_of, posted, turn_count, without_turns}
+use Rattle.delay_agenda.specs.Waiting.{IsAgenda, is_turn_kind, is_turn_of, turn_count, without_turns}
 use Rattle.delay_agenda.specs.declared.entry.Entry.{Entry}
 use Rattle.delay_agenda.specs.declared.entry.Kind.{Kind}
-use Rattle.delay_agenda.specs.declared.entry.Kind.TheVariants.{Event, Stored, Turn, Unapply}
+use Rattle.delay_agenda.specs.declared.entry.Kind.TheVariants.{Turn}
 use Rattle.world_rules.specs.declared.data.Stood.{Stood}
 use Rattle.world_rules.specs.declared.data.Things.{Things}
-use Rattle.world_rules.specs.World.{World, count, is_valid, things_at, queue_in, queue_of}
-use Rattle.world_rules.specs.Changes.{post, changed_at, changed_object, with_queue, with_effects, with_actions, with_busy, with_variables, without_turn}
+use Rattle.world_rules.specs.World.{World, count, is_valid, queue_of}
+use Rattle.world_rules.specs.Arguments.{at_least_zero}
+use Rattle.world_rules.specs.Changes.{longest_delay, later, post, changed_at, changed_object, with_effects, with_actions, with_busy, with_variables, without_turn}
+use Rattle.world_rules.specs.InPlan.{StaysInPlan}
+use Rattle.world_rules.specs.Settled.{stays_so, stays_on}
 use Rattle.world_rules.specs.Kept.{IsPlaced, turns_allowed, IsWorld, IsActing, IsSettled, IsStep}
 use Rattle.world_rules.proofs.Queues.{own_queue, other_queue, other_mark, same_mark, effects_queue, mark_actions, idle_mark, settled_by, busy_settled, idle_settled}
 
@@ -49,7 +53,7 @@ all_put_if : {X : Type 0} (P : Entry X → Type 0) (b : Bool) (e a : Entry X) (r
 all_put_if P true e a rest more pe pa ps qs = (pa, qs)
 all_put_if P false e a rest more pe pa ps qs = (pe, (pa, ps))
 
-all_put : {X : Type 0} (P : Entry X → Type 0) (e : Entry X) (es : List (Entry X)) → P e → AllByRecursion P es → AllByRecursion P (put_entry e es)
+pub all_put : {X : Type 0} (P : Entry X → Type 0) (e : Entry X) (es : List (Entry X)) → P e → AllByRecursion P es → AllByRecursion P (put_entry e es)
 all_put P e [] pe ps = (pe, tt)
 all_put P e (a ∷ rest) pe ps = all_put_if P (is_before a e) e a rest (put_entry e rest) pe ps.0 ps.1 (all_put P e rest pe ps.1)
 
@@ -61,6 +65,41 @@ all_without : {X : Type 0} (P : Entry X → Type 0) (o : ℕ) (es : List (Entry 
 all_without P o [] ps = tt
 all_without P o (e ∷ es) ps = all_without_if P (is_turn_of o e) e (without_turns o es) ps.0 (all_without P o es ps.1)
 
+-- ---- changes that stay in the plan
+
+-- what leaves the clock and the agenda
+pub stays_by : {X : Type 0} (w v : World X) → v.area.tree ≡ w.area.tree → v.version ≡ w.version → ((most : ℕ) → length w.random ≤ most → length v.random ≤ most)
+    → v.clock ≡ w.clock → v.agenda ≡ w.agenda → (until : ℕ) → StaysInPlan until w v
+stays_by w v tree version random clock agenda until = record {
+  tree = tree;
+  version = version;
+  random = random;
+  clock = λ early. subst (λ n. n ≤ until) (sym clock) early;
+  due = λ early time late due. subst (λ a. AllByRecursion (λ (e : Entry _). e.due ≤ time) a.entries) (sym agenda) due;
+}
+
+-- an entry more
+pub stays_post : {X : Type 0} (due : ℕ) (k : Kind X) (w : World X) → due ≤ w.clock + longest_delay → (until : ℕ) → StaysInPlan until w (post due k w)
+stays_post due k w soon until = record {
+  tree = refl;
+  version = refl;
+  random = λ most few. few;
+  clock = λ early. early;
+  due = λ early time late all. all_put (λ (e : Entry _). e.due ≤ time) (record { due = due; number = w.agenda.next; kind = k }) w.agenda.entries
+      (omega (arith, soon, early, late)) all;
+}
+
+-- an entry more, behind a change that leaves clock and agenda
+pub stays_put : {X : Type 0} (due : ℕ) (k : Kind X) (w v : World X) → ((until : ℕ) → StaysInPlan until w v) → due ≤ v.clock + longest_delay
+    → (until : ℕ) → StaysInPlan until w (post due k v)
+stays_put due k w v s soon until = stays_on until w v (post due k v) (s until) (stays_post due k v soon until)
+
+pub soon_later : {X : Type 0} (ms : ℤ) (w : World X) → later ms w ≤ w.clock + longest_delay
+soon_later ms w = let most = min-le_right (at_least_zero ms) longest_delay in omega (arith, most)
+
+pub late_later : {X : Type 0} (ms : ℤ) (w : World X) → w.clock ≤ later ms w
+late_later ms w = omega arith
+
 -- ---- changes that leave clock, agenda, objects and marks
 
 pub record SameMarks {X : Type 0} (w v : World X) : Type 0 where
@@ -69,6 +108,7 @@ pub record SameMarks {X : Type 0} (w v : World X) : Type 0 where
   pub things : length v.things ≡ length w.things
   pub agenda : v.agenda ≡ w.agenda
   pub busy : (o : ℕ) → (queue_of o v).busy ≡ (queue_of o w).busy
+  pub plan : (until : ℕ) → StaysInPlan until w v
 
 pub marks_join : {X : Type 0} (w v u : World X) → SameMarks w v → SameMarks v u → SameMarks w u
 marks_join w v u a b = record {
@@ -77,6 +117,7 @@ marks_join w v u a b = record {
   things = b.things ∙ a.things;
   agenda = b.agenda ∙ a.agenda;
   busy = λ o. b.busy o ∙ a.busy o;
+  plan = λ until. stays_on until w v u (a.plan until) (b.plan until);
 }
 
 pub marks_actions : {X : Type 0} (o : ℕ) (items : List (Item X)) (w : World X) → SameMarks w (with_actions o items w)
@@ -86,6 +127,7 @@ marks_actions o items w = record {
   things = length_object o (λ t. record t { queue = record (queue_of o w) { actions = items } }) w.things;
   agenda = refl;
   busy = λ p. same_mark o p (record (queue_of o w) { actions = items }) w refl;
+  plan = stays_by w (with_actions o items w) refl refl (λ most few. few) refl refl;
 }
 
 pub marks_kept : {X : Type 0} (w v : World X) → SameMarks w v → IsWorld w → IsWorld v
@@ -120,6 +162,7 @@ step_behind w v u s settled t =
       at_most_one = omega (arith, next, most);
       acting = λ o a. t.acting o (marks_acting w v s o a);
       settled = settled;
+      plan = λ until. stays_on until w v u (s.plan until) (t.plan until);
     }
 
 -- ---- changes that leave the queues too
@@ -130,9 +173,10 @@ pub record SameShape {X : Type 0} (w v : World X) : Type 0 where
   pub things : length v.things ≡ length w.things
   pub agenda : v.agenda ≡ w.agenda
   pub queues : (o : ℕ) → queue_of o v ≡ queue_of o w
+  pub plan : (until : ℕ) → StaysInPlan until w v
 
 pub same_shape : {X : Type 0} (w : World X) → SameShape w w
-same_shape w = record { clock = refl; objects = refl; things = refl; agenda = refl; queues = λ o. refl }
+same_shape w = record { clock = refl; objects = refl; things = refl; agenda = refl; queues = λ o. refl; plan = λ until. stays_so until w }
 
 pub shapes_join : {X : Type 0} (w v u : World X) → SameShape w v → SameShape v u → SameShape w u
 shapes_join w v u a b = record {
@@ -141,6 +185,7 @@ shapes_join w v u a b = record {
   things = b.things ∙ a.things;
   agenda = b.agenda ∙ a.agenda;
   queues = λ o. b.queues o ∙ a.queues o;
+  plan = λ until. stays_on until w v u (a.plan until) (b.plan until);
 }
 
 pub shape_if : {X : Type 0} (b : Bool) (w v : World X) → SameShape w v → SameShape w (if b then v else w)
@@ -154,6 +199,7 @@ shape_effects o effects w = record {
   things = length_object o (λ t. record t { effects = effects }) w.things;
   agenda = refl;
   queues = λ p. effects_queue o p effects w;
+  plan = stays_by w (with_effects o effects w) refl refl (λ most few. few) refl refl;
 }
 
 pub shape_variables : {X : Type 0} (o : ℕ) (change : List Variable → List Variable) (w : World X) → SameShape w (with_variables o change w)
@@ -163,10 +209,18 @@ shape_variables o change w = record {
   things = refl;
   agenda = refl;
   queues = λ p. refl;
+  plan = stays_by w (with_variables o change w) refl refl (λ most few. few) refl refl;
 }
 
 pub shape_marks : {X : Type 0} (w v : World X) → SameShape w v → SameMarks w v
-shape_marks w v s = record { clock = s.clock; objects = s.objects; things = s.things; agenda = s.agenda; busy = λ o. ap (λ (q : Queued _). q.busy) (s.queues o) }
+shape_marks w v s = record {
+  clock = s.clock;
+  objects = s.objects;
+  things = s.things;
+  agenda = s.agenda;
+  busy = λ o. ap (λ (q : Queued _). q.busy) (s.queues o);
+  plan = s.plan;
+}
 
 pub shape_kept : {X : Type 0} (w v : World X) → SameShape w v → IsWorld w → IsWorld v
 shape_kept w v s h = marks_kept w v (shape_marks w v s) h
@@ -185,6 +239,7 @@ shape_step w v s h =
       at_most_one = omega (arith, next);
       acting = marks_acting w v (shape_marks w v s);
       settled = shape_settled w v s;
+      plan = s.plan;
     }
 
 -- a step behind a change that leaves the shape
@@ -198,26 +253,37 @@ step_if false w v h s = shape_step w w (same_shape w) h
 -- ---- posts
 
 -- what is no Turn changes no count
+post_counts : {X : Type 0} (laws : AgendaLaws X) (due : ℕ) (k : Kind X) (w : World X) → ((o : ℕ) → is_turn_kind o k ≡ false)
+    → (o : ℕ) → turn_count o (post due k w).agenda.entries ≡ turn_count o w.agenda.entries
+post_counts laws due k w none o = laws.counts o (record { due = due; number = w.agenda.next; kind = k }) w.agenda.entries
+    ∙ ap (λ (b : Bool). if b then suc (turn_count o w.agenda.entries) else turn_count o w.agenda.entries) (none o)
+
+pub post_kept : {X : Type 0} (laws : AgendaLaws X) (due : ℕ) (k : Kind X) (w : World X) → IsWorld w → IsPlaced (count w) k → w.clock ≤ due
+    → ((o : ℕ) → is_turn_kind o k ≡ false) → IsWorld (post due k w)
+post_kept laws due k w h placed late none = record {
+  counted = h.counted;
+  agenda = laws.post due k w.agenda h.agenda;
+  placed = all_put (λ (e : Entry _). IsPlaced (count w) e.kind) (record { due = due; number = w.agenda.next; kind = k }) w.agenda.entries placed h.placed;
+  due = all_put (λ (e : Entry _). w.clock ≤ e.due) (record { due = due; number = w.agenda.next; kind = k }) w.agenda.entries late h.due;
+  turns = λ o. subst (λ n. n ≤ turns_allowed (queue_of o w).busy) (sym (post_counts laws due k w none o)) (h.turns o);
+}
+
+pub post_settled : {X : Type 0} (laws : AgendaLaws X) (due : ℕ) (k : Kind X) (w : World X) → ((o : ℕ) → is_turn_kind o k ≡ false)
+    → (o : ℕ) → IsSettled o w → IsSettled o (post due k w)
+post_settled laws due k w none o a = settled_by o w (post due k w) refl (post_counts laws due k w none o) a
+
 pub post_step : {X : Type 0} (laws : AgendaLaws X) (due : ℕ) (k : Kind X) (w : World X) → IsWorld w → IsPlaced (count w) k → w.clock ≤ due
-    → ((o : ℕ) → is_turn_kind o k ≡ false) → IsStep w (post due k w)
-post_step laws due k w h placed late none =
-    let counts = λ (o : ℕ). laws.counts o (record { due = due; number = w.agenda.next; kind = k }) w.agenda.entries
-    ∙ ap (λ (b : Bool). if b then suc (turn_count o w.agenda.entries) else turn_count o w.agenda.entries) (none o) in
-    record {
-      world = record {
-        counted = h.counted;
-        agenda = laws.post due k w.agenda h.agenda;
-        placed = all_put (λ (e : Entry _). IsPlaced (count w) e.kind) (record { due = due; number = w.agenda.next; kind = k }) w.agenda.entries placed h.placed;
-        due = all_put (λ (e : Entry _). w.clock ≤ e.due) (record { due = due; number = w.agenda.next; kind = k }) w.agenda.entries late h.due;
-        turns = λ o. subst (λ n. n ≤ turns_allowed (queue_of o w).busy) (sym (counts o)) (h.turns o);
-      };
-      objects = refl;
-      clock = refl;
-      no_less = omega arith;
-      at_most_one = omega arith;
-      acting = λ o a. record { busy = a.busy; none = counts o ∙ a.none };
-      settled = λ o a. settled_by o w (post due k w) refl (counts o) a;
-    }
+    → due ≤ w.clock + longest_delay → ((o : ℕ) → is_turn_kind o k ≡ false) → IsStep w (post due k w)
+post_step laws due k w h placed late soon none = record {
+  world = post_kept laws due k w h placed late none;
+  objects = refl;
+  clock = refl;
+  no_less = omega arith;
+  at_most_one = omega arith;
+  acting = λ o a. record { busy = a.busy; none = post_counts laws due k w none o ∙ a.none };
+  settled = post_settled laws due k w none;
+  plan = stays_post due k w soon;
+}
 
 -- ---- Turns
 
@@ -339,6 +405,7 @@ awake_if laws false o w mark h one most =
       at_most_one = omega arith;
       acting = λ p a. woken_acting laws o p w (acts_apart o p w mark a) a;
       settled = λ p a. woken_settled laws o p w none one (let things = h.counted in omega (arith, most, things)) (same_or_other p o) (λ apart. a);
+      plan = stays_put w.clock (Turn o) w (with_busy o true w) (stays_by w (with_busy o true w) refl refl (λ most few. few) refl refl) (omega arith);
     }
 
 -- ---- Turns that go
@@ -385,4 +452,11 @@ rest_step laws o w h some empty = record {
     none = omega (arith, n, none);
   };
   settled = λ p a. rest_settled laws o p w empty (same_or_other p o) a;
+  plan = λ until. record {
+    tree = refl;
+    version = refl;
+    random = λ most few. few;
+    clock = λ early. early;
+    due = λ early time late due. all_without (λ (e : Entry _). e.due ≤ time) o w.agenda.entries due;
+  };
 }

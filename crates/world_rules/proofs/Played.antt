@@ -1,11 +1,11 @@
 -- Worlds of the worked examples, and how they are played: stored actions are numbers here.
-use Rattle.std.proofs.Common.{ℕ, ℤ, pos, List, [], ◌∷◌, Option, None, Some}
+use Rattle.std.proofs.Common.{ℕ, List, [], Option, None, Some}
 use Rattle.std.specs.Prelude.{codes}
 use Rattle.std.specs.Option.{option_map}
 use Prim.Native.String.{String}
 use Rattle.area_rules.specs.Area.{PlainArea}
 use Rattle.area_rules.specs.Objects.{AreaObject, Script}
-use Rattle.local_variables.specs.Variables.{Variable, IntVar, TextVar}
+use Rattle.local_variables.specs.Variables.{Variable}
 use Rattle.delay_agenda.specs.declared.entry.Entry.{Entry}
 use Rattle.nwq_value.specs.HeaderTable.{header_table}
 use Rattle.nwq_value.specs.declared.value.Value.{Value}
@@ -14,7 +14,7 @@ use Rattle.world_rules.specs.Pure.{CellLookup}
 use Rattle.world_rules.specs.World.{World}
 use Rattle.world_rules.specs.Rows.{Answered}
 use Rattle.world_rules.specs.Engine.{engine}
-use Rattle.world_rules.specs.Turns.{Planned, Begun, begin, turn, new_world}
+use Rattle.world_rules.specs.Turns.{Planned, Begun, begin, turn}
 
 abbrev pub text : String → Value
 text s = Text (codes s)

@@ -1,5 +1,5 @@
 -- Queues in worlds where one is changed, and objects that are settled.
-use Rattle.std.proofs.Common.{◌≡◌, ◌≢◌, ℕ, ◌≤◌, ◌<◌, zero, suc, Bool, true, false, List, [], ◌∷◌, length, Option, None, Some, slice_get, refl, sym, ap, ◌∙◌, inl, inr, arith, true≢false}
+use Rattle.std.proofs.Common.{◌≡◌, ◌≢◌, ℕ, ◌≤◌, ◌<◌, zero, suc, Bool, true, false, List, [], ◌∷◌, length, None, slice_get, refl, sym, ap, ◌∙◌, inl, inr, arith, true≢false}
 use Rattle.std.specs.Prelude.{◌⊎◌}
 use Rattle.action_queue.specs.Queued.{Queued}
 use Rattle.delay_agenda.specs.Waiting.{turn_count}

@@ -1,7 +1,7 @@
 -- Each routine keeps what worlds keep.
-use Rattle.std.proofs.Common.{◌≡◌, ◌≢◌, ℕ, ℤ, pos, negsuc, ◌+◌, ◌≤◌, zero, suc, Bool, true, false, not, List, [], ◌∷◌, ◌++◌, length, Option, None, Some, refl, sym, ap, subst, ◌∙◌, inl, inr, arith, slice_get, cond}
+use Rattle.std.proofs.Common.{◌≡◌, ◌≢◌, ℕ, ℤ, pos, negsuc, ◌≤◌, zero, suc, Bool, true, false, not, List, [], ◌∷◌, ◌++◌, length, Option, None, Some, refl, sym, ap, subst, ◌∙◌, inl, inr, arith, slice_get, cond}
 use Rattle.std.specs.Prelude.{if◌then◌else◌, ◌==◌, ◌⊎◌, IsTrue}
-use Rattle.std.specs.List.{AllByRecursion, find, list_any}
+use Rattle.std.specs.List.{AllByRecursion, list_any}
 use Rattle.std.proofs.lemmas.Bool.Decides.{nat_tests}
 use Rattle.action_queue.specs.declared.queue.Item.{Item}
 use Rattle.action_queue.specs.declared.queue.Item.TheVariants.{Do, Wait, Speak}
@@ -9,46 +9,59 @@ use Rattle.area_rules.specs.Area.{object}
 use Rattle.local_variables.specs.Variables.{Variable}
 use Rattle.delay_agenda.specs.Waiting.{turn_count}
 use Rattle.delay_agenda.specs.declared.entry.Kind.TheVariants.{Event, Stored, Turn, Unapply}
-use Rattle.nwq_value.specs.Engine.{EngineTable}
 use Rattle.nwq_value.specs.declared.engine.Role.{Role}
 use Rattle.nwq_value.specs.declared.engine.Role.TheVariants as role
 use Rattle.nwq_value.specs.declared.engine.Routine.{Routine}
 use Rattle.nwq_value.specs.Effect.{Effect}
 use Rattle.world_rules.specs.declared.data.Told.{Told}
 use Rattle.world_rules.specs.declared.data.Told.TheVariants as line
-use Rattle.world_rules.specs.Arguments.{int_at, text_at, object_at, effect_at, event_at, at_least_zero}
+use Rattle.world_rules.specs.Arguments.{int_at, text_at, object_at, effect_at, event_at}
 use Rattle.world_rules.specs.Pure.{CellLookup}
 use Rattle.world_rules.specs.World.{World, count, is_valid, queue_of, effects_of}
 use Rattle.world_rules.specs.Changes.{told, post, later, with_action, with_actions, with_busy, with_effect, with_effects, with_variables, has_turn, without_turn, without_first, is_effect}
-use Rattle.world_rules.specs.Rows.{Call, Answered, Row, rows, drawn_from, drawn, assigned, delayed, awake, appended, appended_do, at_rest, cleared, changed_variables, applied, applied_to, removed, event_script, signalled}
+use Rattle.world_rules.specs.Rows.{Call, Row, rows, drawn_from, drawn, assigned, delayed, awake, appended, appended_do, at_rest, cleared, changed_variables, applied, applied_to, removed, event_script, signalled}
 use Rattle.world_rules.specs.Engine.{row_numbered, by_row, by_role, by_routine, engine}
 use Rattle.world_rules.specs.Kept.{turns_allowed, IsWorld, IsSettled, IsStep, EngineKeeps}
 use Rattle.world_rules.proofs.Queues.{other_queue, same_mark, no_actions, settled_by, busy_settled, cleared_settled}
-use Rattle.world_rules.proofs.KeptLemmas.{AgendaLaws, marks_actions, marks_kept, step_behind, SameShape, same_shape, shapes_join, shape_if, shape_effects, shape_variables, shape_kept, shape_step, step_after, step_if, post_step, same_or_other, valid_tells, none_when, woken_settled, awake_if, rest_step}
+use Rattle.world_rules.proofs.KeptLemmas.{AgendaLaws, marks_actions, marks_kept, step_behind, SameShape, same_shape, shapes_join, shape_if, shape_effects, shape_variables, shape_kept, shape_step, stays_by, soon_later, late_later, step_after, step_if, post_step, same_or_other, valid_tells, none_when, woken_settled, awake_if, rest_step}
 
 pub shape_told : {X : Type 0} (o : ℕ) (what : Told) (w : World X) → SameShape w (told o what w)
-shape_told o what w = record { clock = refl; objects = refl; things = refl; agenda = refl; queues = λ p. refl }
+shape_told o what w = record {
+  clock = refl;
+  objects = refl;
+  things = refl;
+  agenda = refl;
+  queues = λ p. refl;
+  plan = stays_by w (told o what w) refl refl (λ most few. few) refl refl;
+}
 
-shape_random : {X : Type 0} (rest : List ℕ) (w : World X) → SameShape w (record w { random = rest })
-shape_random rest w = record { clock = refl; objects = refl; things = refl; agenda = refl; queues = λ p. refl }
+shape_random : {X : Type 0} (rest : List ℕ) (w : World X) → length rest ≤ length w.random → SameShape w (record w { random = rest })
+shape_random rest w fewer = record {
+  clock = refl;
+  objects = refl;
+  things = refl;
+  agenda = refl;
+  queues = λ p. refl;
+  plan = stays_by w (record w { random = rest }) refl refl (λ most few. omega (arith, fewer, few)) refl refl;
+}
 
-shape_drawn_from : {X : Type 0} (rs : List ℕ) (n : ℕ) (w : World X) → SameShape w (drawn_from rs n w).world
-shape_drawn_from [] n w = same_shape w
-shape_drawn_from (r ∷ rs) n w = shape_random rs w
+shape_drawn_from : {X : Type 0} (rs : List ℕ) (n : ℕ) (w : World X) → w.random ≡ rs → SameShape w (drawn_from rs n w).world
+shape_drawn_from [] n w same = same_shape w
+shape_drawn_from (r ∷ rs) n w same = shape_random rs w (let all = ap length same in omega (arith, all))
 
 shape_drawn : {X : Type 0} (n : ℤ) (w : World X) → SameShape w (drawn n w).world
 shape_drawn (negsuc n) w = same_shape w
 shape_drawn (pos zero) w = same_shape w
-shape_drawn (pos (suc n)) w = shape_drawn_from w.random (suc n) w
+shape_drawn (pos (suc n)) w = shape_drawn_from w.random (suc n) w refl
 
 step_assigned : {X : Type 0} (laws : AgendaLaws X) (o : ℕ) (a : Option X) (w : World X) → IsWorld w → IsStep w (assigned o a w)
 step_assigned laws o None w h = shape_step w w (same_shape w) h
 step_assigned laws o (Some x) w h = step_if (is_valid o w) w (post w.clock (Stored o x) w) h
-    (λ valid. post_step laws w.clock (Stored o x) w h (valid_tells o w valid).1 (omega arith) (λ p. refl))
+    (λ valid. post_step laws w.clock (Stored o x) w h (valid_tells o w valid).1 (omega arith) (omega arith) (λ p. refl))
 
 step_delayed : {X : Type 0} (laws : AgendaLaws X) (o : ℕ) (ms : ℤ) (a : Option X) (w : World X) → IsWorld w → o ≤ count w → IsStep w (delayed o ms a w)
 step_delayed laws o ms None w h most = shape_step w w (same_shape w) h
-step_delayed laws o ms (Some x) w h most = post_step laws (later ms w) (Stored o x) w h most (omega arith) (λ p. refl)
+step_delayed laws o ms (Some x) w h most = post_step laws (later ms w) (Stored o x) w h most (late_later ms w) (soon_later ms w) (λ p. refl)
 
 -- an object that turns to one action more is busy, with one Turn
 appended_if : {X : Type 0} (laws : AgendaLaws X) (b : Bool) (o p : ℕ) (item : Item X) (w : World X) → IsWorld (with_action o item w)
@@ -111,7 +124,7 @@ step_applied laws (pos (suc zero)) o e ms w h one most =
     let v = with_effect o (Some w.agenda.next) e t in
     let s = shapes_join w t v (shape_told o (line.Apply (pos 1) e) w) (shape_effect o (Some w.agenda.next) e t) in
     step_after w v (post (later ms w) (Unapply o) v) s
-    (post_step laws (later ms w) (Unapply o) v (shape_kept w v s h) (one, most) (omega arith) (λ p. refl))
+    (post_step laws (later ms w) (Unapply o) v (shape_kept w v s h) (one, most) (late_later ms w) (soon_later ms w) (λ p. refl))
 step_applied laws (pos (suc (suc zero))) o e ms w h one most =
     let t = told o (line.Apply (pos 2) e) w in
     shape_step w (with_effect o None e t) (shapes_join w t (with_effect o None e t) (shape_told o (line.Apply (pos 2) e) w) (shape_effect o None e t)) h
@@ -130,7 +143,7 @@ step_removed o e w h =
 
 step_signalled : {X : Type 0} (laws : AgendaLaws X) (o : ℕ) (user : ℤ) (w : World X) → IsWorld w → IsStep w (signalled o user w)
 step_signalled laws o user w h = step_if (is_valid o w) w (post w.clock (Event o (event_script (object w.area o).scripts) user) w) h
-    (λ valid. post_step laws w.clock (Event o (event_script (object w.area o).scripts) user) w h (valid_tells o w valid).1 (omega arith) (λ p. refl))
+    (λ valid. post_step laws w.clock (Event o (event_script (object w.area o).scripts) user) w h (valid_tells o w valid).1 (omega arith) (omega arith) (λ p. refl))
 
 -- ---- the rows
 

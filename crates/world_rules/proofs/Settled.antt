@@ -1,5 +1,5 @@
 -- Plays keep worlds between entries.
-use Rattle.std.proofs.Common.{◌≡◌, ◌≢◌, ℕ, ◌≤◌, pos, zero, suc, Bool, true, false, List, [], ◌∷◌, length, Option, None, Some, refl, sym, ap, subst, ◌∙◌, inl, inr, arith, true≢false}
+use Rattle.std.proofs.Common.{◌≡◌, ◌≢◌, ℕ, ◌+◌, ◌≤◌, pos, zero, zero-add, suc, Bool, true, false, List, [], ◌∷◌, length, Option, None, Some, refl, sym, ap, subst, ◌∙◌, inl, inr, arith, true≢false}
 use Rattle.std.specs.Prelude.{if◌then◌else◌, ◌⊎◌, ◌&&◌, ◌==◌, nat_eq, nat_le, nat_lt, IfSome, IsTrue, MatchOption, replicate, slice_get}
 use Rattle.std.specs.List.{AllByRecursion, fold}
 use Rattle.std.proofs.lemmas.Bool.Decides.{nat_tests}
@@ -13,14 +13,15 @@ use Rattle.delay_agenda.specs.declared.entry.Kind.{Kind}
 use Rattle.delay_agenda.specs.declared.entry.Kind.TheVariants.{Event, Stored, Turn, Unapply}
 use Rattle.world_rules.specs.declared.data.Told.TheVariants as line
 use Rattle.world_rules.specs.World.{World, count, is_valid, queue_in, queue_of}
-use Rattle.world_rules.specs.Changes.{told, post, later, with_actions, with_busy}
+use Rattle.world_rules.specs.Changes.{told, later, with_actions, with_busy}
 use Rattle.world_rules.specs.Turns.{Planned, idle, still, with_planned, new_world, user_number, Begun, with_entries, begun, begin, next_turn, turn_done, Turned, turned, turn, unapply, fault, drained}
 use Rattle.world_rules.specs.Engine.{no_script}
-use Rattle.world_rules.specs.Plays.{Ending, Over, Divided, Stopped, Run, Runner, Entered, quiet, finished_as, finished, named_entry, event_entry, turn_entry, entered_as, entered, Progress, further, Done, OutOfEntries, StoppedInside, Paused, Played, Bounds, full, after_entry, next_entry, plays}
+use Rattle.world_rules.specs.Plays.{Ending, Over, Divided, Stopped, Run, Runner, Entered, quiet, finished_as, finished, named_entry, event_entry, turn_entry, entered_as, entered, Progress, further, Done, Paused, PlayEnd, Played, Bounds, full, after_entry, next_entry, plays}
 use Rattle.world_rules.specs.Kept.{IsPlaced, IsWorld, IsActing, IsSettled, IsStep, IsBegun}
-use Rattle.world_rules.specs.Settled.{IsBetween, IsLed, KeepsToEngine, NewIsBetween, IsEntered, EntriesSettle, HasSettled, PlaysSettle}
+use Rattle.world_rules.specs.InPlan.{StaysInPlan}
+use Rattle.world_rules.specs.Settled.{IsBetween, IsLed, stays_so, stays_on, KeepsToEngine, NewIsBetween, IsPlanned, NewIsPlanned, IsEntered, EntriesSettle, HasSettled, PlaysSettle}
 use Rattle.world_rules.proofs.Queues.{other_queue, mark_actions, idle_mark, settled_by, idle_settled}
-use Rattle.world_rules.proofs.KeptLemmas.{AgendaLaws, marks_actions, marks_acting, post_step, same_or_other, valid_tells, turn_settles}
+use Rattle.world_rules.proofs.KeptLemmas.{AgendaLaws, marks_actions, marks_acting, all_put, post_kept, post_settled, same_or_other, valid_tells, turn_settles}
 use Rattle.world_rules.proofs.TurnsKept.{begin_keeps, still_kept, turn_keeps, turn_done_keeps, unapply_keeps, fault_keeps, no_script_keeps, drained_keeps}
 
 abbrev All : {X : Type 0} → World X → Type 0
@@ -30,12 +31,18 @@ All w = (p : ℕ) → IsSettled p w
 abbrev Others : {X : Type 0} → ℕ → World X → Type 0
 Others o w = (p : ℕ) → p ≢ o → IsSettled p w
 
--- a world in which a Turn of an object is done
-record IsTurning {X : Type 0} (o : ℕ) (w : World X) : Type 0 where
+-- a world in which a Turn of an object is done that was in another world before
+record IsTurning {X : Type 0} (until : ℕ) (before : World X) (o : ℕ) (w : World X) : Type 0 where
   world : IsWorld w
   valid : IsTrue (is_valid o w)
   acting : IsActing o w
   others : Others o w
+  plan : StaysInPlan until before w
+
+-- a world between entries to which another one came
+record Comes {X : Type 0} (until : ℕ) (before w : World X) : Type 0 where
+  between : IsBetween w
+  plan : StaysInPlan until before w
 
 -- ---- a Turn
 
@@ -110,119 +117,195 @@ begun_awaits until (Unapply o) e rest w same kind all = λ p. taken_settled p un
 
 -- ---- entries
 
-led_between : {X : Type 0} (w v : World X) → All w → IsLed w v → IsBetween v
-led_between w v all l = record { world = l.world; settled = λ o. l.settled o (all o) }
+led_comes : {X : Type 0} (until : ℕ) (before w v : World X) → Comes until before w → IsLed w v → Comes until before v
+led_comes until before w v c l = record {
+  between = record { world = l.world; settled = λ o. l.settled o (c.between.settled o) };
+  plan = stays_on until before w v c.plan (l.plan until);
+}
 
-step_between : {X : Type 0} (w v : World X) → All w → IsStep w v → IsBetween v
-step_between w v all s = record { world = s.world; settled = λ o. s.settled o (all o) }
+step_comes : {X : Type 0} (until : ℕ) (before w v : World X) → Comes until before w → IsStep w v → Comes until before v
+step_comes until before w v c s = record {
+  between = record { world = s.world; settled = λ o. s.settled o (c.between.settled o) };
+  plan = stays_on until before w v c.plan (s.plan until);
+}
 
-quiet_entered : {X : Type 0} (w : World X) → IsBetween w → IsEntered (quiet w)
-quiet_entered w b = record { world = b.world; between = λ _. b }
+stays_between : {X : Type 0} (until : ℕ) (w : World X) → IsWorld w → All w → Comes until w w
+stays_between until w h all = record { between = record { world = h; settled = all }; plan = stays_so until w }
+
+quiet_entered : {X : Type 0} (until : ℕ) (before w : World X) → Comes until before w → IsEntered until before (quiet w)
+quiet_entered until before w c = record { world = c.between.world; plan = c.plan; between = λ _. c.between }
 
 is_there : (o most : ℕ) → 1 ≤ o → o ≤ most → IsTrue (nat_lt 0 o && nat_le o most)
 is_there o most one within = grind (arith, nat_tests, one, within)
 
 -- an entry whose scripts are over is finished, in worlds of which something is known
-ends_as : {X : Type 0} (P : World X → Type 0) (rest : World X → World X) → ((w : World X) → P w → IsWorld w) → ((o : ℕ) (w : World X) → P w → P (fault o w))
-    → ((w : World X) → P w → IsBetween (rest w)) → (ending : Ending) (r : Run X) → P r.world → IsEntered (finished_as ending rest r)
-ends_as P rest kept faulted done Over r p = record { world = (done r.world p).world; between = λ _. done r.world p }
-ends_as P rest kept faulted done (Divided self) r p =
-    let b = done (fault self r.world) (faulted self r.world p) in
-    record { world = b.world; between = λ _. b }
-ends_as P rest kept faulted done Stopped r p = record { world = kept r.world p; between = λ h. absurd (true≢false h) }
+ends_as : {X : Type 0} (until : ℕ) (before : World X) (P : World X → Type 0) (rest : World X → World X) → ((w : World X) → P w → IsWorld w)
+    → ((w : World X) → P w → StaysInPlan until before w) → ((o : ℕ) (w : World X) → P w → P (fault o w))
+    → ((w : World X) → P w → Comes until before (rest w)) → (ending : Ending) (r : Run X) → P r.world → IsEntered until before (finished_as ending rest r)
+ends_as until before P rest kept stays faulted done Over r p =
+    let c = done r.world p in
+    record { world = c.between.world; plan = c.plan; between = λ _. c.between }
+ends_as until before P rest kept stays faulted done (Divided self) r p =
+    let c = done (fault self r.world) (faulted self r.world p) in
+    record { world = c.between.world; plan = c.plan; between = λ _. c.between }
+ends_as until before P rest kept stays faulted done Stopped r p =
+    record { world = kept r.world p; plan = stays r.world p; between = λ h. absurd (true≢false h) }
 
-between_ends : {X : Type 0} (r : Run X) → IsBetween r.world → IsEntered (finished (λ v. v) r)
-between_ends r b = ends_as IsBetween (λ v. v) (λ w b. b.world) (λ o w b. step_between w (fault o w) b.settled (fault_keeps o w b.world)) (λ w b. b) r.ending r b
+between_ends : {X : Type 0} (until : ℕ) (before : World X) (r : Run X) → Comes until before r.world → IsEntered until before (finished (λ v. v) r)
+between_ends until before r c = ends_as until before (Comes until before) (λ v. v) (λ w c. c.between.world) (λ w c. c.plan)
+    (λ o w c. step_comes until before w (fault o w) c (fault_keeps o w c.between.world)) (λ w c. c) r.ending r c
 
-led_turning : {X : Type 0} (o : ℕ) (w v : World X) → IsTurning o w → IsLed w v → IsTurning o v
-led_turning o w v t l = record {
+led_turning : {X : Type 0} (until : ℕ) (before : World X) (o : ℕ) (w v : World X) → IsTurning until before o w → IsLed w v → IsTurning until before o v
+led_turning until before o w v t l = record {
   world = l.world;
   valid = ap (λ n. nat_lt 0 o && nat_le o n) l.objects ∙ t.valid;
   acting = l.acting o t.acting;
   others = λ p apart. l.settled p (t.others p apart);
+  plan = stays_on until before w v t.plan (l.plan until);
 }
 
-turning_ends : {X : Type 0} (laws : AgendaLaws X) (o : ℕ) (r : Run X) → IsTurning o r.world → IsEntered (finished (turn_done o) r)
-turning_ends laws o r t = ends_as (IsTurning o) (turn_done o) (λ w t. t.world)
-    (λ p w t. let s = fault_keeps p w t.world in
-    record { world = s.world; valid = t.valid; acting = s.acting o t.acting; others = λ q apart. s.settled q (t.others q apart) })
-    (λ w t. record { world = (turn_done_keeps laws o w t.world t.valid t.acting).world; settled = done_settles laws o w t.acting t.others })
+turning_ends : {X : Type 0} (laws : AgendaLaws X) (until : ℕ) (before : World X) (o : ℕ) (r : Run X) → IsTurning until before o r.world
+    → IsEntered until before (finished (turn_done o) r)
+turning_ends laws until before o r t = ends_as until before (IsTurning until before o) (turn_done o) (λ w t. t.world) (λ w t. t.plan)
+    (λ p w t. let s = fault_keeps p w t.world in record {
+      world = s.world;
+      valid = t.valid;
+      acting = s.acting o t.acting;
+      others = λ q apart. s.settled q (t.others q apart);
+      plan = stays_on until before w (fault p w) t.plan (s.plan until);
+    })
+    (λ w t. let d = turn_done_keeps laws o w t.world t.valid t.acting in record {
+      between = record { world = d.world; settled = done_settles laws o w t.acting t.others };
+      plan = stays_on until before w (turn_done o w) t.plan (d.plan until);
+    })
     r.ending r t
 
-module _ {X : Type 0} (laws : AgendaLaws X) (runner : Runner X) (keeps : KeepsToEngine runner) where
-  named_settles : (o : ℕ) (name : List ℕ) (script : Option ℕ) (w : World X) → IsBetween w → o ≤ count w → IsEntered (named_entry runner o name script w)
-  named_settles o name None w b most = quiet_entered (no_script o name w) (step_between w (no_script o name w) b.settled (no_script_keeps o name w b.world))
-  named_settles o name (Some script) w b most = between_ends (runner.script script o w) (led_between w _ b.settled (keeps.script script o w b.world most))
+module _ {X : Type 0} (laws : AgendaLaws X) (runner : Runner X) (keeps : KeepsToEngine runner) (until : ℕ) where
+  script_comes : (script self : ℕ) (w : World X) → IsWorld w → All w → self ≤ count w → Comes until w (runner.script script self w).world
+  script_comes script self w h all most =
+      led_comes until w w (runner.script script self w).world (stays_between until w h all) (keeps.script script self w h most)
 
-  event_settles : (o : ℕ) (name : List ℕ) (w : World X) → IsBetween w → o ≤ count w → IsEntered (event_entry runner o name w)
-  event_settles o [] w b most = quiet_entered w b
-  event_settles o (c ∷ name) w b most = named_settles o (c ∷ name) (runner.named (c ∷ name)) w b most
+  stored_comes : (x : X) (self : ℕ) (w : World X) → IsWorld w → All w → self ≤ count w → Comes until w (runner.stored x self w).world
+  stored_comes x self w h all most =
+      led_comes until w w (runner.stored x self w).world (stays_between until w h all) (keeps.stored x self w h most)
 
-  action_settles : (o : ℕ) (action : Option X) (w : World X) → IsWorld w → IsTrue (is_valid o w) → MatchOption action (All w) (λ x. Others o w)
-      → MatchOption action (Unit {0}) (λ x. IsActing o w) → IsEntered (turn_entry runner o action w)
-  action_settles o None w h valid settled acting = quiet_entered w (record { world = h; settled = settled })
-  action_settles o (Some x) w h valid settled acting =
-      turning_ends laws o (runner.stored x o w)
-      (led_turning o w _ (record { world = h; valid = valid; acting = acting; others = settled }) (keeps.stored x o w h (valid_tells o w valid).1))
+  named_settles : (o : ℕ) (name : List ℕ) (script : Option ℕ) (w : World X) → IsWorld w → All w → o ≤ count w
+      → IsEntered until w (named_entry runner o name script w)
+  named_settles o name None w h all most = quiet_entered until w (no_script o name w)
+      (step_comes until w w (no_script o name w) (stays_between until w h all) (no_script_keeps o name w h))
+  named_settles o name (Some script) w h all most = between_ends until w (runner.script script o w) (script_comes script o w h all most)
+
+  event_settles : (o : ℕ) (name : List ℕ) (w : World X) → IsWorld w → All w → o ≤ count w → IsEntered until w (event_entry runner o name w)
+  event_settles o [] w h all most = quiet_entered until w w (stays_between until w h all)
+  event_settles o (c ∷ name) w h all most = named_settles o (c ∷ name) (runner.named (c ∷ name)) w h all most
+
+  action_settles : (before : World X) (o : ℕ) (action : Option X) (w : World X) → StaysInPlan until before w → IsWorld w → IsTrue (is_valid o w)
+      → MatchOption action (All w) (λ x. Others o w) → MatchOption action (Unit {0}) (λ x. IsActing o w) → IsEntered until before (turn_entry runner o action w)
+  action_settles before o None w plan h valid settled acting =
+      quiet_entered until before w (record { between = record { world = h; settled = settled }; plan = plan })
+  action_settles before o (Some x) w plan h valid settled acting =
+      turning_ends laws until before o (runner.stored x o w)
+      (led_turning until before o w _ (record { world = h; valid = valid; acting = acting; others = settled; plan = plan })
+      (keeps.stored x o w h (valid_tells o w valid).1))
 
   entered_settles : (k : Kind X) (number : ℕ) (w : World X) → IsWorld w → IsPlaced (count w) k → ((o : ℕ) → k ≡ Turn o → IsActing o w) → Awaits k w
-      → IsEntered (entered_as runner k number w)
-  entered_settles (Event o name user) number w h most acting all = event_settles o name w (record { world = h; settled = all }) most
-  entered_settles (Stored o x) number w h most acting all = between_ends (runner.stored x o w) (led_between w _ all (keeps.stored x o w h most))
+      → IsEntered until w (entered_as runner k number w)
+  entered_settles (Event o name user) number w h most acting all = event_settles o name w h all most
+  entered_settles (Stored o x) number w h most acting all = between_ends until w (runner.stored x o w) (stored_comes x o w h all most)
   entered_settles (Turn o) number w h placed acting others =
       let valid = is_there o (count w) placed.0 placed.1 in
       let t = turn_keeps laws o w h valid (acting o refl) in
-      action_settles o (turn o w).action (turn o w).world t.world (ap (λ n. nat_lt 0 o && nat_le o n) t.objects ∙ valid)
+      action_settles w o (turn o w).action (turn o w).world (t.plan until) t.world (ap (λ n. nat_lt 0 o && nat_le o n) t.objects ∙ valid)
       (turned_settles laws o (queue_of o w).actions w refl (acting o refl) others) t.acting
-  entered_settles (Unapply o) number w h most acting all =
-      quiet_entered (unapply o number w) (step_between w (unapply o number w) all (unapply_keeps o number w h))
+  entered_settles (Unapply o) number w h most acting all = quiet_entered until w (unapply o number w)
+      (step_comes until w w (unapply o number w) (stays_between until w h all) (unapply_keeps o number w h))
 
   -- ---- plays
 
   module _ (take : TakeKeeps X) where
-    begun_if : (c : Bool) (until : ℕ) (e : Entry X) (rest : List (Entry X)) (w : World X) → w.agenda.entries ≡ e ∷ rest → IsBetween w
-        → IfSome (if c then Some (begun_as e rest w) else None) (IsBegun until w) → IfSome (if c then Some (begun_as e rest w) else None) (λ b. IsEntered (entered runner b))
-    begun_if true until e rest w same b k = entered_settles e.kind e.number (begun_as e rest w).world k.world
-        (subst (λ n. IsPlaced n e.kind) (sym k.objects) k.placed) k.acting (begun_awaits until e.kind e rest w same refl b.settled)
-    begun_if false until e rest w same b k = tt
+    entered_from : (w v : World X) (e : Entered X) → StaysInPlan until w v → IsEntered until v e → IsEntered until w e
+    entered_from w v e plan k = record { world = k.world; plan = stays_on until w v e.world plan k.plan; between = k.between }
 
-    begun_settles : (until : ℕ) (es : List (Entry X)) (w : World X) → w.agenda.entries ≡ es → IsBetween w → IfSome (begun until es w) (IsBegun until w)
-        → IfSome (begun until es w) (λ b. IsEntered (entered runner b))
-    begun_settles until [] w same b k = tt
-    begun_settles until (e ∷ rest) w same b k = begun_if (nat_le e.due until) until e rest w same b k
+    begun_if : (c : Bool) (e : Entry X) (rest : List (Entry X)) (w : World X) → w.agenda.entries ≡ e ∷ rest → IsBetween w
+        → IfSome (if c then Some (begun_as e rest w) else None) (IsBegun until w)
+        → IfSome (if c then Some (begun_as e rest w) else None) (λ b. IsEntered until w (entered runner b))
+    begun_if true e rest w same b k = entered_from w (begun_as e rest w).world (entered runner (begun_as e rest w)) k.plan
+        (entered_settles e.kind e.number (begun_as e rest w).world k.world
+        (subst (λ n. IsPlaced n e.kind) (sym k.objects) k.placed) k.acting (begun_awaits until e.kind e rest w same refl b.settled))
+    begun_if false e rest w same b k = tt
 
-    pub entry_settles : (until : ℕ) (w : World X) → IsBetween w → IfSome (begin until w) (λ b. IsEntered (entered runner b))
-    entry_settles until w b = begun_settles until w.agenda.entries w refl b (begin_keeps take until w b.world)
+    begun_settles : (es : List (Entry X)) (w : World X) → w.agenda.entries ≡ es → IsBetween w → IfSome (begun until es w) (IsBegun until w)
+        → IfSome (begun until es w) (λ b. IsEntered until w (entered runner b))
+    begun_settles [] w same b k = tt
+    begun_settles (e ∷ rest) w same b k = begun_if (nat_le e.due until) e rest w same b k
 
-    module _ (bounds : Bounds) where
-      after_settles : (go : Progress X → Played X) → ((p : Progress X) → IsBetween p.world → HasSettled (go p)) → (stopped : Bool) (p : Progress X)
-          → IsWorld p.world → (stopped ≡ false → IsBetween p.world) → HasSettled (after_entry stopped p go)
-      after_settles go goes true p h b = record { world = h; between = λ apart. absurd (apart refl) }
-      after_settles go goes false p h b = goes p (b refl)
+    pub entry_settles : (w : World X) → IsBetween w → IfSome (begin until w) (λ b. IsEntered until w (entered runner b))
+    entry_settles w b = begun_settles w.agenda.entries w refl b (begin_keeps take until w b.world)
 
-      drained_between : (w : World X) → IsBetween w → IsBetween (drained w)
-      drained_between w b = step_between w (drained w) b.settled (drained_keeps w b.world)
+module _ {X : Type 0} (laws : AgendaLaws X) (take : TakeKeeps X) (runner : Runner X) (keeps : KeepsToEngine runner) (bounds : Bounds) where
+  abbrev Goes : ℕ → (Progress X → Played X) → Type 0
+  Goes left go = (p : Progress X) → IsBetween p.world → HasSettled bounds left p (go p)
 
-      next_settles_play : (go : Progress X → Played X) → ((p : Progress X) → IsBetween p.world → HasSettled (go p)) → (b : Option (Begun X)) (p : Progress X)
-          → IsBetween p.world → IfSome b (λ b. IsEntered (entered runner b)) → HasSettled (next_entry runner b p go)
-      next_settles_play go goes None p between k = record { world = between.world; between = λ _. between }
-      next_settles_play go goes (Some b) p between k = after_settles go goes (entered runner b).stopped (further (entered runner b) p)
-          (drained_keeps (entered runner b).world k.world).world (λ runs. drained_between (entered runner b).world (k.between runs))
+  stays_played : (ending : PlayEnd) (left : ℕ) (p : Progress X) → IsBetween p.world → HasSettled bounds left p (record { ending = ending; last = p })
+  stays_played ending left p between = record {
+    world = between.world;
+    between = λ _. between;
+    plan = stays_so bounds.until p.world;
+    entries = λ few. few;
+    further = omega arith;
+  }
 
-      turn_settled : (go : Progress X → Played X) → ((p : Progress X) → IsBetween p.world → HasSettled (go p)) → (is_full : Bool) (p : Progress X) → IsBetween p.world
-          → HasSettled (if is_full then record { ending = full (begin bounds.until p.world); last = p } else next_entry runner (begin bounds.until p.world) p go)
-      turn_settled go goes true p between = record { world = between.world; between = λ _. between }
-      turn_settled go goes false p between = next_settles_play go goes (begin bounds.until p.world) p between (entry_settles bounds.until p.world between)
+  apart_of : (m n : ℕ) → (m == n) ≡ false → m ≢ n
+  apart_of m n h same = absurd (grind (arith, nat_tests, h, same))
 
-      pub play_settles : (left : ℕ) (p : Progress X) → IsBetween p.world → HasSettled (plays runner bounds left p)
-      play_settles zero p between = record { world = between.world; between = λ _. between }
-      play_settles (suc left) p between = turn_settled (plays runner bounds left) (play_settles left) (p.entries == bounds.entries) p between
+  -- an entry that was taken, and the play from there on
+  after_settles : (left : ℕ) (go : Progress X → Played X) → Goes left go → (e : Entered X) (p : Progress X) → p.entries ≢ bounds.entries
+      → IsEntered bounds.until p.world e → (stopped : Bool) → e.stopped ≡ stopped → HasSettled bounds (suc left) p (after_entry stopped (further e p) go)
+  after_settles left go goes e p apart k true same =
+      let d = drained_keeps e.world k.world in
+      record {
+        world = d.world;
+        between = λ other. absurd (other refl);
+        plan = stays_on bounds.until p.world e.world (drained e.world) k.plan (d.plan bounds.until);
+        entries = λ few. omega (arith, few, apart);
+        further = omega arith;
+      }
+  after_settles left go goes e p apart k false same =
+      let d = drained_keeps e.world k.world in
+      let b = k.between same in
+      let g = goes (further e p) (record { world = d.world; settled = λ o. d.settled o (b.settled o) }) in
+      let most = g.further in
+      record {
+        world = g.world;
+        between = g.between;
+        plan = stays_on bounds.until p.world (drained e.world) (go (further e p)).last.world
+            (stays_on bounds.until p.world e.world (drained e.world) k.plan (d.plan bounds.until)) g.plan;
+        entries = λ few. g.entries (omega (arith, few, apart));
+        further = omega (arith, most);
+      }
+
+  next_settles_play : (left : ℕ) (go : Progress X → Played X) → Goes left go → (b : Option (Begun X)) (p : Progress X) → p.entries ≢ bounds.entries
+      → IsBetween p.world → IfSome b (λ b. IsEntered bounds.until p.world (entered runner b)) → HasSettled bounds (suc left) p (next_entry runner b p go)
+  next_settles_play left go goes None p apart between k = stays_played Done (suc left) p between
+  next_settles_play left go goes (Some b) p apart between k =
+      after_settles left go goes (entered runner b) p apart k (entered runner b).stopped refl
+
+  turn_settled : (left : ℕ) (go : Progress X → Played X) → Goes left go → (is_full : Bool) (p : Progress X) → (p.entries == bounds.entries) ≡ is_full
+      → IsBetween p.world → HasSettled bounds (suc left) p
+      (if is_full then record { ending = full (begin bounds.until p.world); last = p } else next_entry runner (begin bounds.until p.world) p go)
+  turn_settled left go goes true p same between = stays_played (full (begin bounds.until p.world)) (suc left) p between
+  turn_settled left go goes false p same between = next_settles_play left go goes (begin bounds.until p.world) p (apart_of p.entries bounds.entries same)
+      between (entry_settles laws runner keeps bounds.until take p.world between)
+
+  pub play_settles : (left : ℕ) (p : Progress X) → IsBetween p.world → HasSettled bounds left p (plays runner bounds left p)
+  play_settles zero p between = stays_played Paused zero p between
+  play_settles (suc left) p between = turn_settled left (plays runner bounds left) (play_settles left) (p.entries == bounds.entries) p refl between
 
 pub entries_settle : {X : Type 0} → AgendaLaws X → TakeKeeps X → EntriesSettle X
-entries_settle laws take runner until w keeps between = entry_settles laws runner keeps take until w between
+entries_settle laws take runner until w keeps between = entry_settles laws runner keeps until take w between
 
 pub plays_settle : {X : Type 0} → AgendaLaws X → TakeKeeps X → PlaysSettle X
-plays_settle laws take runner bounds left p keeps between = play_settles laws runner keeps take bounds left p between
+plays_settle laws take runner bounds left p keeps between = play_settles laws take runner keeps bounds left p between
 
 -- ---- the world at the beginning
 
@@ -245,9 +328,36 @@ planned_between : {X : Type 0} (laws : AgendaLaws X) (n : ℕ) (events : List Pl
 planned_between laws n [] w b objects clock all = b
 planned_between laws n (p ∷ events) w b objects clock all =
     let placed = all.0 in
-    let step = post_step laws p.due (Event p.object p.script (pos 0)) w b.world (omega (arith, placed, objects)) (omega (arith, clock)) (λ o. refl) in
-    planned_between laws n events (with_planned w p) (step_between w (with_planned w p) b.settled step) objects clock all.1
+    let k : Kind _ = Event p.object p.script (pos 0) in
+    let kept = post_kept laws p.due k w b.world (omega (arith, placed, objects)) (omega (arith, clock)) (λ o. refl) in
+    planned_between laws n events (with_planned w p) (record { world = kept; settled = λ o. post_settled laws p.due k w (λ o. refl) o (b.settled o) })
+    objects clock all.1
 
 pub new_is_between : {X : Type 0} → AgendaLaws X → NewIsBetween X
 new_is_between laws area random events version all = planned_between laws (length area.objects) events (still area random version)
     (record { world = still_kept area random version; settled = still_settled area random version }) refl refl all
+
+-- ---- what the plan gives it
+
+still_planned : {X : Type 0} (area : PlainArea) (random : List ℕ) (version time : ℕ) → IsPlanned area random version time 0 (still {X = X} area random version)
+still_planned area random version time = record { clock = refl; tree = refl; version = refl; random = refl; next = refl; due = tt }
+
+planned_more : {X : Type 0} (area : PlainArea) (random : List ℕ) (version time before : ℕ) (events : List Planned) (w : World X)
+    → AllByRecursion (λ (p : Planned). p.due ≤ time) events → IsPlanned area random version time before w
+    → IsPlanned area random version time (before + length events) (fold with_planned w events)
+planned_more area random version time before [] w all is = subst (λ n. IsPlanned area random version time n w) (omega arith) is
+planned_more area random version time before (p ∷ events) w all is =
+    subst (λ n. IsPlanned area random version time n (fold with_planned (with_planned w p) events)) (omega arith)
+    (planned_more area random version time (before + 1) events (with_planned w p) all.1 (record {
+      clock = is.clock;
+      tree = is.tree;
+      version = is.version;
+      random = is.random;
+      next = let n = is.next in omega (arith, n);
+      due = all_put (λ (e : Entry _). e.due ≤ time) (record { due = p.due; number = w.agenda.next; kind = Event p.object p.script (pos 0) }) w.agenda.entries all.0 is.due;
+    }))
+
+pub new_is_planned : {X : Type 0} → NewIsPlanned X
+new_is_planned {X = X} area random events version time all =
+    subst (λ n. IsPlanned {X = X} area random version time n (new_world area random events version)) (zero-add (length events))
+    (planned_more area random version time 0 events (still area random version) all (still_planned area random version time))

@@ -1,6 +1,6 @@
 -- What entries do keeps what worlds keep.
-use Rattle.std.proofs.Common.{◌≡◌, ◌≢◌, ℕ, ℤ, pos, ◌+◌, ◌≤◌, zero, suc, Bool, true, false, List, [], ◌∷◌, length, drop, Option, None, Some, refl, sym, ap, subst, ◌∙◌, inl, inr, arith, true≢false}
-use Rattle.std.specs.Prelude.{if◌then◌else◌, ◌⊎◌, nat_eq, nat_le, IfSome, IsTrue, replicate}
+use Rattle.std.proofs.Common.{◌≡◌, ℕ, pos, ◌≤◌, zero, suc, Bool, true, false, List, [], ◌∷◌, length, drop, Option, None, Some, refl, ap, subst, ◌∙◌, inl, inr, arith}
+use Rattle.std.specs.Prelude.{if◌then◌else◌, nat_le, IfSome, replicate}
 use Rattle.std.specs.List.{AllByRecursion, find, fold}
 use Rattle.std.proofs.lemmas.Bool.Decides.{nat_tests}
 use Rattle.action_queue.specs.declared.queue.Item.{Item}
@@ -10,17 +10,16 @@ use Rattle.delay_agenda.specs.Laws.{TakeKeeps}
 use Rattle.delay_agenda.specs.Order.{IsBefore, IsBeforeAll, AreInOrder}
 use Rattle.delay_agenda.specs.Waiting.{IsAgenda, is_turn_kind, is_turn_of, turn_count}
 use Rattle.delay_agenda.specs.declared.entry.Entry.{Entry}
-use Rattle.delay_agenda.specs.declared.entry.Kind.{Kind}
-use Rattle.delay_agenda.specs.declared.entry.Kind.TheVariants.{Event, Stored, Turn, Unapply}
+use Rattle.delay_agenda.specs.declared.entry.Kind.TheVariants.{Event, Turn}
 use Rattle.world_rules.specs.declared.data.Stood.{Stood}
-use Rattle.world_rules.specs.declared.data.Things.{Things}
 use Rattle.world_rules.specs.declared.data.Told.TheVariants as line
-use Rattle.world_rules.specs.World.{World, count, is_valid, things_at, queue_of, effects_of}
-use Rattle.world_rules.specs.Changes.{told, post, later, with_actions, with_busy, with_effects, without_first, is_numbered}
-use Rattle.world_rules.specs.Turns.{Planned, idle, still, with_planned, new_world, user_number, Begun, with_entries, begun, begin, next_turn, turn_done, Turned, turned, turn, expired, unapply, fault, drained}
+use Rattle.world_rules.specs.World.{World, count, queue_of, effects_of}
+use Rattle.world_rules.specs.Changes.{told, later, with_actions, with_busy, with_effects, without_first, is_numbered}
+use Rattle.world_rules.specs.Turns.{Planned, idle, still, with_planned, user_number, with_entries, begun, next_turn, turn_done, turned, expired, unapply, fault, drained}
 use Rattle.world_rules.specs.Engine.{no_script, too_deep}
-use Rattle.world_rules.specs.Kept.{IsPlaced, turns_allowed, IsWorld, IsActing, IsStep, IsBegun, IsTurned, IsDone, NewIsWorld, BeginKeeps, TurnKeeps, TurnDoneKeeps, UnapplyKeeps, FaultKeeps, NoScriptKeeps, TooDeepKeeps, DrainedKeeps}
-use Rattle.world_rules.proofs.KeptLemmas.{AgendaLaws, SameMarks, marks_join, marks_actions, marks_kept, marks_acting, SameShape, same_shape, shapes_join, shape_effects, shape_marks, shape_step, post_step, nat_eq_same, valid_tells, turn_kept, mark_kept}
+use Rattle.world_rules.specs.Settled.{stays_on}
+use Rattle.world_rules.specs.Kept.{IsPlaced, turns_allowed, IsWorld, IsActing, IsBegun, IsTurned, IsDone, NewIsWorld, BeginKeeps, TurnKeeps, TurnDoneKeeps, UnapplyKeeps, FaultKeeps, NoScriptKeeps, TooDeepKeeps, DrainedKeeps}
+use Rattle.world_rules.proofs.KeptLemmas.{AgendaLaws, SameMarks, marks_join, marks_actions, marks_kept, marks_acting, SameShape, same_shape, shapes_join, shape_effects, shape_marks, shape_step, post_kept, stays_by, stays_post, stays_put, soon_later, late_later, nat_eq_same, valid_tells, turn_kept, mark_kept}
 use Rattle.world_rules.proofs.RowsKept.{shape_told}
 
 -- ---- what only tells
@@ -35,7 +34,14 @@ pub too_deep_keeps : {X : Type 0} → TooDeepKeeps X
 too_deep_keeps o name w h = shape_step w (too_deep o name w) (shape_told o (line.Deep name) w) h
 
 pub drained_keeps : {X : Type 0} → DrainedKeeps X
-drained_keeps w h = shape_step w (drained w) (record { clock = refl; objects = refl; things = refl; agenda = refl; queues = λ p. refl }) h
+drained_keeps w h = shape_step w (drained w) (record {
+  clock = refl;
+  objects = refl;
+  things = refl;
+  agenda = refl;
+  queues = λ p. refl;
+  plan = stays_by w (drained w) refl refl (λ most few. few) refl refl;
+}) h
 
 shape_expired : {X : Type 0} (o number : ℕ) (s : Option Stood) (w : World X) → SameShape w (expired o number s w)
 shape_expired o number None w = same_shape w
@@ -55,6 +61,7 @@ next_turn_done laws o [] w h a one most = record {
   clock = refl;
   no_less = omega arith;
   at_most_one = omega arith;
+  plan = stays_by w (with_busy o false w) refl refl (λ most few. few) refl refl;
 }
 next_turn_done laws o (item ∷ rest) w h a one most = record {
   world = turn_kept laws w.clock o w h a one most (omega arith);
@@ -62,6 +69,7 @@ next_turn_done laws o (item ∷ rest) w h a one most = record {
   clock = refl;
   no_less = omega arith;
   at_most_one = omega arith;
+  plan = stays_post w.clock (Turn o) w (omega arith);
 }
 
 pub turn_done_keeps : {X : Type 0} → AgendaLaws X → TurnDoneKeeps X
@@ -80,6 +88,7 @@ done_after o w v u s d =
       no_less = omega (arith, next, less);
       at_most_one = omega (arith, next, most);
       acting = tt;
+      plan = λ until. stays_on until w v u (s.plan until) (d.plan until);
     }
 
 turned_keeps : {X : Type 0} (laws : AgendaLaws X) (o : ℕ) (items : List (Item X)) (w : World X) → IsWorld w → IsActing o w → 1 ≤ o → o ≤ count w → IsTurned o w (turned o items w)
@@ -90,6 +99,7 @@ turned_keeps laws o [] w h a one most = record {
   no_less = omega arith;
   at_most_one = omega arith;
   acting = tt;
+  plan = stays_by w (with_busy o false w) refl refl (λ most few. few) refl refl;
 }
 turned_keeps laws o (Do x ∷ rest) w h a one most = let s = marks_actions o rest w in record {
   world = marks_kept w (with_actions o rest w) s h;
@@ -98,14 +108,16 @@ turned_keeps laws o (Do x ∷ rest) w h a one most = let s = marks_actions o res
   no_less = omega arith;
   at_most_one = omega arith;
   acting = marks_acting w (with_actions o rest w) s o a;
+  plan = s.plan;
 }
 turned_keeps laws o (Wait ms ∷ rest) w h a one most = let s = marks_actions o rest w in record {
-  world = turn_kept laws (later ms w) o (with_actions o rest w) (marks_kept w (with_actions o rest w) s h) (marks_acting w (with_actions o rest w) s o a) one most (omega arith);
+  world = turn_kept laws (later ms w) o (with_actions o rest w) (marks_kept w (with_actions o rest w) s h) (marks_acting w (with_actions o rest w) s o a) one most (late_later ms w);
   objects = refl;
   clock = refl;
   no_less = omega arith;
   at_most_one = omega arith;
   acting = tt;
+  plan = stays_put (later ms w) (Turn o) w (with_actions o rest w) s.plan (soon_later ms w);
 }
 turned_keeps laws o (Speak bytes ∷ rest) w h a one most =
     let v = with_actions o rest w in
@@ -162,6 +174,13 @@ begun_if take true until e rest w same due h =
       next = refl;
       placed = placed.0;
       acting = λ o own. let k = own_turn o e rest (queue_of o w).busy own (turns o) in record { busy = k.0; none = k.1 };
+      plan = record {
+        tree = refl;
+        version = refl;
+        random = λ most few. few;
+        clock = λ early. due refl;
+        due = λ early time late all. (subst (λ es. AllByRecursion (λ (a : Entry _). a.due ≤ time) es) same all).1;
+      };
     }
 begun_if take false until e rest w same due h = tt
 
@@ -192,8 +211,8 @@ planned_kept : {X : Type 0} (laws : AgendaLaws X) (n : ℕ) (events : List Plann
 planned_kept laws n [] w h objects clock all = h
 planned_kept laws n (p ∷ events) w h objects clock all =
     let placed = all.0 in
-    let step = post_step laws p.due (Event p.object p.script (pos 0)) w h (omega (arith, placed, objects)) (omega (arith, clock)) (λ o. refl) in
-    planned_kept laws n events (with_planned w p) step.world objects clock all.1
+    let kept = post_kept laws p.due (Event p.object p.script (pos 0)) w h (omega (arith, placed, objects)) (omega (arith, clock)) (λ o. refl) in
+    planned_kept laws n events (with_planned w p) kept objects clock all.1
 
 pub new_is_world : {X : Type 0} → AgendaLaws X → NewIsWorld X
 new_is_world laws area random events version all = planned_kept laws (length area.objects) events (still area random version) (still_kept area random version) refl refl all

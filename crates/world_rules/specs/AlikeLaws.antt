@@ -1,5 +1,5 @@
 -- What is done to two worlds that are alike leaves them so.
-use Rattle.std.specs.Prelude.{◌≡◌, ℕ, ℤ, List, Option}
+use Rattle.std.specs.Prelude.{◌≡◌, ℕ, List, Option}
 use Rattle.area_rules.specs.Area.{PlainArea}
 use Rattle.nwq_value.specs.Engine.{EngineTable}
 use Rattle.nwq_value.specs.declared.value.Value.{Value}

@@ -1,5 +1,5 @@
 -- The small changes of a world that routines and entries are made of. Each leaves the rest of the world as it is.
-use Rattle.std.specs.Prelude.{ℕ, ℤ, ◌+◌, zero, suc, Bool, true, false, ◌&&◌, not, ◌==◌, if◌then◌else◌, List, [], ◌∷◌, ◌++◌, Option, None, Some}
+use Rattle.std.specs.Prelude.{ℕ, ℤ, ◌+◌, min, zero, suc, Bool, true, false, ◌&&◌, not, ◌==◌, if◌then◌else◌, List, [], ◌∷◌, ◌++◌, Option, None, Some}
 use Rattle.std.specs.Ordering.{int_eq}
 use Rattle.action_queue.specs.Queued.{Queued}
 use Rattle.action_queue.specs.declared.queue.Item.{Item}
@@ -22,9 +22,13 @@ told o what w = record w { trace = w.trace ++ record { clock = w.clock; object =
 abbrev pub post : {X : Type 0} → ℕ → Kind X → World X → World X
 post due kind w = record w { agenda = posted due kind w.agenda }
 
+-- the longest delay in milliseconds: the greatest int
+abbrev pub longest_delay : ℕ
+longest_delay = 2147483647
+
 -- so many milliseconds from now; a negative number is no delay
 abbrev pub later : {X : Type 0} → ℤ → World X → ℕ
-later ms w = w.clock + at_least_zero ms
+later ms w = w.clock + min (at_least_zero ms) longest_delay
 
 -- the list with another element at a place; past the end nothing changes
 abbrev pub changed_at : {A : Type 0} → ℕ → (A → A) → List A → List A

@@ -1,5 +1,5 @@
 -- What every world keeps, and what each thing that is done to a world leaves of it.
-use Rattle.std.specs.Prelude.{◌≡◌, ℕ, ◌+◌, ◌≤◌, Bool, true, false, List, [], length, Option, MatchOption, IfSome, IsTrue}
+use Rattle.std.specs.Prelude.{◌≡◌, ℕ, ◌+◌, ◌≤◌, Bool, true, false, List, [], length, MatchOption, IfSome, IsTrue}
 use Rattle.std.specs.List.{AllByRecursion}
 use Rattle.area_rules.specs.Area.{PlainArea}
 use Rattle.delay_agenda.specs.Waiting.{IsAgenda, turn_count}
@@ -10,6 +10,7 @@ use Rattle.nwq_value.specs.Engine.{EngineTable}
 use Rattle.world_rules.specs.Pure.{CellLookup}
 use Rattle.world_rules.specs.World.{World, count, is_valid, queue_of}
 use Rattle.world_rules.specs.Rows.{Call}
+use Rattle.world_rules.specs.InPlan.{StaysInPlan}
 use Rattle.world_rules.specs.Engine.{engine, no_script, too_deep}
 use Rattle.world_rules.specs.Turns.{Planned, Begun, Turned, new_world, begin, turn, turn_done, unapply, fault, drained}
 
@@ -46,7 +47,7 @@ pub record IsSettled {X : Type 0} (o : ℕ) (w : World X) : Type 0 where
   pub idle : (queue_of o w).busy ≡ false → (queue_of o w).actions ≡ []
 
 -- What a call makes of a world: it keeps what worlds keep, the objects and the clock, posts at most one entry, objects that act act on,
--- and settled ones stay so.
+-- settled ones stay so, and the world stays in its plan.
 pub record IsStep {X : Type 0} (w v : World X) : Type 0 where
   pub world : IsWorld v
   pub objects : count v ≡ count w
@@ -55,6 +56,7 @@ pub record IsStep {X : Type 0} (w v : World X) : Type 0 where
   pub at_most_one : v.agenda.next ≤ w.agenda.next + 1
   pub acting : (o : ℕ) → IsActing o w → IsActing o v
   pub settled : (o : ℕ) → IsSettled o w → IsSettled o v
+  pub plan : (until : ℕ) → StaysInPlan until w v
 
 -- An entry that was begun: it was due, the clock stands at its time, its object is there, and where it is a Turn its object acts.
 pub record IsBegun {X : Type 0} (until : ℕ) (w : World X) (b : Begun X) : Type 0 where
@@ -65,6 +67,7 @@ pub record IsBegun {X : Type 0} (until : ℕ) (w : World X) (b : Begun X) : Type
   pub next : b.world.agenda.next ≡ w.agenda.next
   pub placed : IsPlaced (count w) b.entry.kind
   pub acting : (o : ℕ) → b.entry.kind ≡ Turn o → IsActing o b.world
+  pub plan : StaysInPlan until w b.world
 
 -- A Turn of an acting object: where it comes to a stored action, the object acts on until that is done.
 pub record IsTurned {X : Type 0} (o : ℕ) (w : World X) (t : Turned X) : Type 0 where
@@ -74,6 +77,7 @@ pub record IsTurned {X : Type 0} (o : ℕ) (w : World X) (t : Turned X) : Type 0
   pub no_less : w.agenda.next ≤ t.world.agenda.next
   pub at_most_one : t.world.agenda.next ≤ w.agenda.next + 1
   pub acting : MatchOption t.action (Unit {0}) (λ x. IsActing o t.world)
+  pub plan : (until : ℕ) → StaysInPlan until w t.world
 
 -- the same of the end of a Turn
 pub record IsDone {X : Type 0} (w v : World X) : Type 0 where
@@ -82,6 +86,7 @@ pub record IsDone {X : Type 0} (w v : World X) : Type 0 where
   pub clock : v.clock ≡ w.clock
   pub no_less : w.agenda.next ≤ v.agenda.next
   pub at_most_one : v.agenda.next ≤ w.agenda.next + 1
+  pub plan : (until : ℕ) → StaysInPlan until w v
 
 -- ---- the laws
 

@@ -13,6 +13,7 @@ pub mod WorldMaps
 pub mod RowMaps
 pub mod TurnMaps
 pub mod StayAlike
+pub mod InPlan
 pub mod Kept
 pub mod Plays
 pub mod Settled

@@ -1,5 +1,5 @@
 -- A world with its stored actions changed, each by itself, and all else as it is.
-use Rattle.std.specs.Prelude.{ℕ, List, map, Option, None, Some}
+use Rattle.std.specs.Prelude.{map}
 use Rattle.std.specs.Option.{option_map}
 use Rattle.action_queue.specs.Queued.{Queued}
 use Rattle.action_queue.specs.declared.queue.Item.{Item}

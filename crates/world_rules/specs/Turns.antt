@@ -1,5 +1,5 @@
 -- How a world begins, how its agenda entries are begun, and what those do that run no script.
-use Rattle.std.specs.Prelude.{ℕ, ℤ, pos, ◌==◌, Bool, true, false, nat_le, if◌then◌else◌, List, [], ◌∷◌, Option, None, Some, length, replicate}
+use Rattle.std.specs.Prelude.{ℕ, ℤ, pos, false, nat_le, if◌then◌else◌, List, [], ◌∷◌, Option, None, Some, length, replicate}
 use Rattle.std.specs.List.{find, fold}
 use Rattle.action_queue.specs.declared.queue.Item.{Item}
 use Rattle.action_queue.specs.declared.queue.Item.TheVariants.{Do, Wait, Speak}

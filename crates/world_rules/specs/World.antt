@@ -1,5 +1,5 @@
 -- The world in which scripts run.
-use Rattle.std.specs.Prelude.{ℕ, ℤ, zero, suc, Bool, false, ◌&&◌, nat_lt, nat_le, List, [], ◌∷◌, length, Option, None, Some, slice_get}
+use Rattle.std.specs.Prelude.{ℕ, ℤ, zero, suc, Bool, false, ◌&&◌, nat_lt, nat_le, List, [], length, Option, None, Some, slice_get}
 use Rattle.action_queue.specs.Queued.{Queued}
 use Rattle.area_rules.specs.Area.{PlainArea}
 use Rattle.delay_agenda.specs.Waiting.{Waiting}

@@ -1,6 +1,6 @@
-ghost use Rattle.std.specs.Prelude.{◌≡◌};
+ghost use Rattle.std.specs.Prelude.{◌≡◌, ◌≤◌};
 ghost use Rattle.world_rules.specs.Arguments.{at_least_zero};
-ghost use Rattle.world_rules.specs.Changes.{is_numbered};
+ghost use Rattle.world_rules.specs.Changes.{is_numbered, longest_delay};
 
 use crate::standing::Standing;
 use action_queue::Queue;
@@ -29,6 +29,7 @@ impl Stood {
 /// A count or a time in milliseconds as a script gives it: a negative one is 0.
 pub fn at_least_zero(n: i32) -> u64
     ensures count { result ≡ at_least_zero n }
+    ensures int { result ≤ longest_delay }
 {
     if n < 0 {
         return 0;
