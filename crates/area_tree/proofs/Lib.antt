@@ -1,3 +1,4 @@
 mod ReadLemmas
 mod AreaLemmas
 mod ScriptLemmas
+mod CountLemmas

@@ -42,7 +42,7 @@ long_nodes : (nodes : PlainNodes) → length (nodes_in nodes) ≤ nodes_count no
 long_nodes NoNode = omega arith
 long_nodes (MoreNodes node rest) = omega (arith, at_least node, long_nodes rest)
 
-structs_few : (leaf : Option PlainLeaf) → length (structs_in leaf) ≤ leaves_count leaf
+pub structs_few : (leaf : Option PlainLeaf) → length (structs_in leaf) ≤ leaves_count leaf
 structs_few None = omega arith
 structs_few (Some (Holds scalar)) = omega arith
 structs_few (Some (Child node)) = omega arith

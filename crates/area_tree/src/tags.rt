@@ -102,14 +102,14 @@ fn add_all(
     places: &mut NameIndex,
     numbers: &mut Vec<Items<u32>>,
 ) -> Result<(), NoMemory>
+    requires few { length objects.now < 4294967296 }
     requires places { places.old ≡ [] }
     requires numbers { numbers.old.items ≡ [] }
     ensures indexes { OnOk result (Indexes places.new numbers.new.items objects.now) }
-    ensures few { OnOk result (length objects.now < 4294967296) }
 {
     let mut number: u32 = 0;
     for object in objects {
-        number = number.checked_add(1).ok_or(NoMemory)?;
+        number += 1;
         add(alloc, places, numbers, object.tag(), number)?;
     }
     Ok(())
@@ -117,8 +117,8 @@ fn add_all(
 
 /// The index of these objects.
 pub fn index(alloc: Global, objects: &[Object]) -> Result<Tags, NoMemory>
+    requires few { length objects.now < 4294967296 }
     ensures indexes { IfOk result (λ tags. Indexes tags.places tags.numbers.items objects.now) }
-    ensures few { OnOk result (length objects.now < 4294967296) }
 {
     let mut tags = Tags::new(alloc);
     match add_all(alloc, objects, &mut tags.places, &mut tags.numbers) {

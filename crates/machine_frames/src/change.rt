@@ -1,5 +1,5 @@
 //! Instructions that change nothing but the cells.
-ghost use Rattle.std.specs.Prelude.{◌≡◌, ◌≢◌, ◌&&◌, ◌+◌, ◌≤◌, false, None, Some, OnOk, slice_get};
+ghost use Rattle.std.specs.Prelude.{◌≡◌, ◌≢◌, ◌&&◌, ◌+◌, ◌≤◌, false, None, Some, IfOk, OnOk, slice_get};
 ghost use Rattle.ncs_code.specs.Spelling.{op_size};
 ghost use Rattle.ncs_code.specs.File.{jump_place};
 ghost use Rattle.nwq_value.specs.Limits.{file_limit};
@@ -31,6 +31,7 @@ pub fn is_division(step: &Step) -> bool
 }
 
 /// Whether an int that is 0 is on top.
+#[inline(always)]
 #[tactic(auto, using(crate::proofs::Tests::zero_lemmas))]
 pub fn zero_on_top(stack: &Stack) -> bool
     ensures test { result ≡ zero_on_top stack.now.cells }
@@ -49,6 +50,7 @@ pub fn zero_on_top(stack: &Stack) -> bool
 }
 
 /// The place to which a jump leads.
+#[inline(always)]
 pub fn jump(at: u32, offset: i32) -> u32
     requires small { at ≤ file_limit }
     ensures place { result ≡ jump_place at offset }
@@ -57,33 +59,6 @@ pub fn jump(at: u32, offset: i32) -> u32
         at.saturating_sub(offset.unsigned_abs())
     } else {
         at + offset as u32
-    }
-}
-
-/// The place that follows an instruction of this size.
-#[inline(always)]
-pub fn place_after(step: &Step, at: u32, size: u32, stack: &Stack) -> u32
-    requires small { at + size ≤ file_limit }
-    requires size { size ≡ op_size (op_of step.now) }
-    ensures place { result ≡ place_after (op_of step.now) at stack.now.cells }
-{
-    match step {
-        Step::Jmp { offset } => jump(at, *offset),
-        Step::Jz { offset } => {
-            if zero_on_top(stack) {
-                jump(at, *offset)
-            } else {
-                at + size
-            }
-        }
-        Step::Jnz { offset } => {
-            if zero_on_top(stack) {
-                at + size
-            } else {
-                jump(at, *offset)
-            }
-        }
-        _ => at + size,
     }
 }
 
@@ -113,78 +88,153 @@ fn operation(step: &Step) -> Option<(u8, Binary)>
     }
 }
 
-/// The cells after an instruction, in a script that runs with the object `own` as self.
+/// The cells after an instruction at a place, in a script that runs with the object `own` as self,
+/// and the place that follows.
+#[inline(always)]
 #[tactic(auto, using(crate::proofs::OperationLemmas::operation_lemmas))]
-pub fn change(alloc: Global, stack: &mut Stack, step: &Step, own: u32) -> Result<(), NoMemory>
+pub fn change(
+    alloc: Global,
+    stack: &mut Stack,
+    step: &Step,
+    at: u32,
+    own: u32,
+) -> Result<u32, NoMemory>
     requires case { cells_after (op_of step.now) own stack.old ≢ None }
     requires divisor { (is_division (op_of step.now) && zero_on_top stack.old.cells) ≡ false }
+    requires small { at + op_size (op_of step.now) ≤ file_limit }
     ensures cells { OnOk result (cells_after (op_of step.now) own stack.old ≡ Some stack.new.cells) }
     ensures bp { OnOk result (stack.new.bp ≡ stack.old.bp) }
+    ensures place { IfOk result
+        (λ place. place ≡ place_after (op_of step.now) at stack.old.cells) }
 {
     match operation(step) {
-        Some((kind, operation)) => kind_ints(stack, kind, operation),
-        None => change_otherwise(alloc, stack, step, own),
+        Some((kind, operation)) => {
+            kind_ints(stack, kind, operation)?;
+            Ok(at + 2)
+        }
+        None => change_otherwise(alloc, stack, step, at, own),
     }
 }
 
 /// The same of an instruction that isn't for two ints alone.
+#[inline(always)]
 #[tactic(auto, using(crate::proofs::RangeLemmas::reach_lemmas), unfolding(machine_rules::specs::Act::cells_after))]
-fn change_otherwise(alloc: Global, stack: &mut Stack, step: &Step, own: u32) -> Result<(), NoMemory>
+fn change_otherwise(
+    alloc: Global,
+    stack: &mut Stack,
+    step: &Step,
+    at: u32,
+    own: u32,
+) -> Result<u32, NoMemory>
     requires case { cells_after (op_of step.now) own stack.old ≢ None }
     requires other { operation_of (op_of step.now) ≡ None }
+    requires small { at + op_size (op_of step.now) ≤ file_limit }
     ensures cells { OnOk result (cells_after (op_of step.now) own stack.old ≡ Some stack.new.cells) }
     ensures bp { OnOk result (stack.new.bp ≡ stack.old.bp) }
+    ensures place { IfOk result
+        (λ place. place ≡ place_after (op_of step.now) at stack.old.cells) }
 {
     match step {
-        Step::CpDownSp { offset, size } => write_range(alloc, stack, range_at(*offset, *size)),
-        Step::RsAdd { kind } => push_start(alloc, stack, *kind),
-        Step::CpTopSp { offset, size } => push_range(alloc, stack, range_at(*offset, *size)),
-        Step::ConstInt(n) => stack.push(Cell::Value(Value::Int(*n))),
-        Step::ConstText { left_out, text } => push_text(alloc, stack, *left_out, text),
-        Step::ConstObject(n) => push_object(stack, own, *n),
-        Step::Equal { kind, size } => compare(stack, *kind, *size, false),
-        Step::Nequal { kind, size } => compare(stack, *kind, *size, true),
-        Step::Add { kind } => add(alloc, stack, *kind),
-        Step::Neg { kind } => negate(stack, *kind),
-        Step::Comp => one_int(stack, Unary::Comp),
+        Step::CpDownSp { offset, size } => {
+            write_range(alloc, stack, range_at(*offset, *size))?;
+            Ok(at + 8)
+        }
+        Step::RsAdd { kind } => {
+            push_start(alloc, stack, *kind)?;
+            Ok(at + 2)
+        }
+        Step::CpTopSp { offset, size } => {
+            push_range(alloc, stack, range_at(*offset, *size))?;
+            Ok(at + 8)
+        }
+        Step::ConstInt(n) => {
+            stack.push(Cell::Value(Value::Int(*n)))?;
+            Ok(at + 6)
+        }
+        Step::ConstText { left_out, text } => {
+            push_text(alloc, stack, *left_out, text)?;
+            Ok(at + step.size())
+        }
+        Step::ConstObject(n) => {
+            push_object(stack, own, *n)?;
+            Ok(at + 6)
+        }
+        Step::Equal { kind, size } => {
+            compare(stack, *kind, *size, false)?;
+            Ok(at + step.size())
+        }
+        Step::Nequal { kind, size } => {
+            compare(stack, *kind, *size, true)?;
+            Ok(at + step.size())
+        }
+        Step::Add { kind } => {
+            add(alloc, stack, *kind)?;
+            Ok(at + 2)
+        }
+        Step::Neg { kind } => {
+            negate(stack, *kind)?;
+            Ok(at + 2)
+        }
+        Step::Comp => {
+            one_int(stack, Unary::Comp)?;
+            Ok(at + 2)
+        }
         Step::MovSp { offset } => {
             drop_values(stack, depth_of(*offset));
-            Ok(())
+            Ok(at + 6)
         }
-        Step::Jmp { .. } => Ok(()),
-        Step::Jz { .. } => {
+        Step::Jmp { offset } => Ok(jump(at, *offset)),
+        Step::Jz { offset } => {
+            let zero = zero_on_top(stack);
             drop_int(stack);
-            Ok(())
+            Ok(if zero { jump(at, *offset) } else { at + 6 })
         }
         Step::Destruct {
             total,
             offset,
             size,
-        } => keep_range(alloc, stack, *total, *offset, *size),
-        Step::Not => one_int(stack, Unary::Not),
-        Step::DecISp { offset } => change_int(stack, range_at(*offset, 4), Unary::Dec),
-        Step::IncISp { offset } => change_int(stack, range_at(*offset, 4), Unary::Inc),
-        Step::Jnz { .. } => {
+        } => {
+            keep_range(alloc, stack, *total, *offset, *size)?;
+            Ok(at + 8)
+        }
+        Step::Not => {
+            one_int(stack, Unary::Not)?;
+            Ok(at + 2)
+        }
+        Step::DecISp { offset } => {
+            change_int(stack, range_at(*offset, 4), Unary::Dec)?;
+            Ok(at + 6)
+        }
+        Step::IncISp { offset } => {
+            change_int(stack, range_at(*offset, 4), Unary::Inc)?;
+            Ok(at + 6)
+        }
+        Step::Jnz { offset } => {
+            let zero = zero_on_top(stack);
             drop_int(stack);
-            Ok(())
+            Ok(if zero { at + 6 } else { jump(at, *offset) })
         }
         Step::CpDownBp { offset, size } => {
             let range = bp_range(stack, *offset, *size);
-            write_range(alloc, stack, range)
+            write_range(alloc, stack, range)?;
+            Ok(at + 8)
         }
         Step::CpTopBp { offset, size } => {
             let range = bp_range(stack, *offset, *size);
-            push_range(alloc, stack, range)
+            push_range(alloc, stack, range)?;
+            Ok(at + 8)
         }
         Step::DecIBp { offset } => {
             let range = bp_range(stack, *offset, 4);
-            change_int(stack, range, Unary::Dec)
+            change_int(stack, range, Unary::Dec)?;
+            Ok(at + 6)
         }
         Step::IncIBp { offset } => {
             let range = bp_range(stack, *offset, 4);
-            change_int(stack, range, Unary::Inc)
+            change_int(stack, range, Unary::Inc)?;
+            Ok(at + 6)
         }
-        Step::Nop => Ok(()),
+        Step::Nop => Ok(at + 2),
         _ => unreachable!(),
     }
 }

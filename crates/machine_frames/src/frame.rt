@@ -14,7 +14,7 @@ ghost use Rattle.decoded_code.specs.Steps.{op_of};
 ghost use Rattle.machine_frames.specs.Tops.{bp_on_top};
 ghost use Rattle.machine_rules.specs.Frames.{Frame as FrameView};
 
-use crate::change::{change, is_division, jump, place_after, zero_on_top};
+use crate::change::{change, is_division, jump, zero_on_top};
 use crate::top::cell;
 use decoded_code::Step;
 use nwq_value::{NoMemory, Value};
@@ -118,22 +118,20 @@ impl Frame {
         self.place += size;
     }
 
-    /// An instruction of this size that changes nothing but the cells and the place. `false` says
-    /// that its divisor is 0.
+    /// An instruction that changes nothing but the cells and the place. `false` says that its
+    /// divisor is 0.
+    #[inline(always)]
     #[tactic(auto, using(crate::proofs::FrameLemmas::moved_lemmas))]
-    pub fn moves(&mut self, alloc: Global, step: &Step, size: u32) -> Result<bool, NoMemory>
+    pub fn moves(&mut self, alloc: Global, step: &Step) -> Result<bool, NoMemory>
         requires case { moved (op_of step.now) self.old ≢ None }
-        requires size { size ≡ op_size (op_of step.now) }
-        requires small { self.old.place + size ≤ file_limit }
+        requires small { self.old.place + op_size (op_of step.now) ≤ file_limit }
         ensures act { IfOk result (λ goes. moved (op_of step.now) self.old
             ≡ Some (if goes then Moves self.new else Divides)) }
     {
         if is_division(step) && zero_on_top(&self.stack) {
             return Ok(false);
         }
-        let place = place_after(step, self.place, size, &self.stack);
-        change(alloc, &mut self.stack, step, self.own)?;
-        self.place = place;
+        self.place = change(alloc, &mut self.stack, step, self.place, self.own)?;
         Ok(true)
     }
 

@@ -35,6 +35,7 @@ pub enum Unary {
 }
 
 /// A test's answer as an int.
+#[inline(always)]
 pub fn as_int(test: bool) -> i32
     ensures { result ≡ as_int test }
 {
@@ -42,6 +43,7 @@ pub fn as_int(test: bool) -> i32
 }
 
 /// What the operation gives. A division has no value where the divisor is 0.
+#[inline(always)]
 pub fn of_two(op: Binary, x: i32, y: i32) -> i32
     requires divisor { (divides op && is_zero y) ≡ false }
     ensures value { result ≡ binary_of op x y }
@@ -68,6 +70,7 @@ pub fn of_two(op: Binary, x: i32, y: i32) -> i32
 }
 
 /// What the operation gives.
+#[inline(always)]
 pub fn of_one(op: Unary, x: i32) -> i32
     ensures value { result ≡ unary_of op x }
 {

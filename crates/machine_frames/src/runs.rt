@@ -25,6 +25,7 @@ fn copied(alloc: Global, value: &Value) -> Result<Value, NoMemory>
 
 /// Writes the `count` values that begin `from` cells down onto those that begin `onto` cells down,
 /// the lowest first, so that each is read before it is written.
+#[inline(always)]
 #[tactic(auto, using(crate::proofs::RunLemmas::copy_lemmas))]
 pub fn copy_down(
     alloc: Global,
@@ -50,6 +51,7 @@ pub fn copy_down(
 }
 
 /// Pushes the `count` values that begin `above` cells down.
+#[inline(always)]
 #[tactic(auto, using(crate::proofs::RunLemmas::push_lemmas))]
 pub fn push_copies(
     alloc: Global,

@@ -1,5 +1,5 @@
 -- The text at a play's end, turn by turn of the loops that put it.
-use Rattle.std.proofs.Common.{arith, ◌≡◌, ◌<◌, ◌+◌, ℕ, suc, List, [], ◌∷◌, ◌++◌, drop, length, Option, None, Some, ⊎_elim, sym, subst, ap, ◌∙◌, refl, append_assoc, drop-cons, add-one}
+use Rattle.std.proofs.Common.{arith, ◌≡◌, ◌<◌, ◌≤◌, ◌+◌, ℕ, suc, List, [], ◌∷◌, ◌++◌, drop, length, Option, None, Some, ⊎_elim, sym, subst, ap, ◌∙◌, refl, append_assoc, length-append, drop-cons, add-one}
 use Rattle.std.specs.Prelude.{slice_get}
 use Rattle.std.specs.List.{flat_map}
 use Rattle.std.specs.Option.{option_map}
@@ -64,6 +64,13 @@ pub effects_end : (o i : ℕ) (es : List Stood) (out all : List ℕ) → out ++ 
 effects_end o i es out all inv is =
     sym (nothing_more out) ∙ ap (λ d. out ++ effects_text o d) (sym (drop_none es i (no_stood (slice_get es i) (sym is)))) ∙ inv
 
+standing_some : (o : ℕ) (e : Effect) → 2 ≤ length (standing_text o e)
+standing_some o e = simp length-append (omega arith)
+
+-- two bytes at least for each line
+pub effects_long : (o i j : ℕ) (out next : List ℕ) (e : Effect) → j ≡ i + 1 → i + i ≤ length out → next ≡ out ++ standing_text o e → j + j ≤ length next
+effects_long o i j out next e one long put = omega (arith, one, long, ap length put, length-append out (standing_text o e), standing_some o e)
+
 -- ---- an object's queue
 
 module _ (name_of : Saved → List ℕ) (o : ℕ) where
@@ -81,6 +88,12 @@ module _ (name_of : Saved → List ℕ) (o : ℕ) where
 
   pub items_end : (i : ℕ) (items : List (Item Saved)) (out all : List ℕ) → out ++ actions_text name_of o (drop i items) ≡ all → None ≡ slice_get items i → out ≡ all
   items_end i items out all inv is = sym (nothing_more out) ∙ ap (λ d. out ++ actions_text name_of o d) (sym (drop_none items i (sym is))) ∙ inv
+
+  item_some : (x : Item Saved) → 2 ≤ length (item_line name_of o x)
+  item_some x = simp length-append (omega arith)
+
+  pub items_long : (i j : ℕ) (out next : List ℕ) (x : Item Saved) → j ≡ i + 1 → i + i ≤ length out → next ≡ out ++ item_line name_of o x → j + j ≤ length next
+  items_long i j out next x one long put = omega (arith, one, long, ap length put, length-append out (item_line name_of o x), item_some x)
 
 -- ---- object after object
 

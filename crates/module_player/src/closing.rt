@@ -162,7 +162,9 @@ fn put_effects_of(out: &mut Vec<u8>, world: &World<Saved>, object: u32) -> Resul
             Some(effect) => put_standing(out, object, effect)?,
         }
     }
-    Err(NoMemory)
+    // Each line has two bytes at least, so no text has so many lines.
+    let _length = out.len();
+    unreachable!()
 }
 
 /// Appends the lines of an object's queue.
@@ -184,7 +186,8 @@ fn put_queue_of(
             Some(item) => put_item(out, scripts, object, item)?,
         }
     }
-    Err(NoMemory)
+    let _length = out.len();
+    unreachable!()
 }
 
 /// Appends the lines of all effects that stand.

@@ -1,24 +1,16 @@
 -- The answers of routines that can be called have their result types.
-use Rattle.std.proofs.Common.{◌≡◌, ◌≢◌, ℕ, List, [], ◌∷◌, Option, Some, None, Bool, true, false, sym, ap, ◌∙◌, refl}
-use Rattle.std.specs.Prelude.{slice_get, not, ◌&&◌, ◌||◌, if◌then◌else◌}
+use Rattle.std.proofs.Common.{◌≡◌, ◌≢◌, Option, Some, None, Bool, true, false, sym, ap, ◌∙◌}
+use Rattle.std.specs.Prelude.{not, ◌&&◌}
 use Rattle.std.specs.List.{list_any}
 use Rattle.nwq_value.specs.declared.value.Ty.{Ty}
 use Rattle.nwq_value.specs.declared.value.Ty.TheVariants.{Void, Int as IntTy, Text as TextTy, Object as ObjectTy, Effect as EffectTy, Event as EventTy, Action, Struct, Refused}
 use Rattle.nwq_value.specs.declared.value.Value.{Value}
-use Rattle.nwq_value.specs.declared.value.Value.TheVariants.{Int, Text, Object, Effect, Event}
-use Rattle.nwq_value.specs.Values.{type_of}
-use Rattle.nwq_value.specs.declared.engine.Param.{Param}
-use Rattle.nwq_value.specs.declared.engine.Role.{Role}
-use Rattle.nwq_value.specs.declared.engine.Role.TheVariants.{Built, Pure, World as WorldRole, Uncallable}
+use Rattle.nwq_value.specs.declared.engine.Role.TheVariants.{Uncallable}
 use Rattle.nwq_value.specs.declared.engine.Routine.{Routine}
 use Rattle.saved_state.specs.declared.saved.Saved.{Saved}
-use Rattle.stack_shape.specs.Calls.{is_action, is_callable, is_uncallable, is_void, argument_types}
-use Rattle.machine_rules.specs.Cells.{value_types}
-use Rattle.machine_rules.specs.Machine.{Script}
-use Rattle.world_rules.specs.World.{World}
+use Rattle.stack_shape.specs.Calls.{is_callable, is_uncallable, is_void}
 use Rattle.world_rules.specs.AlikeLaws.{call}
-use Rattle.world_rules.specs.Engine.{by_role, by_routine, engine}
-use Rattle.ncs_machine.specs.Host.{EngineView, engine_answer, host}
+use Rattle.ncs_machine.specs.Host.{EngineView, engine_answer}
 use Rattle.ncs_machine.specs.Steps.{AnswersTyped}
 use Rattle.nwq_value.specs.Engine.{IsTable}
 use Rattle.stack_rules.specs.Laws.{HasType}

@@ -6,14 +6,18 @@ use Rattle.std.proofs.lemmas.Option.{slice_get-map}
 use Rattle.nwq_value.specs.Engine.{EngineTable}
 use Rattle.saved_state.specs.declared.saved.Saved.{Saved}
 use Rattle.machine_rules.specs.Frames.{started, continued}
+use Rattle.machine_rules.specs.Machine.{Host}
+use Rattle.machine_rules.specs.Runs.{entry}
 use Rattle.stack_rules.specs.Fits.{Tables, FitsOne, IsListed}
 use Rattle.stack_rules.specs.Safe.{IsSafeFrame}
 use Rattle.stack_rules.specs.Laws.{AllMeet, StartsSafely, ContinuesSafely}
 use Rattle.ncs_machine.specs.declared.scripts.Loaded.{Loaded}
 use Rattle.ncs_machine.specs.declared.scripts.Begin.{Begin}
 use Rattle.ncs_machine.specs.declared.scripts.Begin.TheVariants.{Start, Stored}
-use Rattle.ncs_machine.specs.Endings.{FitsBegin}
-use Rattle.ncs_machine.specs.Host.{script_of, scripts_of}
+use Rattle.world_rules.specs.World.{World}
+use Rattle.ncs_machine.specs.Endings.{FitsBegin, IsCut}
+use Rattle.ncs_machine.specs.Host.{first_frame, script_of, scripts_of}
+use Rattle.ncs_machine.specs.Steps.{Untouched}
 
 some_in : {A : Type 0} (xs : List A) (i : ℕ) → i < length xs → (x : A) × (slice_get xs i ≡ Some x)
 some_in [] i less = absurd (omega arith)
@@ -41,4 +45,9 @@ pub stored_safe : (scripts : List Loaded) (tables : Tables) (begin : Begin) (sav
     → IsSafeFrame (scripts_of scripts) tables (continued saved self)
 stored_safe scripts tables begin saved self law e f = law (scripts_of scripts) tables saved self (fits_stored scripts tables begin saved e f)
 
-pub ruleset begin_lemmas = (start_safe, stored_safe)
+-- an entry that was cut short before its first instruction
+pub not_begun : (h : Host (World Saved)) (script : ℕ) (begin : Begin) (caller : ℕ) (w : World Saved) → IsCut h 0 caller (entry (first_frame script begin caller) w) w
+not_begun h script (Start) caller w = record { ending = refl; counted = refl; own = refl; world = Untouched refl }
+not_begun h script (Stored saved) caller w = record { ending = refl; counted = refl; own = refl; world = Untouched refl }
+
+pub ruleset begin_lemmas = (start_safe, stored_safe, not_begun)

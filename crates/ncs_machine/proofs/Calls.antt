@@ -1,6 +1,6 @@
 -- Engine calls of the running script.
 use Rattle.std.proofs.Common.{◌≡◌, ◌≢◌, ℕ, List, [], ◌∷◌, Option, Some, None, Bool, true, false, sym, subst, ap, ◌∙◌, refl, if◌then◌else◌}
-use Rattle.std.specs.Prelude.{slice_get, IfSome, ◌&&◌, ◌==◌, length}
+use Rattle.std.specs.Prelude.{Result, Ok, Err, OnErr, slice_get, IfSome, ◌&&◌, ◌==◌, length}
 use Rattle.std.specs.Option.{option_map, option_and_then}
 use Rattle.std.proofs.lemmas.Bool.Decides.{Decides-eqb}
 use Rattle.nwq_value.specs.declared.value.Ty.{Ty}
@@ -27,7 +27,7 @@ use Rattle.machine_frames.specs.Takes.{IsCall}
 use Rattle.world_rules.specs.World.{World}
 use Rattle.ncs_machine.specs.Host.{EngineView, answer_of, engine_answer, host}
 use Rattle.ncs_machine.specs.Names.{AreNameAndTarget}
-use Rattle.ncs_machine.specs.Steps.{Frames, FitArguments, state}
+use Rattle.ncs_machine.specs.Steps.{Frames, FitArguments, IsHalfway, Called, Untouched, state, world_behind}
 
 -- ---- a name and a target
 
@@ -157,6 +157,33 @@ asks_follow scripts e n count r m mid now a w v listed plain call others is =
     subst (λ o. IfSome o (λ act. followed (host scripts e) (state m w) act ≡ Goes (state now v)))
     (sym (called_as e.table n count r m.running mid.running a listed call ∙ ap (λ (b : Bool). if b then acts.executed a.values mid.running else Some (Asks n a.values a.action mid.running)) plain))
     (ap Goes (ap (λ (f : Frames). answered (answer_of (engine_answer e n mid.running.self a.values a.action w)) mid.running (state f w)) (sym others) ∙ is))
+
+-- ---- calls that are cut short
+
+-- what holds anyway, of an answer that may be an error
+pub on_err : {A E : Type 0} (r : Result A E) (P : Type 0) → P → OnErr r P
+on_err (Ok a) P p = tt
+on_err (Err e) P p = p
+
+pub untouched : (before behind v : World Saved) → v ≡ before → IsHalfway before behind v
+untouched before behind v is = Untouched is
+
+pub was_asked : (before behind v : World Saved) → v ≡ behind → IsHalfway before behind v
+was_asked before behind v is = Called is
+
+pub ruleset ask_lemmas = (untouched, was_asked)
+
+pub asks_cut : (scripts : List Script) (e : EngineView) (n count : ℕ) (r : Routine) (m mid : Frames) (a : Arguments) (w v : World Saved)
+    → slice_get e.table.routines n ≡ Some r → is_execute_script r.role ≡ false → IsCall r n count m.running mid.running a
+    → IsHalfway w (engine_answer e n mid.running.self a.values a.action w).world v
+    → IsHalfway w (world_behind (option_map (followed (host scripts e) (state m w)) (engine_called e.table n count m.running)) w) v
+unfolding host
+asks_cut scripts e n count r m mid a w v listed plain call half =
+    subst (λ o. IsHalfway w (world_behind (option_map (followed (host scripts e) (state m w)) o) w) v)
+    (sym (called_as e.table n count r m.running mid.running a listed call ∙ ap (λ (b : Bool). if b then acts.executed a.values mid.running else Some (Asks n a.values a.action mid.running)) plain))
+    half
+
+pub ruleset cut_lemmas = (call_listed, untouched)
 
 -- the arguments of ExecuteScript
 executed_some : (values : List Value) (f : Frame) (act : Act) → acts.executed values f ≡ Some act → (b : AreNameAndTarget values) × (acts.executed values f ≡ Some (Executes b.name b.target f))

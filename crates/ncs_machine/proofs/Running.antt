@@ -18,10 +18,10 @@ use Rattle.world_rules.specs.World.{World, count}
 use Rattle.world_rules.specs.Kept.{IsWorld, EngineKeeps, NoScriptKeeps, TooDeepKeeps}
 use Rattle.world_rules.specs.declared.data.Told.TheVariants as line
 use Rattle.ncs_machine.specs.Host.{EngineView, host}
-use Rattle.ncs_machine.specs.Endings.{EndsAs, IsLeft, IsRunOf, WhereRan}
+use Rattle.ncs_machine.specs.Endings.{EndsAs, IsCut, IsLeft, IsRunOf, WhereRan}
 use Rattle.ncs_machine.specs.Stored.{StatesFit}
 use Rattle.ncs_machine.proofs.Fitting.{engine_keeps, told_keeps}
-use Rattle.ncs_machine.specs.Steps.{AnswersTyped, Frames, GoesWell, state}
+use Rattle.ncs_machine.specs.Steps.{AnswersTyped, Frames, GoesWell, IsHalfway, state, world_behind}
 use Rattle.world_core.specs.Calls.{IsEarly}
 use Rattle.ncs_machine.proofs.Kept.{AllObjects, AreObjects, WorldLaws, step_leaves}
 
@@ -42,6 +42,7 @@ pub record SoFar (scripts : List Script) (e : EngineView) (tables : Tables) (lim
   pub grounds : Grounds scripts e tables first.world
   pub safe : IsSafe scripts tables (Reached scripts e tables first.world) s
   pub same : run (host scripts e) limit first ≡ after_so_many done (run (host scripts e) (limit - done) s)
+  pub led : (k : ℕ) → run (host scripts e) (done + k) first ≡ after_so_many done (run (host scripts e) k s)
   pub objects : AreObjects (count first.world) s
   pub world : IsWorld s.world
   pub left : IsLeft done first.world s.world
@@ -79,6 +80,7 @@ module _ (scripts : List Script) (e : EngineView) (tables : Tables) (limit : ℕ
     grounds = g;
     safe = safe;
     same = none (run (host scripts e) limit first) ∙ ap (λ n. after_so_many 0 (run (host scripts e) n first)) whole;
+    led = λ k. ap (λ n. run (host scripts e) n first) (nothing k) ∙ none (run (host scripts e) k first);
     objects = objects;
     world = world;
     left = none_left first.world;
@@ -89,6 +91,9 @@ module _ (scripts : List Script) (e : EngineView) (tables : Tables) (limit : ℕ
 
       whole : limit ≡ limit - 0
       whole = omega arith
+
+      nothing : (k : ℕ) → 0 + k ≡ k
+      nothing k = omega arith
 
   pub goes_on : (done : ℕ) (s t : State (World Saved)) → SoFar scripts e tables limit first done s → done < limit
       → step (host scripts e) s ≡ Some (Goes t) → SoFar scripts e tables limit first (done + 1) t
@@ -102,6 +107,7 @@ module _ (scripts : List Script) (e : EngineView) (tables : Tables) (limit : ℕ
         safe = subst (GoesSafely scripts tables (Reached scripts e tables first.world)) h (steps_on scripts e tables first.world s g x.safe);
         same = x.same ∙ ap (λ n. after_so_many done (run (host scripts e) n s)) one_more ∙ ap (after_so_many done) (run_next (host scripts e) s t (limit - (done + 1)) h)
             ∙ shifted (run (host scripts e) (limit - (done + 1)) t);
+        led = λ k. ap (λ n. run (host scripts e) n first) (next_to k) ∙ x.led (suc k) ∙ ap (after_so_many done) (run_next (host scripts e) s t k h) ∙ shifted (run (host scripts e) k t);
         objects = l.objects (count first.world) left.objects x.objects;
         world = l.world x.world own;
         left = joined_left done first.world s.world t.world left (l.left x.world own);
@@ -109,6 +115,9 @@ module _ (scripts : List Script) (e : EngineView) (tables : Tables) (limit : ℕ
     where
       one_more : limit - done ≡ suc (limit - (done + 1))
       one_more = omega (arith, less)
+
+      next_to : (k : ℕ) → (done + 1) + k ≡ done + suc k
+      next_to k = omega arith
 
       shifted : (r : Ran (World Saved)) → after_so_many done (counted r) ≡ after_so_many (done + 1) r
       shifted r = ap (λ n. record r { count = n }) (omega arith)
@@ -136,6 +145,38 @@ module _ (scripts : List Script) (e : EngineView) (tables : Tables) (limit : ℕ
 
       all : done + 0 ≡ limit
       all = omega (arith, h)
+
+  -- ---- a run that is cut short
+
+  reached : (done : ℕ) (s : State (World Saved)) → SoFar scripts e tables limit first done s → run (host scripts e) done first ≡ record { ending = OutOfInstructions; count = done; last = s }
+  reached done s x = ap (λ n. run (host scripts e) n first) none_more ∙ x.led 0 ∙ ap (λ n. record { ending = OutOfInstructions; count = n; last = s }) (sym none_more)
+    where
+      none_more : done ≡ done + 0
+      none_more = omega arith
+
+  last_world : (n : Option (Next (World Saved))) (s : State (World Saved)) → (after_step n s (run (host scripts e) 0)).last.world ≡ world_behind n s.world
+  last_world None s = refl
+  last_world (Some (Goes t)) s = refl
+  last_world (Some Ends) s = refl
+  last_world (Some Divided) s = refl
+
+  behind : (done : ℕ) (s : State (World Saved)) → SoFar scripts e tables limit first done s → (run (host scripts e) (suc done) first).last.world ≡ world_behind (step (host scripts e) s) s.world
+  behind done s x = ap (λ n. (run (host scripts e) n first).last.world) one_more ∙ ap (λ (r : Ran (World Saved)). r.last.world) (x.led (suc 0)) ∙ last_world (step (host scripts e) s) s
+    where
+      one_more : suc done ≡ done + suc 0
+      one_more = omega arith
+
+  pub cut_short : (done self : ℕ) (s : State (World Saved)) (v : World Saved) → SoFar scripts e tables limit first done s → self ≡ s.running.self
+      → IsHalfway s.world (world_behind (step (host scripts e) s) s.world) v → IsCut (host scripts e) done self first v
+  cut_short done self s v x own half =
+      let r = reached done s x in
+      record {
+        ending = ap (λ (r : Ran (World Saved)). r.ending) r;
+        counted = ap (λ (r : Ran (World Saved)). r.count) r;
+        own = own ∙ sym (ap (λ (r : Ran (World Saved)). r.last.running.self) r);
+        world = subst (λ w. IsHalfway w (run (host scripts e) (suc done) first).last.world v) (sym (ap (λ (r : Ran (World Saved)). r.last.world) r))
+            (subst (λ w. IsHalfway s.world w v) (sym (behind done s x)) half);
+      }
 
   -- ---- a step from here
 

@@ -14,7 +14,6 @@ use Rattle.ncs_code.specs.File.{IsCode, op_at}
 use Rattle.ncs_code.specs.Laws.{PlaceLaws}
 use Rattle.decoded_code.specs.declared.step.Step.{Step}
 use Rattle.decoded_code.specs.Steps.{kept, op_of}
-use Rattle.saved_state.specs.declared.cell.Cell.{Cell}
 use Rattle.saved_state.specs.declared.cell.Cell.TheVariants.{Value as Holds}
 use Rattle.saved_state.specs.declared.saved.Saved.{Saved}
 use Rattle.machine_rules.specs.Frames.{Frame}
@@ -23,7 +22,7 @@ use Rattle.machine_rules.specs.Machine.{Script, Host, State, Next, Goes, Divided
 use Rattle.world_rules.specs.World.{World}
 use Rattle.ncs_machine.specs.declared.scripts.Loaded.{Loaded}
 use Rattle.ncs_machine.specs.Host.{EngineView, host, script_of, scripts_of}
-use Rattle.ncs_machine.specs.Steps.{Frames, GoesWell, state}
+use Rattle.ncs_machine.specs.Steps.{Frames, GoesWell, IsHalfway, Untouched, state, world_behind}
 
 some_act : (o : Option Act) (a : Act) (P : Act → Type 0) → o ≡ Some a → P a → IfSome o P
 some_act o a P e p = subst (λ o. IfSome o P) (sym e) p
@@ -38,7 +37,11 @@ pub act_divides : (h : Host (World Saved)) (m : Frames) (w : World Saved) (o : O
     → IfSome o (λ a. followed h (state m w) a ≡ Divided)
 act_divides h m w o e = some_act o Divides (λ a. followed h (state m w) a ≡ Divided) e refl
 
-pub ruleset act_lemmas = (act_moves, act_divides)
+-- nothing was done to the world
+pub untouched : (w behind : World Saved) → IsHalfway w behind w
+untouched w behind = Untouched refl
+
+pub ruleset act_lemmas = (act_moves, act_divides, untouched)
 
 -- ---- the instruction at the frame's place
 
@@ -183,5 +186,15 @@ pub decoded_next : (scripts : List Loaded) (e : EngineView) (m : Frames) (w : Wo
 decoded_next scripts e m w l decoded n h next well is =
     act_next scripts e m w l next.op n h next.stands well
     (subst (λ (o : Option Act). IfSome o (λ a. followed (host (scripts_of scripts) e) (state m w) a ≡ n)) (same_act e.table l m.running.place decoded m.running next) is)
+
+-- what is left of a step that was cut short, from what is left of its act
+pub decoded_cut : (scripts : List Loaded) (e : EngineView) (m : Frames) (w v : World Saved) (l : Loaded) (decoded : Step) → slice_get scripts m.running.script ≡ Some l
+    → IsNext l m.running.place decoded
+    → IsHalfway w (world_behind (option_map (followed (host (scripts_of scripts) e) (state m w)) (act e.table (op_of decoded) m.running)) w) v
+    → IsHalfway w (world_behind (step (host (scripts_of scripts) e) (state m w)) w) v
+decoded_cut scripts e m w v l decoded h next half =
+    subst (λ o. IsHalfway w (world_behind o w) v)
+    (sym (act_step scripts e m w l next.op h next.stands ∙ ap (option_map (followed (host (scripts_of scripts) e) (state m w))) (sym (same_act e.table l m.running.place decoded m.running next))))
+    half
 
 pub ruleset step_lemmas = (not_listed)

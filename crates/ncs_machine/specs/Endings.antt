@@ -1,10 +1,11 @@
 -- How a run's answer tells its ending, and what a run leaves of a world.
-use Rattle.std.specs.Prelude.{◌≡◌, ◌≤◌, ◌+◌, ℕ, List}
+use Rattle.std.specs.Prelude.{◌≡◌, ◌≤◌, ◌+◌, ℕ, suc, List}
 use Rattle.saved_state.specs.declared.saved.Saved.{Saved}
-use Rattle.machine_rules.specs.Machine.{Script}
-use Rattle.machine_rules.specs.Runs.{Ran as Run}
+use Rattle.machine_rules.specs.Machine.{Script, Host, State}
+use Rattle.machine_rules.specs.Runs.{Ran as Run, run}
 use Rattle.stack_rules.specs.Fits.{Tables, FitsOne}
 use Rattle.ncs_machine.specs.Stored.{StatesFit}
+use Rattle.ncs_machine.specs.Steps.{IsHalfway}
 use Rattle.ncs_machine.specs.declared.scripts.Begin.{Begin}
 use Rattle.ncs_machine.specs.declared.scripts.Begin.TheVariants.{Start, Stored}
 use Rattle.machine_rules.specs.Runs.{Ending, Over, ZeroDivisor, OutOfInstructions}
@@ -26,6 +27,21 @@ WhereRan Ended fact = fact
 WhereRan Divide fact = fact
 WhereRan Limit fact = fact
 WhereRan NoMemory fact = Unit {0}
+
+-- a fact of a run that was cut short
+abbrev pub WhereCut : Ran → Type 0 → Type 0
+WhereCut Ended fact = Unit {0}
+WhereCut Divide fact = Unit {0}
+WhereCut Limit fact = Unit {0}
+WhereCut NoMemory fact = fact
+
+-- A run from this state took just so many instructions, and was cut short in the next one: the world is the one between the two, or
+-- already as the next one's engine call left it.
+pub record IsCut (h : Host (World Saved)) (instructions self : ℕ) (first : State (World Saved)) (v : World Saved) : Type 0 where
+  pub ending : (run h instructions first).ending ≡ OutOfInstructions
+  pub counted : (run h instructions first).count ≡ instructions
+  pub own : self ≡ (run h instructions first).last.running.self
+  pub world : IsHalfway (run h instructions first).last.world (run h (suc instructions) first).last.world v
 
 -- What so many instructions leave of a world: objects and clock, an entry posted for each at most, and objects that act act on.
 pub record IsLeft {X : Type 0} (instructions : ℕ) (w v : World X) : Type 0 where

@@ -43,6 +43,18 @@ abbrev pub AnswersTyped : EngineView → Type 0
 AnswersTyped e = (n caller : ℕ) (r : Routine) (values : List Value) (action : Option Saved) (w : World Saved)
     → slice_get e.table.routines n ≡ Some r → is_callable r ≡ true → HasType r.result (engine_answer e n caller values action w).value
 
+-- the world that a step leads to: where the entry ends, the one that was
+abbrev pub world_behind : Option (Next (World Saved)) → World Saved → World Saved
+world_behind None w = w
+world_behind (Some (Goes t)) w = t.world
+world_behind (Some Ends) w = w
+world_behind (Some Divided) w = w
+
+-- What is left of the world before a step that was cut short: it is as it was, or already as the step's engine call left it.
+pub data IsHalfway (before behind v : World Saved) : Type 0 where
+  Untouched : v ≡ before → IsHalfway before behind v
+  Called : v ≡ behind → IsHalfway before behind v
+
 -- where the entry ends, the world is left as it is
 abbrev pub Stays : Step → World Saved → World Saved → Type 0
 Stays code.Goes w v = Unit {0}

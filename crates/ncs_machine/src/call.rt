@@ -1,6 +1,7 @@
 //! Engine calls of the running script.
-ghost use Rattle.std.specs.Prelude.{◌≡◌, ◌≢◌, ◌≤◌, ◌<◌, ◌+◌, ◌^◌, None, Some, OnOk, IfSome};
+ghost use Rattle.std.specs.Prelude.{◌≡◌, ◌≢◌, ◌≤◌, ◌<◌, ◌+◌, ◌^◌, None, Some, OnErr, OnOk, IfSome};
 ghost use Rattle.std.specs.Prelude.{length, map, slice_get};
+ghost use Rattle.std.specs.Option.{option_map};
 ghost use Rattle.nwq_value.specs.Limits.{file_limit};
 ghost use Rattle.nwq_value.specs.declared.value.Value.TheVariants.{Text as TextValue};
 ghost use Rattle.nwq_value.specs.declared.value.Value.TheVariants.{Object as ObjectValue};
@@ -13,7 +14,7 @@ ghost use Rattle.std.specs.Prelude.{◌∷◌, [], ℕ, List};
 ghost use Rattle.world_rules.specs.World.{count as object_count};
 ghost use Rattle.ncs_machine.specs.Host.{EngineView, engine_view, host, scripts_of};
 ghost use Rattle.ncs_machine.specs.Names.{AreNameAndTarget};
-ghost use Rattle.ncs_machine.specs.Steps.{state};
+ghost use Rattle.ncs_machine.specs.Steps.{IsHalfway, state, world_behind};
 ghost use Rattle.world_core.specs.Calls.{AreServing, IsEarly};
 
 use crate::machine::Machine;
@@ -80,6 +81,7 @@ impl Machine {
         requires few { length scripts.now < 2 ^ 32 }
         requires both { AreNameAndTarget values.now }
         ensures room { world.old.room ≤ world.new.room }
+        ensures kept { OnErr result (world.new.world ≡ world.old.world) }
         ensures executed { (e : EngineView) (name : List ℕ) (target : ℕ)
             → values.now ≡ TextValue name ∷ ObjectValue target ∷ []
             → OnOk result (executed (host (scripts_of scripts.now) e) name target self.old.running
@@ -90,7 +92,7 @@ impl Machine {
     }
 
     /// ACTION, of this size.
-    #[tactic(auto, using(crate::proofs::Calls::call_listed))]
+    #[tactic(auto, using(crate::proofs::Calls::cut_lemmas))]
     pub(crate) fn call_engine(
         &mut self,
         alloc: Global,
@@ -116,6 +118,11 @@ impl Machine {
             (engine_view table.now (map (λ h. h.known) hooks.now.all.items)))
             (state self.old world.old.world) a
             ≡ Goes (state self.new world.new.world))) }
+        ensures cut { OnErr result (IsHalfway world.old.world (world_behind (option_map (followed
+            (host (scripts_of scripts.now)
+            (engine_view table.now (map (λ h. h.known) hooks.now.all.items)))
+            (state self.old world.old.world)) (engine_called table.now number count
+            self.old.running)) world.old.world) world.new.world) }
     {
         match table.routine(number) {
             None => unreachable!(),

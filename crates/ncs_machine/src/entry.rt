@@ -1,12 +1,13 @@
 //! An entry from its begin to its end.
 ghost use Rattle.std.specs.Prelude.{◌≡◌, ◌≤◌, ◌<◌, ◌^◌, [], length, map};
 ghost use Rattle.nwq_value.specs.Limits.{instruction_limit};
-ghost use Rattle.machine_rules.specs.Runs.{run as run_of};
+ghost use Rattle.machine_rules.specs.Runs.{entry, run as run_of};
 ghost use Rattle.stack_rules.specs.Laws.{AllMeet};
 ghost use Rattle.stack_rules.specs.Safe.{IsSafeFrame};
 ghost use Rattle.world_rules.specs.World.{count};
-ghost use Rattle.ncs_machine.specs.Endings.{FitsBegin, IsRunOf};
-ghost use Rattle.ncs_machine.specs.Host.{engine_view, host, run_from, scripts_of, tables_of};
+ghost use Rattle.ncs_machine.specs.Endings.{FitsBegin, IsCut, IsRunOf, WhereCut};
+ghost use Rattle.ncs_machine.specs.Host.{engine_view, first_frame, host, run_from, scripts_of};
+ghost use Rattle.ncs_machine.specs.Host.{tables_of};
 ghost use Rattle.ncs_machine.specs.Steps.{state};
 ghost use Rattle.world_core.specs.Calls.{AreServing};
 
@@ -31,11 +32,13 @@ pub enum Ran {
     Divide,
     /// The next instruction would be one more than the limit allows.
     Limit,
+    /// The instructions that are counted were executed, and the next one wasn't finished.
     NoMemory,
 }
 
 /// The run of frames of which only one runs yet: how it ends, how many instructions it takes, and
 /// the object on which the last script ran.
+#[inline(never)]
 #[tactic(auto, using(crate::proofs::Running::run_lemmas))]
 fn run_machine(
     alloc: Global,
@@ -64,6 +67,9 @@ fn run_machine(
         (state machine.old world.old.world))
         (scripts_of scripts.now) (tables_of scripts.now)
         world.old.world world.new.world }
+    ensures cut { WhereCut result.0 (IsCut (host (scripts_of scripts.now)
+        (engine_view table.now (map (λ h. h.known) hooks.now.all.items))) result.1 result.2
+        (state machine.old world.old.world) world.new.world) }
 {
     steps_are_safe::<Scene>();
     calls_keep_worlds::<Saved>();
@@ -117,6 +123,9 @@ pub fn run(
         world.old.world)
         (scripts_of scripts.now) (tables_of scripts.now)
         world.old.world world.new.world }
+    ensures cut { WhereCut result.0 (IsCut (host (scripts_of scripts.now)
+        (engine_view table.now (map (λ h. h.known) hooks.now.all.items))) result.1 result.2
+        (entry (first_frame script begin caller) world.old.world) world.new.world) }
 {
     entries_begin_safely();
     match begin {

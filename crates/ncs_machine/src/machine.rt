@@ -1,6 +1,6 @@
 //! The frames of a running entry, and one step.
 ghost use Rattle.std.specs.Prelude.{◌≡◌, ◌≢◌, ◌≤◌, ◌<◌, ◌+◌, ◌^◌, [], ◌∷◌, length, map, None};
-ghost use Rattle.std.specs.Prelude.{IfOk, OnOk};
+ghost use Rattle.std.specs.Prelude.{IfOk, OnErr, OnOk};
 ghost use Rattle.std.specs.List.{position_from};
 ghost use Rattle.nwq_value.specs.Limits.{file_limit};
 ghost use Rattle.ncs_code.specs.Plain.{Action};
@@ -16,7 +16,7 @@ ghost use Rattle.machine_rules.specs.Machine.{script_named};
 ghost use Rattle.world_rules.specs.World.{World as WorldView, count as object_count};
 ghost use Rattle.ncs_machine.specs.Host.{EngineView, answer_of, engine_answer, engine_view, host};
 ghost use Rattle.ncs_machine.specs.Host.{scripts_of};
-ghost use Rattle.ncs_machine.specs.Steps.{FitArguments, next_of, state};
+ghost use Rattle.ncs_machine.specs.Steps.{FitArguments, IsHalfway, next_of, state};
 ghost use Rattle.world_core.specs.Calls.{AreServing, IsEarly};
 
 use crate::scripts::{Loaded, Scripts};
@@ -209,6 +209,7 @@ impl Machine {
     ) -> Result<(), NoMemory>
         requires few { length scripts.now < 2 ^ 32 }
         ensures room { world.old.room ≤ world.new.room }
+        ensures kept { OnErr result (world.new.world ≡ world.old.world) }
         ensures begun { (e : EngineView) → OnOk result
             (begun (host (scripts_of scripts.now) e)
             (script_named (scripts_of scripts.now) name.now) name.now target
@@ -239,6 +240,7 @@ impl Machine {
     ) -> Result<(), NoMemory>
         requires few { length scripts.now < 2 ^ 32 }
         ensures room { world.old.room ≤ world.new.room }
+        ensures kept { OnErr result (world.new.world ≡ world.old.world) }
         ensures executed { (e : EngineView) → OnOk result
             (executed (host (scripts_of scripts.now) e) name.now target self.old.running
             (state self.old world.old.world) ≡ state self.new world.new.world) }
@@ -250,6 +252,7 @@ impl Machine {
     }
 
     /// A call of the engine, behind it.
+    #[tactic(auto, using(crate::proofs::Calls::ask_lemmas))]
     pub(crate) fn ask(
         &mut self,
         world: &mut World<Saved>,
@@ -269,6 +272,9 @@ impl Machine {
             (engine_view table.now (map (λ h. h.known) hooks.now.all.items)) n
             self.old.running.self values action world.old.world)) self.old.running
             (state self.old world.old.world) ≡ state self.new world.new.world) }
+        ensures cut { OnErr result (IsHalfway world.old.world (engine_answer
+            (engine_view table.now (map (λ h. h.known) hooks.now.all.items)) n
+            self.old.running.self values action world.old.world).world world.new.world) }
     {
         let own = self.running.own();
         match world.engine(hooks, table, n, own, values, action)? {

@@ -1,6 +1,7 @@
 //! One instruction of a running entry.
 ghost use Rattle.std.specs.Prelude.{◌≡◌, ◌≢◌, ◌≤◌, ◌<◌, ◌+◌, ◌^◌, None, Some, IfOk, IfSome};
-ghost use Rattle.std.specs.Prelude.{length, map};
+ghost use Rattle.std.specs.Prelude.{OnErr, length, map};
+ghost use Rattle.std.specs.Option.{option_map};
 ghost use Rattle.nwq_value.specs.Limits.{file_limit};
 ghost use Rattle.ncs_code.specs.Spelling.{op_size};
 ghost use Rattle.machine_rules.specs.Act.{Moves, act};
@@ -9,7 +10,7 @@ ghost use Rattle.machine_rules.specs.Machine.{followed, step};
 ghost use Rattle.world_rules.specs.World.{count};
 ghost use Rattle.decoded_code.specs.Steps.{op_of};
 ghost use Rattle.ncs_machine.specs.Host.{engine_view, host, scripts_of};
-ghost use Rattle.ncs_machine.specs.Steps.{GoesWell, Stays, next_of, state};
+ghost use Rattle.ncs_machine.specs.Steps.{GoesWell, IsHalfway, Stays, next_of, state, world_behind};
 ghost use Rattle.world_core.specs.Calls.{AreServing, IsEarly};
 
 use crate::machine::{Machine, Next};
@@ -24,6 +25,7 @@ use world_core::World;
 
 impl Machine {
     /// An instruction, in the running script.
+    #[inline(always)]
     #[tactic(auto, using(crate::proofs::Stepping::act_lemmas), unfolding(machine_rules::specs::Act::act))]
     fn act(
         &mut self,
@@ -50,32 +52,37 @@ impl Machine {
             (engine_view table.now (map (λ h. h.known) hooks.now.all.items)))
             (state self.old world.old.world) a
             ≡ next_of next (state self.new world.new.world))) }
+        ensures cut { OnErr result (IsHalfway world.old.world (world_behind (option_map (followed
+            (host (scripts_of scripts.now)
+            (engine_view table.now (map (λ h. h.known) hooks.now.all.items)))
+            (state self.old world.old.world)) (act table.now (op_of decoded.now)
+            self.old.running)) world.old.world) world.new.world) }
     {
-        let size = decoded.size();
         match decoded {
             Step::Action { routine, count } => {
+                let size = decoded.size();
                 self.call_engine(alloc, scripts, world, hooks, table, *routine, *count, size)?;
                 Ok(Next::Goes)
             }
             Step::Jsr { offset } => {
-                self.running.call(*offset, size)?;
+                self.running.call(*offset, decoded.size())?;
                 Ok(Next::Goes)
             }
             Step::Retn => Ok(self.give_back()),
             Step::SaveBp => {
-                self.running.save_bp(size)?;
+                self.running.save_bp(decoded.size())?;
                 Ok(Next::Goes)
             }
             Step::RestoreBp => {
-                self.running.restore_bp(size);
+                self.running.restore_bp(decoded.size());
                 Ok(Next::Goes)
             }
             Step::StoreState { globals, locals } => {
-                self.running.store(*globals, *locals, size)?;
+                self.running.store(*globals, *locals, decoded.size())?;
                 Ok(Next::Goes)
             }
             _ => {
-                if self.running.moves(alloc, decoded, size)? {
+                if self.running.moves(alloc, decoded)? {
                     Ok(Next::Goes)
                 } else {
                     Ok(Next::Divides)
@@ -85,6 +92,7 @@ impl Machine {
     }
 
     /// The next instruction.
+    #[inline(always)]
     #[tactic(auto, using(crate::proofs::Stepping::step_lemmas))]
     pub(crate) fn step(
         &mut self,
@@ -108,6 +116,10 @@ impl Machine {
             (engine_view table.now (map (λ h. h.known) hooks.now.all.items)))
             (state self.old world.old.world)
             ≡ Some (next_of next (state self.new world.new.world))) }
+        ensures cut { OnErr result (IsHalfway world.old.world (world_behind (step
+            (host (scripts_of scripts.now)
+            (engine_view table.now (map (λ h. h.known) hooks.now.all.items)))
+            (state self.old world.old.world)) world.old.world) world.new.world) }
     {
         place_laws();
         match scripts.get(self.script() as usize) {

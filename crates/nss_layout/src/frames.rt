@@ -1,6 +1,6 @@
 //! The positions of variables, in the order of their numbers.
 
-ghost use Rattle.std.specs.Prelude.{◌≡◌, ◌++◌, ◌+◌, IfOk, OnOk};
+ghost use Rattle.std.specs.Prelude.{◌≡◌, ◌++◌, ◌+◌, ◌<◌, IfOk, OnErr, OnOk};
 ghost use Rattle.std.specs.Option.{option_map};
 ghost use Rattle.nss_tree.specs.Reading.{tree_of_stmts};
 ghost use Rattle.nss_tree.specs.Statements.{map_stmts};
@@ -14,9 +14,11 @@ use nss_tree::{Item, Stmt};
 use nwq_value::{Items, NoMemory, Ty};
 use typing_rules::{TypedItem, TypedName, TypedParameter, TypedStmt};
 
-/// So many cells more. No frame of so many cells that they aren't a number of 32 bits can be made.
+/// So many cells more. It fails exactly where a frame passes the budget of 4,294,967,295 cells; a
+/// body that is typed has 2^28 at most.
 fn deeper(depth: u32, cells: usize) -> Result<u32, NoMemory>
-    ensures { IfOk result (λ all. all ≡ depth + cells) }
+    ensures sum { IfOk result (λ all. all ≡ depth + cells) }
+    ensures passed { OnErr result (4294967295 < depth + cells) }
 {
     if cells > (u32::MAX - depth) as usize {
         return Err(NoMemory);

@@ -71,7 +71,8 @@ impl Layout {
     }
 }
 
-/// The layout of a unit.
+/// The layout of a unit. `NoMemory` comes where memory is refused, and where a frame, or the
+/// globals, pass the budget of 4,294,967,295 cells.
 pub fn lay(alloc: Global, unit: &Typed) -> Result<Layout, NoMemory>
     ensures laid { IfOk result (λ layout. layout ≡ layout_of (typed_unit unit.now)) }
 {

@@ -38,9 +38,16 @@ struct_name s = s.called
 abbrev pub head_name : Head → List ℕ
 head_name h = h.called
 
--- how many structs can be told apart, since the number of a struct has 16 bits
+-- the budgets: how many structs, declarations of functions and variables of a unit are kept. A struct has a number of 16 bits,
+-- a declaration and a variable one of 32 bits.
 abbrev pub struct_limit : ℕ
 struct_limit = 65536
+
+abbrev pub head_limit : ℕ
+head_limit = 4294967295
+
+abbrev pub variable_limit : ℕ
+variable_limit = 4294967295
 
 pub record AreStructs (all : List Structure) (places : List (List ℕ)) : Type 0 where
   pub names : places ≡ map struct_name all

@@ -1,11 +1,12 @@
 //! The declarations of functions.
 
-ghost use Rattle.std.specs.Prelude.{◌≡◌, ◌++◌, ◌∷◌, [], None, Some, if◌then◌else◌, IfOk, OnErr};
-ghost use Rattle.std.specs.Prelude.{OnOk};
+ghost use Rattle.std.specs.Prelude.{◌≡◌, ◌<◌, ◌++◌, ◌∷◌, [], None, Some, if◌then◌else◌, length};
+ghost use Rattle.std.specs.Prelude.{IfOk, OnErr, OnOk};
 ghost use Rattle.std.specs.Option.{option_map};
 ghost use Rattle.typing_rules.specs.Sight.{body_number, find_head, has_body, has_head};
-ghost use Rattle.nss_scopes.specs.Entries.{head_of, signature_of, AreHeads};
+ghost use Rattle.nss_scopes.specs.Entries.{head_limit, head_of, signature_of, AreHeads};
 
+use crate::budget::{HEADS, one_more};
 use crate::places::{Places, item_at};
 use nwq_value::{NoMemory, Params, Text, Ty};
 use std::alloc::Global;
@@ -25,9 +26,6 @@ pub struct Head {
     pub types: Option<Signature>,
     pub has_body: bool,
 }
-
-/// How many declarations are kept.
-const MOST_HEADS: usize = 4_294_967_294;
 
 /// The declarations of functions in order. Contracts see the list of them.
 #[derive(Drop)]
@@ -86,13 +84,10 @@ fn push(
     requires kept { AreHeads all.old.items places.old bodies.old }
     requires name { name ≡ head.called }
     requires other { other ≡ head.called }
+    requires few { length all.old.items < head_limit }
     ensures ok { OnOk result (all.new.items ≡ all.old.items ++ head ∷ []) }
     ensures kept { AreHeads all.new.items places.new bodies.new }
 {
-    if all.len() >= MOST_HEADS {
-        drop(head);
-        return Err(NoMemory);
-    }
     let has_body = head.has_body;
     all.push(head)?;
     if push_names(places, bodies, name, other, has_body).is_ok() {
@@ -104,11 +99,13 @@ fn push(
     Err(NoMemory)
 }
 
-/// Two copies of a name.
-fn copies(alloc: Global, name: &Text) -> Result<(Text, Text), NoMemory>
+/// Two copies of the name of a declaration that is to stand behind so many.
+fn copies(alloc: Global, count: usize, name: &Text) -> Result<(Text, Text), NoMemory>
+    ensures few { OnOk result (count < head_limit) }
     ensures first { IfOk result (λ p. p.0 ≡ name.now) }
     ensures second { IfOk result (λ p. p.1 ≡ name.now) }
 {
+    one_more(count, HEADS)?;
     Ok((name.copy(alloc)?, name.copy(alloc)?))
 }
 
@@ -159,11 +156,13 @@ impl Heads {
         }
     }
 
-    /// Puts a declaration last. After `NoMemory` nothing is told of the declarations.
+    /// Puts a declaration last. `NoMemory` comes where memory is refused, and past the budget of
+    /// 4,294,967,295 declarations; after it nothing is told of them.
     pub fn push(&mut self, alloc: Global, head: Head) -> Result<(), NoMemory>
         ensures ok { OnOk result (self.new ≡ self.old ++ head_of head ∷ []) }
+        ensures few { OnOk result (length self.old < head_limit) }
     {
-        match copies(alloc, &head.called) {
+        match copies(alloc, self.all.len(), &head.called) {
             Ok((name, other)) => push(
                 &mut self.all,
                 &mut self.places,

@@ -8,6 +8,7 @@
 //! which keeps what the scope changes. The page on it is docs/TYPES.md.
 #![tactic(auto)]
 
+mod budget;
 pub mod heads;
 pub mod labels;
 pub mod laws;

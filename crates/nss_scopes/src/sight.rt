@@ -1,16 +1,18 @@
 //! What is in sight where a node stands.
 
 ghost use Rattle.typing_rules.specs.Sight.{case_seen, declaration_seen, default_seen};
-ghost use Rattle.std.specs.Prelude.{◌≡◌, ◌+◌, ◌≤◌, None, Some, IfOk, OnOk};
+ghost use Rattle.std.specs.Prelude.{◌≡◌, ◌+◌, ◌≤◌, ◌<◌, None, Some, IfOk, OnErr, OnOk};
 ghost use Rattle.std.specs.Option.{option_map};
 ghost use Rattle.nwq_value.specs.Engine.{EngineTable};
 ghost use Rattle.typing_rules.specs.Sight.{begun, cell_limit, cells_if, counted, crosses};
 ghost use Rattle.typing_rules.specs.Sight.{crosses_with, declared, entered, frame_with, inside};
 ghost use Rattle.typing_rules.specs.Sight.{is_of_header, is_taken, is_taken_by_other, looped};
 ghost use Rattle.typing_rules.specs.Sight.{start, switched, variable_of};
+ghost use Rattle.nss_scopes.specs.Entries.{variable_limit};
 ghost use Rattle.nss_scopes.specs.Slots.{meaning_of};
 ghost use Rattle.nss_scopes.specs.Views.{in_sight, left_by, mark_of, with_int};
 
+use crate::budget::{VARIABLES, one_more};
 use crate::heads::Heads;
 use crate::labels::Labels;
 use crate::names::{Meaning, Names};
@@ -81,15 +83,14 @@ pub fn crosses(limit: u32, before: u32, now: u32) -> bool
     before <= limit && limit < now
 }
 
-/// The number after this one. Where there is none it answers as for want of memory: no tree that
-/// fits in memory has so many names.
+/// The number after this one, if a variable of this number is within the budget.
 fn number_after(number: u32) -> Result<u32, NoMemory>
-    ensures { IfOk result (λ next. next ≡ number + 1) }
+    ensures next { IfOk result (λ next. next ≡ number + 1) }
+    ensures few { OnOk result (number < variable_limit) }
+    ensures spent { OnErr result (variable_limit ≤ number) }
 {
-    match number.checked_add(1) {
-        Some(next) => Ok(next),
-        None => Err(NoMemory),
-    }
+    one_more(number as usize, VARIABLES)?;
+    Ok(number + 1)
 }
 
 impl Sight {
@@ -157,10 +158,12 @@ impl Sight {
         self.names.has_since(0, name) || is_of_header(table, name)
     }
 
-    /// A name is declared with this type. After `NoMemory` nothing is told of what is in sight.
+    /// A name is declared with this type. `NoMemory` comes where memory is refused, and past the
+    /// budget of 4,294,967,295 variables; after it nothing is told of what is in sight.
     pub fn declare(&mut self, alloc: Global, name: &Text, ty: Option<Ty>) -> Result<(), NoMemory>
         ensures declared { OnOk result ((table : EngineTable)
             → in_sight table self.new ≡ declared (in_sight table self.old) name.now ty) }
+        ensures few { OnOk result (self.old.next < variable_limit) }
     {
         let called = name.copy(alloc)?;
         let next = number_after(self.next)?;

@@ -1,12 +1,14 @@
 //! The structs that are declared, by their numbers.
 
-ghost use Rattle.std.specs.Prelude.{◌≡◌, ◌++◌, ◌∷◌, [], is_some, slice_get, OnErr, OnOk};
+ghost use Rattle.std.specs.Prelude.{◌≡◌, ◌<◌, ◌++◌, ◌∷◌, [], is_some, length, slice_get, IfOk};
+ghost use Rattle.std.specs.Prelude.{OnErr, OnOk};
 ghost use Rattle.std.specs.Option.{option_map};
 ghost use Rattle.typing_rules.specs.Sight.{cells, find_member, has_struct, is_of_struct};
 ghost use Rattle.typing_rules.specs.Sight.{members_in, struct_means};
 ghost use Rattle.nss_scopes.specs.Entries.{member_of, members_of, meant_of, structure_of};
-ghost use Rattle.nss_scopes.specs.Entries.{AreStructs};
+ghost use Rattle.nss_scopes.specs.Entries.{AreStructs, struct_limit};
 
+use crate::budget::{STRUCTS, one_more};
 use crate::places::{Places, item_at};
 use nwq_value::{Items, NoMemory, Text, Ty};
 use std::alloc::Global;
@@ -44,10 +46,7 @@ pub enum Meant {
     Is(Ty),
 }
 
-/// How many structs are kept: so many have a number of 16 bits.
-const MOST_STRUCTS: usize = 65_536;
-
-/// The declared structs in order, at most 65,536. Contracts see the list of them.
+/// The declared structs in order, within their budget. Contracts see the list of them.
 #[derive(Drop)]
 pub struct Structs {
     all: Vec<Structure>,
@@ -86,20 +85,26 @@ fn push(
 ) -> Result<(), NoMemory>
     requires kept { AreStructs all.old.items places.old }
     requires name { name ≡ structure.called }
+    requires few { length all.old.items < struct_limit }
     ensures ok { OnOk result (all.new.items ≡ all.old.items ++ structure ∷ []) }
     ensures err { OnErr result (all.new.items ≡ all.old.items) }
     ensures kept { AreStructs all.new.items places.new }
 {
-    if all.len() >= MOST_STRUCTS {
-        drop(structure);
-        return Err(NoMemory);
-    }
     all.push(structure)?;
     if places.push(name).is_ok() {
         return Ok(());
     }
     all.pop();
     Err(NoMemory)
+}
+
+/// A copy of the name of a struct that is to stand behind so many.
+fn copied(alloc: Global, count: usize, name: &Text) -> Result<Text, NoMemory>
+    ensures few { OnOk result (count < struct_limit) }
+    ensures same { IfOk result (λ copy. copy ≡ name.now) }
+{
+    one_more(count, STRUCTS)?;
+    name.copy(alloc)
 }
 
 impl Members {
@@ -182,8 +187,8 @@ impl Structs {
         }
     }
 
-    /// Puts a struct last. After `NoMemory` the structs are as before; more than 65,536 aren't
-    /// kept, and no unit within the limit of tokens has so many.
+    /// Puts a struct last. `NoMemory` comes where memory is refused, and past the budget of 65,536
+    /// structs; after it the structs are as before.
     pub fn push(
         &mut self,
         alloc: Global,
@@ -193,8 +198,9 @@ impl Structs {
         ensures ok { OnOk result (self.new ≡ self.old
             ++ record { called = called; members = option_map members_of members } ∷ []) }
         ensures err { OnErr result (self.new ≡ self.old) }
+        ensures few { OnOk result (length self.old < struct_limit) }
     {
-        match called.copy(alloc) {
+        match copied(alloc, self.all.len(), &called) {
             Ok(name) => push(
                 &mut self.all,
                 &mut self.places,

@@ -4,3 +4,4 @@ pub mod FunctionLemmas
 pub mod FieldRows
 pub mod ItemRows
 pub mod UnitLemmas
+pub mod FieldCells

@@ -1,7 +1,8 @@
 //! Structs, with their fields.
 
-ghost use Rattle.std.specs.Prelude.{◌≡◌, ◌+◌, ◌&&◌, not, IfOk, OnOk, is_some};
+ghost use Rattle.std.specs.Prelude.{◌≡◌, ◌≤◌, ◌&&◌, not, IfOk, OnOk, is_some};
 ghost use Rattle.std.specs.Option.{option_map};
+ghost use Rattle.nwq_value.specs.Limits.{struct_cell_limit};
 ghost use Rattle.typing_rules.specs.declared.fault.FaultKind.TheVariants as kind;
 ghost use Rattle.typing_rules.specs.Nodes.{at, fine, first_kind, kept, no_row, row, two};
 ghost use Rattle.typing_rules.specs.Rules.{is_among, when};
@@ -210,17 +211,6 @@ pub fn lines(
     Ok(all)
 }
 
-/// So many cells more. Where they have no number it answers as for want of memory; a typed struct
-/// has at most 64.
-fn more_cells(before: u32, more: u32) -> Result<u32, NoMemory>
-    ensures { IfOk result (λ cells. cells ≡ before + more) }
-{
-    match before.checked_add(more) {
-        Some(cells) => Ok(cells),
-        None => Err(NoMemory),
-    }
-}
-
 /// Where the fields of a line stand in a value of their struct, behind the ones before.
 fn line_members(
     alloc: Global,
@@ -229,11 +219,13 @@ fn line_members(
     ty: Ty,
     xs: &[Identifier],
 ) -> Result<(), NoMemory>
+    requires few { (members_of_line structs.now ty (members_of members.old) xs.now).cells
+        ≤ struct_cell_limit }
     ensures { OnOk result (members_of members.new
         ≡ members_of_line structs.now ty (members_of members.old) xs.now) }
 {
     for x in xs {
-        let cells = more_cells(members.cells, structs.cells(ty))?;
+        let cells = members.cells + structs.cells(ty);
         let called = x.name.copy(alloc)?;
         let before = members.cells;
         members.fields.push(Member { called, ty, before })?;
@@ -248,6 +240,8 @@ fn lines_members(
     members: &mut Members,
     ls: &[TypedLine],
 ) -> Result<(), NoMemory>
+    requires few { (members_of_lines structs.now (members_of members.old) ls.now).cells
+        ≤ struct_cell_limit }
     ensures { OnOk result (members_of members.new
         ≡ members_of_lines structs.now (members_of members.old) ls.now) }
 {
@@ -263,6 +257,7 @@ pub fn struct_members(
     structs: &Structs,
     ls: &[TypedLine],
 ) -> Result<Members, NoMemory>
+    requires few { (struct_members structs.now ls.now).cells ≤ struct_cell_limit }
     ensures members { IfOk result (λ m. members_of m ≡ struct_members structs.now ls.now) }
 {
     let mut members = Members {

@@ -1,7 +1,8 @@
 //! Items of a unit, and what stands in sight behind each.
 
-ghost use Rattle.std.specs.Prelude.{◌≡◌, ◌++◌, ◌∷◌, ◌&&◌, [], not, IfOk, OnOk, map};
+ghost use Rattle.std.specs.Prelude.{◌≡◌, ◌≤◌, ◌++◌, ◌∷◌, ◌&&◌, [], not, IfOk, IfSome, OnOk, map};
 ghost use Rattle.std.specs.Option.{option_map};
+ghost use Rattle.nwq_value.specs.Limits.{struct_cell_limit};
 ghost use Rattle.nss_tree.specs.Reading.{plain_item, plain_names};
 ghost use Rattle.nss_tree.specs.Units as unit;
 ghost use Rattle.typing_rules.specs.declared.fault.FaultKind.TheVariants as kind;
@@ -69,6 +70,8 @@ fn members_if(
     structs: &Structs,
     lines: &Option<Items<TypedLine>>,
 ) -> Result<Option<Members>, NoMemory>
+    requires few { IfSome lines.now
+        (λ ls. (struct_members structs.now ls).cells ≤ struct_cell_limit) }
     ensures { IfOk result (λ r. option_map members_of r
         ≡ option_map (struct_members structs.now) lines.now) }
 {
@@ -135,6 +138,8 @@ fn declare_struct(
     name: &Text,
     lines: &Option<Items<TypedLine>>,
 ) -> Result<Text, NoMemory>
+    requires few { IfSome lines.now
+        (λ ls. (struct_members structs.old ls).cells ≤ struct_cell_limit) }
     ensures name { IfOk result (λ r. r ≡ name.now) }
     ensures structs { OnOk result (structs.new ≡ structs.old ++ record {
       called = name.now;

@@ -24,8 +24,7 @@ use Rattle.stack_lists.specs.Rows.{row_in}
 use Rattle.stack_check.specs.declared.facts.Unseen.{Unseen}
 use Rattle.stack_check.specs.Facts.{current, callee_of, callee_at, first_held, kept_callee, lowest, table_of, unseen_cells, unseen_under, without}
 use Rattle.stack_check.specs.Inference.{BeginsAlike, GivenFits, GivenOver, IsLonger, IsOver, IsThere, LooksOwed, TrialIn, Within, Beyond, RowFits, TrialFits, Keeps, Owed, RowIs, FirstFits, Begins, GivenOwed, Sound, window}
-use Rattle.stack_lists.proofs.Heaps.{same_shape}
-use Rattle.stack_lists.proofs.Walks.{read_empty}
+use Rattle.stack_lists.specs.Growth.{same_shape, read_empty}
 use Rattle.stack_check.proofs.Steps.{row_trial}
 use Rattle.stack_check.proofs.Tables.{entry_is, led_at, own_is}
 use Rattle.stack_check.proofs.Windows.{lowest_length, without_on}

@@ -24,10 +24,9 @@ use Rattle.stack_lists.specs.declared.todo.Spot.{Spot}
 use Rattle.stack_lists.specs.Worklist.{Worklist, waiting}
 use Rattle.std.proofs.lemmas.List.{length-append}
 use Rattle.stack_check.specs.Inference.{NothingNew, IsTrialOf, IsWhole, TrialIn, IsOver, GivenOver, Beyond, RowFits, TrialFits, Keeps, Visited, WhereQuiet, Takes, SeesRow, SeesAll, SeesDrained, SeesTurn, IsFound}
-use Rattle.stack_lists.proofs.Heaps.{heap_same, heap_then, same_shape}
+use Rattle.stack_lists.specs.Growth.{heap_same, heap_then, same_shape, read_empty}
 use Rattle.stack_check.proofs.Left.{total_under}
 use Rattle.stack_check.proofs.Windows.{deeper_none}
-use Rattle.stack_lists.proofs.Walks.{read_empty}
 use Rattle.stack_check.proofs.Tables.{at_of, found_in, table_same, whole_over, whole_own}
 
 some_is : {A : Type 0} (a b : A) → Some a ≡ Some b → a ≡ b

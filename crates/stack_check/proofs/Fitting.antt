@@ -22,7 +22,7 @@ use Rattle.stack_lists.specs.Shared.{read}
 use Rattle.stack_lists.specs.Held.{shape_of}
 use Rattle.stack_check.specs.Facts.{table_of}
 use Rattle.stack_check.specs.Fitting.{IsValueOf, BeginsWith, BeginsOtherwise, IsFrame, Resumes, IsResumedAt, stored_at}
-use Rattle.stack_lists.proofs.Heaps.{same_shape}
+use Rattle.stack_lists.specs.Growth.{same_shape}
 
 -- ---- a cell more
 

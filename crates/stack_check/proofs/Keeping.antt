@@ -25,8 +25,7 @@ use Rattle.stack_lists.specs.Rows.{RowAdded, row_in}
 use Rattle.stack_lists.specs.declared.rows.Row.{Row}
 use Rattle.stack_check.specs.Facts.{current, first_place, first_held, callee_of, lowest, unseen_cells, unseen_under, with_unseen}
 use Rattle.stack_check.specs.Inference.{IsTrialOf, IsWhole, Formed, TrialIn, AllIn, IsOver, GivenOver, AllOver, Beyond, RowFits, TrialFits, Compares, Keeps, Owed, RowIs, TrialAdded, FirstFits, Begins, GivenOwed, SeesMore, UnseenOwed}
-use Rattle.stack_lists.proofs.Heaps.{still_in, still_shape}
-use Rattle.stack_lists.proofs.Walks.{read_empty}
+use Rattle.stack_lists.specs.Growth.{still_in, still_shape, read_empty}
 use Rattle.stack_check.proofs.Windows.{deeper_then, lowest_fewer}
 
 some_is : {A : Type 0} (a b : A) → Some a ≡ Some b → a ≡ b

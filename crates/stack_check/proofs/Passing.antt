@@ -19,14 +19,12 @@ use Rattle.stack_check.specs.declared.seen.Seen.{Seen}
 use Rattle.stack_check.specs.declared.seen.Seen.TheVariants.{Quiet, Changed, Bad}
 use Rattle.stack_lists.specs.Shared.{read}
 use Rattle.stack_lists.specs.Held.{HeapGrows, shape_of}
-use Rattle.stack_lists.specs.Rows.{row_in}
+use Rattle.stack_lists.specs.Rows.{RowsAreNumbered, row_in}
 use Rattle.stack_check.specs.Facts.{FindsMore, current, first_place, first_held, kept_callee, table_of, unseen_cells, unseen_under}
 use Rattle.stack_check.specs.Inference.{IsWhole, IsOver, TrialIn, Keeps, Visited, WhereQuiet, Takes, Sound, Sees, RowSound, SeesRow, SeesAll}
-use Rattle.stack_lists.proofs.Heaps.{heap_same, heap_then, same_shape}
+use Rattle.stack_lists.specs.Growth.{heap_same, heap_then, same_shape, read_empty}
 use Rattle.stack_check.proofs.Calling.{taken_is, under_is}
-use Rattle.stack_lists.proofs.RowLemmas.{row_number}
 use Rattle.stack_check.proofs.Tables.{at_of, entry_is, found_in, sound_before, whole_over}
-use Rattle.stack_lists.proofs.Walks.{read_empty}
 
 some_is : {A : Type 0} (a b : A) → Some a ≡ Some b → a ≡ b
 some_is a b h = cc
@@ -135,11 +133,11 @@ none_past (r ∷ rows) (suc k) h = omega (arith, none_past rows k h)
 
 -- ---- the rules
 
-all_sound : (header : EngineTable) (code : List PlainOp) (heap : Heap) (facts : Facts) (end : ℕ) → length facts.rows ≤ end
+all_sound : RowsAreNumbered → (header : EngineTable) (code : List PlainOp) (heap : Heap) (facts : Facts) (end : ℕ) → length facts.rows ≤ end
     → ((k : ℕ) → k < end → NumberSound header code heap facts k) → (n p : ℕ) → RowSound header code heap facts n p
-all_sound header code heap facts end e s n p = record {
+all_sound law header code heap facts end e s n p = record {
   by = λ held r.
-      let f = row_number facts.rows n p held r in
+      let f = law facts.rows n p held r in
       let l = number_fits facts.rows f.0 f.1 f.2 in
       let sound : RowSound header code heap facts f.1.trial f.1.place = (s f.0 (omega (arith, l, e))).by f.1 f.2 in
       (subst (λ n. RowSound header code heap facts n p) f.3 (subst (λ p. RowSound header code heap facts f.1.trial p) f.4 sound)).by held r;
@@ -203,14 +201,14 @@ meets header code heap facts k s = record {
   each = each_sound header code heap facts k s;
 }
 
-pub all_done : (header : EngineTable) (code : List PlainOp) (first now : Heap) (before facts : Facts) (number : ℕ)
+pub all_done : RowsAreNumbered → (header : EngineTable) (code : List PlainOp) (first now : Heap) (before facts : Facts) (number : ℕ)
     → AllSoFar header code first now before facts number → None ≡ slice_get facts.rows number → SeesAll header code first now before facts Quiet
-all_done header code first now before facts number s e = record {
+all_done law header code first now before facts number s e = record {
   grows = s.grows;
   keeps = s.keeps;
   quiet = (
     s.same,
-    meets header code first before s.begun (all_sound header code first before number
+    meets header code first before s.begun (all_sound law header code first before number
         (subst (λ (f : Facts). length f.rows ≤ number) s.same (none_past facts.rows number e)) s.sound),
   );
   takes = tt;

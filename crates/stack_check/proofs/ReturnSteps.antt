@@ -16,7 +16,7 @@ use Rattle.stack_lists.specs.Shared.{read}
 use Rattle.stack_lists.specs.Rows.{row_in}
 use Rattle.stack_check.specs.Facts.{FindsMore}
 use Rattle.stack_check.specs.Inference.{Keeps, Sees}
-use Rattle.stack_lists.proofs.Heaps.{heap_same}
+use Rattle.stack_lists.specs.Growth.{heap_same}
 use Rattle.stack_check.proofs.CallSteps.{sees_changed}
 use Rattle.stack_check.proofs.Calling.{never_saved, never_pending, never_gives, return_owed, return_sound, end_sound}
 

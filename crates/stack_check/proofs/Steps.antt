@@ -22,7 +22,7 @@ use Rattle.stack_lists.specs.Held.{HeapGrows, IsIn, shape_of}
 use Rattle.stack_lists.specs.Rows.{row_in}
 use Rattle.stack_check.specs.Facts.{table_of, unseen_cells, unseen_under}
 use Rattle.stack_check.specs.Inference.{RowFits, Keeps, Owed, IsLed, AllLed, RowsKept, IsOver, IsStep, IsThere, LooksOwed, Within, Sound, AsksFurtherOf, leads_of}
-use Rattle.stack_lists.proofs.Heaps.{still_shape}
+use Rattle.stack_lists.specs.Growth.{still_shape}
 use Rattle.stack_check.proofs.Keeping.{over_still}
 use Rattle.stack_check.proofs.Tables.{led_at, own_is}
 

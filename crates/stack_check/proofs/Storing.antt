@@ -31,8 +31,7 @@ use Rattle.stack_lists.specs.Held.{AllAtMost, HeapGrows, Holds, IsIn, shape_of}
 use Rattle.stack_lists.specs.Rows.{row_in}
 use Rattle.stack_check.specs.Facts.{FindsMore, current, number_in, table_of, first_held, callee_of}
 use Rattle.stack_check.specs.Inference.{IsWhole, TrialIn, Takes, Beyond, RowIs, Keeps, Visited, WhereQuiet, Owed, Begins, Sound, Sees, SeesStep, Resumes, IsStored, Stores, IsPlain, IsCall, after_change, kind_of}
-use Rattle.stack_lists.proofs.Heaps.{heap_then, heap_same, same_shape}
-use Rattle.stack_lists.proofs.Walks.{read_empty, grows_then, grows_none}
+use Rattle.stack_lists.specs.Growth.{heap_then, heap_same, same_shape, read_empty, grows_then, grows_none}
 use Rattle.stack_check.proofs.Windows.{deeper_none}
 use Rattle.stack_check.proofs.Tables.{led_at, whole_over}
 use Rattle.stack_check.proofs.Keeping.{keeps_grows}

@@ -20,7 +20,7 @@ use Rattle.stack_lists.specs.Held.{HeapGrows, shape_of}
 use Rattle.stack_lists.specs.Rows.{row_in}
 use Rattle.stack_check.specs.Facts.{current, lowest, unseen_cells, unseen_under, without, cut, cut_for, kept_callee, callee_at, shape_at, table_of}
 use Rattle.stack_check.specs.Inference.{Formed, TrialIn, IsWhole, IsOver, Keeps, RowIs, Sound}
-use Rattle.stack_lists.proofs.Heaps.{still_shape}
+use Rattle.stack_lists.specs.Growth.{still_shape}
 use Rattle.stack_check.proofs.Keeping.{cells_still, under_still, over_still}
 use Rattle.stack_check.proofs.Windows.{cut_deeper, deeper_none, lowest_none}
 

@@ -10,7 +10,7 @@ use Rattle.stack_shape.specs.Laws.{beneath_under, deeper_saved, deeper}
 use Rattle.stack_check.specs.declared.facts.Unseen.{Unseen}
 use Rattle.stack_check.specs.Facts.{lowest, without, cut_saved, cut}
 use Rattle.stack_check.specs.Inference.{IsThere, SeesMore, is_nil, narrowed, unseen_after}
-use Rattle.stack_lists.proofs.Heaps.{same_shape}
+use Rattle.stack_lists.specs.Growth.{same_shape}
 
 -- ---- in two steps
 
@@ -185,10 +185,22 @@ pub within_same : (x y : List Slot) (unseen : Unseen) (s own : TopShape) (reach 
     → s ≡ deeper x y own → IsThere s reach → unseen_after unseen s reach ≡ unseen → IsThere own reach
 within_same x y unseen s own reach lx ly is t same = within_narrow x y unseen s own reach own.saved refl lx ly is t same
 
--- ---- less is unseen
-
 unseen_is : (a b : Unseen) → a.cells ≡ b.cells → a.under ≡ b.under → a ≡ b
 unseen_is a b c u = ap (λ c. let w : Unseen = record { cells = c; under = a.under } in w) c ∙ ap (λ u. let w : Unseen = record { cells = b.cells; under = u } in w) u
+
+-- where nothing is unseen, it stays so
+pub whole_same : (unseen : Unseen) (s : TopShape) (reach : Reach) → unseen.cells ≡ 0 → unseen.under ≡ 0 → unseen_after unseen s reach ≡ unseen
+whole_same unseen s reach c u = narrowed_whole (is_nil s.saved) (length s.cells - reach.cells) (length s.under - reach.under)
+  where
+    least_none : (a b : ℕ) → a ≡ 0 → min a b ≡ a
+    least_none a b z = grind (arith, z)
+
+    narrowed_whole : (first : Bool) (cells under : ℕ) → narrowed unseen first cells under ≡ unseen
+    narrowed_whole true cells under = unseen_is _ _ (least_none unseen.cells cells c) (least_none unseen.under under u)
+    narrowed_whole false cells under =
+        unseen_is _ _ (ap (λ n. min n under) (least_none unseen.cells cells c) ∙ least_none unseen.cells under c) refl
+
+-- ---- less is unseen
 
 less_or_same : (a b : Unseen) → a.cells ≤ b.cells → a.under ≤ b.under → (a ≡ b → ⊥) → a.cells + a.under < b.cells + b.under
 less_or_same a b c u ne = elim (Rattle.std.proofs.lemmas.Bool.cases_lt (a.cells + a.under) (b.cells + b.under)) [

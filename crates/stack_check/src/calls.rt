@@ -3,7 +3,7 @@ ghost use Rattle.std.specs.Prelude.{IsTrue, length, take, true, ◌↔◌};
 ghost use Rattle.stack_shape.specs.declared.shape.Entry.TheVariants.{Called};
 ghost use Rattle.stack_lists.specs.Shared.{read};
 ghost use Rattle.stack_lists.specs.Rows.{row_in};
-ghost use Rattle.stack_lists.specs.Held.{HeapGrows, Holds, IsIn, shape_of};
+ghost use Rattle.stack_lists.specs.Held.{IsIn, shape_of};
 ghost use Rattle.stack_check.specs.Facts.{FindsMore};
 ghost use Rattle.stack_check.specs.Inference.{AllIn, BeginsAlike, Calls, IsCall, Keeps, NothingNew};
 ghost use Rattle.stack_check.specs.Inference.{RowIs, Sees, TrialIn, Within, window};
@@ -14,36 +14,9 @@ use crate::see::see;
 use crate::seen::Seen;
 use ncs_file::Code;
 use nwq_value::{NoMemory, Table};
-use stack_lists::{Heap, Held, Spot, Todo, join, same};
+use stack_lists::{Heap, Held, Spot, Todo, with_cells};
 use stack_shape::{Entry, Reach};
 use std::alloc::Global;
-
-/// The shape with so many of the slots that a routine gives on top of what lies beneath those that
-/// it takes.
-#[tactic(auto, using(stack_lists::proofs::Heaps::changing))]
-fn with_given(
-    alloc: Global,
-    heap: &mut Heap,
-    held: Held,
-    given: u32,
-    count: usize,
-    rest: u32,
-) -> Result<Held, NoMemory>
-    requires inside { IsIn heap.old held }
-    requires given { given ≤ length heap.old.slots }
-    requires rest { rest ≤ length heap.old.slots }
-    ensures { IfOk result (λ now. Holds heap.old heap.new now (record (shape_of heap.old held) {
-      cells = take count (read heap.old.slots given) ++ read heap.old.slots rest;
-    })) }
-{
-    let cells = join(alloc, &mut heap.slots, given, count, rest)?;
-    Ok(Held {
-        cells,
-        under: held.under,
-        saved: held.saved,
-        pending: held.pending,
-    })
-}
 
 /// A call of a routine that has no trial yet.
 #[tactic(auto, using(crate::proofs::CallSteps::first))]
@@ -194,7 +167,7 @@ fn call_given(
     if is_found(heap, facts, from, next, given, count, rest)? {
         return Ok(Seen::Quiet);
     }
-    let now = with_given(alloc, heap, from.held, given, count, rest)?;
+    let now = with_cells(alloc, heap, from.held, given, count, rest)?;
     let spot = Spot {
         trial: from.trial,
         place: next,

@@ -12,7 +12,7 @@ use crate::seen::Seen;
 use crate::visit::visit;
 use ncs_file::Code;
 use nwq_value::{Items, NoMemory, Table};
-use stack_lists::{Heap, Held, Lists, Places, Rows, Spot, Stacks, Todo};
+use stack_lists::{Heap, Held, Lists, Places, Rows, Spot, Stacks, Todo, rows_are_numbered};
 use stack_shape::Entry;
 use std::alloc::Global;
 
@@ -91,7 +91,10 @@ fn pass(
     let mut number = 0;
     'rows: loop {
         let row = match facts.rows.get(number) {
-            None => return Ok(Seen::Quiet),
+            None => {
+                rows_are_numbered();
+                return Ok(Seen::Quiet);
+            }
             Some(row) => row,
         };
         let seen = look(alloc, code, table, heap, facts, todo, row.trial, row.place)?;

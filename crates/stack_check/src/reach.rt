@@ -1,6 +1,5 @@
-ghost use Rattle.std.specs.Prelude.{◌≡◌, IfOk, ◌↔◌, IsTrue, map};
+ghost use Rattle.std.specs.Prelude.{◌≡◌, IfOk};
 ghost use Rattle.ncs_code.specs.Plain.{plain};
-ghost use Rattle.stack_lists.specs.Shared.{read};
 ghost use Rattle.stack_lists.specs.Held.{IsIn, shape_of};
 ghost use Rattle.stack_check.specs.Inference.{AllLed, IsLed, IsStep, Keeps, NothingNew, Owed};
 ghost use Rattle.stack_check.specs.Inference.{Reached};
@@ -14,44 +13,8 @@ use crate::seen::Seen;
 use ncs_code::Op;
 use ncs_file::Code;
 use nwq_value::{NoMemory, Table};
-use stack_lists::{Heap, Held, Spot, Todo, same};
+use stack_lists::{Heap, Held, Spot, Todo, same_shape};
 use stack_shape::rules_look_from_the_top;
-
-/// Whether both saved lists have the same lists of slots.
-#[tactic(auto, using(stack_lists::proofs::Walks::comparing))]
-fn same_saved(heap: &Heap, a: u32, b: u32) -> bool
-    ensures { IsTrue result ↔ (map (read heap.now.slots) (read heap.now.saved a)
-        ≡ map (read heap.now.slots) (read heap.now.saved b)) }
-{
-    let mut x = a;
-    let mut y = b;
-    while x != y {
-        match (heap.saved.pop(x), heap.saved.pop(y)) {
-            (None, None) => return true,
-            (None, Some(_)) => return false,
-            (Some(_), None) => return false,
-            (Some((s, rest)), Some((t, other))) => {
-                if !same(&heap.slots, s, t) {
-                    return false;
-                }
-                x = rest;
-                y = other;
-            }
-        }
-    }
-    true
-}
-
-/// Whether both are the same shape.
-#[tactic(auto, using(crate::proofs::Reaching::same_parts))]
-pub fn same_shape(heap: &Heap, a: Held, b: Held) -> bool
-    ensures { IsTrue result ↔ (shape_of heap.now a ≡ shape_of heap.now b) }
-{
-    a.pending == b.pending
-        && same(&heap.slots, a.cells, b.cells)
-        && same(&heap.slots, a.under, b.under)
-        && same_saved(heap, a.saved, b.saved)
-}
 
 /// Looks whether the trial has this shape at the place, and adds it where it has none there.
 #[tactic(auto, using(crate::proofs::Reaching::reaching))]

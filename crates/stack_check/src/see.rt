@@ -64,6 +64,13 @@ fn look_again(todo: &mut Todo, entry: Entry) -> Result<(), NoMemory> {
     }
 }
 
+/// Whether a trial looked at its whole lists, as a script's start did from the first.
+fn saw_all(trial: Trial) -> bool
+    ensures { IsTrue result ↔ ((trial.unseen.cells ≡ 0) × (trial.unseen.under ≡ 0)) }
+{
+    trial.unseen.cells == 0 && trial.unseen.under == 0
+}
+
 /// Looks so deep into a shape that was found. True where some of these slots lie in what the
 /// trial's routine took from its first caller, and no instruction had looked at them.
 #[tactic(auto, using(crate::proofs::Seeing::seeing))]
@@ -90,6 +97,9 @@ pub fn see(
         None => unreachable!(),
         Some(trial) => {
             let trial = *trial;
+            if saw_all(trial) {
+                return Ok(false);
+            }
             let unseen = unseen_after(heap, trial.unseen, from.held, reach);
             if same_unseen(unseen, trial.unseen) {
                 return Ok(false);

@@ -1,63 +1,46 @@
 -- Shapes that are held, and steps on them.
-use Rattle.std.proofs.Common.{arith, ◌≡◌, ◌≤◌, ◌+◌, ℕ, List, [], ◌∷◌, ◌++◌, length, map, drop, Option, None, Some, sym, subst, ◌∙◌, ap, refl}
+use Rattle.std.proofs.Common.{arith, ◌≡◌, ◌≤◌, ◌+◌, ℕ, List, [], ◌∷◌, ◌++◌, length, map, drop, true, Option, None, Some, sym, subst, ◌∙◌, ap, refl}
 use Rattle.std.specs.Option.{option_map}
 use Rattle.stack_shape.specs.declared.shape.Slot.{Slot}
 use Rattle.stack_shape.specs.declared.shape.Slot.TheVariants.{Of, Base}
 use Rattle.stack_shape.specs.declared.effect.StackEffect.{StackEffect}
-use Rattle.stack_shape.specs.StackEffects.{after_effect}
+use Rattle.stack_shape.specs.StackEffects.{after_effect, pushed, stack_effect}
 use Rattle.stack_shape.specs.declared.store.StoredTypes.{StoredTypes}
 use Rattle.nwq_value.specs.declared.value.Ty.{Ty}
 use Rattle.stack_shape.specs.Stored.{TopShape, stored_types}
 use Rattle.nwq_value.specs.declared.engine.Routine.{Routine}
-use Rattle.stack_shape.specs.Rule.{affected, called, based, restored, stored}
+use Rattle.stack_shape.specs.Rule.{affected, called, based, restored, rule, stored}
+use Rattle.nwq_value.specs.Engine.{EngineTable}
+use Rattle.ncs_code.specs.Plain.{PlainOp}
+use Rattle.ncs_code.specs.Plain as ops
 use Rattle.stack_lists.specs.declared.lists.Node.{Node}
 use Rattle.stack_lists.specs.declared.held.Held.{Held}
 use Rattle.stack_lists.specs.declared.held.Heap.{Heap}
 use Rattle.stack_lists.specs.Shared.{read, Grows}
-use Rattle.stack_lists.specs.Held.{shape_of, AllAtMost, IsIn, HeapGrows, AfterStep, Holds}
-use Rattle.stack_lists.proofs.Walks.{grows_none, grows_then}
+use Rattle.stack_lists.specs.Held.{shape_of, AllAtMost, IsIn, HeapGrows, AfterStep, Holds, is_still}
+use Rattle.stack_lists.specs.Growth.{all_more, grows_none, heap_same, map_same, same_shape, still_in, still_shape}
 
--- ---- growing
+-- ---- equal shapes
 
-pub heap_same : (h : Heap) → HeapGrows h h
-heap_same h = record { slots = grows_none h.slots; saved = grows_none h.saved }
+pub parts_same : (heap : Heap) (a b : Held) → a.pending ≡ b.pending → read heap.slots a.cells ≡ read heap.slots b.cells
+    → read heap.slots a.under ≡ read heap.slots b.under
+    → map (read heap.slots) (read heap.saved a.saved) ≡ map (read heap.slots) (read heap.saved b.saved) → shape_of heap a ≡ shape_of heap b
+parts_same heap a b p c u s = same_shape _ _ _ _ _ _ _ _ c u s p
 
-pub heap_then : (a b c : Heap) → HeapGrows a b → HeapGrows b c → HeapGrows a c
-heap_then a b c g h = record { slots = grows_then a.slots b.slots c.slots g.slots h.slots; saved = grows_then a.saved b.saved c.saved g.saved h.saved }
+pub pending_same : (heap : Heap) (a b : Held) → shape_of heap a ≡ shape_of heap b → a.pending ≡ b.pending
+pending_same heap a b e = ap (λ (s : TopShape). s.pending) e
 
-all_more : (a b : ℕ) (ns : List ℕ) → a ≤ b → AllAtMost a ns → AllAtMost b ns
-all_more a b [] h all = tt
-all_more a b (n ∷ ns) h all = (omega (arith, h, all.0), all_more a b ns h all.1)
+pub cells_same : (heap : Heap) (a b : Held) → shape_of heap a ≡ shape_of heap b → read heap.slots a.cells ≡ read heap.slots b.cells
+cells_same heap a b e = ap (λ (s : TopShape). s.cells) e
 
--- the same lists, read in a larger heap
-map_same : (before after : List (Node Slot)) (ns : List ℕ) → Grows before after → AllAtMost (length before) ns → map (read after) ns ≡ map (read before) ns
-map_same before after [] g all = refl
-map_same before after (n ∷ ns) g all =
-    ap (λ xs. xs ∷ map (read after) ns) (g.same n all.0) ∙ ap (λ rest. read before n ∷ rest) (map_same before after ns g all.1)
+pub under_same : (heap : Heap) (a b : Held) → shape_of heap a ≡ shape_of heap b → read heap.slots a.under ≡ read heap.slots b.under
+under_same heap a b e = ap (λ (s : TopShape). s.under) e
 
-pub still_in : (a b : Heap) (held : Held) → HeapGrows a b → IsIn a held → IsIn b held
-still_in a b held g h = record {
-  cells = omega (arith, g.slots.longer, h.cells);
-  under = omega (arith, g.slots.longer, h.under);
-  saved = omega (arith, g.saved.longer, h.saved);
-  each = subst (λ ns. AllAtMost (length b.slots) ns) (sym (g.saved.same held.saved h.saved))
-      (all_more (length a.slots) (length b.slots) (read a.saved held.saved) g.slots.longer h.each);
-}
+pub saved_same : (heap : Heap) (a b : Held) → shape_of heap a ≡ shape_of heap b
+    → map (read heap.slots) (read heap.saved a.saved) ≡ map (read heap.slots) (read heap.saved b.saved)
+saved_same heap a b e = ap (λ (s : TopShape). s.saved) e
 
-pub same_shape : (cells under : List Slot) (saved : List (List Slot)) (pending : ℕ) (cells' under' : List Slot) (saved' : List (List Slot)) (pending' : ℕ)
-    → cells ≡ cells' → under ≡ under' → saved ≡ saved' → pending ≡ pending'
-    → (let a : TopShape = record { cells = cells; under = under; saved = saved; pending = pending } in a)
-    ≡ record { cells = cells'; under = under'; saved = saved'; pending = pending' }
-same_shape cells under saved pending cells' under' saved' pending' c u s p =
-    ap (λ c. record { cells = c; under = under; saved = saved; pending = pending }) c
-    ∙ ap (λ u. record { cells = cells'; under = u; saved = saved; pending = pending }) u
-    ∙ ap (λ s. record { cells = cells'; under = under'; saved = s; pending = pending }) s
-    ∙ ap (λ p. record { cells = cells'; under = under'; saved = saved'; pending = p }) p
-
-pub still_shape : (a b : Heap) (held : Held) → HeapGrows a b → IsIn a held → shape_of b held ≡ shape_of a held
-still_shape a b held g h =
-    same_shape _ _ _ _ _ _ _ _ (g.slots.same held.cells h.cells) (g.slots.same held.under h.under)
-    (ap (map (read b.slots)) (g.saved.same held.saved h.saved) ∙ map_same a.slots b.slots (read a.saved held.saved) g.slots h.each) refl
+pub ruleset same_parts = (parts_same, pending_same, cells_same, under_same, saved_same)
 
 -- ---- other cells, and another number of pending states
 
@@ -98,6 +81,17 @@ pub effect_some : (a b : Heap) (after : Held) (e : StackEffect) (s : TopShape) �
 effect_some a b after e s h = (h.grows, h.inside, ap Some (sym h.is))
 
 pub ruleset affecting = (effect_none, effect_some)
+
+-- ---- a value more
+
+pub push_none : (a : Heap) (o : Option Ty) (s : TopShape) → o ≡ None → AfterStep a a None (affected (pushed o) s)
+push_none a o s e = (heap_same a, ap (λ o. affected (pushed o) s) e)
+
+pub push_some : (a b : Heap) (after : Held) (o : Option Ty) (t : Ty) (s : TopShape) → o ≡ Some t → Holds a b after (record s { cells = Of t ∷ s.cells })
+    → AfterStep a b (Some after) (affected (pushed o) s)
+push_some a b after o t s e h = (h.grows, h.inside, ap (λ o. affected (pushed o) s) e ∙ ap Some (sym h.is))
+
+pub ruleset pushing = (push_none, push_some)
 
 -- ---- SAVEBP
 
@@ -184,4 +178,11 @@ pub ruleset calling = (called_none)
 pub step_holds : (a b : Heap) (after : Held) (s : TopShape) → Holds a b after s → AfterStep a b (Some after) (Some s)
 step_holds a b after s h = (h.grows, h.inside, ap Some (sym h.is))
 
-pub ruleset stepping = (step_holds)
+-- where it changes nothing
+pub still_rule : (table : EngineTable) (op : PlainOp) (s : TopShape) → is_still op ≡ true → rule table op s ≡ Some s
+unfolding is_still rule stack_effect
+still_rule table (ops.Jmp offset) s h = refl
+still_rule table ops.Nop s h = refl
+still_rule table op s h = absurd cc
+
+pub ruleset stepping = (step_holds, heap_same, still_rule)

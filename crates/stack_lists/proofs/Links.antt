@@ -15,7 +15,7 @@ use Rattle.stack_lists.specs.declared.stacks.Agreed.{Agreed}
 use Rattle.stack_lists.specs.Shared.{with_node, read_within, read, Grows}
 use Rattle.stack_lists.specs.Stacks.{node_of, nodes_of, LiesOn, IsLink, IsNew, IsTop, AreLinked, Agrees, AllAgree}
 use Rattle.stack_lists.proofs.SharedLists.{grows_one, older_one, pop_inside, pop_older, pop_none, pop_top, pushed_reads, read_zero}
-use Rattle.stack_lists.proofs.Walks.{read_empty}
+use Rattle.stack_lists.specs.Growth.{read_empty}
 
 some_is : {A : Type 0} (a b : A) → Some a ≡ Some b → a ≡ b
 some_is a b h = cc

@@ -8,21 +8,9 @@ use Rattle.stack_shape.specs.declared.shape.Slot.TheVariants.{Of, Base}
 use Rattle.stack_shape.specs.TopFirst.{types_on}
 use Rattle.stack_lists.specs.declared.lists.Node.{Node}
 use Rattle.stack_lists.specs.Shared.{read, Grows}
+use Rattle.stack_lists.specs.Growth.{grows_none, grows_then}
 
--- ---- the empty list, and growing
-
-pub read_empty : {A : Type 0} (nodes : List (Node A)) → read nodes 0 ≡ []
-unfolding read
-read_empty nodes = refl
-
-pub grows_none : {A : Type 0} (nodes : List (Node A)) → Grows nodes nodes
-grows_none nodes = record { longer = omega arith; same = λ number h. refl }
-
-pub grows_then : {A : Type 0} (a b c : List (Node A)) → Grows a b → Grows b c → Grows a c
-grows_then a b c g h = record {
-  longer = omega (arith, g.longer, h.longer);
-  same = λ number i. h.same number (omega (arith, i, g.longer)) ∙ g.same number i;
-}
+-- ---- growing
 
 pub grown_inside : {A : Type 0} (a b : List (Node A)) (number : ℕ) → Grows a b → number ≤ length a → number ≤ length b
 grown_inside a b number g h = omega (arith, g.longer, h)

@@ -8,7 +8,7 @@ use Rattle.stack_lists.specs.declared.todo.Spot.{Spot}
 use Rattle.stack_lists.specs.Shared.{Grows, read}
 use Rattle.stack_lists.specs.Rows.{PutAt, SameNumbers}
 use Rattle.stack_lists.specs.Worklist.{AreThere, CallKept, CallersAdded, SameCalls, Worklist}
-use Rattle.stack_lists.proofs.Walks.{read_empty}
+use Rattle.stack_lists.specs.Growth.{read_empty}
 
 -- ---- a list is put last
 

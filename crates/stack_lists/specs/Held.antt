@@ -1,5 +1,7 @@
 -- Shapes whose lists are numbers of shared lists.
-use Rattle.std.specs.Prelude.{◌≡◌, ◌≤◌, ℕ, List, [], ◌∷◌, length, map, Option, None, Some}
+use Rattle.std.specs.Prelude.{◌≡◌, ◌≤◌, ℕ, List, [], ◌∷◌, length, map, Bool, true, false, Option, None, Some}
+use Rattle.ncs_code.specs.Plain.{PlainOp}
+use Rattle.ncs_code.specs.Plain as ops
 use Rattle.stack_shape.specs.Stored.{TopShape}
 use Rattle.stack_lists.specs.declared.held.Held.{Held}
 use Rattle.stack_lists.specs.declared.held.Heap.{Heap}
@@ -34,6 +36,12 @@ pub record HeapGrows (before after : Heap) : Type 0 where
 abbrev pub AfterStep : Heap → Heap → Option Held → Option TopShape → Type 0
 AfterStep before after None shape = HeapGrows before after × (shape ≡ None)
 AfterStep before after (Some held) shape = HeapGrows before after × IsIn after held × (shape ≡ Some (shape_of after held))
+
+-- an instruction that leaves each shape as it is
+unfoldable pub is_still : PlainOp → Bool
+is_still (ops.Jmp offset) = true
+is_still ops.Nop = true
+is_still op = false
 
 -- the shape is held
 pub record Holds (before after : Heap) (held : Held) (shape : TopShape) : Type 0 where

@@ -1,6 +1,7 @@
 pub mod Budget
 pub mod Shared
 pub mod Held
+pub mod Growth
 pub mod Stacks
 pub mod Rows
 pub mod Worklist

@@ -18,6 +18,11 @@ abbrev pub held_in : Option Row → ℕ → ℕ → Option Held
 held_in None trial place = None
 held_in (Some row) trial place = if (row.trial == trial) && (row.place == place) then Some row.held else None
 
+-- The shape at a place of a trial is held by a row that has a number.
+abbrev pub RowsAreNumbered : Type 0
+RowsAreNumbered = (rows : List Row) (trial place : ℕ) (held : Held) → row_in rows trial place ≡ Some held
+    → (number : ℕ) × (row : Row) × (slice_get rows number ≡ Some row) × (row.trial ≡ trial) × (row.place ≡ place)
+
 -- ---- where rows are found
 
 -- The row with this number, of this trial and place, is found: it is the first of its place, or the index has it.

@@ -1,18 +1,22 @@
-ghost use Rattle.std.specs.Prelude.{slice_get, ◌+◌, ◌≡◌, IfOk};
+ghost use Rattle.std.specs.Prelude.{◌≡◌, ◌≤◌, ◌↔◌, ◌+◌, ◌∷◌, ◌++◌, length, map, slice_get, take};
+ghost use Rattle.std.specs.Prelude.{IfOk, IsTrue};
 ghost use Rattle.stack_shape.specs.Rule.{affected, based, called_with, restored, rule, stored};
 ghost use Rattle.stack_shape.specs.Rule.{IsOneStep, called};
 ghost use Rattle.stack_shape.specs.StackEffects.{after_effect, stack_effect};
-ghost use Rattle.ncs_code.specs.Plain.{plain};
+ghost use Rattle.stack_shape.specs.declared.shape.Slot.TheVariants.{Of};
+ghost use Rattle.ncs_code.specs.Plain.{plain, RsAdd};
 ghost use Rattle.stack_lists.specs.Shared.{read};
-ghost use Rattle.stack_lists.specs.Held.{AfterStep, Holds, IsIn, shape_of};
+ghost use Rattle.stack_lists.specs.Held.{AfterStep, Holds, IsIn, is_still, shape_of};
 
 use crate::budget::room;
 use crate::lists::Lists;
-use crate::slots::{Top, put_types};
+use crate::slots::{Top, join, put_types, same};
 use crate::stacks::Stacks;
 use ncs_code::Op;
-use nwq_value::{NoMemory, Routine, Table};
-use stack_shape::{Slot, StackEffect, action_count, call_effect, stack_effect, stored_types};
+use nwq_value::{NoMemory, Routine, Table, Ty};
+use stack_shape::{
+    Slot, StackEffect, action_count, call_effect, stack_effect, stored_types, type_of_one,
+};
 use std::alloc::Global;
 
 /// A shape whose lists are numbers of shared ones.
@@ -29,6 +33,69 @@ pub struct Held {
 pub struct Heap {
     pub slots: Stacks,
     pub saved: Lists<u32>,
+}
+
+/// Whether both saved lists have the same lists of slots.
+#[tactic(auto, using(crate::proofs::Walks::comparing))]
+fn same_saved(heap: &Heap, a: u32, b: u32) -> bool
+    ensures { IsTrue result ↔ (map (read heap.now.slots) (read heap.now.saved a)
+        ≡ map (read heap.now.slots) (read heap.now.saved b)) }
+{
+    let mut x = a;
+    let mut y = b;
+    while x != y {
+        match (heap.saved.pop(x), heap.saved.pop(y)) {
+            (None, None) => return true,
+            (None, Some(_)) => return false,
+            (Some(_), None) => return false,
+            (Some((s, rest)), Some((t, other))) => {
+                if !same(&heap.slots, s, t) {
+                    return false;
+                }
+                x = rest;
+                y = other;
+            }
+        }
+    }
+    true
+}
+
+/// Whether both are the same shape.
+#[tactic(auto, using(crate::proofs::Heaps::same_parts))]
+pub fn same_shape(heap: &Heap, a: Held, b: Held) -> bool
+    ensures same { IsTrue result ↔ (shape_of heap.now a ≡ shape_of heap.now b) }
+{
+    a.pending == b.pending
+        && same(&heap.slots, a.cells, b.cells)
+        && same(&heap.slots, a.under, b.under)
+        && same_saved(heap, a.saved, b.saved)
+}
+
+/// The shape with so many of a list's topmost slots on another list in the place of its cells.
+#[tactic(auto, using(crate::proofs::Heaps::changing))]
+pub fn with_cells(
+    alloc: Global,
+    heap: &mut Heap,
+    held: Held,
+    upper: u32,
+    count: usize,
+    lower: u32,
+) -> Result<Held, NoMemory>
+    requires inside { IsIn heap.old held }
+    requires upper { upper ≤ length heap.old.slots }
+    requires lower { lower ≤ length heap.old.slots }
+    ensures holds { IfOk result (λ now. Holds heap.old heap.new now
+        (record (shape_of heap.old held) {
+          cells = take count (read heap.old.slots upper) ++ read heap.old.slots lower;
+        })) }
+{
+    let cells = join(alloc, &mut heap.slots, upper, count, lower)?;
+    Ok(Held {
+        cells,
+        under: held.under,
+        saved: held.saved,
+        pending: held.pending,
+    })
 }
 
 /// The shape after an effect on its cells, with this number of pending states.
@@ -70,6 +137,36 @@ fn affected(
     match effect {
         None => Ok(None),
         Some(effect) => Ok(Some(with_effect(heap, &effect, held, pending)?)),
+    }
+}
+
+/// The shape with a value on its cells.
+#[tactic(auto, using(crate::proofs::Heaps::changing))]
+fn pushed(heap: &mut Heap, ty: Ty, held: Held) -> Result<Held, NoMemory>
+    requires inside { IsIn heap.old held }
+    ensures { IfOk result (λ after. Holds heap.old heap.new after (record (shape_of heap.old held) {
+      cells = Of ty ∷ read heap.old.slots held.cells;
+    })) }
+{
+    let cells = heap.slots.push(held.cells, Slot::Of(ty))?;
+    Ok(Held {
+        cells,
+        under: held.under,
+        saved: held.saved,
+        pending: held.pending,
+    })
+}
+
+/// RSADD of this type byte.
+#[tactic(auto, using(crate::proofs::Heaps::pushing), unfolding(stack_shape::specs::StackEffects::stack_effect))]
+fn started(heap: &mut Heap, kind: u8, held: Held) -> Result<Option<Held>, NoMemory>
+    requires inside { IsIn heap.old held }
+    ensures { IfOk result (λ after. AfterStep heap.old heap.new after
+        (let s = shape_of heap.old held in affected (stack_effect (RsAdd kind) s.under s.cells) s)) }
+{
+    match type_of_one(kind) {
+        None => Ok(None),
+        Some(ty) => Ok(Some(pushed(heap, ty, held)?)),
     }
 }
 
@@ -213,6 +310,17 @@ fn changed(
     affected(heap, effect, held, held.pending)
 }
 
+/// Whether an instruction leaves each shape as it is.
+#[tactic(auto, unfolding(crate::specs::Held::is_still))]
+fn is_still(op: &Op<'_>) -> bool
+    ensures { result ≡ is_still (plain op.now) }
+{
+    match op {
+        Op::Jmp { .. } | Op::Nop => true,
+        _ => false,
+    }
+}
+
 /// The shape after one instruction that is neither JSR nor RETN, or `None` exactly where it has no
 /// rule on this shape.
 #[tactic(auto, using(crate::proofs::Heaps::stepping), unfolding(stack_shape::specs::Rule::rule))]
@@ -228,11 +336,16 @@ pub fn step(
     ensures after { IfOk result (λ after. AfterStep heap.old heap.new after
         (rule table.now (plain op.now) (shape_of heap.old held))) }
 {
+    // What needs no list of types is done without one.
+    if is_still(op) {
+        return Ok(Some(held));
+    }
     match op {
         Op::Action { routine, count } => called(alloc, table, *routine, *count, heap, held),
         Op::SaveBp => Ok(Some(based(heap, held)?)),
         Op::RestoreBp => Ok(restored(heap, held)),
         Op::StoreState { globals, locals } => stored(alloc, *globals, *locals, heap, held),
+        Op::RsAdd { kind } => started(heap, *kind, held),
         _ => changed(alloc, op, heap, held),
     }
 }

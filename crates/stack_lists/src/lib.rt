@@ -10,6 +10,7 @@
 
 mod budget;
 mod held;
+mod laws;
 mod lists;
 mod places;
 mod rows;
@@ -18,10 +19,11 @@ mod stacks;
 mod todo;
 
 pub use budget::{MOST, room};
-pub use held::{Heap, Held, step, top};
+pub use held::{Heap, Held, same_shape, step, top, with_cells};
+pub use laws::rows_are_numbered;
 pub use lists::{Lists, Node};
 pub use places::Places;
 pub use rows::{Row, Rows};
-pub use slots::{join, put_types, same};
+pub use slots::{put_types, same};
 pub use stacks::Stacks;
 pub use todo::{Spot, Todo};

@@ -2,7 +2,7 @@ use Rattle.std.proofs.Common.{arith, Some, subst, ap, ◌∙◌}
 use Rattle.ncs_machine.specs.Host.{scripts_of, tables_of}
 use Rattle.ncs_machine.specs.Steps.{Stays, next_of, state}
 use Rattle.ncs_machine.proofs.Answers.{answers_typed}
-use Rattle.ncs_machine.proofs.Running.{divided_run, ended_run, goes_on, run_begins, steps_well, stopped_run}
+use Rattle.ncs_machine.proofs.Running.{cut_short, divided_run, ended_run, goes_on, run_begins, steps_well, stopped_run}
 use Rattle.ncs_machine.proofs.entry.run_machine.Goals as goal
 
 pub loop-done-init : goal.loop-done-init
@@ -19,6 +19,12 @@ pub step-requires-clause-well : goal.step-requires-clause-well
 step-requires-clause-well g c =
     steps_well (scripts_of c.args.scripts.now) _ (tables_of c.args.scripts.now) c.args.limit
     (state c.args.machine.now c.args.world.now.world) c.loop-done.done (state c.loop-done.machine c.loop-done.world.world) c.loop-done.invariant.running
+
+pub returns-in-Err-clause-cut : goal.returns-in-Err-clause-cut
+returns-in-Err-clause-cut g c =
+    cut_short (scripts_of c.args.scripts.now) _ (tables_of c.args.scripts.now) c.args.limit (state c.args.machine.now c.args.world.now.world)
+    c.loop-done.done c.own-own.result (state c.loop-done.machine c.loop-done.world.world) c.step.new.world.world
+    c.loop-done.invariant.running c.own-own.ensures.own c.in-Err.ensures.cut
 
 pub returns-in-Ends-clause-run : goal.returns-in-Ends-clause-run
 returns-in-Ends-clause-run g c =

@@ -40,7 +40,7 @@ stmt_positions-returns-in-For t c =
 pub stmt_positions-returns-in_ok-depth-in-Switch : goal.stmt_positions-returns-in_ok-depth-in-Switch
 stmt_positions-returns-in_ok-depth-in-Switch t c =
     one_put _ _ _ _ _ _ _ _ (tree_switch _ _ _ _ c.in-Switch.is)
-    (ap (λ d. laid.all_positions c.args.structs.now d (typed_stmts c.in-Switch.body.items)) (sym c.in_ok-depth-in-Switch.ensures)
+    (ap (λ d. laid.all_positions c.args.structs.now d (typed_stmts c.in-Switch.body.items)) (sym c.in_ok-depth-in-Switch.ensures.sum)
     ∙ ap (λ ys. laid.all_positions c.args.structs.now c.in_ok-depth-in-Switch.depth (typed_stmts ys)) (sym c.as_slice-in-Switch.ensures.value)) c.stmts_positions-in-Switch.ensures
 
 pub stmt_positions-returns-in-Empty : goal.stmt_positions-returns-in-Empty

@@ -36,38 +36,38 @@ returns-then-branch c = record {
   waits = refl;
 }
 
-pub with_given-requires-clause-given : goal.with_given-requires-clause-given
-with_given-requires-clause-given c =
+pub with_cells-requires-clause-upper : goal.with_cells-requires-clause-upper
+with_cells-requires-clause-upper c =
     subst (λ (h : Heap). c.args.given ≤ length h.slots) (sym c.in_ok-is_found.ensures.same)
     (given_in c.args.table.now c.args.code.now c.args.heap.now c.args.facts.now c.args.target c.args.callee c.args.given c.requires.keeps c.requires.calls c.requires.given)
 
 pub follow-requires-clause-keeps : goal.follow-requires-clause-keeps
 follow-requires-clause-keeps c =
-    keeps_grows c.args.table.now c.args.code.now c.args.heap.now c.with_given.new.heap c.args.facts.now
-    (subst (λ (h : Heap). HeapGrows h c.with_given.new.heap) c.in_ok-is_found.ensures.same c.in_ok-now.ensures.grows) c.requires.keeps
+    keeps_grows c.args.table.now c.args.code.now c.args.heap.now c.with_cells.new.heap c.args.facts.now
+    (subst (λ (h : Heap). HeapGrows h c.with_cells.new.heap) c.in_ok-is_found.ensures.same c.in_ok-now.ensures.holds.grows) c.requires.keeps
 
 pub follow-requires-clause-owed : goal.follow-requires-clause-owed
 follow-requires-clause-owed c =
-    given_owed c.args.table.now c.args.code.now c.args.heap.now c.with_given.new.heap c.args.facts.now c.args.from.trial c.args.from.place c.requires.op.offset c.args.from.held c.in_ok-now.now
+    given_owed c.args.table.now c.args.code.now c.args.heap.now c.with_cells.new.heap c.args.facts.now c.args.from.trial c.args.from.place c.requires.op.offset c.args.from.held c.in_ok-now.now
     c.args.callee c.args.given c.args.next c.requires.keeps c.requires.row c.requires.op.stands (subst (λ t. Calls c.args.facts.now t c.args.callee) (sym c.requires.op.leads) c.requires.calls) c.requires.given c.requires.next c.requires.within
-    (holds_behind c.args.heap.now c.with_given.new.heap c.args.from.held c.in_ok-now.now c.args.callee c.args.given c.lower-rest.result _
+    (holds_behind c.args.heap.now c.with_cells.new.heap c.args.from.held c.in_ok-now.now c.args.callee c.args.given c.lower-rest.result _
     (ap (λ n. n - c.args.callee.unseen.cells) c.depth.ensures.depth)
     (c.lower-rest.ensures.reads ∙ ap (λ (r : Reach). drop r.cells (read c.args.heap.now.slots c.args.from.held.cells)) c.window.ensures)
-    (subst (λ (h : Heap). Holds h c.with_given.new.heap c.in_ok-now.now (record (shape_of h c.args.from.held) {
+    (subst (λ (h : Heap). Holds h c.with_cells.new.heap c.in_ok-now.now (record (shape_of h c.args.from.held) {
       cells = take (c.depth.result - c.args.callee.unseen.cells) (read h.slots c.args.given) ++ read h.slots c.lower-rest.result;
-    })) c.in_ok-is_found.ensures.same c.in_ok-now.ensures))
+    })) c.in_ok-is_found.ensures.same c.in_ok-now.ensures.holds))
 
 pub returns : goal.returns
 returns c = record {
-  sees = given_sees c.args.table.now c.args.code.now c.args.heap.now c.with_given.new.heap c.args.facts.now c.follow.new.facts c.args.from.trial c.args.from.place c.requires.op.offset
+  sees = given_sees c.args.table.now c.args.code.now c.args.heap.now c.with_cells.new.heap c.args.facts.now c.follow.new.facts c.args.from.trial c.args.from.place c.requires.op.offset
       c.args.from.held c.in_ok-now.now c.args.callee c.args.given c.args.next c.in_ok-seen.seen c.requires.keeps c.requires.op.stands (subst (λ t. Calls c.args.facts.now t c.args.callee) (sym c.requires.op.leads) c.requires.calls) c.requires.given
       c.requires.next c.requires.begins c.requires.within
-      (holds_behind c.args.heap.now c.with_given.new.heap c.args.from.held c.in_ok-now.now c.args.callee c.args.given c.lower-rest.result _
+      (holds_behind c.args.heap.now c.with_cells.new.heap c.args.from.held c.in_ok-now.now c.args.callee c.args.given c.lower-rest.result _
       (ap (λ n. n - c.args.callee.unseen.cells) c.depth.ensures.depth)
       (c.lower-rest.ensures.reads ∙ ap (λ (r : Reach). drop r.cells (read c.args.heap.now.slots c.args.from.held.cells)) c.window.ensures)
-      (subst (λ (h : Heap). Holds h c.with_given.new.heap c.in_ok-now.now (record (shape_of h c.args.from.held) {
+      (subst (λ (h : Heap). Holds h c.with_cells.new.heap c.in_ok-now.now (record (shape_of h c.args.from.held) {
         cells = take (c.depth.result - c.args.callee.unseen.cells) (read h.slots c.args.given) ++ read h.slots c.lower-rest.result;
-      })) c.in_ok-is_found.ensures.same c.in_ok-now.ensures))
+      })) c.in_ok-is_found.ensures.same c.in_ok-now.ensures.holds))
       c.in_ok-seen.ensures.keeps c.in_ok-seen.ensures.quiet c.in_ok-seen.ensures.takes;
   waits = c.in_ok-seen.ensures.waits;
 }

@@ -13,5 +13,5 @@ rows-preserved c =
 
 pub returns-in-None : goal.returns-in-None
 returns-in-None c = record {
-  sees = all_done c.args.table.now c.args.code.now c.args.heap.now c.rows.heap c.args.facts.now c.rows.facts c.rows.number c.rows.invariant c.in-None.ensures.row;
+  sees = all_done c.rows_are_numbered.ensures.numbered c.args.table.now c.args.code.now c.args.heap.now c.rows.heap c.args.facts.now c.rows.facts c.rows.number c.rows.invariant c.in-None.ensures.row;
 }

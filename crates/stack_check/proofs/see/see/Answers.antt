@@ -1,7 +1,19 @@
 use Rattle.std.proofs.Common.{◌∙◌, rules, subst, sym}
+use Rattle.stack_lists.specs.Held.{shape_of}
 use Rattle.stack_check.specs.Inference.{UnseenOwed}
 use Rattle.stack_check.proofs.Seeing.{see_owed, see_within}
+use Rattle.stack_check.proofs.Windows.{whole_same}
 use Rattle.stack_check.proofs.see.see.Goals as goal
+
+pub returns-then-saw_all-clause-within : goal.returns-then-saw_all-clause-within
+returns-then-saw_all-clause-within c =
+    let whole = c.saw_all.ensures.0 c.if-saw_all.true in
+    λ e. (
+      Rattle.std.proofs.Common.refl,
+      see_within c.args.table.now c.args.code.now c.args.heap.now c.args.facts.now c.args.from.trial c.args.from.place c.args.from.held c.in-Some.trial.now c.args.reach
+          c.requires.keeps c.requires.row (sym c.in-Some.ensures.item) c.requires.looks
+          (whole_same c.in-Some.trial.now.unseen (shape_of c.args.heap.now c.args.from.held) c.args.reach whole.0 whole.1),
+    )
 
 pub returns-then-same_unseen-clause-within : goal.returns-then-same_unseen-clause-within
 returns-then-same_unseen-clause-within c = λ e. (

@@ -1,6 +1,6 @@
 use Rattle.std.proofs.Common.{[], sym, ◌∙◌}
 use Rattle.ncs_machine.specs.Host.{scripts_of}
-use Rattle.ncs_machine.proofs.Calls.{asks_follow, call_case, call_typed, executes_both, executes_follow}
+use Rattle.ncs_machine.proofs.Calls.{asks_cut, asks_follow, call_case, call_typed, executes_both, executes_follow, on_err}
 use Rattle.ncs_machine.proofs.machine.Machine.call_engine.Goals as goal
 
 pub returns-in_ok-execute_named-in-Some-clause-called : goal.returns-in_ok-execute_named-in-Some-clause-called
@@ -16,6 +16,13 @@ returns-in_ok-ask-in-Some-clause-called g c =
     c.args.self.now c.take.new.self c.ask.new.self c.in_ok-args-in-Some.args c.args.world.now.world c.ask.new.world.world
     (sym c.in-Some.ensures.entry) (sym c.executes-other_script.ensures.test ∙ c.if-other_script.false) c.in_ok-args-in-Some.ensures.call c.take.ensures.others
     c.in_ok-ask-in-Some.ensures.answered
+
+pub returns-in_err-ask-in-Some-clause-cut : goal.returns-in_err-ask-in-Some-clause-cut
+returns-in_err-ask-in-Some-clause-cut g c = on_err c.from_residual-in_err-ask-in-Some.result _
+    (asks_cut (scripts_of c.args.scripts.now) _ c.args.number c.args.count c.in-Some.routine.now
+    c.args.self.now c.take.new.self c.in_ok-args-in-Some.args c.args.world.now.world c.ask.new.world.world
+    (sym c.in-Some.ensures.entry) (sym c.executes-other_script.ensures.test ∙ c.if-other_script.false) c.in_ok-args-in-Some.ensures.call
+    c.in_err-ask-in-Some.ensures.cut)
 
 pub ask-requires-clause-types : goal.ask-requires-clause-types
 ask-requires-clause-types g c =

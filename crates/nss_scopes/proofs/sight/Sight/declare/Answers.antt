@@ -8,8 +8,9 @@ returns c = record {
         c.in_ok-declare.ensures.ok,
         c.in_ok-called.ensures.ok,
         c.variable-means.ensures.variable t,
-        c.in_ok-next.ensures,
+        c.in_ok-next.ensures.next,
         c.frame_with-frame.ensures.frame t,
         c.cells_if-cells.ensures.cells t,
       ) refl;
+  few = c.in_ok-next.ensures.few;
 }

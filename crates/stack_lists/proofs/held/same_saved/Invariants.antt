@@ -1,7 +1,7 @@
 use Rattle.std.proofs.Common.{map}
 use Rattle.stack_lists.specs.Shared.{read}
 use Rattle.stack_lists.proofs.Walks.{SameSoFar}
-use Rattle.stack_check.proofs.reach.same_saved.Given as goal
+use Rattle.stack_lists.proofs.held.same_saved.Given as goal
 
 abbrev pub invariant-loop-x : goal.invariant-loop-x
 invariant-loop-x l =

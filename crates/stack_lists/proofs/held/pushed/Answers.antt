@@ -1,6 +1,6 @@
 use Rattle.std.proofs.Common.{refl}
 use Rattle.stack_lists.proofs.Heaps.{cells_changed}
-use Rattle.stack_check.proofs.calls.with_given.Goals as goal
+use Rattle.stack_lists.proofs.held.pushed.Goals as goal
 
 pub returns : goal.returns
 returns c =
