@@ -5,7 +5,9 @@ ghost use Rattle.hook_table.specs.Standard.{function_numbered, IsAnswer};
 ghost use Rattle.world_core.specs.Calls.{AreServing};
 
 use crate::answers::first_wrong;
-use crate::{cuts, example, files, games, plans, profile, programs, reads, scripts, words};
+use crate::{
+    cuts, example, files, games, plans, profile, programs, reads, saves, scripts, words,
+};
 use hook_table::{Call, Hooks, cell_call};
 use nwq_hooks::{all_are_put, call_function, put_cell_hook, put_hook};
 use nwq_top::Status;
@@ -43,7 +45,7 @@ fn of_files(alloc: Global, hooks: &Hooks) -> Result<[Option<usize>; 5], NoMemory
 }
 
 /// The same of plays of plans.
-fn of_games(alloc: Global, hooks: &Hooks) -> Result<[Option<usize>; 5], NoMemory>
+fn of_games(alloc: Global, hooks: &Hooks) -> Result<[Option<usize>; 6], NoMemory>
     requires hooks { AreServing (map (λ h. h.known) hooks.now.all.items) }
 {
     let played = first_wrong(alloc, games::DONE, hooks)?;
@@ -51,7 +53,8 @@ fn of_games(alloc: Global, hooks: &Hooks) -> Result<[Option<usize>; 5], NoMemory
     let ended = first_wrong(alloc, games::ENDED, hooks)?;
     let refused = games::first_refused(alloc, games::REFUSED, hooks)?;
     let large = games::first_large(alloc, hooks)?;
-    Ok([played, worked, ended, refused, large])
+    let saved = first_wrong(alloc, saves::ROWS, hooks)?;
+    Ok([played, worked, ended, refused, large, saved])
 }
 
 /// The same of words that are no command, files that aren't there or are too long, and the whole
@@ -71,7 +74,8 @@ fn all_hold(alloc: Global, rt: &impl Abort, hooks: &Hooks) -> Result<(), Fail>
 {
     assert!(rt; example::plays(alloc, hooks)?);
     assert_eq!(rt; cuts::first_wrong(alloc, hooks)?, None);
-    assert_eq!(rt; of_games(alloc, hooks)?, [None; 5]);
+    assert_eq!(rt; of_games(alloc, hooks)?, [None; 6]);
+    assert_eq!(rt; saves::first_wrong(alloc, hooks)?, None);
     assert_eq!(rt; of_files(alloc, hooks)?, [None; 5]);
     assert_eq!(rt; of_stops(alloc, hooks)?, [None; 4]);
     assert_eq!(rt; of_scripts(alloc, hooks)?, [None; 7]);

@@ -29,6 +29,8 @@ mod reads;
 #[cfg(test)]
 mod samples;
 #[cfg(test)]
+mod saves;
+#[cfg(test)]
 mod scripts;
 #[cfg(test)]
 mod tables;

@@ -12,7 +12,7 @@ const ZERO: &[u8] = b"\
     \x01\0\0\00\x01\0\0\0\x01\0\0\0";
 
 /// The area of the guard, who runs `usr` when an event is signalled.
-const NOTIFIED: &[u8] = b"\
+pub const NOTIFIED: &[u8] = b"\
     GIT V3.28\0\0\0\x02\0\0\0P\0\0\0\x04\0\0\0\x80\0\0\0\x04\0\0\0\xc0\0\0\0\x12\0\0\0\xd2\0\0\0\
     \x0c\0\0\0\xde\0\0\0\x08\0\0\0\xff\xff\xff\xff\0\0\0\0\x01\0\0\0\x04\0\0\0\0\0\0\0\x03\0\0\0\
     \x0f\0\0\0\0\0\0\0\0\0\0\0\n\0\0\0\x01\0\0\0\0\0\0\0\x0b\0\0\0\x02\0\0\0\x09\0\0\0\x0b\0\0\0\
