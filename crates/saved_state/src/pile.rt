@@ -1,11 +1,12 @@
-ghost use Rattle.std.specs.Prelude.{◌≡◌, ◌<◌, ◌≤◌, [], ◌∷◌, ◌++◌, length, take, drop, slice_get};
+ghost use Rattle.std.specs.Prelude.{◌≡◌, ◌<◌, ◌≤◌, [], ◌∷◌, ◌++◌, ◌-◌, length, take, drop, slice_get};
 ghost use Rattle.std.specs.Prelude.{slice_set, Some, OnOk, OnErr, IfOk};
 
 use crate::cell::Cell;
 use crate::cells::Cells;
-use nwq_value::NoMemory;
+use nwq_value::{NoMemory, Value};
 use std::alloc::Global;
 use std::marker::Model;
+use std::mem;
 
 /// Cells of which the topmost are in a list that nobody shares, so that a push or a drop there is
 /// no more than a comparison and a store.
@@ -109,7 +110,7 @@ impl Pile {
     {
         let low = self.low.len();
         if low <= place {
-            self.top[place - low] = cell;
+            put_over(&mut self.top, place - low, cell);
             Ok(())
         } else {
             self.low.set(place, cell)
@@ -125,12 +126,39 @@ impl Pile {
     {
         let low = self.low.len();
         if low <= n {
-            self.top.truncate(n - low);
+            keep_first(&mut self.top, n - low);
         } else {
             self.top.clear();
             self.low.truncate(n);
         }
         self.len = n;
+    }
+
+    /// Puts the cells of a list last. After `NoMemory` some of them may be there.
+    #[tactic(auto, using(crate::proofs::Piles::settled_lemmas))]
+    pub fn append(&mut self, other: &Cells) -> Result<(), NoMemory>
+        ensures ok { OnOk result (self.new ≡ self.old ++ other.now) }
+    {
+        if other.len() <= FEW {
+            return self.push_copies(other);
+        }
+        settle(&mut self.low, &mut self.top)?;
+        let done = self.low.append(other);
+        self.len = self.low.len();
+        done
+    }
+
+    /// Puts copies of the cells of a list last. After `NoMemory` some of them may be there.
+    #[tactic(auto, using(crate::proofs::Piles::copied_lemmas))]
+    fn push_copies(&mut self, other: &Cells) -> Result<(), NoMemory>
+        ensures ok { OnOk result (self.new ≡ self.old ++ other.now) }
+    {
+        let alloc = self.low.allocator();
+        for i in 0..other.len() {
+            let copy = other.at(i).copy(alloc)?;
+            self.push(copy)?;
+        }
+        Ok(())
     }
 
     /// The cells from one place up to, and without, another. Their pages are shared from now on.
@@ -143,6 +171,49 @@ impl Pile {
     {
         settle(&mut self.low, &mut self.top)?;
         self.low.part(from, to)
+    }
+}
+
+/// The most cells that are copied where their pages could be shared: a page of their own, and its
+/// copy once it is written, take longer.
+const FEW: usize = 16;
+
+/// Puts a cell in the place of another one, which is dropped. Nothing is to be done for an int.
+#[inline(always)]
+fn put_over(top: &mut Vec<Cell>, index: usize, cell: Cell)
+    requires inside { index < length top.old.items }
+    ensures put { top.new.items ≡ slice_set top.old.items index cell }
+{
+    match mem::replace(&mut top[index], cell) {
+        Cell::Value(Value::Int(_)) => {}
+        old => drop(old),
+    }
+}
+
+/// Drops the last cell. Nothing is to be done for an int.
+#[inline(always)]
+fn drop_last(top: &mut Vec<Cell>)
+    requires some { 0 < length top.old.items }
+    ensures left { top.new.items ≡ take (length top.old.items - 1) top.old.items }
+{
+    match top.pop() {
+        None => {}
+        Some(Cell::Value(Value::Int(_))) => {}
+        Some(cell) => drop(cell),
+    }
+}
+
+/// Drops all cells but the `n` first ones.
+#[inline(always)]
+#[tactic(auto, using(crate::proofs::Piles::first_lemmas))]
+fn keep_first(top: &mut Vec<Cell>, n: usize)
+    requires inside { n ≤ length top.old.items }
+    ensures kept { top.new.items ≡ take n top.old.items }
+{
+    let mut left = top.len() - n;
+    while left > 0 {
+        left -= 1;
+        drop_last(top);
     }
 }
 
