@@ -161,14 +161,22 @@ impl Pile {
         Ok(())
     }
 
-    /// The cells from one place up to, and without, another. Their pages are shared from now on.
-    #[tactic(auto, using(crate::proofs::Piles::settled_lemmas))]
+    /// The cells from one place up to, and without, another: few of those on top as copies, others
+    /// by pages that are shared from now on.
+    #[tactic(auto, using(crate::proofs::Piles::part_lemmas))]
     pub fn part(&mut self, from: usize, to: usize) -> Result<Cells, NoMemory>
         requires order { from ≤ to }
         requires inside { to ≤ length self.old }
         ensures same { self.new ≡ self.old }
         ensures part { IfOk result (λ part. part ≡ drop from (take to self.old)) }
     {
+        let low = self.low.len();
+        if to <= low {
+            return self.low.part(from, to);
+        }
+        if low <= from && to - from <= FEW {
+            return copied(self.low.allocator(), &self.top[from - low..to - low]);
+        }
         settle(&mut self.low, &mut self.top)?;
         self.low.part(from, to)
     }
@@ -236,6 +244,15 @@ fn settle(low: &mut Cells, top: &mut Vec<Cell>) -> Result<(), NoMemory>
             Err(error)
         }
     }
+}
+
+/// Equal cells, in the same order.
+fn copied(alloc: Global, cells: &[Cell]) -> Result<Cells, NoMemory>
+    ensures same { IfOk result (λ copy. copy ≡ cells.now) }
+{
+    let mut copy = Cells::new(alloc);
+    put_copies(&mut copy, cells)?;
+    Ok(copy)
 }
 
 /// Puts copies of these cells last. After `NoMemory` some of them may be there.
