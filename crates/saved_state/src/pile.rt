@@ -182,8 +182,8 @@ impl Pile {
     }
 }
 
-/// The most cells that are copied where their pages could be shared: a page of their own, and its
-/// copy once it is written, take longer.
+/// The most cells that are copied where their pages could be shared: to make pages of so few, and
+/// copies of these once they are written, takes longer.
 const FEW: usize = 16;
 
 /// Puts a cell in the place of another one, which is dropped. Nothing is to be done for an int.
