@@ -47,16 +47,16 @@ impl Pile {
         }
     }
 
-    /// These cells.
-    pub fn of(alloc: Global, low: Cells) -> Pile
-        ensures cells { result ≡ low }
+    /// These cells, with room for a few more on top.
+    pub fn of(alloc: Global, low: Cells) -> Result<Pile, NoMemory>
+        ensures cells { IfOk result (λ pile. pile ≡ low) }
     {
         let len = low.len();
-        Pile {
+        Ok(Pile {
             low,
-            top: Vec::new(alloc),
+            top: Vec::with_capacity(alloc, FEW)?,
             len,
-        }
+        })
     }
 
     /// How many cells there are.
@@ -186,6 +186,12 @@ impl Pile {
 /// copies of these once they are written, takes longer.
 const FEW: usize = 16;
 
+/// Drops a cell that may own memory: a call of its own, so that the way of ints stays short.
+#[inline(never)]
+fn let_go(cell: Cell) {
+    drop(cell);
+}
+
 /// Puts a cell in the place of another one, which is dropped. Nothing is to be done for an int.
 #[inline(always)]
 fn put_over(top: &mut Vec<Cell>, index: usize, cell: Cell)
@@ -194,7 +200,7 @@ fn put_over(top: &mut Vec<Cell>, index: usize, cell: Cell)
 {
     match mem::replace(&mut top[index], cell) {
         Cell::Value(Value::Int(_)) => {}
-        old => drop(old),
+        old => let_go(old),
     }
 }
 
@@ -207,7 +213,7 @@ fn drop_last(top: &mut Vec<Cell>)
     match top.pop() {
         None => {}
         Some(Cell::Value(Value::Int(_))) => {}
-        Some(cell) => drop(cell),
+        Some(cell) => let_go(cell),
     }
 }
 

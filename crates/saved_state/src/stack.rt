@@ -146,7 +146,7 @@ pub fn resume(saved: Saved) -> Result<Stack, NoMemory>
     let globals = saved.globals;
     let alloc = globals.allocator();
     let bp = globals.len();
-    let mut cells = Pile::of(alloc, globals);
+    let mut cells = Pile::of(alloc, globals)?;
     cells.push(Cell::Base(0))?;
     cells.append(&saved.locals)?;
     Ok(Stack { cells, bp })
