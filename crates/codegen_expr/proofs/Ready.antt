@@ -16,10 +16,11 @@ use Rattle.typing_rules.specs.declared.places.Callee.TheVariants.{Unit as InUnit
 use Rattle.typing_rules.specs.Reading.{plain, plain_all}
 use Rattle.typing_rules.specs.Typed.{TypedExpr, TypedExprs, literal, name, call, member, prefix, postfix, binary, assign, no_typed, more_typed, type_of}
 use Rattle.typing_rules.specs.Cells.{cells, is_captured}
-use Rattle.emission_rules.specs.Bounds.{weight, all_weight, IsType, IsCallee, IsOperator, IsExpr, AreExprs}
+use Rattle.emission_rules.specs.Bounds.{depth_limit, weight, all_weight, IsType, IsCallee, IsOperator, IsExpr, AreExprs}
 use Rattle.emission_rules.specs.Layout.{Layout}
 use Rattle.emission_rules.specs.Expressions.{Shortcut, labels, all_labels, shortcut, shortcut_labels, is_set, cells_first, result_room, argument_labels, count_arguments, arguments_cells, called}
 use Rattle.codegen_expr.specs.Emitted.{AreReady, IsReady}
+use Rattle.codegen_expr.specs.Parts.{offsets}
 
 -- ---- more functions have labels
 
@@ -73,6 +74,20 @@ weight_some (assign t o x y) = omega arith
 arguments_few : (n : ℕ) (l : Layout) (xs : TypedExprs) → AreExprs n l xs → arguments_cells l xs ≤ all_weight xs
 arguments_few n l no_typed are = omega arith
 arguments_few n l (more_typed x xs) are = omega (arith, type_few n l x are.0, weight_some x, arguments_few n l xs are.1)
+
+-- the cells before a member weigh no more than it
+offsets_few : (n : ℕ) (l : Layout) (x : TypedExpr) → IsExpr n l x → offsets x ≤ weight x
+offsets_few n l (literal k) is = omega arith
+offsets_few n l (name t p) is = omega arith
+offsets_few n l (call t f xs ks) is = omega arith
+offsets_few n l (member t x offset) is = omega (arith, is.2, offsets_few n l x is.3)
+offsets_few n l (prefix t o x) is = omega arith
+offsets_few n l (postfix t o x) is = omega arith
+offsets_few n l (binary t o x y) is = omega arith
+offsets_few n l (assign t o x y) is = omega arith
+
+pub ready_near : {n d : ℕ} {l : Layout} {x : TypedExpr} → IsReady n l d x → offsets x ≤ depth_limit
+ready_near {n = n} {l = l} {x = x} ready = omega (arith, ready.deep, offsets_few n l x ready.bounded)
 
 -- ---- parts of a node
 
@@ -248,11 +263,11 @@ binary_parts n l d t the ty o x y is falls ready =
 
 pub assign_parts : (n : ℕ) (l : Layout) (d t : ℕ) (the : Expression) (ty : Ty) (o : AssignOperator) (x y : Expression) → plain the ≡ assign ty o (plain x) (plain y) → weight (plain the) ≡ t
     → IsReady n l d (plain the)
-    → (weight (plain y) + 1 < t) × (IsType l ty × IsReady n l (d + cells_first (is_set o) (cells l.structs ty)) (plain y))
+    → (weight (plain y) + 1 < t) × (IsType l ty × (IsReady n l (d + cells_first (is_set o) (cells l.structs ty)) (plain y) × (offsets (plain x) ≤ depth_limit)))
 assign_parts n l d t the ty o x y is falls ready =
     let r = same_ready n l d the (assign ty o (plain x) (plain y)) is ready in
     let w : weight (plain the) ≡ struct_cell_limit + weight (plain x) + weight (plain y) = ap weight is in
-    (omega arith, (r.bounded.0, value_ready n l d ty o (plain x) (plain y) r))
+    (omega arith, (r.bounded.0, (value_ready n l d ty o (plain x) (plain y) r, omega (arith, r.deep, offsets_few n l (plain x) r.bounded.1))))
 
 pub call_parts : (n : ℕ) (l : Layout) (d t : ℕ) (the : Expression) (ty : Ty) (f : Callee) (xs given : List Expression) (ks filled : List Const) → plain the ≡ call ty f (plain_all xs) ks
     → given ≡ xs → filled ≡ ks → weight (plain the) ≡ t → IsReady n l d (plain the)

@@ -19,6 +19,7 @@ ghost use Rattle.emission_rules.specs.Bounds.{
 ghost use Rattle.emission_rules.specs.Operations as operations;
 ghost use Rattle.emission_rules.specs.Expressions as code;
 ghost use Rattle.codegen_expr.specs.Emitted.{AreReady, IsReady, extended};
+ghost use Rattle.codegen_expr.specs.Parts.{offsets};
 
 use crate::calls::{emit_called, emit_constants, emit_room};
 use crate::lines::{bytes_of, emit_constant, emit_top_again, is_void, skip_right};
@@ -121,7 +122,7 @@ fn member(
         (code.labels (plain of.now))) }
 {
     let count = layout.cells(ty);
-    match member_home(layout, of, before)? {
+    match member_home(layout, of, before) {
         Some(home) => out.op(&read(layout, depth, count, home)),
         None => {
             expression(out, layout, of, depth)?;
@@ -148,7 +149,7 @@ fn prefix(
         (code.emit layout.now out.old.labels depth (plain of.now)))
         (code.labels (plain of.now))) }
 {
-    let home = home_of(layout, of)?;
+    let home = home_of(layout, of);
     step_before(out, layout, operator, home, depth)?;
     expression(out, layout, of, depth)?;
     operate(out, operator)
@@ -168,7 +169,7 @@ fn postfix(
         (code.emit layout.now out.old.labels depth (plain of.now)))
         (code.labels (plain of.now))) }
 {
-    let home = home_of(layout, of)?;
+    let home = home_of(layout, of);
     expression(out, layout, of, depth)?;
     match operator {
         PostfixOperator::Increment => emit_increment(out, layout, depth + 1, home),
@@ -326,12 +327,13 @@ fn assign(
     requires ready { IsReady out.old.labels layout.now
         (depth + code.cells_first (code.is_set operator) (cells layout.now.structs ty))
         (plain value.now) }
+    requires near { offsets (plain place.now) ≤ depth_limit }
     ensures { OnOk result (out.new ≡ extended out.old
         (code.emit layout.now out.old.labels depth
         (typed.assign ty operator (plain place.now) (plain value.now)))
         (code.labels (plain value.now))) }
 {
-    let home = home_of(layout, place)?;
+    let home = home_of(layout, place);
     let count = layout.cells(ty);
     let first = emit_first(out, layout, operator, home, count, depth)?;
     expression(out, layout, value, depth + first)?;

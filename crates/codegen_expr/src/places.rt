@@ -1,6 +1,6 @@
 //! Places: where the cells lie that are read and written.
 
-ghost use Rattle.std.specs.Prelude.{◌≡◌, ◌++◌, ◌-◌, ◌<◌, ◌≤◌, ◌^◌, Some, IfOk, OnOk};
+ghost use Rattle.std.specs.Prelude.{◌≡◌, ◌++◌, ◌+◌, ◌-◌, ◌<◌, ◌≤◌, ◌^◌, ℕ, IfOk, OnOk};
 ghost use Rattle.std.specs.Option.{option_map};
 ghost use Rattle.nwq_value.specs.Limits.{struct_cell_limit};
 ghost use Rattle.typing_rules.specs.Reading.{plain as plain_expr};
@@ -9,7 +9,8 @@ ghost use Rattle.emission_rules.specs.Expressions as code;
 ghost use Rattle.emission_rules.specs.Operations as operations;
 ghost use Rattle.ncs_code.specs.Plain.{plain};
 ghost use Rattle.ncs_code.specs.Spelling.{HasRow};
-ghost use Rattle.codegen_expr.specs.Parts.{plain_home, prefix_before};
+ghost use Rattle.codegen_expr.specs.Parts.{IsAbove, IsSomeAbove, offsets, plain_home};
+ghost use Rattle.codegen_expr.specs.Parts.{prefix_before};
 
 use crate::lines::{beneath, bytes_of, emit_constant};
 use crate::operations::is_set;
@@ -24,79 +25,74 @@ use typing_rules::{Expression, Place};
 /// globals.
 #[derive(Clone, Copy)]
 pub enum Home {
-    Frame(u32),
-    Globals(u32),
+    Frame(u64),
+    Globals(u64),
 }
 
-/// So many cells above it. No place lies so high that this isn't a number of 32 bits.
-fn moved(home: Home, offset: u32) -> Result<Option<Home>, NoMemory>
-    ensures { IfOk result
-        (λ there. option_map plain_home there ≡ Some (code.moved offset (plain_home home))) }
+/// So many cells above it.
+fn moved(home: Home, offset: u32) -> Home
+    requires near { IsAbove depth_limit home }
+    ensures moved { plain_home result ≡ code.moved offset (plain_home home) }
+    ensures above { (cells : ℕ) → IsAbove cells home → IsAbove (offset + cells) result }
 {
     match home {
-        Home::Frame(at) => match at.checked_add(offset) {
-            None => Err(NoMemory),
-            Some(at) => Ok(Some(Home::Frame(at))),
-        },
-        Home::Globals(at) => match at.checked_add(offset) {
-            None => Err(NoMemory),
-            Some(at) => Ok(Some(Home::Globals(at))),
-        },
+        Home::Frame(at) => Home::Frame(at + u64::from(offset)),
+        Home::Globals(at) => Home::Globals(at + u64::from(offset)),
     }
 }
 
 fn name_home(layout: &Layout, place: &Place) -> Option<Home>
-    ensures { option_map plain_home result ≡ code.home_of_name layout.now place.now }
+    ensures home { option_map plain_home result ≡ code.home_of_name layout.now place.now }
+    ensures above { IsSomeAbove 0 result }
 {
     match place {
-        Place::Local(number) => Some(Home::Frame(layout.position(*number))),
-        Place::Global(number) => Some(Home::Globals(layout.position(*number))),
+        Place::Local(number) => Some(Home::Frame(u64::from(layout.position(*number)))),
+        Place::Global(number) => Some(Home::Globals(u64::from(layout.position(*number)))),
         Place::Const(_) => None,
     }
 }
 
 /// Where an expression lies, if it is a place.
-#[tactic(auto, using(typing_rules::specs::Readings::known))]
-pub(crate) fn home_of(layout: &Layout, e: &Expression) -> Result<Option<Home>, NoMemory>
-    ensures { IfOk result
-        (λ home. option_map plain_home home ≡ code.home layout.now (plain_expr e.now)) }
+#[tactic(auto, using(typing_rules::specs::Readings::known, crate::proofs::Above::above_more))]
+pub(crate) fn home_of(layout: &Layout, e: &Expression) -> Option<Home>
+    requires near { offsets (plain_expr e.now) ≤ depth_limit }
+    ensures home { option_map plain_home result ≡ code.home layout.now (plain_expr e.now) }
+    ensures above { IsSomeAbove (offsets (plain_expr e.now)) result }
 {
     match e {
-        Expression::Name { place, .. } => Ok(name_home(layout, place)),
-        Expression::Member { of, before, .. } => match home_of(layout, of)? {
-            None => Ok(None),
-            Some(home) => moved(home, *before),
+        Expression::Name { place, .. } => name_home(layout, place),
+        Expression::Member { of, before, .. } => match home_of(layout, of) {
+            None => None,
+            Some(home) => Some(moved(home, *before)),
         },
-        Expression::Literal { .. } => Ok(None),
-        Expression::Call { .. } => Ok(None),
-        Expression::Prefix { .. } => Ok(None),
-        Expression::Postfix { .. } => Ok(None),
-        Expression::Binary { .. } => Ok(None),
-        Expression::Assign { .. } => Ok(None),
+        Expression::Literal { .. } => None,
+        Expression::Call { .. } => None,
+        Expression::Prefix { .. } => None,
+        Expression::Postfix { .. } => None,
+        Expression::Binary { .. } => None,
+        Expression::Assign { .. } => None,
     }
 }
 
 /// Where a member of an expression lies, if it is a place.
-pub(crate) fn member_home(
-    layout: &Layout,
-    of: &Expression,
-    before: u32,
-) -> Result<Option<Home>, NoMemory>
-    ensures { IfOk result (λ home. option_map plain_home home
-        ≡ option_map (code.moved before) (code.home layout.now (plain_expr of.now))) }
+#[tactic(auto, using(crate::proofs::Above::above_more))]
+pub(crate) fn member_home(layout: &Layout, of: &Expression, before: u32) -> Option<Home>
+    requires near { offsets (plain_expr of.now) ≤ depth_limit }
+    ensures home { option_map plain_home result
+        ≡ option_map (code.moved before) (code.home layout.now (plain_expr of.now)) }
 {
-    match home_of(layout, of)? {
-        None => Ok(None),
-        Some(home) => moved(home, before),
+    match home_of(layout, of) {
+        None => None,
+        Some(home) => Some(moved(home, before)),
     }
 }
 
 /// How many cells beneath the top, or beneath the base, a place begins.
-fn below(cells: u32, at: u32) -> i32
+fn below(cells: u32, at: u64) -> i32
     requires small { cells < 2 ^ 29 }
     ensures { result ≡ operations.beneath (cells - at) }
 {
-    beneath(cells.saturating_sub(at))
+    beneath(u64::from(cells).saturating_sub(at) as u32)
 }
 
 /// The copy of so many cells to the top.
@@ -277,11 +273,11 @@ pub(crate) fn emit_name(
     let count = layout.cells(ty);
     match place {
         Place::Local(number) => {
-            let home = Home::Frame(layout.position(*number));
+            let home = Home::Frame(u64::from(layout.position(*number)));
             out.op(&read(layout, depth, count, home))
         }
         Place::Global(number) => {
-            let home = Home::Globals(layout.position(*number));
+            let home = Home::Globals(u64::from(layout.position(*number)));
             out.op(&read(layout, depth, count, home))
         }
         Place::Const(constant) => emit_constant(out, constant),

@@ -1,6 +1,6 @@
 -- Two lists of cells in a row: the lower ones, and those on top.
-use Rattle.std.proofs.Common.{◌≡◌, ◌<◌, ◌≤◌, ◌+◌, ◌-◌, ◌++◌, ◌∷◌, [], ℕ, suc, List, length, take, set, slice_get, get_or, Some, refl, sym, ap, ◌∙◌, arith, append_assoc}
-use Rattle.std.proofs.lemmas.List.{length-append, append-nil, take-append-le, take_at, set-append_left, set-append_right, length_push, length-take-le, take_more}
+use Rattle.std.proofs.Common.{◌≡◌, ◌<◌, ◌≤◌, ◌+◌, ◌-◌, ◌++◌, ◌∷◌, [], ℕ, suc, List, length, take, drop, set, slice_get, get_or, Some, refl, sym, ap, ◌∙◌, arith, append_assoc}
+use Rattle.std.proofs.lemmas.List.{length-append, append-nil, drop_at, drop-drop, drop-take, take-append-le, take_at, set-append_left, set-append_right, length_push, length-take-le, take_all, take_more, take-take}
 use Rattle.std.proofs.lemmas.Option.{slice_get-get_or}
 use Rattle.std.proofs.Math.Seq.{take-append-add}
 use Rattle.saved_state.proofs.Lists.{get_front, get_behind}
@@ -61,10 +61,66 @@ one_more old top now k cell is less here =
 pub front : (old more : List Cell) → take (length old) (old ++ more) ≡ old
 front old more = take_at old more (length old) refl
 
+-- copies of a list's first cells
+pub one_got : (old other now : List Cell) (k : ℕ) (cell : Cell) → now ≡ old ++ take k other → k < length other → slice_get other k ≡ Some cell
+    → now ++ cell ∷ [] ≡ old ++ take (k + 1) other
+one_got old other now k cell is less got = one_more old other now k cell is less (same (sym got ∙ slice_get-get_or other k cell less))
+  where
+    same : {c d : Cell} → Some c ≡ Some d → c ≡ d
+    same e = cc
+
+pub ruleset copied_lemmas = (one_got, alone, take_all)
+
+-- the first cells, which are left where the last ones go one by one
+pub one_less : (old top now : List Cell) (n left : ℕ) → top ≡ take (n + left) old → n + left ≤ length old → 0 < left → now ≡ take (length top - 1) top
+    → now ≡ take (n + (left - 1)) old
+one_less old top now n left is inside some next =
+    let size : length top ≡ n + left = ap length is ∙ length-take-le (n + left) old inside in
+    let less : length top - 1 ≡ n + (left - 1) = omega (arith, size, some) in
+    next ∙ ap (λ (k : ℕ). take k top) less ∙ ap (take (n + (left - 1))) is ∙ take-take (n + (left - 1)) (n + left) old (omega (arith, some))
+
+pub all_left : (old : List Cell) (n left : ℕ) → n ≤ length old → left ≡ length old - n → old ≡ take (n + left) old
+all_left old n left inside is = sym (take_all (n + left) old (omega (arith, inside, is)))
+
+pub none_left : (old top : List Cell) (n left : ℕ) → top ≡ take (n + left) old → left ≤ 0 → top ≡ take n old
+none_left old top n left is none = is ∙ ap (λ (k : ℕ). take k old) (omega (arith, none))
+
+pub some_left : (old top : List Cell) (n left : ℕ) → top ≡ take (n + left) old → n + left ≤ length old → 0 < left → 0 < length top
+some_left old top n left is inside some =
+    let size : length top ≡ n + left = ap length is ∙ length-take-le (n + left) old inside in
+    omega (arith, size, some)
+
+pub ruleset first_lemmas = (one_less, all_left, none_left, some_left)
+
 pub ruleset got_lemmas = (got_item, got_low, size_is)
 
 pub ruleset set_lemmas = (set_top, set_low, size_is)
 
 pub ruleset kept_lemmas = (kept_top, kept_low, kept_size, size_is)
+
+-- what stands on top, or among the lower ones alone
+part_on_top : (low top : List Cell) (from to : ℕ) → length low ≤ from → from ≤ to
+    → drop (from - length low) (take (to - length low) top) ≡ drop from (take to (low ++ top))
+part_on_top low top from to over order =
+    let whole : length low + (from - length low) ≡ from = omega (arith, over) in
+    ap (drop (from - length low)) (sym (drop_at low (take (to - length low) top) (length low) refl))
+    ∙ drop-drop (from - length low) (length low) (low ++ take (to - length low) top)
+    ∙ ap (λ (k : ℕ). drop k (low ++ take (to - length low) top)) whole
+    ∙ ap (drop from) (sym (kept_top low top to (omega (arith, over, order))))
+
+pub part_of_top : (low top : List Cell) (from to l : ℕ) → l ≡ length low → l ≤ from → from ≤ to
+    → take (to - l - (from - l)) (drop (from - l) top) ≡ drop from (take to (low ++ top))
+part_of_top low top from to l is over order =
+    let whole : from - l + (to - l - (from - l)) ≡ to - l = omega (arith, over, order) in
+    let inside : length low ≤ from = omega (arith, is, over) in
+    sym (drop-take (from - l) (to - l - (from - l)) top)
+    ∙ ap (λ (k : ℕ). drop (from - l) (take k top)) whole
+    ∙ ap (λ (k : ℕ). drop (from - k) (take (to - k) top)) is
+    ∙ part_on_top low top from to inside order
+
+pub part_of_low : (low top : List Cell) (from to : ℕ) → to ≤ length low → drop from (take to low) ≡ drop from (take to (low ++ top))
+part_of_low low top from to less = ap (drop from) (sym (take-append-le to low top less))
+
+pub ruleset part_lemmas = (alone, size_is, part_of_top, part_of_low)
 
 pub ruleset settled_lemmas = (alone, size_is)

@@ -122,6 +122,7 @@ impl Cells {
     }
 
     /// The cell at a place.
+    #[inline(never)]
     #[tactic(auto, using(crate::proofs::Rows::got_is))]
     pub(crate) fn at(&self, place: usize) -> &Cell
         requires inside { place < length self.now }
@@ -135,6 +136,7 @@ impl Cells {
 
     /// Replaces the cell at a place. After `NoMemory` the new one is dropped and the list is as
     /// before.
+    #[inline(never)]
     #[tactic(auto, using(crate::proofs::Rows::written_is, crate::proofs::Rows::row_written))]
     pub(crate) fn set(&mut self, place: usize, cell: Cell) -> Result<(), NoMemory>
         requires inside { place < length self.old }
@@ -148,6 +150,7 @@ impl Cells {
     }
 
     /// Drops all cells but the `n` lowest.
+    #[inline(never)]
     #[tactic(auto, using(crate::proofs::Rows::kept_view, crate::proofs::Rows::row_kept))]
     pub(crate) fn truncate(&mut self, n: usize)
         requires inside { n ≤ length self.old }

@@ -161,7 +161,7 @@ impl Piece {
 fn copies(alloc: Global, cells: &[Cell]) -> Result<Vec<Cell>, NoMemory>
     ensures same { IfOk result (λ all. all.items ≡ cells.now) }
 {
-    let mut all = Vec::new(alloc);
+    let mut all = Vec::with_capacity(alloc, cells.len())?;
     for cell in cells {
         all.push(cell.copy(alloc)?)?;
     }

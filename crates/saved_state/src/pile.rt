@@ -1,11 +1,12 @@
-ghost use Rattle.std.specs.Prelude.{◌≡◌, ◌<◌, ◌≤◌, [], ◌∷◌, ◌++◌, length, take, drop, slice_get};
+ghost use Rattle.std.specs.Prelude.{◌≡◌, ◌<◌, ◌≤◌, [], ◌∷◌, ◌++◌, ◌-◌, length, take, drop, slice_get};
 ghost use Rattle.std.specs.Prelude.{slice_set, Some, OnOk, OnErr, IfOk};
 
 use crate::cell::Cell;
 use crate::cells::Cells;
-use nwq_value::NoMemory;
+use nwq_value::{NoMemory, Value};
 use std::alloc::Global;
 use std::marker::Model;
+use std::mem;
 
 /// Cells of which the topmost are in a list that nobody shares, so that a push or a drop there is
 /// no more than a comparison and a store.
@@ -46,16 +47,16 @@ impl Pile {
         }
     }
 
-    /// These cells.
-    pub fn of(alloc: Global, low: Cells) -> Pile
-        ensures cells { result ≡ low }
+    /// These cells, with room for a few more on top.
+    pub fn of(alloc: Global, low: Cells) -> Result<Pile, NoMemory>
+        ensures cells { IfOk result (λ pile. pile ≡ low) }
     {
         let len = low.len();
-        Pile {
+        Ok(Pile {
             low,
-            top: Vec::new(alloc),
+            top: Vec::with_capacity(alloc, FEW)?,
             len,
-        }
+        })
     }
 
     /// How many cells there are.
@@ -109,7 +110,7 @@ impl Pile {
     {
         let low = self.low.len();
         if low <= place {
-            self.top[place - low] = cell;
+            put_over(&mut self.top, place - low, cell);
             Ok(())
         } else {
             self.low.set(place, cell)
@@ -125,7 +126,7 @@ impl Pile {
     {
         let low = self.low.len();
         if low <= n {
-            self.top.truncate(n - low);
+            keep_first(&mut self.top, n - low);
         } else {
             self.top.clear();
             self.low.truncate(n);
@@ -133,16 +134,100 @@ impl Pile {
         self.len = n;
     }
 
-    /// The cells from one place up to, and without, another. Their pages are shared from now on.
+    /// Puts the cells of a list last. After `NoMemory` some of them may be there.
     #[tactic(auto, using(crate::proofs::Piles::settled_lemmas))]
+    pub fn append(&mut self, other: &Cells) -> Result<(), NoMemory>
+        ensures ok { OnOk result (self.new ≡ self.old ++ other.now) }
+    {
+        if other.len() <= FEW {
+            return self.push_copies(other);
+        }
+        settle(&mut self.low, &mut self.top)?;
+        let done = self.low.append(other);
+        self.len = self.low.len();
+        done
+    }
+
+    /// Puts copies of the cells of a list last. After `NoMemory` some of them may be there.
+    #[tactic(auto, using(crate::proofs::Piles::copied_lemmas))]
+    fn push_copies(&mut self, other: &Cells) -> Result<(), NoMemory>
+        ensures ok { OnOk result (self.new ≡ self.old ++ other.now) }
+    {
+        let alloc = self.low.allocator();
+        for i in 0..other.len() {
+            let copy = other.at(i).copy(alloc)?;
+            self.push(copy)?;
+        }
+        Ok(())
+    }
+
+    /// The cells from one place up to, and without, another: few of those on top as copies, others
+    /// by pages that are shared from now on.
+    #[tactic(auto, using(crate::proofs::Piles::part_lemmas))]
     pub fn part(&mut self, from: usize, to: usize) -> Result<Cells, NoMemory>
         requires order { from ≤ to }
         requires inside { to ≤ length self.old }
         ensures same { self.new ≡ self.old }
         ensures part { IfOk result (λ part. part ≡ drop from (take to self.old)) }
     {
+        let low = self.low.len();
+        if to <= low {
+            return self.low.part(from, to);
+        }
+        if low <= from && to - from <= FEW {
+            return copied(self.low.allocator(), &self.top[from - low..to - low]);
+        }
         settle(&mut self.low, &mut self.top)?;
         self.low.part(from, to)
+    }
+}
+
+/// The most cells that are copied where their pages could be shared: to make pages of so few, and
+/// copies of these once they are written, takes longer.
+const FEW: usize = 16;
+
+/// Drops a cell that may own memory: a call of its own, so that the way of ints stays short.
+#[inline(never)]
+fn let_go(cell: Cell) {
+    drop(cell);
+}
+
+/// Puts a cell in the place of another one, which is dropped. Nothing is to be done for an int.
+#[inline(always)]
+fn put_over(top: &mut Vec<Cell>, index: usize, cell: Cell)
+    requires inside { index < length top.old.items }
+    ensures put { top.new.items ≡ slice_set top.old.items index cell }
+{
+    match mem::replace(&mut top[index], cell) {
+        Cell::Value(Value::Int(_)) => {}
+        old => let_go(old),
+    }
+}
+
+/// Drops the last cell. Nothing is to be done for an int.
+#[inline(always)]
+fn drop_last(top: &mut Vec<Cell>)
+    requires some { 0 < length top.old.items }
+    ensures left { top.new.items ≡ take (length top.old.items - 1) top.old.items }
+{
+    match top.pop() {
+        None => {}
+        Some(Cell::Value(Value::Int(_))) => {}
+        Some(cell) => let_go(cell),
+    }
+}
+
+/// Drops all cells but the `n` first ones.
+#[inline(always)]
+#[tactic(auto, using(crate::proofs::Piles::first_lemmas))]
+fn keep_first(top: &mut Vec<Cell>, n: usize)
+    requires inside { n ≤ length top.old.items }
+    ensures kept { top.new.items ≡ take n top.old.items }
+{
+    let mut left = top.len() - n;
+    while left > 0 {
+        left -= 1;
+        drop_last(top);
     }
 }
 
@@ -165,6 +250,15 @@ fn settle(low: &mut Cells, top: &mut Vec<Cell>) -> Result<(), NoMemory>
             Err(error)
         }
     }
+}
+
+/// Equal cells, in the same order.
+fn copied(alloc: Global, cells: &[Cell]) -> Result<Cells, NoMemory>
+    ensures same { IfOk result (λ copy. copy ≡ cells.now) }
+{
+    let mut copy = Cells::new(alloc);
+    put_copies(&mut copy, cells)?;
+    Ok(copy)
 }
 
 /// Puts copies of these cells last. After `NoMemory` some of them may be there.

@@ -143,13 +143,11 @@ impl Stack {
 pub fn resume(saved: Saved) -> Result<Stack, NoMemory>
     ensures stack { IfOk result (λ stack. stack ≡ resumed saved) }
 {
-    let mut cells = saved.globals;
-    let alloc = cells.allocator();
-    let bp = cells.len();
-    cells.begin_page(Cell::Base(0))?;
+    let globals = saved.globals;
+    let alloc = globals.allocator();
+    let bp = globals.len();
+    let mut cells = Pile::of(alloc, globals)?;
+    cells.push(Cell::Base(0))?;
     cells.append(&saved.locals)?;
-    Ok(Stack {
-        cells: Pile::of(alloc, cells),
-        bp,
-    })
+    Ok(Stack { cells, bp })
 }

@@ -28,7 +28,7 @@ use Rattle.stack_check.specs.declared.leads.Kind.TheVariants.{Call, Return, Stor
 use Rattle.stack_lists.specs.Shared.{read}
 use Rattle.stack_lists.specs.Held.{HeapGrows, IsIn, shape_of}
 use Rattle.stack_lists.specs.Rows.{RowAdded, row_in}
-use Rattle.stack_lists.specs.Worklist.{Worklist, waiting}
+use Rattle.stack_lists.specs.Worklist.{CallersAdded, Worklist, waiting}
 use Rattle.stack_check.specs.Facts.{FindsMore, current, first_place, first_held, callee_of, table_of, unseen_cells, unseen_under}
 
 -- ---- the facts hang together
@@ -363,6 +363,12 @@ pub record SeesStep (header : EngineTable) (code : List PlainOp) (heap heap' : H
   pub quiet : WhereQuiet seen ((facts' ≡ facts)
       × (AsksFurtherOf header heap facts number place op held → Sound header code heap facts number place held))
   pub takes : Takes facts facts' seen
+
+-- the calls of a called routine are to be looked at again
+abbrev pub CallsAgain : Worklist → Worklist → Entry → Type 0
+CallsAgain before after Start = after ≡ before
+CallsAgain before after (Called target) = CallersAdded before after target
+CallsAgain before after (Stored site) = after ≡ before
 
 -- ---- stored states
 

@@ -1,9 +1,9 @@
-ghost use Rattle.std.specs.Prelude.{◌≡◌, ◌<◌, ◌↔◌, Some, IfOk, IsTrue, min, true, false};
+ghost use Rattle.std.specs.Prelude.{◌≡◌, ◌<◌, ◌↔◌, Some, IfOk, IsTrue, OnOk, min, true, false};
 ghost use Rattle.stack_lists.specs.Rows.{row_in};
 ghost use Rattle.stack_check.specs.Facts.{FindsMore};
 ghost use Rattle.stack_lists.specs.Held.{shape_of};
-ghost use Rattle.stack_check.specs.Inference.{IsThere, Keeps, LooksOwed, Within, narrowed};
-ghost use Rattle.stack_check.specs.Inference.{unseen_after};
+ghost use Rattle.stack_check.specs.Inference.{CallsAgain, IsThere, Keeps, LooksOwed, Within};
+ghost use Rattle.stack_check.specs.Inference.{narrowed, unseen_after};
 
 use crate::facts::{Facts, Trial, Unseen, narrow};
 use crate::reach::Found;
@@ -56,7 +56,9 @@ fn same_unseen(a: Unseen, b: Unseen) -> bool
 }
 
 /// Has the calls of a trial's routine looked at again.
-fn look_again(todo: &mut Todo, entry: Entry) -> Result<(), NoMemory> {
+fn look_again(todo: &mut Todo, entry: Entry) -> Result<(), NoMemory>
+    ensures { OnOk result (CallsAgain todo.old todo.new entry) }
+{
     match entry {
         Entry::Called(target) => todo.add_callers(target),
         Entry::Start => Ok(()),
@@ -65,7 +67,7 @@ fn look_again(todo: &mut Todo, entry: Entry) -> Result<(), NoMemory> {
 }
 
 /// Whether a trial looked at its whole lists, as a script's start did from the first.
-fn saw_all(trial: Trial) -> bool
+fn has_seen_all(trial: Trial) -> bool
     ensures { IsTrue result ↔ ((trial.unseen.cells ≡ 0) × (trial.unseen.under ≡ 0)) }
 {
     trial.unseen.cells == 0 && trial.unseen.under == 0
@@ -97,7 +99,7 @@ pub fn see(
         None => unreachable!(),
         Some(trial) => {
             let trial = *trial;
-            if saw_all(trial) {
+            if has_seen_all(trial) {
                 return Ok(false);
             }
             let unseen = unseen_after(heap, trial.unseen, from.held, reach);

@@ -1,5 +1,4 @@
 use Rattle.std.proofs.Common.{◌≡◌, ◌∙◌, ◌+◌, ap, sym, refl, arith, length}
-use Rattle.std.specs.Option.{option_map}
 use Rattle.typing_rules.specs.Reading.{plain, plain_all}
 use Rattle.typing_rules.specs.Readings.{plain_assign, plain_binary, plain_call, plain_literal, plain_member, plain_name, plain_postfix, plain_prefix}
 use Rattle.typing_rules.specs.Typed.{type_of}
@@ -10,7 +9,7 @@ use Rattle.emission_rules.specs.Bounds.{weight, all_weight}
 use Rattle.emission_rules.specs.Expressions as code
 use Rattle.codegen_expr.specs.Parts.{plain_home, plain_shortcut}
 use Rattle.codegen_expr.proofs.Nodes.{and_code, arguments_step, assign_code, call_code, captured_code, extended_none, known_code, known_lines, member_read_code, or_code}
-use Rattle.codegen_expr.proofs.Ready.{argument_falls, argument_ready, assign_is_of, assign_parts, at_labels, binary_is_of, binary_parts, call_is_of, call_parts, called_ready, captured_ready, counted, falls_arguments, falls_both, falls_first, falls_one, falls_second, member_is_of, member_parts, name_type, next_left, none_left, plain_ready, postfix_is_of, postfix_parts, prefix_is_of, prefix_parts, ready_few, ready_fits, same_ready, short_first, short_second, small_depth}
+use Rattle.codegen_expr.proofs.Ready.{argument_falls, argument_ready, assign_is_of, assign_parts, at_labels, binary_is_of, binary_parts, call_is_of, call_parts, called_ready, captured_ready, counted, falls_arguments, falls_both, falls_first, falls_one, falls_second, member_is_of, member_parts, name_type, next_left, none_left, plain_ready, postfix_is_of, postfix_parts, prefix_is_of, prefix_parts, ready_few, ready_fits, ready_near, same_ready, short_first, short_second, small_depth}
 use Rattle.codegen_expr.proofs.expressions.+emit.Goals as goal
 
 -- ---- from an expression to its node
@@ -75,9 +74,18 @@ expression-returns-in-Assign t c =
 pub member-expression-requires : goal.member-expression-requires
 member-expression-requires t c = (falls_one (weight (plain c.args.of.now)) t c.decreases, c.requires.ready)
 
+pub member-member_home-requires : goal.member-member_home-requires
+member-member_home-requires t c = record { near = ready_near c.requires.ready }
+
+pub prefix-home_of-home-requires : goal.prefix-home_of-home-requires
+prefix-home_of-home-requires t c = record { near = ready_near c.requires.ready }
+
+pub postfix-home_of-home-requires : goal.postfix-home_of-home-requires
+postfix-home_of-home-requires t c = record { near = ready_near c.requires.ready }
+
 pub member-returns-in-Some : goal.member-returns-in-Some
 member-returns-in-Some t c =
-    member_read_code _ _ _ c.args.layout.now c.args.depth _ c.args.before (cells c.args.layout.now.structs c.args.ty) (plain c.args.of.now) _ _ (plain_home c.in-Some.home) (sym (ap (option_map plain_home) c.in-Some.is) ∙ c.in_ok-home.ensures)
+    member_read_code _ _ _ c.args.layout.now c.args.depth _ c.args.before (cells c.args.layout.now.structs c.args.ty) (plain c.args.of.now) _ _ (plain_home c.in-Some.home) c.in-Some.ensures.home
     (c.read.ensures.op ∙ ap (λ n. code.read c.args.layout.now c.args.depth n (plain_home c.in-Some.home)) c.cells-count.ensures.cells) c.op.ensures.ok
 
 pub prefix-expression-requires : goal.prefix-expression-requires
@@ -179,7 +187,7 @@ assign-returns t c =
     assign_code _ c.args.out.now _ _ _ _ _ _ _ _ (code.read_first (code.is_set c.args.operator) (code.at_home (code.read c.args.layout.now c.args.depth count) home))
     (code.emit c.args.layout.now c.args.out.now.labels (c.args.depth + code.cells_first (code.is_set c.args.operator) count) (plain c.args.value.now))
     (code.at_home (code.write c.args.layout.now (c.args.depth + count) count) home) _ c.in_ok-first.ensures.lines c.in_ok-expression.ensures c.in_ok-combine.ensures
-    (simp (c.in_ok-home.ensures, c.cells-count.ensures.cells) refl) (simp (c.in_ok-first.ensures.lines, c.in_ok-first.ensures.cells, c.cells-count.ensures.cells) refl) (simp (c.in_ok-home.ensures, c.cells-count.ensures.cells) refl) c.emit_write.ensures
+    (simp (c.home_of-home.ensures.home, c.cells-count.ensures.cells) refl) (simp (c.in_ok-first.ensures.lines, c.in_ok-first.ensures.cells, c.cells-count.ensures.cells) refl) (simp (c.home_of-home.ensures.home, c.cells-count.ensures.cells) refl) c.emit_write.ensures
 
 pub argument-returns : goal.argument-returns
 argument-returns t c =

@@ -5,9 +5,9 @@ use Rattle.stack_check.proofs.Seeing.{see_owed, see_within}
 use Rattle.stack_check.proofs.Windows.{whole_same}
 use Rattle.stack_check.proofs.see.see.Goals as goal
 
-pub returns-then-saw_all-clause-within : goal.returns-then-saw_all-clause-within
-returns-then-saw_all-clause-within c =
-    let whole = c.saw_all.ensures.0 c.if-saw_all.true in
+pub returns-then-has_seen_all-clause-within : goal.returns-then-has_seen_all-clause-within
+returns-then-has_seen_all-clause-within c =
+    let whole = c.has_seen_all.ensures.0 c.if-has_seen_all.true in
     λ e. (
       Rattle.std.proofs.Common.refl,
       see_within c.args.table.now c.args.code.now c.args.heap.now c.args.facts.now c.args.from.trial c.args.from.place c.args.from.held c.in-Some.trial.now c.args.reach
