@@ -5,11 +5,9 @@ use Rattle.std.specs.List.{AllByRecursion}
 use Rattle.nwq_value.specs.Engine.{EngineTable}
 use Rattle.nwq_value.specs.Limits.{random_limit, time_limit}
 use Rattle.delay_agenda.specs.declared.entry.Entry.{Entry}
-use Rattle.gff_tree.specs.Whole.{PlainGff}
 use Rattle.hook_table.specs.declared.hook.Known.{Known}
 use Rattle.saved_state.specs.declared.saved.Saved.{Saved}
 use Rattle.world_rules.specs.Changes.{longest_delay}
-use Rattle.world_rules.specs.World.{World}
 use Rattle.world_rules.specs.Plays.{Bounds, Progress, Played, StoppedInside}
 use Rattle.world_rules.specs.Settled.{HasSettled, KeepsToEngine, PlaysSettle}
 use Rattle.ncs_machine.specs.declared.scripts.Begin.TheVariants.{Start, Stored}

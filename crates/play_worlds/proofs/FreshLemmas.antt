@@ -10,7 +10,7 @@ use Rattle.plan_text.specs.declared.plan.Plan.{Plan}
 use Rattle.plan_text.specs.Plans.{IsLine, IsPlan}
 use Rattle.saved_state.specs.declared.saved.Saved.{Saved}
 use Rattle.world_rules.specs.Turns.{Planned}
-use Rattle.world_rules.specs.Settled.{IsPlanned, NewIsBetween, NewIsPlanned}
+use Rattle.world_rules.specs.Settled.{NewIsBetween, NewIsPlanned}
 use Rattle.play_worlds.specs.Worlds.{begun_by, plan_world}
 use Rattle.play_worlds.specs.Fresh.{IsFresh, PlanWorldsAreFresh}
 use Rattle.play_worlds.proofs.ObjectLemmas.{all_within}

@@ -1,5 +1,5 @@
 -- The worlds of plans, before anything is played.
-use Rattle.std.specs.Prelude.{◌≡◌, ◌≤◌, ◌⊎◌, ℕ, length}
+use Rattle.std.specs.Prelude.{◌≡◌, ◌≤◌, ◌⊎◌, length}
 use Rattle.nwq_value.specs.Limits.{event_limit, random_limit, time_limit}
 use Rattle.area_rules.specs.Area.{PlainArea}
 use Rattle.plan_text.specs.declared.plan.Plan.{Plan}
