@@ -1,6 +1,6 @@
 ghost use Rattle.std.specs.Prelude.{◌≡◌, ◌++◌, ℕ, length, codes, decimal, IsTrue, IfOk, IfErr};
 ghost use Rattle.nwq_outside.specs.Outside.{Contents};
-ghost use Rattle.stack_rules.specs.Rules.{MeetsRules};
+ghost use Rattle.stack_rules.specs.Rules.{MeetsRules, WellStacked};
 ghost use Rattle.stack_check.specs.Checked.{kept_table};
 ghost use Rattle.nwq_outside.specs.declared.counts.FileCounts.{FileCounts};
 ghost use Rattle.command_work.specs.Work.{Does, CutsShort};
@@ -36,6 +36,8 @@ pub fn check_code<S: Sink>(
     ensures meets { IfOk result (λ checked.
         MeetsRules table.now checked.code (kept_table checked)) }
     ensures only { IfErr result (Refusing Status.Code) }
+    // Code that is well stacked is never refused.
+    ensures passes { WellStacked table.now code → IfErr result CutsShort }
 {
     match check(alloc, code, table) {
         Ok(checked) => Ok(checked),

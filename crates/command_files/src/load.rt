@@ -5,9 +5,9 @@ ghost use Rattle.nwq_outside.specs.Outside.{Contents};
 ghost use Rattle.stack_rules.specs.Rules.{MeetsRules};
 ghost use Rattle.stack_check.specs.Checked.{kept_table};
 ghost use Rattle.nwq_outside.specs.declared.counts.FileCounts.{FileCounts};
-ghost use Rattle.command_work.specs.Work.{Does};
+ghost use Rattle.command_work.specs.Work.{Does, CutsShort};
 ghost use Rattle.command_work.specs.Counts.{Counted, Tallies, Refusing};
-ghost use Rattle.command_files.specs.Checks.{loaded_in, plain_answer};
+ghost use Rattle.command_files.specs.Checks.{loaded_in, plain_answer, IsStackedFile};
 
 use crate::check::check_code;
 use crate::code_of_bytes;
@@ -35,6 +35,8 @@ pub fn load_checked<S: Sink>(
     ensures meets { IfOk result (λ checked.
         MeetsRules table.now checked.code (kept_table checked)) }
     ensures only { IfErr result (Refusing Status.Code) }
+    // A file of well stacked instructions is never refused.
+    ensures passes { IsStackedFile table.now bytes.items → IfErr result CutsShort }
 {
     match code_of_bytes(alloc, name, bytes, out) {
         Err(status) => Err(status),

@@ -16,7 +16,7 @@ use Rattle.world_rules.specs.EndText.{end_line}
 use Rattle.play_generator.specs.Made.{creatures_of, rounds_of, area_tree, play_of}
 use Rattle.play_generator.specs.Reads.{plan_made}
 use Rattle.command_work.specs.declared.status.Status.{Status}
-use Rattle.command_work.specs.declared.status.Status.TheVariants.{Script, Code, Limit, Fault, Memory}
+use Rattle.command_work.specs.declared.status.Status.TheVariants.{Script, Limit, Fault, Memory}
 use Rattle.command_work.specs.Work.{Work, Gives, Ends, Puts, Finds, then, CutsShort, Does, Finished}
 use Rattle.command_compile.specs.Files.{compiled_named}
 use Rattle.command_files.specs.Checks.{loaded_in}
@@ -105,10 +105,9 @@ cuts Fault = true
 cuts Memory = true
 cuts _ = false
 
--- What stops it: the source or its code is refused, a limit ended the play, or the work is cut. No law says yet that each source has a
--- file, and that the check passes it; once one does, `Script` and `Code` go away here.
+-- What stops it: the source is refused, a limit ended the play, or the work is cut. The check passes the source's file. No law says yet
+-- that each source has a file; once one does, `Script` goes away here.
 abbrev pub StopsGenerate : Status → Type 0
 StopsGenerate Script = Unit {0}
-StopsGenerate Code = Unit {0}
 StopsGenerate Limit = Unit {0}
 StopsGenerate status = CutsShort status

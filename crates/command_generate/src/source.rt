@@ -6,6 +6,7 @@ ghost use Rattle.nwq_outside.specs.Outside.{Contents};
 ghost use Rattle.nwq_outside.specs.declared.counts.FileCounts.{FileCounts};
 ghost use Rattle.command_work.specs.Work.{Does};
 ghost use Rattle.command_work.specs.Counts.{Counted, Tallies, TalliesEnd, Refusing};
+ghost use Rattle.command_compile.specs.Made.{IsUnitFile};
 ghost use Rattle.command_generate.specs.Generated.{Compiles, cuts, files_with, source_compiled};
 
 use crate::kinds::{Kept, Shelf};
@@ -62,6 +63,7 @@ fn compile_on<S: Sink>(
         (S.taken out.old) result c (S.taken out.new) }
     ensures counts { (counts : FileCounts) → Tallies result (Counted counts (S.faults out.old))
         (Counted counts (S.faults out.new)) }
+    ensures made { IfOk result (IsUnitFile table.now) }
     ensures small { IfOk result (λ bytes. length bytes ≤ file_limit) }
     ensures only { IfErr result (Refusing Status.Script) }
 {
@@ -90,6 +92,7 @@ pub(crate) fn compile_source<S: Sink>(
         (S.taken out.old) result c (S.taken out.new) }
     ensures counts { (counts : FileCounts) → Tallies result (Counted counts (S.faults out.old))
         (Counted counts (S.faults out.new)) }
+    ensures made { IfOk result (IsUnitFile table.now) }
     ensures small { IfOk result (λ bytes. length bytes ≤ file_limit) }
     ensures only { IfErr result (Refusing Status.Script) }
 {

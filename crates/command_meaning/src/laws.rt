@@ -1,6 +1,7 @@
 //! Laws about the work of commands, each the contract of a function that does nothing.
 ghost use Rattle.command_meaning.specs.CodeEnds.{CheckedPlaysHaveNoFault};
 ghost use Rattle.command_meaning.specs.Files.{FilesAreNotRefused, FilesPlayTheirCode};
+ghost use Rattle.command_meaning.specs.Files.{UnitFilesAreStacked};
 ghost use Rattle.command_meaning.specs.ListedPlays.{ListedPlaysEnd, ListedPlaysStop};
 ghost use Rattle.command_meaning.specs.ListedPlays.{ListedTextsAgree};
 ghost use Rattle.command_meaning.specs.Once.{StartsPlayOnce};
@@ -43,6 +44,19 @@ pub fn units_pass()
     units_are_well_typed();
     units_are_well_stacked();
     typed_units_have_code();
+    file_is_code();
+    size_laws();
+}
+
+/// The file of a typed unit loads and passes the checker, whatever the files told of its script.
+pub fn unit_files_are_stacked()
+    ensures stacked { UnitFilesAreStacked }
+{
+    functions_are_placed();
+    globals_are_fine();
+    entries_are_plain();
+    typed_units_fit();
+    units_are_well_stacked();
     file_is_code();
     size_laws();
 }

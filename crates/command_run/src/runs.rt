@@ -4,14 +4,15 @@ ghost use Rattle.nwq_outside.specs.Outside.{Contents};
 ghost use Rattle.world_core.specs.Calls.{cells_of, AreServing};
 ghost use Rattle.nwq_outside.specs.declared.counts.FileCounts.{FileCounts};
 ghost use Rattle.command_work.specs.Work.{Does};
-ghost use Rattle.command_work.specs.Counts.{Counted, Tallies};
+ghost use Rattle.command_work.specs.Counts.{Counted, Tallies, Refusing};
+ghost use Rattle.command_files.specs.Checks.{IsStackedFile};
 ghost use Rattle.command_compile.specs.Files.{code_name};
 ghost use Rattle.command_plays.specs.Scripts.{plays_file};
-ghost use Rattle.command_run.specs.Tellings.{StopsPlay};
 ghost use Rattle.command_run.specs.Runs.{runs_under, runs, StopsRun};
 
 use crate::play::play_file;
 use command_compile::{code_name, read_compiled};
+use command_meaning::unit_files_are_stacked;
 use command_sources::read_table;
 use command_work::Status;
 use hook_table::Hooks;
@@ -30,13 +31,14 @@ fn play_compiled<S: Sink>(
     out: &mut S,
 ) -> Result<(), Status>
     requires small { length bytes ≤ file_limit }
+    requires stacked { IsStackedFile table.now bytes }
     requires hooks { AreServing (map (λ h. h.known) hooks.now.all.items) }
     ensures does { IsTrue S.tells → (c : Contents) →
         Does (plays_file (cells_of (map (λ h. h.known) hooks.now.all.items)) table.now
         script.now (code_name script.now) bytes) c (S.taken out.old) result c (S.taken out.new) }
     ensures counts { (counts : FileCounts) → Tallies result (Counted counts (S.faults out.old))
         (Counted counts (S.faults out.new)) }
-    ensures only { IfErr result StopsPlay }
+    ensures only { IfErr result (Refusing Status.Limit) }
 {
     match code_name(alloc, script) {
         Err(NoMemory) => Err(Status::Memory),
@@ -72,6 +74,8 @@ fn run_under<F: Files, S: Sink>(
     ensures same { F.contents files.new ≡ F.contents files.old }
     ensures only { IfErr result StopsRun }
 {
+    table.keeps();
+    unit_files_are_stacked();
     match read_compiled(alloc, table, script, files, out) {
         Err(status) => Err(status),
         Ok(bytes) => play_compiled(alloc, table, script, bytes, hooks, out),
