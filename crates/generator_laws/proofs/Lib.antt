@@ -1,2 +1,6 @@
 mod Numbers
-mod Tokens
+mod Pieces
+mod Trees
+mod Typing
+mod Units
+mod Sources

@@ -1,6 +1,6 @@
 -- A decimal number in a source is one token.
-use Rattle.std.proofs.Common.{◌≡◌, ℕ, suc, ◌+◌, ◌^◌, ◌<◌, Bool, true, false, ◌&&◌, ◌||◌, ◌==◌, nat_lt, cond, List, [], ◌∷◌, ◌++◌, length, take, drop, Option, Some, None, refl, sym, ap, ◌∙◌, subst, arith}
-use Rattle.std.specs.Prelude.{option_map, option_and_then, slice_index}
+use Rattle.std.proofs.Common.{◌≡◌, ℕ, suc, ◌+◌, ◌^◌, ◌<◌, Bool, true, false, ◌&&◌, ◌||◌, ◌==◌, nat_lt, cond, List, [], ◌∷◌, ◌++◌, length, take, drop, Option, Some, None, refl, sym, ap, ◌∙◌, subst, arith, codes}
+use Rattle.std.specs.Prelude.{option_map, slice_index, bytes_eq}
 use Rattle.std.specs.List.{list_all, prefix_len}
 use Rattle.std.specs.Str.{all_ascii_digits}
 use Rattle.std.specs.Char.{is_ascii_digit}
@@ -16,6 +16,7 @@ use Rattle.nss_lexer.specs.Bytes.{is_blank, is_letter, is_decimal}
 use Rattle.nss_lexer.specs.Splitting.{Lexeme, begins_comment}
 use Rattle.nss_lexer.specs.Reading.{run, scanned, small, form, lexeme, pass, number_form, decimal_form, hexadecimal_form, begins_hexadecimal}
 use Rattle.nss_lexer.specs.Computed.{tokens_in}
+use Rattle.nss_include.specs.Pieces.{is_hash}
 
 both : (a b : Bool) → (a && b) ≡ true → (a ≡ true) × (b ≡ true)
 both true b h = (refl, h)
@@ -143,3 +144,15 @@ module _ (n k at b : ℕ) (rest : List ℕ) (ends : EndsNumber b) (few : n < 2 ^
   number_first =
       let small : n < 2 ^ 64 = omega (arith, few) in
       digits_first (decimal n) (decimal_digits n small) (decimal_nonempty n small) (decimal_is_IsNumeral n small).1
+
+-- it begins no directive
+pub number_plain : (n at : ℕ) → n < 2 ^ 32 → is_hash (number_token n at) ≡ false
+number_plain n at few =
+    let small : n < 2 ^ 64 = omega (arith, few) in plain_digits (decimal n) (decimal_digits n small)
+  where
+    plain_digits : (ds : List ℕ) → AreDigits ds → bytes_eq ds (codes "#") ≡ false
+    plain_digits [] h = refl
+    plain_digits (d ∷ ds) h = other d ds (both (is_ascii_digit d) (list_all is_ascii_digit ds) h).0
+      where
+        other : (d : ℕ) (ds : List ℕ) → is_ascii_digit d ≡ true → bytes_eq (d ∷ ds) (codes "#") ≡ false
+        other d ds h = rw (let t : (d == 35) ≡ false = grind (arith, nat_tests) in t) refl
