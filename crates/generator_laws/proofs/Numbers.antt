@@ -1,5 +1,5 @@
 -- A decimal number in a source is one token.
-use Rattle.std.proofs.Common.{◌≡◌, ℕ, suc, ◌+◌, ◌^◌, ◌<◌, Bool, true, false, ◌&&◌, ◌||◌, ◌==◌, nat_lt, cond, List, [], ◌∷◌, ◌++◌, length, take, drop, Option, Some, None, refl, sym, ap, ◌∙◌, subst, arith, codes}
+use Rattle.std.proofs.Common.{◌≡◌, ℕ, suc, ◌+◌, ◌^◌, ◌<◌, Bool, true, false, ◌&&◌, ◌||◌, ◌==◌, nat_lt, cond, List, [], ◌∷◌, ◌++◌, length, take, Some, None, refl, ap, ◌∙◌, arith, codes}
 use Rattle.std.specs.Prelude.{option_map, slice_index, bytes_eq}
 use Rattle.std.specs.List.{list_all, prefix_len}
 use Rattle.std.specs.Str.{all_ascii_digits}
@@ -14,7 +14,7 @@ use Rattle.nss_lexer.specs.declared.token.Kind.TheVariants.{Int}
 use Rattle.nss_lexer.specs.declared.bytes.Class.TheVariants.{Decimal}
 use Rattle.nss_lexer.specs.Bytes.{is_blank, is_letter, is_decimal}
 use Rattle.nss_lexer.specs.Splitting.{Lexeme, begins_comment}
-use Rattle.nss_lexer.specs.Reading.{run, scanned, small, form, lexeme, pass, number_form, decimal_form, hexadecimal_form, begins_hexadecimal}
+use Rattle.nss_lexer.specs.Reading.{run, scanned, form, lexeme, pass, number_form, decimal_form, hexadecimal_form, begins_hexadecimal}
 use Rattle.nss_lexer.specs.Computed.{tokens_in}
 use Rattle.nss_include.specs.Pieces.{is_hash}
 

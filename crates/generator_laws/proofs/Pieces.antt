@@ -1,5 +1,5 @@
 -- The tokens of a source round its two numbers, piece by piece: which they are doesn't depend on what stands before or behind.
-use Rattle.std.proofs.Common.{◌≡◌, ℕ, zero, suc, ◌+◌, Bool, true, false, not, List, [], ◌∷◌, ◌++◌, map, length, Option, Some, None, refl, ap, sym, ◌∙◌, codes, append_assoc}
+use Rattle.std.proofs.Common.{◌≡◌, ℕ, zero, suc, ◌+◌, Bool, true, false, ◌&&◌, not, List, [], ◌∷◌, ◌++◌, Option, Some, None, refl, ap, ◌∙◌, codes, append_assoc}
 use Rattle.std.specs.Prelude.{option_map}
 use Rattle.std.specs.List.{list_all, AllByRecursion}
 use Rattle.nss_lexer.specs.Lexemes.{is_word}
@@ -21,7 +21,7 @@ abbrev got : Option (List Lexeme) → List Lexeme
 got None = []
 got (Some ts) = ts
 
-abbrev put : List Lexeme → Option (List Lexeme) → Option (List Lexeme)
+abbrev pub put : List Lexeme → Option (List Lexeme) → Option (List Lexeme)
 put [] o = o
 put (t ∷ ts) o = option_map (λ more. t ∷ more) (put ts o)
 
@@ -49,10 +49,10 @@ tokens_of text at = got (tokens_in 100 at text)
 abbrev pub IsPlain : Lexeme → Type 0
 IsPlain t = is_hash t ≡ false
 
-abbrev are_plain : List Lexeme → Bool
+abbrev pub are_plain : List Lexeme → Bool
 are_plain ts = list_all (λ t. not (is_hash t)) ts
 
-all_plain : (ts : List Lexeme) → are_plain ts ≡ true → AllByRecursion IsPlain ts
+pub all_plain : (ts : List Lexeme) → are_plain ts ≡ true → AllByRecursion IsPlain ts
 all_plain [] h = tt
 all_plain (t ∷ ts) h = let parts = split (is_hash t) (are_plain ts) h in (parts.0, all_plain ts parts.1)
   where
@@ -297,7 +297,7 @@ back_plain at = refl
 
 -- ---- one text after another
 
-seen_both : (ts us : List Lexeme) → grammar_symbols (ts ++ us) ≡ grammar_symbols ts ++ grammar_symbols us
+pub seen_both : (ts us : List Lexeme) → grammar_symbols (ts ++ us) ≡ grammar_symbols ts ++ grammar_symbols us
 seen_both [] us = refl
 seen_both (t ∷ ts) us = ap (λ ss. of_kind t.kind t.text ∷ ss) (seen_both ts us)
 
@@ -305,7 +305,7 @@ two : (a b c : Bool) → (not a && b) ≡ true → (b ≡ true → c ≡ true) �
 two true b c h k = absurd cc
 two false b c h k = k h
 
-plain_both : (ts us : List Lexeme) → are_plain ts ≡ true → are_plain us ≡ true → are_plain (ts ++ us) ≡ true
+pub plain_both : (ts us : List Lexeme) → are_plain ts ≡ true → are_plain us ≡ true → are_plain (ts ++ us) ≡ true
 plain_both [] us h k = k
 plain_both (t ∷ ts) us h k = two (is_hash t) (are_plain ts) (are_plain (ts ++ us)) h (λ rest. plain_both ts us rest k)
 

@@ -1,23 +1,12 @@
 -- The source of a number compiles.
-use Rattle.std.proofs.Common.{◌≡◌, ℕ, zero, suc, ◌+◌, ◌%◌, ◌^◌, ◌<◌, ◌≤◌, Bool, true, false, ◌&&◌, not, nat_le, List, [], ◌∷◌, ◌++◌, map, length, get_or, Option, Some, None, refl, ap, ◌∙◌, sym, subst, arith, codes, append_assoc, length-append}
-use Rattle.std.proofs.Math.Nat.{mod-lt}
-use Rattle.std.proofs.lemmas.Bool.Decides.{nat_tests}
-use Rattle.std.proofs.lemmas.Fmt.{length-decimal-le_succ}
-use Rattle.std.specs.Prelude.{slice_index, bytes_eq}
-use Rattle.std.specs.List.{list_all, AllByRecursion}
+use Rattle.std.proofs.Common.{◌≡◌, ℕ, suc, ◌+◌, ◌^◌, ◌<◌, true, ◌&&◌, not, List, [], ◌∷◌, ◌++◌, length, Some, refl, ap, ◌∙◌, sym, subst, codes, append_assoc}
+use Rattle.std.specs.List.{AllByRecursion}
 use Rattle.std.specs.Fmt.{decimal}
-use Rattle.std.specs.FinMap as fin_map
-use Rattle.nwq_value.specs.Limits.{nest_limit, file_limit}
-use Rattle.nwq_outside.specs.Outside.{Contents}
 use Rattle.nss_lexer.specs.Computed.{tokens_in, ComputedAreTokens}
 use Rattle.nss_lexer.specs.Splitting.{Lexeme, AreTokens}
-use Rattle.nss_symbols.specs.Nest.{IsWithinNest, nests}
 use Rattle.nss_symbols.specs.Symbols as symbol
 use Rattle.nss_symbols.specs.Symbols.{Symbol}
-use Rattle.nss_include.specs.Names.{file_name}
-use Rattle.nss_include.specs.Pieces.{is_hash}
-use Rattle.play_generator.specs.Made.{creatures_of, number_limit, source_text, play_of}
-use Rattle.play_generator.proofs.SourceLemmas as generator
+use Rattle.play_generator.specs.Made.{source_text}
 use Rattle.command_sources.specs.Units.{grammar_symbols}
 use Rattle.generator_laws.proofs.Numbers.{EndsNumber, number_token, number_first, number_plain}
 use Rattle.generator_laws.proofs.Pieces.{Piece, IsPlain, are_plain, all_plain, put, put_some, joined, tokens_of, seen_both, plain_both, front_piece, smaller_piece, sum_piece, teller_piece, counter_piece, kept_piece, grown_piece, asked_piece, delayed_piece, assigned_piece, front, smaller, sum, teller, counter, kept, grown, asked, delayed, assigned, back, front_symbols, smaller_symbols, sum_symbols, teller_symbols, counter_symbols, kept_symbols, grown_symbols, asked_symbols, delayed_symbols, assigned_symbols, back_symbols, back_tokens, back_seen, back_plain}
@@ -25,16 +14,27 @@ use Rattle.generator_laws.proofs.Trees.{made_symbols}
 
 -- ---- what stands between the numbers
 
-abbrev between : List ℕ
+abbrev pub between : List ℕ
 between = smaller ++ (sum ++ (teller ++ (counter ++ (kept ++ (grown ++ (asked ++ (delayed ++ assigned)))))))
 
-abbrev between_symbols : List Symbol
+abbrev pub between_symbols : List Symbol
 between_symbols =
     smaller_symbols ++ (sum_symbols ++ (teller_symbols ++ (counter_symbols ++ (kept_symbols ++ (grown_symbols ++ (asked_symbols ++ (delayed_symbols ++ assigned_symbols)))))))
 
-between_piece : Piece between between_symbols
+abbrev pub between_piece : Piece between between_symbols
 between_piece =
     joined smaller_piece (joined sum_piece (joined teller_piece (joined counter_piece (joined kept_piece (joined grown_piece (joined asked_piece (joined delayed_piece assigned_piece)))))))
+
+-- ---- the text
+
+-- a number and what stands behind it in its line, and the lines below
+behind : (digits rest lines : List ℕ) → ((digits ++ rest) ++ 10 ∷ []) ++ lines ≡ digits ++ ((rest ++ 10 ∷ []) ++ lines)
+behind digits rest lines = ap (λ l. l ++ lines) (append_assoc digits rest (10 ∷ [])) ∙ append_assoc digits (rest ++ 10 ∷ []) lines
+
+pub in_pieces : (n creatures : ℕ) → source_text n creatures ≡ front ++ (decimal n ++ (between ++ (decimal creatures ++ back)))
+unfolding source_text
+in_pieces n creatures =
+    ap (λ l. front ++ l) (behind (decimal n) (codes ";") _ ∙ ap (λ l. decimal n ++ (between ++ l)) (behind (decimal creatures) (codes ")), Tell(n));") (codes "}\n")))
 
 -- ---- the tokens
 
@@ -45,22 +45,22 @@ bracket : EndsNumber 41
 bracket = record { digit = refl; point = refl; mark = refl; x = refl }
 
 module _ (n creatures : ℕ) (few : n < 2 ^ 32) (small : creatures < 2 ^ 32) where
-  abbrev first_at : ℕ
+  abbrev pub first_at : ℕ
   first_at = front_piece.after 0
 
-  abbrev between_at : ℕ
+  abbrev pub between_at : ℕ
   between_at = first_at + length (decimal n)
 
-  abbrev second_at : ℕ
+  abbrev pub second_at : ℕ
   second_at = between_piece.after between_at
 
-  abbrev back_at : ℕ
+  abbrev pub back_at : ℕ
   back_at = second_at + length (decimal creatures)
 
-  abbrev rest_tokens : List Lexeme
+  abbrev pub rest_tokens : List Lexeme
   rest_tokens = number_token creatures second_at ∷ tokens_of back back_at
 
-  abbrev made_tokens : List Lexeme
+  abbrev pub made_tokens : List Lexeme
   made_tokens = front_piece.tokens 0 ++ number_token n first_at ∷ (between_piece.tokens between_at ++ rest_tokens)
 
   abbrev steps : ℕ
@@ -117,7 +117,7 @@ module _ (n creatures : ℕ) (few : n < 2 ^ 32) (small : creatures < 2 ^ 32) whe
   -- ---- and they are the tokens of the source
 
   whole_text : source_text n creatures ≡ front ++ (decimal n ++ (between ++ (decimal creatures ++ back)))
-  whole_text = generator.in_pieces n creatures
+  whole_text = in_pieces n creatures
 
   pub made_are_tokens : ComputedAreTokens → AreTokens (source_text n creatures) 0 made_tokens
   made_are_tokens computed =
@@ -131,21 +131,3 @@ module _ (n creatures : ℕ) (few : n < 2 ^ 32) (small : creatures < 2 ^ 32) whe
 
   pub made_length : length made_tokens ≡ 137
   made_length = sym (seen_length made_tokens) ∙ ap (λ (ss : List Symbol). length ss) made_seen
-
--- ---- their nest
-
-both_true : (a b : Bool) → (a && b) ≡ true → (a ≡ true) × (b ≡ true)
-both_true true b h = (refl, h)
-both_true false b h = absurd cc
-
-below : (xs : List ℕ) → list_all (λ x. nat_le x nest_limit) xs ≡ true → (k : ℕ) → slice_index xs k ≤ nest_limit
-below [] h k = omega arith
-below (x ∷ xs) h zero = let parts = both_true (nat_le x nest_limit) (list_all (λ y. nat_le y nest_limit) xs) h in grind (arith, nat_tests, parts.0)
-below (x ∷ xs) h (suc k) = below xs (both_true (nat_le x nest_limit) (list_all (λ y. nat_le y nest_limit) xs) h).1 k
-
-low : (n creatures : ℕ) → list_all (λ x. nat_le x nest_limit) (nests (made_symbols n creatures)) ≡ true
-unfolding nests
-low n creatures = refl
-
-pub made_nest : (n creatures : ℕ) → IsWithinNest (made_symbols n creatures)
-made_nest n creatures = below (nests (made_symbols n creatures)) (low n creatures)

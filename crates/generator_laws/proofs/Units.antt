@@ -1,9 +1,9 @@
 -- The unit of a script whose tokens begin no directive.
-use Rattle.std.proofs.Common.{◌≡◌, ℕ, suc, ◌+◌, ◌≤◌, Bool, true, false, ◌&&◌, cond, nat_lt, List, [], ◌∷◌, map, length, Option, Some, None, refl, ap, ◌∙◌, sym, subst, arith}
+use Rattle.std.proofs.Common.{◌≡◌, ℕ, ◌+◌, ◌≤◌, Bool, true, false, ◌&&◌, cond, nat_lt, List, [], ◌∷◌, map, length, Some, None, refl, ap, ◌∙◌, sym, subst, arith}
 use Rattle.std.proofs.lemmas.Bool.Decides.{nat_tests}
 use Rattle.std.specs.List.{AllByRecursion}
 use Rattle.nwq_value.specs.Limits.{token_limit, file_limit}
-use Rattle.nss_lexer.specs.Splitting.{Lexeme, Splits, AreTokens}
+use Rattle.nss_lexer.specs.Splitting.{Lexeme, AreTokens}
 use Rattle.nss_include.specs.declared.fault.GatherFault.{GatherFault}
 use Rattle.nss_include.specs.declared.fault.GatherFault.TheVariants.{Tokens}
 use Rattle.nss_include.specs.declared.file.Source.{Source}

@@ -1,5 +1,5 @@
 -- The source that is made from a number has a typed unit under the built-in header, and its file is small enough.
-use Rattle.std.specs.Prelude.{◌≡◌, ◌≤◌, ℕ, List, length, Some, codes}
+use Rattle.std.specs.Prelude.{◌≡◌, ◌≤◌, ℕ, length, Some, codes}
 use Rattle.std.specs.FinMap as fin_map
 use Rattle.nwq_value.specs.HeaderTable.{header_table}
 use Rattle.nwq_value.specs.Limits.{file_limit}
