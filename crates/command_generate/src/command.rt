@@ -54,7 +54,7 @@ fn play_file<S: Sink>(
 }
 
 /// Compiles, checks and plays a made play under the built-in header.
-#[tactic(auto, using(crate::proofs::Steps::steps, crate::proofs::StopLemmas::stops), unfolding(crate::specs::Generated::generates))]
+#[tactic(auto, using(crate::proofs::Steps::steps, crate::proofs::StopLemmas::limit_stops), unfolding(crate::specs::Generated::generates))]
 fn play_made<S: Sink>(
     alloc: Global,
     table: &Table,
@@ -76,8 +76,8 @@ fn play_made<S: Sink>(
 {
     table.keeps();
     unit_files_are_stacked();
-    match compile_source(alloc, table, made.source(), out) {
-        Err(status) => Err(status),
+    match compile_source(alloc, table, made.source()) {
+        Err(NoMemory) => Err(Status::Memory),
         Ok(bytes) => play_file(alloc, table, number, made, bytes.into_vec(), hooks, out),
     }
 }
