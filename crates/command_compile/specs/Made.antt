@@ -1,4 +1,4 @@
--- What a file that is compiled is, whatever the files tell that its script was read from.
+-- What clauses say of a file while it is made, whatever the files tell that its script was read from.
 use Rattle.std.specs.Prelude.{◌≡◌, ℕ, List}
 use Rattle.nwq_value.specs.Engine.{EngineTable}
 use Rattle.nss_tree.specs.Source.{SourceTree}

@@ -124,3 +124,5 @@ module _ (header : EngineTable) (built_in : header ≡ header_table) (source : L
 pub found_does : (source file : List ℕ) (c : Contents) (t : List ℕ) → IsFileOf source file → Does (source_compiled source) c t (Ok file) c t
 unfolding source_compiled
 found_does source file c t is = inr (record { found = file; is = is; goes = (inl refl, (refl, refl)) })
+
+pub ruleset compiles = (file_of, want_alone)

@@ -14,7 +14,6 @@ ghost use Rattle.command_generate.specs.Generated.{checks_made, generates, Stops
 use crate::play::play_code;
 use crate::source::compile_source;
 use command_files::load_checked;
-use command_meaning::unit_files_are_stacked;
 use command_work::Status;
 use engine_table::built_in;
 use hook_table::Hooks;
@@ -54,7 +53,7 @@ fn play_file<S: Sink>(
 }
 
 /// Compiles, checks and plays a made play under the built-in header.
-#[tactic(auto, using(crate::proofs::Steps::steps, crate::proofs::StopLemmas::limit_stops), unfolding(crate::specs::Generated::generates))]
+#[tactic(auto, using(command_work::specs::Parts::cut_here, crate::proofs::StopLemmas::limit_stops))]
 fn play_made<S: Sink>(
     alloc: Global,
     table: &Table,
@@ -74,8 +73,6 @@ fn play_made<S: Sink>(
         (Counted counts (S.faults out.new)) }
     ensures only { IfErr result StopsGenerate }
 {
-    table.keeps();
-    unit_files_are_stacked();
     match compile_source(alloc, table, made.source()) {
         Err(NoMemory) => Err(Status::Memory),
         Ok(bytes) => play_file(alloc, table, number, made, bytes.into_vec(), hooks, out),

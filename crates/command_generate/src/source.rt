@@ -2,7 +2,7 @@
 ghost use Rattle.std.specs.Prelude.{◌≡◌, ◌≤◌, length, IfOk};
 ghost use Rattle.nwq_value.specs.Limits.{file_limit};
 ghost use Rattle.nwq_value.specs.HeaderTable.{header_table};
-ghost use Rattle.command_compile.specs.Made.{IsUnitFile};
+ghost use Rattle.command_files.specs.Checks.{IsStackedFile};
 ghost use Rattle.command_generate.specs.Generated.{IsFileOf, IsMadeSource};
 
 use crate::kinds::{Kept, Shelf};
@@ -24,6 +24,7 @@ fn want_of(status: Status) -> NoMemory
 }
 
 /// The file of bytecode of the source of a number. It is never refused.
+#[tactic(auto, using(crate::proofs::SourceLemmas::compiles))]
 pub(crate) fn compile_source(
     alloc: Global,
     table: &Table,
@@ -32,7 +33,7 @@ pub(crate) fn compile_source(
     requires header { table.now ≡ header_table }
     requires source { IsMadeSource source.now }
     ensures file { IfOk result (IsFileOf source.now) }
-    ensures made { IfOk result (IsUnitFile table.now) }
+    ensures stacked { IfOk result (IsStackedFile table.now) }
     ensures small { IfOk result (λ bytes. length bytes ≤ file_limit) }
 {
     sources_compile();

@@ -1,16 +1,11 @@
 -- The file of a typed unit loads and passes the checker, so its play is that of its code.
-use Rattle.std.proofs.Common.{◌≡◌, ◌≤◌, inl, inr, ℕ, List, length, Result, Ok, Err, subst, refl}
-use Rattle.nwq_value.specs.Limits.{file_limit}
+use Rattle.std.proofs.Common.{◌≡◌, inl, inr, ℕ, List, Result, Ok, Err, subst, refl}
 use Rattle.nwq_value.specs.Engine.{EngineTable}
 use Rattle.nwq_outside.specs.Outside.{Contents}
-use Rattle.ncs_code.specs.Laws.{SizeLaws}
 use Rattle.typing_rules.specs.Typed.{TypedUnit}
 use Rattle.emission_rules.specs.Units.{unit_file}
-use Rattle.emission_rules.specs.Laws.{FileIsCode}
-use Rattle.emission_laws.specs.WellTyped.{IsWellTyped}
-use Rattle.emission_laws.specs.Laws.{SwitchesFit, FirstValuesCallEngine, UnitsAreWellStacked}
-use Rattle.typed_laws.specs.Laws.{FunctionsArePlaced, GlobalsAreFine, EntriesArePlain}
-use Rattle.typing_laws.specs.Laws.{HasCode, EachTypedUnitHasCode}
+use Rattle.unit_laws.specs.Laws.{TypedUnitsAreWellTyped, TypedUnitsPass}
+use Rattle.typing_laws.specs.Laws.{EachTypedUnitHasCode}
 use Rattle.command_files.specs.Codes.{Whole, whole, code_by, code_in}
 use Rattle.command_files.specs.Checks.{CheckFate, Passes as PassesCheck, Unstacked, IsCheckFate, passes, unstacked, check_by, checked_in, loaded_in}
 use Rattle.command_work.specs.declared.status.Status.{Status}
@@ -21,28 +16,18 @@ use Rattle.command_plays.specs.Scripts.{plays_code, plays_file}
 use Rattle.command_plays.specs.Laws.{SurePlays}
 use Rattle.world_rules.specs.Pure.{CellLookup}
 use Rattle.command_meaning.specs.Units.{code_of, Passes, UnitsAreWellTyped, UnitsPass}
-use Rattle.command_meaning.specs.Files.{FilesPlayTheirCode, UnitFilesAreStacked}
-use Rattle.command_meaning.proofs.WellTyped.{parsed_unit}
+use Rattle.command_meaning.specs.Files.{FilesPlayTheirCode}
 
 -- ---- the file
 
-module _ (stacked : UnitsAreWellStacked) (code : FileIsCode) (sizes : SizeLaws) where
-  passes_so : (header : EngineTable) (u : TypedUnit) → HasCode u → IsWellTyped header u → length (unit_file u) ≤ file_limit → Passes header u
-  passes_so header u has typed small = record {
-    loads = code u has.bounded (subst (λ n. n ≤ file_limit) (sizes.file (code_of u)) small);
-    stacked = stacked header u has.bounded typed;
-  }
+pub units_are_well_typed : TypedUnitsAreWellTyped → UnitsAreWellTyped
+units_are_well_typed typed header u table unit = typed header unit.tokens unit.tree u table unit.parses unit.types
 
-  pub units_pass : UnitsAreWellTyped → EachTypedUnitHasCode → UnitsPass
-  units_pass typed bounds header u table unit small =
-      passes_so header u (bounds unit.tokens header unit.tree u unit.few unit.literals table unit.parses unit.types) (typed header u table unit) small
-
-  module _ (placed : FunctionsArePlaced) (fine : GlobalsAreFine) (plain : EntriesArePlain) (switches : SwitchesFit) (values : FirstValuesCallEngine) where
-    pub unit_files_are_stacked : UnitFilesAreStacked
-    unit_files_are_stacked header bytes table file small =
-        let typed = parsed_unit placed fine plain switches values header file.tokens file.tree file.unit table file.parses file.types in
-        let pass = passes_so header file.unit file.code typed (subst (λ (b : List ℕ). length b ≤ file_limit) file.is small) in
-        record { ops = code_of file.unit; code = pass.loads; is = file.is; stacked = pass.stacked }
+pub units_pass : TypedUnitsPass → EachTypedUnitHasCode → UnitsPass
+units_pass pass bounds header u table unit small =
+    let has = bounds unit.tokens header unit.tree u unit.few unit.literals table unit.parses unit.types in
+    let h = pass header unit.tokens unit.tree u table unit.parses unit.types has small in
+    record { loads = h.0; stacked = h.1 }
 
 -- ---- its play
 

@@ -1,4 +1,4 @@
--- The file of a typed unit, and its play.
+-- The play of the file of a typed unit.
 use Rattle.std.specs.Prelude.{◌≢◌, ◌≤◌, ℕ, List, length, Result, Err}
 use Rattle.nwq_value.specs.Limits.{file_limit}
 use Rattle.nwq_value.specs.Engine.{EngineTable, IsTable}
@@ -6,19 +6,11 @@ use Rattle.nwq_outside.specs.Outside.{Contents}
 use Rattle.typing_rules.specs.Typed.{TypedUnit}
 use Rattle.emission_rules.specs.Units.{unit_file}
 use Rattle.world_rules.specs.Pure.{CellLookup}
-use Rattle.command_files.specs.Checks.{IsStackedFile}
-use Rattle.command_compile.specs.Made.{IsUnitFile}
 use Rattle.command_work.specs.declared.status.Status.{Status}
 use Rattle.command_work.specs.declared.status.Status.TheVariants.{Code}
 use Rattle.command_work.specs.Work.{Does, Finished}
 use Rattle.command_plays.specs.Scripts.{plays_code, plays_file}
 use Rattle.command_meaning.specs.Units.{code_of, IsUnitOf}
-
--- The file of a unit that is typed under a header loads, and its instructions are well stacked under this header, if it is not too large. Nothing is
--- asked of the files that its script was read from.
-abbrev pub UnitFilesAreStacked : Type 0
-UnitFilesAreStacked =
-    (header : EngineTable) (bytes : List ℕ) → IsTable header → IsUnitFile header bytes → length bytes ≤ file_limit → IsStackedFile header bytes
 
 -- A typed unit's file, under the name of its script, was loaded, checked and played, from these contents and taken bytes on.
 pub record PlaysFile (cell : CellLookup) (header : EngineTable) (name : List ℕ) (u : TypedUnit) (c : Contents) (t : List ℕ) (r : Result Finished Status)

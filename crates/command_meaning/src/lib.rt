@@ -18,5 +18,5 @@ mod scene;
 pub use laws::{
     checked_plays_have_no_fault, ends_are_answered, files_play_their_code, listed_units_play_alike,
     runs_end_as_meant, scripts_play_units, starts_play_once, tables_answer_in_types,
-    unit_files_are_stacked, units_are_well_typed, units_pass,
+    units_are_well_typed, units_pass,
 };

@@ -12,7 +12,6 @@ ghost use Rattle.command_run.specs.Runs.{runs_under, runs, StopsRun};
 
 use crate::play::play_file;
 use command_compile::{code_name, read_compiled};
-use command_meaning::unit_files_are_stacked;
 use command_sources::read_table;
 use command_work::Status;
 use hook_table::Hooks;
@@ -74,8 +73,6 @@ fn run_under<F: Files, S: Sink>(
     ensures same { F.contents files.new ≡ F.contents files.old }
     ensures only { IfErr result StopsRun }
 {
-    table.keeps();
-    unit_files_are_stacked();
     match read_compiled(alloc, table, script, files, out) {
         Err(status) => Err(status),
         Ok(bytes) => play_compiled(alloc, table, script, bytes, hooks, out),

@@ -2,25 +2,21 @@
 use Rattle.std.proofs.Common.{◌≡◌, ◌+◌, ℕ, List, [], ◌∷◌, Option, Some, None, slice_get, refl}
 use Rattle.nwq_value.specs.declared.value.Ty.{Ty}
 use Rattle.nwq_value.specs.declared.value.Ty.TheVariants.{Void, Int}
-use Rattle.nwq_value.specs.Engine.{EngineTable, IsTable}
-use Rattle.nss_tree.specs.Source.{SourceTree}
-use Rattle.nss_symbols.specs.Symbols.{Symbol}
-use Rattle.nss_parser.specs.Sentence.{Parses}
+use Rattle.nwq_value.specs.Engine.{EngineTable}
 use Rattle.typing_rules.specs.declared.places.Callee.TheVariants.{Unit as InUnit, Engine}
 use Rattle.typing_rules.specs.declared.places.EntryPoint.{EntryPoint}
 use Rattle.typing_rules.specs.declared.places.EntryPoint.TheVariants.{Main, Conditional}
 use Rattle.typing_rules.specs.declared.places.Place.TheVariants.{Local, Global, Const as IsConst}
-use Rattle.typing_rules.specs.Typed.{TypedUnit, TypedExpr, TypedExprs, TypedName, literal, name, call, member, prefix, postfix, binary, assign, no_typed, more_typed}
+use Rattle.typing_rules.specs.Typed.{TypedExpr, TypedExprs, TypedName, literal, name, call, member, prefix, postfix, binary, assign, no_typed, more_typed}
 use Rattle.typing_rules.specs.Cells.{cells}
 use Rattle.source_meaning.specs.Scripts.{Function, functions, global_names}
 use Rattle.source_laws.specs.Kept.{Site}
 use Rattle.source_laws.specs.Fine.{IsFine, AreFine}
 use Rattle.source_laws.specs.FineStatements.{IsFineValue, AreFineNames}
-use Rattle.typing_rules.specs.Meaning.{TypesUnit}
-use Rattle.emission_laws.specs.WellTyped.{start_site, IsBegin, IsFineEntry, IsWellTyped}
+use Rattle.emission_laws.specs.WellTyped.{start_site, IsBegin, IsFineEntry}
 use Rattle.emission_laws.specs.Laws.{SwitchesFit, FirstValuesCallEngine}
 use Rattle.typed_laws.specs.Laws.{FunctionsArePlaced, GlobalsAreFine, HasEntry, EntriesArePlain}
-use Rattle.command_meaning.specs.Units.{UnitsAreWellTyped}
+use Rattle.unit_laws.specs.Laws.{TypedUnitsAreWellTyped}
 
 -- ---- what is fine where no function can be called is so where some can
 
@@ -66,17 +62,12 @@ fine_entry fs (Conditional f) h = begins fs f Int ((h f).1 refl)
 
 -- ---- the unit
 
-module _ (placed : FunctionsArePlaced) (fine : GlobalsAreFine) (plain : EntriesArePlain) (switches : SwitchesFit) (values : FirstValuesCallEngine) where
-  pub parsed_unit : (header : EngineTable) (tokens : List Symbol) (tree : SourceTree) (u : TypedUnit) → IsTable header → Parses tokens tree → TypesUnit header tree u
-      → IsWellTyped header u
-  parsed_unit header tokens tree u table parses types = record {
-    bodies = λ f fn is.
-        let h = placed header tokens tree u table parses types 0 0 [] f fn is in
-        record { parameters = h.parameters; body = h.fine; switches = switches header tree u types f fn is };
-    names = names_with header (functions u.items) (start_site u) (global_names u.items) 0 [] (fine header tokens tree u table parses types 0 0 []);
-    calls = values header tree u types;
-    entry = fine_entry (functions u.items) u.entry (plain header tree u types);
-  }
-
-  pub units_are_well_typed : UnitsAreWellTyped
-  units_are_well_typed header u table unit = parsed_unit header unit.tokens unit.tree u table unit.parses unit.types
+pub typed_units_are_well_typed : FunctionsArePlaced → GlobalsAreFine → EntriesArePlain → SwitchesFit → FirstValuesCallEngine → TypedUnitsAreWellTyped
+typed_units_are_well_typed placed fine plain switches values header tokens tree u table parses types = record {
+  bodies = λ f fn is.
+      let h = placed header tokens tree u table parses types 0 0 [] f fn is in
+      record { parameters = h.parameters; body = h.fine; switches = switches header tree u types f fn is };
+  names = names_with header (functions u.items) (start_site u) (global_names u.items) 0 [] (fine header tokens tree u table parses types 0 0 []);
+  calls = values header tree u types;
+  entry = fine_entry (functions u.items) u.entry (plain header tree u types);
+}
