@@ -1,9 +1,9 @@
 -- What comes of a typed unit's code does the work of its file.
 use Rattle.std.proofs.Common.{◌≡◌, ◌≤◌, ◌<◌, ℕ, Bool, true, false, inl, List, length, None, Result, Ok, Err, refl, subst, sym}
-use Rattle.std.specs.Prelude.{nat_lt}
+use Rattle.std.specs.Prelude.{IfOk, nat_lt}
 use Rattle.std.proofs.lemmas.Bool.{lt-ltb, le-ltb}
 use Rattle.nwq_value.specs.Limits.{file_limit}
-use Rattle.nwq_value.specs.Engine.{EngineTable}
+use Rattle.nwq_value.specs.Engine.{EngineTable, IsTable}
 use Rattle.nwq_outside.specs.Outside.{Contents}
 use Rattle.ncs_code.specs.File.{file_length}
 use Rattle.ncs_code.specs.Laws.{SizeLaws}
@@ -12,6 +12,9 @@ use Rattle.ncs_emit.specs.declared.fault.EmitFault.TheVariants.{Large, NoMemory}
 use Rattle.ncs_emit.specs.Faults.{Fails}
 use Rattle.ncs_emit.specs.Labelled.{program}
 use Rattle.nss_include.specs.declared.file.Source.{Source}
+use Rattle.nss_include.specs.View.{Gathered}
+use Rattle.nss_tree.specs.Source.{SourceTree}
+use Rattle.unit_laws.specs.Laws.{TypedUnitsPass}
 use Rattle.typing_rules.specs.Typed.{TypedUnit}
 use Rattle.emission_rules.specs.Units.{unit_code, unit_file}
 use Rattle.command_work.specs.declared.cause.Cause.TheVariants as cause
@@ -19,7 +22,10 @@ use Rattle.command_work.specs.declared.status.Status.{Status}
 use Rattle.command_work.specs.declared.status.Status.TheVariants.{Memory}
 use Rattle.command_work.specs.Work.{Does}
 use Rattle.command_work.specs.Parts.{Refuses, cut_here, refused, then_ok}
-use Rattle.command_sources.specs.Units.{PlainScript, at_spot, spot_of}
+use Rattle.command_sources.specs.Units.{PlainScript, at_spot, grammar_symbols, spot_of}
+use Rattle.command_sources.specs.Reading.{HasTree}
+use Rattle.command_files.specs.Checks.{IsStackedFile}
+use Rattle.command_compile.specs.Made.{IsUnitFile, IsTreeFile}
 use Rattle.command_compile.specs.Typings.{typed_in}
 use Rattle.command_compile.specs.Files.{IsTooLarge, compiled_in, file_by, file_in}
 
@@ -65,3 +71,23 @@ typed_then header script unit files r c t t' t'' typed same does =
     then_ok (typed_in header script) (file_in script.files) unit c c c t t' t'' r typed (subst (λ fs. Does (file_in fs unit) c t' r c t'') same does)
 
 pub ruleset files = (file_does, large_does, file_cut)
+
+-- ---- the file of a tree that tokens have
+
+module _ (pass : TypedUnitsPass) (header : EngineTable) (bytes : List ℕ) where
+  unit_stacked : IsTable header → IsUnitFile header bytes → length bytes ≤ file_limit → IsStackedFile header bytes
+  unit_stacked table h small =
+      let both = pass header h.tokens h.tree h.unit table h.parses h.types h.code (subst (λ (b : List ℕ). length b ≤ file_limit) h.is small) in
+      record { ops = program (unit_code h.unit).lines; code = both.0; is = h.is; stacked = both.1 }
+
+  pub tree_stacked : IsTable header → (unit : Gathered) (tree : SourceTree) → HasTree unit tree → IsTreeFile header tree bytes → length bytes ≤ file_limit
+      → IsStackedFile header bytes
+  tree_stacked table unit tree has made small = unit_stacked table (made (grammar_symbols unit.tokens) has.parses) small
+
+-- the same of an answer
+pub answer_stacked : TypedUnitsPass → (header : EngineTable) (r : Result (List ℕ) Status) → IsTable header → (unit : Gathered) (tree : SourceTree) → HasTree unit tree
+    → IfOk r (IsTreeFile header tree) → IfOk r (λ bytes. length bytes ≤ file_limit) → IfOk r (IsStackedFile header)
+answer_stacked pass header (Ok bytes) table unit tree has made small = tree_stacked pass header bytes table unit tree has made small
+answer_stacked pass header (Err status) table unit tree has made small = tt
+
+pub ruleset stacks = (answer_stacked)

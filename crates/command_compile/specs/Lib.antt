@@ -1,3 +1,4 @@
 pub mod Typings
 pub mod Files
+pub mod Made
 pub mod Laws

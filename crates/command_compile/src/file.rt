@@ -2,6 +2,7 @@ ghost use Rattle.std.specs.Prelude.{◌≡◌, ◌<◌, ◌≤◌, ◌^◌, ℕ,
 ghost use Rattle.std.specs.Prelude.{IsTrue, IfErr, IfOk};
 ghost use Rattle.nwq_value.specs.Limits.{file_limit};
 ghost use Rattle.nwq_outside.specs.Outside.{Contents};
+ghost use Rattle.nss_tree.specs.Reading.{plain_tree};
 ghost use Rattle.typing_rules.specs.UnitReading.{typed_unit};
 ghost use Rattle.emission_rules.specs.Units.{unit_file};
 ghost use Rattle.typing_laws.specs.Laws.{HasCode};
@@ -11,6 +12,8 @@ ghost use Rattle.command_work.specs.Counts.{Counted, Tallies, Refusing, StopsSou
 ghost use Rattle.command_sources.specs.Scripts.{plain_script};
 ghost use Rattle.command_compile.specs.Files.{IsTooLarge, file_in, compiled_in, compiled_named};
 ghost use Rattle.command_compile.specs.Files.{code_name, writes_code, compiles_under, compiles};
+ghost use Rattle.command_files.specs.Checks.{IsStackedFile};
+ghost use Rattle.command_compile.specs.Made.{IsTreeFile};
 
 use crate::script::TypedScript;
 use crate::typing::type_script;
@@ -23,6 +26,7 @@ use nwq_outside::{Files, Sink};
 use nwq_value::{Items, NoMemory, Table};
 use std::alloc::Global;
 use typing_rules::Typed;
+use unit_laws::typed_units_pass;
 
 /// The file of a unit.
 #[tactic(auto, using(crate::proofs::FileLemmas::sizes))]
@@ -43,6 +47,7 @@ fn file_of<S: Sink>(alloc: Global, script: &TypedScript, out: &mut S) -> Result<
     ensures does { IsTrue S.tells → (c : Contents) →
         Does (file_in script.now.unit.files (typed_unit script.now.typed)) c
         (S.taken out.old) result c (S.taken out.new) }
+    ensures file { IfOk result (λ bytes. bytes ≡ unit_file (typed_unit script.now.typed)) }
     ensures counts { (counts : FileCounts) → Tallies result (Counted counts (S.faults out.old))
         (Counted counts (S.faults out.new)) }
     ensures small { IfOk result (λ bytes. length bytes ≤ file_limit) }
@@ -66,6 +71,7 @@ pub fn compile_script<S: Sink>(
     ensures does { IsTrue S.tells → (c : Contents) →
         Does (compiled_in table.now (plain_script script)) c
         (S.taken out.old) result c (S.taken out.new) }
+    ensures made { IfOk result (IsTreeFile table.now (plain_tree script.tree)) }
     ensures counts { (counts : FileCounts) → Tallies result (Counted counts (S.faults out.old))
         (Counted counts (S.faults out.new)) }
     ensures small { IfOk result (λ bytes. length bytes ≤ file_limit) }
@@ -78,7 +84,7 @@ pub fn compile_script<S: Sink>(
 }
 
 /// The file of the script of this name under a header.
-#[tactic(auto, using(crate::proofs::Steps::steps), unfolding(crate::specs::Files::compiled_named))]
+#[tactic(auto, using(crate::proofs::Steps::steps, crate::proofs::FileLemmas::stacks), unfolding(crate::specs::Files::compiled_named))]
 pub fn read_compiled<F: Files, S: Sink>(
     alloc: Global,
     table: &Table,
@@ -89,12 +95,16 @@ pub fn read_compiled<F: Files, S: Sink>(
     ensures does { IsTrue F.tells → IsTrue S.tells →
         Does (compiled_named table.now script.now) (F.contents files.old) (S.taken out.old)
         result (F.contents files.new) (S.taken out.new) }
+    // Also where files don't tell what they hold, its instructions are well stacked.
+    ensures stacked { IfOk result (IsStackedFile table.now) }
     ensures counts { Tallies result (Counted (F.counts files.old) (S.faults out.old))
         (Counted (F.counts files.new) (S.faults out.new)) }
     ensures same { F.contents files.new ≡ F.contents files.old }
     ensures small { IfOk result (λ bytes. length bytes ≤ file_limit) }
     ensures only { IfErr result StopsSource }
 {
+    table.keeps();
+    typed_units_pass();
     match read_unit(alloc, script, files, out) {
         Err(status) => Err(status),
         Ok(script) => compile_script(alloc, table, script, out),

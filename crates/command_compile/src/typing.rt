@@ -68,6 +68,8 @@ pub fn type_script<S: Sink>(
         (S.taken out.old) (plain_answer result) c (S.taken out.new) }
     ensures same { IfOk result (λ typed. typed.unit ≡ script.unit) }
     ensures code { IfOk result (λ typed. HasCode (typed_unit typed.typed)) }
+    ensures types { IfOk result
+        (λ typed. TypesUnit table.now (plain_tree script.tree) (typed_unit typed.typed)) }
     ensures counts { (counts : FileCounts) → Tallies result (Counted counts (S.faults out.old))
         (Counted counts (S.faults out.new)) }
     ensures only { IfErr result (Refusing Status.Script) }

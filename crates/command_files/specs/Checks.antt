@@ -1,8 +1,9 @@
 -- The file of bytecode that a command names, checked under a header.
-use Rattle.std.specs.Prelude.{ℕ, List, length, ◌++◌, codes, decimal, Result, Ok, Err}
+use Rattle.std.specs.Prelude.{◌≡◌, ℕ, List, length, ◌++◌, codes, decimal, Result, Ok, Err}
 use Rattle.nwq_value.specs.Engine.{EngineTable}
 use Rattle.nwq_outside.specs.Outside.{Contents}
 use Rattle.ncs_code.specs.Plain.{PlainOp}
+use Rattle.ncs_code.specs.File.{IsCode, file_bytes}
 use Rattle.stack_rules.specs.Rules.{WellStacked}
 use Rattle.stack_check.specs.Checked.{CheckedCode}
 use Rattle.command_work.specs.declared.flaw.CodeFlaw.TheVariants as flaw
@@ -38,6 +39,13 @@ checked_named header name = then (code_named name) (checked_in header name)
 -- the bytes of the file of this name are its instructions, which are checked under a header
 unfoldable pub loaded_in : EngineTable → List ℕ → List ℕ → Work (List PlainOp)
 loaded_in header name bytes = then (code_in name bytes) (checked_in header name)
+
+-- these are the bytes of a file whose instructions are well stacked under a header
+pub record IsStackedFile (header : EngineTable) (bytes : List ℕ) : Type 0 where
+  pub ops : List PlainOp
+  pub code : IsCode ops
+  pub is : bytes ≡ file_bytes ops
+  pub stacked : WellStacked header ops
 
 -- ---- the command
 

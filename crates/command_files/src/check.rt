@@ -1,7 +1,7 @@
 ghost use Rattle.std.specs.Prelude.{◌≡◌, ◌++◌, ℕ, length, codes, decimal, IsTrue, IfOk, IfErr};
 ghost use Rattle.nwq_outside.specs.Outside.{Contents};
 ghost use Rattle.stack_rules.specs.Tables.{ShapeTable};
-ghost use Rattle.stack_rules.specs.Rules.{MeetsRules};
+ghost use Rattle.stack_rules.specs.Rules.{MeetsRules, WellStacked};
 ghost use Rattle.stack_check.specs.Checked.{StoredStand, kept_table};
 ghost use Rattle.nwq_outside.specs.declared.counts.FileCounts.{FileCounts};
 ghost use Rattle.command_work.specs.Work.{Does, CutsShort};
@@ -40,6 +40,8 @@ pub fn check_code<S: Sink>(
     ensures stored { IfOk result (λ checked. (other : ShapeTable) →
         MeetsRules table.now checked.code other → StoredStand (kept_table checked) other) }
     ensures only { IfErr result (Refusing Status.Code) }
+    // Code that is well stacked is never refused.
+    ensures passes { WellStacked table.now code → IfErr result CutsShort }
 {
     match check(alloc, code, table) {
         Ok(checked) => Ok(checked),

@@ -1,8 +1,10 @@
-ghost use Rattle.std.specs.Prelude.{◌≡◌, ◌≤◌, ℕ, length, IsTrue, IfErr};
+ghost use Rattle.std.specs.Prelude.{◌≡◌, ◌≤◌, ℕ, List, length, IsTrue, IfOk, IfErr};
 ghost use Rattle.nwq_value.specs.Limits.{file_limit};
 ghost use Rattle.nwq_outside.specs.Outside.{Contents};
+ghost use Rattle.ncs_code.specs.Plain.{PlainOp};
+ghost use Rattle.ncs_code.specs.File.{IsCode, file_bytes};
 ghost use Rattle.nwq_outside.specs.declared.counts.FileCounts.{FileCounts};
-ghost use Rattle.command_work.specs.Work.{Does};
+ghost use Rattle.command_work.specs.Work.{Does, CutsShort};
 ghost use Rattle.command_work.specs.Counts.{Counted, Tallies, Refusing, StopsCode};
 ghost use Rattle.command_files.specs.Codes.{load_flaw, code_in, code_named};
 
@@ -41,6 +43,11 @@ pub fn code_of_bytes<S: Sink>(
     ensures counts { (counts : FileCounts) → Tallies result (Counted counts (S.faults out.old))
         (Counted counts (S.faults out.new)) }
     ensures only { IfErr result (Refusing Status.Code) }
+    // The bytes of a file are refused never, and its instructions are loaded.
+    ensures one { (ops : List PlainOp) → IsCode ops → bytes.items ≡ file_bytes ops →
+        IfOk result (λ code. code ≡ ops) }
+    ensures whole { (ops : List PlainOp) → IsCode ops → bytes.items ≡ file_bytes ops →
+        IfErr result CutsShort }
 {
     match load(alloc, bytes) {
         Ok(code) => Ok(code),

@@ -6,9 +6,9 @@ ghost use Rattle.stack_rules.specs.Tables.{ShapeTable};
 ghost use Rattle.stack_rules.specs.Rules.{MeetsRules};
 ghost use Rattle.stack_check.specs.Checked.{StoredStand, kept_table};
 ghost use Rattle.nwq_outside.specs.declared.counts.FileCounts.{FileCounts};
-ghost use Rattle.command_work.specs.Work.{Does};
+ghost use Rattle.command_work.specs.Work.{Does, CutsShort};
 ghost use Rattle.command_work.specs.Counts.{Counted, Tallies, Refusing};
-ghost use Rattle.command_files.specs.Checks.{loaded_in, plain_answer};
+ghost use Rattle.command_files.specs.Checks.{loaded_in, plain_answer, IsStackedFile};
 
 use crate::check::check_code;
 use crate::code_of_bytes;
@@ -39,6 +39,8 @@ pub fn load_checked<S: Sink>(
     ensures stored { IfOk result (λ checked. (other : ShapeTable) →
         MeetsRules table.now checked.code other → StoredStand (kept_table checked) other) }
     ensures only { IfErr result (Refusing Status.Code) }
+    // A file of well stacked instructions is never refused.
+    ensures passes { IsStackedFile table.now bytes.items → IfErr result CutsShort }
 {
     match code_of_bytes(alloc, name, bytes, out) {
         Err(status) => Err(status),

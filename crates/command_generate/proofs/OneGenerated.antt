@@ -9,8 +9,7 @@ use Rattle.world_rules.specs.Pure.{CellLookup}
 use Rattle.world_rules.specs.Plays.{PlayEnd, Done, OutOfEntries, StoppedInside, Paused, Played}
 use Rattle.play_generator.specs.Made.{play_of}
 use Rattle.command_work.specs.declared.status.Status.{Status}
-use Rattle.command_work.specs.Work.{IsCut}
-use Rattle.command_work.specs.Outcomes.{IsSure, Agrees, agree, sure_then}
+use Rattle.command_work.specs.Outcomes.{IsSure, agree, sure_then}
 use Rattle.command_compile.specs.Files.{compiled_named}
 use Rattle.command_compile.specs.Laws.{SureCompiled}
 use Rattle.command_files.specs.Checks.{loaded_in}
@@ -18,7 +17,7 @@ use Rattle.command_files.specs.CheckLaws.{SureLoaded}
 use Rattle.play_worlds.specs.Worlds.{plan_world}
 use Rattle.command_plays.specs.Plays.{ends_by, played}
 use Rattle.command_plays.specs.Scripts.{listed}
-use Rattle.command_generate.specs.Generated.{files_with, Compiles, SourceFate, Whole, Faulty, IsSourceFate, whole, faulty, source_by, source_compiled, plan_of, made_area, tells, plays_made, checks_made, generates}
+use Rattle.command_generate.specs.Generated.{files_with, IsFileOf, source_compiled, plan_of, made_area, tells, plays_made, checks_made, generates}
 use Rattle.command_generate.specs.Laws.{SureGenerated}
 
 -- ---- the source
@@ -30,39 +29,21 @@ abbrev file_or : List ℕ → Answer → List ℕ
 file_or other (Ok file) = file
 file_or other (Err status) = other
 
-abbrev Gave : Answer → Type 0
-Gave (Ok file) = Unit {0}
-Gave (Err status) = ⊥
-
 abbrev Same : Answer → Answer → Type 0
 Same r s = r ≡ s
 
 ok_same : (f g : List ℕ) → Same (Ok f) (Ok g) → f ≡ g
 ok_same f g e = ap (file_or f) e
 
-ok_not_err : (f : List ℕ) (s : Status) → Same (Ok f) (Err s) → ⊥
-ok_not_err f s e = subst Gave e tt
-
-module _ (compiled : SureCompiled) (source : List ℕ) where
-  one_answer : (r s : Result (List ℕ) Status) (t u : List ℕ) → (IsCut r → ⊥) → (IsCut s → ⊥) → Compiles source r t → Compiles source s u
-      → Agrees r s (files_with source) (files_with source) t u
-  one_answer r s t u whole_r whole_s x y =
-      agree (compiled_named header_table (codes "beat")) (compiled header_table (codes "beat")) r s (files_with source) (files_with source) (files_with source)
-      [] t u whole_r whole_s x y
-
-  one_fate : {a b : SourceFate} → IsSourceFate source a → IsSourceFate source b → a ≡ b
-  one_fate (whole f t x) (whole g u y) = ap Whole (ok_same f g (one_answer (Ok f) (Ok g) t u (λ cut. cut) (λ cut. cut) x y).answer)
-  one_fate (whole f t x) (faulty s l n y) = absurd (ok_not_err f s (one_answer (Ok f) (Err s) t l (λ cut. cut) n x y).answer)
-  one_fate (faulty s l n x) (whole f t y) = absurd (ok_not_err f s (sym (one_answer (Err s) (Ok f) l t n (λ cut. cut) x y).answer))
-  one_fate (faulty s l n x) (faulty r m k y) = ap Faulty (one_answer (Err s) (Err r) l m n k x y).taken
-
-sure_by : (fate : SourceFate) → IsSure (source_by fate)
-sure_by (Whole file) = tt
-sure_by (Faulty line) = tt
+one_file : SureCompiled → (source f g : List ℕ) → IsFileOf source f → IsFileOf source g → f ≡ g
+one_file compiled source f g x y =
+    ok_same f g
+    (agree (compiled_named header_table (codes "beat")) (compiled header_table (codes "beat")) (Ok f) (Ok g) (files_with source) (files_with source) (files_with source)
+    [] x.text y.text (λ cut. cut) (λ cut. cut) x.compiled y.compiled).answer
 
 sure_source : SureCompiled → (source : List ℕ) → IsSure (source_compiled source)
 unfolding source_compiled
-sure_source compiled source = (λ (c : Contents) a b p q. one_fate compiled source p q, sure_by)
+sure_source compiled source = (λ (c : Contents) f g x y. one_file compiled source f g x y, λ file. tt)
 
 -- ---- the play
 

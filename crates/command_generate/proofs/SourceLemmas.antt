@@ -1,79 +1,100 @@
--- A source that is compiled over files of its own.
-use Rattle.std.proofs.Common.{◌≡◌, ◌≢◌, ℕ, inl, inr, true, false, List, [], ◌++◌, codes, Result, Ok, Err, refl, ap, subst, ◌∙◌, arith}
+-- The source of a number, compiled over files of its own: it is never refused.
+use Rattle.std.proofs.Common.{◌≡◌, ◌≢◌, ℕ, inl, inr, true, false, Bool, List, [], codes, cond, Result, Ok, Err, Some, Option, refl, ap, sym, subst, ◌⊎◌, ◌∙◌, arith}
+use Rattle.std.proofs.lemmas.Bool.{le-ltb}
+use Rattle.std.proofs.lemmas.Cmp.{nat_list_cmp_total}
+use Rattle.std.specs.Prelude.{length, nat_lt}
+use Rattle.std.specs.FinMap as fin_map
 use Rattle.nwq_value.specs.Engine.{EngineTable}
 use Rattle.nwq_value.specs.HeaderTable.{header_table}
+use Rattle.nwq_value.specs.Limits.{file_limit}
 use Rattle.nwq_outside.specs.declared.counts.FileCounts.{FileCounts}
-use Rattle.nwq_outside.specs.Outside.{Contents, TookPrefix}
+use Rattle.nwq_outside.specs.Outside.{Contents}
+use Rattle.nss_include.specs.declared.file.Source.{Source}
+use Rattle.emission_rules.specs.Units.{unit_file}
+use Rattle.play_generator.specs.Made.{play_of}
 use Rattle.command_work.specs.declared.status.Status.{Status}
 use Rattle.command_work.specs.declared.status.Status.TheVariants.{Done, Words, Script, Code, Area, Limit, Missing, Fault, Memory, Long}
 use Rattle.command_work.specs.Work.{Does, CutsShort}
-use Rattle.command_work.specs.Counts.{Counted, TalliesEnd, Refusing}
-use Rattle.command_work.specs.Parts.{cut_here}
-use Rattle.command_compile.specs.Files.{compiled_named}
-use Rattle.command_generate.specs.Generated.{files_with, faultless, Compiles, Faulty, Whole, faulty, whole, source_compiled, cuts}
+use Rattle.command_work.specs.Counts.{Counted, TalliesEnd}
+use Rattle.command_work.specs.Outcomes.{agree}
+use Rattle.command_sources.specs.Units.{Whole as IsScript, unit_of}
+use Rattle.command_compile.specs.Typings.{Whole as IsTyped, whole as typed, typed_in}
+use Rattle.command_compile.specs.Files.{file_by, file_in, compiled_in, compiled_named}
+use Rattle.command_compile.specs.Laws.{SureCompiled}
+use Rattle.generator_laws.specs.Scripts.{BeatCompiles, SourcesCompile}
+use Rattle.command_generate.specs.Generated.{files_with, faultless, Compiles, IsMadeSource, IsFileOf, source_compiled}
 
--- ---- which statuses cut a work short
+-- ---- a source that has a file
 
-pub is_cut : (s : Status) → true ≡ cuts s → CutsShort s
-is_cut Done e = absurd cc
-is_cut Words e = absurd cc
-is_cut Script e = absurd cc
-is_cut Code e = absurd cc
-is_cut Area e = absurd cc
-is_cut Limit e = absurd cc
-is_cut Missing e = absurd cc
-is_cut Fault e = tt
-is_cut Memory e = tt
-is_cut Long e = absurd cc
+module _ (c : Contents) (h : BeatCompiles c) where
+  file_does : (files : List Source) (b : Bool) → b ≡ false → Does (file_by files b (unit_file h.unit)) c [] (Ok (unit_file h.unit)) c []
+  file_does files true e = absurd cc
+  file_does files false e = (inl refl, (refl, refl))
 
-not_cut : (s : Status) → false ≡ cuts s → CutsShort s → ⊥
-not_cut Done e cut = cut
-not_cut Words e cut = cut
-not_cut Script e cut = cut
-not_cut Code e cut = cut
-not_cut Area e cut = cut
-not_cut Limit e cut = cut
-not_cut Missing e cut = cut
-not_cut Fault e cut = absurd cc
-not_cut Memory e cut = absurd cc
-not_cut Long e cut = cut
+  beat_does : Does (compiled_named header_table (codes "beat")) c [] (Ok (unit_file h.unit)) c []
+  unfolding compiled_named unit_of compiled_in typed_in file_in
+  beat_does =
+      inr (record {
+        found = IsScript h.script;
+        is = h.is;
+        goes = inr (record {
+          found = IsTyped h.unit;
+          is = typed h.unit h.types;
+          goes = file_does h.script.files (nat_lt file_limit (length (unit_file h.unit))) (le-ltb file_limit (length (unit_file h.unit)) h.small);
+        });
+      })
 
--- ---- a source that is refused
+-- the file is there
+held : (source : List ℕ) → fin_map.get (files_with source) (codes "beat.nss") ≡ Some source
+held source = fin_map.get-insert nat_list_cmp_total fin_map.empty (codes "beat.nss") source (codes "beat.nss")
 
-module _ (s : Status) (whole_status : false ≡ cuts s) (source line : List ℕ) (compiled : Compiles source (Err s) line) (c : Contents) (t t' : List ℕ) where
-  pub line_put : t' ≡ t ++ line → Does (source_compiled source) c t (Err Script) c t'
-  unfolding source_compiled
-  line_put taken = inr (record { found = Faulty line; is = faulty s line (not_cut s whole_status) compiled; goes = inr (inl refl, (refl, taken)) })
+made_does : SourcesCompile → (source : List ℕ) → IsMadeSource source → (file : List ℕ) × Compiles source (Ok file) []
+made_does law source made =
+    let h = law made.number (files_with source) made.few (held source ∙ ap Some made.is) in (unit_file h.unit, beat_does (files_with source) h)
 
-  pub line_cut : (cut : Status) → CutsShort cut × TookPrefix line t t' → Does (source_compiled source) c t (Err cut) c t'
-  unfolding source_compiled
-  line_cut cut h = inr (record { found = Faulty line; is = faulty s line (not_cut s whole_status) compiled; goes = inl (h.0, refl, h.1) })
+-- ---- so only want of memory stops the work
 
-pub source_cut : (s : Status) (source : List ℕ) (c : Contents) (t : List ℕ) → CutsShort s → Does (source_compiled source) c t (Err s) c t
-source_cut s source c t cut = cut_here (source_compiled source) s c c t t cut refl refl
+cut_or_not : (s : Status) → CutsShort s ⊎ (CutsShort s → ⊥)
+cut_or_not Done = inr (λ cut. cut)
+cut_or_not Words = inr (λ cut. cut)
+cut_or_not Script = inr (λ cut. cut)
+cut_or_not Code = inr (λ cut. cut)
+cut_or_not Area = inr (λ cut. cut)
+cut_or_not Limit = inr (λ cut. cut)
+cut_or_not Missing = inr (λ cut. cut)
+cut_or_not Fault = inl tt
+cut_or_not Memory = inl tt
+cut_or_not Long = inr (λ cut. cut)
 
--- only want of memory leaves the counts
-pub cut_counts : (s : Status) (files : FileCounts) (puts : ℕ) → s ≢ Fault → CutsShort s
-    → TalliesEnd s (Counted files puts) (Counted files puts)
-cut_counts Done files puts other cut = absurd cut
-cut_counts Words files puts other cut = absurd cut
-cut_counts Script files puts other cut = absurd cut
-cut_counts Code files puts other cut = absurd cut
-cut_counts Area files puts other cut = absurd cut
-cut_counts Limit files puts other cut = absurd cut
-cut_counts Missing files puts other cut = absurd cut
-cut_counts Fault files puts other cut = absurd (other refl)
-cut_counts Memory files puts other cut = (inl refl, refl)
-cut_counts Long files puts other cut = absurd cut
+memory_left : (s : Status) → CutsShort s → s ≢ Fault → s ≡ Memory
+memory_left Done cut other = absurd cut
+memory_left Words cut other = absurd cut
+memory_left Script cut other = absurd cut
+memory_left Code cut other = absurd cut
+memory_left Area cut other = absurd cut
+memory_left Limit cut other = absurd cut
+memory_left Missing cut other = absurd cut
+memory_left Fault cut other = absurd (other refl)
+memory_left Memory cut other = refl
+memory_left Long cut other = absurd cut
 
-pub cut_refuses : (s : Status) → CutsShort s → Refusing Script s
-cut_refuses s cut = inr cut
+abbrev Gave : Result (List ℕ) Status → Type 0
+Gave (Ok file) = Unit {0}
+Gave (Err status) = ⊥
 
-pub ruleset refuses = (is_cut, line_put, line_cut, source_cut, cut_counts, cut_refuses)
+cuts_alone : SourcesCompile → SureCompiled → (source : List ℕ) → IsMadeSource source → (s : Status) (text : List ℕ) → Compiles source (Err s) text → CutsShort s
+cuts_alone law sure source made s text compiled = by_case (cut_or_not s)
+  where
+    by_case : CutsShort s ⊎ (CutsShort s → ⊥) → CutsShort s
+    by_case (inl cut) = cut
+    by_case (inr plain) =
+        let (file, does) = made_does law source made in
+        let same = agree (compiled_named header_table (codes "beat")) (sure header_table (codes "beat")) (Ok file) (Err s) (files_with source) (files_with source)
+        (files_with source) [] [] text (λ cut. cut) plain does compiled in
+        absurd (subst Gave same.answer tt)
 
--- ---- files and a sink without faults
-
-pub no_fault : (s : Status) (absences longs absences' longs' : ℕ)
+-- files and a sink in memory have no faults
+no_fault : (s : Status) (absences longs absences' longs' : ℕ)
     → TalliesEnd s (Counted (faultless absences longs) 0) (Counted (faultless absences' longs') 0) → s ≢ Fault
 no_fault s absences longs absences' longs' tallies is =
     by_case (subst (λ x. TalliesEnd x (Counted (faultless absences longs) 0) (Counted (faultless absences' longs') 0)) is tallies)
@@ -85,15 +106,23 @@ no_fault s absences longs absences' longs' tallies is =
 -- ---- a source that is compiled
 
 module _ (header : EngineTable) (built_in : header ≡ header_table) (source : List ℕ) (files after : Contents) (is : files ≡ files_with source) (same : after ≡ files) where
-  pub compiled_so : (r : Result (List ℕ) Status) (t t' : List ℕ) → t ≡ [] → Does (compiled_named header (codes "beat")) files t r after t' → Compiles source r t'
+  compiled_so : (r : Result (List ℕ) Status) (t t' : List ℕ) → t ≡ [] → Does (compiled_named header (codes "beat")) files t r after t' → Compiles source r t'
   compiled_so r t t' nothing does =
       subst (λ h. Does (compiled_named h (codes "beat")) (files_with source) [] r (files_with source) t') built_in
       (subst (λ x. Does (compiled_named header (codes "beat")) (files_with source) x r (files_with source) t') nothing
       (subst (λ d. Does (compiled_named header (codes "beat")) (files_with source) t r d t') (same ∙ is)
       (subst (λ d. Does (compiled_named header (codes "beat")) d t r after t') is does)))
 
-pub file_made : (source file text : List ℕ) (c : Contents) (t : List ℕ) → Compiles source (Ok file) text → Does (source_compiled source) c t (Ok file) c t
-unfolding source_compiled
-file_made source file text c t compiled = inr (record { found = Whole file; is = whole file text compiled; goes = (inl refl, (refl, refl)) })
+  pub file_of : (file t t' : List ℕ) → t ≡ [] → Does (compiled_named header (codes "beat")) files t (Ok file) after t' → IsFileOf source file
+  file_of file t t' nothing does = record { text = t'; compiled = compiled_so (Ok file) t t' nothing does }
 
-pub ruleset compiles = (no_fault, compiled_so, file_made)
+  pub want_alone : SourcesCompile → SureCompiled → IsMadeSource source → (s : Status) (t t' : List ℕ) → t ≡ [] → Does (compiled_named header (codes "beat")) files t (Err s) after t'
+      → (absences longs absences' longs' : ℕ) → TalliesEnd s (Counted (faultless absences longs) 0) (Counted (faultless absences' longs') 0) → s ≡ Memory
+  want_alone law sure made s t t' nothing does absences longs absences' longs' tallies =
+      memory_left s (cuts_alone law sure source made s t' (compiled_so (Err s) t t' nothing does)) (no_fault s absences longs absences' longs' tallies)
+
+pub found_does : (source file : List ℕ) (c : Contents) (t : List ℕ) → IsFileOf source file → Does (source_compiled source) c t (Ok file) c t
+unfolding source_compiled
+found_does source file c t is = inr (record { found = file; is = is; goes = (inl refl, (refl, refl)) })
+
+pub ruleset compiles = (file_of, want_alone)

@@ -9,8 +9,8 @@ use Rattle.command_generate.specs.Generated.{StopsGenerate}
 cut_stops : (s : Status) → CutsShort s → StopsGenerate s
 cut_stops Done cut = absurd cut
 cut_stops Words cut = absurd cut
-cut_stops Script cut = tt
-cut_stops Code cut = tt
+cut_stops Script cut = absurd cut
+cut_stops Code cut = absurd cut
 cut_stops Area cut = absurd cut
 cut_stops Limit cut = tt
 cut_stops Missing cut = absurd cut
@@ -18,16 +18,10 @@ cut_stops Fault cut = tt
 cut_stops Memory cut = tt
 cut_stops Long cut = absurd cut
 
-pub source_stops : (s : Status) → Refusing Script s → StopsGenerate s
-source_stops s (inl is) = subst StopsGenerate (sym is) tt
-source_stops s (inr cut) = cut_stops s cut
-
-pub code_stops : (s : Status) → Refusing Code s → StopsGenerate s
-code_stops s (inl is) = subst StopsGenerate (sym is) tt
-code_stops s (inr cut) = cut_stops s cut
-
 pub limit_stops : (s : Status) → Refusing Limit s → StopsGenerate s
 limit_stops s (inl is) = subst StopsGenerate (sym is) tt
 limit_stops s (inr cut) = cut_stops s cut
 
-pub ruleset stops = (source_stops, code_stops, limit_stops)
+-- and a part of it that only a limit stops
+pub cut_refuses : (s : Status) → CutsShort s → Refusing Limit s
+cut_refuses s cut = inr cut

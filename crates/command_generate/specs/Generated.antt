@@ -1,5 +1,5 @@
 -- The command `generate`: the play that is made from a number is compiled, checked and played, and a summary of it is put.
-use Rattle.std.specs.Prelude.{ℕ, ◌*◌, ◌==◌, Bool, true, false, List, [], ◌∷◌, ◌++◌, length, count_by, codes, Result, Ok, Err}
+use Rattle.std.specs.Prelude.{◌≡◌, ◌≤◌, ℕ, ◌*◌, ◌==◌, List, [], ◌∷◌, ◌++◌, length, count_by, codes, Result, Ok}
 use Rattle.std.specs.FinMap as map
 use Rattle.std.specs.Fmt.{decimal}
 use Rattle.nwq_value.specs.HeaderTable.{header_table}
@@ -13,11 +13,11 @@ use Rattle.world_rules.specs.Trace.{trace_text}
 use Rattle.plan_text.specs.declared.plan.Plan.{Plan}
 use Rattle.world_rules.specs.Plays.{Played}
 use Rattle.world_rules.specs.EndText.{end_line}
-use Rattle.play_generator.specs.Made.{creatures_of, rounds_of, area_tree, play_of}
+use Rattle.play_generator.specs.Made.{creatures_of, number_limit, rounds_of, area_tree, play_of}
 use Rattle.play_generator.specs.Reads.{plan_made}
 use Rattle.command_work.specs.declared.status.Status.{Status}
-use Rattle.command_work.specs.declared.status.Status.TheVariants.{Script, Code, Limit, Fault, Memory}
-use Rattle.command_work.specs.Work.{Work, Gives, Ends, Puts, Finds, then, CutsShort, Does, Finished}
+use Rattle.command_work.specs.declared.status.Status.TheVariants.{Limit}
+use Rattle.command_work.specs.Work.{Work, Gives, Puts, Finds, then, CutsShort, Does, Finished}
 use Rattle.command_compile.specs.Files.{compiled_named}
 use Rattle.command_files.specs.Checks.{loaded_in}
 use Rattle.play_worlds.specs.Worlds.{plan_world}
@@ -38,22 +38,20 @@ faultless absences longs = record { faults = 0; absences = absences; longs = lon
 abbrev pub Compiles : List ℕ → Result (List ℕ) Status → List ℕ → Type 0
 Compiles source answer text = Does (compiled_named header_table (codes "beat")) (files_with source) [] answer (files_with source) text
 
--- what comes of a source: its file of bytecode, or the line by which it is refused
-pub data SourceFate : Type 0 where
-  Whole : (file : List ℕ) → SourceFate
-  Faulty : (line : List ℕ) → SourceFate
+-- the source of a number
+pub record IsMadeSource (source : List ℕ) : Type 0 where
+  pub number : ℕ
+  pub few : number ≤ number_limit
+  pub is : source ≡ (play_of number).source
 
-pub data IsSourceFate (source : List ℕ) : SourceFate → Type 0 where
-  whole : (file text : List ℕ) → Compiles source (Ok file) text → IsSourceFate source (Whole file)
-  faulty : (status : Status) (line : List ℕ) → (CutsShort status → ⊥) → Compiles source (Err status) line → IsSourceFate source (Faulty line)
+-- the source has this file of bytecode
+pub record IsFileOf (source file : List ℕ) : Type 0 where
+  pub text : List ℕ
+  pub compiled : Compiles source (Ok file) text
 
-abbrev pub source_by : SourceFate → Work (List ℕ)
-source_by (Whole file) = Gives file
-source_by (Faulty line) = Puts line (Ends Script)
-
--- the file of a source, for which no file is read
+-- The file of a source, for which no file is read. The source of each number has one.
 unfoldable pub source_compiled : List ℕ → Work (List ℕ)
-source_compiled source = Finds (λ (c : Contents) fate. IsSourceFate source fate) source_by
+source_compiled source = Finds (λ (c : Contents) file. IsFileOf source file) Gives
 
 -- ---- the summary
 
@@ -99,16 +97,7 @@ checks_made cell n file = then (loaded_in header_table (codes "beat.ncs") file) 
 unfoldable pub generates : CellLookup → ℕ → Work Finished
 generates cell n = then (source_compiled (play_of n).source) (checks_made cell n)
 
--- the statuses by which a work is cut short
-abbrev pub cuts : Status → Bool
-cuts Fault = true
-cuts Memory = true
-cuts _ = false
-
--- What stops it: the source or its code is refused, a limit ended the play, or the work is cut. No law says yet that each source has a
--- file, and that the check passes it; once one does, `Script` and `Code` go away here.
+-- What stops it: a limit ended the play, or the work is cut. The source is never refused, nor its file.
 abbrev pub StopsGenerate : Status → Type 0
-StopsGenerate Script = Unit {0}
-StopsGenerate Code = Unit {0}
 StopsGenerate Limit = Unit {0}
 StopsGenerate status = CutsShort status

@@ -7,7 +7,8 @@ ghost use Rattle.world_core.specs.Calls.{AreServing, cells_of};
 ghost use Rattle.play_generator.specs.Made.{number_limit, play_of};
 ghost use Rattle.nwq_outside.specs.declared.counts.FileCounts.{FileCounts};
 ghost use Rattle.command_work.specs.Work.{Does};
-ghost use Rattle.command_work.specs.Counts.{Counted, Tallies};
+ghost use Rattle.command_work.specs.Counts.{Counted, Tallies, Refusing};
+ghost use Rattle.command_files.specs.Checks.{IsStackedFile};
 ghost use Rattle.command_generate.specs.Generated.{checks_made, generates, StopsGenerate};
 
 use crate::play::play_code;
@@ -22,7 +23,7 @@ use play_generator::{Made, make};
 use std::alloc::Global;
 
 /// Checks and plays the file of bytecode of a made play's source.
-#[tactic(auto, using(crate::proofs::Steps::steps, crate::proofs::StopLemmas::stops), unfolding(crate::specs::Generated::checks_made))]
+#[tactic(auto, using(crate::proofs::Steps::steps, crate::proofs::StopLemmas::cut_refuses), unfolding(crate::specs::Generated::checks_made))]
 fn play_file<S: Sink>(
     alloc: Global,
     table: &Table,
@@ -36,13 +37,14 @@ fn play_file<S: Sink>(
     requires number { number ≤ number_limit }
     requires made { made.now ≡ play_of number }
     requires small { length bytes.items ≤ file_limit }
+    requires stacked { IsStackedFile table.now bytes.items }
     requires hooks { AreServing (map (λ h. h.known) hooks.now.all.items) }
     ensures does { IsTrue S.tells → (c : Contents) →
         Does (checks_made (cells_of (map (λ h. h.known) hooks.now.all.items)) number bytes.items)
         c (S.taken out.old) result c (S.taken out.new) }
     ensures counts { (counts : FileCounts) → Tallies result (Counted counts (S.faults out.old))
         (Counted counts (S.faults out.new)) }
-    ensures only { IfErr result StopsGenerate }
+    ensures only { IfErr result (Refusing Status.Limit) }
 {
     match load_checked(alloc, table, b"beat.ncs", bytes, out) {
         Err(status) => Err(status),
@@ -51,7 +53,7 @@ fn play_file<S: Sink>(
 }
 
 /// Compiles, checks and plays a made play under the built-in header.
-#[tactic(auto, using(crate::proofs::Steps::steps, crate::proofs::StopLemmas::stops), unfolding(crate::specs::Generated::generates))]
+#[tactic(auto, using(command_work::specs::Parts::cut_here, crate::proofs::StopLemmas::limit_stops))]
 fn play_made<S: Sink>(
     alloc: Global,
     table: &Table,
@@ -71,8 +73,8 @@ fn play_made<S: Sink>(
         (Counted counts (S.faults out.new)) }
     ensures only { IfErr result StopsGenerate }
 {
-    match compile_source(alloc, table, made.source(), out) {
-        Err(status) => Err(status),
+    match compile_source(alloc, table, made.source()) {
+        Err(NoMemory) => Err(Status::Memory),
         Ok(bytes) => play_file(alloc, table, number, made, bytes.into_vec(), hooks, out),
     }
 }

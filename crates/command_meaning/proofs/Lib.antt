@@ -1,4 +1,3 @@
-mod WellTyped
 mod Answers
 mod Passing
 mod Telling

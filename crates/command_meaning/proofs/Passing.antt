@@ -1,13 +1,10 @@
 -- The file of a typed unit loads and passes the checker, so its play is that of its code.
-use Rattle.std.proofs.Common.{◌≡◌, ◌≤◌, inl, inr, ℕ, List, Result, Ok, Err, subst, refl}
-use Rattle.nwq_value.specs.Limits.{file_limit}
+use Rattle.std.proofs.Common.{◌≡◌, inl, inr, ℕ, List, Result, Ok, Err, subst, refl}
 use Rattle.nwq_value.specs.Engine.{EngineTable}
 use Rattle.nwq_outside.specs.Outside.{Contents}
-use Rattle.ncs_code.specs.Laws.{SizeLaws}
 use Rattle.typing_rules.specs.Typed.{TypedUnit}
 use Rattle.emission_rules.specs.Units.{unit_file}
-use Rattle.emission_rules.specs.Laws.{FileIsCode}
-use Rattle.emission_laws.specs.Laws.{UnitsAreWellStacked}
+use Rattle.unit_laws.specs.Laws.{TypedUnitsAreWellTyped, TypedUnitsPass}
 use Rattle.typing_laws.specs.Laws.{EachTypedUnitHasCode}
 use Rattle.command_files.specs.Codes.{Whole, whole, code_by, code_in}
 use Rattle.command_files.specs.Checks.{CheckFate, Passes as PassesCheck, Unstacked, IsCheckFate, passes, unstacked, check_by, checked_in, loaded_in}
@@ -23,13 +20,14 @@ use Rattle.command_meaning.specs.Files.{FilesPlayTheirCode}
 
 -- ---- the file
 
-pub units_pass : UnitsAreWellTyped → UnitsAreWellStacked → EachTypedUnitHasCode → FileIsCode → SizeLaws → UnitsPass
-units_pass typed stacked bounds code sizes header u table unit small =
+pub units_are_well_typed : TypedUnitsAreWellTyped → UnitsAreWellTyped
+units_are_well_typed typed header u table unit = typed header unit.tokens unit.tree u table unit.parses unit.types
+
+pub units_pass : TypedUnitsPass → EachTypedUnitHasCode → UnitsPass
+units_pass pass bounds header u table unit small =
     let has = bounds unit.tokens header unit.tree u unit.few unit.literals table unit.parses unit.types in
-    record {
-      loads = code u has.bounded (subst (λ n. n ≤ file_limit) (sizes.file (code_of u)) small);
-      stacked = stacked header u has.bounded (typed header u table unit);
-    }
+    let h = pass header unit.tokens unit.tree u table unit.parses unit.types has small in
+    record { loads = h.0; stacked = h.1 }
 
 -- ---- its play
 

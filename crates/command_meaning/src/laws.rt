@@ -11,17 +11,14 @@ ghost use Rattle.command_meaning.specs.Units.{TablesAnswerInTypes, UnitsAreWellT
 
 use crate::scene::Scene;
 use command_plays::laws::one_code;
-use emission_laws::{typed_units_fit, units_are_well_stacked};
-use emission_rules::laws::file_is_code;
-use ncs_code::size_laws;
 use ncs_machine::{calls_keep_fits, entries_keep_fits};
 use nss_lexer::laws::values_are_bytes;
 use play_meaning::{code_plays_end, end_texts_agree, source_plays_end, typed_scripts_are_ready};
 use saved_state::Saved;
 use source_laws::entries_stay_alike;
 use stack_rules::{runs_are_sound, tables_type_execute_script};
-use typed_laws::{entries_are_plain, functions_are_placed, globals_are_fine};
 use typing_laws::laws::typed_units_have_code;
+use unit_laws::{typed_units_are_well_typed, typed_units_pass};
 use world_core::answers_have_types;
 
 /// The values of a typed unit have the types that stand at their nodes, as the shapes of its code
@@ -29,10 +26,7 @@ use world_core::answers_have_types;
 pub fn units_are_well_typed()
     ensures typed { UnitsAreWellTyped }
 {
-    functions_are_placed();
-    globals_are_fine();
-    entries_are_plain();
-    typed_units_fit();
+    typed_units_are_well_typed();
 }
 
 /// The file of a typed unit is one that loads, with the instructions of its code, if it is not too
@@ -40,11 +34,8 @@ pub fn units_are_well_typed()
 pub fn units_pass()
     ensures pass { UnitsPass }
 {
-    units_are_well_typed();
-    units_are_well_stacked();
+    typed_units_pass();
     typed_units_have_code();
-    file_is_code();
-    size_laws();
 }
 
 /// What comes of the file of a typed unit as it is loaded, checked and played comes of the play of

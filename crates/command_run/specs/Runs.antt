@@ -5,8 +5,8 @@ use Rattle.world_rules.specs.Pure.{CellLookup}
 use Rattle.command_work.specs.declared.status.Status.{Status}
 use Rattle.command_work.specs.declared.status.Status.TheVariants.{Limit}
 use Rattle.command_work.specs.Work.{Work, then, Finished}
+use Rattle.command_work.specs.Counts.{StopsSource}
 use Rattle.command_sources.specs.Headers.{table_of}
-use Rattle.command_files.specs.Checks.{StopsCheck}
 use Rattle.command_compile.specs.Files.{code_name, compiled_named}
 use Rattle.command_plays.specs.Scripts.{plays_file}
 
@@ -17,8 +17,7 @@ runs_under cell script header = then (compiled_named header script) (plays_file 
 unfoldable pub runs : CellLookup → List ℕ → List ℕ → Work Finished
 runs cell header script = then (table_of header) (runs_under cell script)
 
--- What stops a run: its header or script, the check of its compiled file, or a limit that ended its play. The check passes every compiled file
--- where files tell bytes (`nwq_top`); here nothing is asked of files, so `Code` stands in the table.
+-- What stops a run: its header or script, or a limit that ended its play. The check passes every compiled file.
 abbrev pub StopsRun : Status → Type 0
 StopsRun Limit = Unit {0}
-StopsRun status = StopsCheck status
+StopsRun status = StopsSource status

@@ -12,6 +12,7 @@ ghost use Rattle.ncs_machine.specs.Stored.{StatesFit};
 ghost use Rattle.nwq_outside.specs.declared.counts.FileCounts.{FileCounts};
 ghost use Rattle.command_work.specs.Work.{Does};
 ghost use Rattle.command_work.specs.Counts.{Counted, Tallies, Refusing};
+ghost use Rattle.command_files.specs.Checks.{IsStackedFile};
 ghost use Rattle.command_plays.specs.Scripts.{listed, played, tells, plays_code, plays_file};
 ghost use Rattle.command_run.specs.Tellings.{StopsPlay};
 
@@ -154,6 +155,8 @@ pub fn play_file<S: Sink>(
     ensures counts { (counts : FileCounts) → Tallies result (Counted counts (S.faults out.old))
         (Counted counts (S.faults out.new)) }
     ensures only { IfErr result StopsPlay }
+    // A file of well stacked instructions is never refused.
+    ensures passes { IsStackedFile table.now bytes.items → IfErr result (Refusing Status.Limit) }
 {
     match load_checked(alloc, table, file, bytes, out) {
         Err(status) => Err(status),

@@ -4,10 +4,10 @@ ghost use Rattle.nwq_outside.specs.Outside.{Contents};
 ghost use Rattle.world_core.specs.Calls.{cells_of, AreServing};
 ghost use Rattle.nwq_outside.specs.declared.counts.FileCounts.{FileCounts};
 ghost use Rattle.command_work.specs.Work.{Does};
-ghost use Rattle.command_work.specs.Counts.{Counted, Tallies};
+ghost use Rattle.command_work.specs.Counts.{Counted, Tallies, Refusing};
+ghost use Rattle.command_files.specs.Checks.{IsStackedFile};
 ghost use Rattle.command_compile.specs.Files.{code_name};
 ghost use Rattle.command_plays.specs.Scripts.{plays_file};
-ghost use Rattle.command_run.specs.Tellings.{StopsPlay};
 ghost use Rattle.command_run.specs.Runs.{runs_under, runs, StopsRun};
 
 use crate::play::play_file;
@@ -30,13 +30,14 @@ fn play_compiled<S: Sink>(
     out: &mut S,
 ) -> Result<(), Status>
     requires small { length bytes ≤ file_limit }
+    requires stacked { IsStackedFile table.now bytes }
     requires hooks { AreServing (map (λ h. h.known) hooks.now.all.items) }
     ensures does { IsTrue S.tells → (c : Contents) →
         Does (plays_file (cells_of (map (λ h. h.known) hooks.now.all.items)) table.now
         script.now (code_name script.now) bytes) c (S.taken out.old) result c (S.taken out.new) }
     ensures counts { (counts : FileCounts) → Tallies result (Counted counts (S.faults out.old))
         (Counted counts (S.faults out.new)) }
-    ensures only { IfErr result StopsPlay }
+    ensures only { IfErr result (Refusing Status.Limit) }
 {
     match code_name(alloc, script) {
         Err(NoMemory) => Err(Status::Memory),

@@ -1,4 +1,4 @@
--- What private clauses say of a unit while it is read.
+-- What clauses say of a unit, and of its tree, as it is read.
 use Rattle.std.specs.Prelude.{Err}
 use Rattle.nwq_outside.specs.declared.counts.FileCounts.{FileCounts}
 use Rattle.nss_tree.specs.Source.{SourceTree}

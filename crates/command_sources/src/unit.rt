@@ -157,6 +157,7 @@ fn parsed<S: Sink>(alloc: Global, unit: Unit, out: &mut S) -> Result<Script, Sta
     ensures does { IsTrue S.tells → (c : Contents) (name : List ℕ) →
         IsUnit (fin_map.get c) name unit.tokens unit.files None →
         Does (unit_of name) c (S.taken out.old) (plain_answer result) c (S.taken out.new) }
+    ensures tree { IfOk result (λ script. HasTree script.unit (plain_tree script.tree)) }
     ensures counts { (counts : FileCounts) → Tallies result (Counted counts (S.faults out.old))
         (Counted counts (S.faults out.new)) }
     ensures only { IfErr result (Refusing Status.Script) }
@@ -178,6 +179,8 @@ pub fn read_unit<F: Files, S: Sink>(
     ensures does { IsTrue F.tells → IsTrue S.tells →
         Does (unit_of script.now) (F.contents files.old) (S.taken out.old)
         (plain_answer result) (F.contents files.new) (S.taken out.new) }
+    // Also of files that don't tell what they hold the tree is that of the unit's tokens.
+    ensures tree { IfOk result (λ script. HasTree script.unit (plain_tree script.tree)) }
     ensures counts { Tallies result (Counted (F.counts files.old) (S.faults out.old))
         (Counted (F.counts files.new) (S.faults out.new)) }
     ensures same { F.contents files.new ≡ F.contents files.old }

@@ -20,7 +20,7 @@ use Rattle.command_work.specs.Comes.{Came, gave, stopped, cut}
 use Rattle.command_files.specs.Checks.{loaded_in}
 use Rattle.command_files.specs.CheckLaws.{SureLoaded}
 use Rattle.command_play.specs.Games.{plays_plan}
-use Rattle.command_generate.specs.Generated.{SourceFate, Whole, Faulty, IsSourceFate, whole, faulty, source_by, source_compiled, plan_of, made_area, plays_made, checks_made, generates}
+use Rattle.command_generate.specs.Generated.{source_compiled, plan_of, made_area, plays_made, checks_made, generates}
 use Rattle.command_meaning.specs.Units.{code_of, IsUnitOf, UnitsPass}
 use Rattle.command_meaning.specs.ListedPlays.{AreUnitsOf}
 use Rattle.command_meaning.specs.CodeEnds.{CheckedPlaysHaveNoFault}
@@ -33,7 +33,7 @@ use Rattle.nwq_top.specs.Accepting.{Compiles}
 use Rattle.nwq_top.specs.Refusing.{RefusesSource}
 use Rattle.nwq_top.proofs.Sources.{IsMade, source_comes}
 use Rattle.nwq_top.proofs.Listing.{compiles, loaded_does}
-use Rattle.nwq_top.specs.Generated.{made_files, beat_of, source_made, code_made, MeansMade, MeansGenerate, refused, accepted}
+use Rattle.nwq_top.specs.Generated.{made_files, beat_of, source_made, code_made, MeansMade, MeansGenerate}
 use Rattle.nwq_top.specs.WordLaws.{GeneratesMean}
 use Rattle.nwq_top.proofs.MadeSource.{made_bytes}
 use Rattle.nwq_top.proofs.MadeTelling.{Told, made_told, same_summary}
@@ -94,30 +94,15 @@ module _ (pass : UnitsPass) (units : ScriptsHaveUnits) (least : LeastIsTheKept) 
         then_known (loaded_in header_table (codes "beat.ncs") (unit_file made.unit)) (plays_made cell n) (sure header_table (codes "beat.ncs") (unit_file made.unit))
         (code_of made.unit) c c c' t t t' r uncut (loaded_does header_table (codes "beat.ncs") made.unit c t h.passes)
         (subst (λ (b : List ℕ). Does (then (loaded_in header_table (codes "beat.ncs") b) (plays_made cell n)) c t r c' t') same does) in
-        accepted made.unit h (meant made.unit h plays)
+        record { unit = made.unit; compiles = h; means = meant made.unit h plays }
     file_comes file text does (stopped why is p q o) = absurd cc
     file_comes file text does (cut x) = absurd x
-
-    line_comes : (status : Status) (line : List ℕ) → (IsCut {A = List ℕ} (Err status) → ⊥) → Does (then (source_by (Faulty line)) (checks_made cell n)) c t r c' t'
-        → Came (IsMade header_table (made_files n) (codes "beat")) (RefusesSource header_table (made_files n) (codes "beat")) (made_files n) [] (Err status) (made_files n) line
-        → MeansGenerate cell n c t r c' t'
-    line_comes status line plain does (gave bytes made is p q) = absurd cc
-    line_comes status line plain (inl x) (stopped why is p q o) = absurd (uncut x.0)
-    line_comes status line plain (inr (inr x, s)) (stopped why is p q o) = absurd (uncut x)
-    line_comes status line plain (inr (inl e, s)) (stopped why is p q o) =
-        refused why is (record { answer = e; taken = s.1 ∙ ap (λ x. t ++ x) o; contents = s.0 })
-    line_comes status line plain does (cut x) = absurd (plain x)
-
-    fate_comes : (fate : SourceFate) → IsSourceFate (play_of n).source fate → Does (then (source_by fate) (checks_made cell n)) c t r c' t' → MeansGenerate cell n c t r c' t'
-    fate_comes (Whole file) (whole _ text made) does =
-        file_comes file text does (source_comes header_table (made_files n) [] (codes "beat") least (Ok file) (made_files n) text made)
-    fate_comes (Faulty line) (faulty status _ plain made) does =
-        line_comes status line plain does (source_comes header_table (made_files n) [] (codes "beat") least (Err status) (made_files n) line made)
 
     generated : Does (generates cell n) c t r c' t' → MeansGenerate cell n c t r c' t'
     unfolding generates source_compiled
     generated (inl x) = absurd (uncut x.0)
-    generated (inr h) = fate_comes h.found h.is h.goes
+    generated (inr h) =
+        file_comes h.found h.is.text h.goes (source_comes header_table (made_files n) [] (codes "beat") least (Ok h.found) (made_files n) h.is.text h.is.compiled)
 
   pub generates_mean : GeneratesMean
   generates_mean cell n c t r c' t' small uncut does = generated cell n (made_bytes n (omega (arith, small))) c t r c' t' uncut does

@@ -17,8 +17,7 @@ use Rattle.source_laws.specs.Executing.{script_of}
 use Rattle.play_meaning.specs.Together.{Begins, PlaysAlike, StoppedAt, whole}
 use Rattle.play_generator.specs.Made.{creatures_of, rounds_of, play_of}
 use Rattle.command_work.specs.declared.status.Status.{Status}
-use Rattle.command_work.specs.declared.status.Status.TheVariants.{Script, Limit}
-use Rattle.command_work.specs.Refusal.{Refusal, line_of}
+use Rattle.command_work.specs.declared.status.Status.TheVariants.{Limit}
 use Rattle.command_work.specs.Work.{Finished}
 use Rattle.command_plays.specs.Plays.{host_of}
 use Rattle.play_worlds.specs.Worlds.{plan_world}
@@ -27,7 +26,6 @@ use Rattle.command_meaning.specs.CodeEnds.{EndsWithoutFault}
 use Rattle.command_meaning.specs.Runs.{answer_by}
 use Rattle.nwq_top.specs.SourcePlans.{listing_of, source_plan_played, code_plan_played}
 use Rattle.nwq_top.specs.Accepting.{Compiles}
-use Rattle.nwq_top.specs.Refusing.{RefusesSource}
 
 -- ---- the play of the source that is made from a number
 
@@ -85,14 +83,9 @@ pub record MeansMade (cell : CellLookup) (n : ℕ) (unit : TypedUnit) (c : Conte
   pub no_fault : EndsWithoutFault (host_of cell header_table (map script_of (beat_of unit))) (plan_of n).limit (plan_of n).entries (plan_of n).until
       (plan_world (made_area n) (plan_of n))
 
--- the line of the source's refusal was put
-pub record IsRefusedMade (why : Refusal) (c : Contents) (t : List ℕ) (r : Result Finished Status) (c' : Contents) (t' : List ℕ) : Type 0 where
-  pub answer : r ≡ Err Script
-  pub taken : t' ≡ t ++ line_of why
-  pub contents : c' ≡ c
-
--- What `generate N` does, unless a failed call or want of memory cut it: the source is refused, or its file passes the stack checker and its
--- play is told as the source means.
-pub data MeansGenerate (cell : CellLookup) (n : ℕ) (c : Contents) (t : List ℕ) (r : Result Finished Status) (c' : Contents) (t' : List ℕ) : Type 0 where
-  refused : (why : Refusal) → RefusesSource header_table (made_files n) (codes "beat") why → IsRefusedMade why c t r c' t' → MeansGenerate cell n c t r c' t'
-  accepted : (unit : TypedUnit) → Compiles header_table (made_files n) (codes "beat") unit → MeansMade cell n unit c t r c' t' → MeansGenerate cell n c t r c' t'
+-- What `generate N` does, unless a failed call or want of memory cut it: the source has a typed unit, whose file passes the stack checker, and
+-- its play is told as the source means.
+pub record MeansGenerate (cell : CellLookup) (n : ℕ) (c : Contents) (t : List ℕ) (r : Result Finished Status) (c' : Contents) (t' : List ℕ) : Type 0 where
+  pub unit : TypedUnit
+  pub compiles : Compiles header_table (made_files n) (codes "beat") unit
+  pub means : MeansMade cell n unit c t r c' t'

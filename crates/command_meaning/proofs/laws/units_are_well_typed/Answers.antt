@@ -1,8 +1,5 @@
-use Rattle.command_meaning.proofs.WellTyped.{units_are_well_typed}
+use Rattle.command_meaning.proofs.Passing.{units_are_well_typed}
 use Rattle.command_meaning.proofs.laws.units_are_well_typed.Goals as goal
 
 pub returns : goal.returns
-returns c = record {
-  typed = units_are_well_typed c.functions_are_placed.ensures.placed c.globals_are_fine.ensures.fine c.entries_are_plain.ensures.plain
-      c.typed_units_fit.ensures.switches c.typed_units_fit.ensures.values;
-}
+returns c = record { typed = units_are_well_typed c.typed_units_are_well_typed.ensures.typed }

@@ -16,7 +16,7 @@ use Rattle.source_laws.specs.FineStatements.{IsFineValue, AreFineNames}
 use Rattle.emission_laws.specs.WellTyped.{start_site, IsBegin, IsFineEntry}
 use Rattle.emission_laws.specs.Laws.{SwitchesFit, FirstValuesCallEngine}
 use Rattle.typed_laws.specs.Laws.{FunctionsArePlaced, GlobalsAreFine, HasEntry, EntriesArePlain}
-use Rattle.command_meaning.specs.Units.{UnitsAreWellTyped}
+use Rattle.unit_laws.specs.Laws.{TypedUnitsAreWellTyped}
 
 -- ---- what is fine where no function can be called is so where some can
 
@@ -62,12 +62,12 @@ fine_entry fs (Conditional f) h = begins fs f Int ((h f).1 refl)
 
 -- ---- the unit
 
-pub units_are_well_typed : FunctionsArePlaced → GlobalsAreFine → EntriesArePlain → SwitchesFit → FirstValuesCallEngine → UnitsAreWellTyped
-units_are_well_typed placed fine plain switches values header u table unit = record {
+pub typed_units_are_well_typed : FunctionsArePlaced → GlobalsAreFine → EntriesArePlain → SwitchesFit → FirstValuesCallEngine → TypedUnitsAreWellTyped
+typed_units_are_well_typed placed fine plain switches values header tokens tree u table parses types = record {
   bodies = λ f fn is.
-      let h = placed header unit.tokens unit.tree u table unit.parses unit.types 0 0 [] f fn is in
-      record { parameters = h.parameters; body = h.fine; switches = switches header unit.tree u unit.types f fn is };
-  names = names_with header (functions u.items) (start_site u) (global_names u.items) 0 [] (fine header unit.tokens unit.tree u table unit.parses unit.types 0 0 []);
-  calls = values header unit.tree u unit.types;
-  entry = fine_entry (functions u.items) u.entry (plain header unit.tree u unit.types);
+      let h = placed header tokens tree u table parses types 0 0 [] f fn is in
+      record { parameters = h.parameters; body = h.fine; switches = switches header tree u types f fn is };
+  names = names_with header (functions u.items) (start_site u) (global_names u.items) 0 [] (fine header tokens tree u table parses types 0 0 []);
+  calls = values header tree u types;
+  entry = fine_entry (functions u.items) u.entry (plain header tree u types);
 }

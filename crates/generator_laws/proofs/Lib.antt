@@ -1,0 +1,9 @@
+mod Numbers
+mod Pieces
+mod Trees
+mod Units
+mod Sources
+mod Typing
+mod Sizes
+mod Nests
+mod Compiles

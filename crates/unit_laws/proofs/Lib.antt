@@ -1,0 +1,2 @@
+mod WellTyped
+mod Passing
