@@ -1,4 +1,5 @@
 mod StepLemmas
+mod InputLemmas
 mod StopLemmas
 mod FateLemmas
 mod WriteLemmas

@@ -31,6 +31,7 @@ use Rattle.play_worlds.specs.Worlds.{plan_world}
 use Rattle.play_worlds.specs.Fresh.{PlanWorldsAreFresh}
 use Rattle.command_work.specs.declared.status.Status.{Status}
 use Rattle.command_work.specs.Work.{Does, CutsShort, Finished}
+use Rattle.command_work.specs.Counts.{Counts, Tallies}
 use Rattle.command_plays.specs.Plays.{limits_of, played_first}
 use Rattle.command_save.specs.declared.inputs.HeaderFile.{HeaderFile}
 use Rattle.command_save.specs.declared.inputs.AreaFile.{AreaFile}
@@ -96,4 +97,8 @@ module _ (cell : CellLookup) (header : HeaderFile) (area : AreaFile) (plan : Pla
   unfolding saves_plan
   first_whole r t' taken does = inr (subst (λ (x : List ℕ). Does (saves_by begun.ending header area.bytes plan scripts name begun) c x r c' t') taken does)
 
-pub ruleset parts = (first_cut, first_whole)
+-- the counts of a part that was done go on to those of the next
+pub counted_on : (r : Result Finished Status) (before between after : Counts) → between ≡ before → Tallies r between after → Tallies r before after
+counted_on r before between after same tallies = subst (λ (x : Counts). Tallies r x after) same tallies
+
+pub ruleset parts = (first_cut, first_whole, counted_on)

@@ -116,7 +116,7 @@ pub(crate) fn read_header<F: Files, S: Sink>(
 }
 
 /// The area of bytes, which are those of the file of this name.
-#[tactic(auto, using(crate::proofs::StepLemmas::gives), unfolding(crate::specs::Inputs::area_in))]
+#[tactic(auto, using(crate::proofs::StepLemmas::gives, crate::proofs::InputLemmas::inputs), unfolding(crate::specs::Inputs::area_in))]
 fn area_with<S: Sink>(
     alloc: Global,
     name: &[u8],

@@ -4,7 +4,7 @@ use Rattle.command_save.proofs.save.save_scripts.Goals as goal
 
 pub save_area-requires-clause-listed : goal.save_area-requires-clause-listed
 save_area-requires-clause-listed g c =
-    may_list c.args.header c.args.plan.now c.as_slice.result.now c.in-Ok.scripts c.requires.header c.requires.plan c.as_slice.ensures.items c.in-Ok.ensures.count c.in-Ok.ensures.names-listed
+    may_list c.args.header c.args.plan.now c.as_slice.result.now c.in-Ok.scripts c.requires.header c.requires.plan c.as_slice.ensures.items c.in-Ok.ensures.count c.in-Ok.ensures.listed
     c.in-Ok.ensures.meets c.in-Ok.ensures.stand
 
 pub returns-in-Err-clause-names : goal.returns-in-Err-clause-names

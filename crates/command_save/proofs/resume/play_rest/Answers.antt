@@ -1,0 +1,25 @@
+use Rattle.std.proofs.Common.{map}
+use Rattle.world_core.specs.Calls.{cells_of}
+use Rattle.ncs_machine.specs.Host.{scripts_of}
+use Rattle.command_work.specs.Counts.{Counted}
+use Rattle.command_save.specs.Tellings.{rest_of}
+use Rattle.command_save.proofs.PartLemmas.{counted_on}
+use Rattle.command_save.proofs.RestOfLemmas.{has_text, told_whole}
+use Rattle.command_save.proofs.resume.play_rest.Goals as goal
+
+pub tell_end-requires-clause-told : goal.tell_end-requires-clause-told
+tell_end-requires-clause-told g c =
+    has_text (cells_of (map (λ h. h.known) c.args.hooks.now.all.items)) c.args.opened c.in-Ok.played.how c.requires.opened.taken c.in-Ok.ensures.told c.in-Ok.ensures.ending.ending
+
+pub returns-in-Ok-clause-does : goal.returns-in-Ok-clause-does
+returns-in-Ok-clause-does g c = λ files_tell sink_tells.
+    let p = rest_of (cells_of (map (λ h. h.known) c.args.hooks.now.all.items)) c.args.opened in
+    told_whole c.args.to.now (scripts_of c.args.opened.scripts) p (g.F.Files.contents c.args.files.now) (g.F.Files.contents c.tell_end-end.new.files)
+    (g.S.Sink.taken c.args.out.now) (g.S.Sink.taken c.play_part.new.out) c.tell_end-end.result (g.S.Sink.taken c.tell_end-end.new.out) (c.in-Ok.ensures.trace sink_tells)
+    (c.tell_end-end.ensures.does files_tell sink_tells p c.in-Ok.ensures.ending)
+
+pub returns-in-Ok-clause-counts : goal.returns-in-Ok-clause-counts
+returns-in-Ok-clause-counts g c =
+    let counts = g.F.Files.counts c.args.files.now in
+    counted_on c.tell_end-end.result (Counted counts (g.S.Sink.faults c.args.out.now)) (Counted counts (g.S.Sink.faults c.play_part.new.out))
+    (Counted (g.F.Files.counts c.tell_end-end.new.files) (g.S.Sink.faults c.tell_end-end.new.out)) (c.in-Ok.ensures.counts counts) c.tell_end-end.ensures.counts
