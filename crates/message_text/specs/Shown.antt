@@ -1,5 +1,6 @@
 -- How a line and the place in it are shown.
-use Rattle.std.specs.Prelude.{◌≡◌, ℕ, Bool, true, ◌&&◌, ◌+◌, ◌≤◌, ◌<◌, ◌↔◌, ◌==◌, IsTrue, nat_le, nat_lt, List, [], ◌∷◌, ◌++◌, codes, slice_range, if◌then◌else◌}
+use Rattle.std.specs.Prelude.{◌≡◌, ◌≢◌, ℕ, Bool, true, ◌&&◌, not, ◌+◌, ◌-◌, ◌≤◌, ◌<◌, ◌↔◌, ◌==◌, IsTrue, nat_le, nat_lt}
+use Rattle.std.specs.Prelude.{List, [], ◌∷◌, ◌++◌, codes, slice_index, slice_range, if◌then◌else◌}
 use Rattle.std.specs.List.{flat_map}
 use Rattle.std.specs.Str.{IsUtf8}
 use Rattle.nwq_text.specs.Escape.{escaped}
@@ -29,14 +30,45 @@ points cut = if cut then codes "..." else []
 abbrev pub points_blank : Bool → List ℕ
 points_blank cut = if cut then codes "   " else []
 
--- the part of its line that is shown of a place: it has the place, and it is told whether something of the line is left out before it
+-- where a line ends for a reader: before the carriage return in front of its newline, unless that stands before the place
+pub record IsShownEnd (bytes : List ℕ) (at end : ℕ) : Type 0 where
+  pub line_end : ℕ
+  pub ends : IsLineEnd bytes at line_end
+  pub cut : at < line_end → slice_index bytes (line_end - 1) ≡ 13 → end + 1 ≡ line_end
+  pub whole : (at < line_end → slice_index bytes (line_end - 1) ≢ 13) → end ≡ line_end
+
+-- the first place from one on, and up to a limit, at which a character begins; past three bytes that begin none, the fourth
+pub record IsPast (bytes : List ℕ) (from limit at : ℕ) : Type 0 where
+  pub behind : from ≤ at
+  pub within : at ≤ limit
+  pub near : at ≤ from + 3
+  pub inner : (k : ℕ) → from ≤ k → k < at → IsTrue (is_inner (slice_index bytes k))
+  pub stops : at < limit → at < from + 3 → IsTrue (not (is_inner (slice_index bytes at)))
+
+-- how many bytes of a line are shown at most on each side of a place, but for the rest of a character behind it
+abbrev pub most_bytes : ℕ
+most_bytes = 70
+
+-- where the shown part begins of a line that begins at start: there, if so many bytes reach back to it
+pub record IsShownFrom (bytes : List ℕ) (at start from : ℕ) : Type 0 where
+  pub whole : at ≤ start + most_bytes → from ≡ start
+  pub cut : start + most_bytes < at → IsPast bytes (at - most_bytes) at from
+
+-- and where it ends of a line that ends at end: there, if so many bytes reach to it
+pub record IsShownTo (bytes : List ℕ) (at end to : ℕ) : Type 0 where
+  pub whole : end ≤ at + most_bytes → to ≡ end
+  pub cut : at + most_bytes < end → IsPast bytes (at + most_bytes) end to
+
+-- the part of its line that is shown of a place: the whole line where it is short enough, else up to so many bytes on each side; on each side it is told whether something of the line is left out
 pub record IsWindow (bytes : List ℕ) (at : ℕ) (w : Window) : Type 0 where
-  pub from : w.from ≤ at
-  pub to : at ≤ w.to
   pub start : ℕ
   pub begins : IsLineStart bytes at start
-  pub first : start ≤ w.from
+  pub from : IsShownFrom bytes at start w.from
+  pub end : ℕ
+  pub ends : IsShownEnd bytes at end
+  pub to : IsShownTo bytes at end w.to
   pub before : (IsTrue w.before) ↔ (start < w.from)
+  pub behind : (IsTrue w.behind) ↔ (w.to < end)
 
 -- the part of a line that is shown, and the line under it with a caret under the place, for lines that are UTF-8 or not
 abbrev pub line_text : Bool → List ℕ → Window → List ℕ

@@ -1,7 +1,7 @@
 //! The part of a line that is shown.
 
-ghost use Rattle.std.specs.Prelude.{◌+◌, ◌≤◌, length};
-ghost use Rattle.message_text.specs.Shown.{IsWindow};
+ghost use Rattle.std.specs.Prelude.{◌≤◌, length};
+ghost use Rattle.message_text.specs.Shown.{IsPast, IsShownEnd, IsShownFrom, IsShownTo, IsWindow};
 
 use crate::place::{is_inner, line_end, line_start};
 
@@ -22,8 +22,7 @@ pub struct Window {
 fn past_inner(bytes: &[u8], from: usize, end: usize) -> usize
     requires from { from ≤ end }
     requires end { end ≤ length bytes.now }
-    ensures after { from ≤ result }
-    ensures within { result ≤ end }
+    ensures past { IsPast bytes.now from end result }
 {
     let mut at = from;
     for _step in 0u8..3 {
@@ -37,6 +36,7 @@ fn past_inner(bytes: &[u8], from: usize, end: usize) -> usize
 /// Where a line ends for a reader: before the carriage return in front of its newline.
 fn shown_end(bytes: &[u8], at: usize) -> usize
     requires { at ≤ length bytes.now }
+    ensures end { IsShownEnd bytes.now at result }
     ensures after { at ≤ result }
     ensures within { result ≤ length bytes.now }
 {
@@ -48,24 +48,47 @@ fn shown_end(bytes: &[u8], at: usize) -> usize
     }
 }
 
+/// Where the shown part begins of a line that begins at a place.
+fn shown_from(bytes: &[u8], at: usize, start: usize) -> usize
+    requires at { at ≤ length bytes.now }
+    requires start { start ≤ at }
+    ensures from { IsShownFrom bytes.now at start result }
+    ensures within { result ≤ at }
+{
+    if at - start <= MOST_BYTES {
+        start
+    } else {
+        past_inner(bytes, at - MOST_BYTES, at)
+    }
+}
+
+/// Where the shown part ends of a line that ends at a place.
+fn shown_to(bytes: &[u8], at: usize, end: usize) -> usize
+    requires at { at ≤ end }
+    requires end { end ≤ length bytes.now }
+    ensures to { IsShownTo bytes.now at end result }
+    ensures after { at ≤ result }
+    ensures within { result ≤ end }
+{
+    if end - at <= MOST_BYTES {
+        end
+    } else {
+        past_inner(bytes, at + MOST_BYTES, end)
+    }
+}
+
 /// The part of its line that is shown of a place.
 pub(crate) fn window_of(bytes: &[u8], at: usize) -> Window
     requires { at ≤ length bytes.now }
     ensures window { IsWindow bytes.now at result }
+    ensures from { result.from ≤ at }
+    ensures to { at ≤ result.to }
     ensures within { result.to ≤ length bytes.now }
 {
     let start = line_start(bytes, at);
     let end = shown_end(bytes, at);
-    let from = if at - start <= MOST_BYTES {
-        start
-    } else {
-        past_inner(bytes, at - MOST_BYTES, at)
-    };
-    let to = if end - at <= MOST_BYTES {
-        end
-    } else {
-        past_inner(bytes, at + MOST_BYTES, end)
-    };
+    let from = shown_from(bytes, at, start);
+    let to = shown_to(bytes, at, end);
     Window {
         from,
         to,
