@@ -27,6 +27,11 @@ pub const TELLS: &[u8] = b"\
 pub const PRINTS: &[u8] = b"\
       JSR 00 @21\nRETN 00\nACTION 00 40 0\nACTION 00 4 1\nRETN 00\n";
 
+/// Under a header of its own it delays the print of a local, whose state resumes at 35.
+pub const DELAYS: &[u8] = b"\
+      CONST 03 5\nSTORE_STATE 10 0 4\nJMP 00 @50\nCPTOPSP 01 -4 4\nACTION 00 0 1\nRETN 00\n\
+      CONST 03 1000\nACTION 00 1 2\nMOVSP 00 -4\nRETN 00\n";
+
 /// It does nothing.
 pub const NOTHING: &[u8] = b"RETN 00\n";
 
@@ -85,7 +90,11 @@ pub const BUSY: Object = Object(
     true,
     VARIABLES,
     &[Some(4), None],
-    &[Item::Do(ACTION), Item::Wait(500), Item::Speak(Words(b"hi", 1))],
+    &[
+        Item::Do(ACTION),
+        Item::Wait(500),
+        Item::Speak(Words(b"hi", 1)),
+    ],
 );
 
 /// An object without anything.
@@ -116,4 +125,111 @@ pub const WHOLE: Sketch = Sketch {
     random: 2,
     objects: &[BUSY, IDLE],
     agenda: &[TURN, EVENT, STORED, UNAPPLY],
+};
+
+/// Five actions: a state, a speech, two waits and a state.
+const QUEUE: &[Item] = &[
+    Item::Do(ACTION),
+    Item::Speak(Words(b"a\n\xe4", 1)),
+    Item::Wait(0),
+    Item::Wait(-7),
+    Item::Do(DELAYED),
+];
+
+/// Two busy objects with effects, and events that wait with their numbers, of version 1.
+pub const BUSIER: Sketch = Sketch {
+    header: None,
+    scripts: SCRIPTS,
+    more: 1,
+    area: AREA,
+    version: 1,
+    limit: 131_072,
+    entries: 10_000,
+    until: 60_000,
+    clock: 0,
+    taken: 0,
+    done: 0,
+    next: 12,
+    random: 5,
+    objects: &[
+        Object(true, VARIABLES, &[Some(7), Some(8), None], QUEUE),
+        Object(true, &[], &[Some(9)], &[Item::Wait(300)]),
+    ],
+    agenda: &[
+        Entry(0, 2, Kind::Event(1, Words(b"q", 1), 5)),
+        Entry(0, 3, Kind::Event(2, Words(b"q", 1), -6)),
+        Entry(0, 10, Kind::Turn(1)),
+        Entry(50, 7, Kind::Unapply(1)),
+        Entry(60, 8, Kind::Unapply(1)),
+        Entry(60, 9, Kind::Unapply(2)),
+        Entry(100, 1, Kind::Event(0, Words(b"p", 1), 0)),
+        Entry(300, 11, Kind::Turn(2)),
+        Entry(400, 4, Kind::Event(2, Words(b"none", 1), 7)),
+    ],
+};
+
+pub const I: Cell = Cell::Int(0);
+
+pub const S: Cell = Cell::Text(Words(b"s", 1));
+
+pub const O: Cell = Cell::Object(77);
+
+pub const E: Cell = Cell::Effect;
+
+pub const U: Cell = Cell::Event(-1);
+
+/// The locals of `DEEP`.
+const MANY: &[Cell] = &[I, S, O, E, U, I, S, O, E, U, I, S, O, E, U, I, S, O, E, U];
+
+/// A state of 20 locals waits, twice.
+pub const DEEPER: Sketch = Sketch {
+    header: None,
+    scripts: &[Script(Words(b"deep", 1), Code::Deep)],
+    more: 0,
+    area: AREA,
+    version: 2,
+    limit: 100,
+    entries: 50,
+    until: 9_000,
+    clock: 1_000,
+    taken: 3,
+    done: 40,
+    next: 9,
+    random: 0,
+    objects: &[IDLE, IDLE],
+    agenda: &[
+        Entry(1_500, 6, Kind::Stored(0, Captured(0, 69, &[], MANY))),
+        Entry(2_500, 7, Kind::Stored(2, Captured(0, 69, &[], MANY))),
+    ],
+};
+
+/// A state under a header of its own, of two routines. The script delays the print of its local.
+pub const OWN: Sketch = Sketch {
+    header: Some(b"void PrintInteger(int n); void DelayCommand(int n, action a);"),
+    scripts: &[Script(Words(b"own", 1), Code::Delays)],
+    more: 0,
+    area: AREA,
+    version: 2,
+    limit: 1_000,
+    entries: 10,
+    until: 10_000,
+    clock: 10,
+    taken: 1,
+    done: 8,
+    next: 3,
+    random: 0,
+    objects: &[IDLE, IDLE],
+    agenda: &[
+        Entry(10, 1, Kind::Event(1, Words(b"own", 1), 0)),
+        Entry(
+            1_000,
+            0,
+            Kind::Stored(1, Captured(0, 35, &[], &[Cell::Int(5)])),
+        ),
+        Entry(
+            1_000,
+            2,
+            Kind::Stored(0, Captured(0, 35, &[], &[Cell::Int(6)])),
+        ),
+    ],
 };

@@ -1,6 +1,6 @@
 //! The bytes of states that tables write.
 
-use crate::bases::{DEEP, NOTHING, PRINTS, TELLS};
+use crate::bases::{DEEP, DELAYS, NOTHING, PRINTS, TELLS};
 use crate::sketch;
 use crate::sketch::{Code, Sketch, Words};
 use ncs_text::assemble;
@@ -31,6 +31,7 @@ fn code(alloc: Global, code: Code) -> Result<Items<u8>, NoMemory> {
     match code {
         Code::Tells => assembled(alloc, TELLS),
         Code::Prints => assembled(alloc, PRINTS),
+        Code::Delays => assembled(alloc, DELAYS),
         Code::Nothing => assembled(alloc, NOTHING),
         Code::Deep => assembled(alloc, DEEP),
         Code::Text(text) => assembled(alloc, text),
@@ -96,10 +97,7 @@ fn captured(alloc: Global, state: sketch::Captured) -> Result<Captured, NoMemory
     })
 }
 
-fn variables(
-    alloc: Global,
-    variables: &[sketch::Variable],
-) -> Result<Items<Variable>, NoMemory> {
+fn variables(alloc: Global, variables: &[sketch::Variable]) -> Result<Items<Variable>, NoMemory> {
     let mut out = Items::new(alloc);
     for variable in variables {
         let made = match *variable {

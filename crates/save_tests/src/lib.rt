@@ -10,6 +10,8 @@ mod built;
 #[cfg(test)]
 mod change;
 #[cfg(test)]
+mod changed;
+#[cfg(test)]
 mod layout;
 #[cfg(test)]
 mod sketch;

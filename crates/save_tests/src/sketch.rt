@@ -9,6 +9,7 @@ pub struct Words(pub &'static [u8], pub usize);
 pub enum Code {
     Tells,
     Prints,
+    Delays,
     Nothing,
     Deep,
     Text(&'static [u8]),
@@ -31,12 +32,7 @@ pub enum Cell {
 
 /// A captured state: the number of its script, its place, and the cells of its globals and locals.
 #[derive(Clone, Copy)]
-pub struct Captured(
-    pub u32,
-    pub u32,
-    pub &'static [Cell],
-    pub &'static [Cell],
-);
+pub struct Captured(pub u32, pub u32, pub &'static [Cell], pub &'static [Cell]);
 
 #[derive(Clone, Copy)]
 pub enum Variable {
