@@ -1,7 +1,7 @@
 //! States that a play can go on from, and what rows put in the place of their parts.
 
 use crate::sketch::{
-    Captured, Cell, Code, Entry, Item, Kind, Object, Script, Sketch, Variable, Words,
+    Besides, Captured, Cell, Code, Entry, Item, Kind, Object, Script, Sketch, Variable, Words,
 };
 
 /// A global int and a global string. `main` sets six locals, an int, a string, an object, an
@@ -108,6 +108,13 @@ pub const STORED: Entry = Entry(2000, 6, Kind::Stored(1, DELAYED));
 
 pub const UNAPPLY: Entry = Entry(3000, 4, Kind::Unapply(1));
 
+const NOTHING_MORE: Besides = Besides {
+    script: None,
+    variables: &[],
+    items: &[],
+    entry: None,
+};
+
 /// A state with something of each kind.
 pub const WHOLE: Sketch = Sketch {
     header: None,
@@ -125,6 +132,7 @@ pub const WHOLE: Sketch = Sketch {
     random: 2,
     objects: &[BUSY, IDLE],
     agenda: &[TURN, EVENT, STORED, UNAPPLY],
+    besides: NOTHING_MORE,
 };
 
 /// Five actions: a state, a speech, two waits and a state.
@@ -166,6 +174,7 @@ pub const BUSIER: Sketch = Sketch {
         Entry(300, 11, Kind::Turn(2)),
         Entry(400, 4, Kind::Event(2, Words(b"none", 1), 7)),
     ],
+    besides: NOTHING_MORE,
 };
 
 pub const I: Cell = Cell::Int(0);
@@ -179,7 +188,7 @@ pub const E: Cell = Cell::Effect;
 pub const U: Cell = Cell::Event(-1);
 
 /// The locals of `DEEP`.
-const MANY: &[Cell] = &[I, S, O, E, U, I, S, O, E, U, I, S, O, E, U, I, S, O, E, U];
+pub const MANY: &[Cell] = &[I, S, O, E, U, I, S, O, E, U, I, S, O, E, U, I, S, O, E, U];
 
 /// A state of 20 locals waits, twice.
 pub const DEEPER: Sketch = Sketch {
@@ -201,6 +210,7 @@ pub const DEEPER: Sketch = Sketch {
         Entry(1_500, 6, Kind::Stored(0, Captured(0, 69, &[], MANY))),
         Entry(2_500, 7, Kind::Stored(2, Captured(0, 69, &[], MANY))),
     ],
+    besides: NOTHING_MORE,
 };
 
 /// A state under a header of its own, of two routines. The script delays the print of its local.
@@ -232,4 +242,5 @@ pub const OWN: Sketch = Sketch {
             Kind::Stored(0, Captured(0, 35, &[], &[Cell::Int(6)])),
         ),
     ],
+    besides: NOTHING_MORE,
 };

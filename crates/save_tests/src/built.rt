@@ -47,17 +47,37 @@ fn name(alloc: Global, number: usize) -> Result<Items<u8>, NoMemory> {
     Ok(out)
 }
 
+fn script(alloc: Global, script: sketch::Script) -> Result<Script, NoMemory> {
+    let name = text(alloc, script.0)?;
+    let code = code(alloc, script.1)?;
+    Ok(Script { name, code })
+}
+
+fn nothing(alloc: Global, number: usize) -> Result<Script, NoMemory> {
+    let name = name(alloc, number)?;
+    let code = code(alloc, Code::Nothing)?;
+    Ok(Script { name, code })
+}
+
+fn put_scripts(
+    alloc: Global,
+    scripts: &[sketch::Script],
+    out: &mut Items<Script>,
+) -> Result<(), NoMemory> {
+    for part in scripts {
+        out.push(script(alloc, *part)?)?;
+    }
+    Ok(())
+}
+
 fn scripts(alloc: Global, sketch: &Sketch) -> Result<Items<Script>, NoMemory> {
     let mut out = Items::new(alloc);
-    for script in sketch.scripts {
-        let name = text(alloc, script.0)?;
-        let code = code(alloc, script.1)?;
-        out.push(Script { name, code })?;
+    put_scripts(alloc, sketch.scripts, &mut out)?;
+    if let Some(part) = sketch.besides.script {
+        out.push(script(alloc, part)?)?;
     }
     for number in 0..sketch.more {
-        let name = name(alloc, number)?;
-        let code = code(alloc, Code::Nothing)?;
-        out.push(Script { name, code })?;
+        out.push(nothing(alloc, number)?)?;
     }
     Ok(out)
 }
@@ -97,18 +117,25 @@ fn captured(alloc: Global, state: sketch::Captured) -> Result<Captured, NoMemory
     })
 }
 
-fn variables(alloc: Global, variables: &[sketch::Variable]) -> Result<Items<Variable>, NoMemory> {
-    let mut out = Items::new(alloc);
-    for variable in variables {
-        let made = match *variable {
-            sketch::Variable::Int(name, n) => Variable::Int(text(alloc, name)?, n),
-            sketch::Variable::Text(name, value) => {
-                Variable::Text(text(alloc, name)?, text(alloc, value)?)
-            }
-        };
-        out.push(made)?;
+fn variable(alloc: Global, variable: sketch::Variable) -> Result<Variable, NoMemory> {
+    match variable {
+        sketch::Variable::Int(name, n) => Ok(Variable::Int(text(alloc, name)?, n)),
+        sketch::Variable::Text(name, value) => {
+            let name = text(alloc, name)?;
+            Ok(Variable::Text(name, text(alloc, value)?))
+        }
     }
-    Ok(out)
+}
+
+fn put_variables(
+    alloc: Global,
+    variables: &[sketch::Variable],
+    out: &mut Items<Variable>,
+) -> Result<(), NoMemory> {
+    for part in variables {
+        out.push(variable(alloc, *part)?)?;
+    }
+    Ok(())
 }
 
 fn effects(alloc: Global, numbers: &[Option<u64>]) -> Result<Items<Standing>, NoMemory> {
@@ -131,26 +158,44 @@ fn item(alloc: Global, item: sketch::Item) -> Result<Item, NoMemory> {
     }
 }
 
-fn items(alloc: Global, items: &[sketch::Item]) -> Result<Items<Item>, NoMemory> {
-    let mut out = Items::new(alloc);
+fn put_items(alloc: Global, items: &[sketch::Item], out: &mut Items<Item>) -> Result<(), NoMemory> {
     for part in items {
         out.push(item(alloc, *part)?)?;
     }
-    Ok(out)
+    Ok(())
 }
 
-fn objects(alloc: Global, objects: &[sketch::Object]) -> Result<Items<Object>, NoMemory> {
+/// An object with variables and actions behind its own.
+fn object(
+    alloc: Global,
+    object: &sketch::Object,
+    further: &[sketch::Variable],
+    more: &[sketch::Item],
+) -> Result<Object, NoMemory> {
+    let mut variables = Items::new(alloc);
+    put_variables(alloc, object.1, &mut variables)?;
+    put_variables(alloc, further, &mut variables)?;
+    let effects = effects(alloc, object.2)?;
+    let mut items = Items::new(alloc);
+    put_items(alloc, object.3, &mut items)?;
+    put_items(alloc, more, &mut items)?;
+    Ok(Object {
+        busy: object.0,
+        variables,
+        effects,
+        items,
+    })
+}
+
+fn objects(alloc: Global, sketch: &Sketch) -> Result<Items<Object>, NoMemory> {
     let mut out = Items::new(alloc);
-    for object in objects {
-        let variables = variables(alloc, object.1)?;
-        let effects = effects(alloc, object.2)?;
-        let items = items(alloc, object.3)?;
-        out.push(Object {
-            busy: object.0,
-            variables,
-            effects,
-            items,
-        })?;
+    for (i, part) in sketch.objects.iter().enumerate() {
+        let made = if i == 0 {
+            object(alloc, part, sketch.besides.variables, sketch.besides.items)?
+        } else {
+            object(alloc, part, &[], &[])?
+        };
+        out.push(made)?;
     }
     Ok(out)
 }
@@ -171,15 +216,22 @@ fn kind(alloc: Global, kind: sketch::Kind) -> Result<Kind, NoMemory> {
     }
 }
 
-fn agenda(alloc: Global, entries: &[sketch::Entry]) -> Result<Items<Entry>, NoMemory> {
+fn entry(alloc: Global, entry: &sketch::Entry) -> Result<Entry, NoMemory> {
+    let kind = kind(alloc, entry.2)?;
+    Ok(Entry {
+        due: entry.0,
+        number: entry.1,
+        kind,
+    })
+}
+
+fn agenda(alloc: Global, sketch: &Sketch) -> Result<Items<Entry>, NoMemory> {
     let mut out = Items::new(alloc);
-    for entry in entries {
-        let kind = kind(alloc, entry.2)?;
-        out.push(Entry {
-            due: entry.0,
-            number: entry.1,
-            kind,
-        })?;
+    for part in sketch.agenda {
+        out.push(entry(alloc, part)?)?;
+    }
+    if let Some(part) = &sketch.besides.entry {
+        out.push(entry(alloc, part)?)?;
     }
     Ok(out)
 }
@@ -204,8 +256,8 @@ fn parts(alloc: Global, sketch: &Sketch) -> Result<Parts, NoMemory> {
     let scripts = scripts(alloc, sketch)?;
     let area = Items::of_slice(alloc, sketch.area)?;
     let random = random(alloc, sketch.random)?;
-    let objects = objects(alloc, sketch.objects)?;
-    let agenda = agenda(alloc, sketch.agenda)?;
+    let objects = objects(alloc, sketch)?;
+    let agenda = agenda(alloc, sketch)?;
     Ok(Parts {
         header,
         scripts,

@@ -2,12 +2,16 @@
 
 use crate::bases::WHOLE;
 use crate::built::bytes;
-use crate::sketch::{Entry, Object, Script, Sketch};
+use crate::sketch::{
+    Besides, Captured, Cell, Code, Entry, Item, Kind, Object, Script, Sketch, Variable, Words,
+};
 use nwq_value::{FILE_BYTES, NoMemory};
 use play_save::{StateFault, read_state};
 use std::alloc::Global;
 
-/// What stands in the place of a part.
+/// What stands in the place of a part, or behind the state's own parts: a script of a name or of a
+/// code file, variables and actions of the first object, and an entry, which is due at 3,500 under
+/// number 7 where it isn't told otherwise. A `State` is stored by that entry.
 #[derive(Clone, Copy)]
 pub enum Change {
     Header(&'static [u8]),
@@ -25,6 +29,14 @@ pub enum Change {
     Random(usize),
     Objects(&'static [Object]),
     Agenda(&'static [Entry]),
+    Named(Words),
+    Coded(Code),
+    Has(&'static [Variable]),
+    Does(&'static [Item]),
+    Waits(Kind),
+    Due(u64),
+    Number(u64),
+    State(u32, u32, &'static [Cell], &'static [Cell]),
 }
 
 #[derive(Clone, Copy, PartialEq, Eq)]
@@ -38,7 +50,7 @@ pub enum Answer {
 /// A name, what is changed of the state `WHOLE`, and what is answered.
 pub type Row = (&'static str, &'static [Change], Answer);
 
-fn changed(sketch: &mut Sketch, change: Change) {
+fn put_part(sketch: &mut Sketch, change: Change) {
     match change {
         Change::Header(text) => sketch.header = Some(text),
         Change::Scripts(scripts) => sketch.scripts = scripts,
@@ -55,13 +67,32 @@ fn changed(sketch: &mut Sketch, change: Change) {
         Change::Random(count) => sketch.random = count,
         Change::Objects(objects) => sketch.objects = objects,
         Change::Agenda(entries) => sketch.agenda = entries,
+        _ => {}
+    }
+}
+
+fn put_behind(besides: &mut Besides, change: Change) {
+    match change {
+        Change::Named(name) => besides.script = Some(Script(name, Code::Prints)),
+        Change::Coded(code) => besides.script = Some(Script(Words(b"r", 1), code)),
+        Change::Has(variables) => besides.variables = variables,
+        Change::Does(items) => besides.items = items,
+        Change::Waits(kind) => besides.entry = Some(Entry(3_500, 7, kind)),
+        Change::Due(due) => besides.entry = Some(Entry(due, 7, Kind::Unapply(1))),
+        Change::Number(number) => besides.entry = Some(Entry(3_500, number, Kind::Unapply(1))),
+        Change::State(script, place, globals, locals) => {
+            let state = Captured(script, place, globals, locals);
+            besides.entry = Some(Entry(3_500, 7, Kind::Stored(1, state)));
+        }
+        _ => {}
     }
 }
 
 fn of_changes(changes: &[Change]) -> Sketch {
     let mut sketch = WHOLE;
     for change in changes {
-        changed(&mut sketch, *change);
+        put_part(&mut sketch, *change);
+        put_behind(&mut sketch.besides, *change);
     }
     sketch
 }

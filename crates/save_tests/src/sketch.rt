@@ -69,7 +69,17 @@ pub enum Kind {
 #[derive(Clone, Copy)]
 pub struct Entry(pub u64, pub u64, pub Kind);
 
-/// A state. Behind its scripts stand so many `more` that do nothing.
+/// What a state has behind its own: a script, variables and actions of its first object, and an
+/// entry.
+#[derive(Clone, Copy)]
+pub struct Besides {
+    pub script: Option<Script>,
+    pub variables: &'static [Variable],
+    pub items: &'static [Item],
+    pub entry: Option<Entry>,
+}
+
+/// A state. Behind all its scripts stand so many `more` that do nothing.
 #[derive(Clone, Copy)]
 pub struct Sketch {
     pub header: Option<&'static [u8]>,
@@ -87,4 +97,5 @@ pub struct Sketch {
     pub random: usize,
     pub objects: &'static [Object],
     pub agenda: &'static [Entry],
+    pub besides: Besides,
 }
