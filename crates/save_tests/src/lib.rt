@@ -12,6 +12,14 @@ mod change;
 #[cfg(test)]
 mod changed;
 #[cfg(test)]
+mod example;
+#[cfg(test)]
+mod going;
+#[cfg(test)]
+mod hooked;
+#[cfg(test)]
 mod layout;
+#[cfg(test)]
+mod noon;
 #[cfg(test)]
 mod sketch;
