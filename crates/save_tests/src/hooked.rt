@@ -16,12 +16,12 @@ use std::test::*;
 
 /// What is tried: the example, or changes of a state from the first number of a row on.
 #[derive(Clone, Copy)]
-enum Trial {
+enum Trial<'a> {
     Example,
-    Changes(&'static Sketch, u32),
+    Changes(&'a Sketch, u32),
 }
 
-fn holds(alloc: Global, trial: Trial, hooks: &Hooks) -> Result<bool, NoMemory>
+fn holds(alloc: Global, trial: Trial<'_>, hooks: &Hooks) -> Result<bool, NoMemory>
     requires hooks { AreServing (map (λ h. h.known) hooks.now.all.items) }
 {
     match trial {
@@ -31,7 +31,7 @@ fn holds(alloc: Global, trial: Trial, hooks: &Hooks) -> Result<bool, NoMemory>
 }
 
 /// Whether it holds with hooks.
-fn holds_with_hooks(alloc: Global, trial: Trial) -> Result<bool, NoMemory> {
+fn holds_with_hooks(alloc: Global, trial: Trial<'_>) -> Result<bool, NoMemory> {
     let mut hooks = Hooks::new(alloc);
     for n in 0u8..10 {
         let call: Call = Box::new(
