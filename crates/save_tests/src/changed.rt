@@ -18,7 +18,7 @@ fn is_played(alloc: Global, state: State, hooks: &Hooks) -> bool
     requires hooks { AreServing (map (λ h. h.known) hooks.now.all.items) }
 {
     let mut out = MemSink::new(alloc);
-    match go_on_from(alloc, state, 3_000, hooks, &mut out) {
+    match go_on_from(alloc, state, hooks, &mut out) {
         None => false,
         Some(played) => !matches!(played.how, How::Fault | How::NoMemory),
     }

@@ -13,24 +13,9 @@ use nwq_value::NoMemory;
 use play_save::{Opened, State, put_state};
 use std::alloc::Global;
 
-/// Whether a play of what is opened is inside its limits.
-fn is_limited(opened: &Opened) -> bool {
-    let (_limit, entries, until) = opened.limits;
-    opened.taken <= entries
-        && entries <= 1_000_000
-        && until <= 4_294_967_295
-        && opened.done < 1 << 61
-        && opened.world.next_number() < 1 << 61
-}
-
-/// Goes on for 20 entries, of at most so many instructions each, or to the play's end.
-fn go_on(
-    alloc: Global,
-    opened: Opened,
-    most: u64,
-    hooks: &Hooks,
-    out: &mut MemSink,
-) -> Option<Played>
+/// Goes on for 20 entries, of at most 3,000 instructions each, or to the play's end; `None` where
+/// what is opened passes a limit.
+fn go_on(alloc: Global, opened: Opened, hooks: &Hooks, out: &mut MemSink) -> Option<Played>
     requires few { length opened.scripts < 2 ^ 32 }
     requires meets { AllMeet opened.table (scripts_of opened.scripts)
         (tables_of opened.scripts) }
@@ -39,9 +24,6 @@ fn go_on(
     requires quiet { opened.world.world.trace ≡ [] }
     requires hooks { AreServing (map (λ h. h.known) hooks.now.all.items) }
 {
-    if !is_limited(&opened) {
-        return None;
-    }
     let Opened {
         table,
         scripts,
@@ -51,36 +33,27 @@ fn go_on(
         done,
     } = opened;
     let (limit, entries, until) = limits;
+    if taken > entries || entries > 1_000_000 || until > 4_294_967_295 {
+        return None;
+    }
+    if done >= 1 << 61 || world.next_number() >= 1 << 61 {
+        return None;
+    }
+    let most = if limit < 3_000 { limit } else { 3_000 };
+    let stop = taken + 20;
     Some(play_on(
-        alloc,
-        &scripts,
-        &mut world,
-        hooks,
-        &table,
-        limit.min(most).min(16_777_216),
-        entries,
-        until,
-        taken + 20,
-        taken,
-        done,
-        out,
+        alloc, &scripts, &mut world, hooks, &table, most, entries, until, stop, taken, done, out,
     ))
 }
 
 /// The same from a state.
 #[tactic(auto, using(crate::proofs::Quiet::rests))]
-pub fn go_on_from(
-    alloc: Global,
-    state: State,
-    most: u64,
-    hooks: &Hooks,
-    out: &mut MemSink,
-) -> Option<Played>
+pub fn go_on_from(alloc: Global, state: State, hooks: &Hooks, out: &mut MemSink) -> Option<Played>
     requires hooks { AreServing (map (λ h. h.known) hooks.now.all.items) }
 {
     match state.restore(alloc) {
         Err(NoMemory) => None,
-        Ok(opened) => go_on(alloc, opened, most, hooks, out),
+        Ok(opened) => go_on(alloc, opened, hooks, out),
     }
 }
 

@@ -197,7 +197,9 @@ fn byte_stops(alloc: Global, bytes: &mut Vec<u8>, place: usize, byte: u8) -> boo
     let kept = bytes[place];
     bytes[place] = byte;
     let stops = answer_of(alloc, bytes.as_slice()) == Answer::Place(place as u64);
-    bytes[place] = kept;
+    if place < bytes.len() {
+        bytes[place] = kept;
+    }
     stops
 }
 
