@@ -1,6 +1,6 @@
 //! Plays that go on from a state.
 
-ghost use Rattle.std.specs.Prelude.{◌≡◌, ◌<◌, ◌^◌, [], length, map};
+ghost use Rattle.std.specs.Prelude.{◌≡◌, ◌≤◌, ◌<◌, ◌^◌, [], length, map};
 ghost use Rattle.world_core.specs.Calls.{AreServing};
 ghost use Rattle.stack_rules.specs.Laws.{AllMeet};
 ghost use Rattle.ncs_machine.specs.Host.{scripts_of, tables_of};
@@ -12,6 +12,13 @@ use nwq_outside::MemSink;
 use nwq_value::NoMemory;
 use play_save::{Opened, State, put_state};
 use std::alloc::Global;
+
+/// How many instructions an entry may take here.
+fn at_most(limit: u64) -> u64
+    ensures { result ≤ 3000 }
+{
+    if limit < 3_000 { limit } else { 3_000 }
+}
 
 /// Goes on for 20 entries, of at most 3,000 instructions each, or to the play's end; `None` where
 /// what is opened passes a limit.
@@ -39,7 +46,7 @@ fn go_on(alloc: Global, opened: Opened, hooks: &Hooks, out: &mut MemSink) -> Opt
     if done >= 1 << 61 || world.next_number() >= 1 << 61 {
         return None;
     }
-    let most = if limit < 3_000 { limit } else { 3_000 };
+    let most = at_most(limit);
     let stop = taken + 20;
     Some(play_on(
         alloc, &scripts, &mut world, hooks, &table, most, entries, until, stop, taken, done, out,
