@@ -4,16 +4,16 @@ ghost use Rattle.std.specs.Prelude.{◌≡◌, ◌≤◌, length};
 ghost use Rattle.nwq_value.specs.Limits.{file_limit};
 
 use crate::asked::{Asking, include_of, line_of_file};
-use crate::flaws::{kind_of, line_in, place_of_line, put_flaw};
-use crate::form::{put_end, put_head, put_kind, put_plain, put_sentence, put_whole, put_words};
-use crate::forms::put_usage;
+use crate::budgets::budgets_of;
+use crate::notes::notes_on;
 use crate::places::{Spot, put_cause, token_at};
-use crate::system::{MEMORY, put_fault};
-use crate::takes::{given_at, put_parameters};
-use crate::told::{Told, same, told_by};
 use crate::units::{Ask, header_of, put_of_scripts, read_escaped, scripts_of, table_of};
 use command_words::{Command, command_of};
 use command_work::Status;
+use message_sentences::{Told, kind_of, line_in, place_of_line, put_end, put_fault, put_flaw};
+use message_sentences::{put_head, put_kind, put_memory, put_plain, put_sentence, put_usage};
+use message_sentences::{put_whole, put_words, same, told_by};
+use message_types::{given_at, put_parameters};
 use nss_lexer::Kind;
 use nwq_outside::{Files, Sink, Trouble};
 use nwq_text::put_text;
@@ -53,6 +53,9 @@ fn ask_of<'a>(alloc: Global, spot: Spot<'a>) -> Result<Option<Ask<'a>>, NoMemory
     if same(spot.cause, b"syntax") {
         return Ok(Some(Ask::Following));
     }
+    if same(spot.cause, b"mismatch") {
+        return Ok(Some(Ask::Types));
+    }
     if !same(spot.cause, b"arity") {
         return Ok(None);
     }
@@ -73,12 +76,26 @@ fn put_mismatch(out: &mut Vec<u8>, spot: Spot<'_>, table: Option<&Table>) -> Res
     requires size { length spot.bytes.now ≤ file_limit }
     requires place { spot.at ≤ length spot.bytes.now }
 {
-    if !same(spot.cause, b"mismatch") {
-        return Ok(());
-    }
     match token_at(spot.bytes, spot.at) {
         Some(token) if matches!(token.kind, Kind::Name) => put_parameters(out, table, token.text),
         _ => Ok(()),
+    }
+}
+
+/// Appends what is said where no unit answered.
+fn put_unanswered(
+    out: &mut Vec<u8>,
+    spot: Spot<'_>,
+    table: Option<&Table>,
+    ask: Ask<'_>,
+) -> Result<(), NoMemory>
+    requires size { length spot.bytes.now ≤ file_limit }
+    requires place { spot.at ≤ length spot.bytes.now }
+{
+    match ask {
+        Ask::Following => Ok(()),
+        Ask::Arity { .. } => put_cause(out, spot),
+        Ask::Types => put_mismatch(out, spot, table),
     }
 }
 
@@ -96,15 +113,13 @@ fn put_told<F: Files>(
 {
     let table = table_for(alloc, command, spot.cause, files);
     let Some(ask) = ask_of(alloc, spot)? else {
-        put_cause(out, spot)?;
-        return put_mismatch(out, spot, table.as_ref());
+        return put_cause(out, spot);
     };
     let scripts = scripts_of(alloc, command, files)?;
-    let is_arity = matches!(ask, Ask::Arity { .. });
-    if !is_arity {
+    if !matches!(ask, Ask::Arity { .. }) {
         put_cause(out, spot)?;
     }
-    let told = put_of_scripts(
+    let answered = put_of_scripts(
         alloc,
         out,
         scripts.as_slice(),
@@ -113,10 +128,10 @@ fn put_told<F: Files>(
         ask,
         files,
     )?;
-    if is_arity && !told {
-        put_cause(out, spot)?;
+    if answered {
+        return Ok(());
     }
-    Ok(())
+    put_unanswered(out, spot, table.as_ref(), ask)
 }
 
 /// Appends the message on a place of a source text.
@@ -307,22 +322,21 @@ fn after_name(all: &[String]) -> &[String] {
     }
 }
 
-/// The message after a command, which is empty where nothing is to be said.
+/// The message after a command that was refused, or cut by a failed call. It is empty where nothing
+/// is to be said.
 fn message<F: Files>(
     alloc: Global,
     words: &[String],
+    status: Status,
     end: End<'_>,
     files: &mut F,
 ) -> Result<Vec<u8>, NoMemory>
     ensures same { F.contents files.new ≡ F.contents files.old }
 {
     let mut out = Vec::new(alloc);
-    let status = status_numbered(end.number);
     match status {
-        Status::Done | Status::Limit => {}
         Status::Words => put_usage(&mut out, words)?,
         Status::Fault => put_fault(&mut out, end.trouble)?,
-        Status::Memory => put_words(&mut out, MEMORY)?,
         _ => put_line_told(alloc, &mut out, command_of(words), status, end.line, files)?,
     }
     Ok(out)
@@ -335,9 +349,36 @@ fn put<E: Sink>(text: &[u8], err: &mut E) {
     }
 }
 
-/// Says why the program ended with its number, where that is no success. `all` are its words, the
-/// first of which is its name, and the files are read once more. No file is written, and nothing
-/// that fails here has any effect but on what is said.
+/// Puts the notes on a command that did its work. Without memory for them there are none.
+fn put_notes<F: Files, E: Sink>(alloc: Global, words: &[String], files: &mut F, err: &mut E)
+    ensures same { F.contents files.new ≡ F.contents files.old }
+{
+    match notes_on(alloc, command_of(words), files) {
+        Ok(text) => put(text.as_slice(), err),
+        Err(NoMemory) => {}
+    }
+}
+
+/// Puts the message after a command that was refused, or cut by a failed call.
+fn put_message<F: Files, E: Sink>(
+    alloc: Global,
+    words: &[String],
+    status: Status,
+    end: End<'_>,
+    files: &mut F,
+    err: &mut E,
+)
+    ensures same { F.contents files.new ≡ F.contents files.old }
+{
+    match message(alloc, words, status, end, files) {
+        Ok(text) => put(text.as_slice(), err),
+        Err(NoMemory) => put_memory(err, &[]),
+    }
+}
+
+/// Says why the program ended with its number, or what is to be noted where it did its work. `all`
+/// are its words, the first of which is its name, and the files are read once more. No file is
+/// written, and nothing that fails here has any effect but on what is said.
 pub fn tell_end<F: Files, E: Sink>(
     alloc: Global,
     all: &[String],
@@ -347,8 +388,11 @@ pub fn tell_end<F: Files, E: Sink>(
 )
     ensures same { F.contents files.new ≡ F.contents files.old }
 {
-    match message(alloc, after_name(all), end, files) {
-        Ok(text) => put(text.as_slice(), err),
-        Err(NoMemory) => put(MEMORY.as_bytes(), err),
+    let words = after_name(all);
+    let status = status_numbered(end.number);
+    match status {
+        Status::Done | Status::Limit => put_notes(alloc, words, files, err),
+        Status::Memory => put_memory(err, budgets_of(command_of(words))),
+        _ => put_message(alloc, words, status, end, files, err),
     }
 }

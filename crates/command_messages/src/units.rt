@@ -4,10 +4,10 @@ ghost use Rattle.std.specs.Prelude.{◌≡◌, ◌≤◌, length, IfOk, IfSome};
 ghost use Rattle.nwq_value.specs.Limits.{file_limit, token_limit};
 
 use crate::places::{Spot, put_following};
-use crate::takes::{arity_named, put_arity};
 use command_words::Command;
 use engine_table::{built_in, read_header};
 use message_tokens::syntax_fault;
+use message_types::{arity_named, put_arity, put_types};
 use nss_include::{Unit, gather};
 use nss_lexer::Token;
 use nwq_outside::{Files, Read};
@@ -169,6 +169,22 @@ fn put_arity_in(
     }
 }
 
+/// Appends the types at a place, where a unit is refused there for them.
+#[tactic(auto, using(crate::proofs::UnitTokens::few_tokens))]
+fn put_types_in(
+    alloc: Global,
+    out: &mut Vec<u8>,
+    unit: &Unit,
+    table: Option<&Table>,
+    spot: Spot<'_>,
+) -> Result<bool, NoMemory> {
+    let Some(table) = table else {
+        return Ok(false);
+    };
+    let tokens = unit.tokens(alloc)?;
+    put_types(alloc, out, tokens.as_slice(), spot.at, table)
+}
+
 /// What a message asks of the unit of a script.
 #[derive(Clone, Copy)]
 pub(crate) enum Ask<'a> {
@@ -176,6 +192,8 @@ pub(crate) enum Ask<'a> {
     Following,
     /// How many arguments the function of this name takes, of which so many are given.
     Arity { name: &'a [u8], given: u32 },
+    /// Which types stand at the place.
+    Types,
 }
 
 /// Appends what a unit answers. Whether it did.
@@ -190,6 +208,7 @@ fn put_answer(
     match ask {
         Ask::Following => put_following_in(alloc, out, unit, spot),
         Ask::Arity { name, given } => put_arity_in(alloc, out, unit, table, name, given),
+        Ask::Types => put_types_in(alloc, out, unit, table, spot),
     }
 }
 

@@ -51,3 +51,30 @@ fn lines(rt: HostRuntime) {
     assert!(rt; is_shown(alloc, b"\"\xe4\" x", 4, b"\"\\xe4\" x\n       ^\n"));
     assert!(rt; is_shown(alloc, b"", 0, b"\n^\n"));
 }
+
+/// Of a long line 70 bytes are shown on each side.
+#[test]
+fn windows(rt: HostRuntime) {
+    let alloc = rt.alloc();
+    assert!(rt;
+        is_shown(
+            alloc,
+            b"xxxxxxxxxxxxxxxxxxxxxxxxxxxxxxxxxxxxxxxxxxxxxxxxxxxxxxxxxxxxxxxxxxxxxxx!yyyyyy\
+                yyyyyyyyyyyyyyyyyyyyyyyyyyyyyyyyyyyyyyyyyyyyyyyyyyyyyyyyyyyyyyyyy",
+            71,
+            b"...xxxxxxxxxxxxxxxxxxxxxxxxxxxxxxxxxxxxxxxxxxxxxxxxxxxxxxxxxxxxxxxxxxxxxx!yyyy\
+                yyyyyyyyyyyyyyyyyyyyyyyyyyyyyyyyyyyyyyyyyyyyyyyyyyyyyyyyyyyyyyyyy...\n                                                                         \
+                ^\n"
+        )
+    );
+    // No character is cut.
+    assert!(rt;
+        is_shown(
+            alloc,
+            "äxxxxxxxxxxxxxxxxxxxxxxxxxxxxxxxxxxxxxxxxxxxxxxxxxxxxxxxxxxxxxxxxxxxxx!".as_bytes(),
+            71,
+            b"...xxxxxxxxxxxxxxxxxxxxxxxxxxxxxxxxxxxxxxxxxxxxxxxxxxxxxxxxxxxxxxxxxxxxx!\n                                                                        \
+                ^\n"
+        )
+    );
+}
