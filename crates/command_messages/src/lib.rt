@@ -14,7 +14,7 @@
 #![tactic(auto)]
 
 mod asked;
-mod budgets;
+mod inputs;
 mod kept;
 mod notes;
 mod places;

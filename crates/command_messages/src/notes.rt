@@ -3,8 +3,8 @@
 ghost use Rattle.std.specs.Prelude.{◌≡◌, ◌≤◌, length};
 ghost use Rattle.nwq_value.specs.Limits.{file_limit};
 
-use crate::units::{header_of, read_named, scripts_of, table_of};
-use command_words::Command;
+use crate::inputs::Inputs;
+use crate::units::{read_named, scripts_of, table_of};
 use message_notes::{Input, put_play_notes};
 use message_sentences::{put_note, same};
 use nss_include::{Unit, gather};
@@ -87,10 +87,10 @@ fn is_engines(table: &Table) -> bool {
 }
 
 /// Whether `Random` is the engine's own under the header of a command.
-fn has_random<F: Files>(alloc: Global, command: Command<'_>, files: &mut F) -> bool
+fn has_random<F: Files>(alloc: Global, inputs: Inputs<'_>, files: &mut F) -> bool
     ensures same { F.contents files.new ≡ F.contents files.old }
 {
-    let Some(header) = header_of(command) else {
+    let Some(header) = inputs.header else {
         return false;
     };
     match table_of(alloc, header, files) {
@@ -103,17 +103,17 @@ fn has_random<F: Files>(alloc: Global, command: Command<'_>, files: &mut F) -> b
 fn put_random_note<F: Files>(
     alloc: Global,
     out: &mut Vec<u8>,
-    command: Command<'_>,
+    inputs: Inputs<'_>,
     name: &[u8],
     files: &mut F,
 ) -> Result<(), NoMemory>
     ensures same { F.contents files.new ≡ F.contents files.old }
 {
-    let scripts = scripts_of(alloc, command, files)?;
+    let scripts = scripts_of(alloc, inputs, files)?;
     let Some(script) = caller(alloc, scripts.as_slice(), files)? else {
         return Ok(());
     };
-    if !has_random(alloc, command, files) {
+    if !has_random(alloc, inputs, files) {
         return Ok(());
     }
     put_note(
@@ -142,7 +142,7 @@ fn gives_random(alloc: Global, bytes: &[u8]) -> bool {
 fn put_plan_notes<F: Files>(
     alloc: Global,
     out: &mut Vec<u8>,
-    command: Command<'_>,
+    inputs: Inputs<'_>,
     area: &str,
     plan: &str,
     files: &mut F,
@@ -169,28 +169,41 @@ fn put_plan_notes<F: Files>(
     if gives_random(alloc, plan_bytes.as_slice()) {
         return Ok(());
     }
-    put_random_note(alloc, out, command, plan_name.as_slice(), files)
+    put_random_note(alloc, out, inputs, plan_name.as_slice(), files)
 }
 
-/// The notes on a command that did its work, for standard error.
+/// Appends the notes on the play of one script.
+fn put_run_notes<F: Files>(
+    alloc: Global,
+    out: &mut Vec<u8>,
+    inputs: Inputs<'_>,
+    script: &str,
+    files: &mut F,
+) -> Result<(), NoMemory>
+    ensures same { F.contents files.new ≡ F.contents files.old }
+{
+    let mut name = escaped(alloc, script)?;
+    name.extend_from_slice(b".nss")?;
+    put_random_note(alloc, out, inputs, name.as_slice(), files)
+}
+
+/// The notes on a command that played what it reads, for standard error.
 pub(crate) fn notes_on<F: Files>(
     alloc: Global,
-    command: Command<'_>,
+    inputs: Inputs<'_>,
     files: &mut F,
 ) -> Result<Vec<u8>, NoMemory>
     ensures same { F.contents files.new ≡ F.contents files.old }
 {
     let mut out = Vec::new(alloc);
-    match command {
-        Command::Run(_header, script) => {
-            let mut name = escaped(alloc, script)?;
-            name.extend_from_slice(b".nss")?;
-            put_random_note(alloc, &mut out, command, name.as_slice(), files)?;
-        }
-        Command::Play { area, plan, .. } => {
-            put_plan_notes(alloc, &mut out, command, area, plan, files)?;
-        }
-        _ => {}
+    if !inputs.plays {
+        return Ok(out);
+    }
+    if let Some(script) = inputs.script {
+        put_run_notes(alloc, &mut out, inputs, script, files)?;
+    }
+    if let (Some(area), Some(plan)) = (inputs.area, inputs.plan) {
+        put_plan_notes(alloc, &mut out, inputs, area, plan, files)?;
     }
     Ok(out)
 }

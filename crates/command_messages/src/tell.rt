@@ -4,15 +4,16 @@ ghost use Rattle.std.specs.Prelude.{◌≡◌, ◌≤◌, length};
 ghost use Rattle.nwq_value.specs.Limits.{file_limit};
 
 use crate::asked::{Asking, include_of, line_of_file};
-use crate::budgets::budgets_of;
+use crate::inputs::{Inputs, inputs_of};
 use crate::notes::notes_on;
 use crate::places::{Spot, put_cause, token_at};
-use crate::units::{Ask, header_of, put_of_scripts, read_escaped, scripts_of, table_of};
-use command_words::{Command, command_of};
+use crate::units::{Ask, put_of_scripts, read_escaped, scripts_of, table_of};
+use command_words::command_of;
 use command_work::Status;
-use message_sentences::{Told, kind_of, line_in, place_of_line, put_end, put_fault, put_flaw};
-use message_sentences::{put_head, put_kind, put_memory, put_plain, put_sentence, put_usage};
-use message_sentences::{put_whole, put_words, same, told_by};
+use message_sentences::{
+    Told, kind_of, line_in, place_of_line, put_end, put_fault, put_flaw, put_head, put_kind,
+    put_memory, put_plain, put_sentence, put_usage, put_whole, put_words, same, told_by,
+};
 use message_types::{given_at, put_parameters};
 use nss_lexer::Kind;
 use nwq_outside::{Files, Sink, Trouble};
@@ -29,17 +30,17 @@ pub struct End<'a> {
     pub trouble: Option<&'a Trouble>,
 }
 
-/// The table of the header that a command names, where a cause is told by it.
+/// The table of the header, where a cause is told by it.
 fn table_for<F: Files>(
     alloc: Global,
-    command: Command<'_>,
+    inputs: Inputs<'_>,
     cause: &[u8],
     files: &mut F,
 ) -> Option<Table>
     ensures same { F.contents files.new ≡ F.contents files.old }
 {
     if same(cause, b"arity") || same(cause, b"mismatch") {
-        table_of(alloc, header_of(command)?, files)
+        table_of(alloc, inputs.header?, files)
     } else {
         None
     }
@@ -103,7 +104,7 @@ fn put_unanswered(
 fn put_told<F: Files>(
     alloc: Global,
     out: &mut Vec<u8>,
-    command: Command<'_>,
+    inputs: Inputs<'_>,
     spot: Spot<'_>,
     files: &mut F,
 ) -> Result<(), NoMemory>
@@ -111,11 +112,11 @@ fn put_told<F: Files>(
     requires place { spot.at ≤ length spot.bytes.now }
     ensures same { F.contents files.new ≡ F.contents files.old }
 {
-    let table = table_for(alloc, command, spot.cause, files);
+    let table = table_for(alloc, inputs, spot.cause, files);
     let Some(ask) = ask_of(alloc, spot)? else {
         return put_cause(out, spot);
     };
-    let scripts = scripts_of(alloc, command, files)?;
+    let scripts = scripts_of(alloc, inputs, files)?;
     if !matches!(ask, Ask::Arity { .. }) {
         put_cause(out, spot)?;
     }
@@ -138,7 +139,7 @@ fn put_told<F: Files>(
 fn put_place_message<F: Files>(
     alloc: Global,
     out: &mut Vec<u8>,
-    command: Command<'_>,
+    inputs: Inputs<'_>,
     name: &[u8],
     at: u32,
     cause: &[u8],
@@ -155,7 +156,7 @@ fn put_place_message<F: Files>(
                 cause,
             };
             put_head(out, name, spot.bytes, at)?;
-            put_told(alloc, out, command, spot, files)?;
+            put_told(alloc, out, inputs, spot, files)?;
             put_end(out, cause, spot.bytes, at)
         }
         _ => {
@@ -166,19 +167,24 @@ fn put_place_message<F: Files>(
     }
 }
 
-/// What a line of a file is that is no source text.
-fn line_sentence(command: Command<'_>, name: &[u8]) -> &'static str {
-    if name.ends_with(b".2da") {
-        return "this line breaks the rules of 2DA files";
+/// Whether a file that a command reads has this escaped name.
+fn is_named(file: Option<&str>, name: &[u8]) -> bool {
+    match file {
+        Some(file) => same(file.as_bytes(), name),
+        None => false,
     }
-    match command {
-        Command::Assemble(_file, _to) => {
-            "this is no instruction with its arguments, or it leads to no beginning of one"
-        }
-        Command::Play { plan, .. } if plan.as_bytes() == name => {
-            "this is no line of a plan: one blank stands between fields, and none at the end"
-        }
-        _ => "this line names no table: a name in lower case, once, without `.2da`",
+}
+
+/// What a line of a file is that is no source text.
+fn line_sentence(inputs: Inputs<'_>, name: &[u8]) -> &'static str {
+    if name.ends_with(b".2da") {
+        "this line breaks the rules of 2DA files"
+    } else if is_named(inputs.plan, name) {
+        "this is no line of a plan: one blank stands between fields, and none at the end"
+    } else if is_named(inputs.list, name) {
+        "this line names no table: a name in lower case, once, without `.2da`"
+    } else {
+        "this is no instruction with its arguments, or it leads to no beginning of one"
     }
 }
 
@@ -186,7 +192,7 @@ fn line_sentence(command: Command<'_>, name: &[u8]) -> &'static str {
 fn put_flaw_message<F: Files>(
     alloc: Global,
     out: &mut Vec<u8>,
-    command: Command<'_>,
+    inputs: Inputs<'_>,
     name: &[u8],
     flaw: &[u8],
     files: &mut F,
@@ -198,7 +204,7 @@ fn put_flaw_message<F: Files>(
     {
         let at = place_of_line(bytes.as_slice(), number) as u32;
         put_head(out, name, bytes.as_slice(), at)?;
-        put_words(out, line_sentence(command, name))?;
+        put_words(out, line_sentence(inputs, name))?;
         return put_end(out, kind_of(flaw), bytes.as_slice(), at);
     }
     put_plain(out, name)?;
@@ -207,26 +213,37 @@ fn put_flaw_message<F: Files>(
     put_kind(out, kind_of(flaw))
 }
 
-/// The place that asks for a file that isn't there: an include, or a line of a plan or of a list.
-fn asking_for<F: Files>(
+/// The line of a file, if the command reads it, that asks for another.
+fn line_asking<F: Files>(
     alloc: Global,
-    command: Command<'_>,
+    file: Option<&str>,
     wanted: &[u8],
     files: &mut F,
 ) -> Result<Option<Asking>, NoMemory>
     ensures same { F.contents files.new ≡ F.contents files.old }
 {
-    if let Command::Play { plan, list, .. } = command {
-        if let Some(list) = list
-            && let Some(asking) = line_of_file(alloc, list, wanted, files)?
-        {
-            return Ok(Some(asking));
-        }
-        if let Some(asking) = line_of_file(alloc, plan, wanted, files)? {
-            return Ok(Some(asking));
-        }
+    match file {
+        None => Ok(None),
+        Some(name) => line_of_file(alloc, name, wanted, files),
     }
-    let scripts = scripts_of(alloc, command, files)?;
+}
+
+/// The place that asks for a file that isn't there: an include, or a line of a plan or of a list.
+fn asking_for<F: Files>(
+    alloc: Global,
+    inputs: Inputs<'_>,
+    wanted: &[u8],
+    files: &mut F,
+) -> Result<Option<Asking>, NoMemory>
+    ensures same { F.contents files.new ≡ F.contents files.old }
+{
+    if let Some(asking) = line_asking(alloc, inputs.list, wanted, files)? {
+        return Ok(Some(asking));
+    }
+    if let Some(asking) = line_asking(alloc, inputs.plan, wanted, files)? {
+        return Ok(Some(asking));
+    }
+    let scripts = scripts_of(alloc, inputs, files)?;
     include_in(alloc, scripts.as_slice(), wanted, files)
 }
 
@@ -251,13 +268,13 @@ fn include_in<F: Files>(
 fn put_missing<F: Files>(
     alloc: Global,
     out: &mut Vec<u8>,
-    command: Command<'_>,
+    inputs: Inputs<'_>,
     name: &[u8],
     files: &mut F,
 ) -> Result<(), NoMemory>
     ensures same { F.contents files.new ≡ F.contents files.old }
 {
-    match asking_for(alloc, command, name, files)? {
+    match asking_for(alloc, inputs, name, files)? {
         Some(asking) => put_asked(alloc, out, name, &asking),
         None => put_whole(out, name, "there is no such file", "missing"),
     }
@@ -280,7 +297,7 @@ fn put_asked(
 fn put_line_told<F: Files>(
     alloc: Global,
     out: &mut Vec<u8>,
-    command: Command<'_>,
+    inputs: Inputs<'_>,
     status: Status,
     line: &[u8],
     files: &mut F,
@@ -289,12 +306,12 @@ fn put_line_told<F: Files>(
 {
     match told_by(status, line) {
         Told::Nothing => Ok(()),
-        Told::Missing(name) => put_missing(alloc, out, command, name, files),
+        Told::Missing(name) => put_missing(alloc, out, inputs, name, files),
         Told::Long(name) => put_whole(out, name, "the file has more than 16,777,216 bytes", "long"),
         Told::Place { name, at, cause } => {
-            put_place_message(alloc, out, command, name, at, cause, files)
+            put_place_message(alloc, out, inputs, name, at, cause, files)
         }
-        Told::Flaw { name, flaw } => put_flaw_message(alloc, out, command, name, flaw, files),
+        Told::Flaw { name, flaw } => put_flaw_message(alloc, out, inputs, name, flaw, files),
     }
 }
 
@@ -334,10 +351,11 @@ fn message<F: Files>(
     ensures same { F.contents files.new ≡ F.contents files.old }
 {
     let mut out = Vec::new(alloc);
+    let inputs = inputs_of(command_of(words));
     match status {
         Status::Words => put_usage(&mut out, words)?,
         Status::Fault => put_fault(&mut out, end.trouble)?,
-        _ => put_line_told(alloc, &mut out, command_of(words), status, end.line, files)?,
+        _ => put_line_told(alloc, &mut out, inputs, status, end.line, files)?,
     }
     Ok(out)
 }
@@ -353,7 +371,7 @@ fn put<E: Sink>(text: &[u8], err: &mut E) {
 fn put_notes<F: Files, E: Sink>(alloc: Global, words: &[String], files: &mut F, err: &mut E)
     ensures same { F.contents files.new ≡ F.contents files.old }
 {
-    match notes_on(alloc, command_of(words), files) {
+    match notes_on(alloc, inputs_of(command_of(words)), files) {
         Ok(text) => put(text.as_slice(), err),
         Err(NoMemory) => {}
     }
@@ -392,7 +410,7 @@ pub fn tell_end<F: Files, E: Sink>(
     let status = status_numbered(end.number);
     match status {
         Status::Done | Status::Limit => put_notes(alloc, words, files, err),
-        Status::Memory => put_memory(err, budgets_of(command_of(words))),
+        Status::Memory => put_memory(err, inputs_of(command_of(words)).budgets),
         _ => put_message(alloc, words, status, end, files, err),
     }
 }

@@ -3,8 +3,8 @@
 ghost use Rattle.std.specs.Prelude.{◌≡◌, ◌≤◌, length, IfOk, IfSome};
 ghost use Rattle.nwq_value.specs.Limits.{file_limit, token_limit};
 
+use crate::inputs::Inputs;
 use crate::places::{Spot, put_following};
-use command_words::Command;
 use engine_table::{built_in, read_header};
 use message_tokens::syntax_fault;
 use message_types::{arity_named, put_arity, put_types};
@@ -47,17 +47,6 @@ pub(crate) fn read_escaped<F: Files>(
     match name_in(alloc, escaped)? {
         None => Ok(None),
         Some(name) => Ok(read_named(alloc, name.as_str(), files)),
-    }
-}
-
-/// The header that a command names.
-pub(crate) fn header_of<'a>(command: Command<'a>) -> Option<&'a str> {
-    match command {
-        Command::Run(header, _script) => Some(header),
-        Command::Compile(header, _script) => Some(header),
-        Command::Check(header, _file) => Some(header),
-        Command::Play { header, .. } => Some(header),
-        _ => None,
     }
 }
 
@@ -108,19 +97,20 @@ fn one_name(alloc: Global, name: &str) -> Result<Vec<Text>, NoMemory> {
 /// The names of the scripts that a command compiles, in order.
 pub(crate) fn scripts_of<F: Files>(
     alloc: Global,
-    command: Command<'_>,
+    inputs: Inputs<'_>,
     files: &mut F,
 ) -> Result<Vec<Text>, NoMemory>
     ensures same { F.contents files.new ≡ F.contents files.old }
 {
-    match command {
-        Command::Run(_header, script) => one_name(alloc, script),
-        Command::Compile(_header, script) => one_name(alloc, script),
-        Command::Play { plan, .. } => match read_named(alloc, plan, files) {
-            None => Ok(Vec::new(alloc)),
-            Some(bytes) => names_in(alloc, bytes.as_slice()),
-        },
-        _ => Ok(Vec::new(alloc)),
+    if let Some(script) = inputs.script {
+        return one_name(alloc, script);
+    }
+    let Some(plan) = inputs.plan else {
+        return Ok(Vec::new(alloc));
+    };
+    match read_named(alloc, plan, files) {
+        None => Ok(Vec::new(alloc)),
+        Some(bytes) => names_in(alloc, bytes.as_slice()),
     }
 }
 

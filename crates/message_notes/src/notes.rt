@@ -2,7 +2,7 @@
 
 ghost use Rattle.std.specs.Prelude.{◌≤◌, ◌<◌, length};
 ghost use Rattle.nwq_value.specs.Limits.{file_limit};
-ghost use Rattle.gff_tree.specs.Tree.{node_count};
+ghost use Rattle.gff_tree.specs.Count.{node_count};
 ghost use Rattle.gff_tree.specs.Whole.{plain_gff};
 
 use crate::lacks::{Aim, Lack, aims, lack_of};
@@ -73,7 +73,8 @@ fn sentence_of(line: &Line, lack: Lack) -> &'static str {
             _ => "no object has the tag `%`, so the script starts on none",
         },
         Lack::Number => match line {
-            Line::Event { .. } => "no object of this number has the tag `%`, so the event does nothing",
+            Line::Event { .. } =>
+                "no object of this number has the tag `%`, so the event does nothing",
             _ => "no object of this number has the tag `%`, so the script starts on none",
         },
     }
@@ -133,8 +134,13 @@ fn put_lacks(
             return Ok(());
         };
         if let Some(lack) = lack_of(top, line, *aim) {
-            if noted == MOST_NOTES {
-                return put_note(out, plan.name, "further lines name what the area hasn't", b"");
+            if noted >= MOST_NOTES {
+                return put_note(
+                    out,
+                    plan.name,
+                    "further lines name what the area hasn't",
+                    b"",
+                );
             }
             noted += 1;
             put_lack(out, plan, *text, line, lack)?;

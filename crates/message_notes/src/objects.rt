@@ -2,7 +2,7 @@
 
 ghost use Rattle.std.specs.Prelude.{◌≤◌, ◌<◌, length, IfSome};
 ghost use Rattle.nwq_value.specs.Limits.{file_limit};
-ghost use Rattle.gff_tree.specs.Tree.{node_count};
+ghost use Rattle.gff_tree.specs.Count.{node_count};
 ghost use Rattle.gff_tree.specs.Whole.{plain_gff};
 
 use area_tree::list_label;

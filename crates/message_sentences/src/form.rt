@@ -91,8 +91,12 @@ pub fn put_note_at(
 }
 
 /// Appends a note on a whole file. The name is escaped already.
-pub fn put_note(out: &mut Vec<u8>, name: &[u8], sentence: &str, piece: &[u8]) -> Result<(), NoMemory>
-{
+pub fn put_note(
+    out: &mut Vec<u8>,
+    name: &[u8],
+    sentence: &str,
+    piece: &[u8],
+) -> Result<(), NoMemory> {
     put_plain(out, name)?;
     put_words(out, ": note: ")?;
     put_sentence(out, sentence, piece)?;

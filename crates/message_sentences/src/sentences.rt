@@ -124,8 +124,7 @@ fn outside(token: Option<Token<'_>>) -> &'static str {
 
 /// A mismatch at a sign. Some have one operand, which must be an int.
 fn sign_mismatch(token: Option<Token<'_>>) -> &'static str {
-    let takes_one =
-        is(token, b"!") || is(token, b"~") || is(token, b"++") || is(token, b"--");
+    let takes_one = is(token, b"!") || is(token, b"~") || is(token, b"++") || is(token, b"--");
     if takes_one {
         "what `%` is given is no int"
     } else {

@@ -1,8 +1,10 @@
 //! The parts of the node at a token whose types its rule joins, as ranges of tokens.
 //!
 //! The tree keeps one token of each node, and no brackets. So the ranges are found by how tight
-//! operators bind. A range that isn't a part's is harmless: what is made of it (`probe.rt`) is no
-//! unit, or is refused elsewhere, and then nothing is told.
+//! operators bind. What is told of a range is what comes of the whole unit with this range changed
+//! (`probe.rt`); where that is no unit any more, nothing is told.
+
+ghost use Rattle.std.specs.Prelude.{◌≤◌};
 
 use message_sentences::same;
 use nss_lexer::{Kind, Token};
@@ -37,25 +39,82 @@ struct Level {
 }
 
 const LEVELS: [Level; 19] = [
-    Level { text: b"||", level: 1 },
-    Level { text: b"&&", level: 2 },
-    Level { text: b"|", level: 3 },
-    Level { text: b"^", level: 4 },
-    Level { text: b"&", level: 5 },
-    Level { text: b"==", level: 6 },
-    Level { text: b"!=", level: 6 },
-    Level { text: b">=", level: 7 },
-    Level { text: b">", level: 7 },
-    Level { text: b"<", level: 7 },
-    Level { text: b"<=", level: 7 },
-    Level { text: b"<<", level: 8 },
-    Level { text: b">>", level: 8 },
-    Level { text: b">>>", level: 8 },
-    Level { text: b"+", level: 9 },
-    Level { text: b"-", level: 9 },
-    Level { text: b"*", level: 10 },
-    Level { text: b"/", level: 10 },
-    Level { text: b"%", level: 10 },
+    Level {
+        text: b"||",
+        level: 1,
+    },
+    Level {
+        text: b"&&",
+        level: 2,
+    },
+    Level {
+        text: b"|",
+        level: 3,
+    },
+    Level {
+        text: b"^",
+        level: 4,
+    },
+    Level {
+        text: b"&",
+        level: 5,
+    },
+    Level {
+        text: b"==",
+        level: 6,
+    },
+    Level {
+        text: b"!=",
+        level: 6,
+    },
+    Level {
+        text: b">=",
+        level: 7,
+    },
+    Level {
+        text: b">",
+        level: 7,
+    },
+    Level {
+        text: b"<",
+        level: 7,
+    },
+    Level {
+        text: b"<=",
+        level: 7,
+    },
+    Level {
+        text: b"<<",
+        level: 8,
+    },
+    Level {
+        text: b">>",
+        level: 8,
+    },
+    Level {
+        text: b">>>",
+        level: 8,
+    },
+    Level {
+        text: b"+",
+        level: 9,
+    },
+    Level {
+        text: b"-",
+        level: 9,
+    },
+    Level {
+        text: b"*",
+        level: 10,
+    },
+    Level {
+        text: b"/",
+        level: 10,
+    },
+    Level {
+        text: b"%",
+        level: 10,
+    },
 ];
 
 /// Below every operator between two operands, as an assignment.
@@ -257,7 +316,11 @@ fn put_operands(tokens: &[Token<'_>], at: usize, parts: &mut Vec<Part>) -> Resul
 }
 
 /// Puts the arguments of a call, from the place of the first one on.
-fn put_arguments(tokens: &[Token<'_>], first: usize, parts: &mut Vec<Part>) -> Result<(), NoMemory> {
+fn put_arguments(
+    tokens: &[Token<'_>],
+    first: usize,
+    parts: &mut Vec<Part>,
+) -> Result<(), NoMemory> {
     let mut from = first;
     for _argument in 0..MOST_ARGUMENTS {
         let to = right_end(tokens, from, LOOSE);

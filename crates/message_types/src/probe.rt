@@ -48,7 +48,7 @@ enum Change {
 
 /// How a changed unit is refused.
 #[derive(Clone, Copy)]
-enum Answer {
+enum Trial {
     /// It isn't.
     Not,
     /// Where it was refused before.
@@ -80,11 +80,7 @@ fn put_variable(text: &mut Vec<u8>, ty: &str) -> Result<(), NoMemory> {
 }
 
 /// Appends a part as it is changed.
-fn put_changed(
-    text: &mut Vec<u8>,
-    inside: &[Token<'_>],
-    change: Change,
-) -> Result<(), NoMemory> {
+fn put_changed(text: &mut Vec<u8>, inside: &[Token<'_>], change: Change) -> Result<(), NoMemory> {
     match change {
         Change::Replaced(ty) => put_variable(text, ty),
         Change::Given(ty) => {
@@ -96,11 +92,11 @@ fn put_changed(
             Ok(())
         }
         Change::Compared => {
-            text.extend_from_slice(b"( ")?;
+            text.extend_from_slice(b"( ( ")?;
             put_all(text, inside)?;
             text.extend_from_slice(b") == ( ")?;
             put_all(text, inside)?;
-            text.extend_from_slice(b") ")?;
+            text.extend_from_slice(b") ) ")?;
             Ok(())
         }
     }
@@ -152,7 +148,7 @@ pub(crate) fn refused_at(
 }
 
 /// What it means that the changed unit, which has `count` tokens, is refused at one of them.
-fn answer_at(unit: Refused<'_>, part: Part, count: usize, fault: usize) -> Answer {
+fn trial_at(unit: Refused<'_>, part: Part, count: usize, fault: usize) -> Trial {
     let begin = VARIABLE_TOKENS.saturating_add(part.from);
     let end = count.saturating_sub(unit.tokens.len().saturating_sub(part.to));
     let before = if unit.at < part.from {
@@ -161,43 +157,41 @@ fn answer_at(unit: Refused<'_>, part: Part, count: usize, fault: usize) -> Answe
         count.saturating_sub(unit.tokens.len().saturating_sub(unit.at))
     };
     if fault >= count {
-        Answer::Not
+        Trial::Not
     } else if fault == before {
-        Answer::AsBefore
+        Trial::AsBefore
     } else if fault >= begin && fault < end {
-        Answer::Inside(fault - begin)
+        Trial::Inside(fault - begin)
     } else {
-        Answer::Elsewhere
+        Trial::Elsewhere
     }
 }
 
 /// How the unit is refused with a part of it changed.
-fn answer(
-    alloc: Global,
-    unit: Refused<'_>,
-    part: Part,
-    change: Change,
-) -> Result<Answer, NoMemory> {
+fn tried(alloc: Global, unit: Refused<'_>, part: Part, change: Change) -> Result<Trial, NoMemory> {
     match changed_text(alloc, unit.tokens, part, change)? {
         Some(text) if text.len() <= MOST_BYTES => {
             let tokens = tokens_of(alloc, text.as_slice())?;
             match refused_at(alloc, tokens.as_slice(), unit.table)? {
-                None => Ok(Answer::NoUnit),
-                Some(fault) => Ok(answer_at(unit, part, tokens.len(), fault)),
+                None => Ok(Trial::NoUnit),
+                Some(fault) => Ok(trial_at(unit, part, tokens.len(), fault)),
             }
         }
-        _ => Ok(Answer::NoUnit),
+        _ => Ok(Trial::NoUnit),
     }
 }
 
 /// What a part is that has none of the types by name: of a struct, if it can be compared with
 /// itself, or else of no type.
-fn other_type(alloc: Global, unit: Refused<'_>, part: Part) -> Result<Option<&'static str>, NoMemory>
-{
-    let equals = part.to.saturating_sub(part.from).saturating_add(2);
-    match answer(alloc, unit, part, Change::Compared)? {
-        Answer::NoUnit => Ok(None),
-        Answer::Inside(at) => Ok(if at == equals { Some("void") } else { None }),
+fn other_type(
+    alloc: Global,
+    unit: Refused<'_>,
+    part: Part,
+) -> Result<Option<&'static str>, NoMemory> {
+    let equals = part.to.saturating_sub(part.from).saturating_add(3);
+    match tried(alloc, unit, part, Change::Compared)? {
+        Trial::NoUnit => Ok(None),
+        Trial::Inside(at) => Ok(if at == equals { Some("void") } else { None }),
         _ => Ok(Some("a struct")),
     }
 }
@@ -209,9 +203,9 @@ pub(crate) fn type_of(
     part: Part,
 ) -> Result<Option<&'static str>, NoMemory> {
     for ty in TYPES {
-        match answer(alloc, unit, part, Change::Given(ty))? {
-            Answer::AsBefore => return Ok(Some(ty)),
-            Answer::NoUnit => return Ok(None),
+        match tried(alloc, unit, part, Change::Given(ty))? {
+            Trial::AsBefore => return Ok(Some(ty)),
+            Trial::NoUnit => return Ok(None),
             _ => {}
         }
     }
@@ -225,9 +219,9 @@ pub(crate) fn type_wanted(
     part: Part,
 ) -> Result<Option<&'static str>, NoMemory> {
     for ty in TYPES {
-        match answer(alloc, unit, part, Change::Replaced(ty))? {
-            Answer::Not | Answer::Elsewhere => return Ok(Some(ty)),
-            Answer::NoUnit => return Ok(None),
+        match tried(alloc, unit, part, Change::Replaced(ty))? {
+            Trial::Not | Trial::Elsewhere => return Ok(Some(ty)),
+            Trial::NoUnit => return Ok(None),
             _ => {}
         }
     }

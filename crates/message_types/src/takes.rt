@@ -64,11 +64,7 @@ fn routine_named<'a>(table: &'a Table, name: &[u8]) -> Option<&'a Routine> {
 }
 
 /// How many arguments a function of the unit takes, or a routine of the header.
-pub fn arity_named(
-    table: Option<&Table>,
-    tokens: &[Token<'_>],
-    name: &[u8],
-) -> Option<Arity> {
+pub fn arity_named(table: Option<&Table>, tokens: &[Token<'_>], name: &[u8]) -> Option<Arity> {
     match taken(tokens, name) {
         Some(arity) => Some(arity),
         None => match routine_named(table?, name) {
@@ -95,12 +91,7 @@ fn put_arguments(out: &mut Vec<u8>, arity: Arity) -> Result<(), NoMemory> {
 }
 
 /// Appends how many arguments a function takes, and how many a call gives.
-pub fn put_arity(
-    out: &mut Vec<u8>,
-    name: &[u8],
-    arity: Arity,
-    given: u32,
-) -> Result<(), NoMemory> {
+pub fn put_arity(out: &mut Vec<u8>, name: &[u8], arity: Arity, given: u32) -> Result<(), NoMemory> {
     put_sentence(out, "`%` takes ", name)?;
     put_arguments(out, arity)?;
     put_words(out, ", and ")?;
