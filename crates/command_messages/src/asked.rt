@@ -3,8 +3,8 @@
 ghost use Rattle.std.specs.Prelude.{◌≡◌, ◌≤◌, length, IfOk, IfSome};
 ghost use Rattle.nwq_value.specs.Limits.{file_limit};
 
-use crate::told::same;
 use crate::units::read_named;
+use message_sentences::same;
 use nss_lexer::{Kind, Lexed, Token, next};
 use nwq_outside::Files;
 use nwq_text::Lines;

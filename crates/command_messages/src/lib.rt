@@ -1,4 +1,5 @@
-//! What is said on standard error after a command that ended with anything but success.
+//! What is said on standard error after a command: why it ended with anything but success, or notes
+//! on a play.
 //!
 //! [`tell_end`] comes after the work of a command. It is given how that ended, the last line on
 //! standard output, which [`LastLine`] kept, and files that it reads once more; it puts one message
@@ -6,23 +7,20 @@
 //! command did, and where a read or the put fails nothing comes of it. Where the files no longer
 //! are what the command read, the message tells what the line tells.
 //!
-//! The sentences stand as data in `sentences.rt` and `flaws.rt`, the forms of the words in
-//! `forms.rt`, which also has the version. The page on messages is docs/MESSAGES.md.
+//! Here stands what is found for a message: the token at a place, the unit that is refused there,
+//! the line that asks for a file. The sentences are those of `message_sentences`, types and
+//! arguments those of `message_types`, the notes on a plan and its area those of `message_notes`.
+//! The page on messages is docs/MESSAGES.md.
 #![tactic(auto)]
 
 mod asked;
-mod flaws;
-mod form;
-mod forms;
+mod inputs;
 mod kept;
+mod notes;
 mod places;
-mod sentences;
-mod system;
-mod takes;
 mod tell;
-mod told;
 mod units;
 
-pub use forms::VERSION;
 pub use kept::LastLine;
+pub use message_sentences::VERSION;
 pub use tell::{End, tell_end};

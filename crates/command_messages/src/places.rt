@@ -5,9 +5,7 @@ ghost use Rattle.std.specs.List.{AllByRecursion};
 ghost use Rattle.nwq_value.specs.Limits.{file_limit, token_limit};
 ghost use Rattle.nss_lexer.specs.Lexemes.{IsToken};
 
-use crate::form::{put_sentence, put_words};
-use crate::sentences::{bad_sentence, end_sentence, sentence_of};
-use crate::told::same;
+use message_sentences::{bad_sentence, end_sentence, put_sentence, put_words, same, sentence_of};
 use message_tokens::{candidates, following};
 use nss_lexer::{Lexed, Token, next};
 use nwq_value::NoMemory;

@@ -4,16 +4,17 @@ ghost use Rattle.std.specs.Prelude.{◌≡◌, ◌≤◌, length};
 ghost use Rattle.nwq_value.specs.Limits.{file_limit};
 
 use crate::asked::{Asking, include_of, line_of_file};
-use crate::flaws::{kind_of, line_in, place_of_line, put_flaw};
-use crate::form::{put_end, put_head, put_kind, put_plain, put_sentence, put_whole, put_words};
-use crate::forms::put_usage;
+use crate::inputs::{Inputs, inputs_of};
+use crate::notes::notes_on;
 use crate::places::{Spot, put_cause, token_at};
-use crate::system::{MEMORY, put_fault};
-use crate::takes::{given_at, put_parameters};
-use crate::told::{Told, same, told_by};
-use crate::units::{Ask, header_of, put_of_scripts, read_escaped, scripts_of, table_of};
-use command_words::{Command, command_of};
+use crate::units::{Ask, put_of_scripts, read_escaped, scripts_of, table_of};
+use command_words::command_of;
 use command_work::Status;
+use message_sentences::{
+    Told, kind_of, line_in, place_of_line, put_end, put_fault, put_flaw, put_head, put_kind,
+    put_memory, put_plain, put_sentence, put_usage, put_whole, put_words, same, told_by,
+};
+use message_types::{given_at, put_parameters};
 use nss_lexer::Kind;
 use nwq_outside::{Files, Sink, Trouble};
 use nwq_text::put_text;
@@ -29,17 +30,17 @@ pub struct End<'a> {
     pub trouble: Option<&'a Trouble>,
 }
 
-/// The table of the header that a command names, where a cause is told by it.
+/// The table of the header, where a cause is told by it.
 fn table_for<F: Files>(
     alloc: Global,
-    command: Command<'_>,
+    inputs: Inputs<'_>,
     cause: &[u8],
     files: &mut F,
 ) -> Option<Table>
     ensures same { F.contents files.new ≡ F.contents files.old }
 {
     if same(cause, b"arity") || same(cause, b"mismatch") {
-        table_of(alloc, header_of(command)?, files)
+        table_of(alloc, inputs.header?, files)
     } else {
         None
     }
@@ -52,6 +53,9 @@ fn ask_of<'a>(alloc: Global, spot: Spot<'a>) -> Result<Option<Ask<'a>>, NoMemory
 {
     if same(spot.cause, b"syntax") {
         return Ok(Some(Ask::Following));
+    }
+    if same(spot.cause, b"mismatch") {
+        return Ok(Some(Ask::Types));
     }
     if !same(spot.cause, b"arity") {
         return Ok(None);
@@ -73,12 +77,26 @@ fn put_mismatch(out: &mut Vec<u8>, spot: Spot<'_>, table: Option<&Table>) -> Res
     requires size { length spot.bytes.now ≤ file_limit }
     requires place { spot.at ≤ length spot.bytes.now }
 {
-    if !same(spot.cause, b"mismatch") {
-        return Ok(());
-    }
     match token_at(spot.bytes, spot.at) {
         Some(token) if matches!(token.kind, Kind::Name) => put_parameters(out, table, token.text),
         _ => Ok(()),
+    }
+}
+
+/// Appends what is said where no unit answered.
+fn put_unanswered(
+    out: &mut Vec<u8>,
+    spot: Spot<'_>,
+    table: Option<&Table>,
+    ask: Ask<'_>,
+) -> Result<(), NoMemory>
+    requires size { length spot.bytes.now ≤ file_limit }
+    requires place { spot.at ≤ length spot.bytes.now }
+{
+    match ask {
+        Ask::Following => Ok(()),
+        Ask::Arity { .. } => put_cause(out, spot),
+        Ask::Types => put_mismatch(out, spot, table),
     }
 }
 
@@ -86,7 +104,7 @@ fn put_mismatch(out: &mut Vec<u8>, spot: Spot<'_>, table: Option<&Table>) -> Res
 fn put_told<F: Files>(
     alloc: Global,
     out: &mut Vec<u8>,
-    command: Command<'_>,
+    inputs: Inputs<'_>,
     spot: Spot<'_>,
     files: &mut F,
 ) -> Result<(), NoMemory>
@@ -94,17 +112,15 @@ fn put_told<F: Files>(
     requires place { spot.at ≤ length spot.bytes.now }
     ensures same { F.contents files.new ≡ F.contents files.old }
 {
-    let table = table_for(alloc, command, spot.cause, files);
+    let table = table_for(alloc, inputs, spot.cause, files);
     let Some(ask) = ask_of(alloc, spot)? else {
-        put_cause(out, spot)?;
-        return put_mismatch(out, spot, table.as_ref());
+        return put_cause(out, spot);
     };
-    let scripts = scripts_of(alloc, command, files)?;
-    let is_arity = matches!(ask, Ask::Arity { .. });
-    if !is_arity {
+    let scripts = scripts_of(alloc, inputs, files)?;
+    if !matches!(ask, Ask::Arity { .. }) {
         put_cause(out, spot)?;
     }
-    let told = put_of_scripts(
+    let answered = put_of_scripts(
         alloc,
         out,
         scripts.as_slice(),
@@ -113,17 +129,17 @@ fn put_told<F: Files>(
         ask,
         files,
     )?;
-    if is_arity && !told {
-        put_cause(out, spot)?;
+    if answered {
+        return Ok(());
     }
-    Ok(())
+    put_unanswered(out, spot, table.as_ref(), ask)
 }
 
 /// Appends the message on a place of a source text.
 fn put_place_message<F: Files>(
     alloc: Global,
     out: &mut Vec<u8>,
-    command: Command<'_>,
+    inputs: Inputs<'_>,
     name: &[u8],
     at: u32,
     cause: &[u8],
@@ -140,7 +156,7 @@ fn put_place_message<F: Files>(
                 cause,
             };
             put_head(out, name, spot.bytes, at)?;
-            put_told(alloc, out, command, spot, files)?;
+            put_told(alloc, out, inputs, spot, files)?;
             put_end(out, cause, spot.bytes, at)
         }
         _ => {
@@ -151,19 +167,24 @@ fn put_place_message<F: Files>(
     }
 }
 
-/// What a line of a file is that is no source text.
-fn line_sentence(command: Command<'_>, name: &[u8]) -> &'static str {
-    if name.ends_with(b".2da") {
-        return "this line breaks the rules of 2DA files";
+/// Whether a file that a command reads has this escaped name.
+fn is_named(file: Option<&str>, name: &[u8]) -> bool {
+    match file {
+        Some(file) => same(file.as_bytes(), name),
+        None => false,
     }
-    match command {
-        Command::Assemble(_file, _to) => {
-            "this is no instruction with its arguments, or it leads to no beginning of one"
-        }
-        Command::Play { plan, .. } if plan.as_bytes() == name => {
-            "this is no line of a plan: one blank stands between fields, and none at the end"
-        }
-        _ => "this line names no table: a name in lower case, once, without `.2da`",
+}
+
+/// What a line of a file is that is no source text.
+fn line_sentence(inputs: Inputs<'_>, name: &[u8]) -> &'static str {
+    if name.ends_with(b".2da") {
+        "this line breaks the rules of 2DA files"
+    } else if is_named(inputs.plan, name) {
+        "this is no line of a plan: one blank stands between fields, and none at the end"
+    } else if is_named(inputs.list, name) {
+        "this line names no table: a name in lower case, once, without `.2da`"
+    } else {
+        "this is no instruction with its arguments, or it leads to no beginning of one"
     }
 }
 
@@ -171,7 +192,7 @@ fn line_sentence(command: Command<'_>, name: &[u8]) -> &'static str {
 fn put_flaw_message<F: Files>(
     alloc: Global,
     out: &mut Vec<u8>,
-    command: Command<'_>,
+    inputs: Inputs<'_>,
     name: &[u8],
     flaw: &[u8],
     files: &mut F,
@@ -183,7 +204,7 @@ fn put_flaw_message<F: Files>(
     {
         let at = place_of_line(bytes.as_slice(), number) as u32;
         put_head(out, name, bytes.as_slice(), at)?;
-        put_words(out, line_sentence(command, name))?;
+        put_words(out, line_sentence(inputs, name))?;
         return put_end(out, kind_of(flaw), bytes.as_slice(), at);
     }
     put_plain(out, name)?;
@@ -192,26 +213,37 @@ fn put_flaw_message<F: Files>(
     put_kind(out, kind_of(flaw))
 }
 
-/// The place that asks for a file that isn't there: an include, or a line of a plan or of a list.
-fn asking_for<F: Files>(
+/// The line of a file, if the command reads it, that asks for another.
+fn line_asking<F: Files>(
     alloc: Global,
-    command: Command<'_>,
+    file: Option<&str>,
     wanted: &[u8],
     files: &mut F,
 ) -> Result<Option<Asking>, NoMemory>
     ensures same { F.contents files.new ≡ F.contents files.old }
 {
-    if let Command::Play { plan, list, .. } = command {
-        if let Some(list) = list
-            && let Some(asking) = line_of_file(alloc, list, wanted, files)?
-        {
-            return Ok(Some(asking));
-        }
-        if let Some(asking) = line_of_file(alloc, plan, wanted, files)? {
-            return Ok(Some(asking));
-        }
+    match file {
+        None => Ok(None),
+        Some(name) => line_of_file(alloc, name, wanted, files),
     }
-    let scripts = scripts_of(alloc, command, files)?;
+}
+
+/// The place that asks for a file that isn't there: an include, or a line of a plan or of a list.
+fn asking_for<F: Files>(
+    alloc: Global,
+    inputs: Inputs<'_>,
+    wanted: &[u8],
+    files: &mut F,
+) -> Result<Option<Asking>, NoMemory>
+    ensures same { F.contents files.new ≡ F.contents files.old }
+{
+    if let Some(asking) = line_asking(alloc, inputs.list, wanted, files)? {
+        return Ok(Some(asking));
+    }
+    if let Some(asking) = line_asking(alloc, inputs.plan, wanted, files)? {
+        return Ok(Some(asking));
+    }
+    let scripts = scripts_of(alloc, inputs, files)?;
     include_in(alloc, scripts.as_slice(), wanted, files)
 }
 
@@ -236,13 +268,13 @@ fn include_in<F: Files>(
 fn put_missing<F: Files>(
     alloc: Global,
     out: &mut Vec<u8>,
-    command: Command<'_>,
+    inputs: Inputs<'_>,
     name: &[u8],
     files: &mut F,
 ) -> Result<(), NoMemory>
     ensures same { F.contents files.new ≡ F.contents files.old }
 {
-    match asking_for(alloc, command, name, files)? {
+    match asking_for(alloc, inputs, name, files)? {
         Some(asking) => put_asked(alloc, out, name, &asking),
         None => put_whole(out, name, "there is no such file", "missing"),
     }
@@ -265,7 +297,7 @@ fn put_asked(
 fn put_line_told<F: Files>(
     alloc: Global,
     out: &mut Vec<u8>,
-    command: Command<'_>,
+    inputs: Inputs<'_>,
     status: Status,
     line: &[u8],
     files: &mut F,
@@ -274,12 +306,12 @@ fn put_line_told<F: Files>(
 {
     match told_by(status, line) {
         Told::Nothing => Ok(()),
-        Told::Missing(name) => put_missing(alloc, out, command, name, files),
+        Told::Missing(name) => put_missing(alloc, out, inputs, name, files),
         Told::Long(name) => put_whole(out, name, "the file has more than 16,777,216 bytes", "long"),
         Told::Place { name, at, cause } => {
-            put_place_message(alloc, out, command, name, at, cause, files)
+            put_place_message(alloc, out, inputs, name, at, cause, files)
         }
-        Told::Flaw { name, flaw } => put_flaw_message(alloc, out, command, name, flaw, files),
+        Told::Flaw { name, flaw } => put_flaw_message(alloc, out, inputs, name, flaw, files),
     }
 }
 
@@ -307,23 +339,23 @@ fn after_name(all: &[String]) -> &[String] {
     }
 }
 
-/// The message after a command, which is empty where nothing is to be said.
+/// The message after a command that was refused, or cut by a failed call. It is empty where nothing
+/// is to be said.
 fn message<F: Files>(
     alloc: Global,
     words: &[String],
+    status: Status,
     end: End<'_>,
     files: &mut F,
 ) -> Result<Vec<u8>, NoMemory>
     ensures same { F.contents files.new ≡ F.contents files.old }
 {
     let mut out = Vec::new(alloc);
-    let status = status_numbered(end.number);
+    let inputs = inputs_of(command_of(words));
     match status {
-        Status::Done | Status::Limit => {}
         Status::Words => put_usage(&mut out, words)?,
         Status::Fault => put_fault(&mut out, end.trouble)?,
-        Status::Memory => put_words(&mut out, MEMORY)?,
-        _ => put_line_told(alloc, &mut out, command_of(words), status, end.line, files)?,
+        _ => put_line_told(alloc, &mut out, inputs, status, end.line, files)?,
     }
     Ok(out)
 }
@@ -335,9 +367,36 @@ fn put<E: Sink>(text: &[u8], err: &mut E) {
     }
 }
 
-/// Says why the program ended with its number, where that is no success. `all` are its words, the
-/// first of which is its name, and the files are read once more. No file is written, and nothing
-/// that fails here has any effect but on what is said.
+/// Puts the notes on a command that did its work. Without memory for them there are none.
+fn put_notes<F: Files, E: Sink>(alloc: Global, words: &[String], files: &mut F, err: &mut E)
+    ensures same { F.contents files.new ≡ F.contents files.old }
+{
+    match notes_on(alloc, inputs_of(command_of(words)), files) {
+        Ok(text) => put(text.as_slice(), err),
+        Err(NoMemory) => {}
+    }
+}
+
+/// Puts the message after a command that was refused, or cut by a failed call.
+fn put_message<F: Files, E: Sink>(
+    alloc: Global,
+    words: &[String],
+    status: Status,
+    end: End<'_>,
+    files: &mut F,
+    err: &mut E,
+)
+    ensures same { F.contents files.new ≡ F.contents files.old }
+{
+    match message(alloc, words, status, end, files) {
+        Ok(text) => put(text.as_slice(), err),
+        Err(NoMemory) => put_memory(err, &[]),
+    }
+}
+
+/// Says why the program ended with its number, or what is to be noted where it did its work. `all`
+/// are its words, the first of which is its name, and the files are read once more. No file is
+/// written, and nothing that fails here has any effect but on what is said.
 pub fn tell_end<F: Files, E: Sink>(
     alloc: Global,
     all: &[String],
@@ -347,8 +406,11 @@ pub fn tell_end<F: Files, E: Sink>(
 )
     ensures same { F.contents files.new ≡ F.contents files.old }
 {
-    match message(alloc, after_name(all), end, files) {
-        Ok(text) => put(text.as_slice(), err),
-        Err(NoMemory) => put(MEMORY.as_bytes(), err),
+    let words = after_name(all);
+    let status = status_numbered(end.number);
+    match status {
+        Status::Done | Status::Limit => put_notes(alloc, words, files, err),
+        Status::Memory => put_memory(err, inputs_of(command_of(words)).budgets),
+        _ => put_message(alloc, words, status, end, files, err),
     }
 }

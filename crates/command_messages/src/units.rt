@@ -3,11 +3,11 @@
 ghost use Rattle.std.specs.Prelude.{◌≡◌, ◌≤◌, length, IfOk, IfSome};
 ghost use Rattle.nwq_value.specs.Limits.{file_limit, token_limit};
 
+use crate::inputs::Inputs;
 use crate::places::{Spot, put_following};
-use crate::takes::{arity_named, put_arity};
-use command_words::Command;
 use engine_table::{built_in, read_header};
 use message_tokens::syntax_fault;
+use message_types::{arity_named, put_arity, put_types};
 use nss_include::{Unit, gather};
 use nss_lexer::Token;
 use nwq_outside::{Files, Read};
@@ -47,17 +47,6 @@ pub(crate) fn read_escaped<F: Files>(
     match name_in(alloc, escaped)? {
         None => Ok(None),
         Some(name) => Ok(read_named(alloc, name.as_str(), files)),
-    }
-}
-
-/// The header that a command names.
-pub(crate) fn header_of<'a>(command: Command<'a>) -> Option<&'a str> {
-    match command {
-        Command::Run(header, _script) => Some(header),
-        Command::Compile(header, _script) => Some(header),
-        Command::Check(header, _file) => Some(header),
-        Command::Play { header, .. } => Some(header),
-        _ => None,
     }
 }
 
@@ -108,19 +97,20 @@ fn one_name(alloc: Global, name: &str) -> Result<Vec<Text>, NoMemory> {
 /// The names of the scripts that a command compiles, in order.
 pub(crate) fn scripts_of<F: Files>(
     alloc: Global,
-    command: Command<'_>,
+    inputs: Inputs<'_>,
     files: &mut F,
 ) -> Result<Vec<Text>, NoMemory>
     ensures same { F.contents files.new ≡ F.contents files.old }
 {
-    match command {
-        Command::Run(_header, script) => one_name(alloc, script),
-        Command::Compile(_header, script) => one_name(alloc, script),
-        Command::Play { plan, .. } => match read_named(alloc, plan, files) {
-            None => Ok(Vec::new(alloc)),
-            Some(bytes) => names_in(alloc, bytes.as_slice()),
-        },
-        _ => Ok(Vec::new(alloc)),
+    if let Some(script) = inputs.script {
+        return one_name(alloc, script);
+    }
+    let Some(plan) = inputs.plan else {
+        return Ok(Vec::new(alloc));
+    };
+    match read_named(alloc, plan, files) {
+        None => Ok(Vec::new(alloc)),
+        Some(bytes) => names_in(alloc, bytes.as_slice()),
     }
 }
 
@@ -169,6 +159,22 @@ fn put_arity_in(
     }
 }
 
+/// Appends the types at a place, where a unit is refused there for them.
+#[tactic(auto, using(crate::proofs::UnitTokens::few_tokens))]
+fn put_types_in(
+    alloc: Global,
+    out: &mut Vec<u8>,
+    unit: &Unit,
+    table: Option<&Table>,
+    spot: Spot<'_>,
+) -> Result<bool, NoMemory> {
+    let Some(table) = table else {
+        return Ok(false);
+    };
+    let tokens = unit.tokens(alloc)?;
+    put_types(alloc, out, tokens.as_slice(), spot.at, table)
+}
+
 /// What a message asks of the unit of a script.
 #[derive(Clone, Copy)]
 pub(crate) enum Ask<'a> {
@@ -176,6 +182,8 @@ pub(crate) enum Ask<'a> {
     Following,
     /// How many arguments the function of this name takes, of which so many are given.
     Arity { name: &'a [u8], given: u32 },
+    /// Which types stand at the place.
+    Types,
 }
 
 /// Appends what a unit answers. Whether it did.
@@ -190,6 +198,7 @@ fn put_answer(
     match ask {
         Ask::Following => put_following_in(alloc, out, unit, spot),
         Ask::Arity { name, given } => put_arity_in(alloc, out, unit, table, name, given),
+        Ask::Types => put_types_in(alloc, out, unit, table, spot),
     }
 }
 

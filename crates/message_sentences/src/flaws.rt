@@ -173,7 +173,7 @@ fn put_instruction(out: &mut Vec<u8>, flaw: &[u8]) -> Result<(), NoMemory> {
 }
 
 /// Appends the sentence for a flaw.
-pub(crate) fn put_flaw(out: &mut Vec<u8>, flaw: &[u8]) -> Result<(), NoMemory> {
+pub fn put_flaw(out: &mut Vec<u8>, flaw: &[u8]) -> Result<(), NoMemory> {
     let word = first_word(flaw);
     let numbers = second_word(flaw);
     if same(word, b"section") {
@@ -191,7 +191,7 @@ pub(crate) fn put_flaw(out: &mut Vec<u8>, flaw: &[u8]) -> Result<(), NoMemory> {
 }
 
 /// The word that names the kind of a flaw.
-pub(crate) fn kind_of(flaw: &[u8]) -> &[u8] {
+pub fn kind_of(flaw: &[u8]) -> &[u8] {
     let word = first_word(flaw);
     match read_number(word) {
         Some(_) => second_word(flaw),
@@ -200,7 +200,7 @@ pub(crate) fn kind_of(flaw: &[u8]) -> &[u8] {
 }
 
 /// The number of the line at which a flaw of a text stands.
-pub(crate) fn line_in(flaw: &[u8]) -> Option<u64> {
+pub fn line_in(flaw: &[u8]) -> Option<u64> {
     let word = first_word(flaw);
     if same(word, b"line") || same(word, b"target") {
         read_number(second_word(flaw))
@@ -210,8 +210,8 @@ pub(crate) fn line_in(flaw: &[u8]) -> Option<u64> {
 }
 
 /// The place where the line of this number begins.
-pub(crate) fn place_of_line(bytes: &[u8], number: u64) -> usize
-    ensures { result ≤ length bytes.now }
+pub fn place_of_line(bytes: &[u8], number: u64) -> usize
+    ensures within { result ≤ length bytes.now }
 {
     let mut line = 1u64;
     for (i, byte) in bytes.iter().enumerate() {

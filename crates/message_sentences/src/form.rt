@@ -2,28 +2,28 @@
 
 ghost use Rattle.std.specs.Prelude.{◌≡◌, ◌++◌, ◌≤◌, length, OnOk};
 ghost use Rattle.nwq_value.specs.Limits.{file_limit};
-ghost use Rattle.command_messages.specs.Template.{filled, filled_byte};
+ghost use Rattle.message_sentences.specs.Template.{filled, filled_byte};
 
 use message_text::{column, put_place};
 use nwq_text::{line_of, put_count, put_text};
 use nwq_value::NoMemory;
 
-pub(crate) fn put_words(out: &mut Vec<u8>, text: &str) -> Result<(), NoMemory>
-    ensures { OnOk result (out.new.items ≡ out.old.items ++ text.now) }
+pub fn put_words(out: &mut Vec<u8>, text: &str) -> Result<(), NoMemory>
+    ensures appends { OnOk result (out.new.items ≡ out.old.items ++ text.now) }
 {
     out.extend_from_slice(text.as_bytes())?;
     Ok(())
 }
 
-pub(crate) fn put_plain(out: &mut Vec<u8>, bytes: &[u8]) -> Result<(), NoMemory>
-    ensures { OnOk result (out.new.items ≡ out.old.items ++ bytes.now) }
+pub fn put_plain(out: &mut Vec<u8>, bytes: &[u8]) -> Result<(), NoMemory>
+    ensures appends { OnOk result (out.new.items ≡ out.old.items ++ bytes.now) }
 {
     out.extend_from_slice(bytes)?;
     Ok(())
 }
 
 fn put_byte(out: &mut Vec<u8>, piece: &[u8], byte: u8) -> Result<(), NoMemory>
-    ensures { OnOk result (out.new.items ≡ out.old.items ++ filled_byte piece.now byte) }
+    ensures appends { OnOk result (out.new.items ≡ out.old.items ++ filled_byte piece.now byte) }
 {
     if byte == b'%' {
         put_text(out, piece)
@@ -34,7 +34,7 @@ fn put_byte(out: &mut Vec<u8>, piece: &[u8], byte: u8) -> Result<(), NoMemory>
 
 /// Appends the bytes of a sentence.
 fn put_filled(out: &mut Vec<u8>, sentence: &[u8], piece: &[u8]) -> Result<(), NoMemory>
-    ensures { OnOk result (out.new.items ≡ out.old.items ++ filled piece.now sentence.now) }
+    ensures appends { OnOk result (out.new.items ≡ out.old.items ++ filled piece.now sentence.now) }
 {
     for byte in sentence {
         put_byte(out, piece, *byte)?;
@@ -43,19 +43,14 @@ fn put_filled(out: &mut Vec<u8>, sentence: &[u8], piece: &[u8]) -> Result<(), No
 }
 
 /// Appends a sentence with the escaped piece for each `%`.
-pub(crate) fn put_sentence(out: &mut Vec<u8>, sentence: &str, piece: &[u8]) -> Result<(), NoMemory>
-    ensures { OnOk result (out.new.items ≡ out.old.items ++ filled piece.now sentence.now) }
+pub fn put_sentence(out: &mut Vec<u8>, sentence: &str, piece: &[u8]) -> Result<(), NoMemory>
+    ensures appends { OnOk result (out.new.items ≡ out.old.items ++ filled piece.now sentence.now) }
 {
     put_filled(out, sentence.as_bytes(), piece)
 }
 
-/// Begins a message on a place of a file. The name is escaped already.
-pub(crate) fn put_head(
-    out: &mut Vec<u8>,
-    name: &[u8],
-    bytes: &[u8],
-    at: u32,
-) -> Result<(), NoMemory>
+/// Appends the name of a file, and the line and column of a place of it.
+fn put_spot(out: &mut Vec<u8>, name: &[u8], bytes: &[u8], at: u32) -> Result<(), NoMemory>
     requires size { length bytes.now ≤ file_limit }
     requires place { at ≤ length bytes.now }
 {
@@ -63,27 +58,68 @@ pub(crate) fn put_head(
     put_words(out, ":")?;
     put_count(out, u64::from(line_of(bytes, at)))?;
     put_words(out, ":")?;
-    put_count(out, column(bytes, at as usize))?;
+    put_count(out, column(bytes, at as usize))
+}
+
+/// Begins a message on a place of a file. The name is escaped already.
+pub fn put_head(out: &mut Vec<u8>, name: &[u8], bytes: &[u8], at: u32) -> Result<(), NoMemory>
+    requires size { length bytes.now ≤ file_limit }
+    requires place { at ≤ length bytes.now }
+{
+    put_spot(out, name, bytes, at)?;
     put_words(out, ": error: ")
 }
 
+/// Appends a note on a place of a file, up to the end of its line: a sentence with the escaped
+/// piece for each `%`. The name is escaped already.
+pub fn put_note_at(
+    out: &mut Vec<u8>,
+    name: &[u8],
+    bytes: &[u8],
+    at: u32,
+    sentence: &str,
+    piece: &[u8],
+) -> Result<(), NoMemory>
+    requires size { length bytes.now ≤ file_limit }
+    requires place { at ≤ length bytes.now }
+{
+    put_spot(out, name, bytes, at)?;
+    put_words(out, ": note: ")?;
+    put_sentence(out, sentence, piece)?;
+    put_words(out, "\n")?;
+    put_place(out, bytes, at as usize)
+}
+
+/// Appends a note on a whole file. The name is escaped already.
+pub fn put_note(
+    out: &mut Vec<u8>,
+    name: &[u8],
+    sentence: &str,
+    piece: &[u8],
+) -> Result<(), NoMemory> {
+    put_plain(out, name)?;
+    put_words(out, ": note: ")?;
+    put_sentence(out, sentence, piece)?;
+    put_words(out, "\n")
+}
+
 /// Ends the first line of a message.
-pub(crate) fn put_kind(out: &mut Vec<u8>, kind: &[u8]) -> Result<(), NoMemory> {
+pub fn put_kind(out: &mut Vec<u8>, kind: &[u8]) -> Result<(), NoMemory> {
     put_words(out, " [")?;
     put_plain(out, kind)?;
     put_words(out, "]\n")
 }
 
 /// Ends a message on a place of a file.
-pub(crate) fn put_end(out: &mut Vec<u8>, kind: &[u8], bytes: &[u8], at: u32) -> Result<(), NoMemory>
-    requires { at ≤ length bytes.now }
+pub fn put_end(out: &mut Vec<u8>, kind: &[u8], bytes: &[u8], at: u32) -> Result<(), NoMemory>
+    requires place { at ≤ length bytes.now }
 {
     put_kind(out, kind)?;
     put_place(out, bytes, at as usize)
 }
 
 /// Appends a message on a whole file. The name is escaped already.
-pub(crate) fn put_whole(
+pub fn put_whole(
     out: &mut Vec<u8>,
     name: &[u8],
     sentence: &str,

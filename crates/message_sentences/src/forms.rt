@@ -165,7 +165,7 @@ fn put_form(out: &mut Vec<u8>, form: &Form) -> Result<(), NoMemory> {
 
 /// Appends what is said after words that are no form of a command: the program and its version,
 /// which word is wrong, and the forms.
-pub(crate) fn put_usage(out: &mut Vec<u8>, words: &[String]) -> Result<(), NoMemory> {
+pub fn put_usage(out: &mut Vec<u8>, words: &[String]) -> Result<(), NoMemory> {
     put_words(out, "nwq ")?;
     put_words(out, VERSION)?;
     put_words(out, ": error: ")?;

@@ -63,7 +63,7 @@ const CAUSES: [Cause; 12] = [
 ];
 
 /// The sentence for a place where no token begins.
-pub(crate) fn bad_sentence(byte: Option<u8>) -> &'static str {
+pub fn bad_sentence(byte: Option<u8>) -> &'static str {
     match byte {
         None => "the file ends too early",
         Some(b'"') => "this string isn't closed on its line",
@@ -122,32 +122,62 @@ fn outside(token: Option<Token<'_>>) -> &'static str {
     }
 }
 
-fn mismatch(token: Option<Token<'_>>, after: Option<Token<'_>>) -> &'static str {
+/// A mismatch at a sign. Some have one operand, which must be an int.
+fn sign_mismatch(token: Option<Token<'_>>) -> &'static str {
+    let takes_one = is(token, b"!") || is(token, b"~") || is(token, b"++") || is(token, b"--");
+    if takes_one {
+        "what `%` is given is no int"
+    } else {
+        "the types that `%` is given don't go together"
+    }
+}
+
+/// A mismatch at a name.
+fn name_mismatch(after: Option<Token<'_>>) -> &'static str {
+    if is(after, b"(") {
+        "an argument of `%` has another type than its parameter"
+    } else if is(after, b"=") {
+        "the value has another type than `%`"
+    } else {
+        "`%` has a type that can't stand here"
+    }
+}
+
+/// Whether a token begins a statement with a condition.
+fn is_conditioned(token: Option<Token<'_>>) -> bool {
+    let words: [&[u8]; 5] = [b"if", b"while", b"do", b"for", b"switch"];
+    words.iter().any(|word| is(token, word))
+}
+
+/// A mismatch at a word, with which a statement, a label or a parameter begins.
+fn word_mismatch(token: Option<Token<'_>>) -> &'static str {
     if is(token, b"return") {
         "`%` gives a value of another type than the function's"
-    } else if is_name(token) {
-        if is(after, b"(") {
-            "an argument of `%` has another type than its parameter"
-        } else if is(after, b"=") {
-            "the value has another type than `%`"
-        } else {
-            "`%` has a type that can't stand here"
-        }
-    } else if matches!(
-        token,
-        Some(Token {
-            kind: Kind::Sign,
-            ..
-        })
-    ) {
-        "the types that `%` is given don't go together"
-    } else {
+    } else if is(token, b"case") {
+        "the value of `%` is no int"
+    } else if is_conditioned(token) {
         "the condition of `%` is no int"
+    } else {
+        "the default has another type than its parameter, which begins with `%`"
+    }
+}
+
+fn mismatch(token: Option<Token<'_>>, after: Option<Token<'_>>) -> &'static str {
+    let is_sign = match token {
+        Some(token) => matches!(token.kind, Kind::Sign),
+        None => false,
+    };
+    if is_sign {
+        sign_mismatch(token)
+    } else if is_name(token) {
+        name_mismatch(after)
+    } else {
+        word_mismatch(token)
     }
 }
 
 /// The sentence for a cause at a token, which is told with the token behind it.
-pub(crate) fn sentence_of(
+pub fn sentence_of(
     cause: &[u8],
     token: Option<Token<'_>>,
     after: Option<Token<'_>>,
@@ -175,7 +205,7 @@ pub(crate) fn sentence_of(
 }
 
 /// The sentence at the end of a file.
-pub(crate) fn end_sentence(cause: &[u8]) -> &'static str {
+pub fn end_sentence(cause: &[u8]) -> &'static str {
     if same(cause, b"header") {
         "the last line of the header isn't whole"
     } else if same(cause, b"syntax") {

@@ -1,7 +1,7 @@
 //! Messages on what the system or memory refused.
 
 use crate::form::{put_kind, put_words};
-use nwq_outside::Trouble;
+use nwq_outside::{Done, Sink, Trouble};
 use nwq_text::put_text;
 use nwq_value::NoMemory;
 use std::io::ErrorKind;
@@ -28,7 +28,7 @@ fn error_text(kind: ErrorKind) -> &'static str {
 
 /// Appends the message on a name at which the system failed, or, where none did, on standard
 /// output.
-pub(crate) fn put_fault(out: &mut Vec<u8>, trouble: Option<&Trouble>) -> Result<(), NoMemory> {
+pub fn put_fault(out: &mut Vec<u8>, trouble: Option<&Trouble>) -> Result<(), NoMemory> {
     match trouble {
         Some(trouble) => {
             put_text(out, trouble.name.as_bytes())?;
@@ -40,7 +40,49 @@ pub(crate) fn put_fault(out: &mut Vec<u8>, trouble: Option<&Trouble>) -> Result<
     put_kind(out, b"fault")
 }
 
-/// What is said where memory was refused. It takes no memory.
-pub(crate) const MEMORY: &str = "nwq: error: memory was refused by the system, or one of the three \
-    fixed budgets is used up: 33,554,432 rows or nodes for the shapes of a file of bytecode, \
-    268,435,456 bytes for the tree of a GFF file, as many for the strings of a header [memory]\n";
+/// What more memory doesn't change.
+#[derive(Clone, Copy)]
+pub enum Budget {
+    /// The bytes of a header's strings.
+    Strings,
+    /// The bytes that the tree of a GFF file is charged.
+    Tree,
+    /// The rows and nodes for the shapes of a file of bytecode.
+    Shapes,
+}
+
+fn budget_text(budget: Budget) -> &'static str {
+    match budget {
+        Budget::Strings => "268,435,456 bytes for the strings of the header",
+        Budget::Tree => "268,435,456 bytes for the tree of the GFF file",
+        Budget::Shapes => "33,554,432 rows or nodes for the shapes of a file of bytecode",
+    }
+}
+
+/// Whether a sink takes a text.
+fn takes<E: Sink>(err: &mut E, text: &str) -> bool {
+    matches!(err.put(text.as_bytes()), Done::Ok)
+}
+
+/// Puts these budgets. Whether the sink took all pieces.
+fn put_budgets<E: Sink>(err: &mut E, budgets: &[Budget]) -> bool {
+    for (i, budget) in budgets.iter().enumerate() {
+        let before = if i == 0 {
+            ", or a fixed budget is used up: "
+        } else {
+            ", or "
+        };
+        if !takes(err, before) || !takes(err, budget_text(*budget)) {
+            return false;
+        }
+    }
+    true
+}
+
+/// Says that memory was refused, or that one of these budgets is used up. It takes no memory: the
+/// pieces are put one by one, as far as the sink takes them.
+pub fn put_memory<E: Sink>(err: &mut E, budgets: &[Budget]) {
+    if takes(err, "nwq: error: memory was refused by the system") && put_budgets(err, budgets) {
+        let _whole = takes(err, " [memory]\n");
+    }
+}

@@ -7,7 +7,7 @@ use nwq_text::{cut, read_number};
 
 /// What a line of refusal tells. Names are escaped as they stand there.
 #[derive(Clone, Copy)]
-pub(crate) enum Told<'a> {
+pub enum Told<'a> {
     Nothing,
     /// A file isn't there.
     Missing(&'a [u8]),
@@ -44,14 +44,14 @@ const FLAWS: [&[u8]; 14] = [
     b"unstacked",
 ];
 
-pub(crate) fn same(a: &[u8], b: &[u8]) -> bool
-    ensures { result ≡ bytes_eq a.now b.now }
+pub fn same(a: &[u8], b: &[u8]) -> bool
+    ensures same { result ≡ bytes_eq a.now b.now }
 {
     a == b
 }
 
 /// The first word of a text.
-pub(crate) fn first_word(text: &[u8]) -> &[u8] {
+pub fn first_word(text: &[u8]) -> &[u8] {
     match cut(text, b' ') {
         Some((word, _rest)) => word,
         None => text,
@@ -59,7 +59,7 @@ pub(crate) fn first_word(text: &[u8]) -> &[u8] {
 }
 
 /// What follows the first word of a text.
-pub(crate) fn second_word(text: &[u8]) -> &[u8] {
+pub fn second_word(text: &[u8]) -> &[u8] {
     match cut(text, b' ') {
         Some((_word, rest)) => rest,
         None => b"",
@@ -123,7 +123,7 @@ fn without_newline(line: &[u8]) -> &[u8] {
 }
 
 /// What the last line tells where a command ended with this status.
-pub(crate) fn told_by(status: Status, line: &[u8]) -> Told<'_> {
+pub fn told_by(status: Status, line: &[u8]) -> Told<'_> {
     let text = without_newline(line);
     match cut(text, b' ') {
         None => Told::Nothing,

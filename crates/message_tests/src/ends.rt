@@ -129,12 +129,37 @@ fn troubles(rt: HostRuntime) {
         "a b.git: error: the file could not be read or written: permission denied [fault]\n",
     );
     assert!(rt; matches!(denied, Ok(true)));
+}
+
+/// Status 8 tells which budgets the command can use up.
+#[test]
+fn budgets(rt: HostRuntime) {
+    let alloc = rt.alloc();
     assert!(rt;
         begins(
             alloc,
             &["nwq", "tree", "a.git"],
             8,
-            "nwq: error: memory was refused"
+            "nwq: error: memory was refused by the system, or a fixed budget is used up: \
+                268,435,456 bytes for the tree of the GFF file [memory]\n"
+        )
+    );
+    assert!(rt;
+        begins(
+            alloc,
+            &["nwq", "check", "h.nss", "a.ncs"],
+            8,
+            "nwq: error: memory was refused by the system, or a fixed budget is used up: \
+                268,435,456 bytes for the strings of the header, or \
+                33,554,432 rows or nodes for the shapes of a file of bytecode [memory]\n"
+        )
+    );
+    assert!(rt;
+        begins(
+            alloc,
+            &["nwq", "compile", "-", "p"],
+            8,
+            "nwq: error: memory was refused by the system [memory]\n"
         )
     );
 }

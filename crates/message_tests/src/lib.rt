@@ -9,3 +9,7 @@ mod forms;
 mod listed;
 #[cfg(test)]
 mod messages;
+#[cfg(test)]
+mod notes;
+#[cfg(test)]
+mod rows;

@@ -1,58 +1,6 @@
 //! Whole messages, over files in memory and a sink that keeps them.
 
-use command_messages::{End, tell_end};
-use nwq_outside::{MemFiles, MemSink};
-use nwq_value::NoMemory;
-use std::alloc::Global;
-
-/// A file in memory.
-struct Held {
-    name: &'static str,
-    bytes: &'static [u8],
-}
-
-/// The words of a command, the files that it read, how it ended and what was said.
-struct Row {
-    words: &'static [&'static str],
-    files: &'static [Held],
-    number: u8,
-    line: &'static [u8],
-    said: &'static str,
-}
-
-fn files_of(alloc: Global, held: &[Held]) -> Result<MemFiles, NoMemory> {
-    let mut files = MemFiles::new(alloc);
-    for file in held {
-        files.add(file.name, file.bytes)?;
-    }
-    Ok(files)
-}
-
-fn words_of(alloc: Global, words: &[&str]) -> Result<Vec<String>, NoMemory> {
-    let mut all = Vec::new(alloc);
-    for word in words {
-        all.push(String::from_str(alloc, word)?)?;
-    }
-    Ok(all)
-}
-
-fn is_said(alloc: Global, row: &Row) -> Result<bool, NoMemory> {
-    let mut files = files_of(alloc, row.files)?;
-    let words = words_of(alloc, row.words)?;
-    let mut err = MemSink::new(alloc);
-    let end = End {
-        number: row.number,
-        line: row.line,
-        trouble: None,
-    };
-    tell_end(alloc, words.as_slice(), end, &mut files, &mut err);
-    Ok(err.bytes() == row.said.as_bytes())
-}
-
-fn are_said(alloc: Global, rows: &[Row]) -> bool {
-    rows.iter()
-        .all(|row| matches!(is_said(alloc, row), Ok(true)))
-}
+use crate::rows::{Held, Row, are_said};
 
 const SOURCES: &[Row] = &[
     Row {
@@ -63,7 +11,8 @@ const SOURCES: &[Row] = &[
         }],
         number: 2,
         line: b"refused p.nss 2 21 syntax\n",
-        said: "p.nss:2:8: error: `5` can't stand here; here could stand `;` [syntax]\n\tbreak 5;\n\t      ^\n",
+        said: "p.nss:2:8: error: `5` can't stand here; here could stand `;` [syntax]\n\tbreak 5;\n\
+            \t      ^\n",
     },
     Row {
         words: &["nwq", "compile", "-", "p"],
@@ -73,7 +22,8 @@ const SOURCES: &[Row] = &[
         }],
         number: 2,
         line: b"refused p.nss 1 14 arity\n",
-        said: "p.nss:1:15: error: `PrintInteger` takes 1 argument, and 0 are given [arity]\nvoid main() { PrintInteger(); }\n              ^\n",
+        said: "p.nss:1:15: error: `PrintInteger` takes 1 argument, and 0 are given [arity]\nvoid \
+            main() { PrintInteger(); }\n              ^\n",
     },
     Row {
         words: &["nwq", "run", "-", "p"],
@@ -83,7 +33,8 @@ const SOURCES: &[Row] = &[
         }],
         number: 2,
         line: b"refused p.nss 1 8 unknown\n",
-        said: "p.nss:1:9: error: `m` isn't declared here, and the header has no such constant [unknown]\nint n = m;\n        ^\n",
+        said: "p.nss:1:9: error: `m` isn't declared here, and the header has no such constant \
+            [unknown]\nint n = m;\n        ^\n",
     },
     // The file was changed in between.
     Row {
@@ -107,7 +58,106 @@ const SOURCES: &[Row] = &[
         ],
         number: 6,
         line: b"missing lock.nss\n",
-        said: "q.nss:2:10: error: there is no file `lock.nss`, which this line asks for [missing]\n#include \"Lock\"\n         ^\n",
+        said: "q.nss:2:10: error: there is no file `lock.nss`, which this line asks for \
+            [missing]\n#include \"Lock\"\n         ^\n",
+    },
+];
+
+/// Types that don't fit, in scripts of one line each.
+const TYPES: &[Row] = &[
+    Row {
+        words: &["nwq", "compile", "-", "p"],
+        files: &[Held {
+            name: "p.nss",
+            bytes: b"void main() { string s = \"a\" + 1; }",
+        }],
+        number: 2,
+        line: b"refused p.nss 1 29 mismatch\n",
+        said: "p.nss:1:30: error: the types that `+` is given don't go together: string and int \
+            [mismatch]\nvoid main() { string s = \"a\" + 1; }\n                             ^\n",
+    },
+    Row {
+        words: &["nwq", "compile", "-", "p"],
+        files: &[Held {
+            name: "p.nss",
+            bytes: b"struct S { int n; }; void main() { struct S s; int n = s; }",
+        }],
+        number: 2,
+        line: b"refused p.nss 1 51 mismatch\n",
+        said: "p.nss:1:52: error: the value has another type than `n`: a struct, where int is \
+            wanted [mismatch]\nstruct S { int n; }; void main() { struct S s; int n = s; \
+            }\n                                                   ^\n",
+    },
+    Row {
+        words: &["nwq", "compile", "-", "p"],
+        files: &[Held {
+            name: "p.nss",
+            bytes: b"void main() { PrintInteger(\"a\"); }",
+        }],
+        number: 2,
+        line: b"refused p.nss 1 14 mismatch\n",
+        said: "p.nss:1:15: error: an argument of `PrintInteger` has another type than its \
+            parameter: argument 1: string, where int is wanted [mismatch]\nvoid main() { \
+            PrintInteger(\"a\"); }\n              ^\n",
+    },
+    Row {
+        words: &["nwq", "compile", "-", "p"],
+        files: &[Held {
+            name: "p.nss",
+            bytes: b"int f(int n, string s) { return n; } void main() { f(1, f(2, \"\") * -3); }",
+        }],
+        number: 2,
+        line: b"refused p.nss 1 51 mismatch\n",
+        said: "p.nss:1:52: error: an argument of `f` has another type than its parameter: \
+            argument 2: int, where string is wanted [mismatch]\nint f(int n, string s) { return \
+            n; } void main() { f(1, f(2, \"\") * -3); \
+            }\n                                                   ^\n",
+    },
+    Row {
+        words: &["nwq", "compile", "-", "p"],
+        files: &[Held {
+            name: "p.nss",
+            bytes: b"int f() { return OBJECT_SELF; } void main() {}",
+        }],
+        number: 2,
+        line: b"refused p.nss 1 10 mismatch\n",
+        said: "p.nss:1:11: error: `return` gives a value of another type than the function's: \
+            object, where int is wanted [mismatch]\nint f() { return OBJECT_SELF; } void main() \
+            {}\n          ^\n",
+    },
+    Row {
+        words: &["nwq", "compile", "-", "p"],
+        files: &[Held {
+            name: "p.nss",
+            bytes: b"void main() { int i; for (i = 0; \"a\"; i++) ; }",
+        }],
+        number: 2,
+        line: b"refused p.nss 1 21 mismatch\n",
+        said: "p.nss:1:22: error: the condition of `for` is no int: string [mismatch]\nvoid \
+            main() { int i; for (i = 0; \"a\"; i++) ; }\n                     ^\n",
+    },
+    Row {
+        words: &["nwq", "compile", "-", "p"],
+        files: &[Held {
+            name: "p.nss",
+            bytes: b"void f() {} void main() { if (1 + f() * 2) ; }",
+        }],
+        number: 2,
+        line: b"refused p.nss 1 38 mismatch\n",
+        said: "p.nss:1:39: error: the types that `*` is given don't go together: void and int \
+            [mismatch]\nvoid f() {} void main() { if (1 + f() * 2) ; \
+            }\n                                      ^\n",
+    },
+    Row {
+        words: &["nwq", "compile", "-", "p"],
+        files: &[Held {
+            name: "p.nss",
+            bytes: b"void main() { object o; if (1) !o; }",
+        }],
+        number: 2,
+        line: b"refused p.nss 1 31 mismatch\n",
+        said: "p.nss:1:32: error: what `!` is given is no int: object [mismatch]\nvoid main() { \
+            object o; if (1) !o; }\n                               ^\n",
     },
 ];
 
@@ -117,7 +167,8 @@ const OTHERS: &[Row] = &[
         files: &[],
         number: 4,
         line: b"refused my area.git section 5\n",
-        said: "my area.git: error: section 5, the list indices, passes the end of the file [section]\n",
+        said: "my area.git: error: section 5, the list indices, passes the end of the file \
+            [section]\n",
     },
     Row {
         words: &["nwq", "dis", "a.ncs", "a.txt"],
@@ -134,7 +185,8 @@ const OTHERS: &[Row] = &[
         }],
         number: 4,
         line: b"refused a.plan line 3\n",
-        said: "a.plan:3:1: error: this is no line of a plan: one blank stands between fields, and none at the end [line]\nlimit  4\n^\n",
+        said: "a.plan:3:1: error: this is no line of a plan: one blank stands between fields, and \
+            none at the end [line]\nlimit  4\n^\n",
     },
     Row {
         words: &["nwq", "play", "-", "a.git", "a.plan", "b.git"],
@@ -144,7 +196,8 @@ const OTHERS: &[Row] = &[
         }],
         number: 6,
         line: b"missing patrol.nss\n",
-        said: "a.plan:2:1: error: there is no file `patrol.nss`, which this line asks for [missing]\nscript patrol\n^\n",
+        said: "a.plan:2:1: error: there is no file `patrol.nss`, which this line asks for \
+            [missing]\nscript patrol\n^\n",
     },
     Row {
         words: &["nwq", "tree", "a.git"],
@@ -172,6 +225,11 @@ const OTHERS: &[Row] = &[
 #[test]
 fn sources(rt: HostRuntime) {
     assert!(rt; are_said(rt.alloc(), SOURCES));
+}
+
+#[test]
+fn types(rt: HostRuntime) {
+    assert!(rt; are_said(rt.alloc(), TYPES));
 }
 
 #[test]

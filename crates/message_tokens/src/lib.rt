@@ -8,6 +8,8 @@
 
 pub mod counts;
 pub mod listing;
+pub mod reading;
 
 pub use counts::{Arity, given, taken};
 pub use listing::{candidates, following, syntax_fault};
+pub use reading::tokens_of;

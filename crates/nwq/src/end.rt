@@ -41,8 +41,8 @@ impl<R: HostFiles + AllocGlobal> Troubled for RealFiles<R> {
     }
 }
 
-/// Says why the program ends with its number, and ends with it whatever comes of that. The message
-/// writes no file.
+/// Says why the program ends with its number, or what is to be noted of its work, and ends with the
+/// number whatever comes of that. The message writes no file.
 fn told<F: Troubled, S: Sink, A: Files, E: Sink>(
     alloc: Global,
     all: &[String],

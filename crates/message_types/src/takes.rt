@@ -3,8 +3,7 @@
 ghost use Rattle.std.specs.Prelude.{◌≤◌, length};
 ghost use Rattle.nwq_value.specs.Limits.{file_limit};
 
-use crate::form::{put_sentence, put_words};
-use crate::told::same;
+use message_sentences::{put_sentence, put_words, same};
 use message_tokens::{Arity, given, taken};
 use nss_lexer::{Lexed, Token, next};
 use nwq_text::put_count;
@@ -34,7 +33,7 @@ fn tokens_from(alloc: Global, bytes: &[u8], at: u32) -> Result<Vec<Token<'_>>, N
 }
 
 /// How many arguments the call gives whose name stands at a place, unless no call stands there.
-pub(crate) fn given_at(alloc: Global, bytes: &[u8], at: u32) -> Result<Option<u32>, NoMemory>
+pub fn given_at(alloc: Global, bytes: &[u8], at: u32) -> Result<Option<u32>, NoMemory>
     requires size { length bytes.now ≤ file_limit }
     requires place { at ≤ length bytes.now }
 {
@@ -65,11 +64,7 @@ fn routine_named<'a>(table: &'a Table, name: &[u8]) -> Option<&'a Routine> {
 }
 
 /// How many arguments a function of the unit takes, or a routine of the header.
-pub(crate) fn arity_named(
-    table: Option<&Table>,
-    tokens: &[Token<'_>],
-    name: &[u8],
-) -> Option<Arity> {
+pub fn arity_named(table: Option<&Table>, tokens: &[Token<'_>], name: &[u8]) -> Option<Arity> {
     match taken(tokens, name) {
         Some(arity) => Some(arity),
         None => match routine_named(table?, name) {
@@ -96,12 +91,7 @@ fn put_arguments(out: &mut Vec<u8>, arity: Arity) -> Result<(), NoMemory> {
 }
 
 /// Appends how many arguments a function takes, and how many a call gives.
-pub(crate) fn put_arity(
-    out: &mut Vec<u8>,
-    name: &[u8],
-    arity: Arity,
-    given: u32,
-) -> Result<(), NoMemory> {
+pub fn put_arity(out: &mut Vec<u8>, name: &[u8], arity: Arity, given: u32) -> Result<(), NoMemory> {
     put_sentence(out, "`%` takes ", name)?;
     put_arguments(out, arity)?;
     put_words(out, ", and ")?;
@@ -141,7 +131,7 @@ fn put_types(out: &mut Vec<u8>, params: &[Param]) -> Result<(), NoMemory> {
 }
 
 /// Appends the types of the parameters of the routine of this name, if the header has one.
-pub(crate) fn put_parameters(
+pub fn put_parameters(
     out: &mut Vec<u8>,
     table: Option<&Table>,
     name: &[u8],

@@ -1,0 +1,56 @@
+//! Commands with their files in memory, and what is said after them.
+
+use command_messages::{End, tell_end};
+use nwq_outside::{MemFiles, MemSink};
+use nwq_value::NoMemory;
+use std::alloc::Global;
+
+/// A file in memory.
+pub(crate) struct Held {
+    pub name: &'static str,
+    pub bytes: &'static [u8],
+}
+
+/// The words of a command, the files that it read, how it ended and what was said.
+pub(crate) struct Row {
+    pub words: &'static [&'static str],
+    pub files: &'static [Held],
+    pub number: u8,
+    pub line: &'static [u8],
+    pub said: &'static str,
+}
+
+fn files_of(alloc: Global, held: &[Held]) -> Result<MemFiles, NoMemory> {
+    let mut files = MemFiles::new(alloc);
+    for file in held {
+        files.add(file.name, file.bytes)?;
+    }
+    Ok(files)
+}
+
+fn words_of(alloc: Global, words: &[&str]) -> Result<Vec<String>, NoMemory> {
+    let mut all = Vec::new(alloc);
+    for word in words {
+        all.push(String::from_str(alloc, word)?)?;
+    }
+    Ok(all)
+}
+
+fn is_said(alloc: Global, row: &Row) -> Result<bool, NoMemory> {
+    let mut files = files_of(alloc, row.files)?;
+    let words = words_of(alloc, row.words)?;
+    let mut err = MemSink::new(alloc);
+    let end = End {
+        number: row.number,
+        line: row.line,
+        trouble: None,
+    };
+    tell_end(alloc, words.as_slice(), end, &mut files, &mut err);
+    Ok(err.bytes() == row.said.as_bytes())
+}
+
+/// Whether all this is said.
+pub(crate) fn are_said(alloc: Global, rows: &[Row]) -> bool {
+    rows.iter()
+        .all(|row| matches!(is_said(alloc, row), Ok(true)))
+}
