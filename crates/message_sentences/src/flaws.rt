@@ -13,7 +13,7 @@ struct Flaw {
 }
 
 /// Flaws that are told by their first word.
-const FLAWS: [Flaw; 10] = [
+const FLAWS: [Flaw; 11] = [
     Flaw {
         word: b"short",
         sentence: "the file has fewer than 56 bytes, so no header of a GFF file",
@@ -51,6 +51,10 @@ const FLAWS: [Flaw; 10] = [
         sentence: "bytes 9 to 12 aren't the file's length: it was cut off, or has more",
     },
     Flaw {
+        word: b"state",
+        sentence: "the bytes stop being a state of a play at offset %",
+    },
+    Flaw {
         word: b"unstacked",
         sentence: "an instruction takes what isn't on the stack, two ways meet with other cells, \
             or the header is another one",
@@ -77,6 +81,17 @@ const CODE_FLAWS: [Flaw; 4] = [
     },
 ];
 
+/// What is wrong with the state of a play, by the numbers 1 to 7.
+const UNFIT: [&str; 7] = [
+    "the header of the state has no table",
+    "a script of the state is no code, or isn't well stacked under its header",
+    "the area of the state breaks a rule of areas",
+    "a number of the state passes its limit, or a name or a text is too long",
+    "the agenda of the state isn't in its order",
+    "a captured state of a script doesn't fit its script",
+    "the busy objects of the state and the Turns of its agenda don't go together",
+];
+
 const SECTIONS: [&str; 6] = [
     "structs",
     "fields",
@@ -88,11 +103,19 @@ const SECTIONS: [&str; 6] = [
 
 const LISTS: [&str; 5] = ["creatures", "doors", "placeables", "triggers", "waypoints"];
 
-/// The name of this number.
+/// The name of this number, counted from 0.
+fn name_numbered(names: &[&'static str], number: u64) -> &'static str {
+    match usize::try_from(number) {
+        Ok(n) => names.get(n).copied().unwrap_or("?"),
+        Err(_) => "?",
+    }
+}
+
+/// The name of the number that these digits write.
 fn name_at(names: &[&'static str], digits: &[u8]) -> &'static str {
     match read_number(digits) {
-        Some(n) if n < 8 => names.get(n as usize).copied().unwrap_or("?"),
-        _ => "?",
+        Some(number) => name_numbered(names, number),
+        None => "?",
     }
 }
 
@@ -163,6 +186,14 @@ fn put_shape(out: &mut Vec<u8>, numbers: &[u8]) -> Result<(), NoMemory> {
     put_words(out, "or the name and the type of one before it")
 }
 
+/// Appends what is wrong with the state of a play, by its number.
+fn put_unfit(out: &mut Vec<u8>, number: &[u8]) -> Result<(), NoMemory> {
+    match read_number(number) {
+        Some(n) if n > 0 => put_words(out, name_numbered(&UNFIT, n - 1)),
+        _ => put_words(out, "?"),
+    }
+}
+
 /// Appends what is wrong with an instruction, its offset and a word.
 fn put_instruction(out: &mut Vec<u8>, flaw: &[u8]) -> Result<(), NoMemory> {
     let offset = first_word(flaw);
@@ -182,6 +213,8 @@ pub fn put_flaw(out: &mut Vec<u8>, flaw: &[u8]) -> Result<(), NoMemory> {
         put_range(out, numbers)
     } else if same(word, b"shape") {
         put_shape(out, numbers)
+    } else if same(word, b"unfit") {
+        put_unfit(out, numbers)
     } else {
         match sentence_in(&FLAWS, word) {
             Some(sentence) => put_sentence(out, sentence, numbers),

@@ -19,7 +19,7 @@ struct Form {
     script: Option<usize>,
 }
 
-const FORMS: [Form; 8] = [
+const FORMS: [Form; 10] = [
     Form {
         command: "run",
         words: "HEADER SCRIPT",
@@ -74,6 +74,22 @@ const FORMS: [Form; 8] = [
         does: "plays a plan over an area, and leaves the area in TO",
         least: 4,
         most: 5,
+        script: None,
+    },
+    Form {
+        command: "save",
+        words: "HEADER AREA PLAN N STATE [TABLES]",
+        does: "plays N entries of a plan, and leaves the state of the play in STATE",
+        least: 5,
+        most: 6,
+        script: None,
+    },
+    Form {
+        command: "resume",
+        words: "STATE FINAL [TABLES]",
+        does: "plays on from a state, and leaves the area in FINAL",
+        least: 2,
+        most: 3,
         script: None,
     },
     Form {

@@ -27,7 +27,7 @@ pub enum Told<'a> {
 }
 
 /// The words that begin what is said of a file that is no source text.
-const FLAWS: [&[u8]; 14] = [
+const FLAWS: [&[u8]; 16] = [
     b"short",
     b"version",
     b"section",
@@ -42,6 +42,8 @@ const FLAWS: [&[u8]; 14] = [
     b"magic",
     b"length",
     b"unstacked",
+    b"state",
+    b"unfit",
 ];
 
 pub fn same(a: &[u8], b: &[u8]) -> bool

@@ -200,6 +200,20 @@ const OTHERS: &[Row] = &[
             [missing]\nscript patrol\n^\n",
     },
     Row {
+        words: &["nwq", "resume", "a.state", "b.git"],
+        files: &[],
+        number: 4,
+        line: b"refused a.state state 12\n",
+        said: "a.state: error: the bytes stop being a state of a play at offset 12 [state]\n",
+    },
+    Row {
+        words: &["nwq", "resume", "a.state", "b.git"],
+        files: &[],
+        number: 4,
+        line: b"refused a.state unfit 5\n",
+        said: "a.state: error: the agenda of the state isn't in its order [unfit]\n",
+    },
+    Row {
         words: &["nwq", "tree", "a.git"],
         files: &[],
         number: 6,
