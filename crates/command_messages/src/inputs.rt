@@ -76,6 +76,14 @@ fn of_compile<'a>(header: &'a str, script: &'a str) -> Inputs<'a> {
     inputs
 }
 
+/// What the rest of a play reads: header, scripts and area are in its state.
+fn of_state<'a>(list: Option<&'a str>) -> Inputs<'a> {
+    let mut inputs = without_header(ALL);
+    inputs.list = list;
+    inputs.plays = true;
+    inputs
+}
+
 /// What a command reads by its words.
 pub(crate) fn inputs_of<'a>(command: Command<'a>) -> Inputs<'a> {
     match command {
@@ -89,6 +97,14 @@ pub(crate) fn inputs_of<'a>(command: Command<'a>) -> Inputs<'a> {
             list,
             ..
         } => of_plan(header, area, plan, list),
+        Command::Save {
+            header,
+            area,
+            plan,
+            list,
+            ..
+        } => of_plan(header, area, plan, list),
+        Command::Resume { list, .. } => of_state(list),
         Command::Tree(_file) => without_header(TREE),
         Command::Generate(_number) => without_header(SHAPES),
         Command::Disassemble(_file, _to) | Command::Assemble(_file, _to) => without_header(NONE),

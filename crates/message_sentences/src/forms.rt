@@ -5,7 +5,7 @@ use nwq_text::{is_script_name, put_count};
 use nwq_value::NoMemory;
 
 /// The version of the program.
-pub const VERSION: &str = "1.0";
+pub const VERSION: &str = "1.1";
 
 /// A form of words: a command, and what follows it.
 struct Form {

@@ -83,7 +83,7 @@ fn usage(rt: HostRuntime) {
             alloc,
             &["nwq"],
             1,
-            "nwq 1.0: error: no command is given [words]\nusage:\n  nwq run HEADER SCRIPT  ("
+            "nwq 1.1: error: no command is given [words]\nusage:\n  nwq run HEADER SCRIPT  ("
         )
     );
     assert!(rt;
@@ -91,7 +91,7 @@ fn usage(rt: HostRuntime) {
             alloc,
             &["nwq", "rnu"],
             1,
-            "nwq 1.0: error: `rnu` is no command [words]\n"
+            "nwq 1.1: error: `rnu` is no command [words]\n"
         )
     );
     assert!(rt;
@@ -99,7 +99,7 @@ fn usage(rt: HostRuntime) {
             alloc,
             &["nwq", "run", "-", "P"],
             1,
-            "nwq 1.0: error: `P` is no name of a script"
+            "nwq 1.1: error: `P` is no name of a script"
         )
     );
     assert!(rt;
@@ -107,7 +107,7 @@ fn usage(rt: HostRuntime) {
             alloc,
             &["nwq", "tree"],
             1,
-            "nwq 1.0: error: `tree` takes FILE, and was given 0 words [words]\n"
+            "nwq 1.1: error: `tree` takes FILE, and was given 0 words [words]\n"
         )
     );
     assert!(rt;
@@ -115,7 +115,7 @@ fn usage(rt: HostRuntime) {
             alloc,
             &["nwq", "tree", "-x"],
             1,
-            "nwq 1.0: error: `-x` begins with `-`"
+            "nwq 1.1: error: `-x` begins with `-`"
         )
     );
 }

@@ -29,7 +29,7 @@ const ROWS: &[(&str, u8, &str)] = &[
 fn is_told(number: u8, told: &[u8]) -> bool {
     match number {
         0 => told.is_empty(),
-        1 => told.starts_with(b"nwq 1.0: error: ") && told.ends_with(b"\n"),
+        1 => told.starts_with(b"nwq 1.1: error: ") && told.ends_with(b"\n"),
         _ => told.ends_with(b"]\n") || told.ends_with(b"^\n"),
     }
 }
