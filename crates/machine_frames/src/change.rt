@@ -1,5 +1,6 @@
 //! Instructions that change nothing but the cells.
-ghost use Rattle.std.specs.Prelude.{◌≡◌, ◌≢◌, ◌&&◌, ◌+◌, ◌≤◌, false, None, Some, IfOk, OnOk, slice_get};
+ghost use Rattle.std.specs.Prelude.{◌≡◌, ◌≢◌, ◌&&◌, ◌+◌, ◌≤◌, false, None, Some, IfOk, OnOk};
+ghost use Rattle.std.specs.Prelude.{slice_get};
 ghost use Rattle.ncs_code.specs.Spelling.{op_size};
 ghost use Rattle.ncs_code.specs.File.{jump_place};
 ghost use Rattle.nwq_value.specs.Limits.{file_limit};
@@ -102,7 +103,8 @@ pub fn change(
     requires case { cells_after (op_of step.now) own stack.old ≢ None }
     requires divisor { (is_division (op_of step.now) && zero_on_top stack.old.cells) ≡ false }
     requires small { at + op_size (op_of step.now) ≤ file_limit }
-    ensures cells { OnOk result (cells_after (op_of step.now) own stack.old ≡ Some stack.new.cells) }
+    ensures cells { OnOk result
+        (cells_after (op_of step.now) own stack.old ≡ Some stack.new.cells) }
     ensures bp { OnOk result (stack.new.bp ≡ stack.old.bp) }
     ensures place { IfOk result
         (λ place. place ≡ place_after (op_of step.now) at stack.old.cells) }
@@ -129,7 +131,8 @@ fn change_otherwise(
     requires case { cells_after (op_of step.now) own stack.old ≢ None }
     requires other { operation_of (op_of step.now) ≡ None }
     requires small { at + op_size (op_of step.now) ≤ file_limit }
-    ensures cells { OnOk result (cells_after (op_of step.now) own stack.old ≡ Some stack.new.cells) }
+    ensures cells { OnOk result
+        (cells_after (op_of step.now) own stack.old ≡ Some stack.new.cells) }
     ensures bp { OnOk result (stack.new.bp ≡ stack.old.bp) }
     ensures place { IfOk result
         (λ place. place ≡ place_after (op_of step.now) at stack.old.cells) }
