@@ -12,3 +12,4 @@ pub mod CapLemmas
 pub mod NextLemmas
 pub mod WalkLemmas
 pub mod TableLemmas
+pub mod FewLemmas

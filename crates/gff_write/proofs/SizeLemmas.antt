@@ -13,12 +13,12 @@ use Rattle.gff_write.proofs.PlaceLemmas.{word_length}
 use Rattle.gff_write.specs.Size.{capped, index_bytes, own_count, node_bytes, fields_bytes, leaf_bytes, nodes_bytes}
 
 -- what fields put into the sections, labels aside
-abbrev entries_total : List Entry → ℕ
+abbrev pub entries_total : List Entry → ℕ
 entries_total [] = 0
 entries_total (entry ∷ entries) = 12 + length (data_of entry.content) + length (list_of entry.content) + entries_total entries
 
 -- what structs put into the sections, labels aside
-abbrev rows_total : List Row → ℕ
+abbrev pub rows_total : List Row → ℕ
 rows_total [] = 0
 rows_total (row ∷ rows) = 12 + index_bytes (length row.fields) + entries_total row.fields + rows_total rows
 

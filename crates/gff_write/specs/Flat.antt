@@ -1,5 +1,5 @@
 -- A tree as the list of its structs in preorder, each with its fields, structs below it by their numbers.
-use Rattle.std.specs.Prelude.{ℕ, ◌+◌, ◌-◌, ◌%◌, List, [], ◌∷◌, ◌++◌, length, replicate}
+use Rattle.std.specs.Prelude.{ℕ, ◌+◌, ◌-◌, ◌%◌, ◌^◌, List, [], ◌∷◌, ◌++◌, length, replicate}
 use Rattle.std.specs.Int.{w8, w16, w32, w64, cast_unsigned, from_le_bytes}
 use Rattle.std.specs.List.{flat_map}
 use Rattle.byteorder.specs.Endian.{little_bytes}
@@ -29,6 +29,10 @@ abbrev mutual
   pub nodes_count : PlainNodes → ℕ
   nodes_count NoNode = 0
   nodes_count (MoreNodes node rest) = node_count node + nodes_count rest
+
+-- No tree of more bytes is written: it is too large for a file, which its size alone tells.
+abbrev pub tree_limit : ℕ
+tree_limit = 2 ^ 62
 
 -- the number in the low four bytes, the lowest first
 unfoldable pub word : ℕ → List ℕ

@@ -1,13 +1,14 @@
 //! What the fields of a tree hold, as the file has it.
 
-ghost use Rattle.std.specs.Prelude.{◌≡◌, ◌++◌, length, IfOk, OnOk};
+ghost use Rattle.std.specs.Prelude.{◌≡◌, ◌≤◌, ◌+◌, ◌++◌, length, IfOk, OnOk};
 ghost use Rattle.std.specs.List.{flat_map};
 ghost use Rattle.gff_tree.specs.Tree.{plain_leaf, nodes_list, fields_list};
 ghost use Rattle.gff_write.specs.declared.flat.Content.TheVariants.{Data, Numbers};
 ghost use Rattle.gff_write.specs.Flat.{word, wide, counted, named, part_bytes, localized_bytes};
 ghost use Rattle.gff_write.specs.Flat.{leaf_kind, leaf_content, numbers_from, padded, entries_from};
+ghost use Rattle.gff_write.specs.Flat.{fields_count, leaf_count, nodes_count, tree_limit};
 
-use crate::count::{count_leaf, count_node, sum};
+use crate::count::{count_leaf, count_node};
 use crate::flat::{Content, Entry};
 use crate::put::{put_counted, put_wide, put_word};
 use gff_tree::{Field, LABEL_BYTES, Label, Leaf, Loc, Node, readings_tell};
@@ -71,18 +72,20 @@ fn localized_data(alloc: Global, loc: &Loc) -> Result<Content, NoMemory>
 
 /// Puts the numbers of a list's structs last, from a number on.
 fn put_numbers(numbers: &mut Items<u64>, nodes: &[Node], first: u64) -> Result<(), NoMemory>
+    requires few { first + nodes_count (nodes_list nodes.now) ≤ tree_limit }
     ensures { OnOk result (numbers.new ≡ numbers.old
         ++ numbers_from first (nodes_list nodes.now)) }
 {
     let mut next = first;
     for node in nodes {
         numbers.push(next)?;
-        next = sum(next, count_node(node)?)?;
+        next += count_node(node);
     }
     Ok(())
 }
 
 fn numbered(alloc: Global, nodes: &[Node], first: u64) -> Result<Content, NoMemory>
+    requires few { first + nodes_count (nodes_list nodes.now) ≤ tree_limit }
     ensures { IfOk result (λ content. content ≡ Numbers (numbers_from first
         (nodes_list nodes.now))) }
 {
@@ -116,6 +119,7 @@ fn kind_of(leaf: &Leaf) -> u32
 }
 
 fn content_of(alloc: Global, leaf: &Leaf, first: u64) -> Result<Content, NoMemory>
+    requires few { first + leaf_count (plain_leaf leaf.now) ≤ tree_limit }
     ensures { IfOk result (λ content. content ≡ leaf_content first (plain_leaf leaf.now)) }
 {
     readings_tell();
@@ -156,6 +160,7 @@ pub fn put_fields(
     fields: &[Field],
     first: u64,
 ) -> Result<(), NoMemory>
+    requires few { first + fields_count (fields_list fields.now) ≤ tree_limit }
     ensures { OnOk result (entries.new ≡ entries.old
         ++ entries_from first (fields_list fields.now)) }
 {
@@ -167,7 +172,7 @@ pub fn put_fields(
             kind: kind_of(&field.leaf),
             content,
         })?;
-        next = sum(next, count_leaf(&field.leaf)?)?;
+        next += count_leaf(&field.leaf);
     }
     Ok(())
 }

@@ -54,7 +54,7 @@ fn index_size(count: u64) -> u64
 
 /// A struct with all below it, labels aside.
 #[cycle(size)]
-fn node_size(node: &Node) -> u64
+pub fn node_size(node: &Node) -> u64
     ensures { result ≡ capped (node_bytes (plain_node node.now)) }
 {
     readings_tell();

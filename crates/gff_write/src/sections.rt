@@ -1,11 +1,11 @@
 //! The sections of the file, from the structs in preorder.
 
-ghost use Rattle.std.specs.Prelude.{◌≡◌, ◌++◌, length, IfOk, OnOk};
+ghost use Rattle.std.specs.Prelude.{◌≡◌, ◌≤◌, ◌+◌, ◌++◌, length, IfOk, OnOk};
+ghost use Rattle.gff_write.specs.Flat.{tree_limit};
 ghost use Rattle.gff_write.specs.File.{parts_with, data_of, list_of, third_of, entry_bytes};
 ghost use Rattle.gff_write.specs.File.{entries_data, entries_lists, entries_bytes, words_up};
-ghost use Rattle.gff_write.specs.File.{indices_of, row_bytes, joined};
+ghost use Rattle.gff_write.specs.File.{field_count, indices_of, row_bytes, joined};
 
-use crate::count::sum;
 use crate::flat::{Content, Entry, Row};
 use crate::labels::{Labels, label_bytes};
 use crate::put::put_word;
@@ -101,6 +101,7 @@ fn put_entries(
 
 /// Puts the numbers of so many fields last, where a struct has more than one.
 fn put_indices(indices: &mut Items<u8>, first: u64, count: usize) -> Result<(), NoMemory>
+    requires few { first + count ≤ tree_limit }
     ensures { OnOk result (indices.new ≡ indices.old ++ indices_of first count) }
 {
     if count < 2 {
@@ -109,7 +110,7 @@ fn put_indices(indices: &mut Items<u8>, first: u64, count: usize) -> Result<(), 
     let mut next = first;
     for _done in 0..count {
         put_word(indices, next)?;
-        next = sum(next, 1)?;
+        next += 1;
     }
     Ok(())
 }
@@ -121,6 +122,7 @@ fn put_row(
     first: u64,
     row: &Row,
 ) -> Result<(), NoMemory>
+    requires few { first + length row.now.fields ≤ tree_limit }
     ensures structs { OnOk result (structs.new ≡ structs.old
         ++ row_bytes first (length indices.old) row.now) }
     ensures indices { OnOk result (indices.new ≡ indices.old
@@ -145,6 +147,7 @@ fn body(
     table: &Labels,
     labels: Items<u8>,
 ) -> Result<Sections, NoMemory>
+    requires few { field_count rows.now ≤ tree_limit }
     ensures { IfOk result (λ sections. sections ≡ parts_with table.now labels rows.now) }
 {
     let mut structs = Items::new(alloc);
@@ -157,7 +160,7 @@ fn body(
         put_row(&mut structs, &mut indices, first, row)?;
         let entries = row.fields.as_slice();
         put_entries(&mut fields, &mut data_bytes, &mut lists, table, entries)?;
-        first = sum(first, entries.len() as u64)?;
+        first += entries.len() as u64;
     }
     Ok(Sections {
         structs,
@@ -171,6 +174,7 @@ fn body(
 
 /// The sections of these structs, whose labels are given.
 pub fn sections_of(alloc: Global, rows: &[Row], table: &Labels) -> Result<Sections, NoMemory>
+    requires few { field_count rows.now ≤ tree_limit }
     ensures { IfOk result (λ sections. sections
         ≡ parts_with table.now (joined table.now) rows.now) }
 {

@@ -1,19 +1,19 @@
 //! The writing of a tree.
 
-ghost use Rattle.std.specs.Prelude.{◌≡◌, ◌++◌, [], length, IfOk, OnOk};
+ghost use Rattle.std.specs.Prelude.{◌≡◌, ◌≤◌, ◌++◌, [], length, IfOk, OnOk};
 ghost use Rattle.gff_tree.specs.Whole.{PlainGff, plain_gff};
 ghost use Rattle.gff_read.specs.Stands.{Stands};
 ghost use Rattle.gff_tree.specs.Tree.{plain_node};
-ghost use Rattle.gff_write.specs.Flat.{rows_of};
+ghost use Rattle.gff_write.specs.Flat.{node_count, rows_of, tree_limit};
 ghost use Rattle.gff_write.specs.File.{Gives, field_count, row_labels, section_words, header_of};
 ghost use Rattle.gff_write.specs.File.{body_of, written_rows, written, outcome_of};
 
-use crate::count::sum;
 use crate::fault::WriteFault;
 use crate::flat::Row;
 use crate::flatten::flatten_node;
 use crate::labels::{Labels, label_table};
-use crate::put::put_word;
+use crate::measure::{node_size, size};
+use crate::put::{put_place, put_word};
 use crate::ranges::tree_ranges;
 use crate::sections::{Sections, sections_of};
 use gff_read::one_tree;
@@ -21,23 +21,27 @@ use gff_tree::Gff;
 use nwq_value::{FILE_BYTES, Items, NoMemory};
 use std::alloc::Global;
 
+/// A tree of more bytes isn't written: its size alone tells that it is too large.
+const TREE_BYTES: u64 = 4_611_686_018_427_387_904;
+
 /// Puts the offset and the count of a section last.
-fn put_section(out: &mut Items<u8>, offset: u64, count: u64) -> Result<(), NoMemory>
+fn put_section(out: &mut Items<u8>, offset: u128, count: u64) -> Result<(), NoMemory>
     ensures { OnOk result (out.new ≡ out.old ++ section_words offset count) }
 {
-    put_word(out, offset)?;
+    put_place(out, offset)?;
     put_word(out, count)
 }
 
 /// How many fields the structs have.
-fn count_fields(rows: &[Row]) -> Result<u64, NoMemory>
-    ensures { IfOk result (λ n. n ≡ field_count rows.now) }
+fn count_fields(rows: &[Row]) -> u64
+    requires few { field_count rows.now ≤ tree_limit }
+    ensures { result ≡ field_count rows.now }
 {
     let mut total = 0;
     for row in rows {
-        total = sum(total, row.fields.len() as u64)?;
+        total += row.fields.len() as u64;
     }
-    Ok(total)
+    total
 }
 
 /// Puts the header of a file with these sections last.
@@ -53,11 +57,11 @@ fn put_header(
     ensures { OnOk result (out.new
         ≡ out.old ++ header_of file_type.now s.now structs fields labels) }
 {
-    let field_place = sum(56, s.structs.len() as u64)?;
-    let label_place = sum(field_place, s.fields.len() as u64)?;
-    let data_place = sum(label_place, s.labels.len() as u64)?;
-    let index_place = sum(data_place, s.data_bytes.len() as u64)?;
-    let list_place = sum(index_place, s.indices.len() as u64)?;
+    let field_place = 56 + s.structs.len() as u128;
+    let label_place = field_place + s.fields.len() as u128;
+    let data_place = label_place + s.labels.len() as u128;
+    let index_place = data_place + s.data_bytes.len() as u128;
+    let list_place = index_place + s.indices.len() as u128;
     out.extend(file_type.as_slice())?;
     out.extend(b"V3.2".as_slice())?;
     put_section(out, 56, structs)?;
@@ -109,6 +113,7 @@ fn labelled(
 ) -> Result<Items<u8>, NoMemory>
     requires labels { labels.now ≡ row_labels [] rows.now }
     requires fields { fields ≡ field_count rows.now }
+    requires few { field_count rows.now ≤ tree_limit }
     ensures { IfOk result (λ bytes. bytes ≡ written_rows file_type.now rows.now) }
 {
     let sections = sections_of(alloc, rows, labels)?;
@@ -125,15 +130,17 @@ fn labelled(
 
 /// The file of these structs.
 fn file(alloc: Global, file_type: &[u8; 4], rows: &[Row]) -> Result<Items<u8>, NoMemory>
+    requires few { field_count rows.now ≤ tree_limit }
     ensures { IfOk result (λ bytes. bytes ≡ written_rows file_type.now rows.now) }
 {
-    let fields = count_fields(rows)?;
+    let fields = count_fields(rows);
     let labels = label_table(alloc, rows)?;
     labelled(alloc, file_type, rows, &labels, fields)
 }
 
 /// The structs of a tree in preorder.
 fn rows_in(alloc: Global, tree: &Gff) -> Result<Items<Row>, NoMemory>
+    requires few { node_count (plain_node tree.now.top) ≤ tree_limit }
     ensures { IfOk result (λ rows. rows ≡ rows_of 0 (plain_node tree.now.top)) }
 {
     let mut rows = Items::new(alloc);
@@ -157,6 +164,9 @@ fn bounded(bytes: Items<u8>) -> Result<Vec<u8>, WriteFault>
 fn outcome(alloc: Global, tree: &Gff) -> Result<Vec<u8>, WriteFault>
     ensures { Gives (λ v. v.items) result (outcome_of (written (plain_gff tree.now))) }
 {
+    if node_size(&tree.top) > TREE_BYTES {
+        return Err(WriteFault::Large(size(tree)));
+    }
     let rows = rows_in(alloc, tree)?;
     let bytes = file(alloc, &tree.file_type, rows.as_slice())?;
     bounded(bytes)

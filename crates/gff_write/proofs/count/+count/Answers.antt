@@ -1,9 +1,17 @@
-use Rattle.std.proofs.Common.{◌≡◌, ◌+◌, ◌∙◌, [], ap, drop, arith}
+use Rattle.std.proofs.Common.{◌≡◌, ◌+◌, [], ap, drop, arith}
 use Rattle.std.proofs.lemmas.List.{drop_all}
 use Rattle.gff_tree.specs.Tree.{plain_leaf, fields_list, nodes_list}
 use Rattle.gff_write.specs.Flat.{node_count, fields_count, leaf_count, nodes_count}
 use Rattle.gff_write.proofs.FlatLemmas.{field_counted, node_counted}
+use Rattle.gff_write.proofs.FewLemmas.{field_few}
 use Rattle.gff_write.proofs.count.+count.Goals as goal
+
+pub count_node-count_leaf-total-requires : goal.count_node-count_leaf-total-requires
+count_node-count_leaf-total-requires t c =
+    let made = ap node_count (c.readings_tell.ensures.node c.args.node.now) in
+    let same = ap (λ fs. fields_count (fields_list fs)) c.deref-field-items.ensures.value in
+    let item = field_few c.deref-field-items.result.now c.loop-field.field-index c.field-item.result c.loop-field-test.true c.field-item.is in
+    (omega (arith, made, same, item, c.decreases), omega (arith, made, same, item, c.requires.few))
 
 pub count_leaf-returns-after-loop-node : goal.count_leaf-returns-after-loop-node
 count_leaf-returns-after-loop-node t c =
@@ -23,10 +31,10 @@ count_node-returns t c =
 
 pub count_leaf-loop-node-preserved : goal.count_leaf-loop-node-preserved
 count_leaf-loop-node-preserved t c =
-    node_counted c.loop-node.total c.in_ok-total-in-List.total c.deref-node-items.result.now c.loop-node.node-index c.node-item.result _ c.loop-node-test.true c.node-item.is
-    c.loop-node.invariant (c.in_ok-total-in-List.ensures ∙ ap (λ n. c.loop-node.total + n) c.in_ok-count_node-in-List.ensures)
+    node_counted c.loop-node.total _ c.deref-node-items.result.now c.loop-node.node-index c.node-item.result _ c.loop-node-test.true c.node-item.is
+    c.loop-node.invariant (ap (λ n. c.loop-node.total + n) c.count_node-total.ensures)
 
 pub count_node-loop-field-preserved : goal.count_node-loop-field-preserved
 count_node-loop-field-preserved t c =
-    field_counted c.loop-field.total c.in_ok-total.total c.deref-field-items.result.now c.loop-field.field-index c.field-item.result _ c.loop-field-test.true c.field-item.is
-    c.loop-field.invariant (c.in_ok-total.ensures ∙ ap (λ n. c.loop-field.total + n) c.in_ok-count_leaf.ensures)
+    field_counted c.loop-field.total _ c.deref-field-items.result.now c.loop-field.field-index c.field-item.result _ c.loop-field-test.true c.field-item.is
+    c.loop-field.invariant (ap (λ n. c.loop-field.total + n) c.count_leaf-total.ensures)

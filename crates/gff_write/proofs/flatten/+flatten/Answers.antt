@@ -1,10 +1,28 @@
-use Rattle.std.proofs.Common.{◌≡◌, ◌+◌, ◌++◌, ◌∙◌, [], length, drop, sym, ap}
+use Rattle.std.proofs.Common.{◌≡◌, ◌+◌, ◌++◌, ◌∙◌, [], length, drop, sym, ap, arith}
 use Rattle.std.proofs.lemmas.List.{drop_all, append-nil}
 use Rattle.gff_tree.specs.declared.tree.Node.{out-Node}
 use Rattle.gff_tree.specs.Tree.{Struct, plain_leaf, fields_list, nodes_list}
-use Rattle.gff_write.specs.Flat.{rows_below, leaf_rows, list_rows, entries_from}
+use Rattle.gff_write.specs.Flat.{node_count, leaf_count, fields_count, nodes_count, rows_below, leaf_rows, list_rows, entries_from}
 use Rattle.gff_write.proofs.FlatLemmas.{below_step, list_step, node_done}
+use Rattle.gff_write.proofs.FewLemmas.{below_within, field_few, list_within, member_few, pushed_long}
 use Rattle.gff_write.proofs.flatten.+flatten.Goals as goal
+
+pub flatten_leaf-flatten_node-requires-in-loop-node : goal.flatten_leaf-flatten_node-requires-in-loop-node
+flatten_leaf-flatten_node-requires-in-loop-node t c =
+    let listed = ap leaf_count (c.readings_tell.ensures.list c.args.leaf.now c.in-List.nodes c.in-List.is) in
+    let same = ap (λ ns. nodes_count (nodes_list ns)) c.deref-node-items.ensures.value in
+    let item = member_few c.deref-node-items.result.now c.loop-node.node-index c.node-item.result c.loop-node-test.true c.node-item.is in
+    let within = list_within c.loop-node.rows c.args.rows.now c.deref-node-items.result.now c.loop-node.node-index c.node-item.result c.loop-node-test.true c.node-item.is c.loop-node.invariant in
+    (omega (arith, listed, same, item, c.decreases), omega (arith, listed, same, within, c.requires.few))
+
+pub flatten_node-flatten_leaf-requires : goal.flatten_node-flatten_leaf-requires
+flatten_node-flatten_leaf-requires t c =
+    let made = ap node_count (c.readings_tell.ensures.node c.args.node.now) in
+    let same = ap (λ fs. fields_count (fields_list fs)) c.deref-field-items.ensures.value in
+    let item = field_few c.deref-field-items.result.now c.loop-field.field-index c.field-item.result c.loop-field-test.true c.field-item.is in
+    let within = below_within c.loop-field.rows c.push.new.self c.deref-field-items.result.now c.loop-field.field-index c.field-item.result c.loop-field-test.true c.field-item.is c.loop-field.invariant in
+    let long = pushed_long c.args.rows.now c.push.new.self _ c.in_ok-push.ensures.ok in
+    (omega (arith, made, same, item, c.decreases), omega (arith, made, same, within, long, c.requires.few))
 
 pub flatten_leaf-loop-node-preserved : goal.flatten_leaf-loop-node-preserved
 flatten_leaf-loop-node-preserved t c =
@@ -28,7 +46,7 @@ pub flatten_node-returns : goal.flatten_node-returns
 flatten_node-returns t c =
     let none : drop c.loop-field.field-index c.deref-field-items.result.now ≡ [] = drop_all _ _ c.loop-field-test.false in
     let all : c.loop-field.rows ++ [] ≡ c.push.new.self ++ rows_below (length c.push.new.self) (fields_list c.deref-field-items.result.now) = rw none at c.loop-field.invariant in
-    let first : c.in_ok-first.first ≡ length c.args.rows.now + 1 = c.in_ok-first.ensures ∙ ap (λ n. n + 1) c.len.ensures.len in
+    let first = ap (λ n. n + 1) c.len.ensures.len in
     let same = c.deref.ensures.value ∙ sym c.deref-field-items.ensures.value in
     let read : c.put_fields.new.entries ≡ entries_from (length c.args.rows.now + 1) (fields_list c.deref-field-items.result.now) =
     (rw c.new-fields.ensures.empty at c.in_ok-put_fields.ensures) ∙ (ap (λ n. entries_from n (fields_list c.deref.result.now)) first ∙ ap (λ fs. entries_from (length c.args.rows.now + 1) (fields_list fs)) same) in
