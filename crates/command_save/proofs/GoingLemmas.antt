@@ -76,7 +76,7 @@ module _ {X : Type 0} (runner : Runner X) (bounds : Bounds) where
       (subst (λ (q : Played X). q.ending ≢ plays.StoppedInside) first whole)
       ∙ ap (λ (q : Played X). on q.last) (sym first)
 
--- ---- a play to its end isn't broken off
+  -- ---- a play to its end isn't broken off
 
   full_whole : (b : Option (Begun X)) → full b ≢ plays.Paused
   full_whole None h = absurd cc
@@ -112,7 +112,7 @@ module _ {X : Type 0} (runner : Runner X) (bounds : Bounds) where
   pub on_ends : (p : Progress X) → p.entries ≤ bounds.entries → (on p).ending ≢ plays.Paused
   on_ends p less e = ends (bounds.entries + 1 - p.entries) p (omega (arith, less)) less e
 
--- ---- lines that were told before stand in front
+  -- ---- lines that were told before stand in front
 
   abbrev pub after : List Line → Progress X → Progress X
   after before p = record p { trace = before ++ p.trace }
@@ -148,7 +148,7 @@ module _ {X : Type 0} (runner : Runner X) (bounds : Bounds) where
   fronts before (suc k) p =
       turn_front before (plays_from runner bounds k) (fronts before k) (p.entries == bounds.entries) (begin bounds.until p.world) p
 
--- ---- the user number of an event that is over doesn't matter
+  -- ---- the user number of an event that is over doesn't matter
 
   abbrev pub with_user : ℤ → Progress X → Progress X
   with_user u p = record p { world = record p.world { user = u } }
@@ -185,7 +185,7 @@ module _ {X : Type 0} (runner : Runner X) (bounds : Bounds) where
       (plays_from runner bounds (suc k) p)) (sym (begun_same u p.world.agenda.entries p.world))
       (turn_user (plays_from runner bounds k) u (p.entries == bounds.entries) (begin bounds.until p.world) p)
 
--- ---- no lines are kept between entries
+  -- ---- no lines are kept between entries
 
   after_quiet : (stopped : Bool) (p : Progress X) (go : Progress X → Played X) → p.world.trace ≡ [] → ((q : Progress X) → q.world.trace ≡ [] → (go q).last.world.trace ≡ [])
       → (after_entry stopped p go).last.world.trace ≡ []
@@ -206,7 +206,7 @@ module _ {X : Type 0} (runner : Runner X) (bounds : Bounds) where
   stays_quiet zero p quiet = quiet
   stays_quiet (suc k) p quiet = turn_quiet (p.entries == bounds.entries) (begin bounds.until p.world) p (plays_from runner bounds k) quiet (stays_quiet k)
 
--- ---- the whole
+  -- ---- the whole
 
   -- what is left of a play where it was broken off, without its lines and its running event
   abbrev pub left_of : Progress X → Progress X

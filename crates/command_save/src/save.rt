@@ -60,7 +60,16 @@ fn save_plan<F: Files, S: Sink>(
     plays_can_rest();
     plan_worlds_are_fresh();
     let AreaFile { bytes, area } = area;
-    match play_first(alloc, &header.table, area, plan, scripts, hooks, entries, out) {
+    match play_first(
+        alloc,
+        &header.table,
+        area,
+        plan,
+        scripts,
+        hooks,
+        entries,
+        out,
+    ) {
         Err(status) => {
             drop(header);
             drop(bytes);
@@ -141,13 +150,7 @@ fn save_scripts<F: Files, S: Sink>(
     ensures names { KeepsBut (IsGameFile name.now) (F.contents files.old) (F.contents files.new) }
     ensures only { IfErr result StopsGame }
 {
-    match list_scripts(
-        alloc,
-        &header.table,
-        plan.scripts.as_slice(),
-        files,
-        out,
-    ) {
+    match list_scripts(alloc, &header.table, plan.scripts.as_slice(), files, out) {
         Err(status) => {
             drop(header);
             Err(status)
@@ -186,9 +189,7 @@ fn save_under<F: Files, S: Sink>(
 {
     match read_header(alloc, header, files, out) {
         Err(status) => Err(status),
-        Ok(header) => save_scripts(
-            alloc, area, plan, entries, name, header, hooks, files, out,
-        ),
+        Ok(header) => save_scripts(alloc, area, plan, entries, name, header, hooks, files, out),
     }
 }
 

@@ -155,12 +155,7 @@ fn two_words<'a>(command: &str, first: &'a str, second: &'a str) -> Command<'a>
     }
 }
 
-fn three_words<'a>(
-    command: &str,
-    state: &'a str,
-    to: &'a str,
-    list: &'a str,
-) -> Command<'a>
+fn three_words<'a>(command: &str, state: &'a str, to: &'a str, list: &'a str) -> Command<'a>
     ensures { IsCommand result (three_word_form command.now state.now to.now list.now) }
 {
     if is_word(command, "resume") {

@@ -129,7 +129,7 @@ pub record MeansSave (cell : CellLookup) (header area plan : List ℕ) (n : ℕ)
   -- these are the first of the play, which goes on from there
   pub first : (h : HeaderFile) (p : Plan) (scripts : List Script) (a : AreaFile) (left : Contents) → AcceptsSave header area plan c h p scripts a left
       → IsFront (code_runner (host_of cell h.table scripts) p.limit) p n (played_first cell h.table p scripts n (plan_world a.area p))
-        (played cell h.table p scripts (plan_world a.area p))
+      (played cell h.table p scripts (plan_world a.area p))
   -- binaries may be listed too; no entry comes to a stack fault
   pub no_fault : (h : HeaderFile) (p : Plan) (scripts : List Script) (a : AreaFile) (left : Contents) → AcceptsSave header area plan c h p scripts a left
       → GoesWithoutFault (host_of cell h.table scripts) p.limit (first_entries n p) (unplayed (plan_world a.area p))

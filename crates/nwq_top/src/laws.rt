@@ -4,8 +4,9 @@ ghost use Rattle.nwq_top.specs.Laws.{OneOutcome, Prefixes, OneWhole, WholePrefix
 ghost use Rattle.nwq_top.specs.Laws.{CutsLeaveFronts, NamesChange, WholeCutsLeaveFronts};
 ghost use Rattle.nwq_top.specs.Meaning.{WorkMeans, WholeMeans};
 
-use crate::word_laws::{compiles_mean, generates_mean, plays_mean, resumes_mean, runs_mean};
-use crate::word_laws::saves_mean;
+use crate::word_laws::{
+    compiles_mean, generates_mean, plays_mean, resumes_mean, runs_mean, saves_mean,
+};
 use command_compile::laws::one_script;
 use command_files::laws::{one_check, one_file};
 use command_generate::laws::one_generated;

@@ -14,9 +14,7 @@ use command_meaning::{
 };
 use command_play::laws::one_game;
 use command_plays::laws::one_code;
-use command_save::laws::{
-    fronts_go_on, one_input, one_save, saved_plays_go_on, states_go_safely,
-};
+use command_save::laws::{fronts_go_on, one_input, one_save, saved_plays_go_on, states_go_safely};
 use command_sources::laws::one_source;
 use engine_table::headers_have_tables;
 use play_inputs::laws::{one_area, one_listing};

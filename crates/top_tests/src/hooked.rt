@@ -5,9 +5,7 @@ ghost use Rattle.hook_table.specs.Standard.{function_numbered, IsAnswer};
 ghost use Rattle.world_core.specs.Calls.{AreServing};
 
 use crate::answers::first_wrong;
-use crate::{
-    cuts, example, files, games, plans, profile, programs, reads, saves, scripts, words,
-};
+use crate::{cuts, example, files, games, plans, profile, programs, reads, saves, scripts, words};
 use hook_table::{Call, Hooks, cell_call};
 use nwq_hooks::{all_are_put, call_function, put_cell_hook, put_hook};
 use nwq_top::Status;

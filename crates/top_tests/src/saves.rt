@@ -144,9 +144,11 @@ fn goes_on(
     let first = Vec::from_slice(alloc, found.out.bytes())?;
     found.out = MemSink::new(alloc);
     carry_on(alloc, "resume s.nwq f.git", &mut found, hooks)?;
-    Ok(found.status == unbroken.status
-        && is_parted(first.as_slice(), found.out.bytes(), unbroken.out.bytes())
-        && found.files.get("f.git") == unbroken.files.get("f.git"))
+    Ok(
+        found.status == unbroken.status
+            && is_parted(first.as_slice(), found.out.bytes(), unbroken.out.bytes())
+            && found.files.get("f.git") == unbroken.files.get("f.git"),
+    )
 }
 
 /// After how many entries a saved play goes on otherwise, if it does so anywhere.
