@@ -103,3 +103,21 @@ module _ (header : HeaderFile) (file : List ℕ) (plan : Plan) (scripts : List S
   pub stopped_does : (ending : PlayEnd) → EndsAs InstrStop ending → Does {A = Finished} (Puts (code_end_text scripts p) (Ends status.Limit)) c t r c' t'
       → Does (saves_by ending header file plan scripts name p) c t r c' t'
   stopped_does ending is does = subst (λ (e : PlayEnd). Does (saves_by e header file plan scripts name p) c t r c' t') (sym is) does
+
+pub ruleset endings = (broken_does, stopped_does, progress_is)
+
+-- ---- a play that was stopped inside an entry
+
+pub end_told : (scripts : List Script) (p : Played Saved) (text : List ℕ) (r : Result Finished Status) (c : Contents) (t t' : List ℕ) → text ≡ code_end_text scripts p
+    → Does {A = Finished} (Puts text (Ends status.Limit)) c t r c t' → Does {A = Finished} (Puts (code_end_text scripts p) (Ends status.Limit)) c t r c t'
+end_told scripts p text r c t t' is does = subst (λ (x : List ℕ). Does {A = Finished} (Puts x (Ends status.Limit)) c t r c t') is does
+
+pub end_cut : (text : List ℕ) (c : Contents) (t : List ℕ) → Does {A = Finished} (Puts text (Ends status.Limit)) c t (Err status.Memory) c t
+end_cut text c t = cut_here (Puts text (Ends status.Limit)) status.Memory c c t t tt refl refl
+
+pub memory_limits : Refusing status.Limit status.Memory
+memory_limits = inr tt
+
+pub ruleset stopped = (end_told, end_cut, memory_limits)
+
+pub ruleset states = (may_limit, state_at)
