@@ -82,7 +82,7 @@ module _ (header : HeaderFile) (file : AreaFile) (plan : Plan) (scripts : List S
         state = h.found;
         is = h.is;
         taken = w.taken ∙ (ap (λ (n : ℕ). (t ++ trace_text p.last.trace) ++ saved_line name n) h.is.come.taken
-            ∙ sym (append_assoc t (trace_text p.last.trace) (saved_line name p.last.entries)));
+            ∙ append_assoc t (trace_text p.last.trace) (saved_line name p.last.entries));
         contents = w.contents;
       }
 

@@ -121,7 +121,7 @@ module _ (loaded now : List Loaded) (x : Loaded) (is : now ≡ loaded ++ x ∷ [
       ∙ ap (λ (l : ScriptLine). line_names (take i lines) ++ l.name ∷ []) (sym at)) in
       ap loaded_names is ∙ (map_push (λ (l : Loaded). l.name) loaded x
       ∙ (ap (λ n. loaded_names loaded ++ n ∷ []) same ∙ (ap (λ ns. ns ++ line.name ∷ []) so
-      ∙ (sym (append_assoc (loaded_names first) (line_names (take i lines)) (line.name ∷ [])) ∙ ap (λ ns. loaded_names first ++ ns) (sym more)))))
+      ∙ (append_assoc (loaded_names first) (line_names (take i lines)) (line.name ∷ []) ∙ ap (λ ns. loaded_names first ++ ns) (sym more)))))
 
   pub scripts_on : scripts_of now ≡ scripts_of loaded ++ script_of x ∷ []
   scripts_on = ap scripts_of is ∙ scripts_more loaded x
