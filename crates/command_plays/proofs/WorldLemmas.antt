@@ -1,6 +1,8 @@
 -- The world of a plan: no state is stored in it, and no line is kept.
-use Rattle.std.proofs.Common.{◌≡◌, ◌<◌, ◌+◌, ◌^◌, ℕ, zero, suc, pos, Bool, true, false, List, [], ◌∷◌, length, map, if◌then◌else◌, refl, sym, ap, ◌∙◌, subst, arith}
-use Rattle.std.specs.Prelude.{replicate}
+use Rattle.std.proofs.Common.{◌≡◌, ◌<◌, ◌≤◌, ◌+◌, ◌^◌, ℕ, zero, suc, pos, Bool, true, false, List, [], ◌∷◌, length, map, if◌then◌else◌, refl, sym, ap, ◌∙◌, subst, arith}
+use Rattle.std.specs.Prelude.{replicate, Result, Ok, Err, IfOk}
+use Rattle.nwq_value.specs.Limits.{event_limit}
+use Rattle.command_work.specs.declared.status.Status.{Status}
 use Rattle.std.specs.List.{AllByRecursion, fold}
 use Rattle.area_rules.specs.Area.{PlainArea}
 use Rattle.delay_agenda.specs.declared.entry.Entry.{Entry}
@@ -81,3 +83,16 @@ module _ (area : PlainArea) (plan : Plan) (w : World Saved) (is : w ≡ plan_wor
       let next : w.agenda.next ≡ 0 + length (map (begun_by area) plan.events) =
       ap (λ (v : World Saved). v.agenda.next) is ∙ next_number (map (begun_by area) plan.events) (still area plan.random plan.version) in
       omega (arith, next, length_begun area plan.events, kept.few_events)
+
+  -- a plan begins few entries
+  world_few : IsPlan plan → w.agenda.next ≤ event_limit
+  world_few kept =
+      let next : w.agenda.next ≡ 0 + length (map (begun_by area) plan.events) =
+      ap (λ (v : World Saved). v.agenda.next) is ∙ next_number (map (begun_by area) plan.events) (still area plan.random plan.version) in
+      omega (arith, next, length_begun area plan.events, kept.few_events)
+
+  -- so a part of its play posts few in all
+  pub few_posted : {A : Type 0} → (next : A → ℕ) → IsPlan plan → (r : Result A Status) → IfOk r (λ answer. next answer ≤ w.agenda.next + 2 ^ 45)
+      → IfOk r (λ answer. next answer < 2 ^ 61)
+  few_posted next kept (Ok answer) posted = let few = world_few kept in omega (arith, few, posted)
+  few_posted next kept (Err status) posted = tt
