@@ -83,8 +83,13 @@ state_table reads own bytes s (Some text) table of same is =
 
 module _ (states : SureStates) (sure : SureResumes) (one : OneGoing) (safe : StatesGoSafely) (go_on : CheckedPlaysGoOn) (unbroken : SavedPlaysGoOn) (reads : HeadersHaveTables) (own : BuiltInIsTable)
     (cell : CellLookup) (name to : List ℕ) (c : Contents) (t : List ℕ) (r : Result Finished Status) (c' : Contents) (t' : List ℕ) (whole : IsCut r → ⊥) where
+  state_goes : (s : Parts) → ReadsState c name s → Does (resumes_state cell to s) c t r c' t' → StateComes c name
+  unfolding resumes_state
+  state_goes s has (inl x) = absurd (whole x.0)
+  state_goes s has (inr h) = accepted s h.found has h.is
+
   comes_of : Follows (resumes_state cell to) (ReadsState c name) (RefusesState c name) c t r c' t' → StateComes c name
-  comes_of (follows s has does) = accepted s has
+  comes_of (follows s has does) = state_goes s has does
   comes_of (ends why is e p q) = refused why is
   comes_of (cuts x) = absurd (whole x)
 

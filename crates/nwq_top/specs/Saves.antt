@@ -1,5 +1,5 @@
 -- What the words `save HEADER AREA PLAN ENTRIES STATE` and `resume STATE TO` mean.
-use Rattle.std.specs.Prelude.{◌≡◌, ◌≢◌, ◌≤◌, ℕ, ◌*◌, min, true, false, List, [], ◌++◌, codes, bytes_eq, map, Result, Ok}
+use Rattle.std.specs.Prelude.{◌≡◌, ◌≢◌, ◌≤◌, ℕ, ◌*◌, ◌⊎◌, min, true, false, List, [], ◌++◌, codes, bytes_eq, map, Result, Ok}
 use Rattle.std.specs.FinMap as fin_map
 use Rattle.nwq_value.specs.Engine.{EngineTable}
 use Rattle.nwq_outside.specs.Outside.{Contents}
@@ -14,7 +14,7 @@ use Rattle.machine_rules.specs.Machine.{Script}
 use Rattle.saved_state.specs.declared.saved.Saved.{Saved}
 use Rattle.world_rules.specs.Pure.{CellLookup}
 use Rattle.world_rules.specs.Trace.{trace_text}
-use Rattle.world_rules.specs.Plays.{StoppedInside, Bounds, Played, play_on, unplayed}
+use Rattle.world_rules.specs.Plays.{Done, StoppedInside, Bounds, Played, play_on, unplayed}
 use Rattle.module_player.specs.CodePlays.{code_runner, played_before}
 use Rattle.state_format.specs.declared.parts.Parts.{Parts}
 use Rattle.state_format.specs.Fields.{parts_bytes}
@@ -95,10 +95,12 @@ source_first cell header area p scripts n steps =
 abbrev pub code_first : CellLookup → HeaderFile → AreaFile → Plan → List Listed → ℕ → Played Saved
 code_first cell h a p listed n = played_first cell h.table p (map script_of listed) n (plan_world a.area p)
 
--- The first entries of listed sources are played as the sources mean: the lines that are told are theirs, and the world that is saved is as
--- theirs. So it is where each of these entries of the sources ends in some steps, and 16 times as many are within the limit; and, with as many
+-- The first entries of listed sources are played and saved: their lines are told, and their world is that of the state. These are what the
+-- sources mean. So it is where each of these entries of the sources ends in some steps, and 16 times as many are within the limit; and, with as many
 -- steps as the plan allows instructions, where none of the code was stopped. Where one was, the lines told are a beginning of the sources'.
-pub record FirstAsMeant (cell : CellLookup) (h : HeaderFile) (a : AreaFile) (p : Plan) (listed : List Listed) (n : ℕ) : Type 0 where
+pub record FirstAsMeant (cell : CellLookup) (h : HeaderFile) (a : AreaFile) (p : Plan) (listed : List Listed) (n : ℕ) (name : List ℕ)
+    (c : Contents) (t : List ℕ) (r : Result Finished Status) (c' : Contents) (t' : List ℕ) : Type 0 where
+  pub does : Does (saves_plan cell h p (map script_of listed) n name a) c t r c' t'
   pub few : (steps : ℕ) → step_cost * steps ≤ p.limit → (source_first cell h.table a.area p listed n steps).ending ≢ StoppedInside
       → PlaysAlike (Carries (listing_of cell h.table listed)) (code_first cell h a p listed n) (source_first cell h.table a.area p listed n steps)
   pub unstopped : (code_first cell h a p listed n).ending ≢ StoppedInside
@@ -109,12 +111,14 @@ pub record FirstAsMeant (cell : CellLookup) (h : HeaderFile) (a : AreaFile) (p :
 -- ---- `save`
 
 -- The file of the state holds the one list of bytes of the play's state after its first entries; their lines and then the last one were put.
-pub record IsSaved (header : HeaderFile) (file : AreaFile) (plan : Plan) (scripts : List Script) (name : List ℕ) (p : Played Saved)
+pub record IsSaved (header : HeaderFile) (file : AreaFile) (plan : Plan) (scripts : List Script) (n : ℕ) (name : List ℕ) (p : Played Saved)
     (c : Contents) (t : List ℕ) (c' : Contents) (t' : List ℕ) : Type 0 where
   pub state : Parts
   pub is : IsStateAt header file.bytes plan scripts p.last state
   pub taken : t' ≡ t ++ (trace_text p.last.trace ++ saved_line name p.last.entries)
   pub contents : c' ≡ fin_map.insert c name (parts_bytes state)
+  -- so many entries were taken as are asked for and may be, or all that are due
+  pub entries : (p.last.entries ≡ min n plan.entries) ⊎ (p.ending ≡ Done)
 
 -- What `save HEADER AREA PLAN ENTRIES STATE` does, unless a failed call or want of memory cut it.
 pub record MeansSave (cell : CellLookup) (header area plan : List ℕ) (n : ℕ) (name : List ℕ) (c : Contents) (t : List ℕ) (r : Result Finished Status)
@@ -125,7 +129,7 @@ pub record MeansSave (cell : CellLookup) (header area plan : List ℕ) (n : ℕ)
       → AcceptsSave header area plan c h p scripts a left → Does (saves_plan cell h p scripts n name a) left t r c' t'
   -- with status 0 the state is left of the play after the entries that it took
   pub saved : (h : HeaderFile) (p : Plan) (scripts : List Script) (a : AreaFile) (left : Contents) → AcceptsSave header area plan c h p scripts a left
-      → r ≡ Ok tt → IsSaved h a p scripts name (played_first cell h.table p scripts n (plan_world a.area p)) left t c' t'
+      → r ≡ Ok tt → IsSaved h a p scripts n name (played_first cell h.table p scripts n (plan_world a.area p)) left t c' t'
   -- these are the first of the play, which goes on from there
   pub first : (h : HeaderFile) (p : Plan) (scripts : List Script) (a : AreaFile) (left : Contents) → AcceptsSave header area plan c h p scripts a left
       → IsFront (code_runner (host_of cell h.table scripts) p.limit) p n (played_first cell h.table p scripts n (plan_world a.area p))
@@ -134,7 +138,7 @@ pub record MeansSave (cell : CellLookup) (header area plan : List ℕ) (n : ℕ)
   pub no_fault : (h : HeaderFile) (p : Plan) (scripts : List Script) (a : AreaFile) (left : Contents) → AcceptsSave header area plan c h p scripts a left
       → GoesWithoutFault (host_of cell h.table scripts) p.limit (first_entries n p) (unplayed (plan_world a.area p))
   pub meant : (h : HeaderFile) (p : Plan) (listed : List Listed) (a : AreaFile) (left : Contents)
-      → AcceptsSourcesToSave header area plan c h p listed a left → FirstAsMeant cell h a p listed n
+      → AcceptsSourcesToSave header area plan c h p listed a left → FirstAsMeant cell h a p listed n name left t r c' t'
 
 -- ---- what is given to `resume`
 
@@ -151,10 +155,10 @@ pub data RefusesState (c : Contents) (name : List ℕ) : Refusal → Type 0 wher
   stops : (bytes : List ℕ) → IsRead c name bytes → (place : ℕ) → StopsAt bytes place → RefusesState c name (BadArea name (flaw.State place))
   unfit : (bytes : List ℕ) → IsRead c name bytes → (s : Parts) (rule : ℕ) → StateOf bytes s → IsUnfit rule s → RefusesState c name (BadArea name (flaw.Unfit rule))
 
--- one or the other
+-- one or the other; and what a play goes on from that is accepted
 pub data StateComes (c : Contents) (name : List ℕ) : Type 0 where
   refused : (why : Refusal) → RefusesState c name why → StateComes c name
-  accepted : (s : Parts) → ReadsState c name s → StateComes c name
+  accepted : (s : Parts) (g : Going) → ReadsState c name s → GoesFrom s g → StateComes c name
 
 -- ---- `resume`
 
