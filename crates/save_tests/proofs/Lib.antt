@@ -1,1 +1,1 @@
-mod Quiet
+pub mod Quiet

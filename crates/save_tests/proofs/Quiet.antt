@@ -5,5 +5,5 @@ use Rattle.world_rules.specs.World.{World}
 use Rattle.state_format.specs.declared.parts.Parts.{Parts}
 use Rattle.play_save.specs.States.{IsWorldOf}
 
-rests : (s : Parts) (w : World Saved) → IsWorldOf s w → w.trace ≡ []
+pub rests : (s : Parts) (w : World Saved) → IsWorldOf s w → w.trace ≡ []
 rests s w told = ap (λ (v : World Saved). v.trace) told.world

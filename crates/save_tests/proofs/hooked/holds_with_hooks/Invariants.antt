@@ -3,4 +3,4 @@ use Rattle.hook_table.specs.Served.{AreFirst}
 use Rattle.save_tests.proofs.hooked.holds_with_hooks.Given as goal
 
 abbrev pub invariant-loop-n : goal.invariant-loop-n
-invariant-loop-n g l = AreFirst l.n (map (λ h. h.known) l.hooks.all.items)
+invariant-loop-n l = AreFirst l.n (map (λ h. h.known) l.hooks.all.items)
