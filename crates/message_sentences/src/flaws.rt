@@ -85,9 +85,9 @@ const CODE_FLAWS: [Flaw; 4] = [
 const UNFIT: [&str; 7] = [
     "the header of the state has no table",
     "a script of the state is no code, or isn't well stacked under its header",
-    "the area of the state breaks a rule of areas",
-    "a number of the state passes its limit, or a name or a text is too long",
-    "the agenda of the state isn't in its order",
+    "the area of the state is none, or has another number of objects",
+    "a number of the state passes its limit, a name is none or stands twice, or a text is too long",
+    "the entries of the agenda can't wait so: their order, numbers, times or objects",
     "a captured state of a script doesn't fit its script",
     "the busy objects of the state and the Turns of its agenda don't go together",
 ];

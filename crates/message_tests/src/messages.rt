@@ -211,7 +211,8 @@ const OTHERS: &[Row] = &[
         files: &[],
         number: 4,
         line: b"refused a.state unfit 5\n",
-        said: "a.state: error: the agenda of the state isn't in its order [unfit]\n",
+        said: "a.state: error: the entries of the agenda can't wait so: their order, numbers, times or \
+            objects [unfit]\n",
     },
     Row {
         words: &["nwq", "tree", "a.git"],

@@ -36,8 +36,9 @@ pub fn one_outcome()
     one_set_of_tables();
 }
 
-/// Which names a command changes: of those that it may write, `play` changes the files of the
-/// sources that its plan lists, and TO only where it is done or cut.
+/// Which names a command changes: of those that it may write, `play` and `save` change the files of
+/// the sources that the plan lists, and these and `resume` their last file only where the play is
+/// done, or saved, or the call is cut.
 pub fn names_change()
     ensures change { NamesChange }
 {}
