@@ -31,7 +31,7 @@ module _ (name bytes : List ℕ) (c : Contents) where
   pub state_unfit : (rule : ℕ) (answer : Status) (t t' : List ℕ) → RefusesState bytes (fault.Unfit rule) → Refuses (BadArea name (flaw.Unfit rule)) t answer t'
       → Does (state_in name bytes) c t (Err answer) c t'
   state_unfit rule answer t t' is h =
-      goes (Unfit rule) (Err answer) t t' (unfit is.0 rule is.1.0 is.1.1) (refused (BadArea name (flaw.Unfit rule)) answer c t t' h)
+      goes (Unfit rule) (Err answer) t t' (unfit is.0 rule is.1 is.2) (refused (BadArea name (flaw.Unfit rule)) answer c t t' h)
 
   pub state_cut : (t : List ℕ) → Does (state_in name bytes) c t (Err Memory) c t
   state_cut t = cut_here (state_in name bytes) Memory c c t t tt refl refl

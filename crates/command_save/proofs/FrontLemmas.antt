@@ -23,8 +23,10 @@ fronts_go_on on cell header plan scripts n w =
     let all : Bounds = record { entries = plan.entries; until = plan.until; stop = plan.entries + 1 } in
     let first : ℕ = min n plan.entries in
     let more : ℕ = plan.entries + 1 - min n plan.entries in
-    let count : plan.entries + 1 ≡ first + more = omega (arith, min_below n plan.entries) in
+    let count : plan.entries + 1 - 0 ≡ first + more = omega (arith, min_below n plan.entries) in
+    let none : first ≡ first - 0 = omega arith in
     let front : plays runner all first (unplayed w) ≡ played_first cell header plan scripts n w =
-    stops_same runner plan.entries plan.until (plan.entries + 1) first first (unplayed w) in
+    stops_same runner plan.entries plan.until (plan.entries + 1) first first (unplayed w)
+    ∙ ap (λ (k : ℕ). plays runner (record { entries = plan.entries; until = plan.until; stop = first }) k (unplayed w)) none in
     ap (λ (k : ℕ). plays runner all k (unplayed w)) count ∙ (on runner all first more (unplayed w)
     ∙ ap (λ (p : Played Saved). continued runner all more p.ending p) front)

@@ -33,11 +33,11 @@ none_listed name (line ∷ lines) e =
 distinct_lines : (lines : List ScriptLine) → AreListed lines → IsDistinct bytes_eq (line_names lines)
 unfolding IsDistinct
 distinct_lines [] all = tt
-distinct_lines (line ∷ lines) all = (none_listed line.name lines all.1.0, distinct_lines lines all.1.1)
+distinct_lines (line ∷ lines) all = (none_listed line.name lines all.1, distinct_lines lines all.2)
 
 named_lines : (lines : List ScriptLine) → AreListed lines → AllByRecursion (λ (name : List ℕ). IsTrue (is_script_name name)) (line_names lines)
 named_lines [] all = tt
-named_lines (line ∷ lines) all = (all.0, named_lines lines all.1.1)
+named_lines (line ∷ lines) all = (all.0, named_lines lines all.2)
 
 named_all : (scripts : List Loaded) → AllByRecursion (λ (name : List ℕ). IsTrue (is_script_name name)) (loaded_names scripts)
     → AllByRecursion (λ (l : Loaded). IsTrue (is_script_name l.name)) scripts

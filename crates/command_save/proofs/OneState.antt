@@ -90,7 +90,7 @@ spelled_after : (ops : List PlainOp) → drop header_size (file_bytes ops) ≡ s
 unfolding four
 spelled_after ops = refl
 
-one_code : SpellingLaws → (a b : List PlainOp) → IsCode a → IsCode b → file_bytes a ≡ file_bytes b → a ≡ b
+pub one_code : SpellingLaws → (a b : List PlainOp) → IsCode a → IsCode b → file_bytes a ≡ file_bytes b → a ≡ b
 one_code laws a b x y files =
     let same : spellings a ≡ spellings b = sym (spelled_after a) ∙ ap (drop header_size) files ∙ spelled_after b in
     let shorter : length (spellings b) ≤ length (spellings a) = omega (arith, ap length same) in

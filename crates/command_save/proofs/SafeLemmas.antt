@@ -43,6 +43,7 @@ table_at table (x ∷ xs) h zero = h.0.stacked.0
 table_at table (x ∷ xs) h (suc n) = table_at table xs h.1 n
 
 meet_at : (laws : OneLaws) (table : EngineTable) (xs : List Script) → AreSpelled xs → (h : AreSound table xs) → AllMeet table xs (table_at table xs h)
+unfolding table_at
 meet_at laws table [] spelled h n script is = absurd cc
 meet_at laws table (x ∷ xs) spelled h zero script is =
     let one : x ≡ script = cc in
@@ -54,13 +55,13 @@ meet_at laws table (x ∷ xs) spelled h (suc n) script is = meet_at laws table x
 record IsPartAt (xs : List Script) (n : ℕ) (part : ScriptPart) : Type 0 where
   script : Script
   listed : slice_get xs n ≡ Some script
-  part : part ≡ file_of script
+  same : part ≡ file_of script
   code : IsCode script.code
 
 part_at : (xs : List Script) → AreSpelled xs → (n : ℕ) (part : ScriptPart) → slice_get (map file_of xs) n ≡ Some part → IsPartAt xs n part
 part_at [] spelled n part is = absurd cc
-part_at (x ∷ xs) spelled zero part is = let same : file_of x ≡ part = cc in record { script = x; listed = refl; part = sym same; code = spelled.0 }
-part_at (x ∷ xs) spelled (suc n) part is = let k = part_at xs spelled.1 n part is in record { script = k.script; listed = k.listed; part = k.part; code = k.code }
+part_at (x ∷ xs) spelled zero part is = let same : file_of x ≡ part = cc in record { script = x; listed = refl; same = sym same; code = spelled.0 }
+part_at (x ∷ xs) spelled (suc n) part is = let k = part_at xs spelled.1 n part is in record { script = k.script; listed = k.listed; same = k.same; code = k.code }
 
 -- ---- captured states
 
@@ -70,7 +71,7 @@ module _ (s : Parts) (g : Going) (from : GoesFrom s g) (tables : Tables) (meet :
       let k = part_at g.scripts from.spelled c.script h.script (subst (λ (parts : List ScriptPart). slice_get parts c.script ≡ Some h.script) from.scripts h.listed) in
       record {
         listed = (k.script, k.listed);
-        fits = h.fits g.table k.script.code (tables c.script) from.header (record { code = k.code; spelled = ap (λ (p : ScriptPart). p.code) k.part })
+        fits = h.fits g.table k.script.code (tables c.script) from.header (record { code = k.code; spelled = ap (λ (p : ScriptPart). p.code) k.same })
             (meet c.script k.script k.listed);
       }
 

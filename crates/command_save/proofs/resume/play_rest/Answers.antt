@@ -7,9 +7,11 @@ use Rattle.command_save.proofs.PartLemmas.{counted_on}
 use Rattle.command_save.proofs.RestOfLemmas.{has_text, told_whole}
 use Rattle.command_save.proofs.resume.play_rest.Goals as goal
 
-pub tell_end-requires-clause-told : goal.tell_end-requires-clause-told
-tell_end-requires-clause-told g c =
-    has_text (cells_of (map (λ h. h.known) c.args.hooks.now.all.items)) c.args.opened c.in-Ok.played.how c.requires.opened.taken c.in-Ok.ensures.told c.in-Ok.ensures.ending.ending
+pub tell_end-end-requires : goal.tell_end-end-requires
+tell_end-end-requires g c = record {
+  told =
+    has_text (cells_of (map (λ h. h.known) c.args.hooks.now.all.items)) c.args.opened c.in-Ok.played.how c.requires.opened.taken c.in-Ok.ensures.told c.in-Ok.ensures.ending.ending;
+}
 
 pub returns-in-Ok-clause-does : goal.returns-in-Ok-clause-does
 returns-in-Ok-clause-does g c = λ files_tell sink_tells.
