@@ -10,7 +10,7 @@ use Rattle.command_save.proofs.resume.play_rest.Goals as goal
 pub tell_end-end-requires : goal.tell_end-end-requires
 tell_end-end-requires g c = record {
   told =
-    has_text (cells_of (map (λ h. h.known) c.args.hooks.now.all.items)) c.args.opened c.in-Ok.played.how c.requires.opened.taken c.in-Ok.ensures.told c.in-Ok.ensures.ending.ending;
+      has_text (cells_of (map (λ h. h.known) c.args.hooks.now.all.items)) c.args.opened c.in-Ok.played.how c.requires.opened.taken c.in-Ok.ensures.told c.in-Ok.ensures.ending.ending;
 }
 
 pub returns-in-Ok-clause-does : goal.returns-in-Ok-clause-does
