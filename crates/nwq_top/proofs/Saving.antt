@@ -1,5 +1,5 @@
 -- What `save` does.
-use Rattle.std.proofs.Common.{arith, ◌≡◌, ◌≤◌, ◌<◌, ◌+◌, ℕ, zero, suc, Bool, true, false, ◌⊎◌, List, ◌++◌, map, Option, None, Some, Result, Ok, Err, refl, sym, ap, ◌∙◌, inl, inr, subst, ⊎_elim}
+use Rattle.std.proofs.Common.{arith, ◌≡◌, ◌≤◌, ◌<◌, ◌+◌, ◌-◌, ℕ, zero, suc, Bool, true, false, ◌⊎◌, List, ◌++◌, map, Option, None, Some, Result, Ok, Err, refl, sym, ap, ◌∙◌, inl, inr, subst, ⊎_elim}
 use Rattle.std.proofs.lemmas.Bool.Decides.{eqb_tells}
 use mathlib.Core.List.{append_assoc}
 use Rattle.std.specs.Prelude.{nat_lt, length, min, ◌==◌, if◌then◌else◌}
@@ -35,13 +35,13 @@ use Rattle.command_plays.specs.Plays.{host_of, played_first}
 use Rattle.command_meaning.specs.Units.{UnitsPass}
 use Rattle.command_meaning.specs.Scripts.{ScriptsHaveUnits}
 use Rattle.command_meaning.specs.CodeEnds.{CheckedPlaysHaveNoFault}
-use Rattle.command_meaning.specs.ListedPlays.{ListedPlaysEnd, ListedPlaysStop}
+use Rattle.command_meaning.specs.ListedPlays.{AreUnitsOf, ListedPlaysEnd, ListedPlaysStop}
 use Rattle.command_save.specs.declared.inputs.HeaderFile.{HeaderFile}
 use Rattle.command_save.specs.declared.inputs.AreaFile.{AreaFile}
 use Rattle.command_save.specs.Inputs.{header_of, area_named}
 use Rattle.command_save.specs.Saves.{IsStateAt, saved_line, state_by, state_told, state_written, saves_at, saves_by, saves_played, saves_plan, saves_area, saves_scripts, saves_under, saves}
 use Rattle.command_save.specs.Laws.{SureHeaderFiles, SureAreaFiles, SureSaves, FrontsGoOn}
-use Rattle.nwq_top.specs.SourcePlans.{listing_of}
+use Rattle.nwq_top.specs.SourcePlans.{listing_of, source_plan_world}
 use Rattle.nwq_top.specs.Plays.{RefusesPlay}
 use Rattle.nwq_top.specs.Refusing.{IsRefused}
 use Rattle.nwq_top.specs.Saves.{HasHeaderFile, HasAreaFile, AcceptsSave, AcceptsSourcesToSave, SaveComes, refused, accepted, first_entries, source_first, FirstAsMeant, IsSaved, MeansSave}
@@ -92,8 +92,8 @@ module _ (runner : Runner Saved) (bounds : Bounds) where
       (not_full p.entries bounds.entries (omega (arith, count, below)))
       (λ q one. goes_so k entries q (omega (arith, one, count)) below)
 
-  comes_so : (entries : ℕ) (w : Progress Saved) → entries ≤ bounds.entries → w.entries ≡ 0 → Comes entries (plays_from runner bounds entries w)
-  comes_so entries w below from = goes_so entries entries w (omega (arith, from)) below
+  comes_so : (entries : ℕ) (w : Progress Saved) → entries ≤ bounds.entries → w.entries ≡ 0 → Comes entries (plays_from runner bounds (entries - w.entries) w)
+  comes_so entries w below from = goes_so (entries - w.entries) entries w (omega (arith, from)) below
 
 -- ---- what is left and told where a state was saved
 
@@ -217,12 +217,12 @@ module _ (pass : UnitsPass) (units : ScriptsHaveUnits) (least : LeastIsTheKept) 
     first_as_meant cell header area plan n name c t r c' t' held whole does h p listed a left k =
         let kept : IsTable h.table = is_table reads own c header h.table held (header_of_file c header h k.has_header) in
         let s : Setting = listing_of cell h.table listed in
-        let one = λ m l is. (listed_units h.table units p.scripts c left listed (source_bytes c held) k.lists m l is).unit in
-        let so = stops s kept one p.limit (first_entries n p) _ _ (plan_alike keep s a.area p) in
+        let one : AreUnitsOf h.table listed = λ m l is. (listed_units h.table units p.scripts c left listed (source_bytes c held) k.lists m l is).unit in
+        let so = stops s kept one p.limit (first_entries n p) (plan_world a.area p) (source_plan_world a.area p) (plan_alike keep s a.area p) in
         record {
           does = save_goes cell header area plan n name c t r c' t' held whole h p (map script_of listed) a left
               (record { reads_plan = k.reads_plan; has_header = k.has_header; lists = are_scripts h.table p.scripts c left listed k.lists; reads_area = k.reads_area }) does;
-          few = λ steps large goes. ends s kept one steps p.limit (first_entries n p) large _ _ (plan_alike keep s a.area p) goes;
+          few = λ steps large goes. ends s kept one steps p.limit (first_entries n p) large (plan_world a.area p) (source_plan_world a.area p) (plan_alike keep s a.area p) goes;
           unstopped = so.ends;
           stopped = so.told;
         }

@@ -32,12 +32,12 @@ use Rattle.command_work.specs.declared.flaw.AreaFlaw.TheVariants as flaw
 use Rattle.command_work.specs.declared.status.Status.{Status}
 use Rattle.command_work.specs.Refusal.{Refusal, BadArea}
 use Rattle.command_work.specs.Work.{Finished, IsCut, Does}
-use Rattle.command_plays.specs.Plays.{host_of, played, played_first}
+use Rattle.command_plays.specs.Plays.{host_of, played as whole_play, played_first}
 use Rattle.command_meaning.specs.CodeEnds.{GoesWithoutFault}
 use Rattle.command_play.specs.Games.{tells, plays}
 use Rattle.command_save.specs.declared.inputs.HeaderFile.{HeaderFile}
 use Rattle.command_save.specs.declared.inputs.AreaFile.{AreaFile}
-use Rattle.command_save.specs.Inputs.{built_in, header_file}
+use Rattle.command_save.specs.Inputs.{built_in as own_header, header_file}
 use Rattle.command_save.specs.Laws.{IsFront, GoOn}
 use Rattle.command_save.specs.Saves.{IsStateAt, saved_line, saves_plan, saves}
 use Rattle.command_save.specs.Resumes.{Going, GoesFrom, played_rest}
@@ -49,7 +49,7 @@ use Rattle.nwq_top.specs.SourcePlans.{listing_of, source_plan_world}
 -- ---- what is given to `save`: what is given to `play`, with the bytes of the header's file and of the area's
 
 pub data HasHeaderFile (c : Contents) (word : List ℕ) : HeaderFile → Type 0 where
-  built_in : bytes_eq word (codes "-") ≡ true → HasHeaderFile c word built_in
+  built_in : bytes_eq word (codes "-") ≡ true → HasHeaderFile c word own_header
   read : bytes_eq word (codes "-") ≡ false → (bytes : List ℕ) → IsRead c word bytes → (table : EngineTable) → HasTable bytes table
       → HasHeaderFile c word (header_file bytes table)
 
@@ -133,7 +133,7 @@ pub record MeansSave (cell : CellLookup) (header area plan : List ℕ) (n : ℕ)
   -- these are the first of the play, which goes on from there
   pub first : (h : HeaderFile) (p : Plan) (scripts : List Script) (a : AreaFile) (left : Contents) → AcceptsSave header area plan c h p scripts a left
       → IsFront (code_runner (host_of cell h.table scripts) p.limit) p n (played_first cell h.table p scripts n (plan_world a.area p))
-      (played cell h.table p scripts (plan_world a.area p))
+      (whole_play cell h.table p scripts (plan_world a.area p))
   -- binaries may be listed too; no entry comes to a stack fault
   pub no_fault : (h : HeaderFile) (p : Plan) (scripts : List Script) (a : AreaFile) (left : Contents) → AcceptsSave header area plan c h p scripts a left
       → GoesWithoutFault (host_of cell h.table scripts) p.limit (first_entries n p) (unplayed (plan_world a.area p))
