@@ -11,7 +11,7 @@ use Rattle.command_work.specs.Counts.{StopsArea, Counts, Tallies, TalliesEnd}
 use Rattle.command_work.specs.Parts.{then_ok, then_err}
 use Rattle.command_tables.specs.Tables.{tables_given}
 use Rattle.table_2da.specs.Look.{cell_of}
-use Rattle.command_words.specs.Words.{Form, Run, Compile, Tree, Check, Disassemble, Assemble, Play, Generate, NoForm, list_of}
+use Rattle.command_words.specs.Words.{Form, Run, Compile, Tree, Check, Disassemble, Assemble, Play, Generate, Save, Resume, NoForm, list_of}
 use Rattle.nwq_top.specs.Command.{work_of, work_with, whole_work}
 use Rattle.nwq_top.specs.Endings.{ComesOf}
 
@@ -25,6 +25,8 @@ memory_comes (Disassemble file to) = tt
 memory_comes (Assemble file to) = tt
 memory_comes (Play header area plan to list) = tt
 memory_comes (Generate number) = tt
+memory_comes (Save header area plan entries state list) = tt
+memory_comes (Resume state to list) = tt
 memory_comes NoForm = tt
 
 play_comes : (header area plan to : List ℕ) (list : Option (List ℕ)) (status : Status) → StopsArea status → ComesOf (Play header area plan to list) status
@@ -38,6 +40,18 @@ play_comes header area plan to list Missing h = tt
 play_comes header area plan to list Fault h = tt
 play_comes header area plan to list Memory h = tt
 play_comes header area plan to list Long h = tt
+
+resume_comes : (state to : List ℕ) (list : Option (List ℕ)) (status : Status) → StopsArea status → ComesOf (Resume state to list) status
+resume_comes state to list Done h = absurd h
+resume_comes state to list Words h = absurd h
+resume_comes state to list Script h = absurd h
+resume_comes state to list Code h = absurd h
+resume_comes state to list Area h = tt
+resume_comes state to list Limit h = absurd h
+resume_comes state to list Missing h = tt
+resume_comes state to list Fault h = tt
+resume_comes state to list Memory h = tt
+resume_comes state to list Long h = tt
 
 abbrev IsGiven : Result (List Named) ℕ → List Named → Type 0
 IsGiven r tables = r ≡ Ok tables
@@ -60,6 +74,8 @@ refusal_comes (Disassemble file to) status list h = absurd (list refl)
 refusal_comes (Assemble file to) status list h = absurd (list refl)
 refusal_comes (Play header area plan to given) status list h = play_comes header area plan to given status h
 refusal_comes (Generate number) status list h = absurd (list refl)
+refusal_comes (Save header area plan entries state given) status list h = play_comes header area plan state given status h
+refusal_comes (Resume state to given) status list h = resume_comes state to given status h
 refusal_comes NoForm status list h = absurd (list refl)
 
 -- a refusal of tables is no end of a command that did its work
