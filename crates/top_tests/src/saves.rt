@@ -1,4 +1,5 @@
-//! Plays that are saved and resumed: what they print and leave in all is what the unbroken play does.
+//! Plays that are saved and resumed: what they print and leave in all is what the unbroken play
+//! does.
 
 ghost use Rattle.std.specs.Prelude.{map};
 ghost use Rattle.world_core.specs.Calls.{AreServing};
@@ -117,13 +118,19 @@ fn last_line(text: &[u8]) -> usize {
 
 /// Whether the text ends with the line of a save.
 fn is_saved(text: &[u8]) -> bool {
-    text[last_line(text)..].starts_with(b"saved s.nwq entries ")
+    match text.get(last_line(text)..) {
+        Some(line) => line.starts_with(b"saved s.nwq entries "),
+        None => false,
+    }
 }
 
 /// Whether what was put before the last line, and what is put after it, is the text.
 fn is_parted(first: &[u8], rest: &[u8], text: &[u8]) -> bool {
     let at = last_line(first);
-    at <= text.len() && first[..at] == text[..at] && rest == &text[at..]
+    match (first.get(..at), text.get(..at), text.get(at..)) {
+        (Some(told), Some(front), Some(end)) => told == front && rest == end,
+        _ => false,
+    }
 }
 
 /// Whether a play that is saved after so many entries and resumed goes as the unbroken one.
@@ -168,7 +175,8 @@ fn first_broken(alloc: Global, game: &Game, hooks: &Hooks) -> Result<Option<u64>
     Ok(None)
 }
 
-/// The place of the first play that goes on otherwise once it was saved, and after how many entries.
+/// The place of the first play that goes on otherwise once it was saved, and after how many
+/// entries.
 pub fn first_wrong(alloc: Global, hooks: &Hooks) -> Result<Option<(usize, u64)>, NoMemory>
     requires hooks { AreServing (map (λ h. h.known) hooks.now.all.items) }
 {
