@@ -19,8 +19,8 @@ pub struct Game<'a> {
     /// Header, area and plan.
     pub given: &'a str,
     pub files: &'a [(&'a str, &'a [u8])],
-    /// So many entries are taken before it is done.
-    pub entries: u64,
+    /// It is saved after 1 to less than so many entries. The last number is past its end.
+    pub below: u64,
 }
 
 /// Effects that stand for a time and for good, queues with waits and stored actions, events with
@@ -91,12 +91,12 @@ const GAMES: &[Game] = &[
     Game {
         given: "- a.git x.plan",
         files: ROUNDS,
-        entries: 6,
+        below: 8,
     },
     Game {
         given: "h.nss a.git x.plan",
         files: BUSY,
-        entries: 24,
+        below: 26,
     },
 ];
 
@@ -167,7 +167,7 @@ fn first_broken(alloc: Global, game: &Game, hooks: &Hooks) -> Result<Option<u64>
     if unbroken.status != Status::Done {
         return Ok(Some(0));
     }
-    for n in 1..game.entries + 2 {
+    for n in 1..game.below {
         if !goes_on(alloc, game, n, &unbroken, hooks)? {
             return Ok(Some(n));
         }
