@@ -126,9 +126,9 @@ fn of_all(alloc: Global, rt: &impl Abort, tried: Tried, tables: Tables) -> Resul
     all_hold(alloc, rt, tried, &hooks)
 }
 
-fn try_all(rt: &HostRuntime, tried: Tried) -> Result<(), Fail> {
-    match example::tables(rt.alloc())? {
-        Ok(tables) => of_all(rt.alloc(), rt, tried, tables),
+fn try_all(alloc: Global, rt: &impl Abort, tried: Tried) -> Result<(), Fail> {
+    match example::tables(alloc)? {
+        Ok(tables) => of_all(alloc, rt, tried, tables),
         Err(status) => {
             assert_eq!(rt; status, Status::Done);
             Ok(())
@@ -138,10 +138,10 @@ fn try_all(rt: &HostRuntime, tried: Tried) -> Result<(), Fail> {
 
 #[test]
 fn top_call(rt: HostRuntime) -> Result<(), Fail> {
-    try_all(&rt, Tried::Rows)
+    try_all(rt.alloc(), &rt, Tried::Rows)
 }
 
 #[test]
 fn saves_and_resumes(rt: HostRuntime) -> Result<(), Fail> {
-    try_all(&rt, Tried::Saves)
+    try_all(rt.alloc(), &rt, Tried::Saves)
 }
