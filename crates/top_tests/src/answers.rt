@@ -180,7 +180,8 @@ fn are_so_many(found: u64, puts: Option<u64>) -> bool {
     }
 }
 
-fn is_as(found: &Outcome, row: &Row) -> bool {
+/// Whether what came of words is what a row says.
+pub fn is_as(found: &Outcome, row: &Row) -> bool {
     found.status == row.status
         && are_so_many(found.out.calls(), row.puts)
         && found.out.bytes() == row.text.as_bytes()

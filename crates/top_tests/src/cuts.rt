@@ -7,6 +7,7 @@ ghost use Rattle.world_core.specs.Calls.{AreServing};
 use crate::answers::{Failing, Held, Row, comes};
 use crate::games;
 use crate::samples::{FIRST_SUM, ROUNDS, SEVEN, TICK};
+use crate::saves::SAVED;
 use hook_table::Hooks;
 use nwq_top::Status;
 use nwq_value::NoMemory;
@@ -118,12 +119,31 @@ const THREES: &[Cut] = &[
     ),
 ];
 
+const COMPILED: &[(&str, Held)] = &[("p.ncs", Held::Something)];
+
+/// Of a play that is saved over an older state, which stays whole.
+const SAVES: &[Cut] = &[
+    (Failing::File(0), 0, "", NOT_COMPILED),
+    (Failing::File(1), 0, "", NOT_COMPILED),
+    (Failing::File(2), 0, "", NOT_COMPILED),
+    (Failing::File(3), 0, "", COMPILED),
+    (Failing::File(4), 1, "0 #0 print 2\n", COMPILED),
+    (Failing::Put(0), 1, "", COMPILED),
+    (
+        Failing::Put(1),
+        2,
+        "0 #0 print 2\n",
+        &[("p.ncs", Held::Something), ("s.nwq", Held::Something)],
+    ),
+];
+
 /// Words, the names that they are over, and calls that fail.
 const ALL: &[(&str, &[(&str, &[u8])], &[Cut])] = &[
     ("run h.nss p", SCRIPT, RUNS),
     ("compile h.nss p", SCRIPT, COMPILES),
     ("play - a.git x.plan f.git", ROUNDS, PLAYS),
     ("play h.nss a.git x.plan f.git", &games::THREE, THREES),
+    ("save - a.git x.plan 1 s.nwq", SAVED, SAVES),
 ];
 
 /// The place of the first cut after which something else stands, if there is one.

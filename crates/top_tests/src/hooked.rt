@@ -43,7 +43,7 @@ fn of_files(alloc: Global, hooks: &Hooks) -> Result<[Option<usize>; 5], NoMemory
 }
 
 /// The same of plays of plans.
-fn of_games(alloc: Global, hooks: &Hooks) -> Result<[Option<usize>; 6], NoMemory>
+fn of_games(alloc: Global, hooks: &Hooks) -> Result<[Option<usize>; 7], NoMemory>
     requires hooks { AreServing (map (λ h. h.known) hooks.now.all.items) }
 {
     let played = first_wrong(alloc, games::DONE, hooks)?;
@@ -52,7 +52,8 @@ fn of_games(alloc: Global, hooks: &Hooks) -> Result<[Option<usize>; 6], NoMemory
     let refused = games::first_refused(alloc, games::REFUSED, hooks)?;
     let large = games::first_large(alloc, hooks)?;
     let saved = first_wrong(alloc, saves::ROWS, hooks)?;
-    Ok([played, worked, ended, refused, large, saved])
+    let resumed = saves::first_cut(alloc, hooks)?;
+    Ok([played, worked, ended, refused, large, saved, resumed])
 }
 
 /// The same of words that are no command, files that aren't there or are too long, and the whole
@@ -67,21 +68,39 @@ fn of_stops(alloc: Global, hooks: &Hooks) -> Result<[Option<usize>; 4], NoMemory
     Ok([answered, missing, long, whole])
 }
 
-fn all_hold(alloc: Global, rt: &impl Abort, hooks: &Hooks) -> Result<(), Fail>
+/// What is tried with hooks: each test has a minute.
+#[derive(Clone, Copy)]
+enum Tried {
+    Rows,
+    Saves,
+}
+
+fn rows_hold(alloc: Global, rt: &impl Abort, hooks: &Hooks) -> Result<(), Fail>
     requires hooks { AreServing (map (λ h. h.known) hooks.now.all.items) }
 {
     assert!(rt; example::plays(alloc, hooks)?);
     assert_eq!(rt; cuts::first_wrong(alloc, hooks)?, None);
-    assert_eq!(rt; of_games(alloc, hooks)?, [None; 6]);
-    assert_eq!(rt; saves::first_wrong(alloc, hooks)?, None);
+    assert_eq!(rt; of_games(alloc, hooks)?, [None; 7]);
     assert_eq!(rt; of_files(alloc, hooks)?, [None; 5]);
     assert_eq!(rt; of_stops(alloc, hooks)?, [None; 4]);
     assert_eq!(rt; of_scripts(alloc, hooks)?, [None; 7]);
     Ok(())
 }
 
-/// All rows. The hooks look cells up in these tables.
-fn of_all(alloc: Global, rt: &impl Abort, tables: Tables) -> Result<(), Fail> {
+fn all_hold(alloc: Global, rt: &impl Abort, tried: Tried, hooks: &Hooks) -> Result<(), Fail>
+    requires hooks { AreServing (map (λ h. h.known) hooks.now.all.items) }
+{
+    match tried {
+        Tried::Rows => rows_hold(alloc, rt, hooks),
+        Tried::Saves => {
+            assert_eq!(rt; saves::first_wrong(alloc, hooks)?, None);
+            Ok(())
+        }
+    }
+}
+
+/// The hooks look cells up in these tables.
+fn of_all(alloc: Global, rt: &impl Abort, tried: Tried, tables: Tables) -> Result<(), Fail> {
     let own = tables.copy(alloc)?;
     let mut hooks = Hooks::new(alloc);
     for n in 0u8..9 {
@@ -104,16 +123,25 @@ fn of_all(alloc: Global, rt: &impl Abort, tables: Tables) -> Result<(), Fail> {
     )?;
     put_cell_hook(alloc, &mut hooks, cells, tables)?;
     all_are_put(&hooks);
-    all_hold(alloc, rt, &hooks)
+    all_hold(alloc, rt, tried, &hooks)
 }
 
-#[test]
-fn top_call(rt: HostRuntime) -> Result<(), Fail> {
-    match example::tables(rt.alloc())? {
-        Ok(tables) => of_all(rt.alloc(), &rt, tables),
+fn try_all(alloc: Global, rt: &impl Abort, tried: Tried) -> Result<(), Fail> {
+    match example::tables(alloc)? {
+        Ok(tables) => of_all(alloc, rt, tried, tables),
         Err(status) => {
             assert_eq!(rt; status, Status::Done);
             Ok(())
         }
     }
+}
+
+#[test]
+fn top_call(rt: HostRuntime) -> Result<(), Fail> {
+    try_all(rt.alloc(), &rt, Tried::Rows)
+}
+
+#[test]
+fn saves_and_resumes(rt: HostRuntime) -> Result<(), Fail> {
+    try_all(rt.alloc(), &rt, Tried::Saves)
 }

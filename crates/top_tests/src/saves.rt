@@ -4,7 +4,7 @@
 ghost use Rattle.std.specs.Prelude.{map};
 ghost use Rattle.world_core.specs.Calls.{AreServing};
 
-use crate::answers::{Failing, Held, Outcome, Row, carry_on, outcome_of};
+use crate::answers::{Failing, Held, Outcome, Row, carry_on, is_as, outcome_of};
 use crate::plans::NOTIFIED;
 use crate::samples::{GUARD, ROUNDS};
 use hook_table::Hooks;
@@ -204,11 +204,90 @@ const OLD: (&str, &[u8]) = ("s.nwq", b"an older state");
 
 const BEGUN: (&str, &[u8]) = ("s.nwq", b"NWQ");
 
+/// What a play is saved from in which `p` defers a part of its work, beside an older state.
+pub const SAVED: &[(&str, &[u8])] = &[PLAN, DEFERS, AREA, OLD];
+
+const FIRST: &str = "save - a.git x.plan 1 s.nwq";
+
+const NO_AREA: &[(&str, Held)] = &[
+    ("p.ncs", Held::Something),
+    ("s.nwq", Held::Something),
+    ("f.git", Held::Nothing),
+];
+
+const AN_AREA: &[(&str, Held)] = &[
+    ("p.ncs", Held::Something),
+    ("s.nwq", Held::Something),
+    ("f.git", Held::Something),
+];
+
+/// A play that was saved is resumed, and a call fails. That it is counted with those of the save,
+/// five of files and two puts, as the text is.
+const RESUMES: &[(Failing, u64, &str, &[(&str, Held)])] = &[
+    (
+        Failing::File(5),
+        2,
+        "0 #0 print 2\nsaved s.nwq entries 1\n",
+        NO_AREA,
+    ),
+    (
+        Failing::File(6),
+        3,
+        "0 #0 print 2\nsaved s.nwq entries 1\n1000 #0 print 1\n",
+        NO_AREA,
+    ),
+    (
+        Failing::Put(2),
+        3,
+        "0 #0 print 2\nsaved s.nwq entries 1\n",
+        NO_AREA,
+    ),
+    (
+        Failing::Put(3),
+        4,
+        "0 #0 print 2\nsaved s.nwq entries 1\n1000 #0 print 1\n",
+        AN_AREA,
+    ),
+];
+
+/// Whether a play that was saved and is resumed comes to what a row says.
+fn comes_back(alloc: Global, row: &Row, hooks: &Hooks) -> Result<bool, NoMemory>
+    requires hooks { AreServing (map (λ h. h.known) hooks.now.all.items) }
+{
+    let mut found = outcome_of(alloc, FIRST, row.before, row.failing, hooks)?;
+    if found.status != Status::Done {
+        return Ok(false);
+    }
+    carry_on(alloc, row.line, &mut found, hooks)?;
+    Ok(is_as(&found, row))
+}
+
+/// The place of the first call of `resume` that fails otherwise, if there is one.
+pub fn first_cut(alloc: Global, hooks: &Hooks) -> Result<Option<usize>, NoMemory>
+    requires hooks { AreServing (map (λ h. h.known) hooks.now.all.items) }
+{
+    for (place, (failing, puts, text, after)) in RESUMES.iter().enumerate() {
+        let row = Row {
+            line: "resume s.nwq f.git",
+            before: SAVED,
+            failing: *failing,
+            status: Status::Fault,
+            puts: Some(*puts),
+            text,
+            after,
+        };
+        if !comes_back(alloc, &row, hooks)? {
+            return Ok(Some(place));
+        }
+    }
+    Ok(None)
+}
+
 /// Saves and resumed plays, each by itself.
 pub const ROWS: &[Row] = &[
     Row {
         line: "save - a.git x.plan 1 s.nwq",
-        before: &[PLAN, DEFERS, AREA, OLD],
+        before: SAVED,
         failing: Failing::Nothing,
         status: Status::Done,
         puts: Some(2),
@@ -218,7 +297,7 @@ pub const ROWS: &[Row] = &[
     // No further entry is due.
     Row {
         line: "save - a.git x.plan 1000000 s.nwq",
-        before: &[PLAN, DEFERS, AREA, OLD],
+        before: SAVED,
         failing: Failing::Nothing,
         status: Status::Done,
         puts: Some(3),
@@ -248,7 +327,7 @@ pub const ROWS: &[Row] = &[
     // written before the area is read, and the state comes last.
     Row {
         line: "save - a.git x.plan 1 s.nwq",
-        before: &[PLAN, DEFERS, AREA, OLD],
+        before: SAVED,
         failing: Failing::File(4),
         status: Status::Fault,
         puts: None,
@@ -257,7 +336,7 @@ pub const ROWS: &[Row] = &[
     },
     Row {
         line: "save - a.git x.plan 1 s.nwq",
-        before: &[PLAN, DEFERS, AREA, OLD],
+        before: SAVED,
         failing: Failing::Put(0),
         status: Status::Fault,
         puts: None,
