@@ -94,6 +94,7 @@ fn all_hold(alloc: Global, rt: &impl Abort, tried: Tried, hooks: &Hooks) -> Resu
         Tried::Rows => rows_hold(alloc, rt, hooks),
         Tried::Saves => {
             assert_eq!(rt; saves::first_wrong(alloc, hooks)?, None);
+            assert_eq!(rt; example::first_broken(alloc, hooks)?, None);
             Ok(())
         }
     }

@@ -117,7 +117,7 @@ fn last_line(text: &[u8]) -> usize {
 }
 
 /// Whether the text ends with the line of a save.
-fn is_saved(text: &[u8]) -> bool {
+pub fn is_saved(text: &[u8]) -> bool {
     match text.get(last_line(text)..) {
         Some(line) => line.starts_with(b"saved s.nwq entries "),
         None => false,
@@ -125,7 +125,7 @@ fn is_saved(text: &[u8]) -> bool {
 }
 
 /// Whether what was put before the last line, and what is put after it, is the text.
-fn is_parted(first: &[u8], rest: &[u8], text: &[u8]) -> bool {
+pub fn is_parted(first: &[u8], rest: &[u8], text: &[u8]) -> bool {
     let at = last_line(first);
     match (first.get(..at), text.get(..at), text.get(at..)) {
         (Some(told), Some(front), Some(end)) => told == front && rest == end,
